@@ -1,0 +1,111 @@
+-- What the laws rest on.
+use Rattle.std.proofs.Common.{◌≡◌, ◌≢◌, ℕ, ◌-◌, ◌≤◌, ◌<◌, List, [], ◌∷◌, ◌++◌, Some, None, Bool, true, false, eqb, ltb, cond, All, take, get_or, length, refl, sym, ap, ◌∙◌, eq-eqb, eqb-true, length-append, arith}
+use Rattle.std.proofs.lemmas.List.{append-nil}
+use Rattle.std.proofs.Math.Seq.{take-append_seam}
+use Rattle.std.specs.List.{onto_first, AllByRecursion}
+use Rattle.std.proofs.lemmas.List.Elements.{recursion_from_All, All-from_recursion}
+use Rattle.std.proofs.lemmas.Bool.Decides.{nat_tests}
+use Rattle.std.proofs.lemmas.Grind.{common_steps}
+use Rattle.idn_text.specs.Lines.{raw_lines, ended_lines, body_of, IsPlain, EndsInFeed, joined_lines, with_last_feed}
+use Rattle.idn_text.proofs.NumberingLemmas.{ended_lines-append, ended_lines-plain}
+
+plain_more : (c : ℕ) (line : List ℕ) → c ≢ 10 → IsPlain line → IsPlain (c ∷ line)
+plain_more c line other plain = All-from_recursion (λ byte. byte ≢ 10) (c ∷ line) (other, recursion_from_All (λ byte. byte ≢ 10) line plain)
+
+onto_plain : (c : ℕ) (lines : List (List ℕ)) → c ≢ 10 → AllByRecursion IsPlain lines → AllByRecursion IsPlain (onto_first c lines)
+onto_plain c [] other all = (plain_more c [] other (λ k d lt. absurd (omega arith)), tt)
+onto_plain c (line ∷ lines) other all = (plain_more c line other all.0, all.1)
+
+plain_step : (c : ℕ) (cs : List ℕ) (b : Bool) → eqb c 10 ≡ b → AllByRecursion IsPlain (raw_lines cs) → AllByRecursion IsPlain (cond b ([] ∷ raw_lines cs) (onto_first c (raw_lines cs)))
+plain_step c cs true e all = (λ k d lt. absurd (omega arith), all)
+plain_step c cs false e all = onto_plain c (raw_lines cs) (λ is. cc (eq-eqb c 10 is, e)) all
+
+plain_lines : (text : List ℕ) → AllByRecursion IsPlain (raw_lines text)
+plain_lines [] = tt
+plain_lines (c ∷ cs) = plain_step c cs (eqb c 10) refl (plain_lines cs)
+
+-- no line holds a line feed
+pub raw_lines-plain : (text : List ℕ) → All IsPlain (raw_lines text)
+raw_lines-plain text = All-from_recursion IsPlain (raw_lines text) (plain_lines text)
+
+joined-onto_first : (c : ℕ) (lines : List (List ℕ)) → lines ≢ [] → joined_lines (onto_first c lines) ≡ c ∷ joined_lines lines
+joined-onto_first c [] some = absurd (some refl)
+joined-onto_first c (line ∷ lines) some = refl
+
+some_lines : (c : ℕ) (cs : List ℕ) (b : Bool) → cond b ([] ∷ raw_lines cs) (onto_first c (raw_lines cs)) ≢ []
+some_lines c cs true e = cc
+some_lines c cs false e = some_onto c (raw_lines cs) e
+  where
+    some_onto : (c : ℕ) (lines : List (List ℕ)) → onto_first c lines ≢ []
+    some_onto c [] e = cc
+    some_onto c (line ∷ lines) e = cc
+
+joined_one : (c : ℕ) (b : Bool) → eqb c 10 ≡ b → joined_lines (cond b ([] ∷ []) ((c ∷ []) ∷ [])) ≡ cond b (c ∷ []) (c ∷ 10 ∷ [])
+joined_one c true e = ap (λ byte. byte ∷ []) (sym (eqb-true c 10 e))
+joined_one c false e = refl
+
+joined_step : (c d : ℕ) (ds : List ℕ) (b : Bool) → eqb c 10 ≡ b → joined_lines (raw_lines (d ∷ ds)) ≡ with_last_feed (d ∷ ds) → joined_lines (cond b ([] ∷ raw_lines (d ∷ ds)) (onto_first c (raw_lines (d ∷ ds)))) ≡ c ∷ with_last_feed (d ∷ ds)
+joined_step c d ds true e rest = ap (λ byte. byte ∷ joined_lines (raw_lines (d ∷ ds))) (sym (eqb-true c 10 e)) ∙ ap (λ bytes. c ∷ bytes) rest
+joined_step c d ds false e rest = joined-onto_first c (raw_lines (d ∷ ds)) (some_lines d ds (eqb d 10)) ∙ ap (λ bytes. c ∷ bytes) rest
+
+-- the lines joined are the text
+pub joined-raw_lines : (text : List ℕ) → joined_lines (raw_lines text) ≡ with_last_feed text
+joined-raw_lines [] = refl
+joined-raw_lines (c ∷ []) = joined_one c (eqb c 10) refl
+joined-raw_lines (c ∷ d ∷ ds) = joined_step c d ds (eqb c 10) refl (joined-raw_lines (d ∷ ds))
+
+not_feed : (c : ℕ) → c ≢ 10 → eqb c 10 ≡ false
+not_feed c other = grind (arith, nat_tests)
+
+line_then : (line more : List ℕ) → AllByRecursion (λ byte. byte ≢ 10) line → raw_lines (line ++ 10 ∷ more) ≡ line ∷ raw_lines more
+line_then [] more plain = refl
+line_then (c ∷ cs) more plain = rw (not_feed c plain.0) (ap (onto_first c) (line_then cs more plain.1))
+
+lines_then : (lines : List (List ℕ)) → AllByRecursion IsPlain lines → raw_lines (joined_lines lines) ≡ lines
+lines_then [] all = refl
+lines_then (line ∷ lines) all =
+    line_then line (joined_lines lines) (recursion_from_All (λ byte. byte ≢ 10) line all.0) ∙ ap (λ rest. line ∷ rest) (lines_then lines all.1)
+
+-- the lines of lines joined
+pub raw_lines-joined : (lines : List (List ℕ)) → All IsPlain lines → raw_lines (joined_lines lines) ≡ lines
+raw_lines-joined lines all = lines_then lines (recursion_from_All IsPlain lines all)
+
+-- the rest is no line that a line feed ends
+pub ended_lines-then_rest : (text rest : List ℕ) → EndsInFeed text → IsPlain rest → ended_lines (text ++ rest) ≡ raw_lines text
+ended_lines-then_rest text rest ends plain =
+    ended_lines-append text rest ends ∙ ap (λ lines. raw_lines text ++ lines) (ended_lines-plain rest plain) ∙ append-nil (raw_lines text)
+
+last_byte : (line : List ℕ) (last : ℕ) → get_or (line ++ last ∷ []) (length (line ++ last ∷ []) - 1) 0 ≡ last
+last_byte [] last = refl
+last_byte (c ∷ cs) last = grind (arith, common_steps)
+
+short : (n : ℕ) → n ≤ 1024 → ltb 1024 n ≡ false
+short n few = grind (arith, nat_tests)
+
+long : (n : ℕ) → 1024 < n → ltb 1024 n ≡ true
+long n many = grind (arith, nat_tests)
+
+-- a line that does not end in a carriage return is its body
+pub body_of-other : (line : List ℕ) (last : ℕ) → length line < 1024 → last ≢ 13 → body_of (line ++ last ∷ []) ≡ Some (line ++ last ∷ [])
+body_of-other line last few other =
+    let whole : List ℕ = line ++ last ∷ [] in
+    let count = length-append line (last ∷ []) in
+    let is_short = short (length whole) (omega (arith, count)) in
+    let differs : eqb last 13 ≡ false = grind (arith, nat_tests) in
+    let test : eqb (get_or whole (length whole - 1) 0) 13 ≡ false = ap (λ byte. eqb byte 13) (last_byte line last) ∙ differs in
+    rw (is_short, test) refl
+
+-- the carriage return at a line's end is dropped
+pub body_of-carriage_return : (line : List ℕ) → length line < 1024 → body_of (line ++ 13 ∷ []) ≡ Some line
+body_of-carriage_return line few =
+    let whole : List ℕ = line ++ 13 ∷ [] in
+    let count = length-append line (13 ∷ []) in
+    let is_short = short (length whole) (omega (arith, count)) in
+    let test : eqb (get_or whole (length whole - 1) 0) 13 ≡ true = ap (λ byte. eqb byte 13) (last_byte line 13) in
+    let less : length whole - 1 ≡ length line = omega (arith, count) in
+    let front : take (length whole - 1) whole ≡ line = ap (λ n. take n whole) less ∙ take-append_seam line (13 ∷ []) in
+    rw (is_short, test) (ap Some front)
+
+-- a longer line has no body
+pub body_of-long : (line : List ℕ) → 1024 < length line → body_of line ≡ None
+body_of-long line many = rw (long (length line) many) refl

@@ -1,0 +1,44 @@
+-- The UTF-8 of a list of code points.
+use Rattle.std.proofs.Common.{◌≡◌, ℕ, ◌+◌, ◌*◌, ◌≤◌, ◌<◌, List, [], ◌∷◌, ◌++◌, Bool, true, false, ◌&&◌, length, take, get_or, refl, sym, ap, ◌∙◌, length-append, arith}
+use Rattle.std.proofs.lemmas.List.{append-nil, take_more}
+use Rattle.std.proofs.lemmas.Str.{encodes-append, length-encode, len_utf8_bounds, chars-encodes}
+use Rattle.std.specs.List.{AllByRecursion}
+use Rattle.std.proofs.lemmas.List.Elements.{recursion_from_All}
+use Rattle.std.specs.Prelude.{encode_utf8}
+use Rattle.std.specs.Str.{all_scalars, chars, IsUtf8}
+use Rattle.idn_text.specs.Points.{is_scalar_value, IsScalarValue, AreScalarValues, IsUtf8Of, utf8_of}
+
+-- at most four bytes for each
+pub length-utf8_of-le : (points : List ℕ) → length (utf8_of points) ≤ 4 * length points
+length-utf8_of-le [] = omega arith
+length-utf8_of-le (c ∷ cs) =
+    let one = len_utf8_bounds c in
+    let first = length-encode c in
+    omega (arith, length-utf8_of-le cs, length-append (encode_utf8 c) (utf8_of cs), one.1, first)
+
+-- one more code point
+pub utf8_of_more : (points : List ℕ) (i : ℕ) → i < length points → utf8_of (take (i + 1) points) ≡ utf8_of (take i points) ++ encode_utf8 (get_or points i 0)
+utf8_of_more points i within =
+    ap utf8_of (take_more points i 0 within)
+    ∙ encodes-append (take i points) (get_or points i 0 ∷ [])
+    ∙ ap (λ bytes. utf8_of (take i points) ++ bytes) (append-nil (encode_utf8 (get_or points i 0)))
+
+and_true : (a b : Bool) → a ≡ true → b ≡ true → (a && b) ≡ true
+and_true true b e f = f
+and_true false b e f = cc
+
+by_recursion : (points : List ℕ) → AllByRecursion IsScalarValue points → all_scalars points ≡ true
+by_recursion [] h = refl
+by_recursion (c ∷ cs) h = and_true (is_scalar_value c) (all_scalars cs) h.0 (by_recursion cs h.1)
+
+-- scalar values, as std's test of a list has them
+pub all_scalars-from_All : (points : List ℕ) → AreScalarValues points → all_scalars points ≡ true
+all_scalars-from_All points all = by_recursion points (recursion_from_All IsScalarValue points all)
+
+-- UTF-8 of scalar values is UTF-8 as std has it
+pub IsUtf8-from_points : (bytes points : List ℕ) → IsUtf8Of bytes points → IsUtf8 bytes
+IsUtf8-from_points bytes points is = (points, (all_scalars-from_All points is.scalar_values, is.encoded))
+
+-- the bytes tell the list
+pub points_from_utf8 : (bytes points : List ℕ) → IsUtf8Of bytes points → chars bytes ≡ points
+points_from_utf8 bytes points is = ap chars (sym is.encoded) ∙ chars-encodes points (all_scalars-from_All points is.scalar_values)

@@ -1,0 +1,74 @@
+-- The numbered lines of what a reader gave.
+use Rattle.std.specs.Prelude.{◌≡◌, ℕ, ◌+◌, ◌^◌, ◌⊎◌, ◌<◌, ◌≤◌, List, [], ◌∷◌, length, take, Option, Some, None, Bool, true, Result, Ok, Err}
+use Rattle.std.specs.Io.KnownBytes.{Consumes}
+use Rattle.idn_text.specs.declared.lines.Line.{Line}
+use Rattle.idn_text.specs.declared.lines.ReadFault.{ReadFault}
+use Rattle.idn_text.specs.declared.lines.State.{State}
+use Rattle.idn_text.specs.declared.lines.State.TheVariants.{Open, Ended, Stopped}
+use Rattle.idn_text.specs.Bodies.{bytes_of}
+use Rattle.idn_text.specs.Lines.{Numbered, EndsInFeed, raw_lines, lines_of, ended_lines_of}
+use Rattle.idn_text.specs.Taking.{Input, left, HasEnded, HasFailed}
+
+-- where the reading of lines has come to: its input, the number of the last line, and whether more may come
+pub record Reading : Type 0 where
+  pub input : Input
+  pub number : ℕ
+  pub state : State
+
+-- the lines of a reader of which none was read yet
+abbrev pub unread : Option (List ℕ) → Bool → ℕ → Reading
+unread coming failed calls =
+    record { input = record { held = []; coming = coming; reads = 0; calls = calls; failed = failed }; number = 0; state = Open }
+
+-- none was read yet
+pub record IsUnread (reading : Reading) : Type 0 where
+  pub held : reading.input.held ≡ []
+  pub reads : reading.input.reads ≡ 0
+  pub number : reading.number ≡ 0
+  pub state : reading.state ≡ Open
+
+-- these are the lines of the bytes that were given:
+--   while more may come, all of them, each ended by a line feed;
+--   at the end of the reader, all of them;
+--   at a fault, those that a line feed ends, the first 4,294,967,296 of them, and either the reader failed or was asked
+--   as often as it may be, and gave no more than these bytes, or these bytes have more lines than may be
+abbrev pub AreLines : State → Input → List ℕ → List Numbered → Type 0
+AreLines Open input given lines = (lines ≡ lines_of given) × EndsInFeed given
+AreLines Ended input given lines = (lines ≡ lines_of given) × HasEnded input
+AreLines Stopped input given lines =
+    (lines ≡ take (2 ^ 32) (ended_lines_of given)) × (HasFailed input ⊎ (2 ^ 32 < length (raw_lines given)))
+
+-- how many read calls gave no byte, at most: the one that met the end or the fault
+abbrev pub idle_reads : State → ℕ
+idle_reads Open = 0
+idle_reads Ended = 1
+idle_reads Stopped = 1
+
+-- from the start to now these bytes were given and these lines of them were read, and each read call but the idle ones gave a byte or more; none is uncounted
+pub record HasRead (start now : Reading) (given : List ℕ) (lines : List Numbered) : Type 0 where
+  pub taken : Consumes (left start.input) (left now.input) given
+  pub asked : now.input.reads + length start.input.held ≤ start.input.reads + length given + length now.input.held + idle_reads now.state
+  pub called : now.input.calls + start.input.reads ≤ start.input.calls + now.input.reads
+  pub counted : now.number ≡ length lines
+  pub few : now.number ≤ 2 ^ 32
+  pub read : AreLines now.state now.input given lines
+
+-- the reader failed, or a bound was met
+abbrev pub HasStopped : Reading → Type 0
+HasStopped reading = (reading.input.failed ≡ true) ⊎ ((reading.input.reads ≡ 2 ^ 40) ⊎ (reading.number ≡ 2 ^ 32))
+
+-- a line as its number and its body
+abbrev pub numbered_line : Line → Numbered
+numbered_line line = record { number = line.number; body = bytes_of line.body }
+
+-- the lines that a call answered
+abbrev pub answered : Result (Option Line) ReadFault → List Numbered
+answered (Ok (Some line)) = numbered_line line ∷ []
+answered (Ok None) = []
+answered (Err fault) = []
+
+-- the state that a call leaves
+abbrev pub IsLeftBy : Result (Option Line) ReadFault → Reading → Type 0
+IsLeftBy (Ok (Some line)) new = (new.state ≡ Open) ⊎ (new.state ≡ Ended)
+IsLeftBy (Ok None) new = new.state ≡ Ended
+IsLeftBy (Err fault) new = new.state ≡ Stopped

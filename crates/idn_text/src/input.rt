@@ -1,0 +1,143 @@
+//! A reader with a buffer, cut at line feeds.
+
+ghost use Rattle.std.specs.Prelude.{◌≡◌, ◌<◌, ◌≤◌, ◌+◌, ◌^◌, ℕ, List, [], ◌∷◌, ◌++◌, length, drop, OnErr, IfOk, Ok, true, false, if◌then◌else◌};
+ghost use Rattle.std.specs.Io.KnownBytes.{Keeps};
+ghost use Rattle.idn_text.specs.Taking as seen;
+
+use crate::body::Body;
+use crate::device::{DeviceFault, Source};
+use crate::lines::ReadFault;
+use memchr::memchr;
+use std::marker::Model;
+
+/// The most read calls.
+const READ_LIMIT: u64 = 1 << 40;
+
+/// A reader, with the bytes that it gave and that no line has taken yet.
+#[derive(Drop)]
+pub struct Input<R: Source> {
+    reader: R,
+    buffer: [u8; 4096],
+    start: usize,
+    end: usize,
+    reads: u64,
+}
+
+impl<R: Source> Model for Input<R> {
+    ghost use Rattle.std.specs.Prelude.{◌≤◌, ◌^◌, slice_range};
+    ghost use Rattle.idn_text.specs.Taking as seen;
+
+    ghost Value = { seen.Input };
+
+    ghost view = { λ i. record { held = slice_range i.buffer i.start i.end; coming = R.remaining i.reader; reads = i.reads; calls = R.calls i.reader; failed = R.has_failed i.reader } };
+
+    ghost invariant = { λ i. (i.start ≤ i.end) × (i.end ≤ 4096) × (i.reads ≤ 2 ^ 40) };
+}
+
+impl<R: Source> Input<R> {
+    ghost use Rattle.idn_text.specs.Bodies.{bytes_of};
+
+    pub fn new(reader: R) -> Self
+        ensures { result ≡ record { held = []; coming = R.remaining reader; reads = 0; calls = R.calls reader; failed = R.has_failed reader } }
+    {
+        Input {
+            reader,
+            buffer: [0; 4096],
+            start: 0,
+            end: 0,
+            reads: 0,
+        }
+    }
+
+    /// Whether the last read call failed.
+    pub fn failed(&self) -> bool
+        ensures { result ≡ self.now.failed }
+    {
+        self.reader.failed()
+    }
+
+    /// Takes the bytes through the next line feed, or all that come, adds those before it to a body,
+    /// and tells whether a line feed came.
+    pub fn take_line(&mut self, body: &mut Body) -> Result<bool, ReadFault>
+        requires { bytes_of body.old ≡ seen.kept [] }
+        ensures line { IfOk result (λ has_feed. (line : List ℕ) × (bytes_of body.new ≡ seen.kept line)
+            × seen.Takes self.old self.new line (if has_feed then 10 ∷ [] else []) (if has_feed then 0 else 1)) }
+        ensures ended { result ≡ Ok false → seen.HasEnded self.new }
+        ensures failed { OnErr result ((line : List ℕ) × seen.Takes self.old self.new line [] 1 × seen.HasFailed self.new) }
+    {
+        'reads: loop {
+            if self.take_held(body) {
+                return Ok(true);
+            }
+            if !self.fill()? {
+                return Ok(false);
+            }
+        }
+    }
+
+    /// Takes what is held through the first line feed, or all of it, adds the bytes before it to a
+    /// body, and tells whether a line feed was there.
+    fn take_held(&mut self, body: &mut Body) -> bool
+        ensures same { self.new ≡ record self.old { held = self.new.held } }
+        ensures rest { result ≡ false → self.new.held ≡ [] }
+        ensures taken { (line : List ℕ) × seen.Takes self.old self.new line (if result then 10 ∷ [] else []) 0
+            × ((before : List ℕ) → bytes_of body.old ≡ seen.kept before → bytes_of body.new ≡ seen.kept (before ++ line)) }
+    {
+        let held = self.held();
+        match memchr(b'\n', held) {
+            Some(end) => {
+                body.extend(&held[..end]);
+                self.advance(end + 1);
+                true
+            }
+            None => {
+                let len = held.len();
+                body.extend(held);
+                self.advance(len);
+                false
+            }
+        }
+    }
+
+    /// Reads once, and tells whether bytes came.
+    fn fill(&mut self) -> Result<bool, ReadFault>
+        requires { self.old.held ≡ [] }
+        ensures same { Keeps (seen.left self.old) (seen.left self.new) }
+        ensures counted { self.new.reads ≤ self.old.reads + 1 }
+        ensures called { self.new.calls + self.old.reads ≤ self.old.calls + self.new.reads }
+        ensures counts { result ≡ Ok true → self.new.reads ≡ self.old.reads + 1 }
+        ensures limit { self.new.reads ≤ 2 ^ 40 }
+        ensures came { result ≡ Ok true → 0 < length self.new.held }
+        ensures ended { result ≡ Ok false → seen.HasEnded self.new }
+        ensures failed { OnErr result (seen.HasFailed self.new) }
+    {
+        if self.reads == READ_LIMIT {
+            return Err(ReadFault);
+        }
+        self.reads += 1;
+        self.start = 0;
+        self.end = 0;
+        match self.reader.get(&mut self.buffer) {
+            Ok(count) => {
+                self.end = count;
+                Ok(count != 0)
+            }
+            Err(DeviceFault) => Err(ReadFault),
+        }
+    }
+
+    /// The bytes that no line has taken yet.
+    fn held(&self) -> &[u8]
+        ensures { result.now ≡ self.now.held }
+    {
+        &self.buffer[self.start..self.end]
+    }
+
+    /// Takes the first of them.
+    fn advance(&mut self, count: usize)
+        requires { count ≤ length self.old.held }
+        ensures { self.new ≡ record self.old { held = drop count self.old.held } }
+    {
+        self.start += count;
+    }
+}

@@ -1,0 +1,25 @@
+//! Text as the other crates take it and give it: code points and their UTF-8, the numbered lines of
+//! a reader, pieces written to a writer, and the numbers and texts of all refusals.
+#![tactic(auto)]
+
+mod body;
+mod device;
+pub mod hostile;
+mod input;
+pub mod laws;
+mod lines;
+mod point;
+mod refusal;
+mod utf8;
+mod write;
+
+pub use body::Body;
+pub use device::{Device, DeviceFault, Sink, Source};
+pub use lines::{Line, Lines, ReadFault};
+pub use point::{hex_point, is_point};
+pub use refusal::Refusal;
+pub use utf8::{NotUtf8, decode_points, write_points};
+pub use write::{WriteFault, write_text};
+
+#[cfg(test)]
+mod tests;

@@ -1,0 +1,125 @@
+//! The numbered lines of a reader.
+
+ghost use Rattle.std.specs.Prelude.{◌≡◌, ◌⊎◌, ℕ, List, [], ◌++◌, None, Ok, OnErr, IsErr};
+
+use crate::body::Body;
+use crate::device::Source;
+use crate::input::Input;
+use std::marker::Model;
+use thiserror::Error;
+
+/// The most lines.
+const LINE_LIMIT: u64 = 1 << 32;
+
+/// A reader failed, or was asked too often, or has too many lines.
+#[derive(Clone, Copy, Debug, PartialEq, Eq, Error)]
+#[error("read fault")]
+pub struct ReadFault;
+
+/// A line and its number, from 1.
+#[derive(Debug, Drop)]
+pub struct Line {
+    /// From 1 to 4,294,967,296; a line that is too long counts too.
+    pub number: u64,
+    /// The line without its end, or that it is too long.
+    pub body: Body,
+}
+
+/// How far lines were read: on to a next one, to the end, or to a fault.
+#[derive(Clone, Copy, Debug, PartialEq, Eq)]
+pub enum State {
+    Open,
+    Ended,
+    Stopped,
+}
+
+/// The lines of a reader. A line is what stands before a line feed, and behind the last one a rest
+/// that is not empty.
+#[derive(Drop)]
+pub struct Lines<R: Source> {
+    input: Input<R>,
+    number: u64,
+    state: State,
+}
+
+impl<R: Source> Model for Lines<R> {
+    ghost use Rattle.std.specs.Prelude.{◌≤◌, ◌^◌};
+    ghost use Rattle.idn_text.specs.Reading.{Reading};
+
+    ghost Value = { Reading };
+
+    ghost view = { λ l. record { input = l.input; number = l.number; state = l.state } };
+
+    ghost invariant = { λ l. l.number ≤ 2 ^ 32 };
+}
+
+impl<R: Source> Lines<R> {
+    ghost use Rattle.idn_text.specs.Lines.{Numbered};
+    ghost use Rattle.idn_text.specs.Reading.{Reading, HasRead, HasStopped, IsLeftBy, answered, unread};
+    ghost use Rattle.idn_text.specs.declared.lines.State.TheVariants.{Open, Ended, Stopped};
+
+    /// The lines of what a reader gives from here on. It is not asked yet.
+    pub fn new(reader: R) -> Self
+        ensures { result ≡ unread (R.remaining reader) (R.has_failed reader) (R.calls reader) }
+    {
+        Lines {
+            input: Input::new(reader),
+            number: 0,
+            state: State::Open,
+        }
+    }
+
+    /// Whether the reader's last call failed.
+    pub fn failed(&self) -> bool
+        ensures { result ≡ self.now.input.failed }
+    {
+        self.input.failed()
+    }
+
+    /// The next line, or `None` at the end, for good. A reader that fails, a read call after 2^40 of
+    /// them and a line after 4,294,967,296 of them are a fault, for good.
+    pub fn next_line(&mut self) -> Result<Option<Line>, ReadFault>
+        // Where lines were read of the bytes given so far, they are so with this answer too.
+        ensures lines { (start : Reading) (given : List ℕ) (lines : List Numbered) → HasRead start self.old given lines →
+            (more : List ℕ) × HasRead start self.new (given ++ more) (lines ++ answered result) }
+        ensures state { IsLeftBy result self.new }
+
+        ensures cause { OnErr result ((self.old.state ≡ Stopped) ⊎ HasStopped self.new) }
+        ensures ended { self.old.state ≡ Ended → (result ≡ Ok None) × (self.new ≡ self.old) }
+        ensures stopped { self.old.state ≡ Stopped → IsErr result × (self.new ≡ self.old) }
+    {
+        match self.state {
+            State::Open => self.read_line(),
+            State::Ended => Ok(None),
+            State::Stopped => Err(ReadFault),
+        }
+    }
+
+    /// The next line, where neither the end nor a fault was met yet.
+    fn read_line(&mut self) -> Result<Option<Line>, ReadFault>
+        requires { self.old.state ≡ Open }
+        ensures lines { (start : Reading) (given : List ℕ) (lines : List Numbered) → HasRead start self.old given lines →
+            (more : List ℕ) × HasRead start self.new (given ++ more) (lines ++ answered result) }
+        ensures state { IsLeftBy result self.new }
+        ensures cause { OnErr result (HasStopped self.new) }
+    {
+        // What leaves early below is a fault.
+        self.state = State::Stopped;
+        let mut body = Body::new();
+        let has_feed = self.input.take_line(&mut body)?;
+        if !has_feed && body.is_empty() {
+            self.state = State::Ended;
+            return Ok(None);
+        }
+        if self.number == LINE_LIMIT {
+            return Err(ReadFault);
+        }
+        self.number += 1;
+        self.state = if has_feed { State::Open } else { State::Ended };
+        body.drop_carriage_return();
+        Ok(Some(Line {
+            number: self.number,
+            body,
+        }))
+    }
+}
