@@ -1,0 +1,11 @@
+pub mod BidiLemmas
+pub mod CategoryLemmas
+pub mod ClassNumbers
+pub mod ClassTrie
+pub mod JoiningLemmas
+pub mod StabilityLemmas
+pub mod ContextJTests
+pub mod TestLemmas
+pub mod ContextOTests
+pub mod BidiTests
+pub mod Computing

@@ -1,0 +1,16 @@
+use Rattle.std.proofs.Common.{refl}
+use Rattle.idn_class.specs.Rows.{latin_1, exceptions, examples}
+use Rattle.idn_class.proofs.Computing.{in_table, HasClasses-rows_ok}
+use Rattle.idn_class.proofs.laws.class_rows.Goals as goal
+
+pub returns-clause-latin_1 : goal.returns-clause-latin_1
+unfolding in_table
+returns-clause-latin_1 c = HasClasses-rows_ok latin_1 refl
+
+pub returns-clause-exceptions : goal.returns-clause-exceptions
+unfolding in_table
+returns-clause-exceptions c = HasClasses-rows_ok exceptions refl
+
+pub returns-clause-examples : goal.returns-clause-examples
+unfolding in_table
+returns-clause-examples c = HasClasses-rows_ok examples refl

@@ -1,0 +1,10 @@
+pub mod BidiClass
+pub mod BidiRule
+pub mod Class
+pub mod ContextJ
+pub mod ContextO
+pub mod JoiningType
+pub mod LeadingMark
+pub mod Neighbors
+pub mod Rows
+pub mod Tests

@@ -1,0 +1,109 @@
+ghost use Rattle.std.specs.Prelude.{◌≡◌};
+ghost use Rattle.idn_class.specs.BidiClass.{is_boundary_neutral, is_european_separator, is_european_number, is_arabic_number, is_nonspacing, is_right_to_left, is_arabic_letter, bidi_class};
+
+use crate::category::category_of;
+use unicode::properties::GeneralCategory;
+
+/// Bidi_Class, as far as the Bidi rule names its values, by the list of this profile. No code
+/// point has ET, CS or ON in it.
+#[derive(Clone, Copy, Debug, PartialEq, Eq)]
+pub enum BidiClass {
+    /// Left-to-right.
+    L,
+    /// Right-to-left.
+    R,
+    /// Right-to-left Arabic letter.
+    AL,
+    /// Arabic number.
+    AN,
+    /// European number.
+    EN,
+    /// European number separator.
+    ES,
+    /// Common number separator.
+    CS,
+    /// European number terminator.
+    ET,
+    /// Other neutral.
+    ON,
+    /// Boundary neutral.
+    BN,
+    /// Nonspacing mark.
+    NSM,
+}
+
+/// Bidi_Class of a code point.
+#[tactic(auto, unfolding(crate::specs::BidiClass::bidi_class))]
+pub(crate) fn bidi_class(c: u32) -> BidiClass
+    ensures { result ≡ bidi_class c }
+{
+    if is_boundary_neutral(c) {
+        BidiClass::BN
+    } else if is_european_separator(c) {
+        BidiClass::ES
+    } else if is_european_number(c) {
+        BidiClass::EN
+    } else if is_arabic_number(c) {
+        BidiClass::AN
+    } else if is_nonspacing(c) {
+        BidiClass::NSM
+    } else if is_right_to_left(c) {
+        BidiClass::R
+    } else if is_arabic_letter(c) {
+        BidiClass::AL
+    } else {
+        BidiClass::L
+    }
+}
+
+#[tactic(auto, unfolding(crate::specs::BidiClass::is_boundary_neutral))]
+fn is_boundary_neutral(c: u32) -> bool
+    ensures { result ≡ is_boundary_neutral c }
+{
+    matches!(c, 0x200C..=0x200D)
+}
+
+#[tactic(auto, unfolding(crate::specs::BidiClass::is_european_separator))]
+fn is_european_separator(c: u32) -> bool
+    ensures { result ≡ is_european_separator c }
+{
+    matches!(c, 0x2D)
+}
+
+#[tactic(auto, unfolding(crate::specs::BidiClass::is_european_number))]
+fn is_european_number(c: u32) -> bool
+    ensures { result ≡ is_european_number c }
+{
+    matches!(c, 0x30..=0x39 | 0x6F0..=0x6F9)
+}
+
+#[tactic(auto, unfolding(crate::specs::BidiClass::is_arabic_number))]
+fn is_arabic_number(c: u32) -> bool
+    ensures { result ≡ is_arabic_number c }
+{
+    matches!(c, 0x660..=0x669)
+}
+
+#[tactic(auto, unfolding(crate::specs::BidiClass::is_nonspacing))]
+fn is_nonspacing(c: u32) -> bool
+    ensures { result ≡ is_nonspacing c }
+{
+    matches!(
+        category_of(c),
+        GeneralCategory::NonspacingMark | GeneralCategory::EnclosingMark
+    )
+}
+
+#[tactic(auto, unfolding(crate::specs::BidiClass::is_right_to_left))]
+fn is_right_to_left(c: u32) -> bool
+    ensures { result ≡ is_right_to_left c }
+{
+    matches!(c, 0x590..=0x5FF | 0x7C0..=0x85F)
+}
+
+#[tactic(auto, unfolding(crate::specs::BidiClass::is_arabic_letter))]
+fn is_arabic_letter(c: u32) -> bool
+    ensures { result ≡ is_arabic_letter c }
+{
+    matches!(c, 0x600..=0x7BF | 0x860..=0x8FF)
+}

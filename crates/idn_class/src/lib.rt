@@ -1,0 +1,31 @@
+//! Which code points a label may hold, and where: the class of a code point (RFC 5892), the rules
+//! for those that need a context (RFC 5892, appendix A), the Bidi rule (RFC 5893, section 2), and
+//! whether a label begins with a combining mark (RFC 5891, section 4.2.3.2).
+#![tactic(auto)]
+
+mod bidi;
+mod bidi_class;
+mod category;
+mod class;
+mod class_table;
+mod contextj;
+mod contexto;
+mod joining_type;
+mod laws;
+mod mark;
+mod neighbor;
+mod stability;
+#[cfg(test)]
+mod tests;
+
+pub use bidi::bidi_ok;
+pub use bidi_class::BidiClass;
+pub use class::{Class, class_of};
+pub use contextj::contextj_ok;
+pub use contexto::contexto_ok;
+pub use joining_type::JoiningType;
+pub use laws::{
+    bidi_rows, class_rows, joiner_rows, mark_rows, only_rtl_labels_pass, other_rows,
+    tests_are_rules,
+};
+pub use mark::leading_mark;
