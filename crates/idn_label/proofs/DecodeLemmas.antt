@@ -1,0 +1,134 @@
+-- How the answer of decoding grows label by label.
+use Rattle.std.proofs.Common.{◌≡◌, ◌≢◌, ℕ, ◌+◌, ◌<◌, ◌≤◌, true, false, Option, Some, None, IfSome, List, [], ◌∷◌, ◌++◌, map, take, drop, get_or, length, All, Result, Ok, Err, refl, sym, ap, subst, ◌∙◌, inl, inr, append_assoc, take-append-drop, eq-eqb, arith}
+use Rattle.std.specs.Char.{to_ascii_lowercase}
+use Rattle.std.proofs.lemmas.Bool.{cases_Bool, cond-true, cond-false}
+use Rattle.std.proofs.lemmas.Bool.Decides.{nat_tests}
+use Rattle.std.proofs.lemmas.List.{drop_more, length-map}
+use Rattle.std.proofs.Math.Seq.{drop-append_seam}
+use Rattle.std.specs.Borrow.{Bor}
+use Rattle.std.specs.Option.{option_map_or}
+use Rattle.std.proofs.lemmas.List.Splits.{slice_split_at}
+use Rattle.idna.specs.Labels.{is_full_stop, labels_of, join_labels}
+use Rattle.idna.specs.Validity.{has_ace_prefix}
+use Rattle.idna.proofs.LabelsLemmas.{labels_of_cons}
+use Rattle.idna.proofs.Uts46Lemmas.{ace_parts}
+use Rattle.idn_text.specs.declared.refusal.Refusal.{Refusal}
+use Rattle.idn_label.specs.Answers.{Answer, and_then}
+use Rattle.idn_label.specs.Decode.{decoded_label, with_others, decoded_labels, decode_answer}
+use Rattle.idn_label.specs.Register.{u_label_answer}
+use Rattle.idn_label.specs.Steps.{appended}
+use Rattle.idn_label.proofs.AnswerLemmas.{and_then-ok}
+
+-- ---- the first label of a name
+
+pub labels_of-stop : (name : List ℕ) (at : ℕ) → at < length name → get_or name at 0 ≡ 0x2E → All (λ c. is_full_stop c ≡ false) (take at name) → labels_of name ≡ take at name ∷ labels_of (drop (at + 1) name)
+labels_of-stop name at lt stop none =
+    let parts : name ≡ take at name ++ get_or name at 0 ∷ drop (at + 1) name = sym (take-append-drop at name) ∙ ap (λ zs. take at name ++ zs) (drop_more name at 0 lt) in
+    ap labels_of parts ∙ slice_split_at is_full_stop (take at name) (get_or name at 0) (drop (at + 1) name) none (eq-eqb (get_or name at 0) 0x2E stop)
+
+-- ---- the prefix in any case
+
+pub has_ace_prefix-few : (label : List ℕ) → length label < 4 → has_ace_prefix (map to_ascii_lowercase label) ≡ false
+has_ace_prefix-few label few =
+    elim (cases_Bool (has_ace_prefix (map to_ascii_lowercase label))) [
+      | inl coded ↦ absurd (omega (arith, (ace_parts _ coded).1, length-map label to_ascii_lowercase))
+      | inr plain ↦ plain
+    ]
+
+pub has_ace_prefix-four : (label : List ℕ) → 4 ≤ length label → has_ace_prefix (to_ascii_lowercase (get_or label 0 0) ∷ to_ascii_lowercase (get_or label 1 0) ∷ to_ascii_lowercase (get_or label 2 0) ∷ to_ascii_lowercase (get_or label 3 0) ∷ []) ≡ has_ace_prefix (map to_ascii_lowercase label)
+unfolding has_ace_prefix
+has_ace_prefix-four [] many = absurd (omega arith)
+has_ace_prefix-four (a ∷ []) many = absurd (omega arith)
+has_ace_prefix-four (a ∷ b ∷ []) many = absurd (omega arith)
+has_ace_prefix-four (a ∷ b ∷ c ∷ []) many = absurd (omega arith)
+has_ace_prefix-four (a ∷ b ∷ c ∷ d ∷ label) many = refl
+
+-- ---- one label
+
+pub decoded_label-coded : (label : List ℕ) → has_ace_prefix (map to_ascii_lowercase label) ≡ true → decoded_label label ≡ u_label_answer (map to_ascii_lowercase label)
+unfolding decoded_label
+decoded_label-coded label coded = cond-true _ _ _ coded
+
+pub decoded_label-plain : (label : List ℕ) → has_ace_prefix (map to_ascii_lowercase label) ≡ false → decoded_label label ≡ Ok label
+unfolding decoded_label
+decoded_label-plain label plain = cond-false _ _ _ plain
+
+-- ---- all labels
+
+join_one : (answer : Answer) → and_then (with_others answer (Ok [])) (λ labels. Ok (join_labels labels)) ≡ answer
+join_one (Ok label) = refl
+join_one (Err refusal) = refl
+
+pub decode_answer-last : (name label : List ℕ) → labels_of name ≡ label ∷ [] → decode_answer name ≡ decoded_label label
+unfolding decode_answer decoded_labels
+decode_answer-last name label last = rw last (join_one (decoded_label label))
+
+pub decode_answer-err : (name label : List ℕ) (others : List (List ℕ)) (refusal : Refusal) → labels_of name ≡ label ∷ others → decoded_label label ≡ Err refusal → decode_answer name ≡ Err refusal
+unfolding decode_answer decoded_labels
+decode_answer-err name label others refusal parts fault = rw (parts, fault) refl
+
+abbrev joined : Result (List (List ℕ)) Refusal → Answer
+joined labels = and_then labels (λ ls. Ok (join_labels ls))
+
+join_more : (answer first : Answer) (others : Result (List (List ℕ)) Refusal) → joined (with_others answer (with_others first others)) ≡ and_then answer (λ label. appended (label ++ 0x2E ∷ []) (joined (with_others first others)))
+join_more (Err refusal) first others = refl
+join_more (Ok label) (Err refusal) others = refl
+join_more (Ok label) (Ok next) (Err refusal) = refl
+join_more (Ok label) (Ok next) (Ok others) = ap Ok (sym (append_assoc label (0x2E ∷ []) (join_labels (next ∷ others))))
+
+pub decode_answer-more : (name label others : List ℕ) → labels_of name ≡ label ∷ labels_of others → decode_answer name ≡ and_then (decoded_label label) (λ decoded. appended (decoded ++ 0x2E ∷ []) (decode_answer others))
+unfolding decode_answer decoded_labels
+decode_answer-more name label others parts =
+    let more = labels_of_cons others in
+    rw (parts, more.2) (join_more (decoded_label label) (decoded_label more.0) (decoded_labels more.1))
+
+appended_twice : (before between : List ℕ) (answer : Answer) → appended before (appended between answer) ≡ appended (before ++ between) answer
+appended_twice before between (Ok more) = ap Ok (sym (append_assoc before between more))
+appended_twice before between (Err refusal) = refl
+
+pub appended-nil : (answer : Answer) → appended [] answer ≡ answer
+appended-nil (Ok more) = refl
+appended-nil (Err refusal) = refl
+
+pub appended-err : (before : List ℕ) (answer : Answer) (refusal : Refusal) → appended before answer ≡ Err refusal → answer ≡ Err refusal
+appended-err before (Ok more) refusal e = absurd (let clash : Ok (before ++ more) ≡ Err refusal = e in cc)
+appended-err before (Err other) refusal e = e
+
+appended-ok : (before : List ℕ) (answer : Answer) (after : List ℕ) → appended before answer ≡ Ok after → (more : List ℕ) × (answer ≡ Ok more) × (after ≡ before ++ more)
+appended-ok before (Ok more) after e = (more, refl, (let same : Ok (before ++ more) ≡ Ok after = e in let is : after ≡ before ++ more = cc in is))
+appended-ok before (Err refusal) after e = absurd (let clash : Err refusal ≡ Ok after = e in cc)
+
+-- ---- a turn of the loop over labels
+
+pub turn_err : (before name label : List ℕ) (others : List (List ℕ)) (refusal : Refusal) → labels_of name ≡ label ∷ others → appended before (decoded_label label) ≡ Err refusal → appended before (decode_answer name) ≡ Err refusal
+turn_err before name label others refusal parts fault =
+    rw (decode_answer-err name label others refusal parts (appended-err before (decoded_label label) refusal fault)) refl
+
+pub turn_last : (before name label after : List ℕ) → labels_of name ≡ label ∷ [] → appended before (decoded_label label) ≡ Ok after → appended before (decode_answer name) ≡ Ok after
+turn_last before name label after last is = ap (appended before) (decode_answer-last name label last) ∙ is
+
+pub turn_more : (before name label others after : List ℕ) → labels_of name ≡ label ∷ labels_of others → appended before (decoded_label label) ≡ Ok after → appended before (decode_answer name) ≡ appended (after ++ 0x2E ∷ []) (decode_answer others)
+turn_more before name label others after parts is =
+    let step = appended-ok before (decoded_label label) after is in
+    let one = decode_answer-more name label others parts ∙ and_then-ok (decoded_label label) _ step.0 step.1 in
+    ap (appended before) one
+    ∙ appended_twice before (step.0 ++ 0x2E ∷ []) (decode_answer others)
+    ∙ ap (λ front. appended front (decode_answer others)) (sym (append_assoc before step.0 (0x2E ∷ [])) ∙ ap (λ front. front ++ 0x2E ∷ []) (sym step.2))
+
+pub no_stop : (c : ℕ) → c ≢ 0x2E → is_full_stop c ≡ false
+no_stop c other = grind (arith, nat_tests)
+
+-- the labels of a name, by what stands behind its first one
+pub labels_of-none : (name label : List ℕ) (others : Option (Bor (List ℕ))) → labels_of name ≡ label ∷ option_map_or (λ rest. labels_of rest.now) others [] → others ≡ None → labels_of name ≡ label ∷ []
+labels_of-none name label others parts none = parts ∙ ap (λ o. label ∷ option_map_or (λ (rest : Bor (List ℕ)). labels_of rest.now) o []) none
+
+pub labels_of-some : (name label : List ℕ) (others : Option (Bor (List ℕ))) (rest : Bor (List ℕ)) → labels_of name ≡ label ∷ option_map_or (λ rest. labels_of rest.now) others [] → others ≡ Some rest → labels_of name ≡ label ∷ labels_of rest.now
+labels_of-some name label others rest parts some = parts ∙ ap (λ o. label ∷ option_map_or (λ (rest : Bor (List ℕ)). labels_of rest.now) o []) some
+
+pub shorter_rest : (n : ℕ) (others : Option (Bor (List ℕ))) (rest : Bor (List ℕ)) → IfSome others (λ rest. length rest.now < n) → others ≡ Some rest → length rest.now < n
+shorter_rest n others rest shorter some = subst (λ (o : Option (Bor (List ℕ))). IfSome o (λ rest. length rest.now < n)) some shorter
+
+-- what was appended is what stands behind the old length
+pub tail_is : (before more all text tail : List ℕ) (start : ℕ) → start ≡ length before → all ≡ before ++ more → text ≡ all → tail ≡ drop start text → tail ≡ more
+tail_is before more all text tail start at grown same is =
+    is ∙ ap (drop start) (same ∙ grown) ∙ ap (λ n. drop n (before ++ more)) at ∙ drop-append_seam before more

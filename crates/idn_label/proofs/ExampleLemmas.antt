@@ -1,0 +1,148 @@
+-- The examples, computed.
+use Rattle.std.proofs.Common.{◌≡◌, ◌≢◌, ℕ, ◌==◌, not, List, [], ◌∷◌, ◌++◌, map, codes, length, replicate, Option, Some, None, Ok, Err, refl, ap, get_or, arith}
+use Rattle.idna.specs.Labels.{join_labels}
+use Rattle.unicode_normalization.specs.Forms.{is_nfc}
+use Rattle.idna.proofs.Computing.{idna}
+use Rattle.idn_text.specs.declared.refusal.Refusal.{Refusal}
+use Rattle.idn_text.specs.declared.refusal.Refusal.TheVariants.{Empty, NotNfc, Hyphen, LeadingMark, ContextJ, ContextO, Bidi, LabelTooLong}
+use Rattle.idn_text.specs.declared.refusal.Refusal.TheVariants as refusals
+use Rattle.idn_class.specs.declared.class.Class.{Class}
+use Rattle.idn_class.specs.declared.class.Class.TheVariants.{Pvalid, Contextj, Contexto}
+use Rattle.idn_class.specs.declared.class.Class.TheVariants as class
+use Rattle.idn_class.specs.Class.{class_of}
+use Rattle.idn_class.specs.Tests.{leading_mark, contextj_ok, contexto_ok, bidi_ok}
+use Rattle.idn_class.proofs.Computing.{rules, in_table, map-class_of-in_table}
+use Rattle.idn_label.specs.ALabel.{a_label_of}
+use Rattle.idn_label.specs.Examples.{HaveALabels, HaveFirstFaults, HaveRegisterAnswers, HaveDecodeAnswers, HaveLookupAnswers, a_labels, first_faults, first_faults_of_two, register_answers, decode_answers, lookup_answers}
+use Rattle.idn_label.specs.Answers.{and_then}
+use Rattle.idn_label.specs.Decode.{decoded_label, decoded_labels, decode_answer, with_others}
+use Rattle.idn_label.specs.Lookup.{lookup_answer}
+use Rattle.idn_label.specs.Register.{decoded_code, u_label_answer}
+use Rattle.idn_label.proofs.AnswerLemmas.{tested_answer-ok, tested_answer-fault, confirmed-same, confirmed-other, confirmed-fault, u_label_answer-code_fault, u_label_answer-confirmed, register_answer-fault, register_answer-coded}
+use Rattle.idn_label.specs.FirstFault.{first_of, fault_if, fault_of_class, code_point_fault, has_hyphen_out_of_place, is_too_long, first_fault}
+
+-- the first fault of a label whose classes are known
+abbrev told : List ℕ → List Class → Option Refusal
+told label classes =
+    first_of (
+    fault_if (length label == 0) Empty
+    ∷ first_of (map fault_of_class classes)
+    ∷ fault_if (not (is_nfc label)) NotNfc
+    ∷ fault_if (has_hyphen_out_of_place label) Hyphen
+    ∷ fault_if (leading_mark label) LeadingMark
+    ∷ fault_if (not (contextj_ok label)) ContextJ
+    ∷ fault_if (not (contexto_ok label)) ContextO
+    ∷ fault_if (not (bidi_ok label)) Bidi
+    ∷ fault_if (is_too_long label) LabelTooLong
+    ∷ []
+    )
+
+told_is : (label : List ℕ) (classes : List Class) (fault : Option Refusal) → map class_of label ≡ classes → told label classes ≡ fault → first_fault label ≡ fault
+unfolding first_fault code_point_fault
+told_is label classes fault known is = rw known is
+
+pub HaveALabels-a_labels : HaveALabels a_labels
+unfolding a_label_of idna
+HaveALabels-a_labels =
+    (refl, (refl, (refl, (refl, (refl, (refl, (refl, (refl, (refl, (refl, (refl, (refl, tt))))))))))))
+
+pub HaveFirstFaults-first_faults : HaveFirstFaults first_faults
+unfolding a_label_of idna rules in_table
+HaveFirstFaults-first_faults =
+    (told_is ([]) ([]) (Some Empty) (map-class_of-in_table ([]) ([]) refl) refl, (told_is (0x66 ∷ 0x61 ∷ 0xDF ∷ []) (Pvalid ∷ Pvalid ∷ Pvalid ∷ []) (None) (map-class_of-in_table (0x66 ∷ 0x61 ∷ 0xDF ∷ []) (Pvalid ∷ Pvalid ∷ Pvalid ∷ []) refl) refl, (told_is (0x6C ∷ 0xB7 ∷ 0x6C ∷ []) (Pvalid ∷ Contexto ∷ Pvalid ∷ []) (None) (map-class_of-in_table (0x6C ∷ 0xB7 ∷ 0x6C ∷ []) (Pvalid ∷ Contexto ∷ Pvalid ∷ []) refl) refl, (told_is (0x61 ∷ 0xB7 ∷ 0x6C ∷ []) (Pvalid ∷ Contexto ∷ Pvalid ∷ []) (Some ContextO) (map-class_of-in_table (0x61 ∷ 0xB7 ∷ 0x6C ∷ []) (Pvalid ∷ Contexto ∷ Pvalid ∷ []) refl) refl, (told_is (0x61 ∷ 0x200C ∷ 0x62 ∷ []) (Pvalid ∷ Contextj ∷ Pvalid ∷ []) (Some ContextJ) (map-class_of-in_table (0x61 ∷ 0x200C ∷ 0x62 ∷ []) (Pvalid ∷ Contextj ∷ Pvalid ∷ []) refl) refl, (told_is (0x50000 ∷ []) (class.Unassigned ∷ []) (Some refusals.Unassigned) (map-class_of-in_table (0x50000 ∷ []) (class.Unassigned ∷ []) refl) refl, (told_is (0x61 ∷ 0x301 ∷ []) (Pvalid ∷ Pvalid ∷ []) (Some NotNfc) (map-class_of-in_table (0x61 ∷ 0x301 ∷ []) (Pvalid ∷ Pvalid ∷ []) refl) refl, (told_is (codes "ab--c") (Pvalid ∷ Pvalid ∷ Pvalid ∷ Pvalid ∷ Pvalid ∷ []) (Some Hyphen) (map-class_of-in_table (codes "ab--c") (Pvalid ∷ Pvalid ∷ Pvalid ∷ Pvalid ∷ Pvalid ∷ []) refl) refl, (told_is (codes "a-") (Pvalid ∷ Pvalid ∷ []) (Some Hyphen) (map-class_of-in_table (codes "a-") (Pvalid ∷ Pvalid ∷ []) refl) refl, (told_is (0x301 ∷ 0x61 ∷ []) (Pvalid ∷ Pvalid ∷ []) (Some LeadingMark) (map-class_of-in_table (0x301 ∷ 0x61 ∷ []) (Pvalid ∷ Pvalid ∷ []) refl) refl, (told_is (0x61 ∷ 0x5D0 ∷ []) (Pvalid ∷ Pvalid ∷ []) (Some Bidi) (map-class_of-in_table (0x61 ∷ 0x5D0 ∷ []) (Pvalid ∷ Pvalid ∷ []) refl) refl, (told_is (0x5D0 ∷ 0x61 ∷ []) (Pvalid ∷ Pvalid ∷ []) (Some Bidi) (map-class_of-in_table (0x5D0 ∷ 0x61 ∷ []) (Pvalid ∷ Pvalid ∷ []) refl) refl, (told_is (codes "a.b") (Pvalid ∷ class.Disallowed ∷ Pvalid ∷ []) (Some refusals.Disallowed) (map-class_of-in_table (codes "a.b") (Pvalid ∷ class.Disallowed ∷ Pvalid ∷ []) refl) refl, (told_is (codes "Fa") (class.Disallowed ∷ Pvalid ∷ []) (Some refusals.Disallowed) (map-class_of-in_table (codes "Fa") (class.Disallowed ∷ Pvalid ∷ []) refl) refl, (told_is (0x627 ∷ 0x660 ∷ 0x6F0 ∷ []) (Pvalid ∷ Contexto ∷ Contexto ∷ []) (Some ContextO) (map-class_of-in_table (0x627 ∷ 0x660 ∷ 0x6F0 ∷ []) (Pvalid ∷ Contexto ∷ Contexto ∷ []) refl) refl, (told_is (replicate 63 0x61) (replicate 63 Pvalid) (None) (map-class_of-in_table (replicate 63 0x61) (replicate 63 Pvalid) refl) refl, (told_is (replicate 64 0x61) (replicate 64 Pvalid) (Some LabelTooLong) (map-class_of-in_table (replicate 64 0x61) (replicate 64 Pvalid) refl) refl, (told_is (replicate 55 0x61 ++ 0xDF ∷ []) (replicate 56 Pvalid) (None) (map-class_of-in_table (replicate 55 0x61 ++ 0xDF ∷ []) (replicate 56 Pvalid) refl) refl, (told_is (replicate 56 0x61 ++ 0xDF ∷ []) (replicate 57 Pvalid) (Some LabelTooLong) (map-class_of-in_table (replicate 56 0x61 ++ 0xDF ∷ []) (replicate 57 Pvalid) refl) refl, tt)))))))))))))))))))
+
+pub HaveFirstFaults-first_faults_of_two : HaveFirstFaults first_faults_of_two
+unfolding a_label_of idna rules in_table
+HaveFirstFaults-first_faults_of_two =
+    (told_is (0x41 ∷ 0x50000 ∷ []) (class.Disallowed ∷ class.Unassigned ∷ []) (Some refusals.Disallowed) (map-class_of-in_table (0x41 ∷ 0x50000 ∷ []) (class.Disallowed ∷ class.Unassigned ∷ []) refl) refl, (told_is (0x50000 ∷ 0x41 ∷ []) (class.Unassigned ∷ class.Disallowed ∷ []) (Some refusals.Unassigned) (map-class_of-in_table (0x50000 ∷ 0x41 ∷ []) (class.Unassigned ∷ class.Disallowed ∷ []) refl) refl, (told_is (0x61 ∷ 0x301 ∷ 0x2D ∷ []) (Pvalid ∷ Pvalid ∷ Pvalid ∷ []) (Some NotNfc) (map-class_of-in_table (0x61 ∷ 0x301 ∷ 0x2D ∷ []) (Pvalid ∷ Pvalid ∷ Pvalid ∷ []) refl) refl, (told_is (0x301 ∷ 0x2D ∷ []) (Pvalid ∷ Pvalid ∷ []) (Some Hyphen) (map-class_of-in_table (0x301 ∷ 0x2D ∷ []) (Pvalid ∷ Pvalid ∷ []) refl) refl, (told_is (0x301 ∷ 0x200D ∷ []) (Pvalid ∷ Contextj ∷ []) (Some LeadingMark) (map-class_of-in_table (0x301 ∷ 0x200D ∷ []) (Pvalid ∷ Contextj ∷ []) refl) refl, tt)))))
+
+-- the prefix alone
+no_code : u_label_answer (codes "xn--") ≡ Err refusals.BadALabel
+unfolding idna decoded_code
+no_code = u_label_answer-code_fault (codes "xn--") [] refusals.BadALabel refl refl
+
+-- the code of a label that needs none
+needless_code : u_label_answer (codes "xn--abc-") ≡ Err refusals.BadALabel
+unfolding idna decoded_code a_label_of rules in_table
+needless_code =
+    let plain : first_fault (codes "abc") ≡ None = told_is (codes "abc") (Pvalid ∷ Pvalid ∷ Pvalid ∷ []) None (map-class_of-in_table (codes "abc") (Pvalid ∷ Pvalid ∷ Pvalid ∷ []) refl) refl in
+    let other : a_label_of (codes "abc") ≢ codes "xn--abc-" = λ same. cc in
+    u_label_answer-confirmed (codes "xn--abc-") (codes "abc-") (codes "abc") (Err refusals.BadALabel) refl refl
+    (confirmed-other (codes "xn--abc-") (codes "abc") (a_label_of (codes "abc")) (tested_answer-ok (codes "abc") plain) other)
+
+-- the code of U+0080
+disallowed_code : u_label_answer (codes "xn--a") ≡ Err refusals.Disallowed
+unfolding idna decoded_code a_label_of rules in_table
+disallowed_code =
+    let fault : first_fault (0x80 ∷ []) ≡ Some refusals.Disallowed = told_is (0x80 ∷ []) (class.Disallowed ∷ []) (Some refusals.Disallowed) (map-class_of-in_table (0x80 ∷ []) (class.Disallowed ∷ []) refl) refl in
+    u_label_answer-confirmed (codes "xn--a") (codes "a") (0x80 ∷ []) (Err refusals.Disallowed) refl refl
+    (confirmed-fault (codes "xn--a") (0x80 ∷ []) refusals.Disallowed (tested_answer-fault (0x80 ∷ []) refusals.Disallowed fault))
+
+sharp_s_tested : first_fault (0x66 ∷ 0x61 ∷ 0xDF ∷ []) ≡ None
+unfolding a_label_of idna rules in_table
+sharp_s_tested = told_is (0x66 ∷ 0x61 ∷ 0xDF ∷ []) (Pvalid ∷ Pvalid ∷ Pvalid ∷ []) None (map-class_of-in_table (0x66 ∷ 0x61 ∷ 0xDF ∷ []) (Pvalid ∷ Pvalid ∷ Pvalid ∷ []) refl) refl
+
+sharp_s : u_label_answer (codes "xn--fa-hia") ≡ Ok (0x66 ∷ 0x61 ∷ 0xDF ∷ [])
+unfolding idna decoded_code a_label_of
+sharp_s =
+    u_label_answer-confirmed (codes "xn--fa-hia") (codes "fa-hia") (0x66 ∷ 0x61 ∷ 0xDF ∷ []) (Ok (0x66 ∷ 0x61 ∷ 0xDF ∷ [])) refl refl
+    (confirmed-same (codes "xn--fa-hia") (0x66 ∷ 0x61 ∷ 0xDF ∷ []) (a_label_of (0x66 ∷ 0x61 ∷ 0xDF ∷ [])) (tested_answer-ok (0x66 ∷ 0x61 ∷ 0xDF ∷ []) sharp_s_tested) refl)
+
+-- the same code in upper case is not the A-label
+sharp_s_in_upper_case : u_label_answer (codes "xn--fa-HIA") ≡ Err refusals.BadALabel
+unfolding idna decoded_code a_label_of
+sharp_s_in_upper_case =
+    let other : a_label_of (0x66 ∷ 0x61 ∷ 0xDF ∷ []) ≢ codes "xn--fa-HIA" = λ same.
+    (let eighth : 0x68 ≡ 0x48 = ap (λ letters. get_or letters 7 0) same in omega (arith, eighth)) in
+    u_label_answer-confirmed (codes "xn--fa-HIA") (codes "fa-HIA") (0x66 ∷ 0x61 ∷ 0xDF ∷ []) (Err refusals.BadALabel) refl refl
+    (confirmed-other (codes "xn--fa-HIA") (0x66 ∷ 0x61 ∷ 0xDF ∷ []) (a_label_of (0x66 ∷ 0x61 ∷ 0xDF ∷ [])) (tested_answer-ok (0x66 ∷ 0x61 ∷ 0xDF ∷ []) sharp_s_tested) other)
+
+china_tested : first_fault (0x4E2D ∷ 0x56FD ∷ []) ≡ None
+unfolding a_label_of idna rules in_table
+china_tested = told_is (0x4E2D ∷ 0x56FD ∷ []) (Pvalid ∷ Pvalid ∷ []) None (map-class_of-in_table (0x4E2D ∷ 0x56FD ∷ []) (Pvalid ∷ Pvalid ∷ []) refl) refl
+
+china : u_label_answer (codes "xn--fiqs8s") ≡ Ok (0x4E2D ∷ 0x56FD ∷ [])
+unfolding idna decoded_code a_label_of
+china =
+    u_label_answer-confirmed (codes "xn--fiqs8s") (codes "fiqs8s") (0x4E2D ∷ 0x56FD ∷ []) (Ok (0x4E2D ∷ 0x56FD ∷ [])) refl refl
+    (confirmed-same (codes "xn--fiqs8s") (0x4E2D ∷ 0x56FD ∷ []) (a_label_of (0x4E2D ∷ 0x56FD ∷ [])) (tested_answer-ok (0x4E2D ∷ 0x56FD ∷ []) china_tested) refl)
+
+pub HaveRegisterAnswers-register_answers : HaveRegisterAnswers register_answers
+unfolding idna
+HaveRegisterAnswers-register_answers = (
+  register_answer-fault (codes "xn--") refusals.BadALabel refl no_code,
+  (
+    register_answer-fault (codes "xn--abc-") refusals.BadALabel refl needless_code,
+    (
+      register_answer-fault (codes "xn--a") refusals.Disallowed refl disallowed_code,
+      (
+        register_answer-coded (codes "xn--fa-hia") (0x66 ∷ 0x61 ∷ 0xDF ∷ []) refl sharp_s,
+        (register_answer-fault (codes "xn--fa-HIA") refusals.BadALabel refl sharp_s_in_upper_case, tt),
+      ),
+    ),
+  ),
+)
+
+decoded_nothing : decode_answer [] ≡ Ok []
+unfolding decode_answer decoded_labels decoded_label idna
+decoded_nothing = refl
+
+decoded_sharp_s : decode_answer (codes "XN--FA-HIA.de") ≡ Ok (0x66 ∷ 0x61 ∷ 0xDF ∷ codes ".de")
+unfolding decode_answer decoded_labels decoded_label idna
+decoded_sharp_s = ap (λ first. and_then (with_others first (decoded_labels (codes "de" ∷ []))) (λ labels. Ok (join_labels labels))) sharp_s
+
+decoded_china : decode_answer (codes "xn--fiqs8s.example") ≡ Ok (0x4E2D ∷ 0x56FD ∷ codes ".example")
+unfolding decode_answer decoded_labels decoded_label idna
+decoded_china = ap (λ first. and_then (with_others first (decoded_labels (codes "example" ∷ []))) (λ labels. Ok (join_labels labels))) china
+
+-- the first refusal is told
+decoded_refusal : decode_answer (codes "a.xn--a.xn--") ≡ Err refusals.Disallowed
+unfolding decode_answer decoded_labels decoded_label idna
+decoded_refusal = ap (λ second. and_then (with_others (Ok (codes "a")) (with_others second (decoded_labels (codes "xn--" ∷ [])))) (λ labels. Ok (join_labels labels))) disallowed_code
+
+pub HaveDecodeAnswers-decode_answers : HaveDecodeAnswers decode_answers
+HaveDecodeAnswers-decode_answers = (decoded_nothing, (decoded_sharp_s, (decoded_china, (decoded_refusal, tt))))
+
+pub HaveLookupAnswers-lookup_answers : HaveLookupAnswers lookup_answers
+unfolding idna lookup_answer
+HaveLookupAnswers-lookup_answers = (refl, (refl, (refl, (refl, (refl, (refl, (refl, (refl, tt))))))))

@@ -1,0 +1,22 @@
+-- Answers: a list of numbers, or a refusal.
+use Rattle.std.specs.Prelude.{◌≡◌, ◌≢◌, ℕ, List, Option, Some, None, Result, Ok, Err}
+use Rattle.idn_text.specs.declared.refusal.Refusal.{Refusal}
+use Rattle.idn_text.specs.declared.refusal.Refusal.TheVariants.{Memory}
+
+abbrev pub Answer : Type 0
+Answer = Result (List ℕ) Refusal
+
+-- the answer, unless there is a fault
+abbrev pub unless_fault : Option Refusal → Answer → Answer
+unless_fault None answer = answer
+unless_fault (Some refusal) answer = Err refusal
+
+-- what the function makes of the answer, if it is no refusal
+abbrev pub and_then : {A : Type 0} → Result A Refusal → (A → Answer) → Answer
+and_then (Ok value) f = f value
+and_then (Err refusal) f = Err refusal
+
+-- unless memory was refused, a result is the answer, its value as `view` shows it
+abbrev pub Gives : {T : Type 0} → (T → List ℕ) → Result T Refusal → Answer → Type 0
+Gives view (Ok value) answer = answer ≡ Ok (view value)
+Gives view (Err refusal) answer = refusal ≢ Memory → answer ≡ Err refusal

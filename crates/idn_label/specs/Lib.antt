@@ -1,0 +1,9 @@
+pub mod ALabel
+pub mod FirstFault
+pub mod Answers
+pub mod Register
+pub mod Decode
+pub mod Lookup
+pub mod Steps
+pub mod Requirements
+pub mod Examples

@@ -1,0 +1,47 @@
+//! A-labels.
+ghost use Rattle.std.specs.Prelude.{◌≡◌, ◌≢◌, ◌<◌, ◌≤◌, ◌++◌, length, codes, false, IfOk, IfErr, OnOk, All};
+ghost use Rattle.idna.specs.Punycode.{encode};
+
+use arrayvec::ArrayString;
+use idn_text::Refusal;
+use idna::{Errors, punycode};
+use std::alloc::Global;
+
+/// The most octets that a label has in the DNS (RFC 1035 section 2.3.4). No label has more code points either.
+pub(crate) const MAX_LABEL_LEN: usize = 63;
+
+/// An A-label of at most 63 octets. A label in ASCII is its own A-label.
+pub type ALabel = ArrayString<63>;
+
+/// The prefix and the Punycode of a label, if they are short enough.
+pub(crate) fn encoded_label(alloc: Global, label: &[char]) -> Result<ALabel, Refusal>
+    requires { length label.now ≤ 63 }
+    ensures ok { IfOk result (λ answer. answer.bytes ≡ codes "xn--" ++ encode label.now) }
+    ensures short { OnOk result (length (codes "xn--" ++ encode label.now) ≤ 63) }
+    ensures too_long { IfErr result (λ refusal. refusal ≢ Refusal.Memory → (refusal ≡ Refusal.LabelTooLong) × (63 < length (codes "xn--" ++ encode label.now))) }
+{
+    let code = match punycode::encode(alloc, label) {
+        Ok(code) => code,
+        Err(Errors::OutOfMemory) => return Err(Refusal::Memory),
+        Err(Errors::Invalid) => unreachable!(),
+    };
+    let mut answer = ALabel::new();
+    answer.push_str("xn--");
+    match answer.try_push_str(code.as_str()) {
+        Ok(()) => Ok(answer),
+        Err(_) => Err(Refusal::LabelTooLong),
+    }
+}
+
+/// ASCII code points as text. There must be room.
+pub(crate) fn ascii_text<const N: usize>(points: &[u32]) -> ArrayString<N>
+    requires short { length points.now ≤ N }
+    requires ascii { All (λ c. c < 128) points.now }
+    ensures { result.bytes ≡ points.now }
+{
+    let mut text = ArrayString::new();
+    for c in points {
+        text.push(char::from(*c as u8));
+    }
+    text
+}

@@ -1,0 +1,136 @@
+//! Decoding of the A-labels of a name (RFC 5891 section 5.3).
+ghost use Rattle.std.specs.Prelude.{◌≡◌, ◌<◌, ◌≤◌, ℕ, List, [], ◌∷◌, ◌++◌, length, map, true, Ok, IfOk, OnOk, IfSome};
+ghost use Rattle.std.specs.Char.{to_ascii_lowercase};
+ghost use Rattle.std.specs.Option.{option_map_or};
+ghost use Rattle.idna.specs.Labels.{labels_of};
+ghost use Rattle.idna.specs.Validity.{has_ace_prefix};
+ghost use Rattle.idn_label.specs.ALabel.{a_label_of};
+ghost use Rattle.idn_label.specs.Answers.{Gives};
+ghost use Rattle.idn_label.specs.Decode.{decoded_label, decode_answer};
+ghost use Rattle.idn_label.specs.FirstFault.{IsRegistrable};
+ghost use Rattle.idn_label.specs.Register.{u_label_answer};
+ghost use Rattle.idn_label.specs.Steps.{appended};
+
+use crate::u_label::{MAX_INPUT_LEN, has_ace_prefix, u_label};
+use idn_text::Refusal;
+use std::alloc::{AllocError, Global};
+
+const FULL_STOP: u32 = 0x2E;
+
+/// The name with each A-label turned into what it stands for (RFC 5891 section 5.3). A label that begins with `xn--`
+/// in any ASCII case is put into lower case and decoded, or refuses the name as `BadALabel` or by the first fault of
+/// what it stands for; any other label stays as it is. The first refused label tells. `Memory` says nothing of the name.
+pub fn decode_name(alloc: Global, name: &[u32]) -> Result<Vec<u32>, Refusal>
+    requires { length name.now ≤ MAX_INPUT_LEN }
+    ensures answer { Gives (λ decoded. decoded.items) result (decode_answer name.now) }
+
+    // The A-label of a label that may be registered is decoded to that label.
+    ensures back { (registered : List ℕ) → IsRegistrable registered → name.now ≡ a_label_of registered
+        → Gives (λ decoded. decoded.items) result (Ok registered) }
+{
+    let mut decoded = Vec::with_capacity(alloc, name.len())?;
+    decode_labels(alloc, name, &mut decoded)?;
+    Ok(decoded)
+}
+
+/// Appends the decoded name.
+fn decode_labels(alloc: Global, name: &[u32], decoded: &mut Vec<u32>) -> Result<(), Refusal>
+    requires { length name.now ≤ MAX_INPUT_LEN }
+    ensures { Gives (λ _. decoded.new.items) result (appended decoded.old.items (decode_answer name.now)) }
+{
+    let mut rest = name;
+    'labels: loop {
+        let (label, others) = split_first_label(rest);
+        decode_label(alloc, label, decoded)?;
+        let Some(others) = others else {
+            return Ok(());
+        };
+        decoded.push(FULL_STOP)?;
+        rest = others;
+    }
+}
+
+/// What stands before the first full stop, and what stands behind it if there is one.
+fn split_first_label(name: &[u32]) -> (&[u32], Option<&[u32]>)
+    ensures labels { labels_of name.now ≡ result.0.now ∷ option_map_or (λ others. labels_of others.now) result.1 [] }
+    ensures label_length { length result.0.now ≤ length name.now }
+    ensures others_length { IfSome result.1 (λ others. length others.now < length name.now) }
+{
+    for (at, c) in name.iter().enumerate() {
+        if *c == FULL_STOP {
+            return (&name[..at], Some(&name[at + 1..]));
+        }
+    }
+    (name, None)
+}
+
+/// Appends a label, decoded if it begins with `xn--` in any ASCII case.
+fn decode_label(alloc: Global, label: &[u32], decoded: &mut Vec<u32>) -> Result<(), Refusal>
+    requires { length label.now ≤ MAX_INPUT_LEN }
+    ensures { Gives (λ _. decoded.new.items) result (appended decoded.old.items (decoded_label label.now)) }
+{
+    if has_ace_prefix_in_any_case(label) {
+        decode_a_label(alloc, label, decoded)
+    } else {
+        decoded.extend_from_slice(label)?;
+        Ok(())
+    }
+}
+
+fn has_ace_prefix_in_any_case(label: &[u32]) -> bool
+    ensures { result ≡ has_ace_prefix (map to_ascii_lowercase label.now) }
+{
+    if label.len() < 4 {
+        return false;
+    }
+    has_ace_prefix(&[
+        to_lowercase(label[0]),
+        to_lowercase(label[1]),
+        to_lowercase(label[2]),
+        to_lowercase(label[3]),
+    ])
+}
+
+#[inline]
+fn to_lowercase(c: u32) -> u32
+    ensures { result ≡ to_ascii_lowercase c }
+{
+    if matches!(c, 0x41..=0x5A) {
+        c + 0x20
+    } else {
+        c
+    }
+}
+
+/// Appends what an A-label in any ASCII case stands for. Until it is known, its lower case stands at the end instead.
+fn decode_a_label(alloc: Global, label: &[u32], decoded: &mut Vec<u32>) -> Result<(), Refusal>
+    requires prefix { has_ace_prefix (map to_ascii_lowercase label.now) ≡ true }
+    requires short { length label.now ≤ MAX_INPUT_LEN }
+    ensures { Gives (λ _. decoded.new.items) result (appended decoded.old.items (u_label_answer (map to_ascii_lowercase label.now))) }
+{
+    let start = decoded.len();
+    push_lowercase(label, decoded)?;
+    let (_, lower) = decoded.split_at(start);
+    let u_label = u_label(alloc, lower)?;
+    decoded.truncate(start);
+    push_points(&u_label, decoded)?;
+    Ok(())
+}
+
+fn push_lowercase(label: &[u32], out: &mut Vec<u32>) -> Result<(), AllocError>
+    ensures { OnOk result (out.new.items ≡ out.old.items ++ map to_ascii_lowercase label.now) }
+{
+    for c in label {
+        out.push(to_lowercase(*c))?;
+    }
+    Ok(())
+}
+
+fn push_points(label: &[char], out: &mut Vec<u32>) -> Result<(), AllocError>
+    ensures { OnOk result (out.new.items ≡ out.old.items ++ label.now) }
+{
+    for c in label {
+        out.push(*c as u32)?;
+    }
+    Ok(())
+}

@@ -1,0 +1,24 @@
+//! Labels of domain names: the test of a label for registration (RFC 5891 section 4), A-labels and what they stand
+//! for (RFC 5890 section 2.3.2.1), and lookup (UTS 46).
+#![tactic(auto)]
+
+mod a_label;
+mod code_points;
+mod decoding;
+mod first_fault;
+mod laws;
+mod plain;
+mod registration;
+mod rules;
+mod to_ascii;
+mod u_label;
+
+pub use a_label::ALabel;
+pub use decoding::decode_name;
+pub use first_fault::test_label;
+pub use laws::{definitions_give_the_examples, no_fault_means_all_requirements};
+pub use registration::register;
+pub use to_ascii::lookup;
+
+#[cfg(test)]
+mod tests;

@@ -1,0 +1,41 @@
+//! Registration of a label.
+ghost use Rattle.std.specs.Prelude.{◌≡◌, ◌≤◌, ℕ, List, length, true, Ok};
+ghost use Rattle.idna.specs.Validity.{has_ace_prefix};
+ghost use Rattle.idn_label.specs.ALabel.{a_label_of};
+ghost use Rattle.idn_label.specs.Answers.{Gives};
+ghost use Rattle.idn_label.specs.FirstFault.{IsRegistrable};
+ghost use Rattle.idn_label.specs.Register.{register_answer};
+
+use crate::a_label::{ALabel, ascii_text};
+use crate::first_fault::test_label;
+use crate::u_label::{MAX_INPUT_LEN, has_ace_prefix, u_label};
+use idn_text::Refusal;
+use std::alloc::Global;
+
+/// The A-label of a label that may be registered (RFC 5891 section 4), else its first fault, as `test_label` tells it.
+/// A label that begins with `xn--` is decoded first, and is the answer if it is the A-label of what it stands for;
+/// else it is refused as `BadALabel`, or by the first fault of what it stands for. `Memory` says nothing of the label.
+pub fn register(alloc: Global, label: &[u32]) -> Result<ALabel, Refusal>
+    requires { length label.now ≤ MAX_INPUT_LEN }
+    ensures answer { Gives (λ answer. answer.bytes) result (register_answer label.now) }
+
+    // The A-label of a label that may be registered is its own answer.
+    ensures again { (registered : List ℕ) → IsRegistrable registered → label.now ≡ a_label_of registered
+        → Gives (λ answer. answer.bytes) result (Ok (a_label_of registered)) }
+{
+    if has_ace_prefix(label) {
+        register_a_label(alloc, label)
+    } else {
+        test_label(alloc, label)
+    }
+}
+
+/// The answer for a label that begins with `xn--`.
+fn register_a_label(alloc: Global, label: &[u32]) -> Result<ALabel, Refusal>
+    requires prefix { has_ace_prefix label.now ≡ true }
+    requires short { length label.now ≤ MAX_INPUT_LEN }
+    ensures { Gives (λ answer. answer.bytes) result (register_answer label.now) }
+{
+    u_label(alloc, label)?;
+    Ok(ascii_text(label))
+}

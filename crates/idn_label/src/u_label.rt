@@ -1,0 +1,103 @@
+//! What an A-label stands for (RFC 5891 section 5.3).
+ghost use Rattle.std.specs.Prelude.{◌≡◌, ◌↔◌, ◌<◌, ◌≤◌, length, true, IsTrue, All};
+ghost use Rattle.std.specs.List.{list_all};
+ghost use Rattle.idna.specs.Validity.{is_all_ascii, has_ace_prefix};
+ghost use Rattle.idn_label.specs.Answers.{Gives};
+ghost use Rattle.idn_label.specs.Register.{tested_answer, decoded_code, confirmed, u_label_answer};
+
+use crate::a_label::{ALabel, MAX_LABEL_LEN, ascii_text};
+use crate::code_points::{points_of, short_points};
+use crate::first_fault::test_label;
+use arrayvec::ArrayString;
+use idn_text::Refusal;
+use idna::{Errors, punycode};
+use std::alloc::Global;
+
+/// The most code points of a label or a name that is handed in.
+pub(crate) const MAX_INPUT_LEN: usize = 1024;
+
+/// The prefix `xn--` (RFC 5890 section 2.3.2.5).
+const ACE_PREFIX: [u32; 4] = [0x78, 0x6E, 0x2D, 0x2D];
+
+/// Whether a label begins with `xn--`.
+pub(crate) fn has_ace_prefix(label: &[u32]) -> bool
+    ensures { result ≡ has_ace_prefix label.now }
+{
+    label.starts_with(&ACE_PREFIX)
+}
+
+/// The label that an A-label stands for, which may be registered and has that A-label.
+pub(crate) fn u_label(alloc: Global, given: &[u32]) -> Result<Vec<char>, Refusal>
+    requires prefix { has_ace_prefix given.now ≡ true }
+    requires short { length given.now ≤ MAX_INPUT_LEN }
+    ensures { Gives (λ label. label.items) result (u_label_answer given.now) }
+{
+    let (_, code) = given.split_at(4);
+    let label = decode_code(alloc, code)?;
+    confirm(alloc, given, &label)?;
+    Ok(label)
+}
+
+/// Decodes what stands behind the prefix.
+fn decode_code(alloc: Global, code: &[u32]) -> Result<Vec<char>, Refusal>
+    requires { length code.now ≤ MAX_INPUT_LEN }
+    ensures { Gives (λ label. label.items) result (decoded_code code.now) }
+{
+    if code.is_empty() {
+        return Err(Refusal::BadALabel);
+    }
+    if !is_all_ascii(code) {
+        return Err(Refusal::BadALabel);
+    }
+    let text: ArrayString<MAX_INPUT_LEN> = ascii_text(code);
+    match punycode::decode(alloc, text.as_str()) {
+        Ok(label) => Ok(label),
+        Err(Errors::Invalid) => Err(Refusal::BadALabel),
+        Err(Errors::OutOfMemory) => Err(Refusal::Memory),
+    }
+}
+
+fn is_all_ascii(code: &[u32]) -> bool
+    ensures { result ≡ is_all_ascii code.now }
+{
+    code.iter().all(|c| *c < 128)
+}
+
+/// Tests that a label may be registered and that its A-label is the one given.
+fn confirm(alloc: Global, given: &[u32], label: &[char]) -> Result<(), Refusal>
+    ensures { Gives (λ _. label.now) result (confirmed given.now label.now) }
+{
+    let a_label = test_chars(alloc, label)?;
+    if is_text(a_label.as_bytes(), given) {
+        Ok(())
+    } else {
+        Err(Refusal::BadALabel)
+    }
+}
+
+/// The A-label of a label that may be registered, else its first fault.
+fn test_chars(alloc: Global, label: &[char]) -> Result<ALabel, Refusal>
+    ensures { Gives (λ a_label. a_label.bytes) result (tested_answer label.now) }
+{
+    if label.len() > MAX_LABEL_LEN {
+        let points = points_of(alloc, label)?;
+        return test_label(alloc, &points);
+    }
+    let points = short_points(label);
+    test_label(alloc, &points)
+}
+
+/// Whether the bytes are these code points, each in one byte.
+fn is_text(text: &[u8], points: &[u32]) -> bool
+    ensures { IsTrue result ↔ (text.now ≡ points.now) }
+{
+    if text.len() != points.len() {
+        return false;
+    }
+    for (i, c) in points.iter().enumerate() {
+        if u32::from(text[i]) != *c {
+            return false;
+        }
+    }
+    true
+}
