@@ -1,0 +1,27 @@
+-- One element of a list, and what follows it.
+use Rattle.std.proofs.Common.{◌≡◌, ℕ, zero, suc, ◌+◌, true, false, ◌||◌, List, [], ◌∷◌, ◌++◌, take, drop, Some, sym, ap, ◌∙◌, add-one}
+use Rattle.std.specs.Prelude.{slice_get, bytes_eq}
+use Rattle.std.specs.List.{list_any}
+use Rattle.variant_table.specs.Conditions.{repeats}
+
+drop_suc : {X : Type 0} (xs : List X) (i : ℕ) (x : X) → slice_get xs i ≡ Some x → drop i xs ≡ x ∷ drop (suc i) xs
+drop_suc [] i x e = absurd cc
+drop_suc (y ∷ ys) zero x e = let same : y ≡ x = cc in ap (λ z. z ∷ ys) same
+drop_suc (y ∷ ys) (suc i) x e = drop_suc ys i x e
+
+pub drop_next : {X : Type 0} (xs : List X) (i : ℕ) (x : X) → slice_get xs i ≡ Some x → drop i xs ≡ x ∷ drop (i + 1) xs
+drop_next xs i x e = drop_suc xs i x e ∙ ap (λ n. x ∷ drop n xs) (sym (add-one i))
+
+pub repeats_here : (xs : List (List ℕ)) (i : ℕ) (x : List ℕ) → slice_get xs i ≡ Some x → list_any (bytes_eq x) (drop (i + 1) xs) ≡ true → repeats (drop i xs) ≡ true
+repeats_here xs i x e t = ap repeats (drop_next xs i x e) ∙ ap (λ b. b || repeats (drop (i + 1) xs)) t
+
+pub repeats_later : (xs : List (List ℕ)) (i : ℕ) (x : List ℕ) → slice_get xs i ≡ Some x → list_any (bytes_eq x) (drop (i + 1) xs) ≡ false → repeats (drop i xs) ≡ repeats (drop (i + 1) xs)
+repeats_later xs i x e t = ap repeats (drop_next xs i x e) ∙ ap (λ b. b || repeats (drop (i + 1) xs)) t
+
+take_suc : {X : Type 0} (xs : List X) (i : ℕ) (x : X) → slice_get xs i ≡ Some x → take (suc i) xs ≡ take i xs ++ x ∷ []
+take_suc [] i x e = absurd cc
+take_suc (y ∷ ys) zero x e = let same : y ≡ x = cc in ap (λ z. z ∷ []) same
+take_suc (y ∷ ys) (suc i) x e = ap (λ l. y ∷ l) (take_suc ys i x e)
+
+pub take_next : {X : Type 0} (xs : List X) (i : ℕ) (x : X) → slice_get xs i ≡ Some x → take (i + 1) xs ≡ take i xs ++ x ∷ []
+take_next xs i x e = ap (λ n. take n xs) (add-one i) ∙ take_suc xs i x e

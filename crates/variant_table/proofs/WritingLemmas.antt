@@ -1,0 +1,92 @@
+-- The text of a sequence, point by point, and of an entry, variant by variant.
+use Rattle.std.proofs.Common.{◌≡◌, ℕ, zero, suc, ◌+◌, ◌-◌, ◌*◌, ◌≤◌, ◌<◌, arith, cond, List, [], ◌∷◌, ◌++◌, length, take, drop, get_or, Some, sym, ap, subst, ◌∙◌, append_assoc, length-append}
+use Rattle.std.specs.Prelude.{slice_get}
+use Rattle.std.specs.List.{All}
+use Rattle.std.proofs.lemmas.List.Elements.{All-head, All-tail}
+use Rattle.std.proofs.lemmas.Bool.{ne_eqb}
+use Rattle.std.proofs.lemmas.List.{append-nil, take_more, take_rest, length-take-le}
+use Rattle.std.proofs.lemmas.List.Concat.{flat_map-append}
+use Rattle.variant_table.specs.Entries.{Entry}
+use Rattle.variant_table.specs.Notation.{further_points, sequence_tokens, further_variants, variants_tokens}
+use Rattle.variant_table.specs.Canonical.{point_text, token_text, tokens_text, sequence_text, separator, canonical_line, canonical_text}
+use Rattle.variant_table.proofs.HexLemmas.{length-point_text}
+use Rattle.variant_table.proofs.ListLemmas.{take_next}
+
+-- ---- a sequence
+
+abbrev pub further_text : List ℕ → List ℕ
+further_text points = tokens_text (further_points points)
+
+further_push : (points : List ℕ) (c : ℕ) → further_text (points ++ c ∷ []) ≡ further_text points ++ 45 ∷ point_text c
+further_push [] c = ap (λ t. 45 ∷ t) (append-nil (point_text c))
+further_push (d ∷ points) c = ap (λ t. 45 ∷ (point_text d ++ t)) (further_push points c) ∙ ap (λ t. 45 ∷ t) (sym (append_assoc (point_text d) (further_text points) (45 ∷ point_text c)))
+
+pub further_more : (points : List ℕ) (i : ℕ) → i < length points → further_text (take (i + 1) points) ≡ further_text (take i points) ++ 45 ∷ point_text (get_or points i 0)
+further_more points i l = ap further_text (take_more points i 0 l) ∙ further_push (take i points) (get_or points i 0)
+
+pub whole_text : (s : List ℕ) → 1 ≤ length s → point_text (get_or s 0 0) ++ further_text (take (length s - 1) (drop 1 s)) ≡ sequence_text s
+whole_text [] l = absurd (omega (arith, l))
+whole_text (c ∷ points) l = ap (λ t. point_text c ++ further_text t) (take_rest (c ∷ points) 1)
+
+pub regroup : (p f q : List ℕ) → ((p ++ f) ++ 45 ∷ []) ++ q ≡ p ++ (f ++ 45 ∷ q)
+regroup p f q = append_assoc (p ++ f) (45 ∷ []) q ∙ append_assoc p f (45 ∷ q)
+
+pub length-further_text : (points : List ℕ) → length (further_text points) ≤ 7 * length points
+length-further_text [] = omega arith
+length-further_text (c ∷ points) = omega (arith, length-append (point_text c) (further_text points), length-point_text c, length-further_text points)
+
+-- ---- an entry
+
+abbrev pub variants_text : List (List ℕ) → List ℕ
+variants_text variants = tokens_text (variants_tokens variants)
+
+further_variant : (variants : List (List ℕ)) (v : List ℕ) → tokens_text (further_variants (variants ++ v ∷ [])) ≡ tokens_text (further_variants variants) ++ 58 ∷ sequence_text v
+further_variant [] v = ap (λ t. 58 ∷ t) (flat_map-append token_text (sequence_tokens v) [] ∙ append-nil (sequence_text v))
+further_variant (u ∷ variants) v =
+    let front : List ℕ = sequence_text u in
+    let rest : List ℕ = tokens_text (further_variants variants) in
+    ap (λ t. 58 ∷ t) (flat_map-append token_text (sequence_tokens u) (further_variants (variants ++ v ∷ [])) ∙ ap (λ t. front ++ t) (further_variant variants v)
+    ∙ sym (append_assoc front rest (58 ∷ sequence_text v)) ∙ ap (λ t. t ++ 58 ∷ sequence_text v) (sym (flat_map-append token_text (sequence_tokens u) (further_variants variants))))
+
+separator-later : (n : ℕ) → separator (suc n) ≡ 58
+separator-later n = ap (λ b. cond b 124 58) (ne_eqb (suc n) 0 (λ e. omega (arith, e)))
+
+variants_push : (variants : List (List ℕ)) (v : List ℕ) → variants_text (variants ++ v ∷ []) ≡ variants_text variants ++ separator (length variants) ∷ sequence_text v
+variants_push [] v = ap (λ t. 124 ∷ t) (flat_map-append token_text (sequence_tokens v) [] ∙ append-nil (sequence_text v))
+variants_push (u ∷ variants) v =
+    let front : List ℕ = sequence_text u in
+    let rest : List ℕ = tokens_text (further_variants variants) in
+    ap (λ t. 124 ∷ t) (flat_map-append token_text (sequence_tokens u) (further_variants (variants ++ v ∷ [])) ∙ ap (λ t. front ++ t) (further_variant variants v)
+    ∙ sym (append_assoc front rest (58 ∷ sequence_text v)) ∙ ap (λ t. t ++ 58 ∷ sequence_text v) (sym (flat_map-append token_text (sequence_tokens u) (further_variants variants))))
+    ∙ ap (λ s. variants_text (u ∷ variants) ++ s ∷ sequence_text v) (sym (separator-later (length variants)))
+
+pub variants_more : (variants : List (List ℕ)) (i : ℕ) (v : List ℕ) → slice_get variants i ≡ Some v → i < length variants → variants_text (take (i + 1) variants) ≡ variants_text (take i variants) ++ separator i ∷ sequence_text v
+variants_more variants i v e l =
+    ap variants_text (take_next variants i v e) ∙ variants_push (take i variants) v
+    ∙ ap (λ n. variants_text (take i variants) ++ separator n ∷ sequence_text v) (length-take-le i variants (omega (arith, l)))
+
+pub canonical_line-is : (e : Entry) → canonical_line e ≡ sequence_text e.source ++ variants_text e.variants
+canonical_line-is e = flat_map-append token_text (sequence_tokens e.source) (variants_tokens e.variants)
+
+-- ---- a table
+
+pub canonical_more : (table : List Entry) (i : ℕ) (e : Entry) → slice_get table i ≡ Some e → canonical_text (take (i + 1) table) ≡ canonical_text (take i table) ++ (canonical_line e ++ 10 ∷ [])
+canonical_more table i e h =
+    ap canonical_text (take_next table i e h) ∙ flat_map-append (λ e. canonical_line e ++ 10 ∷ []) (take i table) (e ∷ [])
+    ∙ ap (λ t. canonical_text (take i table) ++ t) (append-nil (canonical_line e ++ 10 ∷ []))
+
+-- ---- elements
+
+pub all_at : {X : Type 0} (P : X → Type 0) (xs : List X) (i : ℕ) (x : X) → All P xs → slice_get xs i ≡ Some x → P x
+all_at P [] i x h e = absurd cc
+all_at P (y ∷ ys) zero x h e = subst P (let same : y ≡ x = cc in same) (All-head P y ys h)
+all_at P (y ∷ ys) (suc i) x h e = all_at P ys i x (All-tail P y ys h) e
+
+pub slice_get-later : {X : Type 0} (x : X) (xs : List X) (n : ℕ) → 1 ≤ n → slice_get (x ∷ xs) n ≡ slice_get xs (n - 1)
+slice_get-later x xs zero l = absurd (omega (arith, l))
+slice_get-later x xs (suc n) l = ap (slice_get xs) (let same : n ≡ suc n - 1 = omega arith in same)
+
+pub slice_get-within : {X : Type 0} (xs : List X) (i : ℕ) (x : X) → slice_get xs i ≡ Some x → i < length xs
+slice_get-within [] i x e = absurd cc
+slice_get-within (y ∷ ys) zero x e = omega arith
+slice_get-within (y ∷ ys) (suc i) x e = omega (arith, slice_get-within ys i x e)

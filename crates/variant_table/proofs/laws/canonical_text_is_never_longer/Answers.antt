@@ -1,0 +1,13 @@
+use Rattle.idn_text.specs.Lines.{raw_lines}
+use Rattle.variant_table.proofs.CanonicalLemmas.{length-canonical_line}
+use Rattle.variant_table.proofs.SizeLemmas.{canonical_text_long, size_of-raw_lines}
+use Rattle.variant_table.proofs.laws.canonical_text_is_never_longer.Goals as goal
+
+pub returns-clause-text : goal.returns-clause-text
+returns-clause-text c = λ text table h. canonical_text_long (raw_lines text) table h.spelled
+
+pub returns-clause-line : goal.returns-clause-line
+returns-clause-line c = length-canonical_line
+
+pub returns-clause-feeds : goal.returns-clause-feeds
+returns-clause-feeds c = size_of-raw_lines

@@ -1,0 +1,39 @@
+-- What may be wrong with a line and its entries.
+use Rattle.std.specs.Prelude.{ℕ, ◌+◌, Bool, false, ◌||◌, not, nat_lt, List, [], ◌∷◌, length, bytes_eq}
+use Rattle.std.specs.List.{list_any}
+use Rattle.idn_class.specs.Class.{class_of}
+use Rattle.variant_table.specs.Entries.{Entry, replacements}
+use Rattle.variant_table.specs.WellFormed.{is_table_class}
+
+-- more than 1,024 bytes, or past byte 1,048,576 of the text with its line feed, where so many bytes stand before it
+abbrev pub is_too_long : ℕ → List ℕ → Bool
+is_too_long bytes line = nat_lt 1024 (length line) || nat_lt 1048576 (bytes + length line + 1)
+
+-- more than 16 variants, or a sequence of more than 8 code points
+abbrev pub is_too_large : Entry → Bool
+is_too_large e = nat_lt 16 (length e.variants) || list_any (λ s. nat_lt 8 (length s)) (replacements e)
+
+-- an entry that is too large, or more than 4,096 entries with those of the table
+abbrev pub is_over_limit : List Entry → List Entry → Bool
+is_over_limit table entries = nat_lt 4096 (length table + length entries) || list_any is_too_large entries
+
+-- a code point of another class than PVALID, CONTEXTJ and CONTEXTO
+abbrev pub has_bad_point : List ℕ → Bool
+has_bad_point s = list_any (λ c. not (is_table_class (class_of c))) s
+
+-- such a code point in the source or in a variant
+abbrev pub has_bad_class : Entry → Bool
+has_bad_class e = list_any has_bad_point (replacements e)
+
+-- a sequence that stands again later
+abbrev pub repeats : List (List ℕ) → Bool
+repeats [] = false
+repeats (s ∷ sequences) = list_any (bytes_eq s) sequences || repeats sequences
+
+-- two equal variants, or a variant equal to the source
+abbrev pub has_repeat : Entry → Bool
+has_repeat e = repeats (replacements e)
+
+-- a source that an entry of the table has
+abbrev pub has_source_in : List Entry → Entry → Bool
+has_source_in table e = list_any (λ f. bytes_eq f.source e.source) table

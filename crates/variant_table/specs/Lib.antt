@@ -1,0 +1,12 @@
+pub mod Entries
+pub mod Notation
+pub mod Canonical
+pub mod WellFormed
+pub mod Conditions
+pub mod Texts
+pub mod Places
+pub mod Tokens
+pub mod Reading
+pub mod Faults
+pub mod Held
+pub mod Gaps

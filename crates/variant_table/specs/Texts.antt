@@ -1,0 +1,112 @@
+-- What a text spells: one table, or one first fault.
+use Rattle.std.specs.Prelude.{◌≡◌, ◌⊎◌, ℕ, ◌+◌, ◌≤◌, ◌<◌, Bool, IsTrue, List, [], ◌∷◌, ◌++◌, length, sum_by, All}
+use Rattle.std.specs.List.{list_any}
+use Rattle.std.specs.Str.Lines.{strip_carriage_return}
+use Rattle.idn_text.specs.Lines.{raw_lines}
+use Rattle.variant_table.specs.declared.fault.LineFault.{LineFault}
+use Rattle.variant_table.specs.declared.fault.LineFault.TheVariants.{Limit, Syntax, BadClass, SameVariant, SameSource}
+use Rattle.variant_table.specs.declared.fault.TableFault.{TableFault}
+use Rattle.variant_table.specs.declared.fault.TableFault.TheVariants.{Memory}
+use Rattle.variant_table.specs.Faults.{table_fault}
+use Rattle.variant_table.specs.Entries.{Entry}
+use Rattle.variant_table.specs.Notation.{AreBlanks, IsEntryLine}
+use Rattle.variant_table.specs.WellFormed.{IsWellFormed}
+use Rattle.variant_table.specs.Conditions.{is_too_long, is_over_limit, has_bad_class, has_repeat, has_source_in}
+
+-- ---- a line, less one carriage return at its end
+
+-- a comment: '#' is the first byte that is no space or tab
+abbrev pub IsComment : List ℕ → Type 0
+IsComment line = (blanks : List ℕ) × (rest : List ℕ) × AreBlanks blanks × (line ≡ blanks ++ 35 ∷ rest)
+
+-- the entries that a line spells: none by a blank line or a comment, one by the line of an entry
+abbrev pub LineSpells : List ℕ → List Entry → Type 0
+LineSpells line entries =
+    (AreBlanks line × (entries ≡ [])) ⊎ (IsComment line × (entries ≡ [])) ⊎ ((e : Entry) × IsEntryLine e line × (entries ≡ e ∷ []))
+
+-- ---- a text without a fault
+
+-- the lines spell the entries, in the order of the lines
+abbrev pub LinesSpell : List (List ℕ) → List Entry → Type 0
+LinesSpell [] table = table ≡ []
+LinesSpell (line ∷ lines) table =
+    (entries : List Entry) × (others : List Entry)
+    × LineSpells (strip_carriage_return line) entries × LinesSpell lines others × (table ≡ entries ++ others)
+
+-- the bytes of the lines, with a line feed for each
+abbrev pub size_of : List (List ℕ) → ℕ
+size_of lines = sum_by (λ line. length line + 1) lines
+
+-- lines without a fault, and the table that they spell
+pub record AreLinesOf (lines : List (List ℕ)) (table : List Entry) : Type 0 where
+  pub spelled : LinesSpell lines table
+  pub short : All (λ line. length line ≤ 1024) lines
+  pub size : size_of lines ≤ 1048576
+  pub well_formed : IsWellFormed table
+
+-- the text spells the table
+abbrev pub IsTextOf : List ℕ → List Entry → Type 0
+IsTextOf text table = AreLinesOf (raw_lines text) table
+
+-- ---- the first fault of a text
+
+-- what may be wrong with a line, in the order in which it is told
+pub data Condition : Type 0 where
+  too_long : Condition
+  no_form : Condition
+  over_limit : Condition
+  bad_class : Condition
+  same_variant : Condition
+  same_source : Condition
+
+-- the place of a condition in that order
+abbrev pub order_of : Condition → ℕ
+order_of too_long = 1
+order_of no_form = 2
+order_of over_limit = 3
+order_of bad_class = 4
+order_of same_variant = 5
+order_of same_source = 6
+
+-- what is told of a line of which the condition holds
+abbrev pub fault_of : Condition → LineFault
+fault_of too_long = Limit
+fault_of no_form = Syntax
+fault_of over_limit = Limit
+fault_of bad_class = BadClass
+fault_of same_variant = SameVariant
+fault_of same_source = SameSource
+
+-- the line spells entries of which the test is true
+abbrev pub SpellsSuch : List ℕ → (List Entry → Bool) → Type 0
+SpellsSuch line test = (entries : List Entry) × LineSpells (strip_carriage_return line) entries × IsTrue (test entries)
+
+-- the condition holds of a line, behind so many bytes of lines that spell the table
+abbrev pub Holds : ℕ → List Entry → List ℕ → Condition → Type 0
+Holds bytes table line too_long = IsTrue (is_too_long bytes line)
+Holds bytes table line no_form = (entries : List Entry) → LineSpells (strip_carriage_return line) entries → ⊥
+Holds bytes table line over_limit = SpellsSuch line (is_over_limit table)
+Holds bytes table line bad_class = SpellsSuch line (list_any has_bad_class)
+Holds bytes table line same_variant = SpellsSuch line (list_any has_repeat)
+Holds bytes table line same_source = SpellsSuch line (list_any (has_source_in table))
+
+-- the fault of such a line: that of the first condition that holds
+abbrev pub IsLineFault : ℕ → List Entry → List ℕ → LineFault → Type 0
+IsLineFault bytes table line fault =
+    (c : Condition) × (fault_of c ≡ fault) × Holds bytes table line c
+    × ((d : Condition) → order_of d < order_of c → Holds bytes table line d → ⊥)
+
+-- the line of this number, from 1, has the fault, and the lines before it have none
+pub record IsFaultOf (text : List ℕ) (number : ℕ) (fault : LineFault) : Type 0 where
+  pub before : List (List ℕ)
+  pub line : List ℕ
+  pub behind : List (List ℕ)
+  pub table : List Entry
+  pub cut : raw_lines text ≡ before ++ line ∷ behind
+  pub numbered : number ≡ length before + 1
+  pub read : AreLinesOf before table
+  pub faulty : IsLineFault (size_of before) table line fault
+
+-- the fault is the text's, or memory was refused
+abbrev pub IsToldOf : List ℕ → TableFault → Type 0
+IsToldOf text fault = (fault ≡ Memory) ⊎ ((line : ℕ) × (kind : LineFault) × (fault ≡ table_fault line kind) × IsFaultOf text line kind)

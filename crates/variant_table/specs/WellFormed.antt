@@ -1,0 +1,39 @@
+-- Which tables are well-formed.
+use Rattle.std.specs.Prelude.{◌≢◌, ℕ, ◌≤◌, Bool, true, false, IsTrue, List, length, All, AllPairs}
+use Rattle.idn_text.specs.Points.{IsScalarValue}
+use Rattle.idn_class.specs.declared.class.Class.{Class}
+use Rattle.idn_class.specs.declared.class.Class.TheVariants.{Pvalid, Contextj, Contexto}
+use Rattle.idn_class.specs.Class.{class_of}
+use Rattle.variant_table.specs.Entries.{Entry, replacements}
+use Rattle.variant_table.specs.Canonical.{canonical_text}
+
+-- PVALID, CONTEXTJ or CONTEXTO (RFC 5892, section 3)
+abbrev pub is_table_class : Class → Bool
+is_table_class Pvalid = true
+is_table_class Contextj = true
+is_table_class Contexto = true
+is_table_class other = false
+
+-- a code point that a table may hold
+pub record IsTablePoint (c : ℕ) : Type 0 where
+  pub scalar_value : IsScalarValue c
+  pub class : IsTrue (is_table_class (class_of c))
+
+-- 1 to 8 code points that a table may hold
+pub record IsSequence (s : List ℕ) : Type 0 where
+  pub filled : 1 ≤ length s
+  pub short : length s ≤ 8
+  pub points : All IsTablePoint s
+
+-- a source and at most 16 variants, all different
+pub record IsEntry (e : Entry) : Type 0 where
+  pub sequences : All IsSequence (replacements e)
+  pub few : length e.variants ≤ 16
+  pub distinct : AllPairs (λ r s. r ≢ s) (replacements e)
+
+-- at most 4,096 entries with different sources, whose canonical text has at most 1,048,576 bytes
+pub record IsWellFormed (table : List Entry) : Type 0 where
+  pub entries : All IsEntry table
+  pub sources : AllPairs (λ e f. e.source ≢ f.source) table
+  pub few : length table ≤ 4096
+  pub short : length (canonical_text table) ≤ 1048576

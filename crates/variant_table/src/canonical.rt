@@ -1,0 +1,106 @@
+//! The canonical text of sequences and tables.
+ghost use Rattle.std.specs.Prelude.{◌≡◌, ◌+◌, ◌<◌, ◌≤◌, [], ◌∷◌, ◌++◌, length, OnOk};
+ghost use Rattle.arrayvec.specs.ArrayVec.{array_vec_len};
+ghost use Rattle.idn_text.specs.Points.{AreScalarValues, IsScalarValue};
+ghost use Rattle.variant_table.specs.Canonical as text;
+ghost use Rattle.variant_table.specs.WellFormed.{IsEntry};
+
+use crate::entry::Entry;
+use arrayvec::ArrayVec;
+use std::alloc::AllocError;
+
+/// Writes the canonical text of a sequence of 1 to 8 scalar values in place of what stood there: its
+/// points as upper-case hexadecimal digits, at least four, joined by hyphens. It has at most 55
+/// bytes, and takes no memory.
+pub fn write_sequence(sequence: &[u32], out: &mut ArrayVec<u8, 64>)
+    requires filled { 1 ≤ length sequence.now }
+    requires short { length sequence.now ≤ 8 }
+    requires points { AreScalarValues sequence.now }
+    ensures { out.new.items ≡ text.sequence_text sequence.now }
+{
+    out.clear();
+    let [first, others @ ..] = sequence else {
+        return;
+    };
+    push_point(out, *first);
+    for point in others {
+        push_byte(out, b'-');
+        push_point(out, *point);
+    }
+}
+
+/// Writes a code point at the end.
+#[tactic(auto, unfolding(crate::specs::Canonical::point_text))]
+fn push_point(out: &mut ArrayVec<u8, 64>, point: u32)
+    requires point { IsScalarValue point }
+    requires room { array_vec_len out.old ≤ 58 }
+    ensures { out.new.items ≡ out.old.items ++ text.point_text point }
+{
+    if point < 0x1_0000 {
+        push_four(out, point);
+    } else if point < 0x10_0000 {
+        push_digit(out, point / 0x1_0000 % 16);
+        push_four(out, point);
+    } else {
+        push_digit(out, point / 0x10_0000 % 16);
+        push_digit(out, point / 0x1_0000 % 16);
+        push_four(out, point);
+    }
+}
+
+/// Writes the four last digits of a number at the end.
+fn push_four(out: &mut ArrayVec<u8, 64>, number: u32)
+    requires { array_vec_len out.old ≤ 60 }
+    ensures { out.new.items ≡ out.old.items ++ text.four_digits number }
+{
+    push_digit(out, number / 0x1000 % 16);
+    push_digit(out, number / 0x100 % 16);
+    push_digit(out, number / 0x10 % 16);
+    push_digit(out, number % 16);
+}
+
+fn push_digit(out: &mut ArrayVec<u8, 64>, value: u32)
+    requires digit { value < 16 }
+    requires room { array_vec_len out.old < 64 }
+    ensures items { out.new.items ≡ out.old.items ++ text.hex_digit value ∷ [] }
+    ensures len { array_vec_len out.new ≡ array_vec_len out.old + 1 }
+{
+    let digit = if value < 10 {
+        b'0' + value as u8
+    } else {
+        b'A' + (value - 10) as u8
+    };
+    push_byte(out, digit);
+}
+
+fn push_byte(out: &mut ArrayVec<u8, 64>, byte: u8)
+    requires { array_vec_len out.old < 64 }
+    ensures items { out.new.items ≡ out.old.items ++ byte ∷ [] }
+    ensures len { array_vec_len out.new ≡ array_vec_len out.old + 1 }
+{
+    out.push(byte);
+}
+
+/// Writes the canonical line of an entry and its line feed at the end.
+pub fn push_entry(out: &mut Vec<u8>, entry: &Entry) -> Result<(), AllocError>
+    requires { IsEntry entry.now }
+    ensures { OnOk result (out.new.items ≡ out.old.items ++ (text.canonical_line entry.now ++ 10 ∷ [])) }
+{
+    let mut sequence = ArrayVec::new();
+    write_sequence(entry.source(), &mut sequence);
+    out.extend_from_slice(&sequence)?;
+    for number in 1..entry.replacements() {
+        out.push(separator_before(number - 1))?;
+        write_sequence(entry.replacement(number), &mut sequence);
+        out.extend_from_slice(&sequence)?;
+    }
+    out.push(b'\n')?;
+    Ok(())
+}
+
+/// What stands before the variant of this number, from 0.
+fn separator_before(variant: usize) -> u8
+    ensures { result ≡ text.separator variant }
+{
+    if variant == 0 { b'|' } else { b':' }
+}

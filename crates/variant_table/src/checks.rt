@@ -1,0 +1,75 @@
+//! What may be wrong with an entry by itself.
+ghost use Rattle.std.specs.Prelude.{◌≡◌, ◌<◌, length, bytes_eq, drop, IfOk};
+ghost use Rattle.std.specs.List.{list_any};
+ghost use Rattle.variant_table.specs.Conditions as conditions;
+ghost use Rattle.variant_table.specs.Reading.{entry_from};
+ghost use Rattle.variant_table.specs.WellFormed.{is_table_class};
+
+use crate::sequences::Sequences;
+use idn_class::{Class, class_of};
+use std::alloc::{AllocError, Global};
+
+/// The most sequences of an entry: a source and 16 variants.
+const REPLACEMENT_LIMIT: usize = 17;
+
+/// The most code points of a sequence.
+const SEQUENCE_LIMIT: usize = 8;
+
+/// Whether there are too many variants, or too many code points in a sequence.
+pub fn is_too_large(sequences: &Sequences) -> bool
+    requires { 0 < length sequences.now }
+    ensures { result ≡ conditions.is_too_large (entry_from sequences.now) }
+{
+    sequences.len() > REPLACEMENT_LIMIT || sequences.iter().any(|s| s.len() > SEQUENCE_LIMIT)
+}
+
+/// Whether some code point has a class that no table may hold.
+pub fn has_bad_class(alloc: Global, sequences: &Sequences) -> Result<bool, AllocError>
+    requires { 0 < length sequences.now }
+    ensures { IfOk result (λ bad. bad ≡ conditions.has_bad_class (entry_from sequences.now)) }
+{
+    for index in 0..sequences.len() {
+        if has_bad_point(alloc, sequences.get(index))? {
+            return Ok(true);
+        }
+    }
+    Ok(false)
+}
+
+/// The same, of the code points of one sequence.
+fn has_bad_point(alloc: Global, sequence: &[u32]) -> Result<bool, AllocError>
+    ensures { IfOk result (λ bad. bad ≡ conditions.has_bad_point sequence.now) }
+{
+    for point in sequence {
+        if !is_table_class(class_of(alloc, *point)?) {
+            return Ok(true);
+        }
+    }
+    Ok(false)
+}
+
+fn is_table_class(class: Class) -> bool
+    ensures { result ≡ is_table_class class }
+{
+    matches!(class, Class::Pvalid | Class::Contextj | Class::Contexto)
+}
+
+/// Whether two sequences are equal.
+pub fn has_repeat(sequences: &Sequences) -> bool
+    requires { 0 < length sequences.now }
+    ensures { result ≡ conditions.has_repeat (entry_from sequences.now) }
+{
+    for index in 0..sequences.len() {
+        if occurs_from(sequences, index + 1, sequences.get(index)) {
+            return true;
+        }
+    }
+    false
+}
+
+/// Whether a sequence stands at this number or behind it.
+fn occurs_from(sequences: &Sequences, start: usize, wanted: &[u32]) -> bool
+    ensures { result ≡ list_any (bytes_eq wanted.now) (drop start sequences.now) }
+{
+    sequences.from_index(start).any(|s| wanted == s)
+}

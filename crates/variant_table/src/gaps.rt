@@ -1,0 +1,128 @@
+//! The pairs that a table lacks to be symmetric and transitive.
+ghost use Rattle.std.specs.Prelude.{◌≡◌, [], ◌∷◌, IfOk, OnOk};
+ghost use Rattle.std.specs.BTreeSet.{insert_key};
+ghost use Rattle.std.specs.List.Sorted.{IsStrictlySortedBy};
+ghost use Rattle.variant_table.specs.Gaps.{pair_cmp, pairs_of, inserted, reverse_gaps, wanted_gap, further_gaps, gaps_through, gaps_of_entry, gaps_of};
+
+use crate::entry::Entry;
+use crate::rows::Rows;
+use std::alloc::{AllocError, Global};
+use std::collections::BTreeSet;
+
+/// A source and a sequence that its entry lacks as a variant.
+pub type Gap = (Vec<u32>, Vec<u32>);
+
+/// The gaps of some entries, each once, by their first sequence, then by their second.
+pub fn gaps_in_order(alloc: Global, rows: &Rows) -> Result<Vec<Gap>, AllocError>
+    ensures gaps { IfOk result (λ gaps. pairs_of gaps.items ≡ gaps_of rows.now) }
+    ensures rising { IfOk result (λ gaps. IsStrictlySortedBy pair_cmp (pairs_of gaps.items)) }
+{
+    let mut gaps = BTreeSet::new(alloc);
+    for number in 0..rows.len() {
+        add_gaps_of_entry(alloc, rows, &rows.get(number), &mut gaps)?;
+    }
+    in_vector(alloc, gaps)
+}
+
+fn in_vector(alloc: Global, gaps: BTreeSet<Gap>) -> Result<Vec<Gap>, AllocError>
+    ensures gaps { IfOk result (λ list. list.items ≡ gaps.keys) }
+    ensures rising { IfOk result (λ list. IsStrictlySortedBy pair_cmp (pairs_of list.items)) }
+{
+    gaps.into_iter().collect(alloc)
+}
+
+/// Adds the gaps that the variants of an entry ask for.
+fn add_gaps_of_entry(
+    alloc: Global,
+    rows: &Rows,
+    entry: &Entry,
+    gaps: &mut BTreeSet<Gap>,
+) -> Result<(), AllocError>
+    ensures { OnOk result (pairs_of gaps.new.keys ≡ inserted (pairs_of gaps.old.keys) (gaps_of_entry rows.now entry.now)) }
+{
+    for number in 1..entry.replacements() {
+        add_gaps_through(alloc, rows, entry, entry.replacement(number), gaps)?;
+    }
+    Ok(())
+}
+
+/// Adds the gaps that one variant of an entry asks for: the reverse pair, and the pairs with the
+/// variants of the variant.
+fn add_gaps_through(
+    alloc: Global,
+    rows: &Rows,
+    entry: &Entry,
+    variant: &[u32],
+    gaps: &mut BTreeSet<Gap>,
+) -> Result<(), AllocError>
+    ensures { OnOk result (pairs_of gaps.new.keys ≡ inserted (pairs_of gaps.old.keys) (gaps_through rows.now entry.now variant.now)) }
+{
+    match rows.find(variant) {
+        None => add(alloc, gaps, variant, entry.source()),
+        Some(next) => {
+            add_reverse(alloc, entry, variant, &next, gaps)?;
+            add_further(alloc, entry, &next, gaps)
+        }
+    }
+}
+
+fn add_reverse(
+    alloc: Global,
+    entry: &Entry,
+    variant: &[u32],
+    next: &Entry,
+    gaps: &mut BTreeSet<Gap>,
+) -> Result<(), AllocError>
+    ensures { OnOk result (pairs_of gaps.new.keys ≡ inserted (pairs_of gaps.old.keys) (reverse_gaps entry.now variant.now next.now)) }
+{
+    if next.has_variant(entry.source()) {
+        return Ok(());
+    }
+    add(alloc, gaps, variant, entry.source())
+}
+
+fn add_further(
+    alloc: Global,
+    entry: &Entry,
+    next: &Entry,
+    gaps: &mut BTreeSet<Gap>,
+) -> Result<(), AllocError>
+    ensures { OnOk result (pairs_of gaps.new.keys ≡ inserted (pairs_of gaps.old.keys) (further_gaps entry.now next.now)) }
+{
+    for number in 1..next.replacements() {
+        add_wanted(alloc, entry, next.replacement(number), gaps)?;
+    }
+    Ok(())
+}
+
+/// Adds the pair of an entry and a sequence, unless the entry has it.
+fn add_wanted(
+    alloc: Global,
+    entry: &Entry,
+    sequence: &[u32],
+    gaps: &mut BTreeSet<Gap>,
+) -> Result<(), AllocError>
+    ensures { OnOk result (pairs_of gaps.new.keys ≡ inserted (pairs_of gaps.old.keys) (wanted_gap entry.now sequence.now)) }
+{
+    if sequence == entry.source() || entry.has_variant(sequence) {
+        return Ok(());
+    }
+    add(alloc, gaps, entry.source(), sequence)
+}
+
+/// Adds a gap, unless it is there.
+fn add(
+    alloc: Global,
+    gaps: &mut BTreeSet<Gap>,
+    first: &[u32],
+    second: &[u32],
+) -> Result<(), AllocError>
+    ensures { OnOk result (pairs_of gaps.new.keys ≡ insert_key pair_cmp (pairs_of gaps.old.keys) (first.now, second.now)) }
+{
+    let gap = (
+        Vec::from_slice(alloc, first)?,
+        Vec::from_slice(alloc, second)?,
+    );
+    gaps.insert(gap)?;
+    Ok(())
+}

@@ -1,0 +1,79 @@
+//! Laws of the definitions, each the contract of a function that does nothing.
+ghost use Rattle.std.specs.Prelude.{◌≡◌, ◌↔◌, ◌⊎◌, ◌≤◌, ℕ, List, [], ◌∷◌, ◌++◌, length, Ok, Err, codes};
+ghost use Rattle.idn_text.specs.Lines.{raw_lines, with_last_feed};
+ghost use Rattle.variant_table.specs.declared.fault.LineFault.{LineFault};
+ghost use Rattle.variant_table.specs.Canonical.{canonical_line, canonical_text};
+ghost use Rattle.variant_table.specs.Entries.{Entry, replacements};
+ghost use Rattle.variant_table.specs.Notation.{IsEntryLine};
+ghost use Rattle.variant_table.specs.Reading.{sequences_of, entry_from, table_of_text};
+ghost use Rattle.variant_table.specs.Texts.{IsTextOf, IsFaultOf, size_of};
+ghost use Rattle.variant_table.specs.Tokens.{tokens_of};
+ghost use Rattle.variant_table.specs.Gaps.{AreGapsOf, gaps_of};
+ghost use Rattle.variant_table.specs.Places.{entries_at};
+ghost use Rattle.variant_table.specs.declared.fault.LineFault.TheVariants as faults;
+ghost use Rattle.variant_table.specs.WellFormed.{IsEntry, IsWellFormed};
+
+/// The line of an entry is read as that entry.
+pub fn entry_line_is_read()
+    ensures { (e : Entry) (line : List ℕ) → IsEntryLine e line → sequences_of (tokens_of line) ≡ Ok (replacements e) }
+{}
+
+/// What is read as an entry is a line of that entry.
+pub fn what_is_read_is_an_entry_line()
+    ensures { (line : List ℕ) (sequences : List (List ℕ)) → sequences_of (tokens_of line) ≡ Ok sequences → IsEntryLine (entry_from sequences) line }
+{}
+
+/// A line is a line of one entry at most.
+pub fn a_line_has_one_entry()
+    ensures { (line : List ℕ) (e f : Entry) → IsEntryLine e line → IsEntryLine f line → e ≡ f }
+{}
+
+/// The function that reads a text tells exactly what the definitions say of it.
+pub fn reading_is_exact()
+    ensures table { (text : List ℕ) (table : List Entry) → (table_of_text text ≡ Ok table) ↔ IsTextOf text table }
+    ensures fault { (text : List ℕ) (line : ℕ) (kind : LineFault) → (table_of_text text ≡ Err (line, kind)) ↔ IsFaultOf text line kind }
+{}
+
+/// Each text has exactly one table, or exactly one fault: a line and what is told of it.
+pub fn a_text_has_one_table_or_one_fault()
+    ensures some { (text : List ℕ) → ((table : List Entry) × IsTextOf text table)
+        ⊎ ((line : ℕ) × (kind : LineFault) × IsFaultOf text line kind) }
+    ensures not_both { (text : List ℕ) (table : List Entry) (line : ℕ) (kind : LineFault) →
+        IsTextOf text table → IsFaultOf text line kind → ⊥ }
+    ensures one_table { (text : List ℕ) (a b : List Entry) → IsTextOf text a → IsTextOf text b → a ≡ b }
+    ensures one_fault { (text : List ℕ) (m n : ℕ) (f g : LineFault) →
+        IsFaultOf text m f → IsFaultOf text n g → (m ≡ n) × (f ≡ g) }
+{}
+
+/// The canonical text of a well-formed table spells that table.
+pub fn canonical_text_is_read_back()
+    ensures { (table : List Entry) → IsWellFormed table → IsTextOf (canonical_text table) table }
+{}
+
+/// The canonical text of a table is at most as long as any text that spells it, with a line feed
+/// behind a rest that has none; and a line of it has at most 951 bytes.
+pub fn canonical_text_is_never_longer()
+    ensures text { (text : List ℕ) (table : List Entry) → IsTextOf text table →
+        length (canonical_text table) ≤ size_of (raw_lines text) }
+    ensures line { (e : Entry) → IsEntry e → length (canonical_line e) ≤ 951 }
+    ensures feeds { (text : List ℕ) → size_of (raw_lines text) ≡ length (with_last_feed text) }
+{}
+
+/// The list of the gaps of a well-formed table has its gaps, each once and in order.
+pub fn gaps_of_are_the_gaps()
+    ensures { (table : List Entry) → IsWellFormed table → AreGapsOf table (gaps_of table) }
+{}
+
+/// Examples, which the definitions compute.
+pub fn definitions_compute_the_examples()
+    ensures read { sequences_of (tokens_of (codes "u+0061 | 0062 : 0063-0064")) ≡ Ok ((97 ∷ []) ∷ (98 ∷ []) ∷ (99 ∷ 100 ∷ []) ∷ []) }
+    ensures written { canonical_text (record { source = 97 ∷ []; variants = (98 ∷ []) ∷ (99 ∷ 100 ∷ []) ∷ [] } ∷ []) ≡ codes "0061|0062:0063-0064" ++ 10 ∷ [] }
+    ensures six { canonical_line (record { source = 0x10FFFF ∷ 0x4E2D ∷ []; variants = [] }) ≡ codes "10FFFF-4E2D" }
+    ensures syntax { table_of_text (codes "0061|") ≡ Err (1, faults.Syntax) }
+    ensures limit { table_of_text (codes "0041-0041-0041-0041-0041-0041-0041-0041-0041") ≡ Err (1, faults.Limit) }
+    ensures gaps { gaps_of (record { source = 97 ∷ []; variants = (97 ∷ 97 ∷ []) ∷ [] } ∷ []) ≡ (97 ∷ 97 ∷ [], 97 ∷ []) ∷ [] }
+    ensures chain { gaps_of (record { source = 97 ∷ []; variants = (98 ∷ []) ∷ [] } ∷ record { source = 98 ∷ []; variants = (97 ∷ []) ∷ (99 ∷ []) ∷ [] } ∷ record { source = 99 ∷ []; variants = (98 ∷ []) ∷ [] } ∷ [])
+        ≡ (97 ∷ [], 99 ∷ []) ∷ (99 ∷ [], 97 ∷ []) ∷ [] }
+    ensures places { entries_at (record { source = 115 ∷ []; variants = [] } ∷ record { source = 115 ∷ 115 ∷ []; variants = (0xDF ∷ []) ∷ [] } ∷ []) (115 ∷ 115 ∷ 115 ∷ []) 2
+        ≡ record { source = 115 ∷ []; variants = [] } ∷ [] }
+{}

@@ -1,0 +1,27 @@
+//! Variant tables of a registry: their notation, the entries that begin at a place of a label, the
+//! canonical text, and the pairs that a table lacks.
+#![tactic(auto)]
+
+mod canonical;
+mod checks;
+mod draft;
+mod entry;
+mod fault;
+mod gaps;
+pub mod laws;
+mod line;
+mod places;
+mod reading;
+mod rows;
+mod sequences;
+mod table;
+mod token;
+
+pub use canonical::write_sequence;
+pub use entry::Entry;
+pub use fault::TableFault;
+pub use places::EntriesAt;
+pub use table::Table;
+
+#[cfg(test)]
+mod tests;

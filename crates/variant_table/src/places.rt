@@ -1,0 +1,73 @@
+//! The entries at a place of a label.
+ghost use Rattle.std.specs.Prelude.{◌≡◌, ◌≤◌, length};
+ghost use Rattle.std.specs.Iterator.{YieldsFirst, item_count};
+ghost use Rattle.variant_table.specs.Places.{entries_at as entries_at_place};
+
+use crate::entry::Entry;
+use crate::rows::Rows;
+use std::marker::Model;
+
+/// The most code points of a source.
+const SOURCE_LIMIT: usize = 8;
+
+/// The entries of a table whose source begins a label at a place, by rising source length. It is an
+/// iterator of at most 8 items, and takes no memory.
+#[derive(Drop)]
+pub struct EntriesAt<'a> {
+    rows: &'a Rows,
+    label: &'a [u32],
+    place: usize,
+    /// The sources that are longer than this are left.
+    len: usize,
+}
+
+impl<'a> Model for EntriesAt<'a> {
+    ghost use Rattle.std.specs.Prelude.{List, ◌+◌, ◌≤◌, length};
+    ghost use Rattle.variant_table.specs.Places.{EntryValue, entries_longer};
+
+    ghost Value = { List EntryValue };
+
+    ghost view = { λ s. entries_longer s.rows.now s.label.now s.place s.len };
+
+    ghost invariant = { λ s. s.place + s.len ≤ length s.label.now };
+}
+
+impl<'a> EntriesAt<'a> {
+    pub(crate) fn new(rows: &'a Rows, label: &'a [u32], place: usize) -> Self
+        requires { place ≤ length label.now }
+        ensures { result ≡ entries_at_place rows.now label.now place }
+    {
+        EntriesAt {
+            rows,
+            label,
+            place,
+            len: 0,
+        }
+    }
+
+    /// The next entry, by the next length at which there is one.
+    fn next_entry(&mut self) -> Option<Entry<'a>>
+        ensures { YieldsFirst (λ s. s) self.old result self.new }
+    {
+        while self.len < SOURCE_LIMIT && self.place + self.len < self.label.len() {
+            self.len += 1;
+            let source = &self.label[self.place..self.place + self.len];
+            if let Some(entry) = self.rows.find(source) {
+                return Some(entry);
+            }
+        }
+        None
+    }
+}
+
+impl<'a> Iterator for EntriesAt<'a> {
+    type Item = Entry<'a>;
+
+    ghost next_gives = { YieldsFirst (λ s. s) };
+
+    ghost remaining = { item_count (λ s. s) };
+
+    fn next(&mut self) -> Option<Entry<'a>> {
+        self.next_entry()
+    }
+}
