@@ -1,0 +1,13 @@
+pub mod Members
+pub mod SpellingLemmas
+pub mod RecursionLemmas
+pub mod OrderLemmas
+pub mod RisingLists
+pub mod LabelSets
+pub mod Adding
+pub mod VariantLists
+pub mod ListedLemmas
+pub mod Stepping
+pub mod NetLemmas
+pub mod ListingLemmas
+pub mod AnswerLemmas

@@ -1,0 +1,11 @@
+pub mod Labels
+pub mod Segmentations
+pub mod Spelling
+pub mod Spelled
+pub mod Variants
+pub mod LabelSet
+pub mod Positions
+pub mod Steps
+pub mod Moving
+pub mod Laws
+pub mod Examples
