@@ -1,0 +1,42 @@
+# rt is the command of the Rattle kit that the README names.
+RT ?= rt
+PROGRAM := crates/idn2/out/idn2
+PREFIX ?= /usr/local
+
+.PHONY: all run test install check-tables bench conformance clean
+
+# Proves every function on the program's way, and builds it.
+all:
+	cd crates/idn2 && $(RT) run < stdin > /dev/null
+
+# The main job: the variants of a label under a table, here of one line, from the standard input.
+run: all
+	printf '0061|0061-0061\n' | $(PROGRAM) --variants /dev/stdin aa
+
+# The gate: proves everything from nothing, tries each wrong body, runs the programs and the tests.
+test:
+	RT=$(RT) tests/gate
+
+# The program and its manual page, below $(DESTDIR)$(PREFIX).
+install: all
+	install -d $(DESTDIR)$(PREFIX)/bin $(DESTDIR)$(PREFIX)/share/man/man1
+	install -m 755 $(PROGRAM) $(DESTDIR)$(PREFIX)/bin/idn2
+	install -m 644 docs/idn2.1 $(DESTDIR)$(PREFIX)/share/man/man1/idn2.1
+
+# The gaps of the example tables: none.
+check-tables: all
+	for table in tables/*.txt; do $(PROGRAM) --check-table $$table || exit 1; done
+
+# Times the program beside libidn2's, and prints one table of ratios.
+bench: all
+	python3 bench/bench.py
+
+# Compares the program with libidn2, with a second writing of the rules and of the table notation, and with Unicode's
+# IDNA test file where IDNA_TEST_FILE names it.
+conformance: all
+	python3 conformance/compare.py
+	python3 conformance/check_tables.py
+	python3 conformance/idna_test.py
+
+clean:
+	rm -rf crates/*/out build

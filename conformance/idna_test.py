@@ -1,0 +1,117 @@
+#!/usr/bin/env python3
+"""Runs our idn2's lookup on Unicode's IDNA test file: python3 conformance/idna_test.py [FILE]
+
+FILE is IdnaTestV2.txt, of Unicode 9 or later; else the path stands in IDNA_TEST_FILE. Without either the script says
+so and ends. The file holds what ToASCII gives with CheckHyphens, CheckBidi, CheckJoiners, UseSTD3ASCIIRules and
+VerifyDnsLength on. Lookup has CheckHyphens off, and a test of lengths of its own that lets one dot at the end pass.
+So the program is run with --usestd3asciirules, and
+
+  - V2 and V3, the tests of hyphens, are put aside;
+  - a name with another status must be refused by 20;
+  - a name with no other status but A4_1, A4_2 or X4_2, those of lengths, must give the file's toAsciiN where the
+    lengths, one dot at the end put aside, are in range, and else be refused by 21.
+
+Names are passed over that no line of input can hold: with a surrogate, a line feed, a carriage return at the end, or
+over 1,024 bytes. A difference fails the run if the file is of the Unicode version of the program's tables; differences
+under another version are counted and shown, since mappings and assigned code points change between versions.
+"""
+
+import argparse
+import os
+import pathlib
+import re
+import subprocess
+import sys
+
+from compare import PROGRAM, our_answers, shown
+
+HYPHEN_TESTS = {"V2", "V3"}
+LENGTH_TESTS = {"A4_1", "A4_2", "X4_2"}
+EMPTY, INVALID, BAD_LENGTH = 3, 20, 21
+MOST_NAME, MOST_LABEL, MOST_LINE_BYTES = 253, 63, 1024
+ESCAPE = re.compile(r"\\u([0-9A-Fa-f]{4})|\\x\{([0-9A-Fa-f]+)\}")
+SHOWN = 20
+
+
+def unescaped(field):
+    text = ESCAPE.sub(lambda match: chr(int(match.group(1) or match.group(2), 16)), field)
+    # Two escaped surrogates are one code point.
+    return text.encode("utf-16", "surrogatepass").decode("utf-16", "surrogatepass")
+
+
+def value(field, default):
+    """A blank field stands for the field before it, two quotation marks for the empty text."""
+    return default if field == "" else "" if field == '""' else unescaped(field)
+
+
+def statuses(field, default):
+    return set(re.findall(r"\w+", field)) if field else default
+
+
+def cases(lines):
+    """(source, toAsciiN, its statuses) for each test of the file."""
+    for line in lines:
+        fields = [field.strip(" \t\n") for field in line.split("#")[0].split(";")]
+        if len(fields) >= 5:
+            source = value(fields[0], "")
+            to_unicode, unicode_statuses = value(fields[1], source), statuses(fields[2], set())
+            yield source, value(fields[3], to_unicode), statuses(fields[4], unicode_statuses)
+
+
+def expected(source, text, found):
+    if not source:
+        return None, EMPTY
+    if found - HYPHEN_TESTS - LENGTH_TESTS:
+        return None, INVALID
+    name = text.removesuffix(".")
+    is_in_range = 1 <= len(name) <= MOST_NAME and all(1 <= len(label) <= MOST_LABEL for label in name.split("."))
+    return (text, None) if is_in_range else (None, BAD_LENGTH)
+
+
+def fits_a_line(source):
+    try:
+        encoded = source.encode()
+    except UnicodeEncodeError:
+        return False
+    return "\n" not in source and not source.endswith("\r") and len(encoded) <= MOST_LINE_BYTES
+
+
+def unicode_version(text, what):
+    match = re.search(r"(?:Version:|Unicode)\s*(\d+)\.(\d+)", text)
+    if not match:
+        raise SystemExit(f"no Unicode version in {what}")
+    return f"{match.group(1)}.{match.group(2)}"
+
+
+def main():
+    words = argparse.ArgumentParser(description="Runs lookup on Unicode's IDNA test file.")
+    words.add_argument("file", nargs="?", default=os.environ.get("IDNA_TEST_FILE"), help="IdnaTestV2.txt")
+    words.add_argument("--program", default=PROGRAM, type=pathlib.Path, help="our program")
+    options = words.parse_args()
+    if not options.file:
+        print("no IDNA test file: name IdnaTestV2.txt as FILE or in IDNA_TEST_FILE")
+        return 0
+    if not options.program.exists():
+        raise SystemExit(f"{options.program} is not there: run make first, or name our program by --program")
+
+    lines = pathlib.Path(options.file).read_text(encoding="utf-8").splitlines()
+    its_version = unicode_version("\n".join(lines[:20]), options.file)
+    shown_version = subprocess.run([options.program, "--version"], capture_output=True, text=True).stdout
+    our_version = unicode_version(shown_version, "the program's version text")
+
+    every = list(cases(lines))
+    tests = [test for test in every if fits_a_line(test[0])]
+    sources = [source for source, _, _ in tests]
+    answers = our_answers(options.program, ["-l", "--usestd3asciirules"], sources)
+    wrong = [(test, answer) for test, answer in zip(tests, answers) if answer != expected(*test)]
+
+    print(f"IDNA test file of Unicode {its_version}, program of Unicode {our_version}: {len(tests):,} names, "
+          f"{len(every) - len(tests)} passed over, {len(wrong)} differences")
+    for (source, text, found), answer in wrong[:SHOWN]:
+        given = shown(answer[0]) if answer[0] is not None else answer[1]
+        print(f"  {shown(source)}: {given}, the file has {shown(text)} {sorted(found)}")
+    return 1 if wrong and its_version == our_version else 0
+
+
+if __name__ == "__main__":
+    sys.exit(main())

@@ -1,0 +1,98 @@
+//! The command `idn2`: its words, its table's file, and one run from its input to its output.
+#![tactic(auto)]
+
+mod streams;
+mod system;
+
+ghost use Rattle.std.specs.Prelude.{IfErr};
+ghost use Rattle.idn2_cli.specs.Faults.{IsFault};
+ghost use Rattle.idn2_cli.specs.Settings.{IsWithinLimits};
+
+use idn_text::{Device, Lines, Refusal};
+use idn2_cli::{Options, Status, Usage, input_text, read_options, report, run};
+use std::cell::RefCell;
+use std::io::{BufWriter, Stdout, Write};
+use std::process::ExitCode;
+use streams::{Answers, Messages, Questions};
+use system::{output, read_table, words};
+
+fn main(rt: HostRuntime) -> ExitCode {
+    let status = match serve(&rt) {
+        Ok(status) => status,
+        Err(refusal) => report(&refusal, &mut Device::new(rt.stderr())),
+    };
+    ExitCode::from(status.code())
+}
+
+/// Answers what the words ask for. A refusal is that of the whole call, and no message tells it yet.
+fn serve(rt: &HostRuntime) -> Result<Status, Refusal>
+    ensures { IfErr result IsFault }
+{
+    let options = match read_options(rt.alloc(), &words(rt)?) {
+        Ok(options) => options,
+        Err(Usage::Show(text)) => return show(rt, &text),
+        Err(Usage::Bad) => return Err(Refusal::Usage),
+        Err(Usage::Memory) => return Err(Refusal::Memory),
+    };
+    let given = input_text(rt.alloc(), &options)?;
+    let table = read_table(rt, &options)?;
+    let output = RefCell::new(output(rt)?);
+    let status = match given {
+        Some(text) => run_on_words(rt, &options, &table, &text, &output),
+        None => run_on_input(rt, &options, &table, &output),
+    };
+    let flushed = Answers::new(&output).flush();
+    match (status, flushed) {
+        (Status::Clean | Status::Refused, Err(_)) => Err(Refusal::WriteFault),
+        _ => Ok(status),
+    }
+}
+
+/// Prints a text that was asked for.
+fn show(rt: &HostRuntime, text: &str) -> Result<Status, Refusal>
+    ensures { IfErr result IsFault }
+{
+    match rt.stdout().write_all(text.as_bytes()) {
+        Ok(()) => Ok(Status::Clean),
+        Err(_) => Err(Refusal::WriteFault),
+    }
+}
+
+/// Runs over the STRINGS, each a line of the text.
+fn run_on_words(
+    rt: &HostRuntime,
+    options: &Options,
+    table: &[u8],
+    text: &[u8],
+    output: &RefCell<BufWriter<Stdout>>,
+) -> Status
+    requires { IsWithinLimits options.now }
+{
+    run(
+        rt.alloc(),
+        options,
+        table,
+        &mut Lines::new(Device::new(text)),
+        &mut Device::new(Answers::new(output)),
+        &mut Device::new(Messages::new(rt.stderr(), output)),
+    )
+}
+
+/// Runs over the lines of standard input.
+fn run_on_input(
+    rt: &HostRuntime,
+    options: &Options,
+    table: &[u8],
+    output: &RefCell<BufWriter<Stdout>>,
+) -> Status
+    requires { IsWithinLimits options.now }
+{
+    run(
+        rt.alloc(),
+        options,
+        table,
+        &mut Lines::new(Device::new(Questions::new(rt.stdin(), output))),
+        &mut Device::new(Answers::new(output)),
+        &mut Device::new(Messages::new(rt.stderr(), output)),
+    )
+}

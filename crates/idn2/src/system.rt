@@ -1,0 +1,62 @@
+//! What the program takes from the system: its words, the file of its table, its output.
+ghost use Rattle.std.specs.Prelude.{IfErr};
+ghost use Rattle.idn2_cli.specs.Faults.{IsFault};
+
+use idn_text::Refusal;
+use idn2_cli::{Mode, Options};
+use std::env;
+use std::fs::File;
+use std::io::{self, BufWriter, ErrorKind, Read, Stdout};
+
+/// One byte more than a table's text may have: no later byte changes what is wrong with it.
+const TABLE_BYTES: u64 = 1_048_577;
+
+/// The words of the command line. A word that is not UTF-8 can't be an option or a line.
+pub fn words(rt: &HostRuntime) -> Result<Vec<String>, Refusal>
+    ensures { IfErr result IsFault }
+{
+    let mut words = Vec::new(rt.alloc());
+    match env::args(rt) {
+        Ok(args) => {
+            for word in args {
+                words.push(word)?;
+            }
+            Ok(words)
+        }
+        Err(error) if error.kind() == ErrorKind::OutOfMemory => Err(Refusal::Memory),
+        Err(_) => Err(Refusal::Usage),
+    }
+}
+
+/// The bytes of the table's file, as many as can matter; none in a mode without a table.
+pub fn read_table(rt: &HostRuntime, options: &Options) -> Result<Vec<u8>, Refusal>
+    ensures { IfErr result IsFault }
+{
+    match options.mode {
+        Mode::Lookup | Mode::Register | Mode::Decode => Ok(Vec::new(rt.alloc())),
+        Mode::Variants | Mode::CheckTable => match read_start(rt, &options.file) {
+            Ok(bytes) => Ok(bytes),
+            Err(error) if error.kind() == ErrorKind::OutOfMemory => Err(Refusal::Memory),
+            Err(_) => Err(Refusal::ReadFault),
+        },
+    }
+}
+
+/// The first bytes of a file.
+fn read_start(rt: &HostRuntime, name: &str) -> io::Result<Vec<u8>> {
+    let mut bytes = Vec::new(rt.alloc());
+    File::open(rt, name)?
+        .take(TABLE_BYTES)
+        .read_to_end(&mut bytes)?;
+    Ok(bytes)
+}
+
+/// The standard output behind a buffer.
+pub fn output(rt: &HostRuntime) -> Result<BufWriter<Stdout>, Refusal>
+    ensures { IfErr result IsFault }
+{
+    match BufWriter::new(rt.alloc(), rt.stdout()) {
+        Ok(output) => Ok(output),
+        Err(_) => Err(Refusal::Memory),
+    }
+}

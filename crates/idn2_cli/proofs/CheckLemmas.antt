@@ -1,0 +1,61 @@
+-- The gaps of a table, as they are written.
+use Rattle.std.proofs.Common.{◌≡◌, ◌≤◌, ◌<◌, ◌⊎◌, inl, inr, ℕ, ◌+◌, suc, List, [], ◌∷◌, ◌++◌, All, map, drop, length, get_or, Contains, refl, sym, ap, subst, ◌∙◌, drop-cons, add-one, arith}
+use Rattle.idn_text.specs.Points.{AreScalarValues}
+use Rattle.variant_table.specs.Entries.{Entry, replacements}
+use Rattle.variant_table.specs.WellFormed.{IsWellFormed, IsEntry, IsSequence, IsTablePoint}
+use Rattle.std.proofs.Common.{Vec}
+use Rattle.std.specs.declared.alloc.Global.{Global}
+use Rattle.std.proofs.lemmas.List.{get_or-map, length-map}
+use Rattle.variant_table.specs.Gaps.{IsGap, IsPair, AreGapsOf, gaps_of, pair_of, pairs_of}
+use Rattle.idn2_cli.specs.Pieces.{Piece, Output}
+use Rattle.idn2_cli.specs.Transcript.{gap_line, table_line, check_lines, output_lines}
+use Rattle.variant_table.proofs.MemberLemmas.{Contains-head, Contains-later}
+
+-- the rest of a list, its first element named
+pub drop_next : {X : Type 0} (xs : List X) (i : ℕ) (x : X) → i < length xs → x ≡ get_or xs i x → drop i xs ≡ x ∷ drop (i + 1) xs
+drop_next xs i x lt is = drop-cons xs i x lt ∙ ap (λ y. y ∷ drop (suc i) xs) (sym is) ∙ ap (λ n. x ∷ drop n xs) (sym (add-one i))
+
+all_at : {X : Type 0} (P : X → Type 0) (xs : List X) (x : X) → All P xs → Contains xs x → P x
+all_at P xs x all c = subst P c.2 (all c.0 x c.1)
+
+pair_sequences : (table : List Entry) (s v : List ℕ) → IsWellFormed table → IsPair table s v → IsSequence s × IsSequence v
+pair_sequences table s v formed p =
+    let entry = all_at IsEntry table p.0 formed.entries p.1 in
+    let sequences = entry.sequences in (
+      subst IsSequence p.2 (all_at IsSequence (replacements p.0) p.0.source sequences (Contains-head p.0.source p.0.variants)),
+      all_at IsSequence (replacements p.0) v sequences (Contains-later p.0.source p.0.variants v p.3),
+    )
+
+gap_sequences : (table : List Entry) (a b : List ℕ) → IsWellFormed table → IsGap table a b → IsSequence a × IsSequence b
+gap_sequences table a b formed gap = by_cause gap.wanted
+  where
+    by_cause : IsPair table b a ⊎ ((c : List ℕ) × IsPair table a c × IsPair table c b) → IsSequence a × IsSequence b
+    by_cause (inl p) = let s = pair_sequences table b a formed p in (s.1, s.0)
+    by_cause (inr c) = ((pair_sequences table a c.0 formed c.1).0, (pair_sequences table c.0 b formed c.2).1)
+
+-- both sequences of a gap in memory can be written
+pub gap_at : (table : List Entry) (gaps : List (Vec ℕ Global × Vec ℕ Global)) (i : ℕ) (gap : Vec ℕ Global × Vec ℕ Global)
+    → IsWellFormed table → AreGapsOf table (pairs_of gaps) → i < length gaps → gap ≡ get_or gaps i gap → IsSequence gap.0.items × IsSequence gap.1.items
+gap_at table gaps i gap formed are lt is =
+    let there : Contains (pairs_of gaps) (pair_of gap) = (i, subst (λ (n : ℕ). i < n) (sym (length-map gaps pair_of)) lt, get_or-map pair_of gaps i gap (pair_of gap) lt ∙ ap pair_of (sym is)) in
+    gap_sequences table gap.0.items gap.1.items formed ((are.members gap.0.items gap.1.items).0 there)
+
+pub sequence_points : (s : List ℕ) → IsSequence s → AreScalarValues s
+sequence_points s is = λ k d lt. (is.points k d lt).scalar_value
+
+-- ---- the lines of a check
+
+output_lines-append : (xs ys : List (List ℕ)) → output_lines (xs ++ ys) ≡ output_lines xs ++ output_lines ys
+output_lines-append [] ys = refl
+output_lines-append (x ∷ xs) ys = ap (λ (ps : List Piece). Output (x ++ 10 ∷ []) ∷ ps) (output_lines-append xs ys)
+
+-- the gaps, then their number
+pub check-split : (table : List Entry) (pairs : List (List ℕ × List ℕ)) → pairs ≡ gaps_of table
+    → output_lines (check_lines table) ≡ output_lines (map gap_line pairs) ++ Output (table_line (length table) (length pairs) ++ 10 ∷ []) ∷ []
+check-split table pairs e =
+    ap (λ (ps : List (List ℕ × List ℕ)). output_lines (map gap_line ps ++ table_line (length table) (length ps) ∷ [])) (sym e)
+    ∙ output_lines-append (map gap_line pairs) (table_line (length table) (length pairs) ∷ [])
+
+-- as many pairs as gaps in memory
+pub pairs_of-length : (gaps : List (Vec ℕ Global × Vec ℕ Global)) → length (pairs_of gaps) ≡ length gaps
+pairs_of-length gaps = length-map gaps pair_of

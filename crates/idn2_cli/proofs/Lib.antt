@@ -1,0 +1,19 @@
+mod AppLemmas
+mod EntryLemmas
+mod CountLemmas
+mod LimitLemmas
+mod LoneKind
+mod AnswerLemmas
+mod FaultLemmas
+pub mod Writing
+pub mod TextAnswers
+pub mod Walking
+pub mod Sessions
+pub mod Finishing
+pub mod TableLemmas
+pub mod CheckLemmas
+pub mod DecodedLemmas
+pub mod ListingLemmas
+pub mod Segmented
+pub mod Listings
+mod SuitLemmas

@@ -1,0 +1,39 @@
+-- The table of a run.
+use Rattle.std.proofs.Common.{◌≡◌, ◌⊎◌, inl, inr, ℕ, List, Option, Some, None, Ok, Err, refl, sym, ap, subst, ◌∙◌}
+use Rattle.idn_text.specs.declared.refusal.Refusal.{Refusal}
+use Rattle.variant_table.specs.Entries.{Entry}
+use Rattle.variant_table.specs.Texts.{IsTextOf, IsFaultOf, IsToldOf}
+use Rattle.variant_table.specs.Faults.{table_fault}
+use Rattle.variant_table.specs.declared.fault.LineFault.{LineFault}
+use Rattle.variant_table.specs.declared.fault.LineFault.TheVariants as kinds
+use Rattle.variant_table.specs.declared.fault.TableFault.{TableFault}
+use Rattle.variant_table.proofs.TextLemmas.{text_decided}
+use Rattle.idn2_cli.specs.Tables.{TableGiven, IsReadAs, table_refusal, told_of}
+
+-- each text is read as some table or some fault
+pub some_table : (text : List ℕ) → (given : TableGiven) × IsReadAs text given
+some_table text = decided (text_decided text)
+  where
+    decided : ((table : List Entry) × IsTextOf text table) ⊎ ((line : ℕ) × (kind : LineFault) × IsFaultOf text line kind) → (given : TableGiven) × IsReadAs text given
+    decided (inl t) = (Ok t.0, t.1)
+    decided (inr f) = (Err (f.0, table_refusal f.1), (f.1, refl, f.2))
+
+told_of-fault : (line : ℕ) (kind : LineFault) → told_of (table_fault line kind) ≡ Some (line, table_refusal kind)
+told_of-fault line kinds.Limit = refl
+told_of-fault line kinds.Syntax = refl
+told_of-fault line kinds.BadClass = refl
+told_of-fault line kinds.SameVariant = refl
+told_of-fault line kinds.SameSource = refl
+
+from_some : (a b : ℕ × Refusal) → (let o : Option (ℕ × Refusal) = Some a in o) ≡ Some b → a ≡ b
+from_some a b e = cc
+
+-- what is told of a text that is no table
+pub told_read : (text : List ℕ) (fault : TableFault) (told : ℕ × Refusal) → IsToldOf text fault → told_of fault ≡ Some told → IsReadAs text (Err told)
+told_read text fault told (inl e) is = absurd (none (sym (ap told_of e) ∙ is))
+  where
+    none : (let o : Option (ℕ × Refusal) = None in o) ≡ Some told → ⊥
+    none e = cc
+told_read text fault told (inr f) is =
+    let same : (f.0, table_refusal f.1) ≡ told = from_some (f.0, table_refusal f.1) told (sym (told_of-fault f.0 f.1) ∙ sym (ap told_of f.2) ∙ is) in
+    subst (λ (t : ℕ × Refusal). IsReadAs text (Err t)) same (f.1, refl, f.3)

@@ -1,0 +1,108 @@
+-- What is written, piece by piece.
+use Rattle.std.proofs.Common.{◌≡◌, ◌<◌, ◌≤◌, ◌+◌, ℕ, suc, List, [], ◌∷◌, ◌++◌, Option, Some, None, Result, Ok, Err, IfErr, take, drop, get_or, length, refl, sym, ap, subst, ◌∙◌, append_assoc, drop-cons, add-one, arith}
+use Rattle.std.proofs.lemmas.List.{append-nil}
+use Rattle.std.proofs.lemmas.Result.{MatchResult-at_err}
+use Rattle.std.proofs.Math.Seq.{take-length}
+use Rattle.std.specs.Io.KnownBytes.{Appends}
+use Rattle.idn2_cli.specs.Pieces.{Piece, Output, Message, output_of, messages_of}
+use Rattle.idn2_cli.specs.Held.{Held, Writes}
+use Rattle.idn2_cli.specs.Emitting.{BreaksOff, IsCutBy, StopsWithin, Emits}
+use Rattle.idn2_cli.specs.declared.stop.Stop.{Stop}
+use Rattle.idn2_cli.specs.declared.stop.Stop.TheVariants as stop
+
+pub appends_nothing : (a : Option (List ℕ)) → Appends a a []
+appends_nothing None = tt
+appends_nothing (Some xs) = sym (append-nil xs)
+
+appends_join : (a b c : Option (List ℕ)) (f g : List ℕ) → Appends a b f → Appends b c g → Appends a c (f ++ g)
+appends_join None b c f g first second = tt
+appends_join (Some xs) None c f g first second = absurd first
+appends_join (Some xs) (Some ys) None f g first second = absurd second
+appends_join (Some xs) (Some ys) (Some zs) f g first second = second ∙ ap (λ l. l ++ g) first ∙ append_assoc xs f g
+
+pub output_of-append : (p q : List Piece) → output_of (p ++ q) ≡ output_of p ++ output_of q
+output_of-append [] q = refl
+output_of-append (Output text ∷ p) q = ap (λ l. text ++ l) (output_of-append p q) ∙ sym (append_assoc text (output_of p) (output_of q))
+output_of-append (Message text ∷ p) q = output_of-append p q
+
+pub messages_of-append : (p q : List Piece) → messages_of (p ++ q) ≡ messages_of p ++ messages_of q
+messages_of-append [] q = refl
+messages_of-append (Output text ∷ p) q = messages_of-append p q
+messages_of-append (Message text ∷ p) q = ap (λ l. text ++ l) (messages_of-append p q) ∙ sym (append_assoc text (messages_of p) (messages_of q))
+
+pub writes_nothing : (a : Held) → Writes a a []
+writes_nothing a = record { output = appends_nothing a.output; messages = appends_nothing a.messages }
+
+pub writes_join : (a b c : Held) (p q : List Piece) → Writes a b p → Writes b c q → Writes a c (p ++ q)
+writes_join a b c p q first second = record {
+  output = subst (Appends a.output c.output) (sym (output_of-append p q)) (appends_join a.output b.output c.output (output_of p) (output_of q) first.output second.output);
+  messages = subst (Appends a.messages c.messages) (sym (messages_of-append p q)) (appends_join a.messages b.messages c.messages (messages_of p) (messages_of q) first.messages second.messages);
+}
+
+-- a proper prefix of one piece
+pub breaks_off : (writer : List ℕ → Piece) (text : List ℕ) (n : ℕ) → n < length text → BreaksOff writer (writer text ∷ []) (writer (take n text) ∷ [])
+breaks_off writer text n lt = record { before = []; text = text; after = []; taken = n; split = refl; proper = lt; cut = refl }
+
+breaks_after : (writer : List ℕ → Piece) (before pieces written : List Piece) → BreaksOff writer pieces written → BreaksOff writer (before ++ pieces) (before ++ written)
+breaks_after writer before pieces written b = record {
+  before = before ++ b.before;
+  text = b.text;
+  after = b.after;
+  taken = b.taken;
+  split = ap (λ l. before ++ l) b.split ∙ sym (append_assoc before b.before (writer b.text ∷ b.after));
+  proper = b.proper;
+  cut = ap (λ l. before ++ l) b.cut ∙ sym (append_assoc before b.before (writer (take b.taken b.text) ∷ []));
+}
+
+breaks_before : (writer : List ℕ → Piece) (pieces after written : List Piece) → BreaksOff writer pieces written → BreaksOff writer (pieces ++ after) written
+breaks_before writer pieces after written b = record {
+  before = b.before;
+  text = b.text;
+  after = b.after ++ after;
+  taken = b.taken;
+  split = ap (λ l. l ++ after) b.split ∙ append_assoc b.before (writer b.text ∷ b.after) after;
+  proper = b.proper;
+  cut = b.cut;
+}
+
+-- pieces that were written before
+cut_after : (why : Stop) (new : Held) (before pieces written : List Piece) → IsCutBy why new pieces written → IsCutBy why new (before ++ pieces) (before ++ written)
+cut_after stop.Reading new before pieces written c = c
+cut_after stop.Output new before pieces written c = (breaks_after Output before pieces written c.0, c.1)
+cut_after stop.Messages new before pieces written c = (breaks_after Message before pieces written c.0, c.1)
+cut_after stop.Memory new before pieces written c = (c.0, ap (λ l. before ++ l) c.1 ∙ sym (append_assoc before written c.0))
+
+-- pieces that were to come
+cut_before : (why : Stop) (new : Held) (pieces after written : List Piece) → IsCutBy why new pieces written → IsCutBy why new (pieces ++ after) written
+cut_before stop.Reading new pieces after written c = c
+cut_before stop.Output new pieces after written c = (breaks_before Output pieces after written c.0, c.1)
+cut_before stop.Messages new pieces after written c = (breaks_before Message pieces after written c.0, c.1)
+cut_before stop.Memory new pieces after written c = (c.0 ++ after, ap (λ l. l ++ after) c.1 ∙ append_assoc written c.0 after)
+
+-- memory was refused before any of the pieces
+pub stops_first : (old : Held) (pieces : List Piece) → StopsWithin stop.Memory old old pieces
+stops_first old pieces = ([], writes_nothing old, (pieces, refl))
+
+-- memory was refused between the pieces that stand and those to come
+pub stops_after : (old middle : Held) (all so_far rest : List Piece) → all ≡ so_far ++ rest → Writes old middle so_far → StopsWithin stop.Memory old middle all
+stops_after old middle all so_far rest split first = (so_far, first, (rest, split))
+
+-- a call that stopped
+pub stops : {A : Type 0} (old new : Held) (p : List Piece) (r : Result A Stop) (why : Stop) → Emits old new p r → r ≡ Err why → StopsWithin why old new p
+stops old new p r why h e = MatchResult-at_err (λ _. Writes old new p) (λ why. StopsWithin why old new p) why e h
+
+-- a call that stopped between the pieces that stand and those to come
+pub stops_between : {A : Type 0} (old middle new : Held) (all so_far p rest : List Piece) (r : Result A Stop) (why : Stop) → all ≡ so_far ++ (p ++ rest) → Writes old middle so_far → Emits middle new p r → r ≡ Err why → StopsWithin why old new all
+stops_between old middle new all so_far p rest r why split first emits e =
+    let at = stops middle new p r why emits e in (
+      so_far ++ at.0,
+      writes_join old middle new so_far at.0 first at.1,
+      subst (λ (ps : List Piece). IsCutBy why new ps (so_far ++ at.0)) (sym split) (cut_after why new so_far (p ++ rest) at.0 (cut_before why new p rest at.0 at.2)),
+    )
+
+-- the same text, spelled otherwise
+pub emits_as : {A : Type 0} (old new : Held) (writer : List ℕ → Piece) (s t : List ℕ) (r : Result A Stop) → s ≡ t → Emits old new (writer s ∷ []) r → Emits old new (writer t ∷ []) r
+emits_as old new writer s t r e h = subst (λ (u : List ℕ). Emits old new (writer u ∷ []) r) e h
+
+pub writes_as : (old new : Held) (writer : List ℕ → Piece) (s t : List ℕ) → s ≡ t → Writes old new (writer s ∷ []) → Writes old new (writer t ∷ [])
+writes_as old new writer s t e h = subst (λ (u : List ℕ). Writes old new (writer u ∷ [])) e h

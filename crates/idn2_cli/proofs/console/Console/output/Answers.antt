@@ -1,0 +1,13 @@
+use Rattle.std.proofs.Common.{[], ◌∷◌, take, subst, sym}
+use Rattle.std.proofs.lemmas.List.{append-nil}
+use Rattle.std.specs.Io.KnownBytes.{Appends}
+use Rattle.idn2_cli.specs.Pieces as pieces
+use Rattle.idn2_cli.proofs.Writing.{appends_nothing, breaks_off}
+use Rattle.idn2_cli.proofs.console.Console.output.Goals as goal
+
+pub returns-in-Err-clause-written : goal.returns-in-Err-clause-written
+returns-in-Err-clause-written g c =
+    let n = c.in-Err.field-0.taken in
+    let text = c.args.text.now in
+    let fault = breaks_off pieces.Output text n c.in-Err.ensures.proper in
+    (pieces.Output (take n text) ∷ [], record { output = subst (Appends _ _) (sym (append-nil (take n text))) c.in-Err.ensures.part; messages = appends_nothing _ }, (fault, c.in-Err.ensures.cause))

@@ -1,0 +1,13 @@
+use Rattle.std.proofs.Common.{refl, ap, subst, sym, ◌∙◌}
+use Rattle.idn2_cli.specs.Faults.{closing_status}
+use Rattle.idn2_cli.proofs.Finishing.{closes_by, closes_nothing}
+use Rattle.idn2_cli.proofs.session.close.Goals as goal
+
+pub returns : goal.returns
+returns g c = record {
+  closes = closes_by c.args.why _ _ c.in_default.not-Messages refl (rw c.refusal.ensures at c.report.ensures.message);
+  status = c.report.ensures.status ∙ ap closing_status c.refusal.ensures;
+  output = refl;
+  still = λ e. absurd (c.in_default.not-Messages e);
+  same = record { output = refl; messages = refl };
+}

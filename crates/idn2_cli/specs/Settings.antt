@@ -1,0 +1,32 @@
+-- The options of a run, as contracts see them.
+use Rattle.std.specs.Prelude.{◌≡◌, ◌≢◌, ◌≤◌, ℕ, Bool, List, [], Option, None, IfSome, length}
+use Rattle.idn_text.specs.Points.{AreScalarValues}
+use Rattle.idn2_cli.specs.declared.mode.Mode.{Mode}
+use Rattle.idn2_cli.specs.declared.mode.Mode.TheVariants.{Variants, CheckTable}
+
+-- an `Options`, with the bytes of each text
+pub record Settings : Type 0 where
+  pub mode : Mode
+  pub std3 : Bool
+  pub file : List ℕ
+  pub strings : List (List ℕ)
+  pub after : List ℕ
+  pub limit : Option ℕ
+  pub tries : ℕ
+
+-- a number that `--limit` and `--tries` take
+abbrev pub IsCount : ℕ → Type 0
+IsCount n = (1 ≤ n) × (n ≤ 1000000000)
+
+-- the options are within the limits of a run
+pub record IsWithinLimits (o : Settings) : Type 0 where
+  pub after_length : length o.after ≤ 1024
+  pub after_points : AreScalarValues o.after
+  pub limit : IfSome o.limit IsCount
+  pub tries : IsCount o.tries
+
+-- what belongs to another mode is as if it were left out
+pub record SuitsMode (o : Settings) : Type 0 where
+  pub bounds : o.mode ≢ Variants → (o.after ≡ []) × (o.limit ≡ None) × (o.tries ≡ 1000000)
+  pub file : o.mode ≢ Variants → o.mode ≢ CheckTable → o.file ≡ []
+  pub strings : o.mode ≡ CheckTable → o.strings ≡ []

@@ -1,0 +1,106 @@
+-- The transcript of a run: all that it writes where nothing fails.
+use Rattle.std.specs.Prelude.{◌≡◌, ℕ, ◌==◌, Bool, not, List, [], ◌∷◌, ◌++◌, length, map, codes, Result, Ok, Err, if◌then◌else◌}
+use Rattle.std.specs.List.{flat_map, list_any}
+use Rattle.std.specs.Result.{is_err}
+use Rattle.std.specs.Fmt.{decimal}
+use Rattle.idn_text.specs.Lines.{Numbered}
+use Rattle.idn_text.specs.Refusals.{refusal_number, refusal_text}
+use Rattle.idn_text.specs.declared.refusal.Refusal.{Refusal}
+use Rattle.variant_table.specs.Entries.{Entry}
+use Rattle.variant_table.specs.Canonical.{sequence_text}
+use Rattle.variant_table.specs.Gaps.{gaps_of}
+use Rattle.idn2_cli.specs.Settings.{Settings}
+use Rattle.idn2_cli.specs.Pieces.{Piece, Output, Message}
+use Rattle.idn2_cli.specs.Tables.{TableGiven}
+use Rattle.idn2_cli.specs.LineAnswers.{LineAnswer, mode_answer, line_answer}
+use Rattle.idn2_cli.specs.declared.mode.Mode.{Mode}
+use Rattle.idn2_cli.specs.declared.mode.Mode.TheVariants.{CheckTable}
+use Rattle.idn2_cli.specs.declared.status.Status.{Status}
+use Rattle.idn2_cli.specs.declared.status.Status.TheVariants.{Clean, Refused, Unusable}
+
+-- ---- messages
+
+-- a refusal by its number and its text, with a line feed
+abbrev pub told : Refusal → List ℕ
+told refusal = decimal (refusal_number refusal) ++ (codes " " ++ (refusal_text refusal ++ codes "\n"))
+
+-- the message of a refused line
+abbrev pub line_message : ℕ → Refusal → List ℕ
+line_message number refusal = codes "idn2: line " ++ (decimal number ++ (codes ": " ++ told refusal))
+
+-- the message of a table that has a fault
+abbrev pub table_message : ℕ → Refusal → List ℕ
+table_message number refusal = codes "idn2: table line " ++ (decimal number ++ (codes ": " ++ told refusal))
+
+-- ---- the lines of the input
+
+-- lines of the output, each with its line feed
+abbrev pub output_lines : List (List ℕ) → List Piece
+output_lines lines = map (λ line. Output (line ++ 10 ∷ [])) lines
+
+-- an answer's lines go to the output, a refusal to the messages
+abbrev pub pieces_for : ℕ → LineAnswer → List Piece
+pieces_for number (Ok lines) = output_lines lines
+pieces_for number (Err refusal) = Message (line_message number refusal) ∷ []
+
+-- the pieces of a line
+abbrev pub line_pieces : (List ℕ → LineAnswer) → Numbered → List Piece
+line_pieces answer line = pieces_for line.number (line_answer answer line.body)
+
+-- the pieces of lines, in order
+abbrev pub lines_pieces : (List ℕ → LineAnswer) → List Numbered → List Piece
+lines_pieces answer lines = flat_map (line_pieces answer) lines
+
+-- whether some line is refused
+abbrev pub has_refused : (List ℕ → LineAnswer) → List Numbered → Bool
+has_refused answer lines = list_any (λ line. is_err (line_answer answer line.body)) lines
+
+-- 1 where something is refused, else 0
+abbrev pub status_if : Bool → Status
+status_if refused = if refused then Refused else Clean
+
+-- ---- the check of a table
+
+-- a pair that the table lacks, in canonical notation
+abbrev pub gap_line : List ℕ × List ℕ → List ℕ
+gap_line gap = codes "missing " ++ (sequence_text gap.0 ++ 124 ∷ sequence_text gap.1)
+
+-- how many entries and how many gaps the table has
+abbrev pub table_line : ℕ → ℕ → List ℕ
+table_line entries gaps = codes "#table " ++ (decimal entries ++ 32 ∷ decimal gaps)
+
+-- the lines of a check
+abbrev pub check_lines : List Entry → List (List ℕ)
+check_lines table = map gap_line (gaps_of table) ++ table_line (length table) (length (gaps_of table)) ∷ []
+
+-- what a check writes; the one message of a faulty table
+abbrev pub check_pieces : TableGiven → List Piece
+check_pieces (Err fault) = Message (table_message fault.0 fault.1) ∷ []
+check_pieces (Ok table) = output_lines (check_lines table)
+
+-- 2 for a faulty table, 1 for one with a gap, else 0
+abbrev pub check_status : TableGiven → Status
+check_status (Err fault) = Unusable
+check_status (Ok table) = status_if (not (length (gaps_of table) == 0))
+
+-- ---- the whole run
+
+-- the pieces of a mode over these lines; the check of a table reads none
+abbrev pub mode_pieces : Mode → Settings → List Entry → List Numbered → List Piece
+mode_pieces CheckTable o table lines = check_pieces (Ok table)
+mode_pieces mode o table lines = lines_pieces (mode_answer mode o table) lines
+
+-- 1 where a line is refused, else 0
+abbrev pub mode_status : Mode → Settings → List Entry → List Numbered → Status
+mode_status CheckTable o table lines = check_status (Ok table)
+mode_status mode o table lines = status_if (has_refused (mode_answer mode o table) lines)
+
+-- the pieces of a run, in order: those of its mode, or the one message of a faulty table
+abbrev pub transcript : Settings → TableGiven → List Numbered → List Piece
+transcript o (Err fault) lines = check_pieces (Err fault)
+transcript o (Ok table) lines = mode_pieces o.mode o table lines
+
+-- the status of a run
+abbrev pub status_of : Settings → TableGiven → List Numbered → Status
+status_of o (Err fault) lines = check_status (Err fault)
+status_of o (Ok table) lines = mode_status o.mode o table lines

@@ -1,0 +1,159 @@
+-- What the words of the command line ask for: what `clap`'s definition of the command gives for
+-- them, and then the rules that the program has of its own.
+use Rattle.std.specs.Prelude.{ℕ, ◌≡◌, ◌≢◌, ◌&&◌, ◌||◌, Bool, true, false, not, List, [], ◌∷◌, length, Option, Some, None}
+use Rattle.std.specs.Prelude.{codes, count_by, if◌then◌else◌, is_some, nat_eq, nat_le, option_and_then, unwrap_or}
+use Rattle.std.specs.Prelude.{Result, Ok, Err}
+use Rattle.std.specs.Option.{option_map_or}
+use Rattle.std.specs.Char.{is_ascii_digit}
+use Rattle.std.specs.List.{list_all}
+use Rattle.std.specs.Str.{bytes_eq, chars}
+use Rattle.std.specs.Str.Parse.{digits_value}
+use Rattle.clap.specs.Words.{Row, Text, all_of, fault_of, first_of, matches_of, one_of}
+use Rattle.clap.specs.Kinds.{Kinds}
+use Rattle.clap.specs.declared.error.ErrorKind.{ErrorKind}
+use Rattle.clap.specs.declared.error.ErrorKind.TheVariants.{DisplayHelp, DisplayVersion, OutOfMemory}
+use Rattle.idn2_cli.specs.CommandLine.{app}
+use Rattle.idn2_cli.specs.Settings.{Settings}
+use Rattle.idn2_cli.specs.declared.mode.Mode.{Mode}
+use Rattle.idn2_cli.specs.declared.mode.Mode.TheVariants.{Lookup, Register, Decode, Variants, CheckTable}
+use Rattle.idn2_cli.specs.declared.usage.Usage.{Usage}
+use Rattle.idn2_cli.specs.declared.usage.Usage.TheVariants.{Bad, Show, Memory}
+
+-- ---- what `clap` found
+
+-- the flag is set
+abbrev pub has_flag : Text → List Row → Bool
+has_flag name rows = option_map_or (λ text. bytes_eq text (codes "true")) (one_of name rows) false
+
+-- the value of the option
+abbrev pub value_of : Text → List Row → Option Text
+value_of = first_of
+
+-- the option is given
+abbrev pub has_value : Text → List Row → Bool
+has_value name rows = is_some (value_of name rows)
+
+-- the words that belong to no option
+abbrev pub strings_of : List Row → List Text
+strings_of rows = unwrap_or (all_of (codes "STRINGS") rows) []
+
+-- there are some
+abbrev pub has_strings : List Row → Bool
+has_strings rows = not (nat_eq (length (strings_of rows)) 0)
+
+-- ---- numbers
+
+-- 1 to 10 ASCII digits
+abbrev pub is_short_numeral : Text → Bool
+is_short_numeral text = nat_le 1 (length text) && nat_le (length text) 10 && list_all is_ascii_digit text
+
+-- 1 to 1,000,000,000
+abbrev pub is_count : ℕ → Bool
+is_count number = nat_le 1 number && nat_le number 1000000000
+
+-- the count that a text writes
+abbrev pub count_of : Text → Option ℕ
+count_of text =
+    if is_short_numeral text && is_count (digits_value 10 text) then Some (digits_value 10 text) else None
+
+-- the option is left out, or its value is a count
+abbrev pub is_count_if_given : Text → List Row → Bool
+is_count_if_given name rows = option_map_or (λ text. is_some (count_of text)) (value_of name rows) true
+
+-- ---- the program's own rules
+
+-- at most one of the five modes is named
+abbrev pub names_one_mode : List Row → Bool
+names_one_mode rows = nat_le (count_by (λ named. named)
+    (has_flag (codes "lookup") rows ∷ has_flag (codes "register") rows ∷ has_flag (codes "decode") rows
+    ∷ has_value (codes "variants") rows ∷ has_value (codes "check-table") rows ∷ [])) 1
+
+-- `--after`, `--limit` and `--tries` come with `--variants` alone
+abbrev pub bounds_variants : List Row → Bool
+bounds_variants rows = has_value (codes "variants") rows
+    || not (has_value (codes "after") rows || has_value (codes "limit") rows || has_value (codes "tries") rows)
+
+-- `--limit` and `--tries` have a count
+abbrev pub has_counts : List Row → Bool
+has_counts rows = is_count_if_given (codes "limit") rows && is_count_if_given (codes "tries") rows
+
+-- the text of `--after`, which is empty where it is left out
+abbrev pub start_of : List Row → Text
+start_of rows = unwrap_or (value_of (codes "after") rows) []
+
+-- that text has at most 1,024 bytes
+abbrev pub has_short_start : List Row → Bool
+has_short_start rows = nat_le (length (start_of rows)) 1024
+
+-- `--check-table` comes without STRINGS
+abbrev pub checks_alone : List Row → Bool
+checks_alone rows = not (has_value (codes "check-table") rows) || not (has_strings rows)
+
+-- all of these rules hold
+abbrev pub is_allowed : List Row → Bool
+is_allowed rows =
+    names_one_mode rows && bounds_variants rows && has_counts rows && has_short_start rows && checks_alone rows
+
+-- ---- the options
+
+-- the mode that is named; lookup where none is
+abbrev pub mode_of : List Row → Mode
+mode_of rows =
+    if has_flag (codes "register") rows then Register
+    else (if has_flag (codes "decode") rows then Decode
+    else (if has_value (codes "variants") rows then Variants
+    else (if has_value (codes "check-table") rows then CheckTable
+    else Lookup)))
+
+-- the name of the table's file; empty where the mode has no table
+abbrev pub file_of : List Row → Text
+file_of rows = unwrap_or (value_of (codes "variants") rows) (unwrap_or (value_of (codes "check-table") rows) [])
+
+-- the options, part by part
+abbrev pub settings_of : List Row → Settings
+settings_of rows = record {
+  mode = mode_of rows;
+  std3 = has_flag (codes "usestd3asciirules") rows;
+  file = file_of rows;
+  strings = strings_of rows;
+  after = chars (start_of rows);
+  limit = option_and_then count_of (value_of (codes "limit") rows);
+  tries = unwrap_or (option_and_then count_of (value_of (codes "tries") rows)) 1000000;
+}
+
+-- ---- the answer
+
+-- what the words ask for: a run with these options, a text to be shown, or nothing that can be read
+pub data Answer : Type 0 where
+  chosen : Settings → Answer
+  shown : Answer
+  bad : Answer
+
+-- `clap` was asked for help or for the version
+abbrev pub asks_to_show : ErrorKind → Bool
+asks_to_show DisplayHelp = true
+asks_to_show DisplayVersion = true
+asks_to_show _ = false
+
+-- `clap`'s refusal comes first, the program's own rules after it. Its definition names one kind of
+-- refusal at most (`lone-app` of `proofs/LoneKind.antt`), so nothing is left open
+abbrev pub answer_of : Kinds → List Row → Answer
+answer_of [] rows = if is_allowed rows then chosen (settings_of rows) else bad
+answer_of (kind ∷ _) rows = if asks_to_show kind then shown else bad
+
+-- the options of a list of words, of which the first is the program's name
+unfoldable pub options_of : List Text → Answer
+options_of words = answer_of (fault_of app words) (matches_of app words)
+
+-- `clap`'s refusal of this kind comes to that
+abbrev pub IsUsage : ErrorKind → Usage → Type 0
+IsUsage kind Bad = (asks_to_show kind ≡ false) × (kind ≢ OutOfMemory)
+IsUsage kind (Show text) = asks_to_show kind ≡ true
+IsUsage kind Memory = Unit {0}
+
+-- the result is that answer, unless memory ran out
+abbrev pub IsAnswer : Answer → Result Settings Usage → Type 0
+IsAnswer answer (Ok options) = answer ≡ chosen options
+IsAnswer answer (Err Bad) = answer ≡ bad
+IsAnswer answer (Err (Show text)) = answer ≡ shown
+IsAnswer answer (Err Memory) = Unit {0}

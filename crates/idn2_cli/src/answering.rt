@@ -1,0 +1,77 @@
+//! What a mode does with one line.
+
+ghost use Rattle.std.specs.Prelude.{◌≡◌, ◌≢◌, ◌≤◌, ℕ, List, [], ◌∷◌, length, IfOk, Err, false};
+ghost use Rattle.std.specs.Result.{is_err};
+ghost use Rattle.idn_text.specs.Points.{AreScalarValues};
+ghost use Rattle.idn2_cli.specs.LineAnswers.{LineAnswer};
+ghost use Rattle.idn2_cli.specs.Pieces.{Output};
+ghost use Rattle.idn2_cli.specs.Transcript.{pieces_for};
+ghost use Rattle.idn2_cli.specs.Consoles.{held_by, HasSameWriters};
+ghost use Rattle.idn2_cli.specs.Emitting.{Emits};
+
+use crate::console::Console;
+use crate::message::line_message;
+use crate::stop::Stop;
+use idn_text::{Refusal, Sink};
+use std::alloc::Global;
+
+/// A mode that answers each line by its code points alone.
+pub trait Answering {
+    // The answer to the code points of a line.
+    ghost answer_of: { Self → List ℕ → LineAnswer };
+
+    // What the mode needs to answer.
+    ghost is_ready: { Self → Type 0 } = { λ _. Unit {0} };
+
+    /// Writes the answer to a line of this number, and tells whether it is a refusal.
+    fn answer<W: Sink, E: Sink>(
+        &self,
+        alloc: Global,
+        number: u64,
+        points: &[u32],
+        console: &mut Console<'_, '_, W, E>,
+    ) -> Result<bool, Stop>
+        requires ready { is_ready self.now }
+        requires few { length points.now ≤ 1024 }
+        requires scalar_values { AreScalarValues points.now }
+        ensures written { Emits (held_by W.contents W.has_failed E.contents E.has_failed console.old)
+            (held_by W.contents W.has_failed E.contents E.has_failed console.new)
+            (pieces_for number (answer_of self.now points.now)) result }
+        ensures refused { IfOk result (λ refused. refused ≡ is_err (answer_of self.now points.now)) }
+        ensures same { HasSameWriters console.old console.new };
+}
+
+/// Answers a line by one line, which ends in a line feed.
+pub(crate) fn reply<W: Sink, E: Sink>(
+    line: &[u8],
+    console: &mut Console<'_, '_, W, E>,
+) -> Result<bool, Stop>
+    ensures written { Emits (held_by W.contents W.has_failed E.contents E.has_failed console.old)
+        (held_by W.contents W.has_failed E.contents E.has_failed console.new) (Output line.now ∷ []) result }
+    ensures refused { IfOk result (λ refused. refused ≡ false) }
+    ensures same { HasSameWriters console.old console.new }
+{
+    console.output(line)?;
+    Ok(false)
+}
+
+/// Tells why a line is refused. Want of memory is no refusal of the line, and stops the run.
+pub(crate) fn refuse<W: Sink, E: Sink>(
+    number: u64,
+    refusal: Refusal,
+    console: &mut Console<'_, '_, W, E>,
+) -> Result<bool, Stop>
+    ensures written { (answer : LineAnswer) → (refusal ≢ Refusal.Memory → answer ≡ Err refusal) →
+        Emits (held_by W.contents W.has_failed E.contents E.has_failed console.old)
+        (held_by W.contents W.has_failed E.contents E.has_failed console.new) (pieces_for number answer) result }
+    ensures refused { (answer : LineAnswer) → (refusal ≢ Refusal.Memory → answer ≡ Err refusal) →
+        IfOk result (λ refused. refused ≡ is_err answer) }
+    ensures same { HasSameWriters console.old console.new }
+{
+    if let Refusal::Memory = refusal {
+        return Err(Stop::Memory);
+    }
+    let message = line_message(number, &refusal);
+    console.message(message.as_str().as_bytes())?;
+    Ok(true)
+}

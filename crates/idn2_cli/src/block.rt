@@ -1,0 +1,103 @@
+//! The lines of a block.
+
+ghost use Rattle.std.specs.Prelude.{◌≡◌, ◌≤◌, ◌∷◌, [], ◌++◌, length, codes, decimal, None, Some};
+ghost use Rattle.idn_text.specs.Points.{AreScalarValues};
+ghost use Rattle.idn_label.specs.FirstFault.{IsRegistrable};
+ghost use Rattle.idn2_cli.specs.Pieces.{Output};
+ghost use Rattle.idn2_cli.specs.Blocks.{variant_line, trailer, reaches};
+ghost use Rattle.idn2_cli.specs.Emitting.{Emits};
+ghost use Rattle.idn2_cli.specs.Consoles.{held_by, HasSameWriters};
+
+use crate::console::Console;
+use crate::line::append;
+use crate::stop::Stop;
+use arrayvec::{ArrayString, ArrayVec};
+use idn_label::test_label;
+use idn_text::{Refusal, Sink, write_points};
+use itoa::Buffer;
+use std::alloc::Global;
+
+/// Whether so many variants are as many as may be listed.
+pub(crate) fn is_reached(limit: Option<u64>, count: u64) -> bool
+    ensures { result ≡ reaches limit count }
+{
+    match limit {
+        Some(limit) => limit == count,
+        None => false,
+    }
+}
+
+/// Writes a variant and its A-label. `text` is room for the line.
+pub(crate) fn write_variant<W: Sink, E: Sink>(
+    alloc: Global,
+    label: &[u32],
+    text: &mut ArrayVec<u8, 4096>,
+    console: &mut Console<'_, '_, W, E>,
+) -> Result<(), Stop>
+    requires { IsRegistrable label.now }
+    ensures written { Emits (held_by W.contents W.has_failed E.contents E.has_failed console.old)
+        (held_by W.contents W.has_failed E.contents E.has_failed console.new) (Output (variant_line label.now ++ 10 ∷ []) ∷ []) result }
+    ensures same { HasSameWriters console.old console.new }
+{
+    let a_label = match test_label(alloc, label) {
+        Ok(a_label) => a_label,
+        Err(Refusal::Memory) => return Err(Stop::Memory),
+        Err(_) => unreachable!(),
+    };
+    write_points(label, text);
+    text.push(b'\t');
+    append(text, a_label.as_str().as_bytes());
+    text.push(b'\n');
+    console.output(text.as_slice())
+}
+
+/// Writes the trailer of a listing that stops at a label of at most 63 code points. `text` is room
+/// for the label.
+pub(crate) fn write_stop<W: Sink, E: Sink>(
+    count: u64,
+    last: &[u32],
+    text: &mut ArrayVec<u8, 4096>,
+    console: &mut Console<'_, '_, W, E>,
+) -> Result<(), Stop>
+    requires short { length last.now ≤ 63 }
+    requires scalar_values { AreScalarValues last.now }
+    ensures written { Emits (held_by W.contents W.has_failed E.contents E.has_failed console.old)
+        (held_by W.contents W.has_failed E.contents E.has_failed console.new) (Output (trailer count (Some last.now) ++ 10 ∷ []) ∷ []) result }
+    ensures same { HasSameWriters console.old console.new }
+{
+    write_points(last, text);
+    let line = stop_line(count, text.as_slice());
+    console.output(line.as_slice())
+}
+
+/// The line of a stop at a label, whose UTF-8 is given.
+fn stop_line(count: u64, last: &[u8]) -> ArrayVec<u8, 320>
+    requires { length last.now ≤ 252 }
+    ensures { result.items ≡ codes "#stop " ++ (decimal count ++ 32 ∷ last.now) ++ 10 ∷ [] }
+{
+    let mut digits = Buffer::new();
+    let mut line = ArrayVec::new();
+    append(&mut line, b"#stop ");
+    append(&mut line, digits.format(count).as_bytes());
+    append(&mut line, b" ");
+    append(&mut line, last);
+    append(&mut line, b"\n");
+    line
+}
+
+/// Writes the trailer of a listing that ends.
+pub(crate) fn write_end<W: Sink, E: Sink>(
+    count: u64,
+    console: &mut Console<'_, '_, W, E>,
+) -> Result<(), Stop>
+    ensures written { Emits (held_by W.contents W.has_failed E.contents E.has_failed console.old)
+        (held_by W.contents W.has_failed E.contents E.has_failed console.new) (Output (trailer count None ++ 10 ∷ []) ∷ []) result }
+    ensures same { HasSameWriters console.old console.new }
+{
+    let mut line = ArrayString::<48>::new();
+    let mut digits = Buffer::new();
+    line.push_str("#end ");
+    line.push_str(digits.format(count));
+    line.push_str("\n");
+    console.output(line.as_str().as_bytes())
+}

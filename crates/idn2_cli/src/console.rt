@@ -1,0 +1,47 @@
+//! The two writers of a run.
+
+ghost use Rattle.std.specs.Prelude.{◌≡◌, ◌∷◌, [], IfErr};
+
+use crate::stop::Stop;
+use idn_text::{Sink, write_text};
+
+/// The output and the messages of a run.
+#[derive(Drop)]
+pub struct Console<'o, 'm, W: Sink, E: Sink> {
+    pub output: &'o mut W,
+    pub messages: &'m mut E,
+}
+
+impl<'o, 'm, W: Sink, E: Sink> Console<'o, 'm, W, E> {
+    ghost use Rattle.idn2_cli.specs.Pieces as pieces;
+    ghost use Rattle.idn2_cli.specs.Consoles.{held_by, HasSameWriters};
+    ghost use Rattle.idn2_cli.specs.Emitting.{Emits};
+    ghost use Rattle.idn2_cli.specs.declared.stop.Stop.TheVariants as stop;
+
+    /// Writes a piece to the output.
+    pub fn output(&mut self, text: &[u8]) -> Result<(), Stop>
+        ensures written { Emits (held_by W.contents W.has_failed E.contents E.has_failed self.old)
+            (held_by W.contents W.has_failed E.contents E.has_failed self.new) (pieces.Output text.now ∷ []) result }
+        ensures same { HasSameWriters self.old self.new }
+        ensures messages { self.new.messages.now ≡ self.old.messages.now }
+    {
+        match write_text(self.output, text) {
+            Ok(()) => Ok(()),
+            Err(_) => Err(Stop::Output),
+        }
+    }
+
+    /// Writes a piece to the messages.
+    pub fn message(&mut self, text: &[u8]) -> Result<(), Stop>
+        ensures written { Emits (held_by W.contents W.has_failed E.contents E.has_failed self.old)
+            (held_by W.contents W.has_failed E.contents E.has_failed self.new) (pieces.Message text.now ∷ []) result }
+        ensures why { IfErr result (λ why. why ≡ stop.Messages) }
+        ensures same { HasSameWriters self.old self.new }
+        ensures output { self.new.output.now ≡ self.old.output.now }
+    {
+        match write_text(self.messages, text) {
+            Ok(()) => Ok(()),
+            Err(_) => Err(Stop::Messages),
+        }
+    }
+}

@@ -1,0 +1,14 @@
+/// What the program does with its input.
+#[derive(Clone, Copy, Debug, PartialEq, Eq)]
+pub enum Mode {
+    /// Each line is a name, converted for a query.
+    Lookup,
+    /// Each line is a label to be registered, answered by its A-label.
+    Register,
+    /// Each line is a name, its A-labels answered as U-labels.
+    Decode,
+    /// Each line is a label, answered by its variants under a table.
+    Variants,
+    /// A table is asked for the pairs that it lacks.
+    CheckTable,
+}

@@ -1,0 +1,62 @@
+//! Decoding: a name is answered with U-labels in the place of its A-labels.
+
+ghost use Rattle.std.specs.Prelude.{◌≡◌, ◌≤◌, ◌++◌, length, string_bytes, OnOk};
+ghost use Rattle.idn_text.specs.Points.{AreScalarValues, utf8_of};
+ghost use Rattle.idn_label.specs.Answers.{Gives};
+ghost use Rattle.idn_label.specs.Decode.{decode_answer};
+ghost use Rattle.idn2_cli.specs.LineAnswers.{as_utf8, one_line, with_feed};
+
+use crate::answering::{Answering, refuse, reply};
+use crate::console::Console;
+use crate::stop::Stop;
+use idn_label::decode_name;
+use idn_text::{Refusal, Sink};
+use std::alloc::{AllocError, Global};
+
+/// Decoding (RFC 5891 section 5.3).
+#[derive(Clone, Copy)]
+pub(crate) struct Decode;
+
+impl Answering for Decode {
+    ghost answer_of = { λ _ name. one_line (as_utf8 (decode_answer name)) };
+
+    fn answer<W: Sink, E: Sink>(
+        &self,
+        alloc: Global,
+        number: u64,
+        points: &[u32],
+        console: &mut Console<'_, '_, W, E>,
+    ) -> Result<bool, Stop> {
+        match line_of(alloc, points) {
+            Ok(line) => reply(line.as_bytes(), console),
+            Err(refusal) => refuse(number, refusal, console),
+        }
+    }
+}
+
+/// The line of a name with U-labels in the place of its A-labels.
+fn line_of(alloc: Global, name: &[u32]) -> Result<String, Refusal>
+    requires few { length name.now ≤ 1024 }
+    requires scalar_values { AreScalarValues name.now }
+    ensures { Gives string_bytes result (with_feed (as_utf8 (decode_answer name.now))) }
+{
+    let decoded = decode_name(alloc, name)?;
+    let mut line = String::with_capacity(alloc, name.len() + 1)?;
+    push_points(decoded.as_slice(), &mut line)?;
+    line.push('\n')?;
+    Ok(line)
+}
+
+/// Writes the UTF-8 of scalar values at the end of a text.
+fn push_points(points: &[u32], text: &mut String) -> Result<(), AllocError>
+    requires { AreScalarValues points.now }
+    ensures { OnOk result (string_bytes text.new ≡ string_bytes text.old ++ utf8_of points.now) }
+{
+    for point in points {
+        let Some(character) = char::from_u32(*point) else {
+            unreachable!()
+        };
+        text.push(character)?;
+    }
+    Ok(())
+}
