@@ -1,7 +1,11 @@
 -- Answers, and what a result says of them.
-use Rattle.std.proofs.Common.{◌≡◌, ◌≢◌, ℕ, ◌==◌, List, length, drop, Option, Some, None, Result, Ok, Err, OnOk, IfOk, IfErr, cond, bytes_eq, true, false, refl, sym, ap, subst, ◌∙◌, inl, inr}
+use Rattle.std.proofs.Common.{◌≡◌, ◌≢◌, ℕ, ◌==◌, ◌||◌, not, List, ◌++◌, length, drop, codes, All, Option, Some, None, Result, Ok, Err, OnOk, IfOk, IfErr, cond, bytes_eq, true, false, refl, sym, ap, subst, ◌∙◌, inl, inr}
+use Rattle.std.specs.Char.{is_ascii_uppercase}
+use Rattle.std.specs.List.{list_all}
+use Rattle.std.proofs.lemmas.List.Elements.{All-weaker, All-drop}
+use Rattle.std.proofs.lemmas.List.Sums.{AllPass-from_list_all}
 use Rattle.std.specs.Cmp.Lexicographic.{bytes_decides}
-use Rattle.std.proofs.lemmas.Bool.{cond-true, cond-false, cases_Bool}
+use Rattle.std.proofs.lemmas.Bool.{cond-true, cond-false, cases_Bool, not-true}
 use Rattle.idn_text.specs.declared.refusal.Refusal.{Refusal}
 use Rattle.idn_text.specs.declared.refusal.Refusal.TheVariants.{BadALabel, Memory}
 use Rattle.idn_label.specs.ALabel.{a_label_of}
@@ -10,7 +14,9 @@ use Rattle.idn_label.specs.FirstFault.{first_fault, IsRegistrable}
 use Rattle.idn_label.specs.Register.{tested_answer, decoded_code, confirmed, u_label_answer, register_answer}
 use Rattle.std.specs.Option.{ok_or}
 use Rattle.arrayvec.specs.ArrayString.{ArrayString}
-use Rattle.idna.specs.Punycode.{decode}
+use Rattle.idna.specs.Punycode.{decode, encode}
+use Rattle.idna.proofs.PunycodeCanonical.{encode-decode}
+use Rattle.idna.proofs.Uts46Lemmas.{ace_parts}
 use Rattle.idna.specs.Validity.{is_all_ascii, has_ace_prefix}
 
 pub and_then-err : {A : Type 0} (first : Result A Refusal) (f : A → Answer) (refusal : Refusal) → first ≡ Err refusal → and_then first f ≡ Err refusal
@@ -137,3 +143,36 @@ register_answer-coded label decoded coded is =
 pub Gives-test : (r : Result ArrayString Refusal) (given label : List ℕ) → given ≡ label → OnOk r (IsRegistrable given) → IfOk r (λ a. a.bytes ≡ a_label_of given) → IfErr r (λ refusal. refusal ≢ Memory → first_fault given ≡ Some refusal) → Gives (λ a. a.bytes) r (tested_answer label)
 Gives-test r given label same registrable is fault =
     Gives-same (λ (a : ArrayString). a.bytes) r (tested_answer given) (tested_answer label) (ap tested_answer same) (Gives-tested (λ (a : ArrayString). a.bytes) r given registrable is fault)
+
+-- ---- what was decoded, encoded again
+
+some_from_ok : (decoded : Option (List ℕ)) (label : List ℕ) → ok_or decoded BadALabel ≡ Ok label → decoded ≡ Some label
+some_from_ok (Some other) label e = cc
+some_from_ok None label e = absurd (let clash : Err BadALabel ≡ Ok label = e in cc)
+
+-- what is decoded was Punycode
+decoded_code-from : (code label : List ℕ) → decoded_code code ≡ Ok label → decode code ≡ Some label
+unfolding decoded_code
+decoded_code-from code label e =
+    elim (cases_Bool (length code == 0 || not (is_all_ascii code))) [
+      | inl bad ↦ absurd (let clash : Err BadALabel ≡ Ok label = sym (cond-true _ _ _ bad) ∙ e in cc)
+      | inr good ↦ some_from_ok (decode code) label (sym (cond-false _ _ _ good) ∙ e)
+    ]
+
+-- a lower-case A-label is the one of the label that is decoded from it, where that is not all ASCII
+pub ace_label-again : (given label : List ℕ) → has_ace_prefix given ≡ true → decoded_code (drop 4 given) ≡ Ok label → list_all (λ c. not (is_ascii_uppercase c)) given ≡ true → codes "xn--" ++ encode label ≡ given
+ace_label-again given label ace decoded lower =
+    let small : All (λ c. is_ascii_uppercase c ≡ false) (drop 4 given) =
+    All-drop (λ c. is_ascii_uppercase c ≡ false) 4 given
+    (All-weaker _ _ (λ c h. not-true (is_ascii_uppercase c) h) given (AllPass-from_list_all (λ c. not (is_ascii_uppercase c)) given lower)) in
+    ap (λ x. codes "xn--" ++ x) (encode-decode (drop 4 given) label small (decoded_code-from (drop 4 given) label decoded))
+    ∙ (ace_parts given ace).0
+
+pub a_label_of-not_ascii : (label : List ℕ) → is_all_ascii label ≡ false → a_label_of label ≡ codes "xn--" ++ encode label
+unfolding a_label_of
+a_label_of-not_ascii label other = cond-false _ _ _ other
+
+-- the test of a label of which the A-label is known to be the one given, as the confirmation of that
+pub Gives-confirmed : (r : Result (Unit {0}) Refusal) (given label : List ℕ) → a_label_of label ≡ given → OnOk r (IsRegistrable label) → IfErr r (λ refusal. refusal ≢ Memory → first_fault label ≡ Some refusal) → Gives (λ (_ : Unit {0}). label) r (confirmed given label)
+Gives-confirmed (Ok value) given label same registrable fault = confirmed-same given label (a_label_of label) (tested_answer-ok label registrable) same
+Gives-confirmed (Err refusal) given label same registrable fault = λ other. confirmed-fault given label refusal (tested_answer-fault label refusal (fault other))

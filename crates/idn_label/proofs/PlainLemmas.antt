@@ -1,7 +1,7 @@
 -- Code points and labels in ASCII.
-use Rattle.std.proofs.Common.{◌≡◌, ℕ, ◌<◌, ◌≤◌, Bool, true, false, not, ◌||◌, ◌==◌, nat_lt, cond, List, [], ◌∷◌, ◌++◌, map, codes, length, All, Option, Some, None, get_or, refl, sym, ap, ◌∙◌, arith}
+use Rattle.std.proofs.Common.{inl, inr, ◌≡◌, ℕ, ◌<◌, ◌≤◌, Bool, true, false, not, ◌||◌, ◌==◌, nat_lt, cond, List, [], ◌∷◌, ◌++◌, map, codes, length, All, Option, Some, None, get_or, refl, sym, ap, ◌∙◌, arith}
 use Rattle.std.specs.List.{list_all, list_any}
-use Rattle.std.proofs.lemmas.Bool.{and_parts, cond-true, cond-false}
+use Rattle.std.proofs.lemmas.Bool.{and_parts, cond-true, cond-false, cases_Bool}
 use Rattle.std.proofs.lemmas.Bool.Decides.{nat_tests}
 use Rattle.idn_class.proofs.Computing.{rules, in_table, class_of-in_table}
 use Rattle.idn_class.specs.declared.class.Class.{Class}
@@ -181,6 +181,14 @@ a_label_of-coded label coded none = cond-false _ _ _ (not_ascii (is_all_ascii la
     not_ascii : (b : Bool) → is_all_ascii label ≡ b → b ≡ false
     not_ascii false e = refl
     not_ascii true e = sym (plain_points label none e) ∙ coded
+
+-- a label that is not all ASCII is not plain
+pub not_plain : (label : List ℕ) → is_all_ascii label ≡ false → list_all is_plain_point label ≡ false
+not_plain label other =
+    elim (cases_Bool (list_all is_plain_point label)) [
+      | inl plain ↦ absurd (let clash : true ≡ false = sym (is_all_ascii-points label (ascii_points label plain)) ∙ other in cc)
+      | inr coded ↦ coded
+    ]
 
 some_points : (label : List ℕ) → list_all is_plain_point label ≡ false → (length label == 0) ≡ false
 some_points [] coded = let clash : true ≡ false = coded in cc

@@ -1,13 +1,17 @@
 //! What an A-label stands for (RFC 5891 section 5.3).
-ghost use Rattle.std.specs.Prelude.{◌≡◌, ◌↔◌, ◌<◌, ◌≤◌, length, true, IsTrue, All};
+ghost use Rattle.std.specs.Prelude.{◌≡◌, ◌≢◌, ◌↔◌, ◌<◌, ◌≤◌, ◌++◌, not, length, drop, codes, true, false, Some, Ok, IsTrue, IfErr, OnOk, All};
+ghost use Rattle.std.specs.Char.{is_ascii_uppercase};
 ghost use Rattle.std.specs.List.{list_all};
+ghost use Rattle.idna.specs.Punycode.{encode};
 ghost use Rattle.idna.specs.Validity.{is_all_ascii, has_ace_prefix};
 ghost use Rattle.idn_label.specs.Answers.{Gives};
+ghost use Rattle.idn_label.specs.FirstFault.{first_fault, IsRegistrable};
 ghost use Rattle.idn_label.specs.Register.{tested_answer, decoded_code, confirmed, u_label_answer};
 
 use crate::a_label::{ALabel, MAX_LABEL_LEN, ascii_text};
-use crate::code_points::{points_of, short_points};
+use crate::code_points::{check_code_points, points_of, short_points};
 use crate::first_fault::test_label;
+use crate::rules::check_rules;
 use arrayvec::ArrayString;
 use idn_text::Refusal;
 use idna::{Errors, punycode};
@@ -63,16 +67,60 @@ fn is_all_ascii(code: &[u32]) -> bool
     code.iter().all(|c| *c < 128)
 }
 
-/// Tests that a label may be registered and that its A-label is the one given.
+/// Tests that a label that was decoded may be registered and that its A-label is the one given.
 fn confirm(alloc: Global, given: &[u32], label: &[char]) -> Result<(), Refusal>
+    requires prefix { has_ace_prefix given.now ≡ true }
+    requires decoded { decoded_code (drop 4 given.now) ≡ Ok label.now }
     ensures { Gives (λ _. label.now) result (confirmed given.now label.now) }
 {
+    // Most A-labels need not be encoded again to be compared.
+    if is_encoded_back(given, label) {
+        return check_encoded(alloc, label);
+    }
     let a_label = test_chars(alloc, label)?;
     if is_text(a_label.as_bytes(), given) {
         Ok(())
     } else {
         Err(Refusal::BadALabel)
     }
+}
+
+/// Whether what was decoded is sure to be encoded as the A-label given: Punycode in lower case is the only one of a
+/// label that is not all ASCII (RFC 3492 section 5). Only short labels are looked at.
+fn is_encoded_back(given: &[u32], label: &[char]) -> bool
+    ensures short { result ≡ true → (length given.now ≤ 63) × (length label.now ≤ 63) }
+    ensures lowercase { result ≡ true → list_all (λ c. not (is_ascii_uppercase c)) given.now ≡ true }
+    ensures coded { result ≡ true → is_all_ascii label.now ≡ false }
+{
+    given.len() <= MAX_LABEL_LEN
+        && label.len() <= MAX_LABEL_LEN
+        && has_no_capital(given)
+        && !is_all_ascii_chars(label)
+}
+
+fn has_no_capital(label: &[u32]) -> bool
+    ensures { result ≡ list_all (λ c. not (is_ascii_uppercase c)) label.now }
+{
+    label.iter().all(|c| !matches!(*c, 0x41..=0x5A))
+}
+
+fn is_all_ascii_chars(label: &[char]) -> bool
+    ensures { result ≡ is_all_ascii label.now }
+{
+    label.iter().all(|c| c.is_ascii())
+}
+
+/// Tests a label that is not all ASCII, and whose A-label is short, for registration.
+fn check_encoded(alloc: Global, label: &[char]) -> Result<(), Refusal>
+    requires coded { is_all_ascii label.now ≡ false }
+    requires short { length label.now ≤ 63 }
+    requires short_a_label { length (codes "xn--" ++ encode label.now) ≤ 63 }
+    ensures registrable { OnOk result (IsRegistrable label.now) }
+    ensures fault { IfErr result (λ refusal. refusal ≢ Refusal.Memory → first_fault label.now ≡ Some refusal) }
+{
+    let points = short_points(label);
+    check_code_points(alloc, &points)?;
+    check_rules(alloc, &points, label)
 }
 
 /// The A-label of a label that may be registered, else its first fault.
