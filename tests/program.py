@@ -5,12 +5,15 @@ What the contracts say of a run is proved; this tests what they can't speak of: 
 files. The last line is 'N passed, M failed', and the exit status is 0 where nothing failed."""
 
 import os
+import re
 import signal
 import subprocess
 import sys
 import tempfile
 
-PROGRAM = os.path.join(os.path.dirname(__file__), "..", "crates", "idn2", "out", "idn2")
+ROOT = os.path.dirname(os.path.dirname(os.path.abspath(__file__)))
+PROGRAM = os.path.join(ROOT, "crates", "idn2", "out", "idn2")
+TABLES = os.path.join(ROOT, "tables")
 LIMIT = 60
 
 
@@ -50,7 +53,13 @@ def refuses_a_line_and_serves_the_next(folder):
 
 
 def refuses_words(folder):
-    for words in (["-r", "-d", "x"], ["--limit", "1", "x"], ["--variants", "t", "--limit", "0", "x"], ["--bogus"]):
+    for words in (
+        ["-r", "-d", "x"],
+        ["--limit", "1", "x"],
+        ["--variants", "t", "--limit", "0", "x"],
+        ["--after", "", "x"],
+        ["--bogus"],
+    ):
         expect(words, b"", b"", b"idn2: 50 usage\n", 2)
 
 
@@ -95,6 +104,13 @@ def checks_a_table(folder):
     expect(["--check-table", table_file(folder, b"0061|0061-0061\n")], b"", b"missing 0061-0061|0061\n#table 1 1\n", b"", 1)
     expect(["--check-table", table_file(folder, b"0061\n")], b"", b"#table 1 0\n", b"", 0)
     expect(["--check-table", table_file(folder, b"0061|\n")], b"", b"", b"idn2: table line 1: 30 table syntax\n", 2)
+
+
+def finds_no_gap_in_the_example_tables(folder):
+    entries = {"arabic-digits.txt": 73, "german.txt": 42, "han.txt": 3602}
+    assert entries.keys() == {name for name in os.listdir(TABLES) if name.endswith(".txt")}
+    for name, count in entries.items():
+        expect(["--check-table", os.path.join(TABLES, name)], b"", b"#table %d 0\n" % count, b"", 0)
 
 
 def reads_a_table_up_to_its_limit(folder):
@@ -142,6 +158,24 @@ def ends_on_a_full_device(folder):
         assert (done.returncode, done.stderr) == (3, b"idn2: 61 write fault\n"), words
 
 
+def tells_lost_answers_at_once(folder):
+    """The first answer is lost: the program ends while its input is still open."""
+    with open("/dev/full", "wb") as full:
+        with subprocess.Popen([PROGRAM, "-r"], stdin=subprocess.PIPE, stdout=full, stderr=subprocess.PIPE) as partner:
+            partner.stdin.write(b"abc\n")
+            partner.stdin.flush()
+            status = partner.wait(LIMIT)
+            assert (status, partner.stderr.read()) == (3, b"idn2: 61 write fault\n"), status
+
+
+def tells_no_other_message_of_lost_answers(folder):
+    """Neither the refusal of a line behind the lost answer, nor one of half a line."""
+    for given in (b"abc\nAbc\n", b"abc\nAb"):
+        with open("/dev/full", "wb") as full:
+            done = subprocess.run([PROGRAM, "-r"], input=given, stdout=full, stderr=subprocess.PIPE, timeout=LIMIT)
+        assert (done.returncode, done.stderr) == (3, b"idn2: 61 write fault\n"), done
+
+
 def ends_on_a_closed_output(folder):
     done = subprocess.run(
         [PROGRAM, "-r"], input=b"abc\n", stderr=subprocess.PIPE, timeout=LIMIT, preexec_fn=lambda: os.close(1)
@@ -168,6 +202,54 @@ def tells_messages_in_order(folder):
         assert both.read() == b"abc\nidn2: line 2: 10 disallowed code point\ndef\n"
 
 
+def sessions_of(lines):
+    """The commands behind '$ ' and what each of them prints."""
+    sessions = []
+    for line in lines:
+        if line.startswith("$ "):
+            sessions.append((line[2:], []))
+        elif sessions:
+            sessions[-1][1].append(line)
+    return sessions
+
+
+def readme_blocks(text):
+    """The indented blocks of a text in Markdown."""
+    for block in re.findall(r"(?:^    .*\n)+", text, re.MULTILINE):
+        yield [line[4:] for line in block.splitlines()]
+
+
+def manual_blocks(text):
+    """The examples of a manual page, without the escapes of roff."""
+    for block in re.findall(r"^\.EX\n(.*?)^\.EE\n", text, re.MULTILINE | re.DOTALL):
+        for escape, meant in (("\\[ss]", "ß"), ("\\-", "-"), ("\\(aq", "'"), ("\\e", "\\")):
+            block = block.replace(escape, meant)
+        yield block.splitlines()
+
+
+def prints_what_the_documents_show(folder):
+    os.symlink(PROGRAM, os.path.join(folder, "idn2"))
+    os.symlink(TABLES, os.path.join(folder, "tables"))
+    path = folder + os.pathsep + os.environ["PATH"]
+    for name, blocks, least in (("README.md", readme_blocks, 8), (os.path.join("docs", "idn2.1"), manual_blocks, 6)):
+        with open(os.path.join(ROOT, name), encoding="utf-8") as file:
+            sessions = [session for block in blocks(file.read()) for session in sessions_of(block)]
+        assert len(sessions) >= least, (name, len(sessions))
+        for command, lines in sessions:
+            done = subprocess.run(
+                command,
+                shell=True,
+                cwd=folder,
+                env={**os.environ, "PATH": path},
+                stdin=subprocess.DEVNULL,
+                stdout=subprocess.PIPE,
+                stderr=subprocess.STDOUT,
+                timeout=LIMIT,
+            )
+            shown = "".join(line + "\n" for line in lines).encode()
+            assert done.stdout == shown, f"{name}: {command}: shown {shown}, found {done.stdout}"
+
+
 TESTS = [
     answers_standard_input,
     answers_words,
@@ -178,15 +260,19 @@ TESTS = [
     lists_variants,
     resumes_where_it_stopped,
     checks_a_table,
+    finds_no_gap_in_the_example_tables,
     reads_a_table_up_to_its_limit,
     refuses_files_that_cannot_be_read,
     answers_each_line_before_it_waits,
     ends_where_its_reader_left,
     ends_on_a_full_device,
+    tells_lost_answers_at_once,
+    tells_no_other_message_of_lost_answers,
     ends_on_a_closed_output,
     keeps_its_status_where_messages_fail,
     serves_what_it_read_before_a_read_fails,
     tells_messages_in_order,
+    prints_what_the_documents_show,
 ]
 
 

@@ -10,11 +10,10 @@ ghost use Rattle.idn2_cli.specs.Settings.{IsWithinLimits};
 
 use idn_text::{Device, Lines, Refusal};
 use idn2_cli::{Options, Status, Usage, input_text, read_options, report, run};
-use std::cell::RefCell;
 use std::io::{BufWriter, Stdout, Write};
 use std::process::ExitCode;
-use streams::{Answers, Messages, Questions};
-use system::{output, read_table, words};
+use streams::{Answers, Messages, Output, Questions};
+use system::{read_table, standard_output, words};
 
 fn main(rt: HostRuntime) -> ExitCode {
     let status = match serve(&rt) {
@@ -36,15 +35,15 @@ fn serve(rt: &HostRuntime) -> Result<Status, Refusal>
     };
     let given = input_text(rt.alloc(), &options)?;
     let table = read_table(rt, &options)?;
-    let output = RefCell::new(output(rt)?);
+    let output = Output::new(standard_output(rt)?);
     let status = match given {
         Some(text) => run_on_words(rt, &options, &table, &text, &output),
         None => run_on_input(rt, &options, &table, &output),
     };
-    let flushed = Answers::new(&output).flush();
-    match (status, flushed) {
-        (Status::Clean | Status::Refused, Err(_)) => Err(Refusal::WriteFault),
-        _ => Ok(status),
+    // Where answers were lost the run could tell nothing more, whatever its status is.
+    match output.flush() {
+        Ok(()) => Ok(status),
+        Err(_) => Err(Refusal::WriteFault),
     }
 }
 
@@ -64,7 +63,7 @@ fn run_on_words(
     options: &Options,
     table: &[u8],
     text: &[u8],
-    output: &RefCell<BufWriter<Stdout>>,
+    output: &Output<BufWriter<Stdout>>,
 ) -> Status
     requires { IsWithinLimits options.now }
 {
@@ -83,7 +82,7 @@ fn run_on_input(
     rt: &HostRuntime,
     options: &Options,
     table: &[u8],
-    output: &RefCell<BufWriter<Stdout>>,
+    output: &Output<BufWriter<Stdout>>,
 ) -> Status
     requires { IsWithinLimits options.now }
 {

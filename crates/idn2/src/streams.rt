@@ -1,46 +1,76 @@
 //! The three streams of a run, which share one buffered output: it is flushed before anyone waits for more
 //! input, and before a message is written, so that neither overtakes an answer.
-use std::cell::RefCell;
+//!
+//! Once the output has failed, every read and every write of these streams fails. So the run ends at its next
+//! step with no message of its own, and the program tells that answers were lost.
+ghost use Rattle.std.specs.Io.{WritesAtMost};
+
+use std::cell::{Cell, RefCell, RefMut};
 use std::io::{Error, ErrorKind, Read, Result, Write};
 
-/// A write to an output that is lent to someone else. The streams below are the only ones that borrow it, one
-/// call at a time.
-fn lent() -> Error {
-    Error::from(ErrorKind::Other)
+/// An output that the streams below share. It fails for good: a write after one that failed would leave a gap.
+#[derive(Drop)]
+pub struct Output<W> {
+    writer: RefCell<W>,
+    has_failed: Cell<bool>,
 }
 
-/// Flushes the output. A flush that fails keeps its bytes, so the next write or the last flush fails too.
-fn flush_answers<W: Write>(output: &RefCell<W>) {
-    if let Ok(mut output) = output.try_borrow_mut() {
-        let _ = output.flush();
+impl<W> Output<W> {
+    /// An output of which no call failed yet.
+    pub fn new(writer: W) -> Self {
+        Output {
+            writer: RefCell::new(writer),
+            has_failed: Cell::new(false),
+        }
+    }
+}
+
+impl<W: Write> Output<W> {
+    /// Writes some of a text, and tells how many bytes of it.
+    fn write(&self, text: &[u8]) -> Result<usize>
+        ensures { WritesAtMost result text.now }
+    {
+        let written = self.lend()?.write(text);
+        self.has_failed.set(written.is_err());
+        written
+    }
+
+    /// Writes what is still in the buffer. An error means that some answer was lost, now or earlier.
+    pub fn flush(&self) -> Result<()> {
+        let flushed = self.lend()?.flush();
+        self.has_failed.set(flushed.is_err());
+        flushed
+    }
+
+    /// The writer, if it has not failed. It is lent for one call at a time, so nobody else has it then.
+    fn lend(&self) -> Result<RefMut<'_, W>> {
+        match self.writer.try_borrow_mut() {
+            Ok(writer) if !self.has_failed.get() => Ok(writer),
+            _ => Err(Error::from(ErrorKind::Other)),
+        }
     }
 }
 
 /// Writes answers into the shared output.
 #[derive(Drop)]
 pub struct Answers<'a, W> {
-    output: &'a RefCell<W>,
+    output: &'a Output<W>,
 }
 
 impl<'a, W> Answers<'a, W> {
-    pub fn new(output: &'a RefCell<W>) -> Self {
+    /// Answers go into this output.
+    pub fn new(output: &'a Output<W>) -> Self {
         Answers { output }
     }
 }
 
 impl<W: Write> Write for Answers<'_, W> {
     fn write(&mut self, text: &[u8]) -> Result<usize> {
-        match self.output.try_borrow_mut() {
-            Ok(mut output) => output.write(text),
-            Err(_) => Err(lent()),
-        }
+        self.output.write(text)
     }
 
     fn flush(&mut self) -> Result<()> {
-        match self.output.try_borrow_mut() {
-            Ok(mut output) => output.flush(),
-            Err(_) => Err(lent()),
-        }
+        self.output.flush()
     }
 }
 
@@ -48,18 +78,19 @@ impl<W: Write> Write for Answers<'_, W> {
 #[derive(Drop)]
 pub struct Messages<'a, E, W> {
     messages: E,
-    output: &'a RefCell<W>,
+    output: &'a Output<W>,
 }
 
 impl<'a, E, W> Messages<'a, E, W> {
-    pub fn new(messages: E, output: &'a RefCell<W>) -> Self {
+    /// Messages go into `messages`, answers into this output.
+    pub fn new(messages: E, output: &'a Output<W>) -> Self {
         Messages { messages, output }
     }
 }
 
 impl<E: Write, W: Write> Write for Messages<'_, E, W> {
     fn write(&mut self, text: &[u8]) -> Result<usize> {
-        flush_answers(self.output);
+        self.output.flush()?;
         self.messages.write(text)
     }
 
@@ -72,18 +103,19 @@ impl<E: Write, W: Write> Write for Messages<'_, E, W> {
 #[derive(Drop)]
 pub struct Questions<'a, R, W> {
     input: R,
-    output: &'a RefCell<W>,
+    output: &'a Output<W>,
 }
 
 impl<'a, R, W> Questions<'a, R, W> {
-    pub fn new(input: R, output: &'a RefCell<W>) -> Self {
+    /// Lines come from `input`, answers go into this output.
+    pub fn new(input: R, output: &'a Output<W>) -> Self {
         Questions { input, output }
     }
 }
 
 impl<R: Read, W: Write> Read for Questions<'_, R, W> {
     fn read(&mut self, bytes: &mut [u8]) -> Result<usize> {
-        flush_answers(self.output);
+        self.output.flush()?;
         self.input.read(bytes)
     }
 }

@@ -52,7 +52,7 @@ fn read_start(rt: &HostRuntime, name: &str) -> io::Result<Vec<u8>> {
 }
 
 /// The standard output behind a buffer.
-pub fn output(rt: &HostRuntime) -> Result<BufWriter<Stdout>, Refusal>
+pub fn standard_output(rt: &HostRuntime) -> Result<BufWriter<Stdout>, Refusal>
     ensures { IfErr result IsFault }
 {
     match BufWriter::new(rt.alloc(), rt.stdout()) {
