@@ -15,7 +15,7 @@ const TABLE: &[u8] = b"0061|0061-0061\n";
 
 const BLOCK: &[u8] = b"aa\taa\naaa\taaa\naaaa\taaaa\n#end 3\n";
 
-const SHARP_S: &[u8] = b"0073\n0073-0073|00DF\n00DF|0073-0073\n";
+const SHARP_S: &[u8] = b"0061\n0065\n0072\n0073\n0074\n0073-0073|00DF\n00DF|0073-0073\n";
 
 /// The second line is refused.
 const LABELS: &[u8] = b"fa\xC3\x9F\nFa\xC3\x9F\nabc\n";
@@ -157,8 +157,14 @@ fn output_fails_at_each_byte(rt: HostRuntime) -> Result<(), Fail> {
 /// A piece is cut where the writer cuts it, within a code point too.
 #[test]
 fn output_fails_within_a_code_point(rt: HostRuntime) -> Result<(), Fail> {
-    let given = with_output(SHARP_S, b"sss\n", 10);
-    stands(&rt, rt.alloc(), &given, b"sss\tsss\ns\xC3", WRITE_FAULT, 3)
+    for piece in [1, 4096] {
+        let given = Given {
+            piece,
+            ..with_output(SHARP_S, b"sss\n", 10)
+        };
+        stands(&rt, rt.alloc(), &given, b"sss\tsss\ns\xC3", WRITE_FAULT, 3)?;
+    }
+    Ok(())
 }
 
 /// A run with messages of so much room.

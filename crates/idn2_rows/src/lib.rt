@@ -14,3 +14,5 @@ mod listings;
 mod row;
 #[cfg(test)]
 mod tables;
+#[cfg(test)]
+mod words;

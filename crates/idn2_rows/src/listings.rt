@@ -102,8 +102,9 @@ const WHOLE: [Row; 12] = [
     },
 ];
 
-/// Listings with a start, a limit or a number of tries, for each line anew.
-const BOUNDED: [Row; 12] = [
+/// Listings with a start, a limit or a number of tries, for each line anew. Under the table `0061|002D` the
+/// candidates of `aaa` are `---`, `--a`, `-a-`, `-aa`, `a--`, `a-a`, `aa-` and `aaa`.
+const BOUNDED: [Row; 18] = [
     Row {
         words: &["--variants", "t", "--limit", "2", "--tries", "2"],
         table: b"0061\n0065\n0072\n0073\n0074\n0073-0073|00DF\n00DF|0073-0073\n",
@@ -197,6 +198,54 @@ const BOUNDED: [Row; 12] = [
         table: b"0061|002D\n",
         input: b"aaa\n",
         output: "a-a\ta-a\naaa\taaa\n#end 2\n",
+        messages: "",
+        status: 0,
+    },
+    Row {
+        words: &["--variants", "t", "--limit", "1"],
+        table: b"0061|002D\n",
+        input: b"aaa\n",
+        output: "a-a\ta-a\n#stop 1 a-a\n",
+        messages: "",
+        status: 0,
+    },
+    Row {
+        words: &["--variants", "t", "--limit", "1", "--tries", "5"],
+        table: b"0061|002D\n",
+        input: b"aaa\n",
+        output: "#stop 0 a--\n",
+        messages: "",
+        status: 0,
+    },
+    Row {
+        words: &["--variants", "t", "--limit", "3"],
+        table: b"0061|002D\n",
+        input: b"aaa\n",
+        output: "a-a\ta-a\naaa\taaa\n#end 2\n",
+        messages: "",
+        status: 0,
+    },
+    Row {
+        words: &["--variants", "t", "--tries", "8"],
+        table: b"0061|002D\n",
+        input: b"aaa\n",
+        output: "a-a\ta-a\naaa\taaa\n#stop 2 aaa\n",
+        messages: "",
+        status: 0,
+    },
+    Row {
+        words: &["--variants", "t", "--tries", "9"],
+        table: b"0061|002D\n",
+        input: b"aaa\n",
+        output: "a-a\ta-a\naaa\taaa\n#end 2\n",
+        messages: "",
+        status: 0,
+    },
+    Row {
+        words: &["--variants", "t", "--limit", "1"],
+        table: b"0061|002D\n",
+        input: b"aaa\naaa\n",
+        output: "a-a\ta-a\n#stop 1 a-a\na-a\ta-a\n#stop 1 a-a\n",
         messages: "",
         status: 0,
     },

@@ -23,16 +23,21 @@ pub struct Row {
     pub status: u8,
 }
 
-/// The options of these words.
-pub fn options_of(alloc: Global, words: &[&str]) -> Result<Options, Fail>
-    ensures { IfOk result IsWithinLimits }
-{
+/// The words of a command line: the program's name, and these behind it.
+pub fn line_of(alloc: Global, words: &[&str]) -> Result<Vec<String>, Fail> {
     let mut all = Vec::new(alloc);
     all.push(String::from_str(alloc, "idn2")?)?;
     for word in words {
         all.push(String::from_str(alloc, word)?)?;
     }
-    let options = read_options(alloc, &all)?;
+    Ok(all)
+}
+
+/// The options of these words.
+pub fn options_of(alloc: Global, words: &[&str]) -> Result<Options, Fail>
+    ensures { IfOk result IsWithinLimits }
+{
+    let options = read_options(alloc, &line_of(alloc, words)?)?;
     Ok(options)
 }
 
