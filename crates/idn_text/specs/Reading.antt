@@ -1,5 +1,5 @@
 -- The numbered lines of what a reader gave.
-use Rattle.std.specs.Prelude.{◌≡◌, ℕ, ◌+◌, ◌^◌, ◌⊎◌, ◌<◌, ◌≤◌, List, [], ◌∷◌, length, take, Option, Some, None, Bool, true, Result, Ok, Err}
+use Rattle.std.specs.Prelude.{◌≡◌, ℕ, ◌+◌, ◌^◌, ◌⊎◌, ◌<◌, ◌≤◌, List, [], ◌∷◌, length, take, Option, Some, None, Bool, true, false, Result, Ok, Err}
 use Rattle.std.specs.Io.KnownBytes.{Consumes}
 use Rattle.idn_text.specs.declared.lines.Line.{Line}
 use Rattle.idn_text.specs.declared.lines.ReadFault.{ReadFault}
@@ -66,6 +66,12 @@ abbrev pub answered : Result (Option Line) ReadFault → List Numbered
 answered (Ok (Some line)) = numbered_line line ∷ []
 answered (Ok None) = []
 answered (Err fault) = []
+
+-- what a call that reads into a line answers: that line, where it tells that there was one
+abbrev pub read_into : Result Bool ReadFault → Line → Result (Option Line) ReadFault
+read_into (Ok true) line = Ok (Some line)
+read_into (Ok false) line = Ok None
+read_into (Err fault) line = Err fault
 
 -- the state that a call leaves
 abbrev pub IsLeftBy : Result (Option Line) ReadFault → Reading → Type 0

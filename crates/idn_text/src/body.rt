@@ -24,6 +24,16 @@ impl Body {
         Body::Text(ArrayVec::new())
     }
 
+    /// Forgets the line.
+    pub(crate) fn clear(&mut self)
+        ensures { bytes_of self.new ≡ kept [] }
+    {
+        match self {
+            Body::Text(text) => text.clear(),
+            Body::TooLong => *self = Body::new(),
+        }
+    }
+
     /// Adds bytes to the line.
     pub(crate) fn extend(&mut self, bytes: &[u8])
         ensures { (line : List ℕ) → bytes_of self.old ≡ kept line → bytes_of self.new ≡ kept (line ++ bytes.now) }

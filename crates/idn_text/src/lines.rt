@@ -1,6 +1,7 @@
 //! The numbered lines of a reader.
 
-ghost use Rattle.std.specs.Prelude.{◌≡◌, ◌⊎◌, ℕ, List, [], ◌++◌, None, Ok, OnErr, IsErr};
+ghost use Rattle.std.specs.Prelude.{◌≡◌, ◌⊎◌, ℕ, List, [], ◌++◌, None, Some, Ok, OnErr, IsErr, false};
+ghost use Rattle.idn_text.specs.Bodies.{bytes_of};
 
 use crate::body::Body;
 use crate::device::Source;
@@ -19,10 +20,23 @@ pub struct ReadFault;
 /// A line and its number, from 1.
 #[derive(Debug, Drop)]
 pub struct Line {
-    /// From 1 to 4,294,967,296; a line that is too long counts too.
+    /// From 1 to 4,294,967,296, or 0 where no line was read; a line that is too long counts too.
     pub number: u64,
     /// The line without its end, or that it is too long.
     pub body: Body,
+}
+
+impl Line {
+    /// A line to be read into: number 0, and no byte.
+    pub fn new() -> Self
+        ensures number { result.number ≡ 0 }
+        ensures body { bytes_of result.body ≡ Some [] }
+    {
+        Line {
+            number: 0,
+            body: Body::new(),
+        }
+    }
 }
 
 /// How far lines were read: on to a next one, to the end, or to a fault.
@@ -55,7 +69,7 @@ impl<R: Source> Model for Lines<R> {
 
 impl<R: Source> Lines<R> {
     ghost use Rattle.idn_text.specs.Lines.{Numbered};
-    ghost use Rattle.idn_text.specs.Reading.{Reading, HasRead, HasStopped, IsLeftBy, answered, unread};
+    ghost use Rattle.idn_text.specs.Reading.{Reading, HasRead, HasStopped, IsLeftBy, answered, read_into, unread};
     ghost use Rattle.idn_text.specs.declared.lines.State.TheVariants.{Open, Ended, Stopped};
 
     /// The lines of what a reader gives from here on. It is not asked yet.
@@ -88,38 +102,55 @@ impl<R: Source> Lines<R> {
         ensures ended { self.old.state ≡ Ended → (result ≡ Ok None) × (self.new ≡ self.old) }
         ensures stopped { self.old.state ≡ Stopped → IsErr result × (self.new ≡ self.old) }
     {
+        let mut line = Line::new();
+        if self.read_line(&mut line)? {
+            Ok(Some(line))
+        } else {
+            Ok(None)
+        }
+    }
+
+    /// Reads the next line in the place of one that is done with, and tells whether there was one. At
+    /// the end and at a fault, which are as `next_line` tells them, no line stands there.
+    pub fn read_line(&mut self, line: &mut Line) -> Result<bool, ReadFault>
+        ensures lines { (start : Reading) (given : List ℕ) (lines : List Numbered) → HasRead start self.old given lines →
+            (more : List ℕ) × HasRead start self.new (given ++ more) (lines ++ answered (read_into result line.new)) }
+        ensures state { IsLeftBy (read_into result line.new) self.new }
+
+        ensures cause { OnErr result ((self.old.state ≡ Stopped) ⊎ HasStopped self.new) }
+        ensures ended { self.old.state ≡ Ended → (result ≡ Ok false) × (self.new ≡ self.old) }
+        ensures stopped { self.old.state ≡ Stopped → IsErr result × (self.new ≡ self.old) }
+    {
         match self.state {
-            State::Open => self.read_line(),
-            State::Ended => Ok(None),
+            State::Open => self.read_open(line),
+            State::Ended => Ok(false),
             State::Stopped => Err(ReadFault),
         }
     }
 
-    /// The next line, where neither the end nor a fault was met yet.
-    fn read_line(&mut self) -> Result<Option<Line>, ReadFault>
+    /// Reads the next line, where neither the end nor a fault was met yet.
+    fn read_open(&mut self, line: &mut Line) -> Result<bool, ReadFault>
         requires { self.old.state ≡ Open }
         ensures lines { (start : Reading) (given : List ℕ) (lines : List Numbered) → HasRead start self.old given lines →
-            (more : List ℕ) × HasRead start self.new (given ++ more) (lines ++ answered result) }
-        ensures state { IsLeftBy result self.new }
+            (more : List ℕ) × HasRead start self.new (given ++ more) (lines ++ answered (read_into result line.new)) }
+        ensures state { IsLeftBy (read_into result line.new) self.new }
         ensures cause { OnErr result (HasStopped self.new) }
     {
         // What leaves early below is a fault.
         self.state = State::Stopped;
-        let mut body = Body::new();
-        let has_feed = self.input.take_line(&mut body)?;
-        if !has_feed && body.is_empty() {
+        line.body.clear();
+        let has_feed = self.input.take_line(&mut line.body)?;
+        if !has_feed && line.body.is_empty() {
             self.state = State::Ended;
-            return Ok(None);
+            return Ok(false);
         }
         if self.number == LINE_LIMIT {
             return Err(ReadFault);
         }
         self.number += 1;
         self.state = if has_feed { State::Open } else { State::Ended };
-        body.drop_carriage_return();
-        Ok(Some(Line {
-            number: self.number,
-            body,
-        }))
+        line.number = self.number;
+        line.body.drop_carriage_return();
+        Ok(true)
     }
 }

@@ -4,8 +4,8 @@ use Rattle.idn_text.specs.Taking.{HasEnded}
 use Rattle.idn_text.specs.Reading.{Reading, HasRead}
 use Rattle.idn_text.specs.declared.lines.State.TheVariants.{Open, Ended}
 use Rattle.idn_text.proofs.ReadingLemmas.{has_next, has_failed, has_too_many}
-use Rattle.idn_text.proofs.lines.Lines.read_line.Goals as goal
-use Rattle.idn_text.proofs.lines.Lines.read_line.Goals.{then-has_feed, else-has_feed, else-not-has_feed-via-then-not-has_feed+else-is_empty, else-not-has_feed-via-else-not-has_feed}
+use Rattle.idn_text.proofs.lines.Lines.read_open.Goals as goal
+use Rattle.idn_text.proofs.lines.Lines.read_open.Goals.{then-has_feed, else-has_feed, else-not-has_feed-via-then-not-has_feed+else-is_empty, else-not-has_feed-via-else-not-has_feed}
 
 pub returns-in_err-has_feed-clause-lines : goal.returns-in_err-has_feed-clause-lines
 returns-in_err-has_feed-clause-lines g c start given lines has =
