@@ -16,7 +16,7 @@ use Rattle.idn_label.specs.ALabel.{a_label_of}
 use Rattle.idn_label.specs.Examples.{HaveALabels, HaveFirstFaults, HaveRegisterAnswers, HaveDecodeAnswers, HaveLookupAnswers, a_labels, first_faults, first_faults_of_two, register_answers, decode_answers, lookup_answers}
 use Rattle.idn_label.specs.Answers.{and_then}
 use Rattle.idn_label.specs.Decode.{decoded_label, decoded_labels, decode_answer, with_others}
-use Rattle.idn_label.specs.Lookup.{lookup_answer}
+use Rattle.idn_label.specs.Lookup.{query_name}
 use Rattle.idn_label.specs.Register.{decoded_code, u_label_answer}
 use Rattle.idn_label.proofs.AnswerLemmas.{tested_answer-ok, tested_answer-fault, confirmed-same, confirmed-other, confirmed-fault, u_label_answer-code_fault, u_label_answer-confirmed, register_answer-fault, register_answer-coded}
 use Rattle.idn_label.specs.FirstFault.{first_of, fault_if, fault_of_class, code_point_fault, has_hyphen_out_of_place, is_too_long, first_fault}
@@ -144,5 +144,5 @@ pub HaveDecodeAnswers-decode_answers : HaveDecodeAnswers decode_answers
 HaveDecodeAnswers-decode_answers = (decoded_nothing, (decoded_sharp_s, (decoded_china, (decoded_refusal, tt))))
 
 pub HaveLookupAnswers-lookup_answers : HaveLookupAnswers lookup_answers
-unfolding idna lookup_answer
+unfolding idna query_name
 HaveLookupAnswers-lookup_answers = (refl, (refl, (refl, (refl, (refl, (refl, (refl, (refl, tt))))))))

@@ -18,6 +18,10 @@ abbrev pub measured_answer : Option (List ℕ) → Answer
 measured_answer None = Err LookupInvalid
 measured_answer (Some ascii) = if verify_dns_length ascii true then Ok ascii else Err LookupLength
 
--- ToASCII (UTS 46 section 4.2) of the name's UTF-8: nontransitional, CheckBidi and CheckJoiners true, CheckHyphens and VerifyDnsLength false
-unfoldable pub lookup_answer : List ℕ → Bool → Answer
-lookup_answer name std3 = measured_answer (to_ascii (deny_list std3) Allow Ignore (utf8_of name))
+-- ToASCII (UTS 46 section 4.2) of a name in UTF-8: nontransitional, CheckBidi and CheckJoiners true, CheckHyphens and VerifyDnsLength false
+unfoldable pub query_name : List ℕ → Bool → Answer
+query_name utf8 std3 = measured_answer (to_ascii (deny_list std3) Allow Ignore utf8)
+
+-- the name as a query sends it
+abbrev pub lookup_answer : List ℕ → Bool → Answer
+lookup_answer name std3 = query_name (utf8_of name) std3

@@ -1,6 +1,6 @@
-use Rattle.std.proofs.Common.{◌≡◌, sym, ap, ◌∙◌, None, Some}
+use Rattle.std.proofs.Common.{sym, ap, ◌∙◌}
 use Rattle.std.proofs.lemmas.Result.{err_from_is_err_and, on_ok_weaker, MatchResult-weaker}
-use Rattle.idn_label.specs.FirstFault.{code_point_fault, first_fault}
+use Rattle.idn_label.specs.FirstFault.{code_point_fault}
 use Rattle.idn_label.specs.Steps.{rule_fault}
 use Rattle.idn_label.proofs.PlainLemmas.{not_plain, first_fault-points, first_fault-rules, first_fault-short}
 use Rattle.idn_label.proofs.u_label.check_encoded.Goals as goal

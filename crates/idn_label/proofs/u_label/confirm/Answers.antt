@@ -1,4 +1,4 @@
-use Rattle.std.proofs.Common.{◌≡◌, ◌≤◌, true, false, length, codes, ◌++◌, refl, sym, subst, ◌∙◌}
+use Rattle.std.proofs.Common.{◌≡◌, ◌≤◌, true, false, length, refl, sym, subst, ◌∙◌}
 use Rattle.std.proofs.lemmas.Result.{err_from_is_err_and}
 use Rattle.idn_label.proofs.AnswerLemmas.{confirmed-same, confirmed-other, confirmed-fault, ace_label-again, a_label_of-not_ascii, Gives-confirmed}
 use Rattle.idn_label.proofs.u_label.confirm.Goals as goal
