@@ -1,13 +1,21 @@
 -- What the bytes of a line are answered, by the code points that they spell.
-use Rattle.std.proofs.Common.{◌≡◌, ◌==◌, ℕ, List, [], ◌∷◌, Bool, true, false, ◌&&◌, length, chars, Err, if◌then◌else◌, refl, ap, ◌∙◌}
+use Rattle.std.proofs.Common.{◌≡◌, ◌==◌, ℕ, List, [], ◌∷◌, Bool, true, false, ◌&&◌, ◌++◌, length, chars, Result, Ok, Err, if◌then◌else◌, refl, sym, ap, ◌∙◌, inl, inr, arith}
+use Rattle.std.specs.Result.{is_err}
+use Rattle.std.proofs.lemmas.Bool.{cases_Bool}
+use Rattle.std.proofs.lemmas.Bool.Decides.{nat_tests}
 use Rattle.std.specs.Str.{is_utf8, all_scalars, IsUtf8}
 use Rattle.std.specs.List.{AllByRecursion}
 use Rattle.std.proofs.lemmas.Str.{IsUtf8-from_is_utf8, is_utf8-from_IsUtf8}
 use Rattle.std.proofs.lemmas.List.Elements.{All-from_recursion}
-use Rattle.idn_text.specs.Points.{is_scalar_value, IsScalarValue, IsUtf8Of}
-use Rattle.idn_text.specs.declared.refusal.Refusal.TheVariants.{NotUtf8, Empty}
+use Rattle.idn_text.specs.Points.{is_scalar_value, IsScalarValue, IsUtf8Of, utf8_of}
+use Rattle.idn_text.specs.declared.refusal.Refusal.TheVariants.{NotUtf8, Empty, LookupInvalid}
+use Rattle.idn_text.specs.declared.refusal.Refusal.{Refusal}
+use Rattle.idn_label.specs.Lookup.{lookup_answer, query_name}
+use Rattle.idn_label.proofs.LookupLemmas.{query_name-not_utf8}
+use Rattle.idn2_cli.specs.Pieces.{Output}
+use Rattle.idn2_cli.specs.Transcript.{pieces_for}
 use Rattle.idn_text.proofs.Utf8Lemmas.{IsUtf8-from_points, points_from_utf8}
-use Rattle.idn2_cli.specs.LineAnswers.{LineAnswer, text_answer}
+use Rattle.idn2_cli.specs.LineAnswers.{LineAnswer, one_line, with_feed, text_answer, query_answer}
 
 and_parts : (a b : Bool) → (a && b) ≡ true → (a ≡ true) × (b ≡ true)
 and_parts true b e = (refl, e)
@@ -44,3 +52,56 @@ text_answer-points answer bytes points is some =
     ap (λ (b : Bool). if b then (if length bytes == 0 then Err Empty else answer (chars bytes)) else Err NotUtf8) utf8
     ∙ ap (λ (b : Bool). let r : LineAnswer = if b then Err Empty else answer (chars bytes) in r) some
     ∙ ap answer (points_from_utf8 bytes points is)
+
+-- what lookup answers to bytes, by the name that they are in a query
+pub text_answer-query : (std3 : Bool) (bytes : List ℕ) → text_answer (λ name. one_line (lookup_answer name std3)) bytes ≡ one_line (query_answer std3 bytes)
+unfolding query_answer
+text_answer-query std3 bytes =
+    elim (cases_Bool (is_utf8 bytes)) [
+      | inl utf8 ↦
+          let is = IsUtf8-from_is_utf8 bytes utf8 in
+          let named : utf8_of (chars bytes) ≡ bytes = ap utf8_of (points_from_utf8 bytes is.0 (points_of bytes is)) ∙ is.1.1 in
+          elim (cases_Bool (length bytes == 0)) [
+            | inl empty ↦ rw (utf8, empty) refl
+            | inr some ↦ rw (utf8, some, named) refl
+          ]
+      | inr other ↦ rw other refl
+    ]
+
+query_answer-utf8 : (std3 : Bool) (bytes : List ℕ) (answer : Result (List ℕ) Refusal) → (length bytes == 0) ≡ false → is_utf8 bytes ≡ true → query_name bytes std3 ≡ answer → query_answer std3 bytes ≡ answer
+unfolding query_answer
+query_answer-utf8 std3 bytes answer some utf8 is = rw (utf8, some) is
+
+pub query_answer-name : (std3 : Bool) (bytes name : List ℕ) → (length bytes == 0) ≡ false → query_name bytes std3 ≡ Ok name → query_answer std3 bytes ≡ Ok name
+query_answer-name std3 bytes name some is =
+    elim (cases_Bool (is_utf8 bytes)) [
+      | inl utf8 ↦ query_answer-utf8 std3 bytes (Ok name) some utf8 is
+      | inr other ↦ absurd (let clash : Err LookupInvalid ≡ Ok name = sym (query_name-not_utf8 bytes std3 other) ∙ is in cc)
+    ]
+
+pub query_answer-fault : (std3 : Bool) (bytes : List ℕ) (refusal : Refusal) → (length bytes == 0) ≡ false → is_utf8 bytes ≡ true → query_name bytes std3 ≡ Err refusal → query_answer std3 bytes ≡ Err refusal
+query_answer-fault std3 bytes refusal some utf8 is = query_answer-utf8 std3 bytes (Err refusal) some utf8 is
+
+pub query_answer-not_utf8 : (std3 : Bool) (bytes : List ℕ) → is_utf8 bytes ≡ false → query_answer std3 bytes ≡ Err NotUtf8
+unfolding query_answer
+query_answer-not_utf8 std3 bytes other = rw other refl
+
+pub query_answer-empty : (std3 : Bool) (bytes : List ℕ) → (length bytes == 0) ≡ true → query_answer std3 bytes ≡ Err Empty
+unfolding query_answer
+query_answer-empty std3 [] empty = let utf8 : is_utf8 [] ≡ true = is_utf8-from_IsUtf8 [] ([], (refl, refl)) in rw utf8 refl
+query_answer-empty std3 (c ∷ cs) empty = let some : (length (c ∷ cs) == 0) ≡ false = grind (arith, nat_tests) in absurd (let clash : true ≡ false = sym empty ∙ some in cc)
+
+-- ---- one line
+
+-- the answer is told by its line, or by its refusal
+pub pieces_for-line : (number : ℕ) (answer : Result (List ℕ) Refusal) (line : List ℕ) → with_feed answer ≡ Ok line → pieces_for number (one_line answer) ≡ Output line ∷ []
+pieces_for-line number (Ok text) line is = let same : text ++ 10 ∷ [] ≡ line = cc in ap (λ x. Output x ∷ []) same
+pieces_for-line number (Err refusal) line is = absurd (let clash : Err refusal ≡ Ok line = is in cc)
+
+pub one_line-refused : (answer : Result (List ℕ) Refusal) (refusal : Refusal) → with_feed answer ≡ Err refusal → one_line answer ≡ Err refusal
+one_line-refused (Ok text) refusal is = absurd (let clash : Ok (text ++ 10 ∷ []) ≡ Err refusal = is in cc)
+one_line-refused (Err other) refusal is = let same : other ≡ refusal = cc in ap Err same
+
+pub one_line-answered : (answer : Result (List ℕ) Refusal) (line : List ℕ) → with_feed answer ≡ Ok line → is_err (one_line answer) ≡ false
+one_line-answered (Ok text) line is = refl
+one_line-answered (Err refusal) line is = absurd (let clash : Err refusal ≡ Ok line = is in cc)

@@ -1,5 +1,5 @@
 -- What a line of input is answered: lines for the output, or a refusal.
-use Rattle.std.specs.Prelude.{ℕ, ◌==◌, List, [], ◌∷◌, ◌++◌, length, chars, Option, Some, None, Result, Ok, Err, if◌then◌else◌}
+use Rattle.std.specs.Prelude.{ℕ, ◌==◌, Bool, List, [], ◌∷◌, ◌++◌, length, chars, Option, Some, None, Result, Ok, Err, if◌then◌else◌}
 use Rattle.std.specs.Str.{is_utf8}
 use Rattle.idn_text.specs.Points.{utf8_of}
 use Rattle.idn_text.specs.declared.refusal.Refusal.{Refusal}
@@ -7,7 +7,7 @@ use Rattle.idn_text.specs.declared.refusal.Refusal.TheVariants.{LineTooLong, Not
 use Rattle.idn_label.specs.FirstFault.{first_fault}
 use Rattle.idn_label.specs.Register.{register_answer}
 use Rattle.idn_label.specs.Decode.{decode_answer}
-use Rattle.idn_label.specs.Lookup.{lookup_answer}
+use Rattle.idn_label.specs.Lookup.{lookup_answer, query_name}
 use Rattle.variant_table.specs.Entries.{Entry}
 use Rattle.variant_list.specs.Spelled.{spelled}
 use Rattle.idn2_cli.specs.Settings.{Settings}
@@ -59,6 +59,11 @@ mode_answer CheckTable o table label = Ok []
 abbrev pub text_answer : (List ℕ → LineAnswer) → List ℕ → LineAnswer
 text_answer answer bytes =
     if is_utf8 bytes then (if length bytes == 0 then Err Empty else answer (chars bytes)) else Err NotUtf8
+
+-- the name that the bytes of a line are in a query
+unfoldable pub query_answer : Bool → List ℕ → Result (List ℕ) Refusal
+query_answer std3 bytes =
+    if is_utf8 bytes then (if length bytes == 0 then Err Empty else query_name bytes std3) else Err NotUtf8
 
 -- the answer to the body of a line, which may be too long
 abbrev pub line_answer : (List ℕ → LineAnswer) → Option (List ℕ) → LineAnswer

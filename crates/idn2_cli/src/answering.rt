@@ -2,8 +2,7 @@
 
 ghost use Rattle.std.specs.Prelude.{◌≡◌, ◌≢◌, ◌≤◌, ℕ, List, [], ◌∷◌, length, IfOk, Err, false};
 ghost use Rattle.std.specs.Result.{is_err};
-ghost use Rattle.idn_text.specs.Points.{AreScalarValues};
-ghost use Rattle.idn2_cli.specs.LineAnswers.{LineAnswer};
+ghost use Rattle.idn2_cli.specs.LineAnswers.{LineAnswer, text_answer};
 ghost use Rattle.idn2_cli.specs.Pieces.{Output};
 ghost use Rattle.idn2_cli.specs.Transcript.{pieces_for};
 ghost use Rattle.idn2_cli.specs.Consoles.{held_by, HasSameWriters};
@@ -12,32 +11,34 @@ ghost use Rattle.idn2_cli.specs.Emitting.{Emits};
 use crate::console::Console;
 use crate::message::line_message;
 use crate::stop::Stop;
+use arrayvec::ArrayVec;
 use idn_text::{Refusal, Sink};
 use std::alloc::Global;
 
-/// A mode that answers each line by its code points alone.
-pub(crate) trait Answering {
+/// A mode that answers each line by itself.
+pub trait Answering {
     // The answer to the code points of a line.
     ghost answer_of: { Self → List ℕ → LineAnswer };
 
     // What the mode needs to answer.
     ghost is_ready: { Self → Type 0 } = { λ _. Unit {0} };
 
-    /// Writes the answer to a line of this number, and tells whether it is a refusal.
+    /// Writes the answer to the bytes of a line of this number, and tells whether it is a refusal.
+    /// `points` is room for code points.
     fn answer<W: Sink, E: Sink>(
         &self,
         alloc: Global,
         number: u64,
-        points: &[u32],
+        text: &[u8],
+        points: &mut ArrayVec<u32, 1024>,
         console: &mut Console<'_, '_, W, E>,
     ) -> Result<bool, Stop>
         requires ready { is_ready self.now }
-        requires few { length points.now ≤ 1024 }
-        requires scalar_values { AreScalarValues points.now }
+        requires few { length text.now ≤ 1024 }
         ensures written { Emits (held_by W.contents W.has_failed W.faults E.contents E.has_failed E.faults console.old)
             (held_by W.contents W.has_failed W.faults E.contents E.has_failed E.faults console.new)
-            (pieces_for number (answer_of self.now points.now)) result }
-        ensures refused { IfOk result (λ refused. refused ≡ is_err (answer_of self.now points.now)) }
+            (pieces_for number (text_answer (answer_of self.now) text.now)) result }
+        ensures refused { IfOk result (λ refused. refused ≡ is_err (text_answer (answer_of self.now) text.now)) }
         ensures same { HasSameWriters console.old console.new };
 }
 

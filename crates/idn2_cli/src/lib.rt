@@ -3,6 +3,7 @@
 
 mod answering;
 mod block;
+mod by_points;
 mod command;
 mod console;
 mod count;

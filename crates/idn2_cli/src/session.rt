@@ -15,6 +15,7 @@ ghost use Rattle.idn2_cli.specs.Ends.{Ends, Closes, refusal_of};
 ghost use Rattle.idn2_cli.specs.Sessions.{HasFinished, HasHalted};
 ghost use Rattle.idn2_cli.specs.declared.stop.Stop.TheVariants as stop;
 
+use crate::by_points::ByPoints;
 use crate::console::Console;
 use crate::fault::report;
 use crate::mode::Mode;
@@ -99,8 +100,8 @@ fn serve_mode<R: Source, W: Sink, E: Sink>(
             let mode = Lookup { std3: options.std3 };
             serve_lines(alloc, &mode, input, console)
         }
-        Mode::Register => serve_lines(alloc, &Register, input, console),
-        Mode::Decode => serve_lines(alloc, &Decode, input, console),
+        Mode::Register => serve_lines(alloc, &ByPoints { mode: &Register }, input, console),
+        Mode::Decode => serve_lines(alloc, &ByPoints { mode: &Decode }, input, console),
         Mode::Variants => serve_variants(alloc, options, table, input, console),
         Mode::CheckTable => serve_check(alloc, table, console),
     }
@@ -135,7 +136,7 @@ fn serve_variants<R: Source, W: Sink, E: Sink>(
         table: &table,
         options,
     };
-    serve_lines(alloc, &mode, input, console)
+    serve_lines(alloc, &ByPoints { mode: &mode }, input, console)
 }
 
 /// Checks the table that a text spells, or tells the fault of the text.

@@ -1,5 +1,6 @@
 -- The name as a query sends it, by what ToASCII gives.
-use Rattle.std.proofs.Common.{◌≡◌, ◌≤◌, ℕ, ◌-◌, Bool, true, false, List, length, take, slice_index, Option, Some, None, Ok, Err, sym, ap, ◌∙◌, inl, inr, arith}
+use Rattle.std.proofs.Common.{◌≡◌, ◌≤◌, ℕ, ◌-◌, Bool, true, false, List, length, take, slice_index, Option, Some, None, Ok, Err, refl, sym, ap, ◌∙◌, inl, inr, arith}
+use Rattle.std.specs.Str.{is_utf8}
 use Rattle.std.proofs.lemmas.List.{length-take}
 use Rattle.std.proofs.lemmas.Bool.{cond-true, cond-false, cases_Bool, and_parts, leb-true}
 use Rattle.idna.specs.declared.deny_list.AsciiDenyList.{AsciiDenyList}
@@ -39,3 +40,8 @@ verified-fits name fits =
           let whole = short_name name (sym (cond-false _ _ _ other) ∙ fits) in
           omega (arith, whole)
     ]
+
+-- bytes that are no UTF-8 are refused
+pub query_name-not_utf8 : (bytes : List ℕ) (std3 : Bool) → is_utf8 bytes ≡ false → query_name bytes std3 ≡ Err LookupInvalid
+unfolding query_name to_ascii
+query_name-not_utf8 bytes std3 other = rw other refl

@@ -18,7 +18,7 @@ pub use decoding::decode_name;
 pub use first_fault::test_label;
 pub use laws::{definitions_give_the_examples, no_fault_means_all_requirements};
 pub use registration::register;
-pub use to_ascii::{QueryName, lookup, lookup_utf8};
+pub use to_ascii::{lookup, lookup_utf8};
 
 #[cfg(test)]
 mod tests;

@@ -1,5 +1,6 @@
 //! Lookup of a name.
-ghost use Rattle.std.specs.Prelude.{◌≡◌, ◌≢◌, string_bytes, Err, IfOk};
+ghost use Rattle.std.specs.Prelude.{◌≡◌, ◌≢◌, ◌≤◌, length, string_bytes, Err, IfOk};
+ghost use Rattle.std.specs.Cow.{cow_str_bytes};
 ghost use Rattle.idna.specs.Display.{IsPlain};
 ghost use Rattle.idna.specs.declared.options.Hyphens.TheVariants.{Allow};
 ghost use Rattle.idn_text.specs.Points.{AreScalarValues, utf8_of};
@@ -7,14 +8,11 @@ ghost use Rattle.idn_label.specs.Answers.{Gives};
 ghost use Rattle.idn_label.specs.Lookup.{deny_list, query_name, lookup_answer};
 
 use crate::code_points::to_char;
-use arrayvec::ArrayString;
 use idn_text::Refusal;
 use idna::uts46::verify_dns_length;
 use idna::{AsciiDenyList, Errors, domain_to_ascii_cow};
 use std::alloc::{AllocError, Global};
-
-/// A name of at most 253 octets, and a full stop that may stand behind it.
-pub type QueryName = ArrayString<254>;
+use std::borrow::CowStr;
 
 /// The name as a query sends it: the ToASCII operation of UTS 46 without transitional processing, with the checks of
 /// joiners and of the Bidi rule, and with UseSTD3ASCIIRules if `std3`. A full stop at its end stays.
@@ -27,13 +25,14 @@ pub fn lookup(alloc: Global, name: &[u32], std3: bool) -> Result<String, Refusal
 {
     let text = utf8(alloc, name)?;
     let query = lookup_utf8(alloc, &text, std3)?;
-    Ok(String::from_str(alloc, query.as_str())?)
+    Ok(query.into_owned(alloc)?)
 }
 
 /// `lookup` of a name in UTF-8 (RFC 3629). Other bytes are refused as `LookupInvalid`. A name in ASCII takes no memory
-/// where none of its labels begins with `xn--` and its octets are allowed.
-pub fn lookup_utf8(alloc: Global, name: &[u8], std3: bool) -> Result<QueryName, Refusal>
-    ensures answer { Gives (λ query. query.bytes) result (query_name name.now std3) }
+/// where none of its labels begins with `xn--` and its octets are allowed; what is sent has at most 254 octets.
+pub fn lookup_utf8<'a>(alloc: Global, name: &'a [u8], std3: bool) -> Result<CowStr<'a>, Refusal>
+    ensures answer { Gives cow_str_bytes result (query_name name.now std3) }
+    ensures short { IfOk result (λ query. length (cow_str_bytes query) ≤ 254) }
     ensures plain { IsPlain (deny_list std3) Allow name.now → result ≢ Err Refusal.Memory }
 {
     let ascii = match domain_to_ascii_cow(alloc, name, deny_list(std3)) {
@@ -41,13 +40,11 @@ pub fn lookup_utf8(alloc: Global, name: &[u8], std3: bool) -> Result<QueryName, 
         Err(Errors::Invalid) => return Err(Refusal::LookupInvalid),
         Err(Errors::OutOfMemory) => return Err(Refusal::Memory),
     };
-    let text = ascii.as_str();
-    if !verify_dns_length(text, true) {
-        return Err(Refusal::LookupLength);
+    if verify_dns_length(ascii.as_str(), true) {
+        Ok(ascii)
+    } else {
+        Err(Refusal::LookupLength)
     }
-    let mut query = QueryName::new();
-    query.push_str(text);
-    Ok(query)
 }
 
 fn deny_list(std3: bool) -> AsciiDenyList

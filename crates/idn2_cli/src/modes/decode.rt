@@ -6,7 +6,8 @@ ghost use Rattle.idn_label.specs.Answers.{Gives};
 ghost use Rattle.idn_label.specs.Decode.{decode_answer};
 ghost use Rattle.idn2_cli.specs.LineAnswers.{as_utf8, one_line, with_feed};
 
-use crate::answering::{Answering, refuse, reply};
+use crate::answering::{refuse, reply};
+use crate::by_points::PointAnswering;
 use crate::console::Console;
 use crate::stop::Stop;
 use idn_label::decode_name;
@@ -17,10 +18,10 @@ use std::alloc::{AllocError, Global};
 #[derive(Clone, Copy)]
 pub(crate) struct Decode;
 
-impl Answering for Decode {
+impl PointAnswering for Decode {
     ghost answer_of = { λ _ name. one_line (as_utf8 (decode_answer name)) };
 
-    fn answer<W: Sink, E: Sink>(
+    fn answer_points<W: Sink, E: Sink>(
         &self,
         alloc: Global,
         number: u64,

@@ -1,17 +1,20 @@
 //! Lookup: a name is answered by the name that a query has.
 
-ghost use Rattle.std.specs.Prelude.{◌≤◌, length, string_bytes};
-ghost use Rattle.idn_text.specs.Points.{AreScalarValues};
+ghost use Rattle.std.specs.Prelude.{◌≡◌, []};
+ghost use Rattle.std.specs.Str.{is_utf8};
 ghost use Rattle.idn_label.specs.Answers.{Gives};
 ghost use Rattle.idn_label.specs.Lookup.{lookup_answer};
-ghost use Rattle.idn2_cli.specs.LineAnswers.{one_line, with_feed};
+ghost use Rattle.idn2_cli.specs.LineAnswers.{one_line, with_feed, query_answer};
 
 use crate::answering::{Answering, refuse, reply};
 use crate::console::Console;
+use crate::line::append;
 use crate::stop::Stop;
-use idn_label::lookup;
+use arrayvec::ArrayVec;
+use idn_label::lookup_utf8;
 use idn_text::{Refusal, Sink};
 use std::alloc::Global;
+use std::str;
 
 /// Lookup (UTS 46 section 4.2).
 #[derive(Clone, Copy)]
@@ -27,23 +30,47 @@ impl Answering for Lookup {
         &self,
         alloc: Global,
         number: u64,
-        points: &[u32],
+        text: &[u8],
+        _points: &mut ArrayVec<u32, 1024>,
         console: &mut Console<'_, '_, W, E>,
     ) -> Result<bool, Stop> {
-        match line_of(alloc, points, self.std3) {
-            Ok(line) => reply(line.as_bytes(), console),
+        let mut line = ArrayVec::new();
+        match write_line(alloc, text, self.std3, &mut line) {
+            Ok(()) => reply(line.as_slice(), console),
             Err(refusal) => refuse(number, refusal, console),
         }
     }
 }
 
-/// The line of what a name is in a query.
-fn line_of(alloc: Global, name: &[u32], std3: bool) -> Result<String, Refusal>
-    requires few { length name.now ≤ 1024 }
-    requires scalar_values { AreScalarValues name.now }
-    ensures { Gives string_bytes result (with_feed (lookup_answer name.now std3)) }
+/// Leaves in `line`, which is empty, the line of what a name is in a query.
+fn write_line(
+    alloc: Global,
+    name: &[u8],
+    std3: bool,
+    line: &mut ArrayVec<u8, 255>,
+) -> Result<(), Refusal>
+    requires { line.old.items ≡ [] }
+    ensures { Gives (λ _. line.new.items) result (with_feed (query_answer std3 name.now)) }
 {
-    let mut line = lookup(alloc, name, std3)?;
-    line.push('\n')?;
-    Ok(line)
+    if name.is_empty() {
+        return Err(Refusal::Empty);
+    }
+    match lookup_utf8(alloc, name, std3) {
+        Ok(query) => {
+            append(line, query.as_str().as_bytes());
+            line.push(b'\n');
+            Ok(())
+        }
+        Err(refusal) if is_utf8(name) => Err(refusal),
+        Err(_) => Err(Refusal::NotUtf8),
+    }
+}
+
+fn is_utf8(text: &[u8]) -> bool
+    ensures { result ≡ is_utf8 text.now }
+{
+    match str::from_utf8(text) {
+        Ok(_) => true,
+        Err(_) => false,
+    }
 }

@@ -5,7 +5,8 @@ ghost use Rattle.idn_label.specs.Answers.{Gives};
 ghost use Rattle.idn_label.specs.Register.{register_answer};
 ghost use Rattle.idn2_cli.specs.LineAnswers.{one_line, with_feed};
 
-use crate::answering::{Answering, refuse, reply};
+use crate::answering::{refuse, reply};
+use crate::by_points::PointAnswering;
 use crate::console::Console;
 use crate::stop::Stop;
 use arrayvec::ArrayVec;
@@ -17,10 +18,10 @@ use std::alloc::Global;
 #[derive(Clone, Copy)]
 pub(crate) struct Register;
 
-impl Answering for Register {
+impl PointAnswering for Register {
     ghost answer_of = { λ _ label. one_line (register_answer label) };
 
-    fn answer<W: Sink, E: Sink>(
+    fn answer_points<W: Sink, E: Sink>(
         &self,
         alloc: Global,
         number: u64,

@@ -11,8 +11,9 @@ ghost use Rattle.idn2_cli.specs.Transcript.{output_lines, pieces_for};
 ghost use Rattle.idn2_cli.specs.Emitting.{Emits};
 ghost use Rattle.idn2_cli.specs.Consoles.{held_by, HasSameWriters};
 
-use crate::answering::{Answering, refuse};
+use crate::answering::refuse;
 use crate::block::{is_reached, write_end, write_stop, write_variant};
+use crate::by_points::PointAnswering;
 use crate::console::Console;
 use crate::options::Options;
 use crate::stop::Stop;
@@ -31,12 +32,12 @@ pub(crate) struct Variants<'t> {
     pub options: &'t Options,
 }
 
-impl<'t> Answering for Variants<'t> {
+impl<'t> PointAnswering for Variants<'t> {
     ghost answer_of = { λ mode label. variants_answer mode.options.now mode.table.now label };
 
     ghost is_ready = { λ mode. IsWithinLimits mode.options.now × IsWellFormed mode.table.now };
 
-    fn answer<W: Sink, E: Sink>(
+    fn answer_points<W: Sink, E: Sink>(
         &self,
         alloc: Global,
         number: u64,

@@ -1,0 +1,29 @@
+use Rattle.std.proofs.Common.{Ok, sym, ap, ◌∙◌}
+use Rattle.idn2_cli.specs.LineAnswers.{query_answer}
+use Rattle.idn2_cli.proofs.TextAnswers.{text_answer-query, pieces_for-line, one_line-answered, one_line-refused}
+use Rattle.idn2_cli.proofs.modes.lookup.LookupAnswering.answer.Goals as goal
+
+pub returns-in-Ok-clause-written : goal.returns-in-Ok-clause-written
+returns-in-Ok-clause-written g c =
+    let std3 = c.args.self.now.std3 in
+    let text = c.args.text.now in
+    rw (text_answer-query std3 text, pieces_for-line c.args.number (query_answer std3 text) c.as_slice.result.now (c.in-Ok.ensures ∙ ap Ok (sym c.as_slice.ensures.value)))
+    c.reply.ensures.written
+
+pub returns-in-Ok-clause-refused : goal.returns-in-Ok-clause-refused
+returns-in-Ok-clause-refused g c =
+    let std3 = c.args.self.now.std3 in
+    let text = c.args.text.now in
+    rw (text_answer-query std3 text, one_line-answered (query_answer std3 text) _ c.in-Ok.ensures) c.reply.ensures.refused
+
+pub returns-in-Err-clause-written : goal.returns-in-Err-clause-written
+returns-in-Err-clause-written g c =
+    let std3 = c.args.self.now.std3 in
+    let text = c.args.text.now in
+    c.refuse.ensures.written _ (λ other. text_answer-query std3 text ∙ one_line-refused (query_answer std3 text) c.in-Err.refusal (c.in-Err.ensures other))
+
+pub returns-in-Err-clause-refused : goal.returns-in-Err-clause-refused
+returns-in-Err-clause-refused g c =
+    let std3 = c.args.self.now.std3 in
+    let text = c.args.text.now in
+    c.refuse.ensures.refused _ (λ other. text_answer-query std3 text ∙ one_line-refused (query_answer std3 text) c.in-Err.refusal (c.in-Err.ensures other))
