@@ -1,17 +1,19 @@
 -- How the answer of decoding grows label by label.
-use Rattle.std.proofs.Common.{◌≡◌, ◌≢◌, ℕ, ◌+◌, ◌<◌, ◌≤◌, true, false, Option, Some, None, IfSome, List, [], ◌∷◌, ◌++◌, map, take, drop, get_or, length, All, Result, Ok, Err, refl, sym, ap, subst, ◌∙◌, inl, inr, append_assoc, take-append-drop, eq-eqb, arith}
-use Rattle.std.specs.Char.{to_ascii_lowercase}
-use Rattle.std.proofs.lemmas.Bool.{cases_Bool, cond-true, cond-false}
+use Rattle.std.proofs.Common.{◌≡◌, ◌≢◌, ℕ, ◌+◌, ◌<◌, ◌≤◌, true, false, not, Option, Some, None, IfSome, List, [], ◌∷◌, ◌++◌, map, take, drop, get_or, length, All, Result, Ok, Err, refl, sym, ap, subst, ◌∙◌, inl, inr, append_assoc, take-append-drop, eq-eqb, arith}
+use Rattle.std.specs.Char.{is_ascii_uppercase, to_ascii_lowercase}
+use Rattle.std.specs.List.{list_all}
+use Rattle.std.proofs.lemmas.List.Elements.{All-weaker}
+use Rattle.std.proofs.lemmas.List.Sums.{AllPass-from_list_all}
+use Rattle.std.proofs.lemmas.Bool.{cases_Bool, cond-true, cond-false, not-true}
 use Rattle.std.proofs.lemmas.Bool.Decides.{nat_tests}
 use Rattle.std.proofs.lemmas.List.{drop_more, length-map}
-use Rattle.std.proofs.Math.Seq.{drop-append_seam}
 use Rattle.std.specs.Borrow.{Bor}
 use Rattle.std.specs.Option.{option_map_or}
 use Rattle.std.proofs.lemmas.List.Splits.{slice_split_at}
 use Rattle.idna.specs.Labels.{is_full_stop, labels_of, join_labels}
 use Rattle.idna.specs.Validity.{has_ace_prefix}
 use Rattle.idna.proofs.LabelsLemmas.{labels_of_cons}
-use Rattle.idna.proofs.Uts46Lemmas.{ace_parts}
+use Rattle.idna.proofs.Uts46Lemmas.{ace_parts, map-lowercase}
 use Rattle.idn_text.specs.declared.refusal.Refusal.{Refusal}
 use Rattle.idn_label.specs.Answers.{Answer, and_then}
 use Rattle.idn_label.specs.Decode.{decoded_label, with_others, decoded_labels, decode_answer}
@@ -25,6 +27,13 @@ pub labels_of-stop : (name : List ℕ) (at : ℕ) → at < length name → get_o
 labels_of-stop name at lt stop none =
     let parts : name ≡ take at name ++ get_or name at 0 ∷ drop (at + 1) name = sym (take-append-drop at name) ∙ ap (λ zs. take at name ++ zs) (drop_more name at 0 lt) in
     ap labels_of parts ∙ slice_split_at is_full_stop (take at name) (get_or name at 0) (drop (at + 1) name) none (eq-eqb (get_or name at 0) 0x2E stop)
+
+-- ---- lower case
+
+-- a label without capitals is its own lower case
+pub lowercase_of-lower : (label : List ℕ) → list_all (λ c. not (is_ascii_uppercase c)) label ≡ true → map to_ascii_lowercase label ≡ label
+lowercase_of-lower label none =
+    map-lowercase label (All-weaker _ _ (λ c h. not-true (is_ascii_uppercase c) h) label (AllPass-from_list_all (λ c. not (is_ascii_uppercase c)) label none))
 
 -- ---- the prefix in any case
 
@@ -127,8 +136,3 @@ labels_of-some name label others rest parts some = parts ∙ ap (λ o. label ∷
 
 pub shorter_rest : (n : ℕ) (others : Option (Bor (List ℕ))) (rest : Bor (List ℕ)) → IfSome others (λ rest. length rest.now < n) → others ≡ Some rest → length rest.now < n
 shorter_rest n others rest shorter some = subst (λ (o : Option (Bor (List ℕ))). IfSome o (λ rest. length rest.now < n)) some shorter
-
--- what was appended is what stands behind the old length
-pub tail_is : (before more all text tail : List ℕ) (start : ℕ) → start ≡ length before → all ≡ before ++ more → text ≡ all → tail ≡ drop start text → tail ≡ more
-tail_is before more all text tail start at grown same is =
-    is ∙ ap (drop start) (same ∙ grown) ∙ ap (λ n. drop n (before ++ more)) at ∙ drop-append_seam before more

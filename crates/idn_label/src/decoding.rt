@@ -11,7 +11,7 @@ ghost use Rattle.idn_label.specs.FirstFault.{IsRegistrable};
 ghost use Rattle.idn_label.specs.Register.{u_label_answer};
 ghost use Rattle.idn_label.specs.Steps.{appended};
 
-use crate::u_label::{MAX_INPUT_LEN, has_ace_prefix, u_label};
+use crate::u_label::{MAX_INPUT_LEN, has_ace_prefix, has_no_capital, u_label};
 use idn_text::Refusal;
 use std::alloc::{AllocError, Global};
 
@@ -102,28 +102,35 @@ fn to_lowercase(c: u32) -> u32
     }
 }
 
-/// Appends what an A-label in any ASCII case stands for. Until it is known, its lower case stands at the end instead.
+/// Appends what an A-label in any ASCII case stands for.
 fn decode_a_label(alloc: Global, label: &[u32], decoded: &mut Vec<u32>) -> Result<(), Refusal>
     requires prefix { has_ace_prefix (map to_ascii_lowercase label.now) ≡ true }
     requires short { length label.now ≤ MAX_INPUT_LEN }
     ensures { Gives (λ _. decoded.new.items) result (appended decoded.old.items (u_label_answer (map to_ascii_lowercase label.now))) }
 {
-    let start = decoded.len();
-    push_lowercase(label, decoded)?;
-    let (_, lower) = decoded.split_at(start);
-    let u_label = u_label(alloc, lower)?;
-    decoded.truncate(start);
+    let u_label = u_label_in_any_case(alloc, label)?;
     push_points(&u_label, decoded)?;
     Ok(())
 }
 
-fn push_lowercase(label: &[u32], out: &mut Vec<u32>) -> Result<(), AllocError>
-    ensures { OnOk result (out.new.items ≡ out.old.items ++ map to_ascii_lowercase label.now) }
+/// What an A-label in any ASCII case stands for. Most are in lower case, and are taken as they stand.
+fn u_label_in_any_case(alloc: Global, label: &[u32]) -> Result<Vec<char>, Refusal>
+    requires prefix { has_ace_prefix (map to_ascii_lowercase label.now) ≡ true }
+    requires short { length label.now ≤ MAX_INPUT_LEN }
+    ensures { Gives (λ u_label. u_label.items) result (u_label_answer (map to_ascii_lowercase label.now)) }
 {
-    for c in label {
-        out.push(to_lowercase(*c))?;
+    if has_no_capital(label) {
+        return u_label(alloc, label);
     }
-    Ok(())
+    let lower = lowercase_of(alloc, label)?;
+    u_label(alloc, &lower)
+}
+
+/// A label in lower case.
+fn lowercase_of(alloc: Global, label: &[u32]) -> Result<Vec<u32>, AllocError>
+    ensures { IfOk result (λ lower. lower.items ≡ map to_ascii_lowercase label.now) }
+{
+    label.iter().map(|c| to_lowercase(*c)).collect(alloc)
 }
 
 fn push_points(label: &[char], out: &mut Vec<u32>) -> Result<(), AllocError>

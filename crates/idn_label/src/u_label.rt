@@ -2,8 +2,10 @@
 ghost use Rattle.std.specs.Prelude.{◌≡◌, ◌≢◌, ◌↔◌, ◌<◌, ◌≤◌, ◌++◌, not, length, drop, codes, true, false, Some, Ok, IsTrue, IfErr, OnOk, All};
 ghost use Rattle.std.specs.Char.{is_ascii_uppercase};
 ghost use Rattle.std.specs.List.{list_all};
-ghost use Rattle.idna.specs.Punycode.{encode};
+ghost use Rattle.std.specs.Option.{ok_or};
+ghost use Rattle.idna.specs.Punycode.{encode, decode};
 ghost use Rattle.idna.specs.Validity.{is_all_ascii, has_ace_prefix};
+ghost use Rattle.idn_text.specs.declared.refusal.Refusal.TheVariants.{BadALabel};
 ghost use Rattle.idn_label.specs.Answers.{Gives};
 ghost use Rattle.idn_label.specs.FirstFault.{first_fault, IsRegistrable};
 ghost use Rattle.idn_label.specs.Register.{tested_answer, decoded_code, confirmed, u_label_answer};
@@ -53,7 +55,21 @@ fn decode_code(alloc: Global, code: &[u32]) -> Result<Vec<char>, Refusal>
     if !is_all_ascii(code) {
         return Err(Refusal::BadALabel);
     }
-    let text: ArrayString<MAX_INPUT_LEN> = ascii_text(code);
+    if code.len() <= MAX_LABEL_LEN {
+        decode_ascii::<MAX_LABEL_LEN>(alloc, code)
+    } else {
+        decode_ascii::<MAX_INPUT_LEN>(alloc, code)
+    }
+}
+
+/// Decodes Punycode (RFC 3492 section 6.2) of at most `N` octets.
+fn decode_ascii<const N: usize>(alloc: Global, code: &[u32]) -> Result<Vec<char>, Refusal>
+    requires short { length code.now ≤ N }
+    requires ascii { is_all_ascii code.now ≡ true }
+    requires room { N ≤ MAX_INPUT_LEN }
+    ensures { Gives (λ label. label.items) result (ok_or (decode code.now) BadALabel) }
+{
+    let text: ArrayString<N> = ascii_text(code);
     match punycode::decode(alloc, text.as_str()) {
         Ok(label) => Ok(label),
         Err(Errors::Invalid) => Err(Refusal::BadALabel),
@@ -61,10 +77,16 @@ fn decode_code(alloc: Global, code: &[u32]) -> Result<Vec<char>, Refusal>
     }
 }
 
+// The tests below look at each code point, since that is faster than to stop at the first that fails.
+
 fn is_all_ascii(code: &[u32]) -> bool
     ensures { result ≡ is_all_ascii code.now }
 {
-    code.iter().all(|c| *c < 128)
+    let mut is_ascii = true;
+    for c in code {
+        is_ascii &= *c < 128;
+    }
+    is_ascii
 }
 
 /// Tests that a label that was decoded may be registered and that its A-label is the one given.
@@ -98,16 +120,24 @@ fn is_encoded_back(given: &[u32], label: &[char]) -> bool
         && !is_all_ascii_chars(label)
 }
 
-fn has_no_capital(label: &[u32]) -> bool
+pub(crate) fn has_no_capital(label: &[u32]) -> bool
     ensures { result ≡ list_all (λ c. not (is_ascii_uppercase c)) label.now }
 {
-    label.iter().all(|c| !matches!(*c, 0x41..=0x5A))
+    let mut has_none = true;
+    for c in label {
+        has_none &= !matches!(*c, 0x41..=0x5A);
+    }
+    has_none
 }
 
 fn is_all_ascii_chars(label: &[char]) -> bool
     ensures { result ≡ is_all_ascii label.now }
 {
-    label.iter().all(|c| c.is_ascii())
+    let mut is_ascii = true;
+    for c in label {
+        is_ascii &= c.is_ascii();
+    }
+    is_ascii
 }
 
 /// Tests a label that is not all ASCII, and whose A-label is short, for registration.

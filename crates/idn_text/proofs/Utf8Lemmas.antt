@@ -1,11 +1,13 @@
 -- The UTF-8 of a list of code points.
 use Rattle.std.proofs.Common.{◌≡◌, ℕ, ◌+◌, ◌*◌, ◌≤◌, ◌<◌, List, [], ◌∷◌, ◌++◌, Bool, true, false, ◌&&◌, length, take, get_or, refl, sym, ap, ◌∙◌, length-append, arith}
 use Rattle.std.proofs.lemmas.List.{append-nil, take_more}
-use Rattle.std.proofs.lemmas.Str.{encodes-append, length-encode, len_utf8_bounds, chars-encodes}
+use Rattle.std.proofs.lemmas.Str.{encodes-append, encodes-IsAscii, length-encode, len_utf8_bounds, chars-encodes}
+use Rattle.std.proofs.lemmas.Str.Ascii.{All-from_ascii}
+use Rattle.std.proofs.lemmas.Bool.Decides.{nat_tests}
 use Rattle.std.specs.List.{AllByRecursion}
-use Rattle.std.proofs.lemmas.List.Elements.{recursion_from_All}
+use Rattle.std.proofs.lemmas.List.Elements.{All-weaker, recursion_from_All}
 use Rattle.std.specs.Prelude.{encode_utf8}
-use Rattle.std.specs.Str.{all_scalars, chars, IsUtf8}
+use Rattle.std.specs.Str.{all_scalars, chars, IsUtf8, IsAscii}
 use Rattle.idn_text.specs.Points.{is_scalar_value, IsScalarValue, AreScalarValues, IsUtf8Of, utf8_of}
 
 -- at most four bytes for each
@@ -42,3 +44,13 @@ IsUtf8-from_points bytes points is = (points, (all_scalars-from_All points is.sc
 -- the bytes tell the list
 pub points_from_utf8 : (bytes points : List ℕ) → IsUtf8Of bytes points → chars bytes ≡ points
 points_from_utf8 bytes points is = ap chars (sym is.encoded) ∙ chars-encodes points (all_scalars-from_All points is.scalar_values)
+
+-- ASCII is the UTF-8 of itself
+pub ascii_points : (bytes : List ℕ) → IsAscii bytes → IsUtf8Of bytes bytes
+ascii_points bytes ascii = record {
+  scalar_values = All-weaker (λ b. b < 128) IsScalarValue small bytes (All-from_ascii bytes ascii);
+  encoded = encodes-IsAscii bytes ascii;
+}
+  where
+    small : (b : ℕ) → b < 128 → IsScalarValue b
+    small b lt = grind (arith, nat_tests)

@@ -1,6 +1,6 @@
 //! Code points and their UTF-8.
 
-ghost use Rattle.std.specs.Prelude.{◌≡◌, ◌≤◌, ℕ, List, [], length, OnOk, OnErr};
+ghost use Rattle.std.specs.Prelude.{◌≡◌, ◌≤◌, ◌+◌, ◌++◌, ℕ, List, [], length, OnOk, OnErr};
 ghost use Rattle.idn_text.specs.Points.{AreScalarValues, IsUtf8Of, utf8_of};
 
 use arrayvec::ArrayVec;
@@ -18,6 +18,10 @@ pub fn decode_points(bytes: &[u8], points: &mut ArrayVec<u32, 1024>) -> Result<(
     ensures emptied { OnErr result (points.new.items ≡ []) }
 {
     points.clear();
+    if bytes.is_ascii() {
+        push_ascii(bytes, points);
+        return Ok(());
+    }
     let Ok(text) = str::from_utf8(bytes) else {
         return Err(NotUtf8);
     };
@@ -25,6 +29,16 @@ pub fn decode_points(bytes: &[u8], points: &mut ArrayVec<u32, 1024>) -> Result<(
         points.push(u32::from(character));
     }
     Ok(())
+}
+
+/// Appends ASCII, each byte of which is a code point. There must be room.
+fn push_ascii(bytes: &[u8], points: &mut ArrayVec<u32, 1024>)
+    requires { length points.old.items + length bytes.now ≤ 1024 }
+    ensures { points.new.items ≡ points.old.items ++ bytes.now }
+{
+    for byte in bytes {
+        points.push(u32::from(*byte));
+    }
 }
 
 /// Leaves in `utf8` the UTF-8 (RFC 3629) of at most 1,024 code points, each a scalar value, in place

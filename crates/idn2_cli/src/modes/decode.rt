@@ -42,7 +42,7 @@ fn line_of(alloc: Global, name: &[u32]) -> Result<String, Refusal>
     ensures { Gives string_bytes result (with_feed (as_utf8 (decode_answer name.now))) }
 {
     let decoded = decode_name(alloc, name)?;
-    let mut line = String::with_capacity(alloc, name.len() + 1)?;
+    let mut line = String::with_capacity(alloc, 4 * name.len() + 1)?;
     push_points(decoded.as_slice(), &mut line)?;
     line.push('\n')?;
     Ok(line)

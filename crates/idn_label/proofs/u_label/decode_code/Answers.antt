@@ -1,5 +1,6 @@
-use Rattle.std.proofs.Common.{◌<◌, ◌^◌, length, Some, None, sym, ◌∙◌, arith}
-use Rattle.idn_label.proofs.AnswerLemmas.{decoded_code-empty, decoded_code-other, decoded_code-as}
+use Rattle.std.proofs.Common.{ℕ, Vec, Global, refl, sym}
+use Rattle.idna.specs.Punycode.{decode}
+use Rattle.idn_label.proofs.AnswerLemmas.{Gives-same, decoded_code-empty, decoded_code-other, decoded_code-as}
 use Rattle.idn_label.proofs.u_label.decode_code.Goals as goal
 
 pub returns-then-is_empty : goal.returns-then-is_empty
@@ -9,13 +10,14 @@ pub returns-then-not-is_all_ascii : goal.returns-then-not-is_all_ascii
 returns-then-not-is_all_ascii c =
     λ _. decoded_code-other c.args.code.now (sym c.if-is_empty.ensures) (sym c.if-not-is_all_ascii.ensures)
 
-pub returns-in-Ok : goal.returns-in-Ok
-returns-in-Ok c =
-    let short : length c.as_str.result.now < 2 ^ 32 = omega (arith, c.as_str.ensures.fits) in
-    decoded_code-as c.args.code.now c.as_str.result.now (Some c.in-Ok.label.items) (sym c.if-is_empty.ensures) (sym c.if-not-is_all_ascii.ensures) (c.as_str.ensures.value ∙ c.ascii_text-text.ensures) (c.in-Ok.ensures.value short)
+pub returns-then-code-le-MAX_LABEL_LEN : goal.returns-then-code-le-MAX_LABEL_LEN
+returns-then-code-le-MAX_LABEL_LEN c =
+    let code = c.args.code.now in
+    Gives-same (λ (v : Vec ℕ Global). v.items) c.decode_ascii.result _ _
+    (sym (decoded_code-as code code (decode code) (sym c.if-is_empty.ensures) (sym c.if-not-is_all_ascii.ensures) refl refl)) c.decode_ascii.ensures
 
-pub returns-in-Err-Invalid : goal.returns-in-Err-Invalid
-returns-in-Err-Invalid c =
-    λ _.
-    let short : length c.as_str.result.now < 2 ^ 32 = omega (arith, c.as_str.ensures.fits) in
-    decoded_code-as c.args.code.now c.as_str.result.now None (sym c.if-is_empty.ensures) (sym c.if-not-is_all_ascii.ensures) (c.as_str.ensures.value ∙ c.ascii_text-text.ensures) (rw c.in-Err-Invalid.field-0-is at (c.in-Err-Invalid.ensures.value short))
+pub returns-else-code-le-MAX_LABEL_LEN : goal.returns-else-code-le-MAX_LABEL_LEN
+returns-else-code-le-MAX_LABEL_LEN c =
+    let code = c.args.code.now in
+    Gives-same (λ (v : Vec ℕ Global). v.items) c.decode_ascii-else-code-le-MAX_LABEL_LEN.result _ _
+    (sym (decoded_code-as code code (decode code) (sym c.if-is_empty.ensures) (sym c.if-not-is_all_ascii.ensures) refl refl)) c.decode_ascii-else-code-le-MAX_LABEL_LEN.ensures

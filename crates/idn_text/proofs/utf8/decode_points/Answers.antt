@@ -1,8 +1,14 @@
 use Rattle.std.proofs.Common.{List, ℕ, ◌≡◌, ◌∙◌, ◌∷◌, [], ◌++◌, ap, sym, subst, arith}
 use Rattle.std.specs.declared.str.Chars.{Chars}
-use Rattle.idn_text.proofs.Utf8Lemmas.{IsUtf8-from_points}
+use Rattle.idn_text.specs.Points.{IsUtf8Of}
+use Rattle.idn_text.proofs.Utf8Lemmas.{IsUtf8-from_points, ascii_points}
 use Rattle.idn_text.proofs.DecodingLemmas.{Decodes, decodes_none, decodes_room, decodes_more, decodes_all}
 use Rattle.idn_text.proofs.utf8.decode_points.Goals as goal
+
+pub returns-then-is_ascii-clause-decoded : goal.returns-then-is_ascii-clause-decoded
+returns-then-is_ascii-clause-decoded c =
+    let bytes = c.args.bytes.now in
+    subst (λ (points : List ℕ). IsUtf8Of bytes points) (sym (c.push_ascii.ensures ∙ ap (λ (items : List ℕ). items ++ bytes) c.clear.ensures)) (ascii_points bytes (c.if-is_ascii.ensures.cases))
 
 pub returns-in_default-clause-refused : goal.returns-in_default-clause-refused
 returns-in_default-clause-refused c list is = c.in_default.ensures.cases.0 (IsUtf8-from_points c.args.bytes.now list is)
