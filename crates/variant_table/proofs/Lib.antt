@@ -24,3 +24,4 @@ pub mod CanonicalLemmas
 pub mod WritingLemmas
 pub mod GapLemmas
 pub mod RisingLemmas
+pub mod ExampleLemmas

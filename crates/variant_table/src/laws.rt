@@ -71,6 +71,9 @@ pub fn definitions_compute_the_examples()
     ensures six { canonical_line (record { source = 0x10FFFF ∷ 0x4E2D ∷ []; variants = [] }) ≡ codes "10FFFF-4E2D" }
     ensures syntax { table_of_text (codes "0061|") ≡ Err (1, faults.Syntax) }
     ensures limit { table_of_text (codes "0041-0041-0041-0041-0041-0041-0041-0041-0041") ≡ Err (1, faults.Limit) }
+    ensures bad_class { table_of_text (codes "0041") ≡ Err (1, faults.BadClass) }
+    ensures same_variant { table_of_text (codes "0061|0061") ≡ Err (1, faults.SameVariant) }
+    ensures same_source { table_of_text (codes "0061" ++ 10 ∷ codes "0061") ≡ Err (2, faults.SameSource) }
     ensures gaps { gaps_of (record { source = 97 ∷ []; variants = (97 ∷ 97 ∷ []) ∷ [] } ∷ []) ≡ (97 ∷ 97 ∷ [], 97 ∷ []) ∷ [] }
     ensures chain { gaps_of (record { source = 97 ∷ []; variants = (98 ∷ []) ∷ [] } ∷ record { source = 98 ∷ []; variants = (97 ∷ []) ∷ (99 ∷ []) ∷ [] } ∷ record { source = 99 ∷ []; variants = (98 ∷ []) ∷ [] } ∷ [])
         ≡ (97 ∷ [], 99 ∷ []) ∷ (99 ∷ [], 97 ∷ []) ∷ [] }

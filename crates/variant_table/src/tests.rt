@@ -41,7 +41,7 @@ fn syntax(rt: HostRuntime) {
 /// Texts with one fault, and with later ones behind it in the order in which faults are told.
 #[test]
 fn faults(rt: HostRuntime) {
-    let texts: [(&str, TableFault); 17] = [
+    let texts: [(&str, TableFault); 20] = [
         ("0061\n0061\n", TableFault::SameSource { line: 2 }),
         (
             "0061\n0062\n\nu+0061|0063",
@@ -49,6 +49,7 @@ fn faults(rt: HostRuntime) {
         ),
         ("0061|0062:0062", TableFault::SameVariant { line: 1 }),
         ("0061|0061", TableFault::SameVariant { line: 1 }),
+        ("0061|0062:0063:0062", TableFault::SameVariant { line: 1 }),
         (
             "0061-0062|0063:0061-0062",
             TableFault::SameVariant { line: 1 },
@@ -58,6 +59,7 @@ fn faults(rt: HostRuntime) {
         ("0061|0062:0041", TableFault::BadClass { line: 1 }),
         ("0061|0062-0640", TableFault::BadClass { line: 1 }),
         ("0061\n0041|0041", TableFault::BadClass { line: 2 }),
+        ("0061\n0061|0041", TableFault::BadClass { line: 2 }),
         (
             "0061-0061-0061-0061-0061-0061-0061-0061-0061",
             TableFault::Limit { line: 1 },
@@ -68,6 +70,10 @@ fn faults(rt: HostRuntime) {
         ),
         (
             "0061|0062-0062-0062-0062-0062-0062-0062-0062-0062",
+            TableFault::Limit { line: 1 },
+        ),
+        (
+            "0061|0062:0062:0062:0062:0062:0062:0062:0062:0062:0062:0062:0062:0062:0062:0062:0062:0062",
             TableFault::Limit { line: 1 },
         ),
         ("0061|30:0031", TableFault::Syntax { line: 1 }),
@@ -130,7 +136,10 @@ fn places(rt: HostRuntime) -> Result<(), Fail> {
     assert!(&rt; 1 < second.replacements());
     assert_eq!(&rt; second.replacement(1), [0xDF].as_slice());
     assert!(&rt; found.next().is_none());
-    assert_eq!(&rt; table.entries_at(&label, 2).count(), 1);
+    let mut last = table.entries_at(&label, 2);
+    let only = last.next().expect(&rt, "an entry for the last code point");
+    assert_eq!(&rt; only.source(), [0x73].as_slice());
+    assert!(&rt; last.next().is_none());
     assert_eq!(&rt; table.entries_at(&label, 3).count(), 0);
     Ok(())
 }
@@ -183,19 +192,37 @@ fn push_points(out: &mut Vec<u8>, sequence: &[u32]) -> Result<(), Fail> {
 fn limits(rt: HostRuntime) -> Result<(), Fail> {
     let alloc = rt.alloc();
     let mut text = Vec::new(alloc);
-    push_comment(&mut text, 1024)?;
+    push_times(&mut text, b'#', 1024)?;
     assert!(&rt; is_table(&rt, &text));
-    push_comment(&mut text, 1)?;
+    push_times(&mut text, b'#', 1)?;
     assert_eq!(&rt; fault(&rt, &text), Some(TableFault::Limit { line: 1 }));
+    for (count, want) in [(1023, None), (1024, Some(TableFault::Limit { line: 1 }))] {
+        text.clear();
+        push_times(&mut text, b'#', count)?;
+        text.extend_from_slice(b"\r\n")?;
+        assert_eq!(&rt; fault(&rt, &text), want, "{count}");
+    }
     text.clear();
     for _ in 0..1024 {
-        push_comment(&mut text, 1023)?;
+        push_times(&mut text, b'#', 1023)?;
         text.push(b'\n')?;
     }
     assert_eq!(&rt; text.len(), 1_048_576);
     assert!(&rt; is_table(&rt, &text));
-    push_comment(&mut text, 1)?;
+    push_times(&mut text, b'#', 1)?;
     assert_eq!(&rt; fault(&rt, &text), Some(TableFault::Limit { line: 1025 }));
+    Ok(())
+}
+
+/// A line that is too long is told before what it lacks.
+#[test]
+fn padded_line(rt: HostRuntime) -> Result<(), Fail> {
+    let mut text = Vec::new(rt.alloc());
+    text.extend_from_slice(b"0061|")?;
+    push_times(&mut text, b' ', 1019)?;
+    assert_eq!(&rt; fault(&rt, &text), Some(TableFault::Syntax { line: 1 }));
+    text.push(b' ')?;
+    assert_eq!(&rt; fault(&rt, &text), Some(TableFault::Limit { line: 1 }));
     Ok(())
 }
 
@@ -207,14 +234,24 @@ fn most_entries(rt: HostRuntime) -> Result<(), Fail> {
         text.extend_from_slice(format!(in alloc; "{point:X}\n")?.as_bytes())?;
     }
     assert_eq!(&rt; Table::read(alloc, &text)?.len(), 4096);
-    text.extend_from_slice(b"5E00\n")?;
-    assert_eq!(&rt; fault(&rt, &text), Some(TableFault::Limit { line: 4097 }));
+    let len = text.len();
+    let rows = [
+        ("5E00\n", TableFault::Limit { line: 4097 }),
+        ("4E00\n", TableFault::Limit { line: 4097 }),
+        ("0041|0041", TableFault::Limit { line: 4097 }),
+        ("0061|\n", TableFault::Syntax { line: 4097 }),
+    ];
+    for (line, want) in rows {
+        text.truncate(len);
+        text.extend_from_slice(line.as_bytes())?;
+        assert_eq!(&rt; fault(&rt, &text), Some(want), "{line}");
+    }
     Ok(())
 }
 
-fn push_comment(text: &mut Vec<u8>, count: u32) -> Result<(), Fail> {
+fn push_times(text: &mut Vec<u8>, byte: u8, count: u32) -> Result<(), Fail> {
     for _ in 0..count {
-        text.push(b'#')?;
+        text.push(byte)?;
     }
     Ok(())
 }
