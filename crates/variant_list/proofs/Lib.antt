@@ -11,3 +11,4 @@ pub mod Stepping
 pub mod NetLemmas
 pub mod ListingLemmas
 pub mod AnswerLemmas
+pub mod SegmentedLemmas

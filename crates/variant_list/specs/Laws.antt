@@ -1,10 +1,11 @@
 -- Laws of the definitions.
-use Rattle.std.specs.Prelude.{◌≡◌, ◌≤◌, ◌↔◌, ℕ, Bool, IsTrue, List, ◌++◌, length, take, filter, Contains}
+use Rattle.std.specs.Prelude.{◌≡◌, ◌≤◌, ◌↔◌, ℕ, Bool, IsTrue, List, [], ◌++◌, length, take, filter, Contains}
 use Rattle.std.specs.declared.cmp.Ordering.TheVariants.{Less}
 use Rattle.std.specs.Ordering.{is_le}
 use Rattle.variant_list.specs.Labels.{IsBelow, label_cmp}
 use Rattle.variant_table.specs.Entries.{Entry}
 use Rattle.variant_table.specs.WellFormed.{IsWellFormed}
+use Rattle.variant_list.specs.Segmentations.{HasSegmentation}
 use Rattle.variant_list.specs.Spelling.{Spells}
 use Rattle.variant_list.specs.Spelled.{spelled}
 use Rattle.variant_list.specs.Positions.{Position}
@@ -20,6 +21,11 @@ abbrev pub RecursionAgreesWithSegmentations : Type 0
 RecursionAgreesWithSegmentations =
     (table : List Entry) (label v : List ℕ) → IsWellFormed table →
     Contains (spelled table label) v ↔ Spells table label v
+
+-- a label spells itself where it can be cut into sources of the table, and nothing exactly where it cannot
+pub record SpellsWhereSegmented : Type 0 where
+  pub itself : (table : List Entry) (label : List ℕ) → HasSegmentation table label → Spells table label label
+  pub nothing : (table : List Entry) (label : List ℕ) → IsWellFormed table → (spelled table label ≡ []) ↔ (¬ HasSegmentation table label)
 
 -- a label has only one list of variants after a text, whichever labels are accepted
 abbrev pub VariantListIsUnique : Type 0

@@ -1,5 +1,5 @@
 //! Laws of the definitions that the contracts of this crate speak of. Each holds by its proof alone.
-ghost use Rattle.variant_list.specs.Laws.{ComparisonTellsOrder, RecursionAgreesWithSegmentations, VariantListIsUnique, VariantsAreListed, ListingResumes, CutTextListsTheSame, VariantsAreAcceptedCandidates, AnswersExcludeEachOther};
+ghost use Rattle.variant_list.specs.Laws.{ComparisonTellsOrder, RecursionAgreesWithSegmentations, SpellsWhereSegmented, VariantListIsUnique, VariantsAreListed, ListingResumes, CutTextListsTheSame, VariantsAreAcceptedCandidates, AnswersExcludeEachOther};
 ghost use Rattle.variant_list.specs.Examples.{VariantsOfExamples};
 
 /// The comparison of labels by code points is their order.
@@ -10,6 +10,11 @@ pub fn comparison_tells_order()
 /// What the segmentations of a label spell is what the recursion on the label gives.
 pub fn recursion_agrees_with_segmentations()
     ensures { RecursionAgreesWithSegmentations }
+{}
+
+/// A label spells itself where it has a segmentation, and nothing exactly where it has none.
+pub fn segmented_labels_spell_themselves()
+    ensures { SpellsWhereSegmented }
 {}
 
 /// There is only one list of variants.

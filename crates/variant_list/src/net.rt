@@ -18,7 +18,8 @@ use std::snapshot::Snapshot;
 use thiserror::Error;
 use variant_table::Table;
 
-/// The most code points that a label has (RFC 1034, section 3.1).
+/// The most code points of a label: the A-label of a longer one has more than the 63 octets of RFC 1034,
+/// section 3.1.
 pub(crate) const LONGEST: usize = 63;
 
 /// What a label spells under a table. Contracts see the table and the label.

@@ -73,7 +73,7 @@ fn candidates(alloc: Global, cursor: &mut Cursor<'_>) -> Result<Vec<u32>, AllocE
     Ok(listed)
 }
 
-/// The accepted candidates until the tries are spent or no candidate is left, each with a comma behind it.
+/// The accepted candidates, each with a comma behind it, and how their listing ends.
 fn accepted(
     alloc: Global,
     cursor: &mut Cursor<'_>,
@@ -81,12 +81,17 @@ fn accepted(
 ) -> Result<Vec<u32>, AllocError> {
     let mut listed = Vec::new(alloc);
     for _ in 0..100 {
-        match cursor.next_variant(alloc, &BeginsWith(97), tries)? {
-            Step::Found(label) => listed.extend_from_slice(label)?,
-            Step::Spent => return Ok(listed),
-            Step::Ended => return Ok(listed),
-        }
-        listed.push(44)?;
+        let end = match cursor.next_variant(alloc, &BeginsWith(97), tries)? {
+            Step::Found(label) => {
+                listed.extend_from_slice(label)?;
+                listed.push(44)?;
+                continue;
+            }
+            Step::Spent => "spent",
+            Step::Ended => "ended",
+        };
+        listed.extend_from_slice(&points(alloc, end)?)?;
+        break;
     }
     Ok(listed)
 }
@@ -141,8 +146,8 @@ fn the_longest_labels(rt: HostRuntime) -> Result<(), Fail> {
     Ok(())
 }
 
-/// What is found with so many tries behind a text, how many are left, and whether the listing then stands
-/// at the text.
+/// What is found with so many tries behind a text, how many are left, and the text behind which the listing
+/// then stands.
 fn assert_found(
     rt: &impl Abort,
     alloc: Global,
@@ -162,11 +167,14 @@ fn assert_found(
 #[test]
 fn tries_are_counted(rt: HostRuntime) -> Result<(), Fail> {
     let rows = [
-        (("", 0), ("", 0, "")),
-        (("", 4), ("", 0, "-aa")),
-        (("", 5), ("a--,", 0, "a--")),
-        (("-aa", 5), ("a--,a-a,aa-,aaa,", 1, "aaa")),
-        (("aaa", 3), ("", 3, "aaa")),
+        (("", 0), ("spent", 0, "")),
+        (("-aa", 0), ("spent", 0, "-aa")),
+        (("aaa", 0), ("spent", 0, "aaa")),
+        (("", 4), ("spent", 0, "-aa")),
+        (("", 5), ("a--,spent", 0, "a--")),
+        (("-aa", 4), ("a--,a-a,aa-,aaa,spent", 0, "aaa")),
+        (("-aa", 5), ("a--,a-a,aa-,aaa,ended", 1, "aaa")),
+        (("aaa", 3), ("ended", 3, "aaa")),
     ];
     for (from, want) in rows {
         assert_found(&rt, rt.alloc(), from, want)?;
@@ -187,7 +195,7 @@ fn what_could_not_be_decided_comes_next(rt: HostRuntime) -> Result<(), Fail> {
     assert!(&rt; refused);
     assert_eq!(&rt; tries, 4);
     let got = accepted(alloc, &mut cursor, &mut tries)?;
-    assert_eq!(&rt; got, points(alloc, "a--,a-a,aa-,aaa,")?);
+    assert_eq!(&rt; got, points(alloc, "a--,a-a,aa-,aaa,spent")?);
     assert_eq!(&rt; tries, 0);
     Ok(())
 }
