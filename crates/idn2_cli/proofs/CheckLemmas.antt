@@ -1,8 +1,8 @@
 -- The gaps of a table, as they are written.
-use Rattle.std.proofs.Common.{◌≡◌, ◌≤◌, ◌<◌, ◌⊎◌, inl, inr, ℕ, ◌+◌, suc, List, [], ◌∷◌, ◌++◌, All, map, drop, length, get_or, Contains, refl, sym, ap, subst, ◌∙◌, drop-cons, add-one, arith}
+use Rattle.std.proofs.Common.{◌≡◌, ◌<◌, ◌⊎◌, inl, inr, ℕ, ◌+◌, suc, List, [], ◌∷◌, ◌++◌, All, map, drop, length, get_or, Contains, refl, sym, ap, subst, ◌∙◌, drop-cons, add-one}
 use Rattle.idn_text.specs.Points.{AreScalarValues}
 use Rattle.variant_table.specs.Entries.{Entry, replacements}
-use Rattle.variant_table.specs.WellFormed.{IsWellFormed, IsEntry, IsSequence, IsTablePoint}
+use Rattle.variant_table.specs.WellFormed.{IsWellFormed, IsEntry, IsSequence}
 use Rattle.std.proofs.Common.{Vec}
 use Rattle.std.specs.declared.alloc.Global.{Global}
 use Rattle.std.proofs.lemmas.List.{get_or-map, length-map}

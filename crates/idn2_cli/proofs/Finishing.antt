@@ -1,5 +1,5 @@
 -- From the lines of the input, or none, to the end of a run.
-use Rattle.std.proofs.Common.{◌≡◌, ◌≢◌, ◌<◌, ℕ, List, [], ◌∷◌, ◌++◌, Bool, true, false, IsTrue, Option, Result, Ok, Err, IfOk, IfErr, take, refl, sym, ap, subst, ◌∙◌}
+use Rattle.std.proofs.Common.{◌≡◌, ◌≢◌, ℕ, List, [], ◌∷◌, Bool, true, false, Option, Result, Ok, Err, IfOk, IfErr, take, refl, sym, ap, subst, ◌∙◌}
 use Rattle.std.proofs.lemmas.List.{append-nil}
 use Rattle.std.specs.Io.KnownBytes.{Appends}
 use Rattle.idn_text.specs.Reading.{Reading, IsUnread}
@@ -9,12 +9,12 @@ use Rattle.std.proofs.lemmas.Bool.{false≢true}
 use Rattle.idn2_cli.specs.Settings.{Settings}
 use Rattle.idn2_cli.specs.Tables.{TableGiven, IsReadAs, IsTableOf}
 use Rattle.idn2_cli.specs.Pieces.{Piece, Message}
-use Rattle.idn2_cli.specs.Held.{Held, Writes}
+use Rattle.idn2_cli.specs.Held.{Held, Takes, Writes}
 use Rattle.idn2_cli.specs.Faults.{TakesText, closing_message}
-use Rattle.idn2_cli.specs.LineAnswers.{LineAnswer, mode_answer}
+use Rattle.idn2_cli.specs.LineAnswers.{LineAnswer}
 use Rattle.idn2_cli.specs.Transcript.{transcript, status_of, lines_pieces, has_refused, status_if, check_pieces, check_status}
 use Rattle.idn2_cli.specs.Emitting.{IsCutBy, Emits}
-use Rattle.idn2_cli.specs.Ends.{Stands, Closes, IsTold, Ends, refusal_of, reads_lines}
+use Rattle.idn2_cli.specs.Ends.{Stands, Closes, IsTold, refusal_of, reads_lines}
 use Rattle.idn2_cli.specs.Serving.{HasServed, HasStoppedServing}
 use Rattle.idn2_cli.specs.Sessions.{HasFinished, HasHalted}
 use Rattle.idn2_cli.specs.declared.mode.Mode.{Mode}
@@ -22,7 +22,7 @@ use Rattle.idn2_cli.specs.declared.mode.Mode.TheVariants.{Variants, CheckTable}
 use Rattle.idn2_cli.specs.declared.status.Status.{Status}
 use Rattle.idn2_cli.specs.declared.stop.Stop.{Stop}
 use Rattle.idn2_cli.specs.declared.stop.Stop.TheVariants as stop
-use Rattle.idn2_cli.proofs.Writing.{appends_nothing, writes_nothing, stops_first}
+use Rattle.idn2_cli.proofs.Writing.{appends_nothing, takes_nothing, stops_first}
 use Rattle.idn2_cli.proofs.Sessions.{stands_cut}
 use Rattle.idn2_cli.proofs.TableLemmas.{some_table}
 
@@ -160,16 +160,16 @@ faulty_stopped o text line refusal start old new r e read unread writes = halted
 
 -- ---- the last message
 
-closes_told : (why : Stop) (new : Held) (closing : List Piece) → why ≢ stop.Messages → IsTold (closing_message (refusal_of why)) new closing → Closes why new closing
-closes_told stop.Messages new closing not told = absurd (not refl)
-closes_told stop.Reading new closing not told = told
-closes_told stop.Output new closing not told = told
-closes_told stop.Memory new closing not told = told
+closes_told : (why : Stop) (old new : Held) (closing : List Piece) → why ≢ stop.Messages → IsTold (closing_message (refusal_of why)) old new closing → Closes why old new closing
+closes_told stop.Messages old new closing not told = absurd (not refl)
+closes_told stop.Reading old new closing not told = told
+closes_told stop.Output old new closing not told = told
+closes_told stop.Memory old new closing not told = told
 
 -- a message that its writer took, or a proper prefix of it
 pub closes_by : (why : Stop) (old new : Held) → why ≢ stop.Messages → new.output ≡ old.output
-    → TakesText (closing_message (refusal_of why)) old.messages new.messages new.messages_failed
-    → (closing : List Piece) × Writes old new closing × Closes why new closing
+    → TakesText (closing_message (refusal_of why)) old.messages new.messages new.messages_failed old.messages_faults new.messages_faults
+    → (closing : List Piece) × Takes old new closing × Closes why old new closing
 closes_by why old new not same taken =
     let text = take taken.taken (closing_message (refusal_of why)) in (
       Message text ∷ [],
@@ -177,12 +177,24 @@ closes_by why old new not same taken =
         output = subst (λ (o : Option (List ℕ)). Appends old.output o []) (sym same) (appends_nothing old.output);
         messages = subst (Appends old.messages new.messages) (sym (append-nil text)) taken.appends;
       },
-      closes_told why new (Message text ∷ []) not (record { taken = taken.taken; within = taken.within; failed = taken.cause; cut = refl }),
+      closes_told why old new (Message text ∷ []) not (record { taken = taken.taken; within = taken.within; failed = taken.cause; no_fault = taken.no_fault; cut = refl }),
     )
 
 -- none, where the messages failed
-pub closes_nothing : (why : Stop) (old : Held) → why ≡ stop.Messages → (closing : List Piece) × Writes old old closing × Closes why old closing
-closes_nothing why old e = ([], writes_nothing old, subst (λ (w : Stop). Closes w old []) (sym e) (let none : Closes stop.Messages old [] = refl in none))
+pub closes_nothing : (why : Stop) (old : Held) → why ≡ stop.Messages → (closing : List Piece) × Takes old old closing × Closes why old old closing
+closes_nothing why old e = ([], takes_nothing old, subst (λ (w : Stop). Closes w old old []) (sym e) (let none : Closes stop.Messages old old [] = refl in none))
+
+told_since : (text : List ℕ) (old middle new : Held) (closing : List Piece) → middle.messages_faults ≡ old.messages_faults → IsTold text middle new closing → IsTold text old new closing
+told_since text old middle new closing before told =
+    record { taken = told.taken; within = told.within; failed = told.failed; no_fault = λ whole. told.no_fault whole ∙ before; cut = told.cut }
+
+-- no write of the messages failed before the last message
+pub closes_since : (why : Stop) (old middle new : Held) (closing : List Piece) → (why ≢ stop.Messages → middle.messages_faults ≡ old.messages_faults)
+    → Closes why middle new closing → Closes why old new closing
+closes_since stop.Messages old middle new closing before none = none
+closes_since stop.Reading old middle new closing before told = told_since (closing_message (refusal_of stop.Reading)) old middle new closing (before (λ e. cc)) told
+closes_since stop.Output old middle new closing before told = told_since (closing_message (refusal_of stop.Output)) old middle new closing (before (λ e. cc)) told
+closes_since stop.Memory old middle new closing before told = told_since (closing_message (refusal_of stop.Memory)) old middle new closing (before (λ e. cc)) told
 
 -- the last message changes nothing of what stood
 pub stands_still : (why : Stop) (input : Reading) (middle new : Held) (pieces written : List Piece) → Stands why input middle pieces written → new.output_failed ≡ middle.output_failed → (why ≡ stop.Messages → new.messages_failed ≡ middle.messages_failed) → Stands why input new pieces written

@@ -1,28 +1,27 @@
 -- The listing of a label's variants, and the labels in it.
-use Rattle.std.proofs.Common.{◌≡◌, ◌<◌, ◌≤◌, ◌+◌, ◌-◌, ◌==◌, ◌⊎◌, inl, inr, ℕ, zero, suc, List, [], ◌∷◌, ◌++◌, Bool, true, false, IsTrue, Option, Some, None, IfSome, All, Contains, map, length, take, drop, refl, sym, ap, subst, ◌∙◌, arith, take-append-drop, length-take}
+use Rattle.std.proofs.Common.{◌≡◌, ◌≤◌, ◌+◌, ◌-◌, ℕ, zero, suc, List, [], ◌∷◌, ◌++◌, Bool, true, IsTrue, Option, Some, None, IfSome, All, Contains, map, length, take, drop, refl, sym, ap, subst, ◌∙◌, arith, take-append-drop, length-take}
 use Rattle.std.specs.Option.{is_none}
 use Rattle.std.specs.List.{AllByRecursion, filter, slice_get}
 use Rattle.std.proofs.lemmas.List.Elements.{All-from_recursion, recursion_from_All}
 use Rattle.idn_text.specs.Points.{IsScalarValue, AreScalarValues}
-use Rattle.idn_label.specs.FirstFault.{first_fault, IsRegistrable}
+use Rattle.idn_label.specs.FirstFault.{first_fault}
 use Rattle.idn_label.proofs.RequirementLemmas.{MeetsRequirements-registrable}
 use Rattle.variant_table.specs.Entries.{Entry, replacements}
 use Rattle.variant_table.specs.WellFormed.{IsWellFormed, IsEntry, IsSequence}
-use Rattle.variant_list.specs.Labels.{IsBelow, IsRising}
-use Rattle.variant_list.specs.Spelling.{Spells, JoinsReplacements}
-use Rattle.variant_list.specs.Spelled.{spelled}
-use Rattle.variant_list.specs.Variants.{variants, candidates, fits_label}
+use Rattle.variant_list.specs.Labels.{IsRising}
+use Rattle.variant_list.specs.Spelling.{JoinsReplacements}
+use Rattle.variant_list.specs.Variants.{candidates, fits_label}
 use Rattle.variant_list.specs.Positions.{Position, candidates_ahead}
 use Rattle.variant_list.specs.Steps.{last_of, moved_over}
 use Rattle.variant_list.proofs.Members.{Contains-head, Contains-later}
 use Rattle.variant_list.proofs.RecursionLemmas.{spelled-Spells}
-use Rattle.variant_list.proofs.ListedLemmas.{IsListed, variants-IsListed, variants-behind}
+use Rattle.variant_list.proofs.ListedLemmas.{variants-IsListed, variants-behind}
 use Rattle.variant_list.proofs.ListingLemmas.{variants-accepted, variants-cut, fits_label-short}
 use Rattle.idn2_cli.specs.Settings.{Settings, IsCount}
 use Rattle.idn2_cli.specs.Pieces.{Piece, Output}
-use Rattle.idn2_cli.specs.Blocks.{is_registrable, variants_after, nth, nth_if_given, lesser, up_to, variant_line, trailer, block_to, block, stop_of}
+use Rattle.idn2_cli.specs.Blocks.{is_registrable, nth, nth_if_given, lesser, up_to, variant_line, trailer, block_to, block}
 use Rattle.idn2_cli.specs.Transcript.{output_lines}
-use Rattle.idn2_cli.proofs.Walking.{walk, lines_to, lines_at, lines_at-walk}
+use Rattle.idn2_cli.proofs.Walking.{walk, lines_to, lines_at-walk}
 
 -- ---- labels that may be registered
 

@@ -1,9 +1,7 @@
 -- A listing under way: what it has written, and what is still to come.
-use Rattle.std.proofs.Common.{◌≡◌, ◌≢◌, ◌==◌, ◌<◌, ◌≤◌, ◌+◌, ◌-◌, ℕ, suc, List, [], ◌∷◌, ◌++◌, Bool, true, false, Option, Some, None, IfSome, Result, Ok, Err, map, length, take, drop, refl, sym, ap, subst, ◌∙◌, if◌then◌else◌, arith, add-one}
+use Rattle.std.proofs.Common.{◌≡◌, ◌≢◌, ◌==◌, ◌≤◌, ◌+◌, ◌-◌, ℕ, suc, List, [], ◌∷◌, ◌++◌, Bool, true, false, Option, Some, None, Result, Ok, Err, length, take, drop, refl, sym, ap, subst, ◌∙◌, if◌then◌else◌, arith}
 use Rattle.std.proofs.lemmas.List.{append-nil, append_assoc}
 use Rattle.std.proofs.lemmas.List.Elements.{recursion_from_All}
-use Rattle.std.specs.Prelude.{IsTrue}
-use Rattle.std.specs.List.{AllByRecursion, slice_get}
 use Rattle.variant_table.specs.Entries.{Entry}
 use Rattle.variant_table.specs.WellFormed.{IsWellFormed}
 use Rattle.variant_list.specs.Positions.{Built, Position, candidates_ahead}
@@ -24,7 +22,7 @@ use Rattle.variant_list.specs.Spelled.{spelled}
 use Rattle.variant_list.proofs.NetLemmas.{segmented, unsegmented}
 use Rattle.variant_list.proofs.RecursionLemmas.{spelled-Spells}
 use Rattle.idn2_cli.specs.LineAnswers.{LineAnswer, unless, variants_answer}
-use Rattle.idn2_cli.specs.Settings.{Settings, IsCount, IsWithinLimits}
+use Rattle.idn2_cli.specs.Settings.{Settings, IsWithinLimits}
 use Rattle.idn2_cli.specs.Pieces.{Piece, Output}
 use Rattle.idn2_cli.specs.Held.{Held, Writes}
 use Rattle.idn2_cli.specs.Emitting.{Emits, StopsWithin}

@@ -1,22 +1,23 @@
 -- One line more, and the end of the lines.
-use Rattle.std.proofs.Common.{◌≡◌, ℕ, List, [], ◌∷◌, ◌++◌, Bool, true, false, ◌||◌, ◌⊎◌, Result, Err, inl, refl, sym, ap, subst, ◌∙◌, append_assoc}
+use Rattle.std.proofs.Common.{◌≡◌, ℕ, List, [], ◌∷◌, ◌++◌, Bool, true, false, ◌||◌, ◌⊎◌, Result, Err, inl, inr, refl, sym, ap, subst, ◌∙◌, append_assoc}
 use Rattle.std.proofs.lemmas.List.{append-nil}
 use Rattle.std.specs.Result.{is_err}
 use Rattle.idn_text.specs.Lines.{Numbered}
-use Rattle.idn_text.specs.Reading.{Reading, HasRead, IsUnread}
+use Rattle.idn_text.specs.Reading.{Reading, HasRead, HasStopped, IsUnread}
 use Rattle.idn_text.specs.declared.lines.State.TheVariants as state
 use Rattle.idn_text.proofs.ReadingLemmas.{has_read_nothing}
 use Rattle.idn2_cli.specs.Pieces.{Piece}
 use Rattle.idn2_cli.specs.Held.{Held, Writes}
-use Rattle.idn2_cli.specs.Emitting.{IsCutBy, StopsWithin, Emits}
+use Rattle.idn2_cli.specs.Emitting.{IsCutBy, WritesUntil, Emits}
 use Rattle.idn2_cli.specs.Consoles.{HasSameWriters}
 use Rattle.idn2_cli.specs.declared.console.Console.{Console}
 use Rattle.idn2_cli.specs.LineAnswers.{LineAnswer, line_answer}
 use Rattle.idn2_cli.specs.Transcript.{line_pieces, lines_pieces, has_refused}
 use Rattle.idn2_cli.specs.Ends.{Stands}
+use Rattle.idn2_cli.specs.Serving.{HasStoppedServing}
 use Rattle.idn2_cli.specs.declared.stop.Stop.{Stop}
 use Rattle.idn2_cli.specs.declared.stop.Stop.TheVariants as stop
-use Rattle.idn2_cli.proofs.Writing.{writes_nothing, writes_join, stops_between}
+use Rattle.idn2_cli.proofs.Writing.{writes_nothing, writes_join, until_here, stops_between}
 
 pub lines_pieces-append : (answer : List ℕ → LineAnswer) (lines : List Numbered) (line : Numbered) → lines_pieces answer (lines ++ line ∷ []) ≡ lines_pieces answer lines ++ line_pieces answer line
 lines_pieces-append answer [] line = append-nil (line_pieces answer line)
@@ -81,13 +82,33 @@ or_else true b c f e = cc
 or_else false b c f e = e
 
 -- writing a line stops
-pub stops_in_line : {A : Type 0} (answer : List ℕ → LineAnswer) (start middle now : Reading) (old held new : Held) (was : Bool) (line : Numbered) (so_far : SoFar answer start middle old held was) (r : Result A Stop) (why : Stop) → Emits held new (line_pieces answer line) r → r ≡ Err why → (written : List Piece) × Writes old new written × Stands why now new (lines_pieces answer (so_far.lines ++ line ∷ [])) written
+pub stops_in_line : {A : Type 0} (answer : List ℕ → LineAnswer) (start middle now : Reading) (old held new : Held) (was : Bool) (line : Numbered) (so_far : SoFar answer start middle old held was) (r : Result A Stop) (why : Stop) → Emits held new (line_pieces answer line) r → r ≡ Err why → (written : List Piece) × WritesUntil why old new written × Stands why now new (lines_pieces answer (so_far.lines ++ line ∷ [])) written
 stops_in_line answer start middle now old held new was line so_far r why emits e =
     let pieces = line_pieces answer line in
     let before = lines_pieces answer so_far.lines in
     let split = lines_pieces-append answer so_far.lines line ∙ ap (λ l. before ++ l) (sym (append-nil pieces)) in
     let at = stops_between old held new (lines_pieces answer (so_far.lines ++ line ∷ [])) before pieces [] r why split so_far.pieces emits e in
     (at.0, at.1, stands_cut why now new (lines_pieces answer (so_far.lines ++ line ∷ [])) at.0 at.2)
+
+not_stopped : (now : Reading) → (now.state ≡ state.Open) ⊎ (now.state ≡ state.Ended) → now.state ≡ state.Stopped → ⊥
+not_stopped now (inl is_open) stopped = let bad : state.Open ≡ state.Stopped = sym is_open ∙ stopped in cc
+not_stopped now (inr ended) stopped = let bad : state.Ended ≡ state.Stopped = sym ended ∙ stopped in cc
+
+-- reading stops
+pub stops_reading : (answer : List ℕ → LineAnswer) (start middle now : Reading) (old held : Held) (was : Bool) (so_far : SoFar answer start middle old held was) → (middle.state ≡ state.Stopped) ⊎ HasStopped now → now.state ≡ state.Stopped
+    → (more : List ℕ) × HasRead start now (so_far.given ++ more) (so_far.lines ++ []) → HasStoppedServing answer stop.Reading start now old held
+stops_reading answer start middle now old held was so_far cause stopped next = record {
+  given = so_far.given ++ next.0;
+  lines = so_far.lines;
+  written = lines_pieces answer so_far.lines;
+  read = subst (HasRead start now (so_far.given ++ next.0)) (append-nil so_far.lines) next.1;
+  pieces = until_here stop.Reading old held (lines_pieces answer so_far.lines) so_far.pieces;
+  stands = (by_cause cause, stopped, refl);
+}
+  where
+    by_cause : (middle.state ≡ state.Stopped) ⊎ HasStopped now → HasStopped now
+    by_cause (inl before) = absurd (not_stopped middle so_far.going before)
+    by_cause (inr has) = has
 
 pub same_writers-then : {W E : Type 0} (a b c : Console W E) → HasSameWriters a b → HasSameWriters b c → HasSameWriters a c
 same_writers-then a b c first second = record { output = second.output ∙ first.output; messages = second.messages ∙ first.messages }

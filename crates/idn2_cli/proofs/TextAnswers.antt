@@ -1,5 +1,5 @@
 -- What the bytes of a line are answered, by the code points that they spell.
-use Rattle.std.proofs.Common.{◌≡◌, ◌≢◌, ◌==◌, ℕ, List, [], ◌∷◌, Bool, true, false, ◌&&◌, length, chars, Err, if◌then◌else◌, refl, sym, ap, subst, ◌∙◌}
+use Rattle.std.proofs.Common.{◌≡◌, ◌==◌, ℕ, List, [], ◌∷◌, Bool, true, false, ◌&&◌, length, chars, Err, if◌then◌else◌, refl, ap, ◌∙◌}
 use Rattle.std.specs.Str.{is_utf8, all_scalars, IsUtf8}
 use Rattle.std.specs.List.{AllByRecursion}
 use Rattle.std.proofs.lemmas.Str.{IsUtf8-from_is_utf8, is_utf8-from_IsUtf8}

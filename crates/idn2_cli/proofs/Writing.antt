@@ -1,12 +1,11 @@
 -- What is written, piece by piece.
-use Rattle.std.proofs.Common.{◌≡◌, ◌<◌, ◌≤◌, ◌+◌, ℕ, suc, List, [], ◌∷◌, ◌++◌, Option, Some, None, Result, Ok, Err, IfErr, take, drop, get_or, length, refl, sym, ap, subst, ◌∙◌, append_assoc, drop-cons, add-one, arith}
+use Rattle.std.proofs.Common.{◌≡◌, ◌<◌, ℕ, List, [], ◌∷◌, ◌++◌, Option, Some, None, Result, Err, take, length, refl, sym, ap, subst, ◌∙◌, append_assoc}
 use Rattle.std.proofs.lemmas.List.{append-nil}
 use Rattle.std.proofs.lemmas.Result.{MatchResult-at_err}
-use Rattle.std.proofs.Math.Seq.{take-length}
 use Rattle.std.specs.Io.KnownBytes.{Appends}
 use Rattle.idn2_cli.specs.Pieces.{Piece, Output, Message, output_of, messages_of}
-use Rattle.idn2_cli.specs.Held.{Held, Writes}
-use Rattle.idn2_cli.specs.Emitting.{BreaksOff, IsCutBy, StopsWithin, Emits}
+use Rattle.idn2_cli.specs.Held.{Held, Takes, Writes}
+use Rattle.idn2_cli.specs.Emitting.{BreaksOff, IsCutBy, WritesUntil, StopsWithin, Emits}
 use Rattle.idn2_cli.specs.declared.stop.Stop.{Stop}
 use Rattle.idn2_cli.specs.declared.stop.Stop.TheVariants as stop
 
@@ -30,14 +29,36 @@ messages_of-append [] q = refl
 messages_of-append (Output text ∷ p) q = messages_of-append p q
 messages_of-append (Message text ∷ p) q = ap (λ l. text ++ l) (messages_of-append p q) ∙ sym (append_assoc text (messages_of p) (messages_of q))
 
-pub writes_nothing : (a : Held) → Writes a a []
-writes_nothing a = record { output = appends_nothing a.output; messages = appends_nothing a.messages }
+pub takes_nothing : (a : Held) → Takes a a []
+takes_nothing a = record { output = appends_nothing a.output; messages = appends_nothing a.messages }
 
-pub writes_join : (a b c : Held) (p q : List Piece) → Writes a b p → Writes b c q → Writes a c (p ++ q)
-writes_join a b c p q first second = record {
+pub takes_join : (a b c : Held) (p q : List Piece) → Takes a b p → Takes b c q → Takes a c (p ++ q)
+takes_join a b c p q first second = record {
   output = subst (Appends a.output c.output) (sym (output_of-append p q)) (appends_join a.output b.output c.output (output_of p) (output_of q) first.output second.output);
   messages = subst (Appends a.messages c.messages) (sym (messages_of-append p q)) (appends_join a.messages b.messages c.messages (messages_of p) (messages_of q) first.messages second.messages);
 }
+
+pub writes_nothing : (a : Held) → Writes a a []
+writes_nothing a = record { takes = takes_nothing a; output_faults = refl; messages_faults = refl }
+
+pub writes_join : (a b c : Held) (p q : List Piece) → Writes a b p → Writes b c q → Writes a c (p ++ q)
+writes_join a b c p q first second = record {
+  takes = takes_join a b c p q first.takes second.takes;
+  output_faults = second.output_faults ∙ first.output_faults;
+  messages_faults = second.messages_faults ∙ first.messages_faults;
+}
+
+-- what was written without a fault, and then to a stop
+pub writes_until : (why : Stop) (a b c : Held) (p q : List Piece) → Writes a b p → WritesUntil why b c q → WritesUntil why a c (p ++ q)
+writes_until why a b c p q first second = record {
+  takes = takes_join a b c p q first.takes second.takes;
+  output_faults = λ other. second.output_faults other ∙ first.output_faults;
+  messages_faults = λ other. second.messages_faults other ∙ first.messages_faults;
+}
+
+-- to a stop that no writer made
+pub until_here : (why : Stop) (a b : Held) (p : List Piece) → Writes a b p → WritesUntil why a b p
+until_here why a b p w = record { takes = w.takes; output_faults = λ _. w.output_faults; messages_faults = λ _. w.messages_faults }
 
 -- a proper prefix of one piece
 pub breaks_off : (writer : List ℕ → Piece) (text : List ℕ) (n : ℕ) → n < length text → BreaksOff writer (writer text ∷ []) (writer (take n text) ∷ [])
@@ -81,11 +102,11 @@ cut_before stop.Memory new pieces after written c = (c.0 ++ after, ap (λ l. l +
 
 -- memory was refused before any of the pieces
 pub stops_first : (old : Held) (pieces : List Piece) → StopsWithin stop.Memory old old pieces
-stops_first old pieces = ([], writes_nothing old, (pieces, refl))
+stops_first old pieces = ([], until_here stop.Memory old old [] (writes_nothing old), (pieces, refl))
 
 -- memory was refused between the pieces that stand and those to come
 pub stops_after : (old middle : Held) (all so_far rest : List Piece) → all ≡ so_far ++ rest → Writes old middle so_far → StopsWithin stop.Memory old middle all
-stops_after old middle all so_far rest split first = (so_far, first, (rest, split))
+stops_after old middle all so_far rest split first = (so_far, until_here stop.Memory old middle so_far first, (rest, split))
 
 -- a call that stopped
 pub stops : {A : Type 0} (old new : Held) (p : List Piece) (r : Result A Stop) (why : Stop) → Emits old new p r → r ≡ Err why → StopsWithin why old new p
@@ -96,7 +117,7 @@ pub stops_between : {A : Type 0} (old middle new : Held) (all so_far p rest : Li
 stops_between old middle new all so_far p rest r why split first emits e =
     let at = stops middle new p r why emits e in (
       so_far ++ at.0,
-      writes_join old middle new so_far at.0 first at.1,
+      writes_until why old middle new so_far at.0 first at.1,
       subst (λ (ps : List Piece). IsCutBy why new ps (so_far ++ at.0)) (sym split) (cut_after why new so_far (p ++ rest) at.0 (cut_before why new p rest at.0 at.2)),
     )
 

@@ -4,9 +4,10 @@ use Rattle.idn2_cli.specs.declared.console.Console.{Console}
 use Rattle.idn2_cli.specs.Held.{Held, held}
 
 -- what the writers of a console hold
-abbrev pub held_by : {W E : Type 0} → (W → Option (List ℕ)) → (W → Bool) → (E → Option (List ℕ)) → (E → Bool) → Console W E → Held
-held_by output output_failed messages messages_failed console =
-    held (output console.output.now) (output_failed console.output.now) (messages console.messages.now) (messages_failed console.messages.now)
+abbrev pub held_by : {W E : Type 0} → (W → Option (List ℕ)) → (W → Bool) → (W → ℕ) → (E → Option (List ℕ)) → (E → Bool) → (E → ℕ) → Console W E → Held
+held_by output output_failed output_faults messages messages_failed messages_faults console =
+    held (output console.output.now) (output_failed console.output.now) (output_faults console.output.now)
+    (messages console.messages.now) (messages_failed console.messages.now) (messages_faults console.messages.now)
 
 -- the console still has the same two writers
 pub record HasSameWriters {W E : Type 0} (old new : Console W E) : Type 0 where

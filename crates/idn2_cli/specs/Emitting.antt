@@ -1,7 +1,7 @@
 -- Writing pieces, to the last or to a stop.
-use Rattle.std.specs.Prelude.{◌≡◌, ◌<◌, ℕ, List, [], ◌∷◌, ◌++◌, length, take, true, Result, MatchResult}
+use Rattle.std.specs.Prelude.{◌≡◌, ◌≢◌, ◌<◌, ℕ, List, [], ◌∷◌, ◌++◌, length, take, true, Result, MatchResult}
 use Rattle.idn2_cli.specs.Pieces.{Piece, Output, Message}
-use Rattle.idn2_cli.specs.Held.{Held, Writes}
+use Rattle.idn2_cli.specs.Held.{Held, Takes, Writes}
 use Rattle.idn2_cli.specs.declared.stop.Stop.{Stop}
 use Rattle.idn2_cli.specs.declared.stop.Stop.TheVariants as stop
 
@@ -22,9 +22,15 @@ IsCutBy stop.Output new pieces written = BreaksOff Output pieces written × (new
 IsCutBy stop.Messages new pieces written = BreaksOff Message pieces written × (new.messages_failed ≡ true)
 IsCutBy stop.Memory new pieces written = (after : List Piece) × (pieces ≡ written ++ after)
 
+-- each of the writers took its pieces, in order, and no write failed but of the writer that the stop names
+pub record WritesUntil (why : Stop) (old new : Held) (pieces : List Piece) : Type 0 where
+  pub takes : Takes old new pieces
+  pub output_faults : why ≢ stop.Output → new.output_faults ≡ old.output_faults
+  pub messages_faults : why ≢ stop.Messages → new.messages_faults ≡ old.messages_faults
+
 -- some of the pieces are written, as far as the stop lets them
 abbrev pub StopsWithin : Stop → Held → Held → List Piece → Type 0
-StopsWithin why old new pieces = (written : List Piece) × Writes old new written × IsCutBy why new pieces written
+StopsWithin why old new pieces = (written : List Piece) × WritesUntil why old new written × IsCutBy why new pieces written
 
 -- all of the pieces are written, or some to a stop
 abbrev pub Emits : {A : Type 0} → Held → Held → List Piece → Result A Stop → Type 0

@@ -1,5 +1,5 @@
 -- How a run ends: one of four ways.
-use Rattle.std.specs.Prelude.{◌≡◌, ◌<◌, ◌≤◌, ◌⊎◌, ℕ, Bool, true, false, IsTrue, List, [], ◌∷◌, ◌++◌, length, take, Result, Ok, Err}
+use Rattle.std.specs.Prelude.{◌≡◌, ◌≢◌, ◌<◌, ◌≤◌, ◌⊎◌, ℕ, Bool, true, false, IsTrue, List, [], ◌∷◌, ◌++◌, length, take, Ok, Err}
 use Rattle.idn_text.specs.Lines.{Numbered}
 use Rattle.idn_text.specs.Reading.{Reading, HasRead, HasStopped}
 use Rattle.idn_text.specs.declared.lines.State.TheVariants.{Ended, Stopped}
@@ -7,7 +7,7 @@ use Rattle.idn_text.specs.declared.refusal.Refusal.{Refusal}
 use Rattle.idn_text.specs.declared.refusal.Refusal.TheVariants as refusals
 use Rattle.idn2_cli.specs.Settings.{Settings}
 use Rattle.idn2_cli.specs.Pieces.{Piece, Message}
-use Rattle.idn2_cli.specs.Held.{Held, Writes}
+use Rattle.idn2_cli.specs.Held.{Held, Takes}
 use Rattle.idn2_cli.specs.Emitting.{IsCutBy}
 use Rattle.idn2_cli.specs.Tables.{TableGiven}
 use Rattle.idn2_cli.specs.Faults.{closing_message, closing_status}
@@ -27,17 +27,18 @@ refusal_of stop.Output = refusals.WriteFault
 refusal_of stop.Messages = refusals.WriteFault
 refusal_of stop.Memory = refusals.Memory
 
--- the message stands, or a proper prefix of it where the messages failed
-pub record IsTold (text : List ℕ) (new : Held) (closing : List Piece) : Type 0 where
+-- the message stands, and no write of the messages failed; or a proper prefix of it, where one did
+pub record IsTold (text : List ℕ) (old new : Held) (closing : List Piece) : Type 0 where
   pub taken : ℕ
   pub within : taken ≤ length text
   pub failed : taken < length text → new.messages_failed ≡ true
+  pub no_fault : taken ≡ length text → new.messages_faults ≡ old.messages_faults
   pub cut : closing ≡ Message (take taken text) ∷ []
 
 -- what is written of the last message. There is none where the messages failed before
-abbrev pub Closes : Stop → Held → List Piece → Type 0
-Closes stop.Messages new closing = closing ≡ []
-Closes why new closing = IsTold (closing_message (refusal_of why)) new closing
+abbrev pub Closes : Stop → Held → Held → List Piece → Type 0
+Closes stop.Messages old new closing = closing ≡ []
+Closes why old new closing = IsTold (closing_message (refusal_of why)) old new closing
 
 -- ---- the four ways
 
@@ -53,20 +54,24 @@ reads_lines mode (Err fault) = false
 reads_lines CheckTable (Ok table) = false
 reads_lines mode (Ok table) = true
 
--- 1. no fault: to the end of the input, if it is read, all pieces are written
-pub record EndsWell (o : Settings) (table : TableGiven) (input : Reading) (lines : List Numbered) (written : List Piece) (status : Status) : Type 0 where
+-- 1. no fault: to the end of the input, if it is read, all pieces are written, and no write failed
+pub record EndsWell (o : Settings) (table : TableGiven) (input : Reading) (old new : Held) (lines : List Numbered) (written : List Piece) (status : Status) : Type 0 where
   pub ended : IsTrue (reads_lines o.mode table) → input.state ≡ Ended
   pub whole : written ≡ transcript o table lines
+  pub output_faults : new.output_faults ≡ old.output_faults
+  pub messages_faults : new.messages_faults ≡ old.messages_faults
   pub answered : status ≡ status_of o table lines
 
--- 2. a read fault, 3. a write fault, 4. memory: what stands of the pieces, then the last message
-pub record EndsEarly (o : Settings) (table : TableGiven) (input : Reading) (new : Held) (lines : List Numbered) (written : List Piece) (status : Status) : Type 0 where
+-- 2. a read fault, 3. a write fault, 4. memory: what stands of the pieces, then the last message. No write failed but the
+-- one that the stop names, or one of the last message
+pub record EndsEarly (o : Settings) (table : TableGiven) (input : Reading) (old new : Held) (lines : List Numbered) (written : List Piece) (status : Status) : Type 0 where
   pub why : Stop
   pub standing : List Piece
   pub closing : List Piece
   pub split : written ≡ standing ++ closing
   pub stands : Stands why input new (transcript o table lines) standing
-  pub closes : Closes why new closing
+  pub closes : Closes why old new closing
+  pub output_faults : why ≢ stop.Output → new.output_faults ≡ old.output_faults
   pub answered : status ≡ closing_status (refusal_of why)
 
 -- Of the input these bytes were taken, and these lines of them read. These pieces were written, in order, each to its writer.
@@ -76,5 +81,5 @@ pub record Ends (o : Settings) (table : TableGiven) (start now : Reading) (old n
   pub written : List Piece
   pub read : HasRead start now given lines
   pub unread : reads_lines o.mode table ≡ false → now ≡ start
-  pub pieces : Writes old new written
-  pub ending : EndsWell o table now lines written status ⊎ EndsEarly o table now new lines written status
+  pub pieces : Takes old new written
+  pub ending : EndsWell o table now old new lines written status ⊎ EndsEarly o table now old new lines written status

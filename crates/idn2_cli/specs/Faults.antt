@@ -28,9 +28,10 @@ closing_status WriteFault = Faulty
 closing_status Memory = OutOfMemory
 closing_status _ = Unusable
 
--- a writer took the text, or a proper prefix of it where it failed
-pub record TakesText (text : List ℕ) (old new : Option (List ℕ)) (has_failed : Bool) : Type 0 where
+-- a writer took the text and no write of it failed, or a proper prefix of it where it failed
+pub record TakesText (text : List ℕ) (old new : Option (List ℕ)) (has_failed : Bool) (old_faults new_faults : ℕ) : Type 0 where
   pub taken : ℕ
   pub within : taken ≤ length text
   pub cause : taken < length text → has_failed ≡ true
+  pub no_fault : taken ≡ length text → new_faults ≡ old_faults
   pub appends : Appends old new (take taken text)

@@ -5,6 +5,7 @@ use Rattle.idn_text.specs.Reading.{Reading, HasRead}
 use Rattle.idn_text.specs.declared.lines.State.TheVariants.{Ended}
 use Rattle.idn2_cli.specs.Pieces.{Piece}
 use Rattle.idn2_cli.specs.Held.{Held, Writes}
+use Rattle.idn2_cli.specs.Emitting.{WritesUntil}
 use Rattle.idn2_cli.specs.LineAnswers.{LineAnswer}
 use Rattle.idn2_cli.specs.Transcript.{lines_pieces, has_refused, status_if}
 use Rattle.idn2_cli.specs.Ends.{Stands}
@@ -26,5 +27,5 @@ pub record HasStoppedServing (answer : List ℕ → LineAnswer) (why : Stop) (st
   pub lines : List Numbered
   pub written : List Piece
   pub read : HasRead start now given lines
-  pub pieces : Writes old new written
+  pub pieces : WritesUntil why old new written
   pub stands : Stands why now new (lines_pieces answer lines) written

@@ -7,6 +7,7 @@ use Rattle.idn2_cli.specs.Settings.{Settings}
 use Rattle.idn2_cli.specs.Tables.{TableGiven}
 use Rattle.idn2_cli.specs.Pieces.{Piece}
 use Rattle.idn2_cli.specs.Held.{Held, Writes}
+use Rattle.idn2_cli.specs.Emitting.{WritesUntil}
 use Rattle.idn2_cli.specs.Transcript.{transcript, status_of}
 use Rattle.idn2_cli.specs.Ends.{Stands, reads_lines}
 use Rattle.idn2_cli.specs.declared.status.Status.{Status}
@@ -29,5 +30,5 @@ pub record HasHalted (o : Settings) (table : TableGiven) (why : Stop) (start now
   pub written : List Piece
   pub read : HasRead start now given lines
   pub unread : reads_lines o.mode table ≡ false → now ≡ start
-  pub pieces : Writes old new written
+  pub pieces : WritesUntil why old new written
   pub stands : Stands why now new (transcript o table lines) written

@@ -16,7 +16,7 @@ use idn_text::{Refusal, Sink};
 use std::alloc::Global;
 
 /// A mode that answers each line by its code points alone.
-pub trait Answering {
+pub(crate) trait Answering {
     // The answer to the code points of a line.
     ghost answer_of: { Self → List ℕ → LineAnswer };
 
@@ -34,8 +34,8 @@ pub trait Answering {
         requires ready { is_ready self.now }
         requires few { length points.now ≤ 1024 }
         requires scalar_values { AreScalarValues points.now }
-        ensures written { Emits (held_by W.contents W.has_failed E.contents E.has_failed console.old)
-            (held_by W.contents W.has_failed E.contents E.has_failed console.new)
+        ensures written { Emits (held_by W.contents W.has_failed W.faults E.contents E.has_failed E.faults console.old)
+            (held_by W.contents W.has_failed W.faults E.contents E.has_failed E.faults console.new)
             (pieces_for number (answer_of self.now points.now)) result }
         ensures refused { IfOk result (λ refused. refused ≡ is_err (answer_of self.now points.now)) }
         ensures same { HasSameWriters console.old console.new };
@@ -46,8 +46,8 @@ pub(crate) fn reply<W: Sink, E: Sink>(
     line: &[u8],
     console: &mut Console<'_, '_, W, E>,
 ) -> Result<bool, Stop>
-    ensures written { Emits (held_by W.contents W.has_failed E.contents E.has_failed console.old)
-        (held_by W.contents W.has_failed E.contents E.has_failed console.new) (Output line.now ∷ []) result }
+    ensures written { Emits (held_by W.contents W.has_failed W.faults E.contents E.has_failed E.faults console.old)
+        (held_by W.contents W.has_failed W.faults E.contents E.has_failed E.faults console.new) (Output line.now ∷ []) result }
     ensures refused { IfOk result (λ refused. refused ≡ false) }
     ensures same { HasSameWriters console.old console.new }
 {
@@ -62,8 +62,8 @@ pub(crate) fn refuse<W: Sink, E: Sink>(
     console: &mut Console<'_, '_, W, E>,
 ) -> Result<bool, Stop>
     ensures written { (answer : LineAnswer) → (refusal ≢ Refusal.Memory → answer ≡ Err refusal) →
-        Emits (held_by W.contents W.has_failed E.contents E.has_failed console.old)
-        (held_by W.contents W.has_failed E.contents E.has_failed console.new) (pieces_for number answer) result }
+        Emits (held_by W.contents W.has_failed W.faults E.contents E.has_failed E.faults console.old)
+        (held_by W.contents W.has_failed W.faults E.contents E.has_failed E.faults console.new) (pieces_for number answer) result }
     ensures refused { (answer : LineAnswer) → (refusal ≢ Refusal.Memory → answer ≡ Err refusal) →
         IfOk result (λ refused. refused ≡ is_err answer) }
     ensures same { HasSameWriters console.old console.new }

@@ -1,12 +1,13 @@
 //! The lines of a block.
 
-ghost use Rattle.std.specs.Prelude.{◌≡◌, ◌≤◌, ◌∷◌, [], ◌++◌, length, codes, decimal, None, Some};
+ghost use Rattle.std.specs.Prelude.{◌≡◌, ◌≤◌, ◌∷◌, [], ◌++◌, length, codes, decimal, None, Some, IfErr};
 ghost use Rattle.idn_text.specs.Points.{AreScalarValues};
 ghost use Rattle.idn_label.specs.FirstFault.{IsRegistrable};
 ghost use Rattle.idn2_cli.specs.Pieces.{Output};
 ghost use Rattle.idn2_cli.specs.Blocks.{variant_line, trailer, reaches};
 ghost use Rattle.idn2_cli.specs.Emitting.{Emits};
 ghost use Rattle.idn2_cli.specs.Consoles.{held_by, HasSameWriters};
+ghost use Rattle.idn2_cli.specs.declared.stop.Stop.TheVariants as stop;
 
 use crate::console::Console;
 use crate::line::append;
@@ -35,8 +36,8 @@ pub(crate) fn write_variant<W: Sink, E: Sink>(
     console: &mut Console<'_, '_, W, E>,
 ) -> Result<(), Stop>
     requires { IsRegistrable label.now }
-    ensures written { Emits (held_by W.contents W.has_failed E.contents E.has_failed console.old)
-        (held_by W.contents W.has_failed E.contents E.has_failed console.new) (Output (variant_line label.now ++ 10 ∷ []) ∷ []) result }
+    ensures written { Emits (held_by W.contents W.has_failed W.faults E.contents E.has_failed E.faults console.old)
+        (held_by W.contents W.has_failed W.faults E.contents E.has_failed E.faults console.new) (Output (variant_line label.now ++ 10 ∷ []) ∷ []) result }
     ensures same { HasSameWriters console.old console.new }
 {
     let a_label = match test_label(alloc, label) {
@@ -61,8 +62,9 @@ pub(crate) fn write_stop<W: Sink, E: Sink>(
 ) -> Result<(), Stop>
     requires short { length last.now ≤ 63 }
     requires scalar_values { AreScalarValues last.now }
-    ensures written { Emits (held_by W.contents W.has_failed E.contents E.has_failed console.old)
-        (held_by W.contents W.has_failed E.contents E.has_failed console.new) (Output (trailer count (Some last.now) ++ 10 ∷ []) ∷ []) result }
+    ensures written { Emits (held_by W.contents W.has_failed W.faults E.contents E.has_failed E.faults console.old)
+        (held_by W.contents W.has_failed W.faults E.contents E.has_failed E.faults console.new) (Output (trailer count (Some last.now) ++ 10 ∷ []) ∷ []) result }
+    ensures why { IfErr result (λ why. why ≡ stop.Output) }
     ensures same { HasSameWriters console.old console.new }
 {
     write_points(last, text);
@@ -90,8 +92,9 @@ pub(crate) fn write_end<W: Sink, E: Sink>(
     count: u64,
     console: &mut Console<'_, '_, W, E>,
 ) -> Result<(), Stop>
-    ensures written { Emits (held_by W.contents W.has_failed E.contents E.has_failed console.old)
-        (held_by W.contents W.has_failed E.contents E.has_failed console.new) (Output (trailer count None ++ 10 ∷ []) ∷ []) result }
+    ensures written { Emits (held_by W.contents W.has_failed W.faults E.contents E.has_failed E.faults console.old)
+        (held_by W.contents W.has_failed W.faults E.contents E.has_failed E.faults console.new) (Output (trailer count None ++ 10 ∷ []) ∷ []) result }
+    ensures why { IfErr result (λ why. why ≡ stop.Output) }
     ensures same { HasSameWriters console.old console.new }
 {
     let mut line = ArrayString::<48>::new();

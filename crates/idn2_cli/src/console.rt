@@ -7,7 +7,7 @@ use idn_text::{Sink, write_text};
 
 /// The output and the messages of a run.
 #[derive(Drop)]
-pub struct Console<'o, 'm, W: Sink, E: Sink> {
+pub(crate) struct Console<'o, 'm, W: Sink, E: Sink> {
     pub output: &'o mut W,
     pub messages: &'m mut E,
 }
@@ -20,8 +20,9 @@ impl<'o, 'm, W: Sink, E: Sink> Console<'o, 'm, W, E> {
 
     /// Writes a piece to the output.
     pub fn output(&mut self, text: &[u8]) -> Result<(), Stop>
-        ensures written { Emits (held_by W.contents W.has_failed E.contents E.has_failed self.old)
-            (held_by W.contents W.has_failed E.contents E.has_failed self.new) (pieces.Output text.now ∷ []) result }
+        ensures written { Emits (held_by W.contents W.has_failed W.faults E.contents E.has_failed E.faults self.old)
+            (held_by W.contents W.has_failed W.faults E.contents E.has_failed E.faults self.new) (pieces.Output text.now ∷ []) result }
+        ensures why { IfErr result (λ why. why ≡ stop.Output) }
         ensures same { HasSameWriters self.old self.new }
         ensures messages { self.new.messages.now ≡ self.old.messages.now }
     {
@@ -33,8 +34,8 @@ impl<'o, 'm, W: Sink, E: Sink> Console<'o, 'm, W, E> {
 
     /// Writes a piece to the messages.
     pub fn message(&mut self, text: &[u8]) -> Result<(), Stop>
-        ensures written { Emits (held_by W.contents W.has_failed E.contents E.has_failed self.old)
-            (held_by W.contents W.has_failed E.contents E.has_failed self.new) (pieces.Message text.now ∷ []) result }
+        ensures written { Emits (held_by W.contents W.has_failed W.faults E.contents E.has_failed E.faults self.old)
+            (held_by W.contents W.has_failed W.faults E.contents E.has_failed E.faults self.new) (pieces.Message text.now ∷ []) result }
         ensures why { IfErr result (λ why. why ≡ stop.Messages) }
         ensures same { HasSameWriters self.old self.new }
         ensures output { self.new.output.now ≡ self.old.output.now }

@@ -33,7 +33,7 @@ fn status_of(refusal: &Refusal) -> Status
 pub fn report<E: Sink>(refusal: &Refusal, err: &mut E) -> Status
     requires { IsFault refusal.now }
     ensures status { result ≡ closing_status refusal.now }
-    ensures message { TakesText (closing_message refusal.now) (E.contents err.old) (E.contents err.new) (E.has_failed err.new) }
+    ensures message { TakesText (closing_message refusal.now) (E.contents err.old) (E.contents err.new) (E.has_failed err.new) (E.faults err.old) (E.faults err.new) }
 {
     // Nobody is left to be told of a fault here.
     let _ = write_text(err, message_of(refusal).as_bytes());

@@ -24,14 +24,11 @@ mod tables;
 mod usage;
 mod words;
 
-pub use answering::Answering;
-pub use console::Console;
 pub use fault::report;
 pub use input::input_text;
 pub use mode::Mode;
 pub use options::Options;
 pub use session::run;
 pub use status::Status;
-pub use stop::Stop;
 pub use usage::Usage;
 pub use words::read_options;

@@ -28,11 +28,11 @@ pub(crate) fn serve_lines<M: Answering, R: Source, W: Sink, E: Sink>(
     requires ready { M.is_ready mode.now }
     requires unread { IsUnread input.old }
     ensures ended { IfOk result (λ status. HasServed (M.answer_of mode.now) input.old input.new
-        (held_by W.contents W.has_failed E.contents E.has_failed console.old)
-        (held_by W.contents W.has_failed E.contents E.has_failed console.new) status) }
+        (held_by W.contents W.has_failed W.faults E.contents E.has_failed E.faults console.old)
+        (held_by W.contents W.has_failed W.faults E.contents E.has_failed E.faults console.new) status) }
     ensures stopped { IfErr result (λ why. HasStoppedServing (M.answer_of mode.now) why input.old input.new
-        (held_by W.contents W.has_failed E.contents E.has_failed console.old)
-        (held_by W.contents W.has_failed E.contents E.has_failed console.new)) }
+        (held_by W.contents W.has_failed W.faults E.contents E.has_failed E.faults console.old)
+        (held_by W.contents W.has_failed W.faults E.contents E.has_failed E.faults console.new)) }
     ensures same { HasSameWriters console.old console.new }
 {
     let mut points = ArrayVec::new();
@@ -57,8 +57,8 @@ fn serve_line<M: Answering, W: Sink, E: Sink>(
     console: &mut Console<'_, '_, W, E>,
 ) -> Result<bool, Stop>
     requires { M.is_ready mode.now }
-    ensures written { Emits (held_by W.contents W.has_failed E.contents E.has_failed console.old)
-        (held_by W.contents W.has_failed E.contents E.has_failed console.new)
+    ensures written { Emits (held_by W.contents W.has_failed W.faults E.contents E.has_failed E.faults console.old)
+        (held_by W.contents W.has_failed W.faults E.contents E.has_failed E.faults console.new)
         (line_pieces (M.answer_of mode.now) (numbered_line line.now)) result }
     ensures refused { IfOk result (λ refused. refused ≡ is_err (line_answer (M.answer_of mode.now) (bytes_of line.now.body))) }
     ensures same { HasSameWriters console.old console.new }
@@ -80,8 +80,8 @@ fn serve_text<M: Answering, W: Sink, E: Sink>(
 ) -> Result<bool, Stop>
     requires ready { M.is_ready mode.now }
     requires few { length text.now ≤ 1024 }
-    ensures written { Emits (held_by W.contents W.has_failed E.contents E.has_failed console.old)
-        (held_by W.contents W.has_failed E.contents E.has_failed console.new)
+    ensures written { Emits (held_by W.contents W.has_failed W.faults E.contents E.has_failed E.faults console.old)
+        (held_by W.contents W.has_failed W.faults E.contents E.has_failed E.faults console.new)
         (pieces_for number (text_answer (M.answer_of mode.now) text.now)) result }
     ensures refused { IfOk result (λ refused. refused ≡ is_err (text_answer (M.answer_of mode.now) text.now)) }
     ensures same { HasSameWriters console.old console.new }

@@ -4,7 +4,7 @@ ghost use Rattle.std.specs.Prelude.{◌≡◌, IfOk, IfErr, List};
 ghost use Rattle.idn_text.specs.Reading.{IsUnread};
 ghost use Rattle.idn2_cli.specs.Settings.{IsWithinLimits};
 ghost use Rattle.idn2_cli.specs.Pieces.{Piece};
-ghost use Rattle.idn2_cli.specs.Held.{held, Writes};
+ghost use Rattle.idn2_cli.specs.Held.{held, Takes};
 ghost use Rattle.idn2_cli.specs.Consoles.{held_by, HasSameWriters};
 ghost use Rattle.idn2_cli.specs.Faults.{closing_status};
 ghost use Rattle.idn2_cli.specs.Tables.{TableGiven, IsReadAs, IsTableOf};
@@ -42,8 +42,8 @@ pub fn run<R: Source, W: Sink, E: Sink>(
     requires unread { IsUnread input.old }
     ensures { (given : TableGiven) × IsTableOf options.now.mode table.now given
         × Ends options.now given input.old input.new
-        (held (W.contents out.old) (W.has_failed out.old) (E.contents err.old) (E.has_failed err.old))
-        (held (W.contents out.new) (W.has_failed out.new) (E.contents err.new) (E.has_failed err.new)) result }
+        (held (W.contents out.old) (W.has_failed out.old) (W.faults out.old) (E.contents err.old) (E.has_failed err.old) (E.faults err.old))
+        (held (W.contents out.new) (W.has_failed out.new) (W.faults out.new) (E.contents err.new) (E.has_failed err.new) (E.faults err.new)) result }
 {
     let mut console = Console {
         output: out,
@@ -64,8 +64,8 @@ fn serve<R: Source, W: Sink, E: Sink>(
     requires unread { IsUnread input.old }
     ensures ends { (given : TableGiven) × IsTableOf options.now.mode table.now given
         × Ends options.now given input.old input.new
-        (held_by W.contents W.has_failed E.contents E.has_failed console.old)
-        (held_by W.contents W.has_failed E.contents E.has_failed console.new) result }
+        (held_by W.contents W.has_failed W.faults E.contents E.has_failed E.faults console.old)
+        (held_by W.contents W.has_failed W.faults E.contents E.has_failed E.faults console.new) result }
     ensures same { HasSameWriters console.old console.new }
 {
     match serve_mode(alloc, options, table, input, console) {
@@ -86,12 +86,12 @@ fn serve_mode<R: Source, W: Sink, E: Sink>(
     requires unread { IsUnread input.old }
     ensures ended { IfOk result (λ status. (given : TableGiven) × IsTableOf options.now.mode table.now given
         × HasFinished options.now given input.old input.new
-        (held_by W.contents W.has_failed E.contents E.has_failed console.old)
-        (held_by W.contents W.has_failed E.contents E.has_failed console.new) status) }
+        (held_by W.contents W.has_failed W.faults E.contents E.has_failed E.faults console.old)
+        (held_by W.contents W.has_failed W.faults E.contents E.has_failed E.faults console.new) status) }
     ensures stopped { IfErr result (λ why. (given : TableGiven) × IsTableOf options.now.mode table.now given
         × HasHalted options.now given why input.old input.new
-        (held_by W.contents W.has_failed E.contents E.has_failed console.old)
-        (held_by W.contents W.has_failed E.contents E.has_failed console.new)) }
+        (held_by W.contents W.has_failed W.faults E.contents E.has_failed E.faults console.old)
+        (held_by W.contents W.has_failed W.faults E.contents E.has_failed E.faults console.new)) }
     ensures same { HasSameWriters console.old console.new }
 {
     match options.mode {
@@ -119,12 +119,12 @@ fn serve_variants<R: Source, W: Sink, E: Sink>(
     requires unread { IsUnread input.old }
     ensures ended { IfOk result (λ status. (given : TableGiven) × IsTableOf options.now.mode text.now given
         × HasFinished options.now given input.old input.new
-        (held_by W.contents W.has_failed E.contents E.has_failed console.old)
-        (held_by W.contents W.has_failed E.contents E.has_failed console.new) status) }
+        (held_by W.contents W.has_failed W.faults E.contents E.has_failed E.faults console.old)
+        (held_by W.contents W.has_failed W.faults E.contents E.has_failed E.faults console.new) status) }
     ensures stopped { IfErr result (λ why. (given : TableGiven) × IsTableOf options.now.mode text.now given
         × HasHalted options.now given why input.old input.new
-        (held_by W.contents W.has_failed E.contents E.has_failed console.old)
-        (held_by W.contents W.has_failed E.contents E.has_failed console.new)) }
+        (held_by W.contents W.has_failed W.faults E.contents E.has_failed E.faults console.old)
+        (held_by W.contents W.has_failed W.faults E.contents E.has_failed E.faults console.new)) }
     ensures same { HasSameWriters console.old console.new }
 {
     let table = match read_table(alloc, text)? {
@@ -145,8 +145,8 @@ fn serve_check<W: Sink, E: Sink>(
     console: &mut Console<'_, '_, W, E>,
 ) -> Result<Status, Stop>
     ensures checked { (given : TableGiven) × IsReadAs text.now given
-        × Emits (held_by W.contents W.has_failed E.contents E.has_failed console.old)
-        (held_by W.contents W.has_failed E.contents E.has_failed console.new) (check_pieces given) result
+        × Emits (held_by W.contents W.has_failed W.faults E.contents E.has_failed E.faults console.old)
+        (held_by W.contents W.has_failed W.faults E.contents E.has_failed E.faults console.new) (check_pieces given) result
         × IfOk result (λ status. status ≡ check_status given) }
     ensures same { HasSameWriters console.old console.new }
 {
@@ -158,9 +158,10 @@ fn serve_check<W: Sink, E: Sink>(
 
 /// Writes the last message of a run that stops, and gives its status.
 fn close<W: Sink, E: Sink>(why: Stop, console: &mut Console<'_, '_, W, E>) -> Status
-    ensures closes { (closing : List Piece) × Writes (held_by W.contents W.has_failed E.contents E.has_failed console.old)
-        (held_by W.contents W.has_failed E.contents E.has_failed console.new) closing
-        × Closes why (held_by W.contents W.has_failed E.contents E.has_failed console.new) closing }
+    ensures closes { (closing : List Piece) × Takes (held_by W.contents W.has_failed W.faults E.contents E.has_failed E.faults console.old)
+        (held_by W.contents W.has_failed W.faults E.contents E.has_failed E.faults console.new) closing
+        × Closes why (held_by W.contents W.has_failed W.faults E.contents E.has_failed E.faults console.old)
+        (held_by W.contents W.has_failed W.faults E.contents E.has_failed E.faults console.new) closing }
     ensures status { result ≡ closing_status (refusal_of why) }
     ensures output { console.new.output.now ≡ console.old.output.now }
     ensures still { why ≡ stop.Messages → console.new.messages.now ≡ console.old.messages.now }

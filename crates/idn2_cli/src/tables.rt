@@ -51,8 +51,8 @@ pub(crate) fn refuse_table<W: Sink, E: Sink>(
     refusal: Refusal,
     console: &mut Console<'_, '_, W, E>,
 ) -> Result<Status, Stop>
-    ensures written { Emits (held_by W.contents W.has_failed E.contents E.has_failed console.old)
-        (held_by W.contents W.has_failed E.contents E.has_failed console.new) (Message (table_message line refusal) ∷ []) result }
+    ensures written { Emits (held_by W.contents W.has_failed W.faults E.contents E.has_failed E.faults console.old)
+        (held_by W.contents W.has_failed W.faults E.contents E.has_failed E.faults console.new) (Message (table_message line refusal) ∷ []) result }
     ensures status { IfOk result (λ status. status ≡ statuses.Unusable) }
     ensures same { HasSameWriters console.old console.new }
 {

@@ -24,8 +24,8 @@ pub(crate) fn check_table<W: Sink, E: Sink>(
     table: &Table,
     console: &mut Console<'_, '_, W, E>,
 ) -> Result<Status, Stop>
-    ensures written { Emits (held_by W.contents W.has_failed E.contents E.has_failed console.old)
-        (held_by W.contents W.has_failed E.contents E.has_failed console.new) (output_lines (check_lines table.now)) result }
+    ensures written { Emits (held_by W.contents W.has_failed W.faults E.contents E.has_failed E.faults console.old)
+        (held_by W.contents W.has_failed W.faults E.contents E.has_failed E.faults console.new) (output_lines (check_lines table.now)) result }
     ensures status { IfOk result (λ status. status ≡ status_if (not (length (gaps_of table.now) == 0))) }
     ensures same { HasSameWriters console.old console.new }
 {
@@ -56,8 +56,8 @@ fn write_gaps<W: Sink, E: Sink>(
     console: &mut Console<'_, '_, W, E>,
 ) -> Result<(), Stop>
     requires { HoldSequences gaps.now }
-    ensures written { Emits (held_by W.contents W.has_failed E.contents E.has_failed console.old)
-        (held_by W.contents W.has_failed E.contents E.has_failed console.new) (output_lines (map gap_line (pairs_of gaps.now))) result }
+    ensures written { Emits (held_by W.contents W.has_failed W.faults E.contents E.has_failed E.faults console.old)
+        (held_by W.contents W.has_failed W.faults E.contents E.has_failed E.faults console.new) (output_lines (map gap_line (pairs_of gaps.now))) result }
     ensures same { HasSameWriters console.old console.new }
 {
     'gaps: for gap in gaps {

@@ -62,8 +62,8 @@ fn list<W: Sink, E: Sink>(
     requires limits { IsWithinLimits options.now }
     requires table { IsWellFormed table.now }
     requires registrable { IsRegistrable label.now }
-    ensures written { Emits (held_by W.contents W.has_failed E.contents E.has_failed console.old)
-        (held_by W.contents W.has_failed E.contents E.has_failed console.new)
+    ensures written { Emits (held_by W.contents W.has_failed W.faults E.contents E.has_failed E.faults console.old)
+        (held_by W.contents W.has_failed W.faults E.contents E.has_failed E.faults console.new)
         (pieces_for number (listing_answer options.now table.now label.now)) result }
     ensures refused { IfOk result (λ refused. refused ≡ is_err (listing_answer options.now table.now label.now)) }
     ensures same { HasSameWriters console.old console.new }
@@ -102,8 +102,8 @@ fn write_block<W: Sink, E: Sink>(
 ) -> Result<(), Stop>
     requires limits { IsWithinLimits options.now }
     requires table { IsWellFormed net.now.table }
-    ensures written { Emits (held_by W.contents W.has_failed E.contents E.has_failed console.old)
-        (held_by W.contents W.has_failed E.contents E.has_failed console.new)
+    ensures written { Emits (held_by W.contents W.has_failed W.faults E.contents E.has_failed E.faults console.old)
+        (held_by W.contents W.has_failed W.faults E.contents E.has_failed E.faults console.new)
         (output_lines (block options.now net.now.table net.now.label)) result }
     ensures same { HasSameWriters console.old console.new }
 {

@@ -1,4 +1,4 @@
-use Rattle.std.proofs.Common.{[], ◌∷◌, ◌∙◌, sym, ap, subst, refl, Err, Ok}
+use Rattle.std.proofs.Common.{[], ◌∷◌, ◌∙◌, sym, ap, refl, Err}
 use Rattle.std.proofs.lemmas.Result.{err_from_is_err_and}
 use Rattle.idn2_cli.specs.Pieces.{Message}
 use Rattle.idn2_cli.proofs.Writing.{emits_as, writes_as, stops, stops_first}

@@ -2,11 +2,17 @@ use Rattle.std.proofs.Common.{◌++◌, ◌∙◌, Some, Ok, Err, Option, ap, sy
 use Rattle.std.proofs.lemmas.Result.{err_from_is_err_and}
 use Rattle.idn_text.specs.declared.lines.Line.{Line}
 use Rattle.idn_text.specs.Reading.{HasRead, answered, numbered_line, IsLeftBy}
-use Rattle.idn2_cli.proofs.Sessions.{none_so_far, one_more, stops_in_line, or_true, or_else, same_writers-then}
+use Rattle.idn2_cli.proofs.Sessions.{none_so_far, one_more, stops_in_line, stops_reading, or_true, or_else, same_writers-then}
 use Rattle.idn2_cli.proofs.serving.serve_lines.Goals as goal
 
 pub lines-init : goal.lines-init
 lines-init g c = record { so_far = none_so_far _ _ _ c.requires.unread; same = record { output = refl; messages = refl } }
+
+pub returns-in_err-line-clause-stopped : goal.returns-in_err-line-clause-stopped
+returns-in_err-line-clause-stopped g c =
+    let p = err_from_is_err_and c.from_residual.result c.from_residual.ensures.1 in
+    let so_far = c.lines.invariant.so_far in
+    rw (p.1, p.2) (stops_reading _ _ _ c.next_line.new.self _ _ _ so_far c.in_err-line.ensures.cause c.in_err-line.ensures.state (c.in_err-line.ensures.lines _ so_far.given so_far.lines so_far.read))
 
 pub returns-in_err-is_refused-clause-stopped : goal.returns-in_err-is_refused-clause-stopped
 returns-in_err-is_refused-clause-stopped g c =

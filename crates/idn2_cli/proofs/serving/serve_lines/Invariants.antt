@@ -9,8 +9,8 @@ invariant-lines g l =
     let e = g.E.Sink in
     record {
       so_far : SoFar (g.M.Answering.answer_of l.mode) l.initial.input l.input
-          (held_by w.contents w.has_failed e.contents e.has_failed l.initial.console)
-          (held_by w.contents w.has_failed e.contents e.has_failed l.console)
+          (held_by w.contents w.has_failed w.faults e.contents e.has_failed e.faults l.initial.console)
+          (held_by w.contents w.has_failed w.faults e.contents e.has_failed e.faults l.console)
           l.has_refused;
       same : HasSameWriters l.initial.console l.console;
     }

@@ -1,6 +1,6 @@
-use Rattle.std.proofs.Common.{refl, ap, subst, sym, ◌∙◌}
+use Rattle.std.proofs.Common.{refl, ap, ◌∙◌}
 use Rattle.idn2_cli.specs.Faults.{closing_status}
-use Rattle.idn2_cli.proofs.Finishing.{closes_by, closes_nothing}
+use Rattle.idn2_cli.proofs.Finishing.{closes_by}
 use Rattle.idn2_cli.proofs.session.close.Goals as goal
 
 pub returns : goal.returns

@@ -1,6 +1,6 @@
-use Rattle.std.proofs.Common.{◌++◌, inl, inr, refl, ap}
-use Rattle.idn2_cli.proofs.Writing.{writes_join}
-use Rattle.idn2_cli.proofs.Finishing.{stands_still}
+use Rattle.std.proofs.Common.{◌++◌, inl, inr, refl, ap, ◌∙◌}
+use Rattle.idn2_cli.proofs.Writing.{takes_join}
+use Rattle.idn2_cli.proofs.Finishing.{stands_still, closes_since}
 use Rattle.idn2_cli.proofs.session.serve.Goals as goal
 
 pub returns-in-Err-clause-ends : goal.returns-in-Err-clause-ends
@@ -16,14 +16,15 @@ returns-in-Err-clause-ends g c =
         written = s.written ++ m.0;
         read = s.read;
         unread = s.unread;
-        pieces = writes_join _ _ _ s.written m.0 s.pieces m.1;
+        pieces = takes_join _ _ _ s.written m.0 s.pieces.takes m.1;
         ending = inr (record {
           why = c.in-Err.why;
           standing = s.written;
           closing = m.0;
           split = refl;
           stands = stands_still c.in-Err.why _ _ _ _ s.written s.stands (ap g.W.Sink.has_failed c.close.ensures.output) (λ e. ap g.E.Sink.has_failed (c.close.ensures.still e));
-          closes = m.2;
+          closes = closes_since c.in-Err.why _ _ _ m.0 s.pieces.messages_faults m.2;
+          output_faults = λ other. ap g.W.Sink.faults c.close.ensures.output ∙ s.pieces.output_faults other;
           answered = c.close.ensures.status;
         });
       },
@@ -41,7 +42,7 @@ returns-in-Ok-clause-ends g c =
         written = _;
         read = f.read;
         unread = f.unread;
-        pieces = f.pieces;
-        ending = inl (record { ended = f.ended; whole = refl; answered = f.answered });
+        pieces = f.pieces.takes;
+        ending = inl (record { ended = f.ended; whole = refl; output_faults = f.pieces.output_faults; messages_faults = f.pieces.messages_faults; answered = f.answered });
       },
     )

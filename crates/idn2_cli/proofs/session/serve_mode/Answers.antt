@@ -3,7 +3,7 @@ use Rattle.idn_label.specs.Lookup.{lookup_answer}
 use Rattle.idn2_cli.specs.Settings.{Settings}
 use Rattle.idn2_cli.specs.LineAnswers.{LineAnswer, one_line}
 use Rattle.idn2_cli.specs.Transcript.{lines_pieces, has_refused, status_if}
-use Rattle.idn2_cli.specs.declared.mode.Mode.TheVariants.{Lookup, Register, Decode, CheckTable}
+use Rattle.idn2_cli.specs.declared.mode.Mode.TheVariants.{Lookup, Register, Decode}
 use Rattle.idn2_cli.proofs.Finishing.{finished, halted, checked_ended, checked_stopped}
 use Rattle.idn2_cli.proofs.session.serve_mode.Goals as goal
 

@@ -1,4 +1,4 @@
-use Rattle.std.proofs.Common.{[], ◌∷◌, take, subst, sym}
+use Rattle.std.proofs.Common.{[], ◌∷◌, take, refl, subst, sym}
 use Rattle.std.proofs.lemmas.List.{append-nil}
 use Rattle.std.specs.Io.KnownBytes.{Appends}
 use Rattle.idn2_cli.specs.Pieces as pieces
@@ -9,5 +9,12 @@ pub returns-in-Err-clause-written : goal.returns-in-Err-clause-written
 returns-in-Err-clause-written g c =
     let n = c.in-Err.field-0.taken in
     let text = c.args.text.now in
-    let fault = breaks_off pieces.Message text n c.in-Err.ensures.proper in
-    (pieces.Message (take n text) ∷ [], record { output = appends_nothing _; messages = subst (Appends _ _) (sym (append-nil (take n text))) c.in-Err.ensures.part }, (fault, c.in-Err.ensures.cause))
+    let fault = breaks_off pieces.Message text n c.in-Err.ensures.proper in (
+      pieces.Message (take n text) ∷ [],
+      record {
+        takes = record { output = appends_nothing _; messages = subst (Appends _ _) (sym (append-nil (take n text))) c.in-Err.ensures.part };
+        output_faults = λ _. refl;
+        messages_faults = λ other. absurd (other refl);
+      },
+      (fault, c.in-Err.ensures.cause),
+    )

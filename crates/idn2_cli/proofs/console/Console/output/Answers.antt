@@ -1,4 +1,4 @@
-use Rattle.std.proofs.Common.{[], ◌∷◌, take, subst, sym}
+use Rattle.std.proofs.Common.{[], ◌∷◌, take, refl, subst, sym}
 use Rattle.std.proofs.lemmas.List.{append-nil}
 use Rattle.std.specs.Io.KnownBytes.{Appends}
 use Rattle.idn2_cli.specs.Pieces as pieces
@@ -9,5 +9,12 @@ pub returns-in-Err-clause-written : goal.returns-in-Err-clause-written
 returns-in-Err-clause-written g c =
     let n = c.in-Err.field-0.taken in
     let text = c.args.text.now in
-    let fault = breaks_off pieces.Output text n c.in-Err.ensures.proper in
-    (pieces.Output (take n text) ∷ [], record { output = subst (Appends _ _) (sym (append-nil (take n text))) c.in-Err.ensures.part; messages = appends_nothing _ }, (fault, c.in-Err.ensures.cause))
+    let fault = breaks_off pieces.Output text n c.in-Err.ensures.proper in (
+      pieces.Output (take n text) ∷ [],
+      record {
+        takes = record { output = subst (Appends _ _) (sym (append-nil (take n text))) c.in-Err.ensures.part; messages = appends_nothing _ };
+        output_faults = λ other. absurd (other refl);
+        messages_faults = λ _. refl;
+      },
+      (fault, c.in-Err.ensures.cause),
+    )

@@ -1,4 +1,4 @@
-use Rattle.std.proofs.Common.{◌++◌, [], ◌∷◌, ◌∙◌, Err, List, ℕ, not, ◌==◌, length, map, ap, sym, subst}
+use Rattle.std.proofs.Common.{◌++◌, [], ◌∷◌, ◌∙◌, Err, ℕ, not, ◌==◌, length, map, ap, sym, subst}
 use Rattle.std.proofs.lemmas.List.{append-nil}
 use Rattle.std.proofs.lemmas.Result.{err_from_is_err_and}
 use Rattle.variant_table.specs.Gaps.{pairs_of}
@@ -7,13 +7,18 @@ use Rattle.idn2_cli.specs.Pieces.{Output}
 use Rattle.idn2_cli.specs.Held.{Writes}
 use Rattle.idn2_cli.specs.Transcript.{gap_line, table_line, check_lines, output_lines, status_if}
 use Rattle.idn2_cli.proofs.CheckLemmas.{gap_at, check-split, pairs_of-length}
-use Rattle.idn2_cli.proofs.Writing.{emits_as, writes_as, writes_join, writes_nothing, stops_between}
+use Rattle.idn2_cli.proofs.Writing.{emits_as, writes_as, writes_join, writes_nothing, stops_first, stops_between}
 use Rattle.idn2_cli.proofs.modes.check_table.check_table.Goals as goal
 
 pub write_gaps-requires : goal.write_gaps-requires
 write_gaps-requires g c =
     subst HoldSequences (sym c.as_slice-pairs.ensures.value)
     (λ i gap lt is. gap_at c.args.table.now c.in_ok-gaps.gaps.items i gap c.len-entries.ensures.well_formed c.in_ok-gaps.ensures.gaps lt is)
+
+pub returns-in_err-gaps-clause-written : goal.returns-in_err-gaps-clause-written
+returns-in_err-gaps-clause-written g c =
+    let p = err_from_is_err_and c.from_residual.result c.from_residual.ensures.1 in
+    rw (p.1, p.2) (stops_first _ _)
 
 pub returns-in_err-write_gaps-clause-written : goal.returns-in_err-write_gaps-clause-written
 returns-in_err-write_gaps-clause-written g c =

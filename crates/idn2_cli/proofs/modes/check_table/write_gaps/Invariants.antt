@@ -15,8 +15,8 @@ invariant-gaps g l =
       so_far : List Piece;
       split : output_lines (map gap_line (pairs_of l.gaps)) ≡ so_far ++ output_lines (map gap_line (pairs_of (drop l.gap-index l.gaps)));
       pieces : Writes
-          (held_by w.contents w.has_failed e.contents e.has_failed l.initial.console)
-          (held_by w.contents w.has_failed e.contents e.has_failed l.console)
+          (held_by w.contents w.has_failed w.faults e.contents e.has_failed e.faults l.initial.console)
+          (held_by w.contents w.has_failed w.faults e.contents e.has_failed e.faults l.console)
           so_far;
       same : HasSameWriters l.initial.console l.console;
     }

@@ -4,7 +4,7 @@ use Rattle.idn_text.specs.declared.refusal.Refusal.TheVariants.{NotInTable}
 use Rattle.idn_label.proofs.RequirementLemmas.{MeetsRequirements-registrable}
 use Rattle.idn2_cli.specs.Blocks.{block}
 use Rattle.idn2_cli.specs.Transcript.{output_lines}
-use Rattle.idn2_cli.proofs.Writing.{stops}
+use Rattle.idn2_cli.proofs.Writing.{stops, stops_first}
 use Rattle.idn2_cli.proofs.Segmented.{some-length, listing_answer-segmented, listing_answer-unsegmented}
 use Rattle.idn2_cli.proofs.modes.variants.list.Goals as goal
 
@@ -29,6 +29,9 @@ returns-in_ok-write_block-in-Ok-clause-written g c =
 pub returns-in_ok-write_block-in-Ok-clause-refused : goal.returns-in_ok-write_block-in-Ok-clause-refused
 returns-in_ok-write_block-in-Ok-clause-refused g c =
     rw (listing_answer-segmented c.args.options.now c.args.table.now c.args.label.now c.requires.table c.in-Ok.ensures.segmented) refl
+
+pub returns-in-Err-Memory-clause-written : goal.returns-in-Err-Memory-clause-written
+returns-in-Err-Memory-clause-written g c = stops_first _ _
 
 pub returns-in-Err-NotInTable-clause-written : goal.returns-in-Err-NotInTable-clause-written
 returns-in-Err-NotInTable-clause-written g c =

@@ -1,4 +1,3 @@
-use Rattle.std.proofs.Common.{ℕ}
 use Rattle.idn2_cli.specs.Consoles.{held_by, HasSameWriters}
 use Rattle.idn2_cli.proofs.Listings.{IsListing}
 use Rattle.idn2_cli.proofs.modes.variants.write_block.Given as goal
@@ -10,8 +9,8 @@ invariant-variants g l =
     let e = g.E.Sink in
     record {
       listing : IsListing l.options l.net
-          (held_by w.contents w.has_failed e.contents e.has_failed l.fn.console)
-          (held_by w.contents w.has_failed e.contents e.has_failed l.console)
+          (held_by w.contents w.has_failed w.faults e.contents e.has_failed e.faults l.fn.console)
+          (held_by w.contents w.has_failed w.faults e.contents e.has_failed e.faults l.console)
           l.cursor l.count l.tries;
       same : HasSameWriters l.fn.console l.console;
     }
