@@ -16,4 +16,6 @@ pub mod DecodedLemmas
 pub mod ListingLemmas
 pub mod Segmented
 pub mod Listings
-mod SuitLemmas
+pub mod SuitLemmas
+pub mod ModeLemmas
+pub mod ExampleLemmas

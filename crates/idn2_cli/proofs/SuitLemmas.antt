@@ -14,7 +14,7 @@ use Rattle.idn2_cli.proofs.LimitLemmas.{le-test}
 
 -- ---- tests
 
-no_weight : (b : Bool) → cond {A = ℕ} b 1 0 ≡ 0 → b ≡ false
+pub no_weight : (b : Bool) → cond {A = ℕ} b 1 0 ≡ 0 → b ≡ false
 no_weight true none = absurd (omega arith)
 no_weight false none = refl
 
@@ -36,7 +36,7 @@ no-strings (s ∷ ss) none =
     let bad : length (s ∷ ss) ≡ 0 = no-length (length (s ∷ ss)) none in
     absurd (omega arith)
 
-false-where : (b : Bool) → (b ≡ true → ⊥) → b ≡ false
+pub false-where : (b : Bool) → (b ≡ true → ⊥) → b ≡ false
 false-where true never = absurd (never refl)
 false-where false never = refl
 
@@ -46,7 +46,7 @@ second-test false b either first = either
 
 -- ---- the mode
 
-abbrev mode_by : Bool → Bool → Bool → Bool → Mode
+abbrev pub mode_by : Bool → Bool → Bool → Bool → Mode
 mode_by register decode variants check =
     cond register Register (cond decode Decode (cond variants Variants (cond check CheckTable Lookup)))
 
@@ -64,7 +64,7 @@ check-named false false false true is = refl
 check-named false false false false is = absurd (let bad : Lookup ≡ CheckTable = is in cc)
 
 -- at most one of five is named
-abbrev IsOne : Bool → Bool → Bool → Bool → Bool → Type 0
+abbrev pub IsOne : Bool → Bool → Bool → Bool → Bool → Type 0
 IsOne l r d v k = count_by (λ named. named) (l ∷ r ∷ d ∷ v ∷ k ∷ []) ≤ 1
 
 variants-alone : (l r d v k : Bool) → IsOne l r d v k → v ≡ true → mode_by r d v k ≡ Variants
@@ -79,12 +79,12 @@ check-alone l r d v k one is_k =
 
 -- ---- the rules, one by one
 
-record Rules (rows : List Row) : Type 0 where
-  one : IsOne (has_flag (codes "lookup") rows) (has_flag (codes "register") rows) (has_flag (codes "decode") rows) (has_value (codes "variants") rows) (has_value (codes "check-table") rows)
-  bounds : bounds_variants rows ≡ true
-  alone : checks_alone rows ≡ true
+pub record Rules (rows : List Row) : Type 0 where
+  pub one : IsOne (has_flag (codes "lookup") rows) (has_flag (codes "register") rows) (has_flag (codes "decode") rows) (has_value (codes "variants") rows) (has_value (codes "check-table") rows)
+  pub bounds : bounds_variants rows ≡ true
+  pub alone : checks_alone rows ≡ true
 
-rules : (rows : List Row) → is_allowed rows ≡ true → Rules rows
+pub rules : (rows : List Row) → is_allowed rows ≡ true → Rules rows
 rules rows allowed =
     let last = and_parts (names_one_mode rows && bounds_variants rows && has_counts rows && has_short_start rows) (checks_alone rows) allowed in
     let start = and_parts (names_one_mode rows && bounds_variants rows && has_counts rows) (has_short_start rows) last.0 in

@@ -1,10 +1,9 @@
 -- What ends the program outside a line: bad words, a read or a write that failed, want of memory.
 use Rattle.std.specs.Prelude.{◌≡◌, ◌<◌, ◌≤◌, ℕ, Bool, true, List, ◌++◌, Option, codes, length, take}
-use Rattle.std.specs.Fmt.{decimal}
 use Rattle.std.specs.Io.KnownBytes.{Appends}
-use Rattle.idn_text.specs.Refusals.{refusal_number, refusal_text}
 use Rattle.idn_text.specs.declared.refusal.Refusal.{Refusal}
 use Rattle.idn_text.specs.declared.refusal.Refusal.TheVariants.{Usage, ReadFault, WriteFault, Memory}
+use Rattle.idn2_cli.specs.Transcript.{told}
 use Rattle.idn2_cli.specs.declared.status.Status.{Status}
 use Rattle.idn2_cli.specs.declared.status.Status.TheVariants.{Unusable, Faulty, OutOfMemory}
 
@@ -18,8 +17,7 @@ IsFault _ = ⊥
 
 -- its message, by number and text, with a line feed
 abbrev pub closing_message : Refusal → List ℕ
-closing_message refusal =
-    codes "idn2: " ++ (decimal (refusal_number refusal) ++ (codes " " ++ (refusal_text refusal ++ codes "\n")))
+closing_message refusal = codes "idn2: " ++ told refusal
 
 -- its status: 3 for a read or a write, 4 for memory, else 2
 abbrev pub closing_status : Refusal → Status

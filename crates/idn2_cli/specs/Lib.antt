@@ -15,5 +15,6 @@ pub mod Tables
 pub mod Gaps
 pub mod Ends
 pub mod Laws
+pub mod Examples
 pub mod Serving
 pub mod Sessions

@@ -8,7 +8,9 @@ use idn_text::{Sink, write_text};
 /// The output and the messages of a run.
 #[derive(Drop)]
 pub(crate) struct Console<'o, 'm, W: Sink, E: Sink> {
+    /// Takes the answers.
     pub output: &'o mut W,
+    /// Takes what is told of refusals and faults.
     pub messages: &'m mut E,
 }
 
@@ -18,7 +20,7 @@ impl<'o, 'm, W: Sink, E: Sink> Console<'o, 'm, W, E> {
     ghost use Rattle.idn2_cli.specs.Emitting.{Emits};
     ghost use Rattle.idn2_cli.specs.declared.stop.Stop.TheVariants as stop;
 
-    /// Writes a piece to the output.
+    /// Writes a piece to the output. It takes no memory.
     pub fn output(&mut self, text: &[u8]) -> Result<(), Stop>
         ensures written { Emits (held_by W.contents W.has_failed W.faults E.contents E.has_failed E.faults self.old)
             (held_by W.contents W.has_failed W.faults E.contents E.has_failed E.faults self.new) (pieces.Output text.now ∷ []) result }
@@ -28,11 +30,11 @@ impl<'o, 'm, W: Sink, E: Sink> Console<'o, 'm, W, E> {
     {
         match write_text(self.output, text) {
             Ok(()) => Ok(()),
-            Err(_) => Err(Stop::Output),
+            Err(_fault) => Err(Stop::Output),
         }
     }
 
-    /// Writes a piece to the messages.
+    /// Writes a piece to the messages. It takes no memory.
     pub fn message(&mut self, text: &[u8]) -> Result<(), Stop>
         ensures written { Emits (held_by W.contents W.has_failed W.faults E.contents E.has_failed E.faults self.old)
             (held_by W.contents W.has_failed W.faults E.contents E.has_failed E.faults self.new) (pieces.Message text.now ∷ []) result }
@@ -42,7 +44,7 @@ impl<'o, 'm, W: Sink, E: Sink> Console<'o, 'm, W, E> {
     {
         match write_text(self.messages, text) {
             Ok(()) => Ok(()),
-            Err(_) => Err(Stop::Messages),
+            Err(_fault) => Err(Stop::Messages),
         }
     }
 }

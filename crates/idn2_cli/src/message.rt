@@ -7,7 +7,7 @@ use arrayvec::ArrayString;
 use idn_text::Refusal;
 use itoa::Buffer;
 
-/// A message. The longest has 70 bytes.
+/// A message, for whose bytes there is room.
 pub type Message = ArrayString<80>;
 
 /// The message of a refused line.

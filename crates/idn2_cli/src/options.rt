@@ -5,9 +5,10 @@ use std::marker::Model;
 /// requires them.
 #[derive(Debug, Drop)]
 pub struct Options {
+    /// What is done with each line, or with the table.
     pub mode: Mode,
-    /// Lookup refuses code points outside letters, digits and hyphens (UseSTD3ASCIIRules of
-    /// UTS #46). The other modes don't read it.
+    /// Lookup refuses ASCII code points other than letters, digits and hyphens (UseSTD3ASCIIRules
+    /// of UTS #46). The other modes don't read it.
     pub std3: bool,
     /// The name of the table's file. Empty where the mode has no table.
     pub file: String,

@@ -16,7 +16,7 @@ use std::alloc::Global;
 /// Lookup (UTS 46 section 4.2).
 #[derive(Clone, Copy)]
 pub(crate) struct Lookup {
-    /// Whether only letters, digits and hyphens of ASCII are taken.
+    /// Whether ASCII code points other than letters, digits and hyphens are refused.
     pub std3: bool,
 }
 

@@ -1,14 +1,15 @@
 use Rattle.std.proofs.Common.{refl}
 use Rattle.std.specs.Fmt.{digits}
+use Rattle.std.specs.Str.{is_utf8, chars}
+use Rattle.idn2_cli.proofs.ExampleLemmas.{blocks, transcripts}
 use Rattle.idn2_cli.proofs.laws.examples_hold.Goals as goal
 
-pub returns : goal.returns
+pub returns-clause-run : goal.returns-clause-run
 unfolding digits
-returns c = record {
+returns-clause-run c = record {
   refused_line = refl;
   faulty_table = refl;
   write_fault = refl;
-  too_long = λ answer. refl;
   checked = refl;
   ended = refl;
   stopped = refl;
@@ -18,3 +19,13 @@ returns c = record {
   neither = refl;
   up_to_the_second = refl;
 }
+
+pub returns-clause-lines : goal.returns-clause-lines
+unfolding is_utf8 chars
+returns-clause-lines c = λ answer. record { too_long = refl; empty = refl; not_utf8 = refl }
+
+pub returns-clause-blocks : goal.returns-clause-blocks
+returns-clause-blocks c = blocks
+
+pub returns-clause-transcripts : goal.returns-clause-transcripts
+returns-clause-transcripts c = transcripts

@@ -7,7 +7,7 @@ use Rattle.idn2_cli.proofs.console.Console.message.Goals as goal
 
 pub returns-in-Err-clause-written : goal.returns-in-Err-clause-written
 returns-in-Err-clause-written g c =
-    let n = c.in-Err.field-0.taken in
+    let n = c.in-Err._fault.taken in
     let text = c.args.text.now in
     let fault = breaks_off pieces.Message text n c.in-Err.ensures.proper in (
       pieces.Message (take n text) ∷ [],

@@ -1,0 +1,101 @@
+-- The examples, computed.
+use Rattle.std.proofs.Common.{◌≡◌, ℕ, ◌==◌, ◌&&◌, Bool, true, false, List, [], ◌∷◌, filter, nat_lt, codes, length, Some, None, Result, Ok, Err, refl, ap, ◌∙◌, if◌then◌else◌}
+use Rattle.std.specs.Fmt.{digits}
+use Rattle.std.specs.List.{AllByRecursion, list_all}
+use Rattle.std.specs.Option.{is_none}
+use Rattle.std.specs.Ordering.{is_gt}
+use Rattle.idna.proofs.Computing.{idna}
+use Rattle.idna.specs.Validity.{has_ace_prefix}
+use Rattle.idn_text.specs.declared.refusal.Refusal.{Refusal}
+use Rattle.idn_text.specs.declared.refusal.Refusal.TheVariants.{Empty, Hyphen, LabelTooLong}
+use Rattle.idn_label.specs.ALabel.{a_label_of}
+use Rattle.idn_label.specs.FirstFault.{first_of, fault_if, has_hyphen_out_of_place, first_fault}
+use Rattle.idn_label.specs.Register.{register_answer}
+use Rattle.idn_label.specs.Steps.{is_plain_point}
+use Rattle.idn_label.proofs.AnswerLemmas.{register_answer-plain, tested_answer-ok, tested_answer-fault}
+use Rattle.idn_label.proofs.PlainLemmas.{first_fault-plain}
+use Rattle.variant_table.specs.Entries.{Entry}
+use Rattle.variant_list.specs.Labels.{label_cmp}
+use Rattle.variant_list.specs.Spelled.{spelled}
+use Rattle.variant_list.specs.Variants.{variants, candidates, in_order}
+use Rattle.variant_list.specs.Examples.{a_or_two, letter_or_hyphen}
+use Rattle.idn2_cli.specs.Settings.{Settings}
+use Rattle.idn2_cli.specs.Blocks.{block, block_to, is_registrable, lesser, nth, nth_if_given}
+use Rattle.std.specs.Char.{encode_utf8}
+use Rattle.std.specs.Str.{is_utf8, chars}
+use Rattle.idn_text.specs.Lines.{lines_of}
+use Rattle.idn2_cli.specs.Pieces.{Output, Message}
+use Rattle.idn2_cli.specs.LineAnswers.{one_line}
+use Rattle.idn2_cli.specs.Transcript.{lines_pieces, has_refused, status_if}
+use Rattle.idn2_cli.specs.declared.status.Status.TheVariants.{Refused}
+use Rattle.idn2_cli.specs.Examples.{ExamplesOfBlocks, ExamplesOfTranscripts, listing, three_lines}
+
+-- ---- labels of lower-case letters, digits and hyphens
+
+abbrev AllPlain : List (List ℕ) → Type 0
+AllPlain = AllByRecursion (λ v. list_all is_plain_point v ≡ true)
+
+-- whether such a label may be registered
+abbrev passes : List ℕ → Bool
+passes label = is_none (first_of (fault_if (length label == 0) Empty ∷ None ∷ fault_if (has_hyphen_out_of_place label) Hyphen ∷ fault_if (nat_lt 63 (length label)) LabelTooLong ∷ []))
+
+registrable-passes : (label : List ℕ) → list_all is_plain_point label ≡ true → is_registrable label ≡ passes label
+registrable-passes label plain = ap is_none (first_fault-plain label plain)
+
+filter-passes : (after : List ℕ) (vs : List (List ℕ)) → AllPlain vs
+    → filter (λ v. is_registrable v && is_gt (label_cmp v after)) vs ≡ filter (λ v. passes v && is_gt (label_cmp v after)) vs
+filter-passes after [] plain = refl
+filter-passes after (v ∷ vs) plain =
+    ap (λ (b : Bool). if b && is_gt (label_cmp v after) then v ∷ filter (λ v. is_registrable v && is_gt (label_cmp v after)) vs else filter (λ v. is_registrable v && is_gt (label_cmp v after)) vs) (registrable-passes v plain.0)
+    ∙ ap (λ (rest : List (List ℕ)). if passes v && is_gt (label_cmp v after) then v ∷ rest else rest) (filter-passes after vs plain.1)
+
+-- the block of a label that spells such labels alone
+abbrev plain_block : Settings → List Entry → List ℕ → List (List ℕ)
+plain_block o table label =
+    let vs = variants passes table label o.after in
+    block_to (lesser (nth_if_given vs o.limit) (nth (candidates table label o.after) o.tries)) vs
+
+block-plain : (o : Settings) (table : List Entry) (label : List ℕ) → AllPlain (in_order (spelled table label)) → block o table label ≡ plain_block o table label
+block-plain o table label plain =
+    ap (λ (vs : List (List ℕ)). block_to (lesser (nth_if_given vs o.limit) (nth (candidates table label o.after) o.tries)) vs)
+    (filter-passes o.after (in_order (spelled table label)) plain)
+
+pub blocks : ExamplesOfBlocks
+unfolding digits a_label_of idna
+blocks = record {
+  doubled = block-plain (listing None 1000000) a_or_two (codes "aa") (refl, (refl, (refl, tt))) ∙ refl;
+  limited = block-plain (listing (Some 2) 1000000) a_or_two (codes "aa") (refl, (refl, (refl, tt))) ∙ refl;
+  spent = block-plain (listing None 4) letter_or_hyphen (codes "aaa") (refl, (refl, (refl, (refl, (refl, (refl, (refl, (refl, tt)))))))) ∙ refl;
+}
+
+-- ---- a run
+
+good : (label : List ℕ) → has_ace_prefix label ≡ false → first_fault label ≡ None → register_answer label ≡ Ok (a_label_of label)
+good label plain none = register_answer-plain label plain ∙ tested_answer-ok label none
+
+refused : (label : List ℕ) (refusal : Refusal) → has_ace_prefix label ≡ false → first_fault label ≡ Some refusal → register_answer label ≡ Err refusal
+refused label refusal plain fault = register_answer-plain label plain ∙ tested_answer-fault label refusal fault
+
+-- a good label, one with a hyphen at its end, and a good one
+Answered : (List ℕ → Result (List ℕ) Refusal) → Type 0
+Answered r = (r (codes "abc") ≡ Ok (codes "abc")) × (r (codes "a-") ≡ Err Hyphen) × (r (codes "b") ≡ Ok (codes "b"))
+
+answered : Answered register_answer
+unfolding Answered a_label_of idna
+answered = (
+  good (codes "abc") refl (first_fault-plain (codes "abc") refl),
+  refused (codes "a-") Hyphen refl (first_fault-plain (codes "a-") refl),
+  good (codes "b") refl (first_fault-plain (codes "b") refl),
+)
+
+written : (r : List ℕ → Result (List ℕ) Refusal) → Answered r
+    → lines_pieces (λ label. one_line (r label)) (lines_of three_lines) ≡ Output (codes "abc\n") ∷ Message (codes "idn2: line 2: 13 hyphen out of place\n") ∷ Output (codes "b\n") ∷ []
+unfolding Answered is_utf8 chars encode_utf8 digits
+written r are = rw are.0 (rw are.1 (rw are.2 refl))
+
+status : (r : List ℕ → Result (List ℕ) Refusal) → Answered r → status_if (has_refused (λ label. one_line (r label)) (lines_of three_lines)) ≡ Refused
+unfolding Answered is_utf8 chars encode_utf8
+status r are = rw are.0 (rw are.1 refl)
+
+pub transcripts : ExamplesOfTranscripts
+transcripts = record { between = written register_answer answered; status = status register_answer answered }

@@ -1,0 +1,74 @@
+-- Worked examples of the definitions, by computation.
+use Rattle.std.specs.Prelude.{◌≡◌, ℕ, List, [], ◌∷◌, ◌++◌, false, Some, None, Option, Ok, Err, codes}
+use Rattle.idn_text.specs.Points.{utf8_of}
+use Rattle.idn_text.specs.Lines.{lines_of}
+use Rattle.idn_text.specs.declared.refusal.Refusal.TheVariants.{Disallowed, Empty, LineTooLong, NotUtf8, Syntax, WriteFault}
+use Rattle.variant_list.specs.Examples.{a_or_two, letter_or_hyphen}
+use Rattle.idn2_cli.specs.Settings.{Settings}
+use Rattle.idn2_cli.specs.Pieces.{Output, Message}
+use Rattle.idn2_cli.specs.Faults.{closing_message}
+use Rattle.idn2_cli.specs.Blocks.{block, nth, nth_if_given, lesser, up_to, trailer}
+use Rattle.idn2_cli.specs.LineAnswers.{LineAnswer, line_answer}
+use Rattle.idn2_cli.specs.Transcript.{line_message, table_message, table_line, transcript, status_of}
+use Rattle.idn2_cli.specs.Words.{Answer, options_of, chosen, bad}
+use Rattle.idn2_cli.specs.declared.mode.Mode.{Mode}
+use Rattle.idn2_cli.specs.declared.mode.Mode.TheVariants.{Lookup, Register, Variants}
+use Rattle.idn2_cli.specs.declared.status.Status.TheVariants.{Refused}
+
+-- sss, sß and ßs
+abbrev pub three : List (List ℕ)
+three = (115 ∷ 115 ∷ 115 ∷ []) ∷ (115 ∷ 0xDF ∷ []) ∷ (0xDF ∷ 115 ∷ []) ∷ []
+
+-- messages, trailers and stops
+pub record ExamplesOfARun : Type 0 where
+  pub refused_line : line_message 2 Disallowed ≡ codes "idn2: line 2: 10 disallowed code point\n"
+  pub faulty_table : table_message 1 Syntax ≡ codes "idn2: table line 1: 30 table syntax\n"
+  pub write_fault : closing_message WriteFault ≡ codes "idn2: 61 write fault\n"
+  pub checked : table_line 3 2 ≡ codes "#table 3 2"
+  pub ended : trailer 3 None ≡ codes "#end 3"
+  pub stopped : trailer 2 (Some (115 ∷ 0xDF ∷ [])) ≡ codes "#stop 2 " ++ utf8_of (115 ∷ 0xDF ∷ [])
+  -- the limit-th variant and the tries-th candidate are the same label, or only one of them exists
+  pub both : lesser (nth_if_given three (Some 2)) (nth three 2) ≡ Some (115 ∷ 0xDF ∷ [])
+  pub tries_alone : lesser (nth_if_given three None) (nth three 3) ≡ Some (0xDF ∷ 115 ∷ [])
+  pub limit_first : lesser (nth_if_given three (Some 1)) (nth three 3) ≡ Some (115 ∷ 115 ∷ 115 ∷ [])
+  pub neither : lesser (nth_if_given three (Some 4)) (nth three 4) ≡ None
+  pub up_to_the_second : up_to (Some (115 ∷ 0xDF ∷ [])) three ≡ (115 ∷ 115 ∷ 115 ∷ []) ∷ (115 ∷ 0xDF ∷ []) ∷ []
+
+-- lines that are refused in each mode: a line that is too long, an empty one, and one that isn't UTF-8
+pub record ExamplesOfLines (answer : List ℕ → LineAnswer) : Type 0 where
+  pub too_long : line_answer answer None ≡ Err LineTooLong
+  pub empty : line_answer answer (Some []) ≡ Err Empty
+  pub not_utf8 : line_answer answer (Some (0xFF ∷ [])) ≡ Err NotUtf8
+
+-- a run of the mode, with no other option
+abbrev pub plain_run : Mode → List (List ℕ) → Settings
+plain_run mode strings =
+    record { mode = mode; std3 = false; file = []; strings = strings; after = []; limit = None; tries = 1000000 }
+
+-- a listing from the start, with these bounds
+abbrev pub listing : Option ℕ → ℕ → Settings
+listing limit tries = record (plain_run Variants []) { file = codes "t"; limit = limit; tries = tries }
+
+-- aa spells aa, aaa and aaaa; of the candidates of aaa, the first four have a hyphen first
+pub record ExamplesOfBlocks : Type 0 where
+  pub doubled : block (listing None 1000000) a_or_two (codes "aa") ≡ codes "aa\taa" ∷ codes "aaa\taaa" ∷ codes "aaaa\taaaa" ∷ codes "#end 3" ∷ []
+  pub limited : block (listing (Some 2) 1000000) a_or_two (codes "aa") ≡ codes "aa\taa" ∷ codes "aaa\taaa" ∷ codes "#stop 2 aaa" ∷ []
+  pub spent : block (listing None 4) letter_or_hyphen (codes "aaa") ≡ codes "#stop 0 -aa" ∷ []
+
+-- three lines, of which the second is refused
+abbrev pub three_lines : List ℕ
+three_lines = codes "abc\na-\nb\n"
+
+-- a refused line changes nothing of the others
+pub record ExamplesOfTranscripts : Type 0 where
+  pub between : transcript (plain_run Register []) (Ok []) (lines_of three_lines) ≡ Output (codes "abc\n") ∷ Message (codes "idn2: line 2: 13 hyphen out of place\n") ∷ Output (codes "b\n") ∷ []
+  pub status : status_of (plain_run Register []) (Ok []) (lines_of three_lines) ≡ Refused
+
+-- what the words behind the program's name ask for
+abbrev pub asked : List (List ℕ) → Answer
+asked words = options_of (codes "idn2" ∷ words)
+
+pub record ExamplesOfWords : Type 0 where
+  pub two_modes : asked (codes "-r" ∷ codes "-d" ∷ codes "x" ∷ []) ≡ bad
+  pub switches : asked (codes "-N" ∷ codes "--quiet" ∷ codes "x" ∷ []) ≡ chosen (plain_run Lookup (codes "x" ∷ []))
+  pub after_alone : asked (codes "--after" ∷ [] ∷ codes "x" ∷ []) ≡ bad
