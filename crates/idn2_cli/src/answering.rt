@@ -16,7 +16,7 @@ use idn_text::{Refusal, Sink};
 use std::alloc::Global;
 
 /// A mode that answers each line by itself.
-pub trait Answering {
+pub(crate) trait Answering {
     // The answer to the code points of a line.
     ghost answer_of: { Self → List ℕ → LineAnswer };
 

@@ -16,7 +16,7 @@ use idn_text::{Refusal, Sink, decode_points};
 use std::alloc::Global;
 
 /// A mode that is handed the code points of a line.
-pub trait PointAnswering {
+pub(crate) trait PointAnswering {
     // The answer to the code points of a line.
     ghost answer_of: { Self → List ℕ → LineAnswer };
 
