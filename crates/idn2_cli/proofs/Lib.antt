@@ -15,6 +15,7 @@ pub mod CheckLemmas
 pub mod DecodedLemmas
 pub mod ListingLemmas
 pub mod Segmented
+pub mod Refusing
 pub mod Listings
 pub mod SuitLemmas
 pub mod ModeLemmas

@@ -94,7 +94,7 @@ cut_after stop.Messages new before pieces written c = (breaks_after Message befo
 cut_after stop.Memory new before pieces written c = (c.0, ap (λ l. before ++ l) c.1 ∙ sym (append_assoc before written c.0))
 
 -- pieces that were to come
-cut_before : (why : Stop) (new : Held) (pieces after written : List Piece) → IsCutBy why new pieces written → IsCutBy why new (pieces ++ after) written
+pub cut_before : (why : Stop) (new : Held) (pieces after written : List Piece) → IsCutBy why new pieces written → IsCutBy why new (pieces ++ after) written
 cut_before stop.Reading new pieces after written c = c
 cut_before stop.Output new pieces after written c = (breaks_before Output pieces after written c.0, c.1)
 cut_before stop.Messages new pieces after written c = (breaks_before Message pieces after written c.0, c.1)

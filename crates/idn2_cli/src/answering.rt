@@ -1,12 +1,13 @@
 //! What a mode does with one line.
 
-ghost use Rattle.std.specs.Prelude.{◌≡◌, ◌≢◌, ◌≤◌, ℕ, List, [], ◌∷◌, length, IfOk, Err, false};
+ghost use Rattle.std.specs.Prelude.{◌≡◌, ◌≢◌, ◌≤◌, ℕ, List, [], ◌∷◌, length, IfOk, IfErr, Err, true, false};
 ghost use Rattle.std.specs.Result.{is_err};
 ghost use Rattle.idn2_cli.specs.LineAnswers.{LineAnswer, text_answer};
 ghost use Rattle.idn2_cli.specs.Pieces.{Output};
 ghost use Rattle.idn2_cli.specs.Transcript.{pieces_for};
 ghost use Rattle.idn2_cli.specs.Consoles.{held_by, HasSameWriters};
 ghost use Rattle.idn2_cli.specs.Emitting.{Emits};
+ghost use Rattle.idn2_cli.specs.declared.stop.Stop.TheVariants as stop;
 
 use crate::console::Console;
 use crate::message::line_message;
@@ -42,13 +43,14 @@ pub(crate) trait Answering {
         ensures same { HasSameWriters console.old console.new };
 }
 
-/// Answers a line by one line, which ends in a line feed.
+/// Answers a line by one line, which ends in a line feed. It takes no memory.
 pub(crate) fn reply<W: Sink, E: Sink>(
     line: &[u8],
     console: &mut Console<'_, '_, W, E>,
 ) -> Result<bool, Stop>
     ensures written { Emits (held_by W.contents W.has_failed W.faults E.contents E.has_failed E.faults console.old)
         (held_by W.contents W.has_failed W.faults E.contents E.has_failed E.faults console.new) (Output line.now ∷ []) result }
+    ensures why { IfErr result (λ why. why ≡ stop.Output) }
     ensures refused { IfOk result (λ refused. refused ≡ false) }
     ensures same { HasSameWriters console.old console.new }
 {
@@ -56,17 +58,21 @@ pub(crate) fn reply<W: Sink, E: Sink>(
     Ok(false)
 }
 
-/// Tells why a line is refused. Want of memory is no refusal of the line, and stops the run.
+/// Tells why a line is refused. Want of memory is no refusal of the line: nothing is told, and the
+/// run stops.
 pub(crate) fn refuse<W: Sink, E: Sink>(
     number: u64,
     refusal: Refusal,
     console: &mut Console<'_, '_, W, E>,
 ) -> Result<bool, Stop>
-    ensures written { (answer : LineAnswer) → (refusal ≢ Refusal.Memory → answer ≡ Err refusal) →
+    ensures told { refusal ≢ Refusal.Memory →
         Emits (held_by W.contents W.has_failed W.faults E.contents E.has_failed E.faults console.old)
-        (held_by W.contents W.has_failed W.faults E.contents E.has_failed E.faults console.new) (pieces_for number answer) result }
-    ensures refused { (answer : LineAnswer) → (refusal ≢ Refusal.Memory → answer ≡ Err refusal) →
-        IfOk result (λ refused. refused ≡ is_err answer) }
+        (held_by W.contents W.has_failed W.faults E.contents E.has_failed E.faults console.new) (pieces_for number (Err refusal)) result }
+    ensures why { refusal ≢ Refusal.Memory → IfErr result (λ why. why ≡ stop.Messages) }
+    ensures memory { refusal ≡ Refusal.Memory → (result ≡ Err stop.Memory)
+        × Emits (held_by W.contents W.has_failed W.faults E.contents E.has_failed E.faults console.old)
+        (held_by W.contents W.has_failed W.faults E.contents E.has_failed E.faults console.new) [] result }
+    ensures refused { IfOk result (λ refused. refused ≡ true) }
     ensures same { HasSameWriters console.old console.new }
 {
     if let Refusal::Memory = refusal {

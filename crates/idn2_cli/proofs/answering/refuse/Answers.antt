@@ -4,19 +4,19 @@ use Rattle.idn2_cli.specs.Pieces.{Message}
 use Rattle.idn2_cli.proofs.Writing.{emits_as, writes_as, stops, stops_first}
 use Rattle.idn2_cli.proofs.answering.refuse.Goals as goal
 
-pub returns-in-Memory-clause-written : goal.returns-in-Memory-clause-written
-returns-in-Memory-clause-written g c = λ answer premise. stops_first _ _
+pub returns-in-Memory-clause-memory : goal.returns-in-Memory-clause-memory
+returns-in-Memory-clause-memory g c = λ memory. (refl, stops_first _ _)
 
-pub returns-in_err-message-clause-written : goal.returns-in_err-message-clause-written
-returns-in_err-message-clause-written g c = λ answer premise.
+pub returns-in-Memory-clause-told : goal.returns-in-Memory-clause-told
+returns-in-Memory-clause-told g c = λ other. absurd (other c.in-Memory.is)
+
+pub returns-in_err-message-clause-told : goal.returns-in_err-message-clause-told
+returns-in_err-message-clause-told g c = λ other.
     let p = err_from_is_err_and c.from_residual.result c.from_residual.ensures.1 in
     let same = c.as_bytes.ensures.value ∙ c.as_str.ensures.value ∙ c.line_message-message.ensures in
-    rw p.1 (rw (premise c.in_default.not-Memory) (stops _ _ (Message _ ∷ []) c.message.result p.0 (emits_as _ _ Message _ _ c.message.result same c.message.ensures.written) (c.in_err-message.was ∙ ap Err (sym p.2))))
+    rw p.1 (stops _ _ (Message _ ∷ []) c.message.result p.0 (emits_as _ _ Message _ _ c.message.result same c.message.ensures.written) (c.in_err-message.was ∙ ap Err (sym p.2)))
 
-pub returns-clause-written : goal.returns-clause-written
-returns-clause-written g c = λ answer premise.
+pub returns-clause-told : goal.returns-clause-told
+returns-clause-told g c = λ other.
     let same = c.as_bytes.ensures.value ∙ c.as_str.ensures.value ∙ c.line_message-message.ensures in
-    rw (premise c.in_default.not-Memory) (writes_as _ _ Message _ _ same c.in_ok-message.ensures.written)
-
-pub returns-clause-refused : goal.returns-clause-refused
-returns-clause-refused g c = λ answer premise. rw (premise c.in_default.not-Memory) refl
+    writes_as _ _ Message _ _ same c.in_ok-message.ensures.written

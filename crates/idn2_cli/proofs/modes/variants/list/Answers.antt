@@ -1,6 +1,5 @@
 use Rattle.std.proofs.Common.{◌∙◌, Err, ap, sym, refl}
 use Rattle.std.proofs.lemmas.Result.{err_from_is_err_and}
-use Rattle.idn_text.specs.declared.refusal.Refusal.TheVariants.{NotInTable}
 use Rattle.idn_label.proofs.RequirementLemmas.{MeetsRequirements-registrable}
 use Rattle.idn2_cli.specs.Blocks.{block}
 use Rattle.idn2_cli.specs.Transcript.{output_lines}
@@ -35,8 +34,8 @@ returns-in-Err-Memory-clause-written g c = stops_first _ _
 
 pub returns-in-Err-NotInTable-clause-written : goal.returns-in-Err-NotInTable-clause-written
 returns-in-Err-NotInTable-clause-written g c =
-    rw (listing_answer-unsegmented c.args.options.now c.args.table.now c.args.label.now c.requires.table (c.in-Err-NotInTable.ensures.not_in_table c.in-Err-NotInTable.field-0-is)) (c.refuse.ensures.written (Err NotInTable) (λ _. refl))
+    rw (listing_answer-unsegmented c.args.options.now c.args.table.now c.args.label.now c.requires.table (c.in-Err-NotInTable.ensures.not_in_table c.in-Err-NotInTable.field-0-is)) (c.refuse.ensures.told (λ e. cc))
 
 pub returns-in-Err-NotInTable-clause-refused : goal.returns-in-Err-NotInTable-clause-refused
 returns-in-Err-NotInTable-clause-refused g c =
-    rw (listing_answer-unsegmented c.args.options.now c.args.table.now c.args.label.now c.requires.table (c.in-Err-NotInTable.ensures.not_in_table c.in-Err-NotInTable.field-0-is)) (c.refuse.ensures.refused (Err NotInTable) (λ _. refl))
+    rw (listing_answer-unsegmented c.args.options.now c.args.table.now c.args.label.now c.requires.table (c.in-Err-NotInTable.ensures.not_in_table c.in-Err-NotInTable.field-0-is)) c.refuse.ensures.refused

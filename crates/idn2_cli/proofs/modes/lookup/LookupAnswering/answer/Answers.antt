@@ -1,6 +1,7 @@
 use Rattle.std.proofs.Common.{Ok, sym, ap, ◌∙◌}
 use Rattle.idn2_cli.specs.LineAnswers.{query_answer}
 use Rattle.idn2_cli.proofs.TextAnswers.{text_answer-query, pieces_for-line, one_line-answered, one_line-refused}
+use Rattle.idn2_cli.proofs.Refusing.{emits_refusal, refused_is}
 use Rattle.idn2_cli.proofs.modes.lookup.LookupAnswering.answer.Goals as goal
 
 pub returns-in-Ok-clause-written : goal.returns-in-Ok-clause-written
@@ -20,10 +21,10 @@ pub returns-in-Err-clause-written : goal.returns-in-Err-clause-written
 returns-in-Err-clause-written g c =
     let std3 = c.args.self.now.std3 in
     let text = c.args.text.now in
-    c.refuse.ensures.written _ (λ other. text_answer-query std3 text ∙ one_line-refused (query_answer std3 text) c.in-Err.refusal (c.in-Err.ensures other))
+    emits_refusal _ _ _ c.in-Err.refusal _ c.refuse.result (λ other. text_answer-query std3 text ∙ one_line-refused (query_answer std3 text) c.in-Err.refusal (c.in-Err.ensures other)) c.refuse.ensures.told c.refuse.ensures.memory
 
 pub returns-in-Err-clause-refused : goal.returns-in-Err-clause-refused
 returns-in-Err-clause-refused g c =
     let std3 = c.args.self.now.std3 in
     let text = c.args.text.now in
-    c.refuse.ensures.refused _ (λ other. text_answer-query std3 text ∙ one_line-refused (query_answer std3 text) c.in-Err.refusal (c.in-Err.ensures other))
+    refused_is c.in-Err.refusal _ c.refuse.result (λ other. text_answer-query std3 text ∙ one_line-refused (query_answer std3 text) c.in-Err.refusal (c.in-Err.ensures other)) c.refuse.ensures.memory c.refuse.ensures.refused

@@ -1,0 +1,40 @@
+-- The answer to a line that a call refused.
+use Rattle.std.proofs.Common.{◌≡◌, ◌≢◌, ◌⊎◌, inl, inr, ℕ, Bool, true, List, [], Result, Ok, Err, IfOk, refl, sym, ap, subst, ◌∙◌}
+use Rattle.std.specs.Result.{is_err}
+use Rattle.idn_text.specs.declared.refusal.Refusal.{Refusal}
+use Rattle.idn_text.specs.declared.refusal.Refusal.TheVariants.{Memory}
+use Rattle.idn2_cli.specs.Pieces.{Piece}
+use Rattle.idn2_cli.specs.Held.{Held}
+use Rattle.idn2_cli.specs.LineAnswers.{LineAnswer}
+use Rattle.idn2_cli.specs.Transcript.{pieces_for}
+use Rattle.idn2_cli.specs.Emitting.{Emits}
+use Rattle.idn2_cli.specs.declared.stop.Stop.{Stop}
+use Rattle.idn2_cli.specs.declared.stop.Stop.TheVariants as stop
+use Rattle.idn2_cli.proofs.Writing.{stops, cut_before}
+
+is_memory : (refusal : Refusal) → (refusal ≡ Memory) ⊎ (refusal ≢ Memory)
+is_memory Memory = inl refl
+is_memory other = inr (λ e. cc)
+
+-- where memory was refused and nothing is written, nothing is written of any pieces
+none_of : {A : Type 0} (old new : Held) (r : Result A Stop) (pieces : List Piece) → r ≡ Err stop.Memory → Emits old new [] r → Emits old new pieces r
+none_of {A} old new r pieces e nothing =
+    let at = stops old new [] r stop.Memory nothing e in
+    subst (λ (s : Result A Stop). Emits old new pieces s) (sym e) (at.0, at.1, cut_before stop.Memory new [] pieces at.0 at.2)
+
+-- the answer is this refusal, unless memory was refused
+pub emits_refusal : {A : Type 0} (old new : Held) (number : ℕ) (refusal : Refusal) (answer : LineAnswer) (r : Result A Stop) → (refusal ≢ Memory → answer ≡ Err refusal)
+    → (refusal ≢ Memory → Emits old new (pieces_for number (Err refusal)) r) → (refusal ≡ Memory → (r ≡ Err stop.Memory) × Emits old new [] r)
+    → Emits old new (pieces_for number answer) r
+emits_refusal old new number refusal answer r is told memory = elim (is_memory refusal) [
+  | inl e ↦ let m = memory e in none_of old new r (pieces_for number answer) m.0 m.1
+  | inr other ↦ subst (λ (a : LineAnswer). Emits old new (pieces_for number a) r) (sym (is other)) (told other)
+]
+
+pub refused_is : {X : Type 0} (refusal : Refusal) (answer : LineAnswer) (r : Result Bool Stop) → (refusal ≢ Memory → answer ≡ Err refusal)
+    → (refusal ≡ Memory → (r ≡ Err stop.Memory) × X) → IfOk r (λ refused. refused ≡ true) → IfOk r (λ refused. refused ≡ is_err answer)
+refused_is refusal answer (Err why) is memory refused = tt
+refused_is refusal answer (Ok b) is memory refused = elim (is_memory refusal) [
+  | inl e ↦ absurd (let clash : Ok b ≡ Err stop.Memory = (memory e).0 in cc)
+  | inr other ↦ refused ∙ sym (ap is_err (is other))
+]
