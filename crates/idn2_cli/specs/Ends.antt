@@ -62,8 +62,8 @@ pub record EndsWell (o : Settings) (table : TableGiven) (input : Reading) (old n
   pub messages_faults : new.messages_faults ≡ old.messages_faults
   pub answered : status ≡ status_of o table lines
 
--- 2. a read fault, 3. a write fault, 4. memory: what stands of the pieces, then the last message. No write failed but the
--- one that the stop names, or one of the last message
+-- 2. a read fault, 3. a write fault, 4. memory: what stands of the pieces, then the last message. No write failed but of the
+-- writer that the stop names, or of the last message
 pub record EndsEarly (o : Settings) (table : TableGiven) (input : Reading) (old new : Held) (lines : List Numbered) (written : List Piece) (status : Status) : Type 0 where
   pub why : Stop
   pub standing : List Piece
