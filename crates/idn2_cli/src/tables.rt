@@ -54,6 +54,7 @@ pub(crate) fn refuse_table<W: Sink, E: Sink>(
     ensures written { Emits (held_by W.contents W.has_failed W.faults E.contents E.has_failed E.faults console.old)
         (held_by W.contents W.has_failed W.faults E.contents E.has_failed E.faults console.new) (Message (table_message line refusal) ∷ []) result }
     ensures status { IfOk result (λ status. status ≡ statuses.Unusable) }
+    ensures why { IfErr result (λ why. why ≡ stop.Messages) }
     ensures same { HasSameWriters console.old console.new }
 {
     let message = table_message(line, &refusal);

@@ -1,12 +1,13 @@
 //! The check of a table: the pairs that it lacks.
 
-ghost use Rattle.std.specs.Prelude.{◌≡◌, ◌≤◌, ◌==◌, ◌++◌, ◌∷◌, [], not, length, map, IfOk};
+ghost use Rattle.std.specs.Prelude.{◌≡◌, ◌≤◌, ◌==◌, ◌++◌, ◌∷◌, [], not, length, map, IfOk, IfErr};
 ghost use Rattle.idn_text.specs.Points.{AreScalarValues};
 ghost use Rattle.variant_table.specs.Gaps.{gaps_of, pairs_of};
 ghost use Rattle.idn2_cli.specs.Gaps.{HoldSequences};
 ghost use Rattle.idn2_cli.specs.Transcript.{gap_line, table_line, check_lines, output_lines, status_if};
 ghost use Rattle.idn2_cli.specs.Emitting.{Emits};
 ghost use Rattle.idn2_cli.specs.Consoles.{held_by, HasSameWriters};
+ghost use Rattle.idn2_cli.specs.declared.stop.Stop.TheVariants as stop;
 
 use crate::console::Console;
 use crate::line::append;
@@ -58,6 +59,7 @@ fn write_gaps<W: Sink, E: Sink>(
     requires { HoldSequences gaps.now }
     ensures written { Emits (held_by W.contents W.has_failed W.faults E.contents E.has_failed E.faults console.old)
         (held_by W.contents W.has_failed W.faults E.contents E.has_failed E.faults console.new) (output_lines (map gap_line (pairs_of gaps.now))) result }
+    ensures why { IfErr result (λ why. why ≡ stop.Output) }
     ensures same { HasSameWriters console.old console.new }
 {
     'gaps: for gap in gaps {
