@@ -17,7 +17,7 @@ const READ_LIMIT: u64 = 1 << 40;
 #[derive(Drop)]
 pub struct Input<R: Source> {
     reader: R,
-    buffer: [u8; 4096],
+    buffer: [u8; 16384],
     start: usize,
     end: usize,
     reads: u64,
@@ -31,7 +31,7 @@ impl<R: Source> Model for Input<R> {
 
     ghost view = { λ i. record { held = slice_range i.buffer i.start i.end; coming = R.remaining i.reader; reads = i.reads; calls = R.calls i.reader; failed = R.has_failed i.reader } };
 
-    ghost invariant = { λ i. (i.start ≤ i.end) × (i.end ≤ 4096) × (i.reads ≤ 2 ^ 40) };
+    ghost invariant = { λ i. (i.start ≤ i.end) × (i.end ≤ 16384) × (i.reads ≤ 2 ^ 40) };
 }
 
 impl<R: Source> Input<R> {
@@ -42,7 +42,7 @@ impl<R: Source> Input<R> {
     {
         Input {
             reader,
-            buffer: [0; 4096],
+            buffer: [0; 16384],
             start: 0,
             end: 0,
             reads: 0,
