@@ -1,6 +1,5 @@
 -- The gaps of a table, as they are written.
 use Rattle.std.proofs.Common.{◌≡◌, ◌<◌, ◌⊎◌, inl, inr, ℕ, ◌+◌, suc, List, [], ◌∷◌, ◌++◌, All, map, drop, length, get_or, Contains, refl, sym, ap, subst, ◌∙◌, drop-cons, add-one}
-use Rattle.idn_text.specs.Points.{AreScalarValues}
 use Rattle.variant_table.specs.Entries.{Entry, replacements}
 use Rattle.variant_table.specs.WellFormed.{IsWellFormed, IsEntry, IsSequence}
 use Rattle.std.proofs.Common.{Vec}
@@ -39,9 +38,6 @@ pub gap_at : (table : List Entry) (gaps : List (Vec ℕ Global × Vec ℕ Global
 gap_at table gaps i gap formed are lt is =
     let there : Contains (pairs_of gaps) (pair_of gap) = (i, subst (λ (n : ℕ). i < n) (sym (length-map gaps pair_of)) lt, get_or-map pair_of gaps i gap (pair_of gap) lt ∙ ap pair_of (sym is)) in
     gap_sequences table gap.0.items gap.1.items formed ((are.members gap.0.items gap.1.items).0 there)
-
-pub sequence_points : (s : List ℕ) → IsSequence s → AreScalarValues s
-sequence_points s is = λ k d lt. (is.points k d lt).scalar_value
 
 -- ---- the lines of a check
 

@@ -22,7 +22,7 @@ use Rattle.idn2_cli.specs.declared.mode.Mode.TheVariants.{Variants, CheckTable}
 use Rattle.idn2_cli.specs.declared.status.Status.{Status}
 use Rattle.idn2_cli.specs.declared.stop.Stop.{Stop}
 use Rattle.idn2_cli.specs.declared.stop.Stop.TheVariants as stop
-use Rattle.idn2_cli.proofs.Writing.{appends_nothing, takes_nothing, stops_first}
+use Rattle.idn2_cli.proofs.Writing.{appends_nothing, stops_first}
 use Rattle.idn2_cli.proofs.Sessions.{stands_cut}
 use Rattle.idn2_cli.proofs.TableLemmas.{some_table}
 
@@ -179,10 +179,6 @@ closes_by why old new not same taken =
       },
       closes_told why old new (Message text ∷ []) not (record { taken = taken.taken; within = taken.within; failed = taken.cause; no_fault = taken.no_fault; cut = refl }),
     )
-
--- none, where the messages failed
-pub closes_nothing : (why : Stop) (old : Held) → why ≡ stop.Messages → (closing : List Piece) × Takes old old closing × Closes why old old closing
-closes_nothing why old e = ([], takes_nothing old, subst (λ (w : Stop). Closes w old old []) (sym e) (let none : Closes stop.Messages old old [] = refl in none))
 
 told_since : (text : List ℕ) (old middle new : Held) (closing : List Piece) → middle.messages_faults ≡ old.messages_faults → IsTold text middle new closing → IsTold text old new closing
 told_since text old middle new closing before told =

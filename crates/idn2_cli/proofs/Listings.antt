@@ -15,12 +15,10 @@ use Rattle.std.specs.Prelude.{◌↔◌, Contains}
 use Rattle.idn_text.specs.declared.refusal.Refusal.{Refusal}
 use Rattle.idn_text.specs.declared.refusal.Refusal.TheVariants.{NotInTable}
 use Rattle.idn_label.specs.FirstFault.{first_fault, IsRegistrable}
-use Rattle.idn_label.proofs.RequirementLemmas.{MeetsRequirements-registrable}
 use Rattle.variant_list.specs.Segmentations.{HasSegmentation}
 use Rattle.variant_list.specs.Spelling.{Spells}
 use Rattle.variant_list.specs.Spelled.{spelled}
-use Rattle.variant_list.proofs.NetLemmas.{segmented, unsegmented}
-use Rattle.variant_list.proofs.RecursionLemmas.{spelled-Spells}
+use Rattle.variant_list.proofs.NetLemmas.{segmented}
 use Rattle.idn2_cli.specs.LineAnswers.{LineAnswer, unless, variants_answer}
 use Rattle.idn2_cli.specs.Settings.{Settings, IsWithinLimits}
 use Rattle.idn2_cli.specs.Pieces.{Piece, Output}
@@ -29,9 +27,8 @@ use Rattle.idn2_cli.specs.Emitting.{Emits, StopsWithin}
 use Rattle.idn2_cli.specs.Blocks.{block, is_registrable, reaches, trailer, variant_line}
 use Rattle.idn2_cli.specs.Transcript.{output_lines}
 use Rattle.idn2_cli.specs.declared.stop.Stop.{Stop}
-use Rattle.idn2_cli.specs.declared.stop.Stop.TheVariants as stop
 use Rattle.idn2_cli.proofs.Walking.{walk, walk_on, walk-found, walk-spent, walk-ended}
-use Rattle.idn2_cli.proofs.Writing.{writes_nothing, writes_join, stops_after, stops_between}
+use Rattle.idn2_cli.proofs.Writing.{writes_nothing, writes_join, stops_between}
 use Rattle.idn2_cli.proofs.ListingLemmas.{IsPlain, block-walk, moved-plain, moved-ahead, start-plain}
 
 -- `so_far` is written; what is to come follows from where the cursor stands, the tries left and the count
@@ -82,10 +79,6 @@ emits_after {A} old middle new all so_far rest (Err why) split first h =
     let r : Result A Stop = Err why in
     let same : r ≡ Err why = refl in
     stops_between {A = A} old middle new all so_far rest [] r why (split ∙ ap (λ (ps : List Piece). so_far ++ ps) (sym (append-nil rest))) first h same
-
--- memory was refused
-pub listing-interrupted : (o : Settings) (net : Built) (old now : Held) (p : Position) (count tries : ℕ) → IsListing o net old now p count tries → StopsWithin stop.Memory old now (output_lines (block o net.table net.label))
-listing-interrupted o net old now p count tries h = stops_after old now _ h.so_far _ h.split h.pieces
 
 -- where the lines to come are known
 known : {A : Type 0} (o : Settings) (net : Built) (old now new : Held) (p : Position) (count tries : ℕ) (lines : List (List ℕ)) (r : Result A Stop) → IsListing o net old now p count tries
@@ -183,25 +176,6 @@ some_spelled : (vs : List (List ℕ)) → vs ≢ [] → (length vs == 0) ≡ fal
 some_spelled [] some = absurd (some refl)
 some_spelled (v ∷ vs) some = grind (arith, nat_tests)
 
-pub answer-block : (o : Settings) (table : List Entry) (label : List ℕ) → IsWellFormed table → IsRegistrable label → HasSegmentation table label → variants_answer o table label ≡ Ok (block o table label)
-answer-block o table label formed registrable segmented_by =
-    by_spelled o table label registrable false (some_spelled (spelled table label) (λ none. unsegmented table label (spelled table label) (λ v. spelled-Spells table label v formed.entries) none segmented_by))
-
 none_spelled : (table : List Entry) (label : List ℕ) (vs : List (List ℕ)) → ((v : List ℕ) → Contains vs v ↔ Spells table label v) → (HasSegmentation table label → ⊥) → (length vs == 0) ≡ true
 none_spelled table label [] spells none = refl
 none_spelled table label (v ∷ vs) spells none = absurd (none (segmented table label (v ∷ vs) spells (omega arith)))
-
-pub answer-not_in_table : (o : Settings) (table : List Entry) (label : List ℕ) → IsWellFormed table → IsRegistrable label → (HasSegmentation table label → ⊥) → variants_answer o table label ≡ Err NotInTable
-answer-not_in_table o table label formed registrable none =
-    by_spelled o table label registrable true (none_spelled table label (spelled table label) (λ v. spelled-Spells table label v formed.entries) none)
-
--- a label that may be registered has 1 to 63 code points
-pub registrable-some : (label : List ℕ) → IsRegistrable label → 1 ≤ length label
-registrable-some label registrable = some label (MeetsRequirements-registrable label registrable).some
-  where
-    some : (l : List ℕ) → l ≢ [] → 1 ≤ length l
-    some [] h = absurd (h refl)
-    some (x ∷ l) h = omega arith
-
-pub registrable-few : (label : List ℕ) → IsRegistrable label → length label ≤ 63
-registrable-few label registrable = (MeetsRequirements-registrable label registrable).points

@@ -54,7 +54,7 @@ text_answer-points answer bytes points is some =
     ∙ ap answer (points_from_utf8 bytes points is)
 
 -- what lookup answers to bytes, by the name that they are in a query
-pub text_answer-query : (std3 : Bool) (bytes : List ℕ) → text_answer (λ name. one_line (lookup_answer name std3)) bytes ≡ one_line (query_answer std3 bytes)
+pub text_answer-query : (std3 : Bool) (bytes : List ℕ) → text_answer (λ name. one_line (lookup_answer name std3)) bytes ≡ one_line (query_answer bytes std3)
 unfolding query_answer
 text_answer-query std3 bytes =
     elim (cases_Bool (is_utf8 bytes)) [
@@ -68,25 +68,25 @@ text_answer-query std3 bytes =
       | inr other ↦ rw other refl
     ]
 
-query_answer-utf8 : (std3 : Bool) (bytes : List ℕ) (answer : Result (List ℕ) Refusal) → (length bytes == 0) ≡ false → is_utf8 bytes ≡ true → query_name bytes std3 ≡ answer → query_answer std3 bytes ≡ answer
+query_answer-utf8 : (std3 : Bool) (bytes : List ℕ) (answer : Result (List ℕ) Refusal) → (length bytes == 0) ≡ false → is_utf8 bytes ≡ true → query_name bytes std3 ≡ answer → query_answer bytes std3 ≡ answer
 unfolding query_answer
 query_answer-utf8 std3 bytes answer some utf8 is = rw (utf8, some) is
 
-pub query_answer-name : (std3 : Bool) (bytes name : List ℕ) → (length bytes == 0) ≡ false → query_name bytes std3 ≡ Ok name → query_answer std3 bytes ≡ Ok name
+pub query_answer-name : (std3 : Bool) (bytes name : List ℕ) → (length bytes == 0) ≡ false → query_name bytes std3 ≡ Ok name → query_answer bytes std3 ≡ Ok name
 query_answer-name std3 bytes name some is =
     elim (cases_Bool (is_utf8 bytes)) [
       | inl utf8 ↦ query_answer-utf8 std3 bytes (Ok name) some utf8 is
       | inr other ↦ absurd (let clash : Err LookupInvalid ≡ Ok name = sym (query_name-not_utf8 bytes std3 other) ∙ is in cc)
     ]
 
-pub query_answer-fault : (std3 : Bool) (bytes : List ℕ) (refusal : Refusal) → (length bytes == 0) ≡ false → is_utf8 bytes ≡ true → query_name bytes std3 ≡ Err refusal → query_answer std3 bytes ≡ Err refusal
+pub query_answer-fault : (std3 : Bool) (bytes : List ℕ) (refusal : Refusal) → (length bytes == 0) ≡ false → is_utf8 bytes ≡ true → query_name bytes std3 ≡ Err refusal → query_answer bytes std3 ≡ Err refusal
 query_answer-fault std3 bytes refusal some utf8 is = query_answer-utf8 std3 bytes (Err refusal) some utf8 is
 
-pub query_answer-not_utf8 : (std3 : Bool) (bytes : List ℕ) → is_utf8 bytes ≡ false → query_answer std3 bytes ≡ Err NotUtf8
+pub query_answer-not_utf8 : (std3 : Bool) (bytes : List ℕ) → is_utf8 bytes ≡ false → query_answer bytes std3 ≡ Err NotUtf8
 unfolding query_answer
 query_answer-not_utf8 std3 bytes other = rw other refl
 
-pub query_answer-empty : (std3 : Bool) (bytes : List ℕ) → (length bytes == 0) ≡ true → query_answer std3 bytes ≡ Err Empty
+pub query_answer-empty : (std3 : Bool) (bytes : List ℕ) → (length bytes == 0) ≡ true → query_answer bytes std3 ≡ Err Empty
 unfolding query_answer
 query_answer-empty std3 [] empty = let utf8 : is_utf8 [] ≡ true = is_utf8-from_IsUtf8 [] ([], (refl, refl)) in rw utf8 refl
 query_answer-empty std3 (c ∷ cs) empty = let some : (length (c ∷ cs) == 0) ≡ false = grind (arith, nat_tests) in absurd (let clash : true ≡ false = sym empty ∙ some in cc)

@@ -27,7 +27,7 @@ pub record ExamplesOfARun : Type 0 where
   pub checked : table_line 3 2 ≡ codes "#table 3 2"
   pub ended : trailer 3 None ≡ codes "#end 3"
   pub stopped : trailer 2 (Some (115 ∷ 0xDF ∷ [])) ≡ codes "#stop 2 " ++ utf8_of (115 ∷ 0xDF ∷ [])
-  -- the limit-th variant and the tries-th candidate are the same label, or only one of them exists
+  -- the limit-th variant and the tries-th candidate: the same label, one alone, the lesser of two, neither
   pub both : lesser (nth_if_given three (Some 2)) (nth three 2) ≡ Some (115 ∷ 0xDF ∷ [])
   pub tries_alone : lesser (nth_if_given three None) (nth three 3) ≡ Some (0xDF ∷ 115 ∷ [])
   pub limit_first : lesser (nth_if_given three (Some 1)) (nth three 3) ≡ Some (115 ∷ 115 ∷ 115 ∷ [])

@@ -60,9 +60,9 @@ abbrev pub text_answer : (List ℕ → LineAnswer) → List ℕ → LineAnswer
 text_answer answer bytes =
     if is_utf8 bytes then (if length bytes == 0 then Err Empty else answer (chars bytes)) else Err NotUtf8
 
--- the name that the bytes of a line are in a query
-unfoldable pub query_answer : Bool → List ℕ → Result (List ℕ) Refusal
-query_answer std3 bytes =
+-- the same of lookup, by the bytes of the name: they need not be decoded to be looked up
+unfoldable pub query_answer : List ℕ → Bool → Result (List ℕ) Refusal
+query_answer bytes std3 =
     if is_utf8 bytes then (if length bytes == 0 then Err Empty else query_name bytes std3) else Err NotUtf8
 
 -- the answer to the body of a line, which may be too long

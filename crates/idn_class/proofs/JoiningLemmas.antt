@@ -1,5 +1,5 @@
 -- What a walk from a joiner decides: the first code point that is not transparent settles the answer.
-use Rattle.std.proofs.Common.{◌≡◌, ℕ, ◌<◌, true, false, List, length, sym, ap, ◌∙◌, arith, inl, inr}
+use Rattle.std.proofs.Common.{◌≡◌, ℕ, ◌<◌, true, false, List, sym, ap, ◌∙◌, arith, inl, inr}
 use Rattle.std.proofs.lemmas.Bool.{cases_lt}
 use Rattle.idn_class.specs.declared.joining_type.JoiningType.{JoiningType}
 use Rattle.idn_class.specs.declared.joining_type.JoiningType.TheVariants.{Transparent}
@@ -13,10 +13,6 @@ clear_joins_not_left t clear joins = let clash : false ≡ true = ap joins_next 
 pub clear_joins_not_right : (t : JoiningType) → t ≡ Transparent → joins_previous t ≡ true → ⊥
 clear_joins_not_right t clear joins = let clash : false ≡ true = ap joins_previous (sym clear) ∙ joins in cc
 
--- everything before p is transparent
-pub not_joins_before : (label : List ℕ) (p : ℕ) → ((k : ℕ) → k < p → type_at label k ≡ Transparent) → JoinsBefore label p → ⊥
-not_joins_before label p clear found = clear_joins_not_left _ (clear found.place found.earlier) found.joins
-
 -- the first that is not transparent, going left, is the witness of every proof
 pub joins_before_here : (label : List ℕ) (p at : ℕ) → at < p → (type_at label at ≡ Transparent → ⊥) → ((k : ℕ) → at < k → k < p → type_at label k ≡ Transparent) → JoinsBefore label p → joins_next (type_at label at) ≡ true
 joins_before_here label p at lt stop clear found =
@@ -28,9 +24,6 @@ joins_before_here label p at lt stop clear found =
             | inr upto ↦ let same : found.place ≡ at = omega arith in ap (λ k. joins_next (type_at label k)) (sym same) ∙ found.joins
           ]
     ]
-
-pub not_joins_after : (label : List ℕ) (p : ℕ) → ((k : ℕ) → p < k → k < length label → type_at label k ≡ Transparent) → JoinsAfter label p → ⊥
-not_joins_after label p clear found = clear_joins_not_right _ (clear found.place found.later found.exists) found.joins
 
 pub joins_after_here : (label : List ℕ) (p at : ℕ) → p < at → (type_at label at ≡ Transparent → ⊥) → ((k : ℕ) → p < k → k < at → type_at label k ≡ Transparent) → JoinsAfter label p → joins_previous (type_at label at) ≡ true
 joins_after_here label p at lt stop clear found =

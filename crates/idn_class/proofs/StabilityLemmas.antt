@@ -14,7 +14,7 @@ use Rattle.unicode_normalization.specs.Compose.{compose, compose_after}
 use Rattle.unicode_normalization.specs.QuickCheck.{worse, worst, quick_check_text}
 use Rattle.unicode_normalization.proofs.FormsLemmas.{normalize_idem, quick_check_text-Yes, quick_check_text-No, nfkc-by_nfkd}
 use Rattle.caseless.specs.Caseless.{default_case_fold}
-use Rattle.caseless.proofs.CaselessLemmas.{default_case_fold-nil, default_case_fold-cons, full_fold-none, full_fold-some}
+use Rattle.caseless.proofs.CaselessLemmas.{default_case_fold-nil, default_case_fold-cons, full_fold-none}
 use Rattle.idn_class.specs.Class.{is_unstable}
 
 quick_check_one : (form : Form) (c : ℕ) → quick_check_text form (c ∷ []) ≡ worse (quick_check form c) Yes
@@ -71,10 +71,6 @@ single : (xs : List ℕ) (x : ℕ) → 1 ≤ length xs → length xs < 2 → x �
 single [] x some few e = absurd (omega arith)
 single (y ∷ []) x some few e = ap (λ z. z ∷ []) (sym e)
 single (y ∷ z ∷ ys) x some few e = absurd (omega (arith, zero-le {n = length ys}))
-
--- a table entry of one code point
-pub full_fold-single : (c : ℕ) (table : List ℕ) (x : ℕ) → table ≡ full_folding c → 1 ≤ length table → length table < 2 → x ≡ get_or table 0 x → full_fold c ≡ x ∷ []
-full_fold-single c table x same some few e = full_fold-some c table same some ∙ single table x some few e
 
 eq_itself : (c : ℕ) → not (c == c) ≡ false
 eq_itself c = grind (arith, nat_tests)

@@ -18,7 +18,7 @@ abbrev pub measured_answer : Option (List ℕ) → Answer
 measured_answer None = Err LookupInvalid
 measured_answer (Some ascii) = if verify_dns_length ascii true then Ok ascii else Err LookupLength
 
--- ToASCII (UTS 46 section 4.2) of a name in UTF-8: nontransitional, CheckBidi and CheckJoiners true, CheckHyphens and VerifyDnsLength false
+-- ToASCII (UTS 46 section 4.2) of a name in UTF-8: nontransitional, CheckBidi and CheckJoiners true, CheckHyphens and VerifyDnsLength false, and then the lengths
 unfoldable pub query_name : List ℕ → Bool → Answer
 query_name utf8 std3 = measured_answer (to_ascii (deny_list std3) Allow Ignore utf8)
 

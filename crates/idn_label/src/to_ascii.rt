@@ -28,8 +28,9 @@ pub fn lookup(alloc: Global, name: &[u32], std3: bool) -> Result<String, Refusal
     Ok(query.into_owned(alloc)?)
 }
 
-/// `lookup` of a name in UTF-8 (RFC 3629). Other bytes are refused as `LookupInvalid`. A name in ASCII takes no memory
-/// where none of its labels begins with `xn--` and its octets are allowed; what is sent has at most 254 octets.
+/// `lookup` of a name in UTF-8 (RFC 3629). Other bytes are refused as `LookupInvalid`. A name in ASCII without capitals
+/// takes no memory where none of its labels begins with `xn--` and, with `std3`, it has only letters, digits, hyphens
+/// and full stops; what is sent has at most 254 octets.
 pub fn lookup_utf8<'a>(alloc: Global, name: &'a [u8], std3: bool) -> Result<CowStr<'a>, Refusal>
     ensures answer { Gives cow_str_bytes result (query_name name.now std3) }
     ensures short { IfOk result (λ query. length (cow_str_bytes query) ≤ 254) }

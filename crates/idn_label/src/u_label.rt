@@ -55,6 +55,7 @@ fn decode_code(alloc: Global, code: &[u32]) -> Result<Vec<char>, Refusal>
     if !is_all_ascii(code) {
         return Err(Refusal::BadALabel);
     }
+    // A short code is copied into a short room: most are short.
     if code.len() <= MAX_LABEL_LEN {
         decode_ascii::<MAX_LABEL_LEN>(alloc, code)
     } else {
@@ -97,7 +98,7 @@ fn confirm(alloc: Global, given: &[u32], label: &[char]) -> Result<(), Refusal>
 {
     // Most A-labels need not be encoded again to be compared.
     if is_encoded_back(given, label) {
-        return check_encoded(alloc, label);
+        return check_short_u_label(alloc, label);
     }
     let a_label = test_chars(alloc, label)?;
     if is_text(a_label.as_bytes(), given) {
@@ -141,7 +142,7 @@ fn is_all_ascii_chars(label: &[char]) -> bool
 }
 
 /// Tests a label that is not all ASCII, and whose A-label is short, for registration.
-fn check_encoded(alloc: Global, label: &[char]) -> Result<(), Refusal>
+fn check_short_u_label(alloc: Global, label: &[char]) -> Result<(), Refusal>
     requires coded { is_all_ascii label.now ≡ false }
     requires short { length label.now ≤ 63 }
     requires short_a_label { length (codes "xn--" ++ encode label.now) ≤ 63 }

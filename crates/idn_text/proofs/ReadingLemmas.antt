@@ -24,10 +24,6 @@ has_read_nothing start unread =
       read = subst (λ (s : State). AreLines s start.input [] []) (sym unread.state) (refl, tt);
     }
 
--- nothing more was read
-pub has_read_no_more : (start now : Reading) (given : List ℕ) (lines : List Numbered) → HasRead start now given lines → HasRead start now (given ++ []) (lines ++ [])
-has_read_no_more start now given lines has = rw (append-nil given, append-nil lines) has
-
 -- the read calls of a line, behind those before
 asked_more : (start old new : Reading) (given line feed : List ℕ) (idle : ℕ) → old.input.reads + length start.input.held ≤ start.input.reads + length given + length old.input.held + 0 → Takes old.input new.input line feed idle → new.input.reads + length start.input.held ≤ start.input.reads + length (given ++ (line ++ feed)) + length new.input.held + idle
 asked_more start old new given line feed idle before takes =
@@ -69,23 +65,6 @@ has_last start old new given line lines has is_open takes some at_end few number
       few = omega arith;
       read = subst (λ (s : State). AreLines s new.input after now) (sym still)
           (lines_of_more given line [] lines old.number read.1 read.0 counted (raw_lines-rest line some takes.plain), at_end);
-    }
-
--- the end, with no line before it
-pub has_ended : (start old new : Reading) (given line : List ℕ) (lines : List Numbered) → HasRead start old given lines → old.state ≡ Open → Takes old.input new.input line [] 1 → line ≡ [] → HasEnded new.input → new.number ≡ old.number → new.state ≡ Ended → HasRead start new (given ++ []) (lines ++ [])
-has_ended start old new given line lines has is_open takes none at_end number still =
-    let read = subst (λ (s : State). AreLines s old.input given lines) is_open has.read in
-    let asked = subst (λ (s : State). old.input.reads + length start.input.held ≤ start.input.reads + length given + length old.input.held + idle_reads s) is_open has.asked in
-    let counted = has.counted in
-    let few = has.few in
-    let nothing : Takes old.input new.input [] [] 1 = subst (λ (l : List ℕ). Takes old.input new.input l [] 1) none takes in
-    record {
-      taken = consumes_join (left start.input) (left old.input) (left new.input) given [] has.taken nothing.taken;
-      asked = subst (λ (s : State). new.input.reads + length start.input.held ≤ start.input.reads + length (given ++ []) + length new.input.held + idle_reads s) (sym still) (asked_more start old new given [] [] 1 asked nothing);
-      called = omega (arith, has.called, takes.called);
-      counted = rw (append-nil lines) (number ∙ counted);
-      few = omega arith;
-      read = subst (λ (s : State). AreLines s new.input (given ++ []) (lines ++ [])) (sym still) (rw (append-nil given, append-nil lines) read.0, at_end);
     }
 
 -- a reader that failed

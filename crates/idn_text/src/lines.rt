@@ -20,7 +20,7 @@ pub struct ReadFault;
 /// A line and its number, from 1.
 #[derive(Debug, Drop)]
 pub struct Line {
-    /// From 1 to 4,294,967,296, or 0 where no line was read; a line that is too long counts too.
+    /// From 1 to 4,294,967,296; 0 in a new `Line`. A line that is too long counts too.
     pub number: u64,
     /// The line without its end, or that it is too long.
     pub body: Body,
@@ -111,7 +111,8 @@ impl<R: Source> Lines<R> {
     }
 
     /// Reads the next line in the place of one that is done with, and tells whether there was one. At
-    /// the end and at a fault, which are as `next_line` tells them, no line stands there.
+    /// the end and at a fault, which are as `next_line` tells them, nothing is said of what then stands
+    /// in `line`.
     pub fn read_line(&mut self, line: &mut Line) -> Result<bool, ReadFault>
         ensures lines { (start : Reading) (given : List ℕ) (lines : List Numbered) → HasRead start self.old given lines →
             (more : List ℕ) × HasRead start self.new (given ++ more) (lines ++ answered (read_into result line.new)) }

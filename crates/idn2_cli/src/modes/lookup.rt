@@ -35,22 +35,22 @@ impl Answering for Lookup {
         console: &mut Console<'_, '_, W, E>,
     ) -> Result<bool, Stop> {
         let mut line = ArrayVec::new();
-        match write_line(alloc, text, self.std3, &mut line) {
+        match fill_line(alloc, text, self.std3, &mut line) {
             Ok(()) => reply(line.as_slice(), console),
             Err(refusal) => refuse(number, refusal, console),
         }
     }
 }
 
-/// Leaves in `line`, which is empty, the line of what a name is in a query.
-fn write_line(
+/// Fills `line`, which is empty, with what a name is in a query and a line feed.
+fn fill_line(
     alloc: Global,
     name: &[u8],
     std3: bool,
     line: &mut ArrayVec<u8, 255>,
 ) -> Result<(), Refusal>
     requires { line.old.items ≡ [] }
-    ensures { Gives (λ _. line.new.items) result (with_feed (query_answer std3 name.now)) }
+    ensures { Gives (λ _. line.new.items) result (with_feed (query_answer name.now std3)) }
 {
     if name.is_empty() {
         return Err(Refusal::Empty);

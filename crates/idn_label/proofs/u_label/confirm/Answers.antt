@@ -3,8 +3,8 @@ use Rattle.std.proofs.lemmas.Result.{err_from_is_err_and}
 use Rattle.idn_label.proofs.AnswerLemmas.{confirmed-same, confirmed-other, confirmed-fault, ace_label-again, a_label_of-not_ascii, Gives-confirmed}
 use Rattle.idn_label.proofs.u_label.confirm.Goals as goal
 
-pub check_encoded-requires-clause-short_a_label : goal.check_encoded-requires-clause-short_a_label
-check_encoded-requires-clause-short_a_label c =
+pub check_short_u_label-requires-clause-short_a_label : goal.check_short_u_label-requires-clause-short_a_label
+check_short_u_label-requires-clause-short_a_label c =
     let given = c.args.given.now in
     let told = c.if-is_encoded_back in
     subst (λ x. length x ≤ 63) (sym (ace_label-again given c.args.label.now c.requires.prefix c.requires.decoded (told.ensures.lowercase refl))) (told.ensures.short refl).0
@@ -14,9 +14,9 @@ returns-then-is_encoded_back c =
     let given = c.args.given.now in
     let label = c.args.label.now in
     let told = c.if-is_encoded_back in
-    Gives-confirmed c.check_encoded.result given label
+    Gives-confirmed c.check_short_u_label.result given label
     (a_label_of-not_ascii label (told.ensures.coded refl) ∙ ace_label-again given label c.requires.prefix c.requires.decoded (told.ensures.lowercase refl))
-    c.check_encoded.ensures.registrable c.check_encoded.ensures.fault
+    c.check_short_u_label.ensures.registrable c.check_short_u_label.ensures.fault
 
 pub returns-in_err-a_label : goal.returns-in_err-a_label
 returns-in_err-a_label c =

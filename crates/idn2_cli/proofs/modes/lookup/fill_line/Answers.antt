@@ -1,7 +1,7 @@
 use Rattle.std.proofs.Common.{◌++◌, ◌∷◌, [], Ok, ap, sym, ◌∙◌}
 use Rattle.idn2_cli.specs.LineAnswers.{with_feed}
 use Rattle.idn2_cli.proofs.TextAnswers.{query_answer-name, query_answer-fault, query_answer-not_utf8, query_answer-empty}
-use Rattle.idn2_cli.proofs.modes.lookup.write_line.Goals as goal
+use Rattle.idn2_cli.proofs.modes.lookup.fill_line.Goals as goal
 
 pub returns-then-is_empty : goal.returns-then-is_empty
 returns-then-is_empty c = λ _. ap with_feed (query_answer-empty c.args.std3 c.args.name.now (sym c.is_empty.ensures ∙ c.if-is_empty.true))

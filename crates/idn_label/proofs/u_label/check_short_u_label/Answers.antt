@@ -3,7 +3,7 @@ use Rattle.std.proofs.lemmas.Result.{err_from_is_err_and, on_ok_weaker, MatchRes
 use Rattle.idn_label.specs.FirstFault.{code_point_fault}
 use Rattle.idn_label.specs.Steps.{rule_fault}
 use Rattle.idn_label.proofs.PlainLemmas.{not_plain, first_fault-points, first_fault-rules, first_fault-short}
-use Rattle.idn_label.proofs.u_label.check_encoded.Goals as goal
+use Rattle.idn_label.proofs.u_label.check_short_u_label.Goals as goal
 
 pub returns-in_err-check_code_points-clause-fault : goal.returns-in_err-check_code_points-clause-fault
 returns-in_err-check_code_points-clause-fault c =
