@@ -2,6 +2,9 @@ pub mod BidiLemmas
 pub mod CategoryLemmas
 pub mod ClassNumbers
 pub mod ClassTrie
+pub mod FitsSteps
+pub mod FitsTrie
+pub mod FittingLabels
 pub mod JoiningLemmas
 pub mod StabilityLemmas
 pub mod ContextJTests

@@ -28,7 +28,7 @@ unfolding in_ranges
 is_arabic_number = in_ranges ((0x660, 0x669) ∷ [])
 
 -- the categories of marks that take no place of their own
-abbrev is_nonspacing_or_enclosing : GeneralCategory → Bool
+abbrev pub is_nonspacing_or_enclosing : GeneralCategory → Bool
 is_nonspacing_or_enclosing Mn = true
 is_nonspacing_or_enclosing Me = true
 is_nonspacing_or_enclosing _ = false

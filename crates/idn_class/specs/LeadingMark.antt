@@ -4,7 +4,7 @@ use Rattle.ucd_category.specs.declared.GeneralCategory.{GeneralCategory}
 use Rattle.ucd_category.specs.declared.GeneralCategory.TheVariants.{NonspacingMark as Mn, SpacingMark as Mc, EnclosingMark as Me}
 use Rattle.unicode.specs.GeneralCategory.{general_category}
 
-abbrev is_mark_category : GeneralCategory → Bool
+abbrev pub is_mark_category : GeneralCategory → Bool
 is_mark_category Mn = true
 is_mark_category Mc = true
 is_mark_category Me = true

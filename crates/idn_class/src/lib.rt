@@ -10,6 +10,7 @@ mod class;
 mod class_table;
 mod contextj;
 mod contexto;
+mod fitting;
 mod joining_type;
 mod laws;
 mod mark;
@@ -23,6 +24,7 @@ pub use bidi_class::BidiClass;
 pub use class::{Class, class_of};
 pub use contextj::contextj_ok;
 pub use contexto::contexto_ok;
+pub use fitting::fits_anywhere;
 pub use joining_type::JoiningType;
 pub use laws::{
     bidi_rows, class_rows, joiner_rows, mark_rows, only_rtl_labels_pass, other_rows,

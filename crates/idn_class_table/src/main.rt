@@ -1,20 +1,24 @@
-//! Prints the source of the table of classes, `src/class_table.rt` of the crate `idn_class`, from
-//! the Unicode tables of the kit. Nothing rests on this program being right: `idn_class` proves that
-//! the table it holds says what the definition of a class says, and a wrong table is refused there.
+//! Prints the source of the tables of code points, `src/class_table.rt` of the crate `idn_class`,
+//! from the Unicode tables of the kit. Nothing rests on this program being right: `idn_class` proves
+//! that the tables it holds say what its definitions say, and a wrong table is refused there.
 //!
 //! For a new version of Unicode run it in this folder, as `rt run > stdout`, copy `stdout` over
 //! `../idn_class/src/class_table.rt`, and run the gate.
 #![tactic(auto)]
 
 mod entry;
+mod fits;
 mod print;
 mod trie;
 
-use crate::print::print_table;
+use crate::entry::entry_of;
+use crate::fits::fits_anywhere;
+use crate::print::print_tables;
 use crate::trie::Trie;
 
 fn main(rt: HostRuntime) -> anyhow::Result<()> {
-    let trie = Trie::new(rt.alloc())?;
-    print_table(&rt, &trie)?;
+    let classes = Trie::new::<4, 8, _>(rt.alloc(), &|c| entry_of(c).number())?;
+    let fits = Trie::new::<1, 2, _>(rt.alloc(), &|c| u32::from(fits_anywhere(c)))?;
+    print_tables(&rt, &classes, &fits)?;
     Ok(())
 }

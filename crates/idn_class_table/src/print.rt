@@ -3,36 +3,55 @@ use std::fmt::Display;
 use std::io;
 
 /// Prints the whole file.
-pub(crate) fn print_table(rt: &impl Print, trie: &Trie) -> io::Result<()> {
+pub(crate) fn print_tables(rt: &impl Print, classes: &Trie, fits: &Trie) -> io::Result<()> {
     println!(rt;
-        "//! The entries of all code points, for `ucd_table::get::<4, 8>`: 0 is DISALLOWED,"
+        "//! Two tables of all code points. Printed by the program `idn_class_table`: do not edit."
+    )?;
+    println!(rt; "//!")?;
+    println!(rt;
+        "//! That of the classes, for `ucd_table::get::<4, 8>`: 0 is DISALLOWED, 1 PVALID, 2 CONTEXTJ,"
     )?;
     println!(rt;
-        "//! 1 PVALID, 2 CONTEXTJ, 3 CONTEXTO, 4 UNASSIGNED, and 5 PVALID for a stable code point"
+        "//! 3 CONTEXTO, 4 UNASSIGNED, and 5 PVALID for a stable code point and else DISALLOWED."
     )?;
+    println!(rt; "//!")?;
     println!(rt;
-        "//! and else DISALLOWED. Printed by the program `idn_class_table`: do not edit."
+        "//! That of the code points that fit anywhere, for `ucd_table::get::<1, 2>`: they have 1."
     )?;
-
-    print_head(
-        rt,
-        "The block of each 128 code points.",
-        "CLASS_INDEX: [u8",
-        trie.index.len(),
-    )?;
-    for line in trie.index.chunks(24) {
-        print_numbers(rt, line)?;
-    }
-    println!(rt; "];")?;
-
-    print_head(
+    print_index(rt, "CLASS_INDEX: [u8", &classes.index)?;
+    print_words(
         rt,
         "The blocks: eight words of sixteen entries each.",
         "CLASS_WORDS: [u64",
-        trie.words.len(),
+        &classes.words,
     )?;
-    for line in trie.words.chunks(4) {
-        print_words(rt, line)?;
+    print_index(rt, "FITS_INDEX: [u8", &fits.index)?;
+    print_words(
+        rt,
+        "The blocks: two words of 64 entries each.",
+        "FITS_WORDS: [u64",
+        &fits.words,
+    )
+}
+
+/// The places of the blocks, in lines of decimal numbers.
+fn print_index(rt: &impl Print, array: &str, index: &[u8]) -> io::Result<()> {
+    print_head(rt, "The block of each 128 code points.", array, index.len())?;
+    for line in index.chunks(24) {
+        print_numbers(rt, line)?;
+    }
+    println!(rt; "];")
+}
+
+/// The words of the blocks, in hexadecimal digits, of which the last stand for the first entries.
+fn print_words(rt: &impl Print, meaning: &str, array: &str, words: &[u64]) -> io::Result<()> {
+    print_head(rt, meaning, array, words.len())?;
+    for line in words.chunks(4) {
+        print!(rt; "   ")?;
+        for word in line {
+            print!(rt; " 0x{word:016X},")?;
+        }
+        println!(rt; "")?;
     }
     println!(rt; "];")
 }
@@ -50,15 +69,6 @@ fn print_numbers<T: Display>(rt: &impl Print, numbers: &[T]) -> io::Result<()> {
     print!(rt; "   ")?;
     for number in numbers {
         print!(rt; " {number},")?;
-    }
-    println!(rt; "")
-}
-
-/// One line of words, whose hexadecimal digits are their entries, the last digit first.
-fn print_words(rt: &impl Print, words: &[u64]) -> io::Result<()> {
-    print!(rt; "   ")?;
-    for word in words {
-        print!(rt; " 0x{word:016X},")?;
     }
     println!(rt; "")
 }

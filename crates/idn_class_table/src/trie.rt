@@ -1,17 +1,14 @@
-ghost use Rattle.std.specs.Prelude.{◌<◌};
+ghost use Rattle.std.specs.Prelude.{◌<◌, ◌≤◌};
 
-use crate::entry::entry_of;
 use std::alloc::Global;
 
-/// The words of a block, and the code points of a word: an entry takes four bits.
-const WORDS: u32 = 8;
-
-const SLOTS: u32 = 16;
+/// The code points of a block.
+const BLOCK_LEN: u32 = 128;
 
 /// The blocks of Unicode.
 const BLOCKS: u32 = 8704;
 
-/// The entries of all code points, in the form that `ucd_table::get::<4, 8>` reads.
+/// The entries of all code points, in the form that `ucd_table::get` reads.
 #[derive(Drop)]
 pub(crate) struct Trie {
     /// For each block its place among the different ones.
@@ -21,17 +18,31 @@ pub(crate) struct Trie {
 }
 
 impl Trie {
-    /// The entries as the Unicode tables of the kit have them.
-    pub(crate) fn new(alloc: Global) -> anyhow::Result<Self> {
+    /// The entries that a function gives, each in `BITS` bits. A block takes `SIZE` words, which
+    /// is `2 * BITS`.
+    pub(crate) fn new<const BITS: usize, const SIZE: usize, F: Fn(u32) -> u32>(
+        alloc: Global,
+        entry_of: &F,
+    ) -> anyhow::Result<Self>
+        requires some_bits { 0 < BITS }
+        requires few_bits { BITS ≤ 32 }
+        requires some_words { 0 < SIZE }
+        requires few_words { SIZE ≤ 64 }
+        requires is_always_callable { F.IsAlwaysCallable entry_of.now }
+    {
         let mut index = Vec::new(alloc);
         let mut words = Vec::new(alloc);
         for number in 0..BLOCKS {
-            let block = block_of(number);
-            let place = match words.chunks(8).position(|other| other == block.as_slice()) {
+            let block: [u64; SIZE] = block_of::<BITS, SIZE, F>(number, entry_of);
+            let place = match words
+                .chunks(SIZE)
+                .position(|other| other == block.as_slice())
+            {
                 Some(place) => place,
                 None => {
+                    let place = words.len() / SIZE;
                     words.extend_from_slice(&block)?;
-                    words.len() / 8 - 1
+                    place
                 }
             };
             index.push(u8::try_from(place)?)?;
@@ -41,23 +52,24 @@ impl Trie {
 }
 
 /// The words of a block; an entry further on stands in higher bits.
-fn block_of(number: u32) -> [u64; 8]
-    requires { number < BLOCKS }
+fn block_of<const BITS: usize, const SIZE: usize, F: Fn(u32) -> u32>(
+    number: u32,
+    entry_of: &F,
+) -> [u64; SIZE]
+    requires some_bits { 0 < BITS }
+    requires few_bits { BITS ≤ 32 }
+    requires block { number < BLOCKS }
+    requires is_always_callable { F.IsAlwaysCallable entry_of.now }
 {
-    let mut block = [0; 8];
-    for word in 0..WORDS {
-        block[word as usize] = word_of((number * WORDS + word) * SLOTS);
+    let mut entries = [0; 128];
+    for place in 0..BLOCK_LEN {
+        entries[place as usize] = u64::from(entry_of(number * BLOCK_LEN + place));
+    }
+    let mut block = [0; SIZE];
+    for (word, slots) in block.iter_mut().zip(entries.chunks(64 / BITS)) {
+        for entry in slots.iter().rev() {
+            *word = *word << BITS | *entry;
+        }
     }
     block
-}
-
-/// The entries of the code points of a word that begins with `first`.
-fn word_of(first: u32) -> u64
-    requires { first < 0x11_0000 }
-{
-    let mut word = 0;
-    for slot in (0..SLOTS).rev() {
-        word = word << 4 | entry_of(first + slot).number() as u64;
-    }
-    word
 }
