@@ -3,7 +3,7 @@ use Rattle.std.proofs.Common.{◌≡◌, ◌==◌, ℕ, List, [], ◌∷◌, Boo
 use Rattle.std.specs.Result.{is_err}
 use Rattle.std.proofs.lemmas.Bool.{cases_Bool}
 use Rattle.std.proofs.lemmas.Bool.Decides.{nat_tests}
-use Rattle.std.specs.Str.{is_utf8, all_scalars, IsUtf8}
+use Rattle.std.specs.Str.{is_utf8, all_scalars, IsUtf8, IsAscii}
 use Rattle.std.specs.List.{AllByRecursion}
 use Rattle.std.proofs.lemmas.Str.{IsUtf8-from_is_utf8, is_utf8-from_IsUtf8}
 use Rattle.std.proofs.lemmas.List.Elements.{All-from_recursion}
@@ -14,7 +14,7 @@ use Rattle.idn_label.specs.Lookup.{lookup_answer, query_name}
 use Rattle.idn_label.proofs.LookupLemmas.{query_name-not_utf8}
 use Rattle.idn2_cli.specs.Pieces.{Output}
 use Rattle.idn2_cli.specs.Transcript.{pieces_for}
-use Rattle.idn_text.proofs.Utf8Lemmas.{IsUtf8-from_points, points_from_utf8}
+use Rattle.idn_text.proofs.Utf8Lemmas.{IsUtf8-from_points, points_from_utf8, ascii_points}
 use Rattle.idn2_cli.specs.LineAnswers.{LineAnswer, one_line, with_feed, text_answer, query_answer}
 
 and_parts : (a b : Bool) → (a && b) ≡ true → (a ≡ true) × (b ≡ true)
@@ -52,6 +52,10 @@ text_answer-points answer bytes points is some =
     ap (λ (b : Bool). if b then (if length bytes == 0 then Err Empty else answer (chars bytes)) else Err NotUtf8) utf8
     ∙ ap (λ (b : Bool). let r : LineAnswer = if b then Err Empty else answer (chars bytes) in r) some
     ∙ ap answer (points_from_utf8 bytes points is)
+
+-- ASCII, each byte of which is a code point
+pub text_answer-ascii : (answer : List ℕ → LineAnswer) (bytes : List ℕ) → IsAscii bytes → (length bytes == 0) ≡ false → text_answer answer bytes ≡ answer bytes
+text_answer-ascii answer bytes ascii some = text_answer-points answer bytes bytes (ascii_points bytes ascii) some
 
 -- what lookup answers to bytes, by the name that they are in a query
 pub text_answer-query : (std3 : Bool) (bytes : List ℕ) → text_answer (λ name. one_line (lookup_answer name std3)) bytes ≡ one_line (query_answer bytes std3)

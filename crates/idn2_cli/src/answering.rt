@@ -11,8 +11,8 @@ ghost use Rattle.idn2_cli.specs.declared.stop.Stop.TheVariants as stop;
 
 use crate::console::Console;
 use crate::message::line_message;
+use crate::room::Room;
 use crate::stop::Stop;
-use arrayvec::ArrayVec;
 use idn_text::{Refusal, Sink};
 use std::alloc::Global;
 
@@ -25,13 +25,12 @@ pub(crate) trait Answering {
     ghost is_ready: { Self → Type 0 } = { λ _. Unit {0} };
 
     /// Writes the answer to the bytes of a line of this number, and tells whether it is a refusal.
-    /// `points` is room for code points.
     fn answer<W: Sink, E: Sink>(
         &self,
         alloc: Global,
         number: u64,
         text: &[u8],
-        points: &mut ArrayVec<u32, 1024>,
+        room: &mut Room,
         console: &mut Console<'_, '_, W, E>,
     ) -> Result<bool, Stop>
         requires ready { is_ready self.now }

@@ -10,8 +10,8 @@ ghost use Rattle.idn2_cli.specs.Emitting.{Emits};
 
 use crate::answering::{Answering, refuse};
 use crate::console::Console;
+use crate::room::Room;
 use crate::stop::Stop;
-use arrayvec::ArrayVec;
 use idn_text::{Refusal, Sink, decode_points};
 use std::alloc::Global;
 
@@ -57,15 +57,15 @@ impl<'m, M: PointAnswering> Answering for ByPoints<'m, M> {
         alloc: Global,
         number: u64,
         text: &[u8],
-        points: &mut ArrayVec<u32, 1024>,
+        room: &mut Room,
         console: &mut Console<'_, '_, W, E>,
     ) -> Result<bool, Stop> {
-        match decode_points(text, points) {
+        match decode_points(text, &mut room.points) {
             Err(_) => refuse(number, Refusal::NotUtf8, console),
             Ok(()) if text.is_empty() => refuse(number, Refusal::Empty, console),
             Ok(()) => {
                 self.mode
-                    .answer_points(alloc, number, points.as_slice(), console)
+                    .answer_points(alloc, number, room.points.as_slice(), console)
             }
         }
     }

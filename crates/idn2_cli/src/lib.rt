@@ -16,6 +16,7 @@ mod message;
 mod mode;
 mod modes;
 mod options;
+mod room;
 mod rules;
 mod serving;
 mod session;

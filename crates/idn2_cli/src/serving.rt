@@ -12,9 +12,9 @@ ghost use Rattle.idn2_cli.specs.Serving.{HasServed, HasStoppedServing};
 
 use crate::answering::{Answering, refuse};
 use crate::console::Console;
+use crate::room::Room;
 use crate::status::Status;
 use crate::stop::Stop;
-use arrayvec::ArrayVec;
 use idn_text::{Body, Line, Lines, Refusal, Sink, Source};
 use std::alloc::Global;
 
@@ -36,10 +36,10 @@ pub(crate) fn serve_lines<M: Answering, R: Source, W: Sink, E: Sink>(
     ensures same { HasSameWriters console.old console.new }
 {
     let mut line = Line::new();
-    let mut points = ArrayVec::new();
+    let mut room = Room::new();
     let mut has_refused = false;
     'lines: while input.read_line(&mut line)? {
-        let is_refused = serve_line(alloc, mode, &line, &mut points, console)?;
+        let is_refused = serve_line(alloc, mode, &line, &mut room, console)?;
         has_refused = has_refused || is_refused;
     }
     Ok(if has_refused {
@@ -49,12 +49,12 @@ pub(crate) fn serve_lines<M: Answering, R: Source, W: Sink, E: Sink>(
     })
 }
 
-/// Answers a line, and tells whether it was refused. `points` is room for its code points.
+/// Answers a line, and tells whether it was refused.
 fn serve_line<M: Answering, W: Sink, E: Sink>(
     alloc: Global,
     mode: &M,
     line: &Line,
-    points: &mut ArrayVec<u32, 1024>,
+    room: &mut Room,
     console: &mut Console<'_, '_, W, E>,
 ) -> Result<bool, Stop>
     requires { M.is_ready mode.now }
@@ -66,6 +66,6 @@ fn serve_line<M: Answering, W: Sink, E: Sink>(
 {
     match &line.body {
         Body::TooLong => refuse(line.number, Refusal::LineTooLong, console),
-        Body::Text(text) => mode.answer(alloc, line.number, text, points, console),
+        Body::Text(text) => mode.answer(alloc, line.number, text, room, console),
     }
 }

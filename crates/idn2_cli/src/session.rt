@@ -101,7 +101,7 @@ fn serve_mode<R: Source, W: Sink, E: Sink>(
             serve_lines(alloc, &mode, input, console)
         }
         Mode::Register => serve_lines(alloc, &ByPoints { mode: &Register }, input, console),
-        Mode::Decode => serve_lines(alloc, &ByPoints { mode: &Decode }, input, console),
+        Mode::Decode => serve_lines(alloc, &Decode, input, console),
         Mode::Variants => serve_variants(alloc, options, table, input, console),
         Mode::CheckTable => serve_check(alloc, table, console),
     }

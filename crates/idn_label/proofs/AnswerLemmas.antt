@@ -151,7 +151,7 @@ some_from_ok (Some other) label e = cc
 some_from_ok None label e = absurd (let clash : Err BadALabel ≡ Ok label = e in cc)
 
 -- what is decoded was Punycode
-decoded_code-from : (code label : List ℕ) → decoded_code code ≡ Ok label → decode code ≡ Some label
+pub decoded_code-from : (code label : List ℕ) → decoded_code code ≡ Ok label → decode code ≡ Some label
 unfolding decoded_code
 decoded_code-from code label e =
     elim (cases_Bool (length code == 0 || not (is_all_ascii code))) [

@@ -1,6 +1,6 @@
 -- How the answer of decoding grows label by label.
-use Rattle.std.proofs.Common.{◌≡◌, ◌≢◌, ℕ, ◌+◌, ◌<◌, ◌≤◌, true, false, not, Option, Some, None, IfSome, List, [], ◌∷◌, ◌++◌, map, take, drop, get_or, length, All, Result, Ok, Err, refl, sym, ap, subst, ◌∙◌, inl, inr, append_assoc, take-append-drop, eq-eqb, arith}
-use Rattle.std.specs.Char.{is_ascii_uppercase, to_ascii_lowercase}
+use Rattle.std.proofs.Common.{◌≡◌, ◌≢◌, ℕ, ◌+◌, ◌<◌, ◌≤◌, true, false, not, ◌&&◌, ◌==◌, Option, Some, None, IfSome, List, [], ◌∷◌, ◌++◌, map, take, drop, get_or, length, All, Result, Ok, Err, refl, sym, ap, ap₂, subst, ◌∙◌, inl, inr, append_assoc, take-append-drop, eq-eqb, arith}
+use Rattle.std.specs.Char.{is_ascii, is_ascii_uppercase, to_ascii_lowercase}
 use Rattle.std.specs.List.{list_all}
 use Rattle.std.proofs.lemmas.List.Elements.{All-weaker}
 use Rattle.std.proofs.lemmas.List.Sums.{AllPass-from_list_all}
@@ -11,7 +11,7 @@ use Rattle.std.specs.Borrow.{Bor}
 use Rattle.std.specs.Option.{option_map_or}
 use Rattle.std.proofs.lemmas.List.Splits.{slice_split_at}
 use Rattle.idna.specs.Labels.{is_full_stop, labels_of, join_labels}
-use Rattle.idna.specs.Validity.{has_ace_prefix}
+use Rattle.idna.specs.Validity.{is_all_ascii, has_ace_prefix}
 use Rattle.idna.proofs.LabelsLemmas.{labels_of_cons}
 use Rattle.idna.proofs.Uts46Lemmas.{ace_parts, map-lowercase}
 use Rattle.idn_text.specs.declared.refusal.Refusal.{Refusal}
@@ -34,6 +34,22 @@ labels_of-stop name at lt stop none =
 pub lowercase_of-lower : (label : List ℕ) → list_all (λ c. not (is_ascii_uppercase c)) label ≡ true → map to_ascii_lowercase label ≡ label
 lowercase_of-lower label none =
     map-lowercase label (All-weaker _ _ (λ c h. not-true (is_ascii_uppercase c) h) label (AllPass-from_list_all (λ c. not (is_ascii_uppercase c)) label none))
+
+-- lower case is ASCII where the label is
+lower_ascii : (c : ℕ) → is_ascii (to_ascii_lowercase c) ≡ is_ascii c
+lower_ascii c = grind (arith, nat_tests)
+
+pub is_all_ascii-lower : (label : List ℕ) → is_all_ascii (map to_ascii_lowercase label) ≡ is_all_ascii label
+is_all_ascii-lower [] = refl
+is_all_ascii-lower (c ∷ label) = ap₂ (λ x y. x && y) (lower_ascii c) (is_all_ascii-lower label)
+
+-- lower case has no capital
+lower_no_capital : (c : ℕ) → not (is_ascii_uppercase (to_ascii_lowercase c)) ≡ true
+lower_no_capital c = grind (arith, nat_tests)
+
+pub has_no_capital-lower : (label : List ℕ) → list_all (λ c. not (is_ascii_uppercase c)) (map to_ascii_lowercase label) ≡ true
+has_no_capital-lower [] = refl
+has_no_capital-lower (c ∷ label) = ap₂ (λ x y. x && y) (lower_no_capital c) (has_no_capital-lower label)
 
 -- ---- the prefix in any case
 
@@ -91,7 +107,7 @@ decode_answer-more name label others parts =
     let more = labels_of_cons others in
     rw (parts, more.2) (join_more (decoded_label label) (decoded_label more.0) (decoded_labels more.1))
 
-appended_twice : (before between : List ℕ) (answer : Answer) → appended before (appended between answer) ≡ appended (before ++ between) answer
+pub appended_twice : (before between : List ℕ) (answer : Answer) → appended before (appended between answer) ≡ appended (before ++ between) answer
 appended_twice before between (Ok more) = ap Ok (sym (append_assoc before between more))
 appended_twice before between (Err refusal) = refl
 
@@ -103,7 +119,7 @@ pub appended-err : (before : List ℕ) (answer : Answer) (refusal : Refusal) →
 appended-err before (Ok more) refusal e = absurd (let clash : Ok (before ++ more) ≡ Err refusal = e in cc)
 appended-err before (Err other) refusal e = e
 
-appended-ok : (before : List ℕ) (answer : Answer) (after : List ℕ) → appended before answer ≡ Ok after → (more : List ℕ) × (answer ≡ Ok more) × (after ≡ before ++ more)
+pub appended-ok : (before : List ℕ) (answer : Answer) (after : List ℕ) → appended before answer ≡ Ok after → (more : List ℕ) × (answer ≡ Ok more) × (after ≡ before ++ more)
 appended-ok before (Ok more) after e = (more, refl, (let same : Ok (before ++ more) ≡ Ok after = e in let is : after ≡ before ++ more = cc in is))
 appended-ok before (Err refusal) after e = absurd (let clash : Err refusal ≡ Ok after = e in cc)
 
@@ -136,3 +152,8 @@ labels_of-some name label others rest parts some = parts ∙ ap (λ o. label ∷
 
 pub shorter_rest : (n : ℕ) (others : Option (Bor (List ℕ))) (rest : Bor (List ℕ)) → IfSome others (λ rest. length rest.now < n) → others ≡ Some rest → length rest.now < n
 shorter_rest n others rest shorter some = subst (λ (o : Option (Bor (List ℕ))). IfSome o (λ rest. length rest.now < n)) some shorter
+
+-- the prefix, code point by code point
+pub has_ace_prefix-of_four : (a b c d : ℕ) → has_ace_prefix (a ∷ b ∷ c ∷ d ∷ []) ≡ ((0x78 == a) && (0x6E == b) && (0x2D == c) && (0x2D == d))
+unfolding has_ace_prefix
+has_ace_prefix-of_four a b c d = grind (arith, nat_tests)

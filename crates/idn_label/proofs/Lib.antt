@@ -2,7 +2,15 @@ pub mod AnswerLemmas
 pub mod DecodeLemmas
 pub mod ExampleLemmas
 pub mod FaultLemmas
+pub mod FittingLemmas
+pub mod FittingNames
+pub mod FittingPoints
+pub mod FittingReads
+pub mod LabelLengths
 pub mod LookupLemmas
+pub mod OtherLabels
 pub mod PlainLemmas
+pub mod PlainNames
 pub mod RequirementLemmas
 pub mod RoundTrips
+pub mod Utf8Decoding

@@ -1,6 +1,6 @@
 -- The name as a query sends it, by what ToASCII gives.
-use Rattle.std.proofs.Common.{◌≡◌, ◌≤◌, ℕ, ◌-◌, Bool, true, false, List, length, take, slice_index, Option, Some, None, Ok, Err, refl, sym, ap, ◌∙◌, inl, inr, arith}
-use Rattle.std.specs.Str.{is_utf8}
+use Rattle.std.proofs.Common.{◌≢◌, [], ◌∷◌, get_or, eq-eqb, ne_eqb, ◌≡◌, ◌≤◌, ℕ, ◌-◌, Bool, true, false, List, length, take, slice_index, Option, Some, None, Result, Ok, Err, refl, sym, ap, ◌∙◌, inl, inr, arith}
+use Rattle.std.specs.Str.{is_utf8, IsAscii}
 use Rattle.std.proofs.lemmas.List.{length-take}
 use Rattle.std.proofs.lemmas.Bool.{cond-true, cond-false, cases_Bool, and_parts, leb-true}
 use Rattle.idna.specs.declared.deny_list.AsciiDenyList.{AsciiDenyList}
@@ -8,22 +8,16 @@ use Rattle.idna.specs.declared.options.Hyphens.TheVariants.{Allow}
 use Rattle.idna.specs.declared.options.DnsLength.TheVariants.{Ignore}
 use Rattle.idna.specs.Labels.{is_full_stop}
 use Rattle.idna.specs.Uts46.{to_ascii, verify_dns_length, has_dns_lengths}
+use Rattle.idna.proofs.Uts46Lemmas.{IsAscii-to_ascii}
+use Rattle.idn_text.specs.declared.refusal.Refusal.{Refusal}
+use Rattle.idn_label.specs.Answers.{Gives}
 use Rattle.idn_text.specs.declared.refusal.Refusal.TheVariants.{LookupInvalid, LookupLength}
 use Rattle.idn_label.specs.Lookup.{deny_list, measured_answer, query_name}
 
-measured : (name : List ℕ) (std3 : Bool) (deny : AsciiDenyList) (ascii : Option (List ℕ)) → deny ≡ deny_list std3 → to_ascii deny Allow Ignore name ≡ ascii → query_name name std3 ≡ measured_answer ascii
+pub query_name-measured : (name : List ℕ) (std3 : Bool) (deny : AsciiDenyList) (ascii : Option (List ℕ)) → deny ≡ deny_list std3 → to_ascii deny Allow Ignore name ≡ ascii → query_name name std3 ≡ measured_answer ascii
 unfolding query_name
-measured name std3 deny ascii listed is =
+query_name-measured name std3 deny ascii listed is =
     ap measured_answer (ap (λ d. to_ascii d Allow Ignore name) (sym listed) ∙ is)
-
-pub query_name-invalid : (name : List ℕ) (std3 : Bool) (deny : AsciiDenyList) → deny ≡ deny_list std3 → to_ascii deny Allow Ignore name ≡ None → query_name name std3 ≡ Err LookupInvalid
-query_name-invalid name std3 deny listed none = measured name std3 deny None listed none
-
-pub query_name-ascii : (name : List ℕ) (std3 : Bool) (deny : AsciiDenyList) (ascii : List ℕ) → deny ≡ deny_list std3 → to_ascii deny Allow Ignore name ≡ Some ascii → verify_dns_length ascii true ≡ true → query_name name std3 ≡ Ok ascii
-query_name-ascii name std3 deny ascii listed is fits = measured name std3 deny (Some ascii) listed is ∙ cond-true _ _ _ fits
-
-pub query_name-length : (name : List ℕ) (std3 : Bool) (deny : AsciiDenyList) (ascii : List ℕ) → deny ≡ deny_list std3 → to_ascii deny Allow Ignore name ≡ Some ascii → verify_dns_length ascii true ≡ false → query_name name std3 ≡ Err LookupLength
-query_name-length name std3 deny ascii listed is long = measured name std3 deny (Some ascii) listed is ∙ cond-false _ _ _ long
 
 short_name : (name : List ℕ) → has_dns_lengths name ≡ true → length name ≤ 253
 short_name name fits = leb-true (length name) 253 (and_parts _ _ fits).0
@@ -45,3 +39,39 @@ verified-fits name fits =
 pub query_name-not_utf8 : (bytes : List ℕ) (std3 : Bool) → is_utf8 bytes ≡ false → query_name bytes std3 ≡ Err LookupInvalid
 unfolding query_name to_ascii
 query_name-not_utf8 bytes std3 other = rw other refl
+
+-- ---- the lengths
+
+pub verify_dns_length-stop : (name : List ℕ) (last : ℕ) → last ≡ length name - 1 → get_or name last 0 ≡ 0x2E → verify_dns_length name true ≡ has_dns_lengths (take last name)
+unfolding verify_dns_length
+verify_dns_length-stop name last is stop =
+    cond-true _ _ _ (eq-eqb (slice_index name (length name - 1)) 0x2E (ap (slice_index name) (sym is) ∙ stop)) ∙ ap (λ n. has_dns_lengths (take n name)) (sym is)
+
+pub verify_dns_length-no_stop : (name : List ℕ) (last : ℕ) → last ≡ length name - 1 → get_or name last 0 ≢ 0x2E → verify_dns_length name true ≡ has_dns_lengths name
+unfolding verify_dns_length
+verify_dns_length-no_stop name last is other =
+    cond-false _ _ _ (ne_eqb (slice_index name (length name - 1)) 0x2E (λ stop. other (ap (slice_index name) is ∙ stop)))
+
+pub verify_dns_length-empty : (name : List ℕ) → length name ≡ 0 → verify_dns_length name true ≡ has_dns_lengths name
+unfolding verify_dns_length
+verify_dns_length-empty [] empty = refl
+verify_dns_length-empty (c ∷ name) empty = absurd (omega arith)
+
+-- ---- what is answered is ASCII
+
+measured_answer-ok : (ascii : Option (List ℕ)) (query : List ℕ) → measured_answer ascii ≡ Ok query → ascii ≡ Some query
+measured_answer-ok None query e = absurd (let clash : Err LookupInvalid ≡ Ok query = e in cc)
+measured_answer-ok (Some ascii) query e = by_length (verify_dns_length ascii true) refl
+  where
+    by_length : (b : Bool) → verify_dns_length ascii true ≡ b → Some ascii ≡ Some query
+    by_length true is = let same : Ok ascii ≡ Ok query = sym (cond-true _ _ _ is) ∙ e in cc
+    by_length false is = absurd (let clash : Err LookupLength ≡ Ok query = sym (cond-false _ _ _ is) ∙ e in cc)
+
+pub query_name-ascii : (name query : List ℕ) (std3 : Bool) → query_name name std3 ≡ Ok query → IsAscii query
+unfolding query_name
+query_name-ascii name query std3 e = IsAscii-to_ascii (deny_list std3) Allow Ignore name query (measured_answer-ok _ query e)
+
+-- the lengths of what ToASCII gives, as the answer
+pub Gives-measured : (r : Result (Unit {0}) Refusal) (name query text : List ℕ) (std3 : Bool) → text ≡ query → query_name name std3 ≡ measured_answer (Some query) → Gives (λ (_ : Unit {0}). text) r (measured_answer (Some text)) → Gives (λ (_ : Unit {0}). query) r (query_name name std3)
+Gives-measured (Ok value) name query text std3 same measured given = measured ∙ ap (λ t. measured_answer (Some t)) (sym same) ∙ given ∙ ap Ok same
+Gives-measured (Err refusal) name query text std3 same measured given = λ other. measured ∙ ap (λ t. measured_answer (Some t)) (sym same) ∙ given other

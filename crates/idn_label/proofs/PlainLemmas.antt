@@ -140,7 +140,7 @@ bidi_ok-ascii label ascii =
     let none : list_any is_rtl_class (map bidi_class label) ≡ false = list_any_none is_rtl_class (map bidi_class label) (All-map (λ class. is_rtl_class class ≡ false) bidi_class label (All-weaker (λ c. c < 128) (λ c. is_rtl_class (bidi_class c) ≡ false) is_rtl-ascii label ascii)) in
     rw none refl
 
-one_fault : (fails : Bool) → first_of (None ∷ fault_if fails Hyphen ∷ None ∷ None ∷ None ∷ None ∷ []) ≡ fault_if fails Hyphen
+pub one_fault : (fails : Bool) → first_of (None ∷ fault_if fails Hyphen ∷ None ∷ None ∷ None ∷ None ∷ []) ≡ fault_if fails Hyphen
 one_fault true = refl
 one_fault false = refl
 

@@ -2,6 +2,7 @@
 use Rattle.std.specs.Prelude.{ℕ, Bool, not, ◌||◌, ◌==◌, List, [], ◌∷◌, ◌++◌, Option, Ok}
 use Rattle.std.specs.Char.{is_ascii_lowercase, is_ascii_digit}
 use Rattle.unicode_normalization.specs.Forms.{is_nfc}
+use Rattle.idn_text.specs.Points.{utf8_of}
 use Rattle.idn_text.specs.declared.refusal.Refusal.{Refusal}
 use Rattle.idn_text.specs.declared.refusal.Refusal.TheVariants.{NotNfc, Hyphen, LeadingMark, ContextJ, ContextO, Bidi}
 use Rattle.idn_class.specs.Tests.{leading_mark, contextj_ok, contexto_ok, bidi_ok}
@@ -28,3 +29,7 @@ rule_fault label =
 -- the answer behind what there was
 abbrev pub appended : List ℕ → Answer → Answer
 appended before answer = and_then answer (λ more. Ok (before ++ more))
+
+-- an answer of code points as their UTF-8 (RFC 3629)
+abbrev pub in_utf8 : Answer → Answer
+in_utf8 answer = and_then answer (λ points. Ok (utf8_of points))

@@ -1,11 +1,10 @@
 //! A-labels.
-ghost use Rattle.std.specs.Prelude.{◌≡◌, ◌≢◌, ◌<◌, ◌≤◌, ◌++◌, length, codes, false, IfOk, IfErr, OnOk, All};
+ghost use Rattle.std.specs.Prelude.{◌≡◌, ◌<◌, ◌≤◌, ◌++◌, length, codes, false, IfOk, IfErr, OnOk, All};
 ghost use Rattle.idna.specs.Punycode.{encode};
 
 use arrayvec::ArrayString;
+use idn_punycode::push_encoded;
 use idn_text::Refusal;
-use idna::{Errors, punycode};
-use std::alloc::Global;
 
 /// The most octets that a label has in the DNS (RFC 1035 section 2.3.4). No label has more code points either.
 pub(crate) const MAX_LABEL_LEN: usize = 63;
@@ -14,20 +13,15 @@ pub(crate) const MAX_LABEL_LEN: usize = 63;
 pub type ALabel = ArrayString<63>;
 
 /// The prefix and the Punycode of a label, if they are short enough.
-pub(crate) fn encoded_label(alloc: Global, label: &[char]) -> Result<ALabel, Refusal>
+pub(crate) fn encoded_label(label: &[char]) -> Result<ALabel, Refusal>
     requires { length label.now ≤ 63 }
     ensures ok { IfOk result (λ answer. answer.bytes ≡ codes "xn--" ++ encode label.now) }
     ensures short { OnOk result (length (codes "xn--" ++ encode label.now) ≤ 63) }
-    ensures too_long { IfErr result (λ refusal. refusal ≢ Refusal.Memory → (refusal ≡ Refusal.LabelTooLong) × (63 < length (codes "xn--" ++ encode label.now))) }
+    ensures too_long { IfErr result (λ refusal. (refusal ≡ Refusal.LabelTooLong) × (63 < length (codes "xn--" ++ encode label.now))) }
 {
-    let code = match punycode::encode(alloc, label) {
-        Ok(code) => code,
-        Err(Errors::OutOfMemory) => return Err(Refusal::Memory),
-        Err(Errors::Invalid) => unreachable!(),
-    };
     let mut answer = ALabel::new();
     answer.push_str("xn--");
-    match answer.try_push_str(code.as_str()) {
+    match push_encoded(label, &mut answer) {
         Ok(()) => Ok(answer),
         Err(_) => Err(Refusal::LabelTooLong),
     }

@@ -1,5 +1,6 @@
 //! The test of the code points of a label (RFC 5891 section 4.2.2), and labels as characters.
 ghost use Rattle.std.specs.Prelude.{◌≡◌, ◌≢◌, ◌≤◌, length, None, Some, IfOk, IfErr, OnOk};
+ghost use Rattle.idna.specs.Validity.{is_all_ascii};
 ghost use Rattle.idn_text.specs.Points.{AreScalarValues, IsScalarValue};
 ghost use Rattle.idn_label.specs.FirstFault.{code_point_fault, fault_of_class};
 
@@ -85,4 +86,11 @@ pub(crate) fn points_of(alloc: Global, label: &[char]) -> Result<Vec<u32>, Alloc
     ensures { IfOk result (λ points. points.items ≡ label.now) }
 {
     label.iter().map(|c| *c as u32).collect(alloc)
+}
+
+/// Whether a label is all ASCII.
+pub(crate) fn is_all_ascii(label: &[char]) -> bool
+    ensures { result ≡ is_all_ascii label.now }
+{
+    label.iter().all(|c| c.is_ascii())
 }

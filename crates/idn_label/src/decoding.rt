@@ -11,7 +11,10 @@ ghost use Rattle.idn_label.specs.FirstFault.{IsRegistrable};
 ghost use Rattle.idn_label.specs.Register.{u_label_answer};
 ghost use Rattle.idn_label.specs.Steps.{appended};
 
-use crate::u_label::{MAX_INPUT_LEN, has_ace_prefix, has_no_capital, u_label};
+use crate::ace_prefix::has_ace_prefix_in_any_case;
+use crate::octets::ascii_octets;
+use crate::u_label::{MAX_INPUT_LEN, u_label_in_any_case};
+use arrayvec::ArrayVec;
 use idn_text::Refusal;
 use std::alloc::{AllocError, Global};
 
@@ -77,60 +80,19 @@ fn decode_label(alloc: Global, label: &[u32], decoded: &mut Vec<u32>) -> Result<
     }
 }
 
-fn has_ace_prefix_in_any_case(label: &[u32]) -> bool
-    ensures { result ≡ has_ace_prefix (map to_ascii_lowercase label.now) }
-{
-    if label.len() < 4 {
-        return false;
-    }
-    has_ace_prefix(&[
-        to_lowercase(label[0]),
-        to_lowercase(label[1]),
-        to_lowercase(label[2]),
-        to_lowercase(label[3]),
-    ])
-}
-
-#[inline]
-fn to_lowercase(c: u32) -> u32
-    ensures { result ≡ to_ascii_lowercase c }
-{
-    if matches!(c, 0x41..=0x5A) {
-        c + 0x20
-    } else {
-        c
-    }
-}
-
 /// Appends what an A-label in any ASCII case stands for.
 fn decode_a_label(alloc: Global, label: &[u32], decoded: &mut Vec<u32>) -> Result<(), Refusal>
     requires prefix { has_ace_prefix (map to_ascii_lowercase label.now) ≡ true }
     requires short { length label.now ≤ MAX_INPUT_LEN }
     ensures { Gives (λ _. decoded.new.items) result (appended decoded.old.items (u_label_answer (map to_ascii_lowercase label.now))) }
 {
-    let u_label = u_label_in_any_case(alloc, label)?;
+    let Some(octets) = ascii_octets(label) else {
+        return Err(Refusal::BadALabel);
+    };
+    let mut u_label = ArrayVec::new();
+    u_label_in_any_case(alloc, &octets, &mut u_label)?;
     push_points(&u_label, decoded)?;
     Ok(())
-}
-
-/// What an A-label in any ASCII case stands for. Most are in lower case, and are taken as they stand.
-fn u_label_in_any_case(alloc: Global, label: &[u32]) -> Result<Vec<char>, Refusal>
-    requires prefix { has_ace_prefix (map to_ascii_lowercase label.now) ≡ true }
-    requires short { length label.now ≤ MAX_INPUT_LEN }
-    ensures { Gives (λ u_label. u_label.items) result (u_label_answer (map to_ascii_lowercase label.now)) }
-{
-    if has_no_capital(label) {
-        return u_label(alloc, label);
-    }
-    let lower = lowercase_of(alloc, label)?;
-    u_label(alloc, &lower)
-}
-
-/// A label in lower case.
-fn lowercase_of(alloc: Global, label: &[u32]) -> Result<Vec<u32>, AllocError>
-    ensures { IfOk result (λ lower. lower.items ≡ map to_ascii_lowercase label.now) }
-{
-    label.iter().map(|c| to_lowercase(*c)).collect(alloc)
 }
 
 fn push_points(label: &[char], out: &mut Vec<u32>) -> Result<(), AllocError>

@@ -7,8 +7,11 @@ ghost use Rattle.idn_label.specs.FirstFault.{IsRegistrable};
 ghost use Rattle.idn_label.specs.Register.{register_answer};
 
 use crate::a_label::{ALabel, ascii_text};
+use crate::ace_prefix::has_ace_prefix;
 use crate::first_fault::test_label;
-use crate::u_label::{MAX_INPUT_LEN, has_ace_prefix, u_label};
+use crate::octets::ascii_octets;
+use crate::u_label::{MAX_INPUT_LEN, u_label};
+use arrayvec::ArrayVec;
 use idn_text::Refusal;
 use std::alloc::Global;
 
@@ -36,6 +39,9 @@ fn register_a_label(alloc: Global, label: &[u32]) -> Result<ALabel, Refusal>
     requires short { length label.now ≤ MAX_INPUT_LEN }
     ensures { Gives (λ answer. answer.bytes) result (register_answer label.now) }
 {
-    u_label(alloc, label)?;
+    let Some(octets) = ascii_octets(label) else {
+        return Err(Refusal::BadALabel);
+    };
+    u_label(alloc, &octets, &mut ArrayVec::new())?;
     Ok(ascii_text(label))
 }

@@ -10,7 +10,7 @@ use std::alloc::{AllocError, Global};
 use unicode_normalization::IsNormalized;
 use unicode_normalization::slice::{extend_nfc, is_nfc_quick};
 
-const HYPHEN: u32 = 0x2D;
+pub(crate) const HYPHEN: u32 = 0x2D;
 
 /// Tells the first fault that is neither of a code point nor of the length. `chars` is the label again.
 #[tactic(auto, unfolding(crate::specs::Steps::rule_fault))]

@@ -1,9 +1,11 @@
-use crate::{ALabel, decode_name, lookup, register, test_label};
+use crate::{ALabel, decode_name, lookup, lookup_utf8, register, test_label};
 use arrayvec::ArrayVec;
 use idn_text::{Refusal, decode_points};
 use std::alloc::Global;
 use std::test::Fail;
 
+mod ascii_names;
+mod fitting_names;
 mod vectors;
 
 use vectors::{LIBIDN2, RFC_3492};
@@ -68,6 +70,21 @@ fn looks_up(alloc: Global, name: &str, std3: bool, expected: &Result<&str, Refus
     }
 }
 
+/// Whether a lookup of a name in UTF-8 gives the text, or is refused as is expected.
+fn utf8_query(alloc: Global, name: &str, std3: bool, expected: &Result<&str, Refusal>) -> bool {
+    // What stood there before is not part of the answer.
+    let mut query: ArrayVec<u8, 254> = ArrayVec::new();
+    query.push(b'?');
+    match (
+        lookup_utf8(alloc, name.as_bytes(), std3, &mut query),
+        expected,
+    ) {
+        (Ok(()), Ok(text)) => query.as_slice() == text.as_bytes(),
+        (Err(refusal), Err(expected)) => refusal == *expected,
+        _ => false,
+    }
+}
+
 /// `count` letters a with `last` behind them.
 fn letters(alloc: Global, count: usize, last: &str) -> Result<String, Fail> {
     let mut text = String::new(alloc);
@@ -109,6 +126,9 @@ fn registration_tells_the_first_fault(rt: HostRuntime) -> Result<(), Fail> {
         ("a\u{301}", Err(Refusal::NotNfc)),
         ("ab--c", Err(Refusal::Hyphen)),
         ("a-", Err(Refusal::Hyphen)),
+        ("-ß", Err(Refusal::Hyphen)),
+        ("ß-", Err(Refusal::Hyphen)),
+        ("ab--ß", Err(Refusal::Hyphen)),
         ("\u{301}a", Err(Refusal::LeadingMark)),
         ("a\u{5D0}", Err(Refusal::Bidi)),
         ("\u{5D0}a", Err(Refusal::Bidi)),
@@ -152,6 +172,8 @@ fn registration_tells_the_first_fault(rt: HostRuntime) -> Result<(), Fail> {
     );
     let over = registered(rt.alloc(), &letters(rt.alloc(), 56, "ß")?);
     assert!(rt; is_expected(&over, &Err(Refusal::LabelTooLong)));
+    let long = registered(rt.alloc(), &letters(rt.alloc(), 63, "ß")?);
+    assert!(rt; is_expected(&long, &Err(Refusal::LabelTooLong)));
     let many = registered(rt.alloc(), &letters(rt.alloc(), 64, "ß-")?);
     assert!(rt; is_expected(&many, &Err(Refusal::Hyphen)));
     // A label to be tested is taken as it stands.

@@ -1,22 +1,58 @@
 //! Decoding: a name is answered with U-labels in the place of its A-labels.
 
-ghost use Rattle.std.specs.Prelude.{◌≡◌, ◌≤◌, ◌++◌, length, string_bytes, OnOk};
+ghost use Rattle.std.specs.Prelude.{◌≡◌, ◌≤◌, ◌++◌, [], length, string_bytes, OnOk, IsAscii};
 ghost use Rattle.idn_text.specs.Points.{AreScalarValues, utf8_of};
 ghost use Rattle.idn_label.specs.Answers.{Gives};
 ghost use Rattle.idn_label.specs.Decode.{decode_answer};
 ghost use Rattle.idn2_cli.specs.LineAnswers.{as_utf8, one_line, with_feed};
 
-use crate::answering::{refuse, reply};
-use crate::by_points::PointAnswering;
+use crate::answering::{Answering, refuse, reply};
+use crate::by_points::{ByPoints, PointAnswering};
 use crate::console::Console;
+use crate::room::Room;
 use crate::stop::Stop;
-use idn_label::decode_name;
+use arrayvec::ArrayVec;
+use idn_label::{decode_ascii, decode_name};
 use idn_text::{Refusal, Sink};
 use std::alloc::{AllocError, Global};
 
 /// Decoding (RFC 5891 section 5.3).
 #[derive(Clone, Copy)]
 pub(crate) struct Decode;
+
+impl Answering for Decode {
+    ghost answer_of = { λ _ name. one_line (as_utf8 (decode_answer name)) };
+
+    fn answer<W: Sink, E: Sink>(
+        &self,
+        alloc: Global,
+        number: u64,
+        text: &[u8],
+        room: &mut Room,
+        console: &mut Console<'_, '_, W, E>,
+    ) -> Result<bool, Stop> {
+        if text.is_empty() || !text.is_ascii() {
+            return ByPoints { mode: self }.answer(alloc, number, text, room, console);
+        }
+        match fill_line(alloc, text, &mut room.answer) {
+            Ok(()) => reply(room.answer.as_slice(), console),
+            Err(refusal) => refuse(number, refusal, console),
+        }
+    }
+}
+
+/// Leaves in `line` a name in ASCII with U-labels in the place of its A-labels and a line feed, in place of what stood
+/// there.
+fn fill_line(alloc: Global, name: &[u8], line: &mut ArrayVec<u8, 4097>) -> Result<(), Refusal>
+    requires ascii { IsAscii name.now }
+    requires short { length name.now ≤ 1024 }
+    ensures { Gives (λ _. line.new.items) result (with_feed (as_utf8 (decode_answer name.now))) }
+{
+    line.clear();
+    decode_ascii(alloc, name, line)?;
+    line.push(b'\n');
+    Ok(())
+}
 
 impl PointAnswering for Decode {
     ghost answer_of = { λ _ name. one_line (as_utf8 (decode_answer name)) };

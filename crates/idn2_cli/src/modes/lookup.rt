@@ -8,7 +8,7 @@ ghost use Rattle.idn2_cli.specs.LineAnswers.{one_line, with_feed, query_answer};
 
 use crate::answering::{Answering, refuse, reply};
 use crate::console::Console;
-use crate::line::append;
+use crate::room::Room;
 use crate::stop::Stop;
 use arrayvec::ArrayVec;
 use idn_label::lookup_utf8;
@@ -31,33 +31,30 @@ impl Answering for Lookup {
         alloc: Global,
         number: u64,
         text: &[u8],
-        _points: &mut ArrayVec<u32, 1024>,
+        room: &mut Room,
         console: &mut Console<'_, '_, W, E>,
     ) -> Result<bool, Stop> {
-        let mut line = ArrayVec::new();
-        match fill_line(alloc, text, self.std3, &mut line) {
-            Ok(()) => reply(line.as_slice(), console),
+        match fill_line(alloc, text, self.std3, &mut room.answer) {
+            Ok(()) => reply(room.answer.as_slice(), console),
             Err(refusal) => refuse(number, refusal, console),
         }
     }
 }
 
-/// Fills `line`, which is empty, with what a name is in a query and a line feed.
+/// Leaves in `line` what a name is in a query and a line feed, in place of what stood there.
 fn fill_line(
     alloc: Global,
     name: &[u8],
     std3: bool,
-    line: &mut ArrayVec<u8, 255>,
+    line: &mut ArrayVec<u8, 4097>,
 ) -> Result<(), Refusal>
-    requires { line.old.items ≡ [] }
     ensures { Gives (λ _. line.new.items) result (with_feed (query_answer name.now std3)) }
 {
     if name.is_empty() {
         return Err(Refusal::Empty);
     }
-    match lookup_utf8(alloc, name, std3) {
-        Ok(query) => {
-            append(line, query.as_str().as_bytes());
+    match lookup_utf8(alloc, name, std3, line) {
+        Ok(()) => {
             line.push(b'\n');
             Ok(())
         }

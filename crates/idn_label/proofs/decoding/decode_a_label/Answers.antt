@@ -1,9 +1,11 @@
-use Rattle.std.proofs.Common.{ap}
-use Rattle.std.proofs.lemmas.Result.{err_from_is_err_and}
+use Rattle.std.proofs.Common.{ap, ◌∙◌}
 use Rattle.idn_label.specs.Steps.{appended}
+use Rattle.idn_label.proofs.DecodeLemmas.{is_all_ascii-lower}
+use Rattle.idn_label.proofs.OtherLabels.{u_label_answer-past_ascii}
 use Rattle.idn_label.proofs.decoding.decode_a_label.Goals as goal
 
-pub returns-in_err-u_label : goal.returns-in_err-u_label
-returns-in_err-u_label c =
-    let p = err_from_is_err_and c.from_residual.result c.from_residual.ensures.1 in
-    rw (p.1, p.2) (λ other. ap (appended c.args.decoded.now.items) (c.in_err-u_label.ensures other))
+pub returns-in_default : goal.returns-in_default
+returns-in_default c =
+    λ _.
+    let label = c.args.label.now in
+    ap (appended c.args.decoded.now.items) (u_label_answer-past_ascii _ c.requires.prefix (is_all_ascii-lower label ∙ c.in_default.ensures.other))

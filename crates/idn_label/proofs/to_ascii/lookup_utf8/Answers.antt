@@ -1,21 +1,13 @@
-use Rattle.std.proofs.Common.{◌≤◌, length, Some, Ok, sym, ap, subst, ◌∙◌}
-use Rattle.idn_label.proofs.LookupLemmas.{query_name-invalid, query_name-ascii, query_name-length, verified-fits}
+use Rattle.std.proofs.Common.{refl}
+use Rattle.idn_label.proofs.LookupLemmas.{query_name-measured, Gives-measured}
 use Rattle.idn_label.proofs.to_ascii.lookup_utf8.Goals as goal
 
-pub returns-in-Err-Invalid-clause-answer : goal.returns-in-Err-Invalid-clause-answer
-returns-in-Err-Invalid-clause-answer c =
-    λ _. query_name-invalid c.args.name.now c.args.std3 c.deny_list.result c.deny_list.ensures (rw c.in-Err-Invalid.field-0-is at c.in-Err-Invalid.ensures.value)
+pub returns-in-Some-clause-answer : goal.returns-in-Some-clause-answer
+returns-in-Some-clause-answer g c =
+    Gives-measured c.verify.result c.args.name.now c.plain_query.new.query.items c.deref.result.now c.args.std3 c.deref.ensures.0
+    (query_name-measured c.args.name.now c.args.std3 _ _ refl (c.in-Some.ensures.answer c.args.std3)) c.verify.ensures.answer
 
-pub returns-then-verify_dns_length-clause-answer : goal.returns-then-verify_dns_length-clause-answer
-returns-then-verify_dns_length-clause-answer c =
-    query_name-ascii c.args.name.now c.args.std3 c.deny_list.result c.as_str.result.now c.deny_list.ensures (c.in-Ok.ensures.value ∙ ap Some (sym c.as_str.ensures.value)) (sym c.if-verify_dns_length.ensures)
-    ∙ ap Ok c.as_str.ensures.value
-
-pub returns-then-verify_dns_length-clause-short : goal.returns-then-verify_dns_length-clause-short
-returns-then-verify_dns_length-clause-short c =
-    subst (λ text. length text ≤ 254) c.as_str.ensures.value (verified-fits c.as_str.result.now (sym c.if-verify_dns_length.ensures))
-
-pub returns-clause-answer : goal.returns-clause-answer
-returns-clause-answer c =
-    λ _.
-    query_name-length c.args.name.now c.args.std3 c.deny_list.result c.as_str.result.now c.deny_list.ensures (c.in-Ok.ensures.value ∙ ap Some (sym c.as_str.ensures.value)) (sym c.if-verify_dns_length.ensures)
+pub returns-in-Some-fitting_query-clause-answer : goal.returns-in-Some-fitting_query-clause-answer
+returns-in-Some-fitting_query-clause-answer g c =
+    Gives-measured c.verify-in-Some-fitting_query.result c.args.name.now c.fitting_query.new.query.items c.deref-in-Some-fitting_query.result.now c.args.std3 c.deref-in-Some-fitting_query.ensures.0
+    (query_name-measured c.args.name.now c.args.std3 _ _ refl (c.in-Some-fitting_query.ensures c.args.std3)) c.verify-in-Some-fitting_query.ensures.answer

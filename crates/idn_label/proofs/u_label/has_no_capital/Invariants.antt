@@ -4,4 +4,4 @@ use Rattle.std.specs.List.{list_all}
 use Rattle.idn_label.proofs.u_label.has_no_capital.Given as goal
 
 abbrev pub invariant-loop-c : goal.invariant-loop-c
-invariant-loop-c l = l.has_none ≡ list_all (λ c. not (is_ascii_uppercase c)) (take l.c-index l.label)
+invariant-loop-c l = l.has_none ≡ list_all (λ c. not (is_ascii_uppercase c)) (take l.c-index l.text)

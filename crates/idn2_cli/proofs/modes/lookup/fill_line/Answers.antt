@@ -9,7 +9,7 @@ returns-then-is_empty c = λ _. ap with_feed (query_answer-empty c.args.std3 c.a
 pub returns-in-Ok : goal.returns-in-Ok
 returns-in-Ok c =
     ap with_feed (query_answer-name c.args.std3 c.args.name.now _ (sym c.is_empty.ensures ∙ c.if-is_empty.false) c.in-Ok.ensures.answer)
-    ∙ ap Ok (sym (c.push.ensures.items ∙ ap (λ items. items ++ 10 ∷ []) (c.append.ensures ∙ ap (λ items. items ++ c.as_bytes.result.now) c.requires ∙ c.as_bytes.ensures.value ∙ c.as_str.ensures.value)))
+    ∙ ap Ok (sym c.push.ensures.items)
 
 pub returns-in-Err : goal.returns-in-Err
 returns-in-Err c =

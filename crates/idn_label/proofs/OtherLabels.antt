@@ -1,0 +1,142 @@
+-- A-labels that no label has which may be registered: those that are long, those with a capital, and the codes of ASCII.
+use Rattle.std.proofs.Common.{◌≡◌, ◌≢◌, ℕ, Result, OnOk, IfErr, ◌<◌, true, false, not, ◌==◌, List, [], ◌∷◌, codes, drop, length, Some, None, Ok, Err, refl, sym, ap, ◌∙◌, inl, inr, arith}
+use Rattle.std.specs.Char.{is_ascii_uppercase}
+use Rattle.std.specs.List.{list_all}
+use Rattle.std.proofs.lemmas.Bool.{cases_Bool, cond-true}
+use Rattle.std.proofs.lemmas.Bool.Decides.{nat_tests}
+use Rattle.std.specs.Char.{is_ascii}
+use Rattle.std.proofs.lemmas.List.Elements.{All-weaker, All-drop}
+use Rattle.std.proofs.lemmas.List.Folds.{list_all-append}
+use Rattle.std.proofs.lemmas.List.Sums.{AllPass-from_list_all, list_all-from_AllPass}
+use Rattle.std.specs.Str.{IsAscii, IsUtf8}
+use Rattle.std.proofs.lemmas.Str.{IsUtf8-from_ascii}
+use Rattle.std.proofs.lemmas.Str.Ascii.{All-from_ascii, IsAscii-from_all}
+use Rattle.idna.specs.Punycode.{decode}
+use Rattle.idna.specs.Validity.{is_all_ascii, has_ace_prefix}
+use Rattle.idna.proofs.Computing.{idna}
+use Rattle.idna.proofs.Uts46Lemmas.{ace_parts}
+use Rattle.idn_text.specs.declared.refusal.Refusal.{Refusal}
+use Rattle.idn_text.specs.declared.refusal.Refusal.TheVariants.{BadALabel, Memory}
+use Rattle.idn_label.specs.ALabel.{a_label_of}
+use Rattle.idn_label.specs.Answers.{Gives}
+use Rattle.idn_label.specs.FirstFault.{first_fault, IsRegistrable}
+use Rattle.idn_label.specs.Register.{decoded_code, u_label_answer}
+use Rattle.idn_label.specs.Steps.{is_plain_point}
+use Rattle.idn_label.proofs.AnswerLemmas.{tested_answer-ok, tested_answer-fault, confirmed-same, confirmed-other, confirmed-fault, decoded_code-as, decoded_code-other, decoded_code-from, u_label_answer-code_fault, u_label_answer-confirmed}
+use Rattle.idn_label.proofs.PlainLemmas.{is_all_ascii-points}
+use Rattle.idn_label.proofs.RequirementLemmas.{MeetsRequirements-registrable}
+use Rattle.idn_label.proofs.RoundTrips.{plain_a_label, short_a_label, no_prefix}
+
+-- ---- no label that may be registered has such an A-label
+
+pub of_none-long : (given : List ℕ) → 63 < length given → (label : List ℕ) → IsRegistrable label → a_label_of label ≢ given
+of_none-long given long label registrable = λ same.
+    let short = short_a_label label registrable in
+    let count : length (a_label_of label) ≡ length given = ap length same in
+    absurd (omega (arith, long, short, count))
+
+plain_lower : (c : ℕ) → is_plain_point c ≡ true → not (is_ascii_uppercase c) ≡ true
+plain_lower c plain = grind (arith, nat_tests)
+
+pub of_none-capital : (given : List ℕ) → list_all (λ c. not (is_ascii_uppercase c)) given ≡ false → (label : List ℕ) → IsRegistrable label → a_label_of label ≢ given
+of_none-capital given capital label registrable = λ same.
+    let lower : list_all (λ c. not (is_ascii_uppercase c)) (a_label_of label) ≡ true =
+    list_all-from_AllPass (λ c. not (is_ascii_uppercase c)) (a_label_of label)
+    (All-weaker (λ c. is_plain_point c ≡ true) (λ c. not (is_ascii_uppercase c) ≡ true) plain_lower (a_label_of label) (plain_a_label label registrable)) in
+    let clash : true ≡ false = sym lower ∙ ap (list_all (λ c. not (is_ascii_uppercase c))) same ∙ capital in
+    absurd (let no : true ≡ false = clash in cc)
+
+a_label_of-ascii : (label : List ℕ) → is_all_ascii label ≡ true → a_label_of label ≡ label
+unfolding a_label_of
+a_label_of-ascii label ascii = cond-true _ _ _ ascii
+
+pub of_none-ascii : (given label : List ℕ) → has_ace_prefix given ≡ true → is_all_ascii label ≡ true → IsRegistrable label → a_label_of label ≢ given
+of_none-ascii given label prefix ascii registrable = λ same.
+    let is : label ≡ given = sym (a_label_of-ascii label ascii) ∙ same in
+    let none = no_prefix label (MeetsRequirements-registrable label registrable).hyphens in
+    let clash : true ≡ false = sym prefix ∙ ap has_ace_prefix (sym is) ∙ none in
+    absurd (let no : true ≡ false = clash in cc)
+
+-- ---- what is decoded
+
+pub is_all_ascii-code : (given : List ℕ) → is_all_ascii given ≡ true → is_all_ascii (drop 4 given) ≡ true
+is_all_ascii-code given ascii =
+    list_all-from_AllPass is_ascii (drop 4 given) (All-drop (λ c. is_ascii c ≡ true) 4 given (AllPass-from_list_all is_ascii given ascii))
+
+decode-nil : decode [] ≡ Some []
+unfolding idna
+decode-nil = refl
+
+-- what is not all ASCII is decoded from some code
+some_code-coded : (code label : List ℕ) → decode code ≡ Some label → is_all_ascii label ≡ false → (length code == 0) ≡ false
+some_code-coded [] label decoded coded =
+    let empty : [] ≡ label = (let same : Some [] ≡ Some label = sym decode-nil ∙ decoded in cc) in
+    let clash : true ≡ false = ap is_all_ascii empty ∙ coded in
+    absurd (let no : true ≡ false = clash in cc)
+some_code-coded (c ∷ code) label decoded coded = grind (arith, nat_tests)
+
+-- the code behind the prefix, where what it stands for is not all ASCII
+pub decoded_coded : (given label : List ℕ) → is_all_ascii given ≡ true → decode (drop 4 given) ≡ Some label → is_all_ascii label ≡ false → decoded_code (drop 4 given) ≡ Ok label
+decoded_coded given label ascii decoded coded =
+    let code = drop 4 given in
+    decoded_code-as code code (Some label) (some_code-coded code label decoded coded) (is_all_ascii-code given ascii) refl decoded
+
+pub decoded_code-none : (code : List ℕ) → is_all_ascii code ≡ true → decode code ≡ None → decoded_code code ≡ Err BadALabel
+unfolding decoded_code
+decoded_code-none code ascii none =
+    elim (cases_Bool (length code == 0)) [
+      | inl empty ↦ rw empty refl
+      | inr some ↦ rw (some, ascii, none) refl
+    ]
+
+-- the label that is decoded is the only one
+pub decoded_code-same : (code first second : List ℕ) → decode code ≡ Some first → decoded_code code ≡ Ok second → first ≡ second
+decoded_code-same code first second one two =
+    let same : Some first ≡ Some second = sym one ∙ decoded_code-from code second two in cc
+
+-- ---- why such an A-label is refused
+
+pub refused-registrable : (given label : List ℕ) → decoded_code (drop 4 given) ≡ Ok label → IsRegistrable label → a_label_of label ≢ given → u_label_answer given ≡ Err BadALabel
+refused-registrable given label decoded registrable other =
+    u_label_answer-confirmed given (drop 4 given) label (Err BadALabel) refl decoded
+    (confirmed-other given label (a_label_of label) (tested_answer-ok label registrable) other)
+
+pub refused-fault : (given label : List ℕ) (refusal : Refusal) → decoded_code (drop 4 given) ≡ Ok label → first_fault label ≡ Some refusal → u_label_answer given ≡ Err refusal
+refused-fault given label refusal decoded fault =
+    u_label_answer-confirmed given (drop 4 given) label (Err refusal) refl decoded
+    (confirmed-fault given label refusal (tested_answer-fault label refusal fault))
+
+-- the label of an A-label in lower case
+answered-registrable : (given label : List ℕ) → decoded_code (drop 4 given) ≡ Ok label → a_label_of label ≡ given → IsRegistrable label → u_label_answer given ≡ Ok label
+answered-registrable given label decoded same registrable =
+    u_label_answer-confirmed given (drop 4 given) label (Ok label) refl decoded
+    (confirmed-same given label (a_label_of label) (tested_answer-ok label registrable) same)
+
+-- the test of a label of which the A-label is known to be the one given, as the answer
+pub Gives-u_label : (r : Result (Unit {0}) Refusal) (given label : List ℕ) → decoded_code (drop 4 given) ≡ Ok label → a_label_of label ≡ given → OnOk r (IsRegistrable label) → IfErr r (λ refusal. refusal ≢ Memory → first_fault label ≡ Some refusal) → Gives (λ (_ : Unit {0}). label) r (u_label_answer given)
+Gives-u_label (Ok value) given label decoded same registrable fault = answered-registrable given label decoded same registrable
+Gives-u_label (Err refusal) given label decoded same registrable fault = λ other. refused-fault given label refusal decoded (fault other)
+
+-- ---- code points past ASCII
+
+pub u_label_answer-past_ascii : (given : List ℕ) → has_ace_prefix given ≡ true → is_all_ascii given ≡ false → u_label_answer given ≡ Err BadALabel
+u_label_answer-past_ascii given prefix other =
+    let code = drop 4 given in
+    let parts : is_all_ascii given ≡ is_all_ascii code =
+    ap is_all_ascii (sym (ace_parts given prefix).0) ∙ list_all-append is_ascii (codes "xn--") code in
+    u_label_answer-code_fault given code BadALabel refl (decoded_code-past code (sym parts ∙ other))
+  where
+    decoded_code-past : (code : List ℕ) → is_all_ascii code ≡ false → decoded_code code ≡ Err BadALabel
+    decoded_code-past [] past = absurd (let clash : true ≡ false = past in cc)
+    decoded_code-past (c ∷ code) past = decoded_code-other (c ∷ code) (grind (arith, nat_tests)) past
+
+-- ---- octets
+
+pub is_all_ascii-bytes : (text : List ℕ) → IsAscii text → is_all_ascii text ≡ true
+is_all_ascii-bytes text ascii = is_all_ascii-points text (All-from_ascii text ascii)
+
+pub utf8_of-ascii : (text : List ℕ) → is_all_ascii text ≡ true → IsUtf8 text
+utf8_of-ascii text ascii = IsUtf8-from_ascii text (IsAscii-from_all text (All-weaker (λ c. is_ascii c ≡ true) (λ c. c < 128) low text (AllPass-from_list_all is_ascii text ascii)))
+  where
+    low : (c : ℕ) → is_ascii c ≡ true → c < 128
+    low c h = grind (arith, nat_tests)

@@ -1,0 +1,99 @@
+-- How the UTF-8 of a decoded name grows label by label.
+use Rattle.std.proofs.Common.{◌≡◌, ◌≢◌, ℕ, true, false, length, take, All, Option, Some, None, IfSome, ◌≤◌, take_all, length-append, List, [], ◌∷◌, ◌++◌, Ok, Err, ◌<◌, zero-le, lit<, inl, inr, refl, sym, subst, ap, ap₂, ◌∙◌, append_assoc, length-take, arith}
+use Rattle.std.specs.Borrow.{Bor}
+use Rattle.std.proofs.lemmas.Str.{encodes-append, IsAscii-drop, IsAscii-take}
+use Rattle.std.specs.Str.{IsAscii}
+use Rattle.std.proofs.lemmas.Bool.{cases_Bool}
+use Rattle.std.proofs.lemmas.Str.Ascii.{IsAscii-from_all}
+use Rattle.std.proofs.lemmas.List.Elements.{All-nil, All-cons}
+use Rattle.std.proofs.lemmas.List.{get_or_default, get_or-take, take-append-le}
+use Rattle.memchr.specs.Find.{Nowhere, NoneBefore, Passes, is_byte}
+use Rattle.idna.specs.Labels.{labels_of, is_full_stop}
+use Rattle.idn_text.proofs.Utf8Lemmas.{ascii_points}
+use Rattle.idn_text.specs.Points.{utf8_of}
+use Rattle.idn_text.specs.declared.refusal.Refusal.{Refusal}
+use Rattle.idn_label.specs.Answers.{Answer}
+use Rattle.idn_label.specs.Decode.{decoded_label, decode_answer}
+use Rattle.idn_label.specs.Steps.{appended, in_utf8}
+use Rattle.idn_label.proofs.AnswerLemmas.{and_then-ok}
+use Rattle.idn_label.proofs.DecodeLemmas.{decode_answer-last, decode_answer-err, decode_answer-more, appended_twice, appended-err, appended-ok}
+
+utf8_of-append : (xs ys : List ℕ) → utf8_of (xs ++ ys) ≡ utf8_of xs ++ utf8_of ys
+utf8_of-append = encodes-append
+
+pub utf8_of-ascii_text : (text : List ℕ) → IsAscii text → utf8_of text ≡ text
+utf8_of-ascii_text text ascii = (ascii_points text ascii).encoded
+
+full_stop_ascii : IsAscii (0x2E ∷ [])
+full_stop_ascii = IsAscii-from_all (0x2E ∷ []) (All-cons (λ b. b < 128) 0x2E [] (lit< tt) (All-nil (λ b. b < 128)))
+
+in_utf8-appended : (before : List ℕ) (answer : Answer) → in_utf8 (appended before answer) ≡ appended (utf8_of before) (in_utf8 answer)
+in_utf8-appended before (Ok more) = ap Ok (utf8_of-append before more)
+in_utf8-appended before (Err refusal) = refl
+
+in_utf8-err : (answer : Answer) (refusal : Refusal) → in_utf8 answer ≡ Err refusal → answer ≡ Err refusal
+in_utf8-err (Ok points) refusal e = absurd (let clash : Ok (utf8_of points) ≡ Err refusal = e in cc)
+in_utf8-err (Err other) refusal e = e
+
+in_utf8-ok : (answer : Answer) (text : List ℕ) → in_utf8 answer ≡ Ok text → (points : List ℕ) × (answer ≡ Ok points) × (text ≡ utf8_of points)
+in_utf8-ok (Ok points) text e = (points, refl, (let same : Ok (utf8_of points) ≡ Ok text = e in let is : text ≡ utf8_of points = cc in is))
+in_utf8-ok (Err refusal) text e = absurd (let clash : Err refusal ≡ Ok text = e in cc)
+
+pub utf8_turn_err : (before name label : List ℕ) (others : List (List ℕ)) (refusal : Refusal) → labels_of name ≡ label ∷ others → appended before (in_utf8 (decoded_label label)) ≡ Err refusal → appended before (in_utf8 (decode_answer name)) ≡ Err refusal
+utf8_turn_err before name label others refusal parts fault =
+    let told = in_utf8-err (decoded_label label) refusal (appended-err before (in_utf8 (decoded_label label)) refusal fault) in
+    rw (decode_answer-err name label others refusal parts told) refl
+
+pub utf8_turn_last : (before name label after : List ℕ) → labels_of name ≡ label ∷ [] → appended before (in_utf8 (decoded_label label)) ≡ Ok after → appended before (in_utf8 (decode_answer name)) ≡ Ok after
+utf8_turn_last before name label after last is = ap (λ a. appended before (in_utf8 a)) (decode_answer-last name label last) ∙ is
+
+pub utf8_turn_more : (before name label others after : List ℕ) → labels_of name ≡ label ∷ labels_of others → appended before (in_utf8 (decoded_label label)) ≡ Ok after → appended before (in_utf8 (decode_answer name)) ≡ appended (after ++ 0x2E ∷ []) (in_utf8 (decode_answer others))
+utf8_turn_more before name label others after parts is =
+    let step = appended-ok before (in_utf8 (decoded_label label)) after is in
+    let points = in_utf8-ok (decoded_label label) step.0 step.1 in
+    let one = decode_answer-more name label others parts ∙ and_then-ok (decoded_label label) _ points.0 points.1 in
+    let stop : utf8_of (points.0 ++ 0x2E ∷ []) ≡ step.0 ++ 0x2E ∷ [] =
+    utf8_of-append points.0 (0x2E ∷ []) ∙ ap₂ (λ text end. text ++ end) (sym points.2) (utf8_of-ascii_text (0x2E ∷ []) full_stop_ascii) in
+    ap (λ a. appended before (in_utf8 a)) one
+    ∙ ap (appended before) (in_utf8-appended (points.0 ++ 0x2E ∷ []) (decode_answer others))
+    ∙ appended_twice before (utf8_of (points.0 ++ 0x2E ∷ [])) (in_utf8 (decode_answer others))
+    ∙ ap (λ text. appended (before ++ text) (in_utf8 (decode_answer others))) stop
+    ∙ ap (λ front. appended front (in_utf8 (decode_answer others))) (sym (append_assoc before step.0 (0x2E ∷ [])) ∙ ap (λ front. front ++ 0x2E ∷ []) (sym step.2))
+
+-- ---- full stops
+
+stop_free : (c : ℕ) → is_byte 0x2E c ≢ true → is_full_stop c ≡ false
+stop_free c none =
+    elim (cases_Bool (is_full_stop c)) [
+      | inl stop ↦ absurd (none stop)
+      | inr other ↦ other
+    ]
+
+pub no_stop_before : (name : List ℕ) (at : ℕ) → NoneBefore (Passes (is_byte 0x2E) name) 0 (length name) at → All (λ c. is_full_stop c ≡ false) (take at name)
+no_stop_before name at none = λ k d lt.
+    let short = length-take at name in
+    let below : k < at = omega (arith, none.high) in
+    let within : k < length name = omega (arith, none.high) in
+    stop_free _ (λ stop. none.before k zero-le below (ap (is_byte 0x2E) (get_or_default name k 0 d within ∙ sym (get_or-take at name k d below)) ∙ stop))
+
+pub no_stop_at_all : (name : List ℕ) → Nowhere (Passes (is_byte 0x2E) name) 0 (length name) → All (λ c. is_full_stop c ≡ false) name
+no_stop_at_all name none = λ k d lt.
+    stop_free _ (λ stop. none k zero-le lt (ap (is_byte 0x2E) (get_or_default name k 0 d lt) ∙ stop))
+
+-- ---- what stands behind the first full stop
+
+pub rest_parts : (name first : List ℕ) (others : Option (Bor (List ℕ))) (rest : Bor (List ℕ)) → IfSome others (λ rest. name ≡ first ++ 0x2E ∷ rest.now) → others ≡ Some rest → name ≡ first ++ 0x2E ∷ rest.now
+rest_parts name first others rest parts some = subst (λ (o : Option (Bor (List ℕ))). IfSome o (λ rest. name ≡ first ++ 0x2E ∷ rest.now)) some parts
+
+pub rest_ascii : (first : List ℕ) (c : ℕ) (rest : List ℕ) → IsAscii (first ++ c ∷ rest) → IsAscii rest
+rest_ascii [] c rest h = IsAscii-drop (c ∷ rest) 1 h
+rest_ascii (x ∷ first) c rest h = rest_ascii first c rest (IsAscii-drop (x ∷ first ++ c ∷ rest) 1 h)
+
+-- the first label is ASCII where the name is, and not longer
+pub label_ascii : (name first : List ℕ) (others : Option (Bor (List ℕ))) → (others ≡ None → first ≡ name) → IfSome others (λ rest. name ≡ first ++ 0x2E ∷ rest.now) → IsAscii name → IsAscii first × (length first ≤ length name)
+label_ascii name first None last parts ascii = (subst IsAscii (sym (last refl)) ascii, omega (arith, ap length (last refl)))
+label_ascii name first (Some rest) last parts ascii =
+    let split : take (length first) name ≡ first = ap (take (length first)) parts ∙ take-append-le (length first) first (0x2E ∷ rest.now) (omega arith) ∙ take_all (length first) first (omega arith) in
+    let count = ap length parts in
+    let both = length-append first (0x2E ∷ rest.now) in
+    (subst IsAscii split (IsAscii-take name (length first) ascii), omega (arith, count, both))

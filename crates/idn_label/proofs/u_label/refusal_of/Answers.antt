@@ -1,0 +1,30 @@
+use Rattle.std.proofs.Common.{sym, ap, ◌∙◌}
+use Rattle.idna.proofs.Uts46Lemmas.{ace_parts}
+use Rattle.idn_label.specs.FirstFault.{first_fault}
+use Rattle.idn_label.specs.Register.{decoded_code}
+use Rattle.idn_label.proofs.AnswerLemmas.{u_label_answer-code_fault}
+use Rattle.idn_label.proofs.OtherLabels.{refused-registrable, refused-fault}
+use Rattle.idn_label.proofs.u_label.refusal_of.Goals as goal
+
+pub split_at-requires : goal.split_at-requires
+split_at-requires c = (ace_parts c.args.given.now c.requires.prefix).1
+
+pub returns-in-Err : goal.returns-in-Err
+returns-in-Err c = λ other. u_label_answer-code_fault c.args.given.now _ _ c.split_at.ensures.back (c.in-Err.ensures other)
+
+pub returns-in-Ok-test_chars : goal.returns-in-Ok-test_chars
+returns-in-Ok-test_chars c =
+    λ _.
+    let given = c.args.given.now in
+    let label = c.in-Ok.label.items in
+    let decoded = ap decoded_code (sym c.split_at.ensures.back) ∙ c.in-Ok.ensures in
+    let registrable = ap first_fault (sym c.deref.ensures.value) ∙ c.in-Ok-test_chars.ensures.registrable in
+    refused-registrable given label decoded registrable (c.requires.of_none label decoded registrable)
+
+pub returns : goal.returns
+returns c =
+    λ other.
+    let given = c.args.given.now in
+    let label = c.in-Ok.label.items in
+    let decoded = ap decoded_code (sym c.split_at.ensures.back) ∙ c.in-Ok.ensures in
+    refused-fault given label _ decoded (ap first_fault (sym c.deref.ensures.value) ∙ c.in-Err-test_chars.ensures.fault other)

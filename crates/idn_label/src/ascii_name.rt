@@ -1,0 +1,105 @@
+//! Decoding of a name in ASCII, as most are, to UTF-8.
+ghost use Rattle.std.specs.Prelude.{◌≡◌, ◌≤◌, ◌<◌, ◌+◌, ◌*◌, ◌∷◌, ◌++◌, [], length, map, true, IfOk, IfSome, All, IsAscii};
+ghost use Rattle.std.specs.Char.{to_ascii_lowercase};
+ghost use Rattle.std.specs.Option.{option_map_or};
+ghost use Rattle.arrayvec.specs.ArrayVec.{array_vec_len};
+ghost use Rattle.idna.specs.Labels.{labels_of};
+ghost use Rattle.idna.specs.Validity.{has_ace_prefix};
+ghost use Rattle.idn_text.specs.Points.{utf8_of};
+ghost use Rattle.idn_label.specs.Answers.{Gives};
+ghost use Rattle.idn_label.specs.Decode.{decoded_label, decode_answer};
+ghost use Rattle.idn_label.specs.Steps.{appended, in_utf8};
+
+use crate::ace_prefix::octets_have_ace_prefix_in_any_case;
+use crate::u_label::u_label_in_any_case;
+use arrayvec::ArrayVec;
+use idn_text::Refusal;
+use memchr::memchr;
+use std::alloc::Global;
+
+/// Appends the UTF-8 of what `decode_name` makes of a name in ASCII. It takes memory only where a refused A-label has more
+/// than 63 octets or is the code of a label in ASCII, or what it stands for needs more than look-ups to be tested. Where
+/// the name is refused, what was appended says nothing.
+pub fn decode_ascii<const N: usize>(
+    alloc: Global,
+    name: &[u8],
+    text: &mut ArrayVec<u8, N>,
+) -> Result<(), Refusal>
+    requires ascii { IsAscii name.now }
+    requires short { length name.now ≤ 1024 }
+    requires room { array_vec_len text.old + 4 * length name.now ≤ N }
+    ensures answer { Gives (λ _. text.new.items) result (appended text.old.items (in_utf8 (decode_answer name.now))) }
+    ensures grown { array_vec_len text.new ≤ array_vec_len text.old + 4 * length name.now }
+{
+    let mut u_label = ArrayVec::new();
+    let mut rest = name;
+    'labels: loop {
+        let (label, others) = split_first_label(rest);
+        decode_label(alloc, label, &mut u_label, text)?;
+        let Some(others) = others else {
+            return Ok(());
+        };
+        text.push(b'.');
+        rest = others;
+    }
+}
+
+/// What stands before the first full stop, and what stands behind it if there is one.
+pub(crate) fn split_first_label(name: &[u8]) -> (&[u8], Option<&[u8]>)
+    ensures labels { labels_of name.now ≡ result.0.now ∷ option_map_or (λ others. labels_of others.now) result.1 [] }
+    ensures last { result.1 ≡ None → result.0.now ≡ name.now }
+    ensures others { IfSome result.1 (λ others. name.now ≡ result.0.now ++ 0x2E ∷ others.now) }
+{
+    match memchr(b'.', name) {
+        Some(at) => (&name[..at], Some(&name[at + 1..])),
+        None => (name, None),
+    }
+}
+
+/// Appends the UTF-8 of a label, decoded if it begins with `xn--` in any ASCII case. `u_label` is room.
+fn decode_label<const N: usize>(
+    alloc: Global,
+    label: &[u8],
+    u_label: &mut ArrayVec<char, 63>,
+    text: &mut ArrayVec<u8, N>,
+) -> Result<(), Refusal>
+    requires ascii { IsAscii label.now }
+    requires short { length label.now ≤ 1024 }
+    requires room { array_vec_len text.old + 4 * length label.now ≤ N }
+    ensures answer { Gives (λ _. text.new.items) result (appended text.old.items (in_utf8 (decoded_label label.now))) }
+    ensures grown { array_vec_len text.new ≤ array_vec_len text.old + 4 * length label.now }
+{
+    if octets_have_ace_prefix_in_any_case(label) {
+        u_label_in_any_case(alloc, label, u_label)?;
+        push_utf8(u_label, text);
+        return Ok(());
+    }
+    let Ok(()) = text.try_extend_from_slice(label) else {
+        unreachable!()
+    };
+    Ok(())
+}
+
+/// Appends the UTF-8 of a label (RFC 3629 section 3), for which there is room.
+fn push_utf8<const N: usize>(label: &[char], text: &mut ArrayVec<u8, N>)
+    requires room { array_vec_len text.old + 4 * length label.now ≤ N }
+    ensures written { text.new.items ≡ text.old.items ++ utf8_of label.now }
+    ensures grown { array_vec_len text.new ≤ array_vec_len text.old + 4 * length label.now }
+{
+    for c in label {
+        let mut buffer = [0; 4];
+        push_octets(c.encode_utf8(&mut buffer).as_bytes(), text);
+    }
+}
+
+/// Appends a few octets, for which there is room, one by one, which is faster than to copy them as a block.
+#[inline]
+fn push_octets<const N: usize>(octets: &[u8], text: &mut ArrayVec<u8, N>)
+    requires room { array_vec_len text.old + length octets.now ≤ N }
+    ensures written { text.new.items ≡ text.old.items ++ octets.now }
+    ensures grown { array_vec_len text.new ≡ array_vec_len text.old + length octets.now }
+{
+    for octet in octets {
+        text.push(*octet);
+    }
+}
