@@ -1,4 +1,5 @@
--- Code points that pass every test of a label, whatever stands beside them: most letters and digits.
+-- Code points that need no other test beside their like. A label of such code points alone meets every test of its code points, of
+-- NFC, of a leading mark, of the context rules and of the Bidi rule, and UTS 46 keeps it. Most letters and digits are such.
 use Rattle.std.specs.Prelude.{ℕ, Bool, true, false, ◌&&◌, ◌||◌, ◌==◌, not}
 use Rattle.ucd_bidi.specs.declared.BidiClass.{BidiClass as UnicodeBidiClass}
 use Rattle.ucd_bidi.specs.declared.BidiClass.TheVariants.{RightToLeft, ArabicLetter, ArabicNumber}
@@ -26,7 +27,7 @@ abbrev pub is_yes : QuickCheck → Bool
 is_yes Yes = true
 is_yes _ = false
 
--- R, AL or AN of Unicode's own Bidi_Class, which UTS 46 asks
+-- R, AL or AN of Unicode's own Bidi_Class, which UTS 46 asks. The kit's `idna`, on which this crate does not stand, says it so too
 abbrev pub is_unicode_rtl_class : UnicodeBidiClass → Bool
 is_unicode_rtl_class RightToLeft = true
 is_unicode_rtl_class ArabicLetter = true
@@ -39,8 +40,8 @@ is_kept_status Valid = true
 is_kept_status Deviation = true
 is_kept_status _ = false
 
--- PVALID by look-ups alone (RFC 5892); NFC keeps it in any text (UAX 15, section 9); it may begin a label; it does not make
--- the Bidi rule apply; and UTS 46 keeps it. HYPHEN-MINUS, which has a rule of its own, is not one.
+-- PVALID by look-ups alone (RFC 5892); a text of such code points alone is in NFC (UAX 15, section 9); it may begin a label; it does
+-- not make the Bidi rule apply; and UTS 46 keeps it. HYPHEN-MINUS, which has a rule of its own, is not one.
 unfoldable pub fits_anywhere : ℕ → Bool
 fits_anywhere c =
     is_pvalid (class_of c) && not (is_left_open c) && is_yes (quick_check Nfc c) && (canonical_combining_class c == 0)

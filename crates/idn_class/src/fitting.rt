@@ -3,9 +3,11 @@ ghost use Rattle.idn_class.specs.FitsAnywhere.{fits_anywhere};
 
 use crate::class_table::{FITS_INDEX, FITS_WORDS};
 
-/// Whether a code point passes every test of a label, whatever stands beside it: it is PVALID, NFC
-/// keeps it in any text, it is no mark, it does not make the Bidi rule apply, and UTS 46 maps it to
-/// itself. One look-up in a table answers; a number past Unicode does not fit.
+/// Whether a code point needs no other test beside its like: a label of such code points alone meets
+/// every test. Look-ups alone tell that its class is PVALID; it has NFC_QC=Yes and combining class 0,
+/// it is no mark, it does not make the Bidi rule apply, by the profile or by Unicode, and UTS 46 maps
+/// it to itself. The hyphen, which has a rule of its own, does not fit, nor does a number past
+/// Unicode. One look-up in a table answers.
 #[inline]
 pub fn fits_anywhere(c: u32) -> bool
     ensures { result ≡ fits_anywhere c }

@@ -1,6 +1,7 @@
 //! Which code points a label may hold, and where: the class of a code point (RFC 5892), the rules
-//! for those that need a context (RFC 5892, appendix A), the Bidi rule (RFC 5893, section 2), and
-//! whether a label begins with a combining mark (RFC 5891, section 4.2.3.2).
+//! for those that need a context (RFC 5892, appendix A), the Bidi rule (RFC 5893, section 2),
+//! whether a label begins with a combining mark (RFC 5891, section 4.2.3.2), and which code points need
+//! no other test beside their like.
 #![tactic(auto)]
 
 mod bidi;

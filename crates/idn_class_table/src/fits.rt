@@ -5,7 +5,7 @@ use unicode::properties::{BidiClass, GeneralCategory};
 use unicode_normalization::IsNormalized;
 use unicode_normalization::slice::is_nfc_quick;
 
-/// Whether a code point passes every test of a label, whatever stands beside it.
+/// Whether a code point needs no other test beside its like.
 pub(crate) fn fits_anywhere(c: u32) -> bool {
     let Some(point) = char::from_u32(c) else {
         return false;

@@ -99,6 +99,9 @@ to_ascii-no_hyphen deny name query points is none =
 pub any_label-here : (p : List ℕ → Bool) (name first : List ℕ) (others : List (List ℕ)) → labels_of name ≡ first ∷ others → p first ≡ true → list_any p (labels_of name) ≡ true
 any_label-here p name first others parts here = ap (list_any p) parts ∙ ap (λ b. b || list_any p others) here
 
+pub any_label-none : (p : List ℕ → Bool) (name first : List ℕ) (others : List (List ℕ)) → labels_of name ≡ first ∷ others → list_any p (labels_of name) ≡ false → (p first ≡ false) × (list_any p others ≡ false)
+any_label-none p name first others parts none = or_false (p first) (list_any p others) (sym (ap (list_any p) parts) ∙ none)
+
 pub any_label-later : (p : List ℕ → Bool) (name first : List ℕ) (others : List (List ℕ)) → labels_of name ≡ first ∷ others → p first ≡ false → list_any p (labels_of name) ≡ list_any p others
 any_label-later p name first others parts none = ap (list_any p) parts ∙ ap (λ b. b || list_any p others) none
 

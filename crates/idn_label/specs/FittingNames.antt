@@ -12,8 +12,7 @@ use Rattle.idna.specs.ContextJ.{zero_width_non_joiner, zero_width_joiner}
 use Rattle.idna.specs.Labels.{is_full_stop}
 use Rattle.idna.specs.Validity.{is_valid_status}
 
--- what UTS 46, section 4.1, asks of a code point in a label, whatever stands beside it: only where the label begins may it
--- yet not stand, if it is a mark
+-- enough for UTS 46, section 4.1: a label of such code points alone that begins with no mark is valid
 pub record PassesInLabel (c : ℕ) : Type 0 where
   pub valid : is_valid_status (idna_status c) ≡ true
   pub normal : quick_check Nfc c ≡ Yes

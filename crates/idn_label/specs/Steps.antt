@@ -1,6 +1,7 @@
 -- Parts of the definitions, by which the steps of the tests are said.
-use Rattle.std.specs.Prelude.{ℕ, Bool, not, ◌||◌, ◌==◌, List, [], ◌∷◌, ◌++◌, Option, Ok}
-use Rattle.std.specs.Char.{is_ascii_lowercase, is_ascii_digit}
+use Rattle.std.specs.Prelude.{ℕ, Bool, not, ◌||◌, ◌==◌, List, [], ◌∷◌, ◌++◌, map, Option, Ok}
+use Rattle.std.specs.Char.{is_ascii_lowercase, is_ascii_digit, to_ascii_lowercase}
+use Rattle.idna.specs.Validity.{has_ace_prefix}
 use Rattle.unicode_normalization.specs.Forms.{is_nfc}
 use Rattle.idn_text.specs.Points.{utf8_of}
 use Rattle.idn_text.specs.declared.refusal.Refusal.{Refusal}
@@ -33,3 +34,7 @@ appended before answer = and_then answer (λ more. Ok (before ++ more))
 -- an answer of code points as their UTF-8 (RFC 3629)
 abbrev pub in_utf8 : Answer → Answer
 in_utf8 answer = and_then answer (λ points. Ok (utf8_of points))
+
+-- a label begins with "xn--" in any ASCII case
+abbrev pub begins_with_prefix : List ℕ → Bool
+begins_with_prefix label = has_ace_prefix (map to_ascii_lowercase label)

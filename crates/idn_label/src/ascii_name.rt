@@ -1,6 +1,7 @@
 //! Decoding of a name in ASCII, as most are, to UTF-8.
-ghost use Rattle.std.specs.Prelude.{◌≡◌, ◌≤◌, ◌<◌, ◌+◌, ◌*◌, ◌∷◌, ◌++◌, [], length, map, true, IfOk, IfSome, All, IsAscii};
+ghost use Rattle.std.specs.Prelude.{◌≡◌, ◌≢◌, ◌≤◌, ◌<◌, ◌+◌, ◌*◌, ◌∷◌, ◌++◌, [], length, map, true, false, Err, IfOk, IfSome, All, IsAscii};
 ghost use Rattle.std.specs.Char.{to_ascii_lowercase};
+ghost use Rattle.std.specs.List.{list_any};
 ghost use Rattle.std.specs.Option.{option_map_or};
 ghost use Rattle.arrayvec.specs.ArrayVec.{array_vec_len};
 ghost use Rattle.idna.specs.Labels.{labels_of};
@@ -8,7 +9,7 @@ ghost use Rattle.idna.specs.Validity.{has_ace_prefix};
 ghost use Rattle.idn_text.specs.Points.{utf8_of};
 ghost use Rattle.idn_label.specs.Answers.{Gives};
 ghost use Rattle.idn_label.specs.Decode.{decoded_label, decode_answer};
-ghost use Rattle.idn_label.specs.Steps.{appended, in_utf8};
+ghost use Rattle.idn_label.specs.Steps.{appended, begins_with_prefix, in_utf8};
 
 use crate::ace_prefix::octets_have_ace_prefix_in_any_case;
 use crate::u_label::u_label_in_any_case;
@@ -17,9 +18,9 @@ use idn_text::Refusal;
 use memchr::memchr;
 use std::alloc::Global;
 
-/// Appends the UTF-8 of what `decode_name` makes of a name in ASCII. It takes memory only where a refused A-label has more
-/// than 63 octets or is the code of a label in ASCII, or what it stands for needs more than look-ups to be tested. Where
-/// the name is refused, what was appended says nothing.
+/// Appends the UTF-8 of what `decode_name` makes of a name in ASCII. A name without A-labels takes no memory, nor does an
+/// A-label in most cases: of more than 63 octets it does, as the code of a label in ASCII, and where what it stands for
+/// is not all code points that fit anywhere and hyphens. Where the name is refused, what was appended says nothing.
 pub fn decode_ascii<const N: usize>(
     alloc: Global,
     name: &[u8],
@@ -30,6 +31,7 @@ pub fn decode_ascii<const N: usize>(
     requires room { array_vec_len text.old + 4 * length name.now ≤ N }
     ensures answer { Gives (λ _. text.new.items) result (appended text.old.items (in_utf8 (decode_answer name.now))) }
     ensures grown { array_vec_len text.new ≤ array_vec_len text.old + 4 * length name.now }
+    ensures plain { list_any begins_with_prefix (labels_of name.now) ≡ false → result ≢ Err Refusal.Memory }
 {
     let mut u_label = ArrayVec::new();
     let mut rest = name;
@@ -68,6 +70,7 @@ fn decode_label<const N: usize>(
     requires room { array_vec_len text.old + 4 * length label.now ≤ N }
     ensures answer { Gives (λ _. text.new.items) result (appended text.old.items (in_utf8 (decoded_label label.now))) }
     ensures grown { array_vec_len text.new ≤ array_vec_len text.old + 4 * length label.now }
+    ensures plain { begins_with_prefix label.now ≡ false → result ≢ Err Refusal.Memory }
 {
     if octets_have_ace_prefix_in_any_case(label) {
         u_label_in_any_case(alloc, label, u_label)?;

@@ -8,7 +8,7 @@ ghost use Rattle.idn_label.specs.Steps.{is_plain_point, rule_fault};
 use crate::a_label::{ALabel, encoded_label};
 use idn_text::Refusal;
 
-/// The A-label of a label whose only fault may be the length of that. It is not plain, so it is coded.
+/// The A-label of a label whose only fault may be that this is too long. It is not plain, so it is coded.
 pub(crate) fn coded_label(label: &[char]) -> Result<ALabel, Refusal>
     requires coded { list_all is_plain_point label.now ≡ false }
     requires permitted { code_point_fault label.now ≡ None }

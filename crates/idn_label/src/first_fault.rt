@@ -17,7 +17,8 @@ use std::alloc::Global;
 
 /// The A-label of a label that may be registered (RFC 5891 section 4.2), else its first fault: no code point; a code
 /// point that is disallowed or unassigned; not in NFC; a hyphen out of place; a leading mark; a context rule; the Bidi
-/// rule; more than 63 code points, or an A-label of more than 63 octets. `Memory` says nothing of the label.
+/// rule; more than 63 code points, or an A-label of more than 63 octets. `Memory` says nothing of the label; most labels
+/// take none.
 pub fn test_label(alloc: Global, label: &[u32]) -> Result<ALabel, Refusal>
     ensures registrable { OnOk result (IsRegistrable label.now) }
     ensures a_label { IfOk result (λ answer. answer.bytes ≡ a_label_of label.now) }

@@ -1,5 +1,5 @@
-//! The short way of lookup, for names of which each code point, as it is mapped, passes the tests of UTS 46 whatever
-//! stands beside it. Most names past ASCII are such, and need neither memory for the steps nor a normalization.
+//! The short way of lookup, for names of which each code point, as it is mapped, needs no other test of UTS 46 beside its
+//! like. Most names past ASCII are such, and need neither memory for the steps nor a normalization.
 ghost use Rattle.std.specs.Prelude.{◌≡◌, ◌<◌, ◌≤◌, ◌++◌, Bool, [], ◌∷◌, length, false, true, Some, OnSome, All};
 ghost use Rattle.ucd_idna_map.specs.IdnaStatus.{idna_status};
 ghost use Rattle.ucd_idna_map.specs.declared.IdnaStatus.TheVariants.{Valid};
@@ -26,9 +26,10 @@ use ucd_normal::{Form, QuickCheck, class_and_quick_check};
 /// A label, as it is mapped.
 type Label = ArrayVec<char, MAX_LABEL_LEN>;
 
-/// Leaves in `query` what ToASCII (UTS 46 section 4.2) gives of a name in UTF-8, its lengths not verified. `None` where
-/// this way does not tell: a code point may not pass for itself alone, a label begins with `xn--`, a label or the answer
-/// has no room, or the bytes are no UTF-8.
+/// Leaves in `query` what ToASCII (UTS 46 section 4.2) gives of a name in UTF-8, its lengths not verified. `None`
+/// says nothing of the name, and the long way then gives the answer: a code point needs more tests, a label begins with
+/// `xn--`, a label or the answer has no room, or the bytes are no UTF-8.
+// Its rooms are not to be made ready for each name that another way answers.
 #[inline(never)]
 pub(crate) fn fitting_query<const N: usize>(name: &[u8], query: &mut ArrayVec<u8, N>) -> Option<()>
     requires { query.old.items ≡ [] }

@@ -38,8 +38,8 @@ static LOWERCASE: [u8; 256] = [
 ];
 
 /// Leaves in `query` what ToASCII (UTS 46 section 4.2) gives of a name, its lengths not verified: the name in lower case.
-/// `None` where this way does not tell: an octet is no ASCII letter, digit, hyphen or full stop, a label begins with
-/// `xn--`, or the name is too long for any query.
+/// `None` says nothing of the name, and another way then gives the answer: an octet is no ASCII letter, digit, hyphen or
+/// full stop, a label begins with `xn--`, or the name is too long for any query.
 pub(crate) fn plain_query<const N: usize>(name: &[u8], query: &mut ArrayVec<u8, N>) -> Option<()>
     requires empty { query.old.items ≡ [] }
     requires room { MAX_QUERY_LEN ≤ N }

@@ -45,7 +45,7 @@ pub fn lookup_utf8<const N: usize>(
     std3: bool,
     query: &mut ArrayVec<u8, N>,
 ) -> Result<(), Refusal>
-    requires { MAX_QUERY_LEN ≤ N }
+    requires { 254 ≤ N }
     ensures answer { Gives (λ _. query.new.items) result (query_name name.now std3) }
     ensures short { OnOk result (array_vec_len query.new ≤ 254) }
     ensures plain { IsPlain (deny_list std3) Allow name.now → result ≢ Err Refusal.Memory }
@@ -64,6 +64,7 @@ pub fn lookup_utf8<const N: usize>(
 }
 
 /// `lookup_utf8` by all of UTS 46.
+// It is long, and most names do not come here.
 #[inline(never)]
 fn long_lookup<const N: usize>(
     alloc: Global,
@@ -71,7 +72,7 @@ fn long_lookup<const N: usize>(
     std3: bool,
     query: &mut ArrayVec<u8, N>,
 ) -> Result<(), Refusal>
-    requires { MAX_QUERY_LEN ≤ N }
+    requires { 254 ≤ N }
     ensures answer { Gives (λ _. query.new.items) result (query_name name.now std3) }
     ensures short { OnOk result (array_vec_len query.new ≤ 254) }
     ensures plain { IsPlain (deny_list std3) Allow name.now → result ≢ Err Refusal.Memory }

@@ -76,7 +76,7 @@ pub(crate) fn has_no_capital(text: &[u8]) -> bool
 }
 
 /// `u_label` of an A-label in lower case. One that is short need not be encoded again to be compared: Punycode in lower
-/// case is the only one of what it stands for (RFC 3492 section 5).
+/// case is the only one of what it stands for (RFC 3492 sections 1.1 and 5).
 fn lowercase_u_label(
     alloc: Global,
     given: &[u8],

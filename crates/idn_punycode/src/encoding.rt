@@ -32,7 +32,7 @@ pub fn push_encoded(label: &[char], text: &mut ArrayString<63>) -> Result<(), Ca
 ///
 /// The code points past ASCII are taken in the order of their keys. Among the code points that are handled, a decoder
 /// has come to `position`. It takes `handled + 1` steps for each code point on the way to the next one, and then those
-/// from the start to the position of that one.
+/// from the start to the position of that one, less those up to `position`.
 fn encoded(label: &[char]) -> Result<ArrayVec<u8, 63>, CapacityError>
     requires { length label.now ≤ MAX_LABEL_LEN }
     ensures ok { IfOk result (λ code. code.items ≡ encode label.now) }

@@ -9,7 +9,7 @@ ghost use Rattle.idn2_cli.specs.LineAnswers.{as_utf8, one_line, with_feed};
 use crate::answering::{Answering, refuse, reply};
 use crate::by_points::{ByPoints, PointAnswering};
 use crate::console::Console;
-use crate::room::Room;
+use crate::room::{MAX_ANSWER_LEN, Room};
 use crate::stop::Stop;
 use arrayvec::ArrayVec;
 use idn_label::{decode_ascii, decode_name};
@@ -31,6 +31,7 @@ impl Answering for Decode {
         room: &mut Room,
         console: &mut Console<'_, '_, W, E>,
     ) -> Result<bool, Stop> {
+        // A line past ASCII, and an empty one, which is refused, are answered by their code points.
         if text.is_empty() || !text.is_ascii() {
             return ByPoints { mode: self }.answer(alloc, number, text, room, console);
         }
@@ -42,8 +43,12 @@ impl Answering for Decode {
 }
 
 /// Leaves in `line` a name in ASCII with U-labels in the place of its A-labels and a line feed, in place of what stood
-/// there.
-fn fill_line(alloc: Global, name: &[u8], line: &mut ArrayVec<u8, 4097>) -> Result<(), Refusal>
+/// there. Where the name is refused, what is left says nothing.
+fn fill_line(
+    alloc: Global,
+    name: &[u8],
+    line: &mut ArrayVec<u8, MAX_ANSWER_LEN>,
+) -> Result<(), Refusal>
     requires ascii { IsAscii name.now }
     requires short { length name.now ≤ 1024 }
     ensures { Gives (λ _. line.new.items) result (with_feed (as_utf8 (decode_answer name.now))) }

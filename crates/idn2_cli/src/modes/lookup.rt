@@ -8,7 +8,7 @@ ghost use Rattle.idn2_cli.specs.LineAnswers.{one_line, with_feed, query_answer};
 
 use crate::answering::{Answering, refuse, reply};
 use crate::console::Console;
-use crate::room::Room;
+use crate::room::{MAX_ANSWER_LEN, Room};
 use crate::stop::Stop;
 use arrayvec::ArrayVec;
 use idn_label::lookup_utf8;
@@ -41,12 +41,13 @@ impl Answering for Lookup {
     }
 }
 
-/// Leaves in `line` what a name is in a query and a line feed, in place of what stood there.
+/// Leaves in `line` what a name is in a query and a line feed, in place of what stood there. Where the name is refused,
+/// what is left says nothing.
 fn fill_line(
     alloc: Global,
     name: &[u8],
     std3: bool,
-    line: &mut ArrayVec<u8, 4097>,
+    line: &mut ArrayVec<u8, MAX_ANSWER_LEN>,
 ) -> Result<(), Refusal>
     ensures { Gives (λ _. line.new.items) result (with_feed (query_answer name.now std3)) }
 {
