@@ -41,6 +41,7 @@ fn fitting_code_points(rt: HostRuntime) {
     let others = [
         0x2D,
         0x41,
+        0x1F0,
         0x301,
         0x5D0,
         0x627,
