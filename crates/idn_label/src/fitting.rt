@@ -29,7 +29,7 @@ pub(crate) fn chars_fit(label: &[char]) -> bool
 }
 
 #[inline]
-fn fits_or_hyphen(c: u32) -> bool
+pub(crate) fn fits_or_hyphen(c: u32) -> bool
     ensures { result ≡ fits_or_hyphen c }
 {
     fits_anywhere(c) || c == HYPHEN

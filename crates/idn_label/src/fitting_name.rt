@@ -16,8 +16,8 @@ ghost use Rattle.idn_label.specs.Lookup.{deny_list};
 use crate::a_label::{MAX_LABEL_LEN, encoded_label};
 use crate::ace_prefix::chars_have_ace_prefix;
 use crate::code_points::is_all_ascii;
+use crate::fitting::fits_or_hyphen;
 use arrayvec::ArrayVec;
-use idn_class::fits_anywhere;
 use std::str;
 use ucd_bidi::BidiClass;
 use ucd_idna_map::{IdnaStatus, idna_mapping};
@@ -60,7 +60,7 @@ fn push_mapped(c: char, label: &mut Label) -> Option<()>
 {
     // Most code points are mapped to themselves, and most others are capitals of ASCII.
     let lower = c.to_ascii_lowercase();
-    if fits_in_label(lower) {
+    if fits_or_hyphen(lower as u32) {
         label.try_push(lower).ok()?;
         return Some(());
     }
@@ -77,19 +77,12 @@ fn push_fitting(points: &[char], label: &mut Label) -> Option<()>
     ensures fits { OnSome result (All (λ c. fits_or_hyphen c ≡ true) points.now) }
 {
     for c in points {
-        if !fits_in_label(*c) {
+        if !fits_or_hyphen(*c as u32) {
             return None;
         }
         label.try_push(*c).ok()?;
     }
     Some(())
-}
-
-#[inline]
-fn fits_in_label(c: char) -> bool
-    ensures { result ≡ fits_or_hyphen c }
-{
-    fits_anywhere(c as u32) || c == '-'
 }
 
 /// Appends a code point behind another, if it passes there, as many marks do, and there is room.

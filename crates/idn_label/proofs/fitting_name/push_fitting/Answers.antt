@@ -17,5 +17,5 @@ loop-c-preserved c =
           ∙ ap (λ x. c.args.label.now.items ++ x) (ap (λ x. take i points ++ x ∷ []) c.c-item.is ∙ sym (take_more points i c.c-item.result c.loop-c-test.true));
       fits =
           All-more (λ x. fits_or_hyphen x ≡ true) points i c.c-item.result c.loop-c-test.true c.loop-c.invariant.fits
-          (subst (λ x. fits_or_hyphen x ≡ true) c.c-item.is (sym c.if-not-fits_in_label.ensures));
+          (subst (λ x. fits_or_hyphen x ≡ true) c.c-item.is (sym c.if-not-fits_or_hyphen.ensures));
     }

@@ -13,21 +13,21 @@ under (Some x) f h = f h
 one_fits : (c : ℕ) → fits_or_hyphen c ≡ true → All (λ x. fits_or_hyphen x ≡ true) (c ∷ [])
 one_fits c h = All-cons (λ x. fits_or_hyphen x ≡ true) c [] h (All-nil (λ x. fits_or_hyphen x ≡ true))
 
-pub returns-then-fits_in_label-clause-mapped : goal.returns-then-fits_in_label-clause-mapped
-returns-then-fits_in_label-clause-mapped c =
-    let is = map_char-fits c.args.c c.to_ascii_lowercase-lower.result c.to_ascii_lowercase-lower.ensures.value (sym c.if-fits_in_label.ensures) in
+pub returns-then-fits_or_hyphen-clause-mapped : goal.returns-then-fits_or_hyphen-clause-mapped
+returns-then-fits_or_hyphen-clause-mapped c =
+    let is = map_char-fits c.args.c c.to_ascii_lowercase-lower.result c.to_ascii_lowercase-lower.ensures.value (sym c.if-fits_or_hyphen.ensures) in
     let pushed : c.try_push.new.self.items ≡ c.args.label.now.items ++ c.to_ascii_lowercase-lower.result ∷ [] = search rules in
     pushed ∙ ap (λ x. c.args.label.now.items ++ x) (sym is)
 
-pub returns-then-fits_in_label-clause-passes : goal.returns-then-fits_in_label-clause-passes
-returns-then-fits_in_label-clause-passes c =
-    let is = map_char-fits c.args.c c.to_ascii_lowercase-lower.result c.to_ascii_lowercase-lower.ensures.value (sym c.if-fits_in_label.ensures) in
-    subst (All PassesInLabel) (sym is) (all_pass (c.to_ascii_lowercase-lower.result ∷ []) (one_fits c.to_ascii_lowercase-lower.result (sym c.if-fits_in_label.ensures)))
+pub returns-then-fits_or_hyphen-clause-passes : goal.returns-then-fits_or_hyphen-clause-passes
+returns-then-fits_or_hyphen-clause-passes c =
+    let is = map_char-fits c.args.c c.to_ascii_lowercase-lower.result c.to_ascii_lowercase-lower.ensures.value (sym c.if-fits_or_hyphen.ensures) in
+    subst (All PassesInLabel) (sym is) (all_pass (c.to_ascii_lowercase-lower.result ∷ []) (one_fits c.to_ascii_lowercase-lower.result (sym c.if-fits_or_hyphen.ensures)))
 
-pub returns-then-fits_in_label-clause-first : goal.returns-then-fits_in_label-clause-first
-returns-then-fits_in_label-clause-first c none =
-    let is = map_char-fits c.args.c c.to_ascii_lowercase-lower.result c.to_ascii_lowercase-lower.ensures.value (sym c.if-fits_in_label.ensures) in
-    ap begins_with_mark is ∙ begins_with_mark-fits (c.to_ascii_lowercase-lower.result ∷ []) (one_fits c.to_ascii_lowercase-lower.result (sym c.if-fits_in_label.ensures))
+pub returns-then-fits_or_hyphen-clause-first : goal.returns-then-fits_or_hyphen-clause-first
+returns-then-fits_or_hyphen-clause-first c none =
+    let is = map_char-fits c.args.c c.to_ascii_lowercase-lower.result c.to_ascii_lowercase-lower.ensures.value (sym c.if-fits_or_hyphen.ensures) in
+    ap begins_with_mark is ∙ begins_with_mark-fits (c.to_ascii_lowercase-lower.result ∷ []) (one_fits c.to_ascii_lowercase-lower.result (sym c.if-fits_or_hyphen.ensures))
 
 pub returns-in-Mapped-clause-mapped : goal.returns-in-Mapped-clause-mapped
 returns-in-Mapped-clause-mapped c =
