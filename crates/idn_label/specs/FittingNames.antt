@@ -12,7 +12,7 @@ use Rattle.idna.specs.ContextJ.{zero_width_non_joiner, zero_width_joiner}
 use Rattle.idna.specs.Labels.{is_full_stop}
 use Rattle.idna.specs.Validity.{is_valid_status}
 
--- enough for UTS 46, section 4.1: a label of such code points alone that begins with no mark is valid
+-- enough for UTS 46, section 4.1: a label of at most 1000 such code points is valid that begins neither with a mark nor with "xn--"
 pub record PassesInLabel (c : ℕ) : Type 0 where
   pub valid : is_valid_status (idna_status c) ≡ true
   pub normal : quick_check Nfc c ≡ Yes
