@@ -3,7 +3,7 @@ RT ?= rt
 PROGRAM := crates/idn2/out/idn2
 PREFIX ?= /usr/local
 
-.PHONY: all run test install check-tables bench conformance clean
+.PHONY: all run test install check-tables bench conformance fuzz clean
 
 # Proves every function on the program's way, and builds it.
 all:
@@ -37,6 +37,11 @@ conformance: all
 	python3 conformance/compare.py
 	python3 conformance/check_tables.py
 	python3 conformance/idna_test.py
+
+# Compares the program with a second writing of its rules on random input, for so many seconds: make fuzz SECONDS=600
+SECONDS := 60
+fuzz: all
+	python3 conformance/fuzz.py --seconds $(SECONDS)
 
 clean:
 	rm -rf crates/*/out build

@@ -1,0 +1,218 @@
+"""A run of the program written a second time, from docs/idn2.1, docs/NOTATION.md and the README alone.
+
+Given the words, standard input and the files, it tells what stands on the output, on the messages and as the status.
+Where it does not know, since a code point is newer than the data here, or since a name is to be looked up, it says so by
+`Unknown`. It holds all labels that a label spells in a set, so it is for small tables and short labels.
+"""
+
+import check
+from registration import a_label
+
+LINE_LIMIT, TEXT_LIMIT, LABEL_LIMIT = 1024, 1024, 63
+COUNT_LIMIT, TRIES = 1_000_000_000, 1_000_000
+SPELLED_LIMIT = 20_000
+
+TEXTS = {
+    1: "not UTF-8", 2: "line too long", 3: "empty", 10: "disallowed code point", 11: "unassigned code point",
+    12: "not in NFC", 13: "hyphen out of place", 14: "leading combining mark", 15: "joiner out of context",
+    16: "code point out of context", 17: "Bidi rule broken", 18: "label too long", 19: "not an A-label",
+    40: "not made of table entries", 50: "usage", 60: "read fault",
+}
+FLAGS = {"-l": "lookup", "--lookup": "lookup", "-r": "register", "--register": "register", "-d": "decode",
+         "--decode": "decode", "-N": "nontransitional", "--tr46nt": "nontransitional", "--quiet": "quiet",
+         "--usestd3asciirules": "std3", "-h": "show", "--help": "show", "-V": "show", "--version": "show"}
+VALUES = {"--variants", "--check-table", "--after", "--limit", "--tries"}
+MODES = ("lookup", "register", "decode", "--variants", "--check-table")
+
+
+class Unknown(Exception):
+    """The second writing can't tell."""
+
+
+class Bad(Exception):
+    """The words can't be used."""
+
+
+class Show(Exception):
+    """Help or version is asked for."""
+
+
+class Options:
+    def __init__(self, words):
+        self.given, self.strings = {}, []
+        words = iter(words)
+        for word in words:
+            if word == "--":
+                self.strings += words
+            elif word.startswith("--"):
+                self.take_long(word, words)
+            elif word.startswith("-") and word != "-":
+                for letter in word[1:]:
+                    self.take_flag("-" + letter)
+            else:
+                self.strings.append(word)
+        self.obey_rules()
+
+    def take_long(self, word, words):
+        name, has_value, value = word.partition("=")
+        if name not in VALUES:
+            self.take_flag(word)
+            return
+        if not has_value:
+            value = next(words, None)
+            if value is None or (value.startswith("-") and value != "-"):
+                raise Bad
+        self.take(name, value)
+
+    def take_flag(self, word):
+        if word not in FLAGS:
+            raise Bad
+        if FLAGS[word] == "show":
+            raise Show
+        self.take(FLAGS[word], True)
+
+    def take(self, name, value):
+        if name in self.given:
+            raise Bad
+        self.given[name] = value
+
+    def obey_rules(self):
+        modes = [mode for mode in MODES if mode in self.given]
+        if len(modes) > 1 or ("--check-table" in modes and self.strings):
+            raise Bad
+        self.mode = modes[0] if modes else "lookup"
+        if self.mode != "--variants" and {"--after", "--limit", "--tries"} & self.given.keys():
+            raise Bad
+        self.after = self.given.get("--after", "")
+        if len(self.after.encode()) > TEXT_LIMIT:
+            raise Bad
+        self.limit, self.tries = self.count("--limit", None), self.count("--tries", TRIES)
+
+    def count(self, name, default):
+        text = self.given.get(name)
+        if text is None:
+            return default
+        if not (1 <= len(text) <= 10 and text.isascii() and text.isdigit() and 1 <= int(text) <= COUNT_LIMIT):
+            raise Bad
+        return int(text)
+
+
+class Run:
+    """`registration` has the rules of labels, `classes` the classes of code points."""
+
+    def __init__(self, registration, classes):
+        self.registration, self.classes = registration, classes
+
+    def answer(self, words, given, files):
+        """(output, messages, status); output is None where only its being there is known."""
+        try:
+            options = Options(words)
+        except Bad:
+            return b"", message(50), 2
+        except Show:
+            return None, b"", 0
+        if options.strings:
+            given = "".join(string + "\n" for string in options.strings).encode()
+        return self.serve(options, given, files)
+
+    def serve(self, options, given, files):
+        table = None
+        if options.mode in ("--variants", "--check-table"):
+            text = files.get(options.given[options.mode])
+            if text is None:
+                return b"", message(60), 3
+            if options.mode == "--check-table":
+                return self.check_table(text)
+            try:
+                table = check.read(text, self.classes)
+            except check.TableFault as fault:
+                return b"", f"{fault}\n".encode(), 2
+        output, messages = [], []
+        for number, body in enumerate(bodies(given), 1):
+            lines, refusal = self.answer_line(options, table, body)
+            output += lines
+            if refusal is not None:
+                messages.append(f"idn2: line {number}: {refusal} {TEXTS[refusal]}\n")
+        return ("".join(line + "\n" for line in output).encode(), "".join(messages).encode(), 1 if messages else 0)
+
+    def check_table(self, text):
+        lines, is_clean = check.check(text, self.classes)
+        printed = "".join(line + "\n" for line in lines).encode()
+        return (b"", printed, 2) if printed.startswith(b"idn2: ") else (printed, b"", 0 if is_clean else 1)
+
+    def answer_line(self, options, table, body):
+        """The lines of output and no refusal, or none and the number of the refusal."""
+        if isinstance(body, int):
+            return [], body
+        try:
+            text = body.decode()
+        except UnicodeDecodeError:
+            return [], 1
+        if not text:
+            return [], 3
+        if options.mode == "lookup":
+            raise Unknown
+        if options.mode == "--variants":
+            return self.block(options, table, text)
+        answer, refusal = getattr(self.registration, options.mode)(self.known(text))
+        return ([], refusal) if answer is None else ([answer], None)
+
+    def known(self, text):
+        for label in text.split("."):
+            coded = label[4:]
+            if label[:4].lower() == "xn--" and coded.isascii():
+                try:
+                    label += coded.encode().decode("punycode")
+                except (UnicodeError, ValueError, OverflowError):
+                    pass
+            if not self.registration.knows(label):
+                raise Unknown
+        return text
+
+    def block(self, options, table, label):
+        fault = self.registration.first_fault(self.known(label))
+        if fault is not None:
+            return [], fault
+        spelled = self.spelled(table, label, {})
+        if not spelled:
+            return [], 40
+        after = sorted(each for each in spelled if each > options.after)
+        candidates = [each for each in after if len(each) <= LABEL_LIMIT]
+        variants = [each for each in candidates if self.registration.first_fault(self.known(each)) is None]
+        stops = candidates[options.tries - 1:options.tries]
+        if options.limit is not None:
+            stops += variants[options.limit - 1:options.limit]
+        if stops:
+            variants = [each for each in variants if each <= min(stops)]
+        trailer = f"#stop {len(variants)} {min(stops)}" if stops else f"#end {len(variants)}"
+        return [f"{each}\t{a_label(each)}" for each in variants] + [trailer], None
+
+    def spelled(self, table, label, known):
+        """All labels that arise by cutting the label into sources and replacing each by itself or a variant."""
+        if not label:
+            return {""}
+        if label not in known:
+            found = set()
+            for source, variants in table.items():
+                begin = "".join(map(chr, source))
+                if label.startswith(begin):
+                    ends = self.spelled(table, label[len(begin):], known)
+                    found |= {"".join(map(chr, first)) + end for first in (source, *variants) for end in ends}
+            if len(found) > SPELLED_LIMIT:
+                raise Unknown
+            known[label] = found
+        return known[label]
+
+
+def message(number):
+    return f"idn2: {number} {TEXTS[number]}\n".encode()
+
+
+def bodies(given):
+    """Each line, or 2 where it is too long. One carriage return at its end is dropped."""
+    lines = given.split(b"\n")
+    for line in lines if lines[-1] else lines[:-1]:
+        if len(line) > LINE_LIMIT:
+            yield 2
+        else:
+            yield line[:-1] if line.endswith(b"\r") else line
