@@ -10,6 +10,7 @@ import argparse
 import collections
 import pathlib
 import random
+import resource
 import subprocess
 import sys
 import tempfile
@@ -26,6 +27,8 @@ from second_run import Run, Unknown
 from unicode_data import Classes, version
 
 SHOWN = 400
+# The most memory of the program, in bytes: one that takes more answers 70, which is told as a difference.
+MEMORY = 1 << 30
 # What the tables are made of: small alphabets, so that sources, variants and labels meet each other.
 ALPHABETS = ("ab", "sß", "abß-", "a-", "ab\u0301", "qa\u0301", "\u05d0\u05d1a", "\u0627\u0660\u06f0", "中国國", "lа·l",
              "\u0915\u094d\u200d", "\u0627\u200c\u0647a", "àa\u0300", "0a9\u05d0", "\U00020000中\U00020001")
@@ -66,7 +69,8 @@ class Fuzz:
             wanted = self.second.answer(words, given, {"table": table})
         except Unknown:
             return Unknown
-        done = subprocess.run([self.program, *words], input=given, capture_output=True, cwd=self.folder)
+        done = subprocess.run([self.program, *words], input=given, capture_output=True, cwd=self.folder,
+                              preexec_fn=lambda: resource.setrlimit(resource.RLIMIT_AS, (MEMORY, MEMORY)))
         found = done.stdout, done.stderr, done.returncode
         if found == wanted or (wanted[0] is None and found[0] and found[1:] == wanted[1:]):
             return None
