@@ -39,6 +39,3 @@ pub fn report<E: Sink>(refusal: &Refusal, err: &mut E) -> Status
     let _ = write_text(err, message_of(refusal).as_bytes());
     status_of(refusal)
 }
-
-#[cfg(test)]
-mod tests;

@@ -127,6 +127,3 @@ pub fn read_options(alloc: Global, words: &[String]) -> Result<Options, Usage>
     }
     Ok(settings_of(alloc, &matches)?)
 }
-
-#[cfg(test)]
-mod tests;
