@@ -1,5 +1,5 @@
 //! Entries with different sources, and the order of their sources.
-ghost use Rattle.std.specs.Prelude.{◌≡◌, ◌<◌, [], length, slice_get, Some, OnErr};
+ghost use Rattle.std.specs.Prelude.{◌≡◌, ◌<◌, ◌^◌, [], length, slice_get, Some, OnErr};
 ghost use Rattle.variant_table.specs.Order.{IsOrderOf, IsPlaceFor};
 ghost use Rattle.variant_table.specs.Places.{entry_with};
 ghost use Rattle.variant_table.specs.Reading.{Leaves, entry_from, with_new_source};
@@ -16,7 +16,7 @@ use std::marker::Model;
 #[derive(Drop)]
 pub struct Rows {
     entries: Entries,
-    order: Vec<usize>,
+    order: Vec<u16>,
 }
 
 impl Model for Rows {
@@ -60,7 +60,7 @@ impl Rows {
         ensures { result ≡ entry_with self.now source.now }
     {
         match search(&self.entries, &self.order, source) {
-            Place::Found(place) => Some(self.entries.get(self.order[place])),
+            Place::Found(place) => Some(self.entries.get(self.order[place] as usize)),
             Place::Absent(_) => None,
         }
     }
@@ -68,14 +68,15 @@ impl Rows {
     /// Adds the entry of these sequences, the source first, unless an entry has its source. An `Err`
     /// changes nothing.
     pub fn push(&mut self, sequences: &Sequences) -> Result<(), LineError>
-        requires { 0 < length sequences.now }
+        requires some { 0 < length sequences.now }
+        requires room { length self.old < 2 ^ 16 }
         ensures read { Leaves result self.new (with_new_source self.old (entry_from sequences.now)) }
         ensures err { OnErr result (self.new ≡ self.old) }
     {
         let Place::Absent(place) = search(&self.entries, &self.order, sequences.get(0)) else {
             return Err(LineError::Fault(LineFault::SameSource));
         };
-        let number = self.entries.len();
+        let number = self.entries.len() as u16;
         self.order.reserve(1)?;
         self.entries.push(sequences)?;
         self.order.insert(place, number).unwrap();
@@ -93,7 +94,7 @@ enum Place {
 }
 
 /// The place of a source in the order of the sources.
-fn search(entries: &Entries, order: &[usize], source: &[u32]) -> Place
+fn search(entries: &Entries, order: &[u16], source: &[u32]) -> Place
     requires { IsOrderOf entries.now order.now }
     ensures { IsPlaceFor entries.now order.now source.now result }
 {
@@ -102,7 +103,7 @@ fn search(entries: &Entries, order: &[usize], source: &[u32]) -> Place
     // The last source is compared first, since the sources of most tables rise.
     let mut place = high.saturating_sub(1);
     while low < high {
-        match entries.get(order[place]).source().cmp(&source) {
+        match entries.get(order[place] as usize).source().cmp(&source) {
             Ordering::Less => low = place + 1,
             Ordering::Equal => return Place::Found(place),
             Ordering::Greater => high = place,
