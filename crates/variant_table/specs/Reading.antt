@@ -60,14 +60,17 @@ sequences_of tokens = Err Syntax
 
 -- ---- the table so far
 
+-- the table with an entry, whose source is to be new
+abbrev pub with_new_source : List Entry → Entry → Result (List Entry) LineFault
+with_new_source table e = if has_source_in table e then Err SameSource else Ok (table ++ e ∷ [])
+
 -- the table with an entry
 unfoldable pub with_entry : List Entry → Entry → Result (List Entry) LineFault
 with_entry table e =
     if nat_le 4096 (length table) || is_too_large e then Err Limit else
     if has_bad_class e then Err BadClass else
     if has_repeat e then Err SameVariant else
-    if has_source_in table e then Err SameSource else
-    Ok (table ++ e ∷ [])
+    with_new_source table e
 
 -- the table with what a line adds
 unfoldable pub with_line : List Entry → List ℕ → Result (List Entry) LineFault

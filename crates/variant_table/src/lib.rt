@@ -5,6 +5,7 @@
 mod canonical;
 mod checks;
 mod draft;
+mod entries;
 mod entry;
 mod fault;
 mod gaps;

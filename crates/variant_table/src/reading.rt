@@ -85,11 +85,7 @@ fn add_entry(alloc: Global, rows: &mut Rows, sequences: &Sequences) -> Result<()
     if has_repeat(sequences) {
         return Err(LineError::Fault(LineFault::SameVariant));
     }
-    if rows.has_source(sequences.get(0)) {
-        return Err(LineError::Fault(LineFault::SameSource));
-    }
-    rows.push(alloc, sequences)?;
-    Ok(())
+    rows.push(sequences)
 }
 
 /// Whether a line has nothing but blanks, or a comment.
