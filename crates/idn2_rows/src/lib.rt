@@ -11,6 +11,8 @@ mod lines;
 #[cfg(test)]
 mod listings;
 #[cfg(test)]
+mod punycode;
+#[cfg(test)]
 mod row;
 #[cfg(test)]
 mod tables;
