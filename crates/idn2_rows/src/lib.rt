@@ -19,6 +19,8 @@ mod messages;
 #[cfg(test)]
 mod options;
 #[cfg(test)]
+mod punycode;
+#[cfg(test)]
 mod reading;
 #[cfg(test)]
 mod row;
