@@ -3,6 +3,8 @@
 #![tactic(auto)]
 
 #[cfg(test)]
+mod candidates;
+#[cfg(test)]
 mod code_points;
 #[cfg(test)]
 mod faults;
@@ -17,6 +19,8 @@ mod listings;
 #[cfg(test)]
 mod messages;
 #[cfg(test)]
+mod nets;
+#[cfg(test)]
 mod options;
 #[cfg(test)]
 mod punycode;
@@ -25,8 +29,14 @@ mod reading;
 #[cfg(test)]
 mod row;
 #[cfg(test)]
+mod spelled;
+#[cfg(test)]
 mod tables;
 #[cfg(test)]
 mod utf8;
+#[cfg(test)]
+mod variants;
+#[cfg(test)]
+mod words;
 #[cfg(test)]
 mod writing;
