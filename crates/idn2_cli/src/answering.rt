@@ -5,7 +5,6 @@ ghost use Rattle.std.specs.Result.{is_err};
 ghost use Rattle.idn2_cli.specs.LineAnswers.{LineAnswer, text_answer};
 ghost use Rattle.idn2_cli.specs.Pieces.{Output};
 ghost use Rattle.idn2_cli.specs.Transcript.{pieces_for};
-ghost use Rattle.idn2_cli.specs.Consoles.{held_by, HasSameWriters};
 ghost use Rattle.idn2_cli.specs.Emitting.{Emits};
 ghost use Rattle.idn2_cli.specs.declared.stop.Stop.TheVariants as stop;
 
@@ -35,11 +34,9 @@ pub(crate) trait Answering {
     ) -> Result<bool, Stop>
         requires ready { is_ready self.now }
         requires few { length text.now ≤ 1024 }
-        ensures written { Emits (held_by W.contents W.has_failed W.faults E.contents E.has_failed E.faults console.old)
-            (held_by W.contents W.has_failed W.faults E.contents E.has_failed E.faults console.new)
+        ensures written { Emits console.old console.new
             (pieces_for number (text_answer (answer_of self.now) text.now)) result }
-        ensures refused { IfOk result (λ refused. refused ≡ is_err (text_answer (answer_of self.now) text.now)) }
-        ensures same { HasSameWriters console.old console.new };
+        ensures refused { IfOk result (λ refused. refused ≡ is_err (text_answer (answer_of self.now) text.now)) };
 }
 
 /// Answers a line by one line, which ends in a line feed. It takes no memory.
@@ -47,11 +44,9 @@ pub(crate) fn reply<W: Sink, E: Sink>(
     line: &[u8],
     console: &mut Console<'_, '_, W, E>,
 ) -> Result<bool, Stop>
-    ensures written { Emits (held_by W.contents W.has_failed W.faults E.contents E.has_failed E.faults console.old)
-        (held_by W.contents W.has_failed W.faults E.contents E.has_failed E.faults console.new) (Output line.now ∷ []) result }
+    ensures written { Emits console.old console.new (Output line.now ∷ []) result }
     ensures why { IfErr result (λ why. why ≡ stop.Output) }
     ensures refused { IfOk result (λ refused. refused ≡ false) }
-    ensures same { HasSameWriters console.old console.new }
 {
     console.output(line)?;
     Ok(false)
@@ -65,14 +60,11 @@ pub(crate) fn refuse<W: Sink, E: Sink>(
     console: &mut Console<'_, '_, W, E>,
 ) -> Result<bool, Stop>
     ensures told { refusal ≢ Refusal.Memory →
-        Emits (held_by W.contents W.has_failed W.faults E.contents E.has_failed E.faults console.old)
-        (held_by W.contents W.has_failed W.faults E.contents E.has_failed E.faults console.new) (pieces_for number (Err refusal)) result }
+        Emits console.old console.new (pieces_for number (Err refusal)) result }
     ensures why { refusal ≢ Refusal.Memory → IfErr result (λ why. why ≡ stop.Messages) }
     ensures memory { refusal ≡ Refusal.Memory → (result ≡ Err stop.Memory)
-        × Emits (held_by W.contents W.has_failed W.faults E.contents E.has_failed E.faults console.old)
-        (held_by W.contents W.has_failed W.faults E.contents E.has_failed E.faults console.new) [] result }
+        × Emits console.old console.new [] result }
     ensures refused { IfOk result (λ refused. refused ≡ true) }
-    ensures same { HasSameWriters console.old console.new }
 {
     if let Refusal::Memory = refusal {
         return Err(Stop::Memory);

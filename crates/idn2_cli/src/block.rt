@@ -6,7 +6,6 @@ ghost use Rattle.idn_label.specs.FirstFault.{IsRegistrable};
 ghost use Rattle.idn2_cli.specs.Pieces.{Output};
 ghost use Rattle.idn2_cli.specs.Blocks.{variant_line, trailer, reaches};
 ghost use Rattle.idn2_cli.specs.Emitting.{Emits};
-ghost use Rattle.idn2_cli.specs.Consoles.{held_by, HasSameWriters};
 ghost use Rattle.idn2_cli.specs.declared.stop.Stop.TheVariants as stop;
 
 use crate::console::Console;
@@ -36,9 +35,7 @@ pub(crate) fn write_variant<W: Sink, E: Sink>(
     console: &mut Console<'_, '_, W, E>,
 ) -> Result<(), Stop>
     requires { IsRegistrable label.now }
-    ensures written { Emits (held_by W.contents W.has_failed W.faults E.contents E.has_failed E.faults console.old)
-        (held_by W.contents W.has_failed W.faults E.contents E.has_failed E.faults console.new) (Output (variant_line label.now ++ 10 ∷ []) ∷ []) result }
-    ensures same { HasSameWriters console.old console.new }
+    ensures { Emits console.old console.new (Output (variant_line label.now ++ 10 ∷ []) ∷ []) result }
 {
     let a_label = match test_label(alloc, label) {
         Ok(a_label) => a_label,
@@ -62,10 +59,8 @@ pub(crate) fn write_stop<W: Sink, E: Sink>(
 ) -> Result<(), Stop>
     requires short { length last.now ≤ 63 }
     requires scalar_values { AreScalarValues last.now }
-    ensures written { Emits (held_by W.contents W.has_failed W.faults E.contents E.has_failed E.faults console.old)
-        (held_by W.contents W.has_failed W.faults E.contents E.has_failed E.faults console.new) (Output (trailer count (Some last.now) ++ 10 ∷ []) ∷ []) result }
+    ensures written { Emits console.old console.new (Output (trailer count (Some last.now) ++ 10 ∷ []) ∷ []) result }
     ensures why { IfErr result (λ why. why ≡ stop.Output) }
-    ensures same { HasSameWriters console.old console.new }
 {
     write_points(last, text);
     let line = stop_line(count, text.as_slice());
@@ -92,10 +87,8 @@ pub(crate) fn write_end<W: Sink, E: Sink>(
     count: u64,
     console: &mut Console<'_, '_, W, E>,
 ) -> Result<(), Stop>
-    ensures written { Emits (held_by W.contents W.has_failed W.faults E.contents E.has_failed E.faults console.old)
-        (held_by W.contents W.has_failed W.faults E.contents E.has_failed E.faults console.new) (Output (trailer count None ++ 10 ∷ []) ∷ []) result }
+    ensures written { Emits console.old console.new (Output (trailer count None ++ 10 ∷ []) ∷ []) result }
     ensures why { IfErr result (λ why. why ≡ stop.Output) }
-    ensures same { HasSameWriters console.old console.new }
 {
     let mut line = ArrayString::<48>::new();
     let mut digits = Buffer::new();

@@ -5,7 +5,6 @@ ghost use Rattle.std.specs.Result.{is_err};
 ghost use Rattle.idn_text.specs.Points.{AreScalarValues};
 ghost use Rattle.idn2_cli.specs.LineAnswers.{LineAnswer};
 ghost use Rattle.idn2_cli.specs.Transcript.{pieces_for};
-ghost use Rattle.idn2_cli.specs.Consoles.{held_by, HasSameWriters};
 ghost use Rattle.idn2_cli.specs.Emitting.{Emits};
 
 use crate::answering::{Answering, refuse};
@@ -34,11 +33,9 @@ pub(crate) trait PointAnswering {
         requires ready { is_ready self.now }
         requires few { length points.now ≤ 1024 }
         requires scalar_values { AreScalarValues points.now }
-        ensures written { Emits (held_by W.contents W.has_failed W.faults E.contents E.has_failed E.faults console.old)
-            (held_by W.contents W.has_failed W.faults E.contents E.has_failed E.faults console.new)
+        ensures written { Emits console.old console.new
             (pieces_for number (answer_of self.now points.now)) result }
-        ensures refused { IfOk result (λ refused. refused ≡ is_err (answer_of self.now points.now)) }
-        ensures same { HasSameWriters console.old console.new };
+        ensures refused { IfOk result (λ refused. refused ≡ is_err (answer_of self.now points.now)) };
 }
 
 /// A mode that is handed them, as one that is handed bytes.

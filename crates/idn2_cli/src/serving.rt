@@ -1,14 +1,13 @@
 //! The lines of the input, one after another.
 
-ghost use Rattle.std.specs.Prelude.{◌≡◌, ℕ, List, IfOk, IfErr, true};
+ghost use Rattle.std.specs.Prelude.{◌≡◌, ℕ, List, IfOk};
 ghost use Rattle.std.specs.Result.{is_err};
 ghost use Rattle.idn_text.specs.Bodies.{bytes_of};
 ghost use Rattle.idn_text.specs.Reading.{IsUnread, numbered_line};
 ghost use Rattle.idn2_cli.specs.Emitting.{Emits};
-ghost use Rattle.idn2_cli.specs.Consoles.{held_by, HasSameWriters};
 ghost use Rattle.idn2_cli.specs.LineAnswers.{line_answer};
 ghost use Rattle.idn2_cli.specs.Transcript.{line_pieces};
-ghost use Rattle.idn2_cli.specs.Serving.{HasServed, HasStoppedServing};
+ghost use Rattle.idn2_cli.specs.Ends.{Does, lines_job};
 
 use crate::answering::{Answering, refuse};
 use crate::console::Console;
@@ -27,13 +26,7 @@ pub(crate) fn serve_lines<M: Answering, R: Source, W: Sink, E: Sink>(
 ) -> Result<Status, Stop>
     requires ready { M.is_ready mode.now }
     requires unread { IsUnread input.old }
-    ensures ended { IfOk result (λ status. HasServed (M.answer_of mode.now) input.old input.new
-        (held_by W.contents W.has_failed W.faults E.contents E.has_failed E.faults console.old)
-        (held_by W.contents W.has_failed W.faults E.contents E.has_failed E.faults console.new) status) }
-    ensures stopped { IfErr result (λ why. HasStoppedServing (M.answer_of mode.now) why input.old input.new
-        (held_by W.contents W.has_failed W.faults E.contents E.has_failed E.faults console.old)
-        (held_by W.contents W.has_failed W.faults E.contents E.has_failed E.faults console.new)) }
-    ensures same { HasSameWriters console.old console.new }
+    ensures { Does (lines_job (M.answer_of mode.now)) input.old input.new console.old console.new result }
 {
     let mut line = Line::new();
     let mut room = Room::new();
@@ -58,11 +51,9 @@ fn serve_line<M: Answering, W: Sink, E: Sink>(
     console: &mut Console<'_, '_, W, E>,
 ) -> Result<bool, Stop>
     requires { M.is_ready mode.now }
-    ensures written { Emits (held_by W.contents W.has_failed W.faults E.contents E.has_failed E.faults console.old)
-        (held_by W.contents W.has_failed W.faults E.contents E.has_failed E.faults console.new)
+    ensures written { Emits console.old console.new
         (line_pieces (M.answer_of mode.now) (numbered_line line.now)) result }
     ensures refused { IfOk result (λ refused. refused ≡ is_err (line_answer (M.answer_of mode.now) (bytes_of line.now.body))) }
-    ensures same { HasSameWriters console.old console.new }
 {
     match &line.body {
         Body::TooLong => refuse(line.number, Refusal::LineTooLong, console),

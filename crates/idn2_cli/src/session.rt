@@ -1,19 +1,15 @@
 //! A whole run.
 
-ghost use Rattle.std.specs.Prelude.{◌≡◌, IfOk, IfErr, List};
+ghost use Rattle.std.specs.Prelude.{◌≡◌, IfOk};
 ghost use Rattle.idn_text.specs.Reading.{IsUnread};
 ghost use Rattle.idn2_cli.specs.Settings.{IsWithinLimits};
-ghost use Rattle.idn2_cli.specs.Pieces.{Piece};
-ghost use Rattle.idn2_cli.specs.Held.{held, Takes};
-ghost use Rattle.idn2_cli.specs.Consoles.{held_by, HasSameWriters};
+ghost use Rattle.idn2_cli.specs.Held.{held};
 ghost use Rattle.idn2_cli.specs.Faults.{closing_status};
 ghost use Rattle.idn2_cli.specs.Tables.{TableGiven, IsReadAs, IsTableOf};
 ghost use Rattle.idn2_cli.specs.Emitting.{Emits};
 ghost use Rattle.idn2_cli.specs.Transcript.{check_pieces, check_status};
 ghost use Rattle.idn2_cli.specs.declared.mode.Mode.TheVariants as modes;
-ghost use Rattle.idn2_cli.specs.Ends.{Ends, Closes, refusal_of};
-ghost use Rattle.idn2_cli.specs.Sessions.{HasFinished, HasHalted};
-ghost use Rattle.idn2_cli.specs.declared.stop.Stop.TheVariants as stop;
+ghost use Rattle.idn2_cli.specs.Ends.{Does, Ends, Closes, mode_job, refusal_of};
 
 use crate::by_points::ByPoints;
 use crate::console::Console;
@@ -42,15 +38,17 @@ pub fn run<R: Source, W: Sink, E: Sink>(
     requires limits { IsWithinLimits options.now }
     requires unread { IsUnread input.old }
     ensures { (given : TableGiven) × IsTableOf options.now.mode table.now given
-        × Ends options.now given input.old input.new
-        (held (W.contents out.old) (W.has_failed out.old) (W.faults out.old) (E.contents err.old) (E.has_failed err.old) (E.faults err.old))
-        (held (W.contents out.new) (W.has_failed out.new) (W.faults out.new) (E.contents err.new) (E.has_failed err.new) (E.faults err.new)) result }
+        × Ends (mode_job options.now given) input.old input.new
+        (held (W.state out.old) (E.state err.old)) (held (W.state out.new) (E.state err.new)) result }
 {
     let mut console = Console {
         output: out,
         messages: err,
     };
-    serve(alloc, options, table, input, &mut console)
+    let status = serve(alloc, options, table, input, &mut console);
+    // Both writers are given back.
+    let (_output, _messages) = (console.output, console.messages);
+    status
 }
 
 /// The same over the two writers as one value.
@@ -63,11 +61,8 @@ fn serve<R: Source, W: Sink, E: Sink>(
 ) -> Status
     requires limits { IsWithinLimits options.now }
     requires unread { IsUnread input.old }
-    ensures ends { (given : TableGiven) × IsTableOf options.now.mode table.now given
-        × Ends options.now given input.old input.new
-        (held_by W.contents W.has_failed W.faults E.contents E.has_failed E.faults console.old)
-        (held_by W.contents W.has_failed W.faults E.contents E.has_failed E.faults console.new) result }
-    ensures same { HasSameWriters console.old console.new }
+    ensures { (given : TableGiven) × IsTableOf options.now.mode table.now given
+        × Ends (mode_job options.now given) input.old input.new console.old console.new result }
 {
     match serve_mode(alloc, options, table, input, console) {
         Ok(status) => status,
@@ -85,15 +80,8 @@ fn serve_mode<R: Source, W: Sink, E: Sink>(
 ) -> Result<Status, Stop>
     requires limits { IsWithinLimits options.now }
     requires unread { IsUnread input.old }
-    ensures ended { IfOk result (λ status. (given : TableGiven) × IsTableOf options.now.mode table.now given
-        × HasFinished options.now given input.old input.new
-        (held_by W.contents W.has_failed W.faults E.contents E.has_failed E.faults console.old)
-        (held_by W.contents W.has_failed W.faults E.contents E.has_failed E.faults console.new) status) }
-    ensures stopped { IfErr result (λ why. (given : TableGiven) × IsTableOf options.now.mode table.now given
-        × HasHalted options.now given why input.old input.new
-        (held_by W.contents W.has_failed W.faults E.contents E.has_failed E.faults console.old)
-        (held_by W.contents W.has_failed W.faults E.contents E.has_failed E.faults console.new)) }
-    ensures same { HasSameWriters console.old console.new }
+    ensures { (given : TableGiven) × IsTableOf options.now.mode table.now given
+        × Does (mode_job options.now given) input.old input.new console.old console.new result }
 {
     match options.mode {
         Mode::Lookup => {
@@ -118,15 +106,8 @@ fn serve_variants<R: Source, W: Sink, E: Sink>(
     requires limits { IsWithinLimits options.now }
     requires mode { options.now.mode ≡ modes.Variants }
     requires unread { IsUnread input.old }
-    ensures ended { IfOk result (λ status. (given : TableGiven) × IsTableOf options.now.mode text.now given
-        × HasFinished options.now given input.old input.new
-        (held_by W.contents W.has_failed W.faults E.contents E.has_failed E.faults console.old)
-        (held_by W.contents W.has_failed W.faults E.contents E.has_failed E.faults console.new) status) }
-    ensures stopped { IfErr result (λ why. (given : TableGiven) × IsTableOf options.now.mode text.now given
-        × HasHalted options.now given why input.old input.new
-        (held_by W.contents W.has_failed W.faults E.contents E.has_failed E.faults console.old)
-        (held_by W.contents W.has_failed W.faults E.contents E.has_failed E.faults console.new)) }
-    ensures same { HasSameWriters console.old console.new }
+    ensures { (given : TableGiven) × IsTableOf options.now.mode text.now given
+        × Does (mode_job options.now given) input.old input.new console.old console.new result }
 {
     let table = match read_table(alloc, text)? {
         Ok(table) => table,
@@ -145,11 +126,9 @@ fn serve_check<W: Sink, E: Sink>(
     text: &[u8],
     console: &mut Console<'_, '_, W, E>,
 ) -> Result<Status, Stop>
-    ensures checked { (given : TableGiven) × IsReadAs text.now given
-        × Emits (held_by W.contents W.has_failed W.faults E.contents E.has_failed E.faults console.old)
-        (held_by W.contents W.has_failed W.faults E.contents E.has_failed E.faults console.new) (check_pieces given) result
+    ensures { (given : TableGiven) × IsReadAs text.now given
+        × Emits console.old console.new (check_pieces given) result
         × IfOk result (λ status. status ≡ check_status given) }
-    ensures same { HasSameWriters console.old console.new }
 {
     match read_table(alloc, text)? {
         Ok(table) => check_table(alloc, &table, console),
@@ -159,14 +138,8 @@ fn serve_check<W: Sink, E: Sink>(
 
 /// Writes the last message of a run that stops, and gives its status.
 fn close<W: Sink, E: Sink>(why: Stop, console: &mut Console<'_, '_, W, E>) -> Status
-    ensures closes { (closing : List Piece) × Takes (held_by W.contents W.has_failed W.faults E.contents E.has_failed E.faults console.old)
-        (held_by W.contents W.has_failed W.faults E.contents E.has_failed E.faults console.new) closing
-        × Closes why (held_by W.contents W.has_failed W.faults E.contents E.has_failed E.faults console.old)
-        (held_by W.contents W.has_failed W.faults E.contents E.has_failed E.faults console.new) closing }
+    ensures closes { Closes why console.old console.new }
     ensures status { result ≡ closing_status (refusal_of why) }
-    ensures output { console.new.output.now ≡ console.old.output.now }
-    ensures still { why ≡ stop.Messages → console.new.messages.now ≡ console.old.messages.now }
-    ensures same { HasSameWriters console.old console.new }
 {
     if let Stop::Messages = why {
         return Status::Faulty;

@@ -5,7 +5,6 @@ ghost use Rattle.idn2_cli.specs.Pieces.{Message};
 ghost use Rattle.idn2_cli.specs.Tables.{IsReadAs, told_of};
 ghost use Rattle.idn2_cli.specs.Transcript.{table_message};
 ghost use Rattle.idn2_cli.specs.Emitting.{Emits};
-ghost use Rattle.idn2_cli.specs.Consoles.{held_by, HasSameWriters};
 ghost use Rattle.idn2_cli.specs.declared.status.Status.TheVariants as statuses;
 ghost use Rattle.idn2_cli.specs.declared.stop.Stop.TheVariants as stop;
 
@@ -51,11 +50,9 @@ pub(crate) fn refuse_table<W: Sink, E: Sink>(
     refusal: Refusal,
     console: &mut Console<'_, '_, W, E>,
 ) -> Result<Status, Stop>
-    ensures written { Emits (held_by W.contents W.has_failed W.faults E.contents E.has_failed E.faults console.old)
-        (held_by W.contents W.has_failed W.faults E.contents E.has_failed E.faults console.new) (Message (table_message line refusal) ∷ []) result }
+    ensures written { Emits console.old console.new (Message (table_message line refusal) ∷ []) result }
     ensures status { IfOk result (λ status. status ≡ statuses.Unusable) }
     ensures why { IfErr result (λ why. why ≡ stop.Messages) }
-    ensures same { HasSameWriters console.old console.new }
 {
     let message = table_message(line, &refusal);
     console.message(message.as_str().as_bytes())?;

@@ -9,7 +9,6 @@ ghost use Rattle.idn2_cli.specs.Blocks.{block, is_registrable};
 ghost use Rattle.idn2_cli.specs.LineAnswers.{variants_answer, listing_answer};
 ghost use Rattle.idn2_cli.specs.Transcript.{output_lines, pieces_for};
 ghost use Rattle.idn2_cli.specs.Emitting.{Emits};
-ghost use Rattle.idn2_cli.specs.Consoles.{held_by, HasSameWriters};
 
 use crate::answering::refuse;
 use crate::block::{is_reached, write_end, write_stop, write_variant};
@@ -63,11 +62,9 @@ fn list<W: Sink, E: Sink>(
     requires limits { IsWithinLimits options.now }
     requires table { IsWellFormed table.now }
     requires registrable { IsRegistrable label.now }
-    ensures written { Emits (held_by W.contents W.has_failed W.faults E.contents E.has_failed E.faults console.old)
-        (held_by W.contents W.has_failed W.faults E.contents E.has_failed E.faults console.new)
+    ensures written { Emits console.old console.new
         (pieces_for number (listing_answer options.now table.now label.now)) result }
     ensures refused { IfOk result (λ refused. refused ≡ is_err (listing_answer options.now table.now label.now)) }
-    ensures same { HasSameWriters console.old console.new }
 {
     match Net::build(alloc, table, label) {
         Ok(net) => {
@@ -103,10 +100,8 @@ fn write_block<W: Sink, E: Sink>(
 ) -> Result<(), Stop>
     requires limits { IsWithinLimits options.now }
     requires table { IsWellFormed net.now.table }
-    ensures written { Emits (held_by W.contents W.has_failed W.faults E.contents E.has_failed E.faults console.old)
-        (held_by W.contents W.has_failed W.faults E.contents E.has_failed E.faults console.new)
+    ensures { Emits console.old console.new
         (output_lines (block options.now net.now.table net.now.label)) result }
-    ensures same { HasSameWriters console.old console.new }
 {
     let mut cursor = Cursor::new(alloc, net, &options.after)?;
     let mut tries = options.tries;

@@ -1,20 +1,9 @@
-use Rattle.std.proofs.Common.{[], ◌∷◌, take, refl, subst, sym}
-use Rattle.std.proofs.lemmas.List.{append-nil}
-use Rattle.std.specs.Io.KnownBytes.{Appends}
-use Rattle.idn2_cli.specs.Pieces as pieces
-use Rattle.idn2_cli.proofs.Writing.{appends_nothing, breaks_off}
+use Rattle.idn2_cli.proofs.Writing.{writes_output, stops_output}
 use Rattle.idn2_cli.proofs.console.Console.output.Goals as goal
+use Rattle.idn2_cli.proofs.console.Console.output.Goals.{in-Ok, in-Err}
 
-pub returns-in-Err-clause-written : goal.returns-in-Err-clause-written
-returns-in-Err-clause-written g c =
-    let n = c.in-Err._fault.taken in
-    let text = c.args.text.now in
-    let fault = breaks_off pieces.Output text n c.in-Err.ensures.proper in (
-      pieces.Output (take n text) ∷ [],
-      record {
-        takes = record { output = subst (Appends _ _) (sym (append-nil (take n text))) c.in-Err.ensures.part; messages = appends_nothing _ };
-        output_faults = λ other. absurd (other refl);
-        messages_faults = λ _. refl;
-      },
-      (fault, c.in-Err.ensures.cause),
-    )
+pub returns-clause-written : goal.returns-clause-written
+returns-clause-written g c = rw (← c.self.view_is) (elim c.match-write_text.branch [
+  | in-Ok w ↦ rw w.result-is (writes_output _ _ c.args.text.now w.in-Ok.ensures.whole)
+  | in-Err w ↦ rw w.result-is (stops_output _ _ c.args.text.now w.in-Err._fault.taken w.in-Err.ensures.part)
+])
