@@ -13,6 +13,12 @@ mod listings;
 #[cfg(test)]
 mod row;
 #[cfg(test)]
+mod table_entries;
+#[cfg(test)]
+mod table_faults;
+#[cfg(test)]
+mod table_texts;
+#[cfg(test)]
 mod tables;
 #[cfg(test)]
 mod words;

@@ -6,7 +6,7 @@ ghost use Rattle.variant_table.specs.Reading.{Leaves, entry_from, with_new_sourc
 
 use crate::entries::Entries;
 use crate::entry::Entry;
-use crate::fault::{LineError, LineFault};
+use crate::fault::TableFault;
 use crate::sequences::Sequences;
 use std::alloc::Global;
 use std::cmp::Ordering;
@@ -65,21 +65,21 @@ impl Rows {
         }
     }
 
-    /// Adds the entry of these sequences, the source first, unless an entry has its source. An `Err`
-    /// changes nothing.
-    pub fn push(&mut self, sequences: &Sequences) -> Result<(), LineError>
+    /// Adds the entry of these sequences, the source first, which stand in the line of this number,
+    /// unless an entry has its source. An `Err` changes nothing.
+    pub fn push(&mut self, number: u64, sequences: &Sequences) -> Result<(), TableFault>
         requires some { 0 < length sequences.now }
         requires room { length self.old < 2 ^ 16 }
-        ensures read { Leaves result self.new (with_new_source self.old (entry_from sequences.now)) }
+        ensures read { Leaves number result self.new (with_new_source self.old (entry_from sequences.now)) }
         ensures err { OnErr result (self.new ≡ self.old) }
     {
         let Place::Absent(place) = search(&self.entries, &self.order, sequences.get(0)) else {
-            return Err(LineError::Fault(LineFault::SameSource));
+            return Err(TableFault::SameSource { line: number });
         };
-        let number = self.entries.len() as u16;
+        let entry = self.entries.len() as u16;
         self.order.reserve(1)?;
         self.entries.push(sequences)?;
-        self.order.insert(place, number).unwrap();
+        self.order.insert(place, entry).unwrap();
         Ok(())
     }
 }
