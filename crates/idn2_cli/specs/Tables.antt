@@ -4,8 +4,8 @@ use Rattle.idn_text.specs.declared.refusal.Refusal.{Refusal}
 use Rattle.idn_text.specs.declared.refusal.Refusal.TheVariants as refusals
 use Rattle.variant_table.specs.Entries.{Entry}
 use Rattle.variant_table.specs.Texts.{IsTextOf, IsFaultOf}
-use Rattle.variant_table.specs.declared.fault.LineFault.{LineFault}
-use Rattle.variant_table.specs.declared.fault.LineFault.TheVariants as faults
+use Rattle.variant_table.specs.Faults.{LineFault}
+use Rattle.variant_table.specs.Faults as faults
 use Rattle.variant_table.specs.declared.fault.TableFault.{TableFault}
 use Rattle.variant_table.specs.declared.fault.TableFault.TheVariants as tables
 use Rattle.idn2_cli.specs.declared.mode.Mode.{Mode}

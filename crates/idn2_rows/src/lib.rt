@@ -31,6 +31,12 @@ mod row;
 #[cfg(test)]
 mod spelled;
 #[cfg(test)]
+mod table_entries;
+#[cfg(test)]
+mod table_faults;
+#[cfg(test)]
+mod table_texts;
+#[cfg(test)]
 mod tables;
 #[cfg(test)]
 mod utf8;

@@ -1,13 +1,15 @@
 -- The order of a table's sources.
-use Rattle.std.proofs.Common.{◌≡◌, inl, inr, ℕ, zero, suc, ◌+◌, ◌-◌, ◌<◌, ◌≤◌, Bool, true, false, ◌||◌, cond, List, [], ◌∷◌, ◌++◌, length, get_or, Option, Some, None, refl, sym, ap, subst, ◌∙◌, arith, add-one, length-append}
-use Rattle.std.specs.Prelude.{bytes_eq, slice_get, find, is_some, IsPermutation}
-use Rattle.std.specs.Ordering.{nat_cmp, ordering_reverse}
+use Rattle.std.proofs.Common.{◌≡◌, inl, inr, ℕ, zero, suc, ◌+◌, ◌-◌, ◌<◌, ◌≤◌, Bool, true, false, ◌||◌, ◌&&◌, cond, List, [], ◌∷◌, ◌++◌, length, get_or, Option, Some, None, refl, sym, ap, subst, ◌∙◌, arith, add-one, length-append}
+use Rattle.std.specs.Prelude.{bytes_eq, nat_eq, nat_lt, slice_get, find, is_some, IsPermutation}
+use Rattle.std.specs.Ordering.{nat_cmp, ordering_reverse, ordering_then}
 use Rattle.std.specs.declared.cmp.Ordering.{Ordering}
 use Rattle.std.specs.declared.cmp.Ordering.TheVariants.{Less, Equal, Greater}
-use Rattle.std.specs.Cmp.Lexicographic.{slice_cmp}
-use Rattle.std.specs.List.{AllByRecursion, AllPairs, Contains, insert, list_any, range_with_len}
-use Rattle.std.proofs.lemmas.Bool.{cases_lt, cases_order}
-use Rattle.std.proofs.lemmas.Cmp.{nat_list_cmp_total, tied_itself}
+use Rattle.std.specs.Cmp.Lexicographic.{slice_cmp, pointwise}
+use Rattle.std.specs.List.{AllByRecursion, AllPairs, Contains, insert, list_any, range_with_len, starts_with}
+use Rattle.std.proofs.lemmas.Bool.{cases_lt, cases_order, lt-ltb}
+use Rattle.std.proofs.lemmas.Bool.Decides.{nat_tests}
+use Rattle.std.proofs.Math.Seq.{take-append_seam}
+use Rattle.std.proofs.lemmas.Cmp.{nat_cmp_total, nat_list_cmp_total, nat_list_eq_equiv, tied_itself}
 use Rattle.std.proofs.lemmas.List.{get_or_default, get_or-append_right, get_or_append_left}
 use Rattle.std.proofs.lemmas.List.Edits.{length-insert, get_or-insert_at, get_or-insert_below, get_or-insert_above}
 use Rattle.std.proofs.lemmas.List.Elements.{All-get_or, All-from_recursion}
@@ -15,7 +17,7 @@ use Rattle.std.proofs.lemmas.List.FromFn.{length-range_with_len, get_or-range_wi
 use Rattle.std.proofs.lemmas.List.Sorted.{All-permutation, Contains-permutation, length_permutation, IsPermutation-insert, IsPermutation-push_more}
 use Rattle.variant_table.specs.Entries.{Entry}
 use Rattle.variant_table.specs.Conditions.{has_source_in}
-use Rattle.variant_table.specs.Order.{source_at, IsOrderOf, IsGapFor}
+use Rattle.variant_table.specs.Order.{source_at, IsOrderOf, IsGapFor, begins_at, HasNoLonger}
 use Rattle.variant_table.specs.Places.{entry_with}
 use Rattle.variant_table.specs.Reading.{entry_from}
 use Rattle.variant_table.proofs.BeginningLemmas.{entry_with-found, entry_with-of}
@@ -37,6 +39,9 @@ flipped r s g = nat_list_cmp_total.antisymm s r ∙ ap ordering_reverse g
 
 less_both : (r s t : List ℕ) → source_cmp r s ≡ Less → source_cmp s t ≡ Less → source_cmp r t ≡ Less
 less_both r s t a b = nat_list_cmp_total.trans r s t a b
+
+both_less : (r s : List ℕ) → source_cmp r s ≡ Less → source_cmp s r ≡ Less → ⊥
+both_less r s a b = not_less r r refl (less_both r s r a b)
 
 -- the element that is read
 read : (xs : List Entry) (i : ℕ) (x d : Entry) → slice_get xs i ≡ Some x → get_or xs i d ≡ x
@@ -122,6 +127,75 @@ module _ (table : List Entry) (order : List ℕ) (h : IsOrderOf table order) whe
       by_cases : (o : Option Entry) → entry_with table s ≡ o → entry_with table s ≡ None
       by_cases None e = e
       by_cases (Some x) e = let r = entry_with-found table s x e in absurd (none x r.0 r.1)
+
+-- ---- sources that begin with a sequence
+
+-- a list followed by others is less than with them
+less_longer : (s : List ℕ) (c : ℕ) (rest : List ℕ) → source_cmp s (s ++ c ∷ rest) ≡ Less
+less_longer [] c rest = refl
+less_longer (x ∷ s) c rest = ap (λ o. ordering_then o (source_cmp s (s ++ c ∷ rest))) (tied_itself nat_cmp_total x) ∙ less_longer s c rest
+
+-- what stands between a list and a longer one that begins with it begins with it too
+between : (s x rest : List ℕ) → source_cmp s x ≡ Less → source_cmp x (s ++ rest) ≡ Less → (r : List ℕ) × (x ≡ s ++ r)
+between [] x rest a b = (x, refl)
+between (c ∷ s) [] rest a b = absurd (let z : Greater ≡ Less = a in cc)
+between (c ∷ s) (d ∷ x) rest a b = elim (cases_order c d) [
+  | inl same ↦
+      let tied : nat_cmp c d ≡ Equal = ap (nat_cmp c) (sym same) ∙ tied_itself nat_cmp_total c in
+      let tied' : nat_cmp d c ≡ Equal = ap (nat_cmp d) same ∙ tied_itself nat_cmp_total d in
+      let more = between s x rest (sym (ap (λ o. ordering_then o (source_cmp s x)) tied) ∙ a) (sym (ap (λ o. ordering_then o (source_cmp x (s ++ rest))) tied') ∙ b) in
+      (more.0, ap (λ h. h ∷ x) (sym same) ∙ ap (λ t. c ∷ t) more.1)
+  | inr (inl below) ↦ absurd (let z : Greater ≡ Less = sym (ap (λ o. ordering_then o (source_cmp x (s ++ rest))) (greater c d below)) ∙ b in cc)
+  | inr (inr above) ↦ absurd (let z : Greater ≡ Less = sym (ap (λ o. ordering_then o (source_cmp s x)) (greater d c above)) ∙ a in cc)
+]
+  where
+    greater : (m n : ℕ) → m < n → nat_cmp n m ≡ Greater
+    greater m n l = grind (arith, nat_tests)
+
+begins : (s r : List ℕ) → starts_with nat_eq (s ++ r) s ≡ true
+begins s r = ap (pointwise nat_eq s) (take-append_seam s r) ∙ nat_list_eq_equiv.refl s
+
+module _ (table : List Entry) (order : List ℕ) (h : IsOrderOf table order) (s : List ℕ) (p : ℕ)
+    (before : (i : ℕ) → i < p → source_cmp s (source_at table order i) ≡ Less → ⊥)
+    (here : p < length order → source_cmp s (source_at table order p) ≡ Less)
+    (none : begins_at table order p s ≡ false) where
+  not_at : p < length order → (r : List ℕ) → source_at table order p ≡ s ++ r → ⊥
+  not_at l r is = contradicts (ap (λ x. starts_with nat_eq x s) is ∙ begins s r) (second_false (nat_lt p (length order)) (starts_with nat_eq (source_at table order p) s) (lt-ltb p (length order) l) none)
+    where
+      second_false : (a b : Bool) → a ≡ true → (a && b) ≡ false → b ≡ false
+      second_false true b e f = f
+      second_false false b e f = absurd cc
+
+      contradicts : {b : Bool} → b ≡ true → b ≡ false → ⊥
+      contradicts e f = let z : true ≡ false = sym e ∙ f in cc
+
+  pub no_longer : HasNoLonger table s
+  no_longer e c rest (n, l, at) is =
+      let q = place_of table order h n l in
+      let own : source_at table order q.0 ≡ s ++ c ∷ rest = source-placed table order h n q.0 e l q.2 ∙ ap (λ x. x.source) at ∙ is in
+      elim (cases_order p q.0) [
+        | inl same ↦ not_at (omega (arith, same, q.1)) (c ∷ rest) (ap (source_at table order) same ∙ own)
+        | inr (inl below) ↦
+            let within : p < length order = omega (arith, below, q.1) in
+            let part = between s (source_at table order p) (c ∷ rest) (here within) (ap (source_cmp (source_at table order p)) (sym own) ∙ h.rising p q.0 below q.1) in
+            not_at within part.0 part.1
+        | inr (inr above) ↦ before q.0 above (ap (source_cmp s) own ∙ less_longer s c rest)
+      ]
+
+-- behind the place where the sequence stands
+pub no_longer-found : (table : List Entry) (order : List ℕ) (place : ℕ) (s : List ℕ) → IsOrderOf table order → place < length order → source_at table order place ≡ s → begins_at table order (place + 1) s ≡ false → HasNoLonger table s
+no_longer-found table order place s h l is = no_longer table order h s (place + 1) before (λ m. ap (λ r. source_cmp r (source_at table order (place + 1))) (sym is) ∙ h.rising place (place + 1) (omega arith) m)
+  where
+    before : (i : ℕ) → i < place + 1 → source_cmp s (source_at table order i) ≡ Less → ⊥
+    before i m less = elim (cases_order i place) [
+      | inl same ↦ not_less s (source_at table order i) (sym is ∙ ap (source_at table order) (sym same)) less
+      | inr (inl below) ↦ both_less (source_at table order i) s (ap (source_cmp (source_at table order i)) (sym is) ∙ h.rising i place below l) less
+      | inr (inr above) ↦ omega (arith, m, above)
+    ]
+
+-- at the place where it would stand
+pub no_longer-gap : (table : List Entry) (order : List ℕ) (place : ℕ) (s : List ℕ) → IsOrderOf table order → IsGapFor table order s place → begins_at table order place s ≡ false → HasNoLonger table s
+no_longer-gap table order place s h gap = no_longer table order h s place (λ i l less. both_less (source_at table order i) s (gap.before i l) less) (λ l. flipped (source_at table order place) s (gap.behind place (omega arith) l))
 
 -- ---- whether a source is known
 

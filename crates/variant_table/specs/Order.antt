@@ -1,9 +1,9 @@
 -- The order of a table's sources.
-use Rattle.std.specs.Prelude.{◌≡◌, ℕ, ◌<◌, ◌≤◌, List, [], length, slice_index, slice_index_or, IsPermutation}
+use Rattle.std.specs.Prelude.{◌≡◌, ℕ, ◌<◌, ◌≤◌, Bool, ◌&&◌, nat_lt, nat_eq, List, [], ◌∷◌, ◌++◌, length, slice_index, slice_index_or, Contains, IsPermutation}
 use Rattle.std.specs.Ordering.{nat_cmp}
 use Rattle.std.specs.declared.cmp.Ordering.TheVariants.{Less, Greater}
 use Rattle.std.specs.Cmp.Lexicographic.{slice_cmp}
-use Rattle.std.specs.List.{range_with_len}
+use Rattle.std.specs.List.{range_with_len, starts_with}
 use Rattle.variant_table.specs.declared.rows.Place.{Place}
 use Rattle.variant_table.specs.declared.rows.Place.TheVariants.{Found, Absent}
 use Rattle.variant_table.specs.Entries.{Entry}
@@ -28,3 +28,11 @@ pub record IsGapFor (table : List Entry) (order : List ℕ) (source : List ℕ) 
 abbrev pub IsPlaceFor : List Entry → List ℕ → List ℕ → Place → Type 0
 IsPlaceFor table order source (Found place) = (place < length order) × (source_at table order place ≡ source)
 IsPlaceFor table order source (Absent place) = IsGapFor table order source place
+
+-- there is a source at the place that begins with the sequence
+abbrev pub begins_at : List Entry → List ℕ → ℕ → List ℕ → Bool
+begins_at table order place s = nat_lt place (length order) && starts_with nat_eq (source_at table order place) s
+
+-- no source is longer than the sequence and begins with it
+abbrev pub HasNoLonger : List Entry → List ℕ → Type 0
+HasNoLonger table s = (e : Entry) (c : ℕ) (rest : List ℕ) → Contains table e → e.source ≡ s ++ c ∷ rest → ⊥

@@ -23,6 +23,3 @@ pub use entry::Entry;
 pub use fault::TableFault;
 pub use places::EntriesAt;
 pub use table::Table;
-
-#[cfg(test)]
-mod tests;

@@ -1,12 +1,12 @@
 //! Entries with different sources, and the order of their sources.
-ghost use Rattle.std.specs.Prelude.{◌≡◌, ◌<◌, ◌^◌, [], length, slice_get, Some, OnErr};
-ghost use Rattle.variant_table.specs.Order.{IsOrderOf, IsPlaceFor};
+ghost use Rattle.std.specs.Prelude.{◌≡◌, ◌<◌, ◌^◌, [], length, slice_get, Some, OnErr, false};
+ghost use Rattle.variant_table.specs.Order.{IsOrderOf, IsPlaceFor, begins_at as begins_at_place, HasNoLonger};
 ghost use Rattle.variant_table.specs.Places.{entry_with};
 ghost use Rattle.variant_table.specs.Reading.{Leaves, entry_from, with_new_source};
 
 use crate::entries::Entries;
 use crate::entry::Entry;
-use crate::fault::{LineError, LineFault};
+use crate::fault::TableFault;
 use crate::sequences::Sequences;
 use std::alloc::Global;
 use std::cmp::Ordering;
@@ -59,29 +59,52 @@ impl Rows {
     pub fn find(&self, source: &[u32]) -> Option<Entry<'_>>
         ensures { result ≡ entry_with self.now source.now }
     {
+        self.look_up(source).entry
+    }
+
+    /// The entry with this source, and whether there may be sources that begin with it.
+    pub fn look_up(&self, source: &[u32]) -> LookUp<'_>
+        ensures entry { result.entry ≡ entry_with self.now source.now }
+        ensures longer { result.has_longer ≡ false → HasNoLonger self.now source.now }
+    {
         match search(&self.entries, &self.order, source) {
-            Place::Found(place) => Some(self.entries.get(self.order[place] as usize)),
-            Place::Absent(_) => None,
+            Place::Found(place) => LookUp {
+                entry: Some(self.entries.get(self.order[place] as usize)),
+                has_longer: begins_at(&self.entries, &self.order, place + 1, source),
+            },
+            Place::Absent(place) => LookUp {
+                entry: None,
+                has_longer: begins_at(&self.entries, &self.order, place, source),
+            },
         }
     }
 
-    /// Adds the entry of these sequences, the source first, unless an entry has its source. An `Err`
-    /// changes nothing.
-    pub fn push(&mut self, sequences: &Sequences) -> Result<(), LineError>
+    /// Adds the entry of these sequences, the source first, which stand in the line of this number,
+    /// unless an entry has its source. An `Err` changes nothing.
+    pub fn push(&mut self, number: u64, sequences: &Sequences) -> Result<(), TableFault>
         requires some { 0 < length sequences.now }
         requires room { length self.old < 2 ^ 16 }
-        ensures read { Leaves result self.new (with_new_source self.old (entry_from sequences.now)) }
+        ensures read { Leaves number result self.new (with_new_source self.old (entry_from sequences.now)) }
         ensures err { OnErr result (self.new ≡ self.old) }
     {
         let Place::Absent(place) = search(&self.entries, &self.order, sequences.get(0)) else {
-            return Err(LineError::Fault(LineFault::SameSource));
+            return Err(TableFault::SameSource { line: number });
         };
-        let number = self.entries.len() as u16;
+        let entry = self.entries.len() as u16;
         self.order.reserve(1)?;
         self.entries.push(sequences)?;
-        self.order.insert(place, number).unwrap();
+        self.order.insert(place, entry).unwrap();
         Ok(())
     }
+}
+
+/// What the sources have of a sequence.
+#[derive(Drop)]
+pub struct LookUp<'a> {
+    /// The entry whose source it is.
+    pub entry: Option<Entry<'a>>,
+    /// Whether a longer source begins with it.
+    pub has_longer: bool,
 }
 
 /// Where a source stands in the order of the sources.
@@ -111,4 +134,16 @@ fn search(entries: &Entries, order: &[u16], source: &[u32]) -> Place
         place = low + (high - low) / 2;
     }
     Place::Absent(low)
+}
+
+/// Whether there is a source at this place of the order that begins with a sequence.
+fn begins_at(entries: &Entries, order: &[u16], place: usize, sequence: &[u32]) -> bool
+    requires { IsOrderOf entries.now order.now }
+    ensures { result ≡ begins_at_place entries.now order.now place sequence.now }
+{
+    place < order.len()
+        && entries
+            .get(order[place] as usize)
+            .source()
+            .starts_with(sequence)
 }
