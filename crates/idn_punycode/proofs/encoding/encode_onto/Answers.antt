@@ -1,4 +1,4 @@
-use Rattle.std.proofs.Common.{◌≡◌, ◌+◌, ◌-◌, ◌<◌, ◌≤◌, ◌++◌, ◌∷◌, [], List, ℕ, length, length-append, append_assoc, ap, ◌∙◌, refl, arith}
+use Rattle.std.proofs.Common.{◌≡◌, ◌-◌, ◌++◌, ◌∷◌, [], List, ℕ, length, length-append, append_assoc, ap, ◌∙◌, refl, arith}
 use Rattle.idna.specs.Punycode.{below, encode}
 use Rattle.idn_punycode.proofs.ResultLemmas.{OnErr-always}
 use Rattle.idn_punycode.proofs.EncodingSteps.{Encodes-basic, Encodes-no_basic, encode-longer, encode-basic_le}
