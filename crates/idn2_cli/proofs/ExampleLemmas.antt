@@ -27,7 +27,7 @@ use Rattle.idn_text.specs.Lines.{lines_of}
 use Rattle.idn2_cli.specs.Pieces.{Output, Message}
 use Rattle.idn2_cli.specs.LineAnswers.{one_line}
 use Rattle.idn2_cli.specs.Transcript.{lines_pieces, has_refused, status_if}
-use Rattle.idn2_cli.specs.declared.status.Status.TheVariants.{Refused}
+use Rattle.idn2_cli.specs.declared.session.status.Status.TheVariants.{Refused}
 use Rattle.idn2_cli.specs.Examples.{ExamplesOfBlocks, ExamplesOfTranscripts, listing, three_lines}
 
 -- ---- labels of lower-case letters, digits and hyphens

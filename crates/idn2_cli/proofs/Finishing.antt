@@ -12,11 +12,11 @@ use Rattle.idn2_cli.specs.Faults.{TakesText, closing_message}
 use Rattle.idn2_cli.specs.Transcript.{check_pieces, check_status}
 use Rattle.idn2_cli.specs.Emitting.{Emits}
 use Rattle.idn2_cli.specs.Ends.{Job, Does, Closes, mode_job, refusal_of}
-use Rattle.idn2_cli.specs.declared.mode.Mode.{Mode}
-use Rattle.idn2_cli.specs.declared.mode.Mode.TheVariants.{Variants, CheckTable}
-use Rattle.idn2_cli.specs.declared.status.Status.{Status}
-use Rattle.idn2_cli.specs.declared.stop.Stop.{Stop}
-use Rattle.idn2_cli.specs.declared.stop.Stop.TheVariants as stop
+use Rattle.idn2_cli.specs.declared.command_line.mode.Mode.{Mode}
+use Rattle.idn2_cli.specs.declared.command_line.mode.Mode.TheVariants.{Variants, CheckTable}
+use Rattle.idn2_cli.specs.declared.session.status.Status.{Status}
+use Rattle.idn2_cli.specs.declared.session.stop.Stop.{Stop}
+use Rattle.idn2_cli.specs.declared.session.stop.Stop.TheVariants as stop
 use Rattle.idn2_cli.proofs.Writing.{stops_first}
 use Rattle.idn2_cli.proofs.Sessions.{stands_cut}
 use Rattle.idn2_cli.proofs.TableLemmas.{some_table}

@@ -6,9 +6,9 @@ use Rattle.idn2_cli.specs.Pieces.{Piece}
 use Rattle.idn2_cli.specs.Held.{Held, Takes, Writes, held}
 use Rattle.idn2_cli.specs.Emitting.{WritesUntil}
 use Rattle.idn2_cli.specs.Ends.{Job, Does, Stands, Closes, Ends}
-use Rattle.idn2_cli.specs.declared.status.Status.{Status}
-use Rattle.idn2_cli.specs.declared.stop.Stop.{Stop}
-use Rattle.idn2_cli.specs.declared.stop.Stop.TheVariants as stop
+use Rattle.idn2_cli.specs.declared.session.status.Status.{Status}
+use Rattle.idn2_cli.specs.declared.session.stop.Stop.{Stop}
+use Rattle.idn2_cli.specs.declared.session.stop.Stop.TheVariants as stop
 
 -- what two writers hold, and not by which loans
 abbrev plain : Held → Held

@@ -8,8 +8,8 @@ use Rattle.idn2_cli.specs.Held.{Held}
 use Rattle.idn2_cli.specs.LineAnswers.{LineAnswer}
 use Rattle.idn2_cli.specs.Transcript.{pieces_for}
 use Rattle.idn2_cli.specs.Emitting.{Emits}
-use Rattle.idn2_cli.specs.declared.stop.Stop.{Stop}
-use Rattle.idn2_cli.specs.declared.stop.Stop.TheVariants as stop
+use Rattle.idn2_cli.specs.declared.session.stop.Stop.{Stop}
+use Rattle.idn2_cli.specs.declared.session.stop.Stop.TheVariants as stop
 use Rattle.idn2_cli.proofs.Writing.{stops, cut_before}
 
 is_memory : (refusal : Refusal) → (refusal ≡ Memory) ⊎ (refusal ≢ Memory)

@@ -13,11 +13,11 @@ use Rattle.idn2_cli.specs.Tables.{TableGiven}
 use Rattle.idn2_cli.specs.Faults.{TakesText, closing_message, closing_status}
 use Rattle.idn2_cli.specs.LineAnswers.{LineAnswer}
 use Rattle.idn2_cli.specs.Transcript.{lines_pieces, has_refused, status_if, transcript, status_of}
-use Rattle.idn2_cli.specs.declared.mode.Mode.{Mode}
-use Rattle.idn2_cli.specs.declared.mode.Mode.TheVariants.{CheckTable}
-use Rattle.idn2_cli.specs.declared.stop.Stop.{Stop}
-use Rattle.idn2_cli.specs.declared.stop.Stop.TheVariants as stop
-use Rattle.idn2_cli.specs.declared.status.Status.{Status}
+use Rattle.idn2_cli.specs.declared.command_line.mode.Mode.{Mode}
+use Rattle.idn2_cli.specs.declared.command_line.mode.Mode.TheVariants.{CheckTable}
+use Rattle.idn2_cli.specs.declared.session.stop.Stop.{Stop}
+use Rattle.idn2_cli.specs.declared.session.stop.Stop.TheVariants as stop
+use Rattle.idn2_cli.specs.declared.session.status.Status.{Status}
 
 -- ---- what is to be done
 

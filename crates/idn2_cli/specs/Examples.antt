@@ -11,9 +11,9 @@ use Rattle.idn2_cli.specs.Blocks.{block, nth, nth_if_given, lesser, up_to, trail
 use Rattle.idn2_cli.specs.LineAnswers.{LineAnswer, line_answer}
 use Rattle.idn2_cli.specs.Transcript.{line_message, table_message, table_line, transcript, status_of}
 use Rattle.idn2_cli.specs.Words.{Answer, options_of, chosen, bad}
-use Rattle.idn2_cli.specs.declared.mode.Mode.{Mode}
-use Rattle.idn2_cli.specs.declared.mode.Mode.TheVariants.{Lookup, Register, Variants}
-use Rattle.idn2_cli.specs.declared.status.Status.TheVariants.{Refused}
+use Rattle.idn2_cli.specs.declared.command_line.mode.Mode.{Mode}
+use Rattle.idn2_cli.specs.declared.command_line.mode.Mode.TheVariants.{Lookup, Register, Variants}
+use Rattle.idn2_cli.specs.declared.session.status.Status.TheVariants.{Refused}
 
 -- sss, sß and ßs
 abbrev pub three : List (List ℕ)

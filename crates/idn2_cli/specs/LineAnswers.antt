@@ -11,8 +11,8 @@ use Rattle.idn_label.specs.Lookup.{lookup_answer, query_name}
 use Rattle.variant_table.specs.Entries.{Entry}
 use Rattle.variant_list.specs.Spelled.{spelled}
 use Rattle.idn2_cli.specs.Settings.{Settings}
-use Rattle.idn2_cli.specs.declared.mode.Mode.{Mode}
-use Rattle.idn2_cli.specs.declared.mode.Mode.TheVariants.{Lookup, Register, Decode, Variants, CheckTable}
+use Rattle.idn2_cli.specs.declared.command_line.mode.Mode.{Mode}
+use Rattle.idn2_cli.specs.declared.command_line.mode.Mode.TheVariants.{Lookup, Register, Decode, Variants, CheckTable}
 use Rattle.idn2_cli.specs.Blocks.{block}
 
 -- the lines of an answer without their line feeds, or why there is none

@@ -8,8 +8,8 @@ use Rattle.variant_table.specs.declared.fault.LineFault.{LineFault}
 use Rattle.variant_table.specs.declared.fault.LineFault.TheVariants as faults
 use Rattle.variant_table.specs.declared.fault.TableFault.{TableFault}
 use Rattle.variant_table.specs.declared.fault.TableFault.TheVariants as tables
-use Rattle.idn2_cli.specs.declared.mode.Mode.{Mode}
-use Rattle.idn2_cli.specs.declared.mode.Mode.TheVariants.{Variants, CheckTable}
+use Rattle.idn2_cli.specs.declared.command_line.mode.Mode.{Mode}
+use Rattle.idn2_cli.specs.declared.command_line.mode.Mode.TheVariants.{Variants, CheckTable}
 
 -- the entries of a table, or the line of its first fault, from 1, and the fault
 abbrev pub TableGiven : Type 0

@@ -13,10 +13,10 @@ use Rattle.idn2_cli.specs.Settings.{Settings}
 use Rattle.idn2_cli.specs.Pieces.{Piece, Output, Message}
 use Rattle.idn2_cli.specs.Tables.{TableGiven}
 use Rattle.idn2_cli.specs.LineAnswers.{LineAnswer, mode_answer, line_answer}
-use Rattle.idn2_cli.specs.declared.mode.Mode.{Mode}
-use Rattle.idn2_cli.specs.declared.mode.Mode.TheVariants.{CheckTable}
-use Rattle.idn2_cli.specs.declared.status.Status.{Status}
-use Rattle.idn2_cli.specs.declared.status.Status.TheVariants.{Clean, Refused, Unusable}
+use Rattle.idn2_cli.specs.declared.command_line.mode.Mode.{Mode}
+use Rattle.idn2_cli.specs.declared.command_line.mode.Mode.TheVariants.{CheckTable}
+use Rattle.idn2_cli.specs.declared.session.status.Status.{Status}
+use Rattle.idn2_cli.specs.declared.session.status.Status.TheVariants.{Clean, Refused, Unusable}
 
 -- ---- messages
 
