@@ -17,8 +17,6 @@ mod laws;
 mod mark;
 mod neighbor;
 mod stability;
-#[cfg(test)]
-mod tests;
 
 pub use bidi::bidi_ok;
 pub use bidi_class::BidiClass;

@@ -127,6 +127,3 @@ fn count_at(matches: &ArgMatches<'_>, name: &str) -> Option<u64>
 {
     count_of(value_of(matches, name)?)
 }
-
-#[cfg(test)]
-mod tests;

@@ -39,6 +39,3 @@ fn status_of(refusal: &Refusal) -> Status
         _ => Status::Unusable,
     }
 }
-
-#[cfg(test)]
-mod tests;

@@ -1,5 +1,6 @@
-use super::*;
-use crate::command_line::strings::input_text;
+//! What the words of the command line ask for: options, help, the version, or nothing that can be done.
+use idn2_cli::{Options, Usage, input_text, read_options};
+use std::alloc::{AllocError, Global};
 use std::test::Fail;
 use unicode::UNICODE_VERSION;
 
@@ -40,7 +41,7 @@ Status:
   4  memory ran out
 ";
 
-// The options of a command line, which is written with `|` between its words.
+/// The options of a command line, which is written with `|` between its words.
 fn read(alloc: Global, line: &str) -> Result<Options, Usage> {
     let words = words_of(alloc, line)?;
     read_options(alloc, words.as_slice())
@@ -61,7 +62,7 @@ fn input_of(alloc: Global, options: &Options) -> Result<String, AllocError> {
     }
 }
 
-// What a command line asks for, in one line.
+/// What a command line asks for, in one line.
 fn summary_of(alloc: Global, line: &str) -> Result<String, AllocError> {
     match read(alloc, line) {
         Ok(options) => {
@@ -84,7 +85,7 @@ fn summary_of(alloc: Global, line: &str) -> Result<String, AllocError> {
 }
 
 #[test]
-fn options_that_are_read(rt: HostRuntime) -> Result<(), Fail> {
+fn read_as_options(rt: HostRuntime) -> Result<(), Fail> {
     let rows = [
         ("idn2", "Lookup false \"\" [] None 1000000 \"none\""),
         (
@@ -144,7 +145,7 @@ fn options_that_are_read(rt: HostRuntime) -> Result<(), Fail> {
 }
 
 #[test]
-fn words_that_are_refused(rt: HostRuntime) -> Result<(), Fail> {
+fn refused(rt: HostRuntime) -> Result<(), Fail> {
     let rows = [
         "idn2|-r|-d|x",
         "idn2|-l|-d|x",
@@ -157,6 +158,7 @@ fn words_that_are_refused(rt: HostRuntime) -> Result<(), Fail> {
         "idn2|--check-table|t|x",
         "idn2|--check-table|t|",
         "idn2|--after|a|x",
+        "idn2|--after||x",
         "idn2|--limit|1|x",
         "idn2|-r|--tries|1|x",
         "idn2|--variants|t|--limit|0|x",
@@ -182,19 +184,19 @@ fn words_that_are_refused(rt: HostRuntime) -> Result<(), Fail> {
 }
 
 #[test]
-fn starts_at_the_limit(rt: HostRuntime) -> Result<(), Fail> {
+fn longest_start(rt: HostRuntime) -> Result<(), Fail> {
     let longest = "a".repeat(rt.alloc(), 1_024)?;
     let line = format!(in rt.alloc(); "idn2|--variants|t|x|--after|{longest}")?;
-    let options = read(rt.alloc(), line.as_str()).ok().ok_or("refused")?;
+    let options = read(rt.alloc(), line.as_str())?;
     assert_eq!(rt; options.after.len(), 1_024);
     let line = format!(in rt.alloc(); "idn2|--variants|t|x|--after|{longest}a")?;
     let got = summary_of(rt.alloc(), line.as_str())?;
-    assert_eq!(rt; got.as_str(), "bad");
+    assert_eq!(rt; got.as_str(), "bad", "a start of 1,025 bytes");
     Ok(())
 }
 
 #[test]
-fn texts_that_are_shown(rt: HostRuntime) -> Result<(), Fail> {
+fn shown_as_text(rt: HostRuntime) -> Result<(), Fail> {
     let lines = [
         "idn2|-h",
         "idn2|--help|x",
