@@ -2,9 +2,8 @@
 
 ghost use Rattle.std.specs.Prelude.{◌≡◌, ◌≢◌, ◌≤◌, ℕ, List, [], ◌∷◌, length, IfOk, IfErr, Err, true, false};
 ghost use Rattle.std.specs.Result.{is_err};
-ghost use Rattle.idn2_cli.specs.LineAnswers.{LineAnswer, text_answer};
-ghost use Rattle.idn2_cli.specs.Pieces.{Output};
-ghost use Rattle.idn2_cli.specs.Transcript.{pieces_for};
+ghost use Rattle.idn2_cli.specs.Answers.{LineAnswer, text_answer};
+ghost use Rattle.idn2_cli.specs.Transcript.{Output, pieces_for};
 ghost use Rattle.idn2_cli.specs.Emitting.{Emits};
 ghost use Rattle.idn2_cli.specs.declared.session.stop.Stop.TheVariants as stop;
 

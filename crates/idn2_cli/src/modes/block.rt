@@ -5,9 +5,9 @@ ghost use Rattle.idn_text.specs.Points.{AreScalarValues};
 ghost use Rattle.idn_label.specs.FirstFault.{IsRegistrable};
 ghost use Rattle.variant_table.specs.WellFormed.{IsWellFormed};
 ghost use Rattle.idn2_cli.specs.Settings.{IsWithinLimits};
-ghost use Rattle.idn2_cli.specs.Transcript.{output_lines};
-ghost use Rattle.idn2_cli.specs.Pieces.{Output};
-ghost use Rattle.idn2_cli.specs.Blocks.{block, is_registrable, variant_line, trailer, reaches};
+ghost use Rattle.idn2_cli.specs.Transcript.{output_lines, Output};
+ghost use Rattle.idn2_cli.specs.Answers.{block, is_registrable, variant_line, trailer};
+ghost use Rattle.idn2_cli.specs.Inner.{reaches};
 ghost use Rattle.idn2_cli.specs.Emitting.{Emits};
 ghost use Rattle.idn2_cli.specs.declared.session.stop.Stop.TheVariants as stop;
 

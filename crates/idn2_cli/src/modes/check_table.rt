@@ -3,7 +3,7 @@
 ghost use Rattle.std.specs.Prelude.{◌≡◌, ◌≤◌, ◌==◌, ◌++◌, ◌∷◌, [], not, length, map, IfOk, IfErr};
 ghost use Rattle.idn_text.specs.Points.{AreScalarValues};
 ghost use Rattle.variant_table.specs.Gaps.{gaps_of, pairs_of};
-ghost use Rattle.idn2_cli.specs.Gaps.{HoldSequences};
+ghost use Rattle.idn2_cli.specs.Inner.{HoldSequences};
 ghost use Rattle.idn2_cli.specs.Transcript.{gap_line, table_line, check_lines, output_lines, status_if};
 ghost use Rattle.idn2_cli.specs.Emitting.{Emits};
 ghost use Rattle.idn2_cli.specs.declared.session.stop.Stop.TheVariants as stop;

@@ -3,7 +3,7 @@
 ghost use Rattle.std.specs.Prelude.{◌≡◌, ◌≤◌, ℕ, List, length, IfOk};
 ghost use Rattle.std.specs.Result.{is_err};
 ghost use Rattle.idn_text.specs.Points.{AreScalarValues};
-ghost use Rattle.idn2_cli.specs.LineAnswers.{LineAnswer};
+ghost use Rattle.idn2_cli.specs.Answers.{LineAnswer};
 ghost use Rattle.idn2_cli.specs.Transcript.{pieces_for};
 ghost use Rattle.idn2_cli.specs.Emitting.{Emits};
 

@@ -4,7 +4,8 @@ ghost use Rattle.std.specs.Prelude.{◌≡◌, ◌≤◌, ◌++◌, [], length, 
 ghost use Rattle.idn_text.specs.Points.{AreScalarValues, utf8_of};
 ghost use Rattle.idn_label.specs.Answers.{Gives};
 ghost use Rattle.idn_label.specs.Decode.{decode_answer};
-ghost use Rattle.idn2_cli.specs.LineAnswers.{as_utf8, one_line, with_feed};
+ghost use Rattle.idn2_cli.specs.Answers.{as_utf8, one_line};
+ghost use Rattle.idn2_cli.specs.Inner.{with_feed};
 
 use crate::modes::answering::{Answering, refuse, reply};
 use crate::modes::code_points::{ByPoints, PointAnswering};

@@ -4,7 +4,8 @@ ghost use Rattle.std.specs.Prelude.{◌≡◌, []};
 ghost use Rattle.std.specs.Str.{is_utf8};
 ghost use Rattle.idn_label.specs.Answers.{Gives};
 ghost use Rattle.idn_label.specs.Lookup.{lookup_answer};
-ghost use Rattle.idn2_cli.specs.LineAnswers.{one_line, with_feed, query_answer};
+ghost use Rattle.idn2_cli.specs.Answers.{one_line};
+ghost use Rattle.idn2_cli.specs.Inner.{with_feed, query_answer};
 
 use crate::modes::answering::{Answering, refuse, reply};
 use crate::session::buffers::{Buffers, MAX_ANSWER_LEN};

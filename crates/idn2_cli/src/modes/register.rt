@@ -3,7 +3,8 @@
 ghost use Rattle.std.specs.Prelude.{◌≡◌, ◌≤◌, length};
 ghost use Rattle.idn_label.specs.Answers.{Gives};
 ghost use Rattle.idn_label.specs.Register.{register_answer};
-ghost use Rattle.idn2_cli.specs.LineAnswers.{one_line, with_feed};
+ghost use Rattle.idn2_cli.specs.Answers.{one_line};
+ghost use Rattle.idn2_cli.specs.Inner.{with_feed};
 
 use crate::modes::answering::{refuse, reply};
 use crate::modes::code_points::PointAnswering;

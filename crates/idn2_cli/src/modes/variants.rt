@@ -5,8 +5,7 @@ ghost use Rattle.std.specs.Result.{is_err};
 ghost use Rattle.idn_label.specs.FirstFault.{IsRegistrable};
 ghost use Rattle.variant_table.specs.WellFormed.{IsWellFormed};
 ghost use Rattle.idn2_cli.specs.Settings.{IsWithinLimits};
-ghost use Rattle.idn2_cli.specs.Blocks.{block};
-ghost use Rattle.idn2_cli.specs.LineAnswers.{variants_answer, listing_answer};
+ghost use Rattle.idn2_cli.specs.Answers.{block, variants_answer, listing_answer};
 ghost use Rattle.idn2_cli.specs.Transcript.{output_lines, pieces_for};
 ghost use Rattle.idn2_cli.specs.Emitting.{Emits};
 

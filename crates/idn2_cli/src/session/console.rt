@@ -16,7 +16,7 @@ pub(crate) struct Console<'o, 'm, W: Sink, E: Sink> {
 }
 
 impl<'o, 'm, W: Sink, E: Sink> Model for Console<'o, 'm, W, E> {
-    ghost use Rattle.idn2_cli.specs.Held.{Held};
+    ghost use Rattle.idn2_cli.specs.Ends.{Held};
 
     ghost Value = { Held };
 
@@ -29,7 +29,7 @@ impl<'o, 'm, W: Sink, E: Sink> Model for Console<'o, 'm, W, E> {
 }
 
 impl<'o, 'm, W: Sink, E: Sink> Console<'o, 'm, W, E> {
-    ghost use Rattle.idn2_cli.specs.Pieces as pieces;
+    ghost use Rattle.idn2_cli.specs.Transcript as pieces;
     ghost use Rattle.idn2_cli.specs.Emitting.{Emits};
     ghost use Rattle.idn2_cli.specs.declared.session.stop.Stop.TheVariants as stop;
 

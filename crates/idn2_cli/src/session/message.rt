@@ -1,11 +1,13 @@
 //! The messages of refusals.
 
-ghost use Rattle.std.specs.Prelude.{◌≡◌, ◌≤◌, ◌++◌, length, codes, decimal};
+ghost use Rattle.std.specs.Prelude.{◌≡◌, ◌≤◌, ◌++◌, length, codes, decimal, option_map};
+ghost use Rattle.idn2_cli.specs.Inner.{told_of};
 ghost use Rattle.idn2_cli.specs.Transcript.{told, line_message, table_message};
 
 use arrayvec::ArrayString;
 use idn_text::Refusal;
 use itoa::Buffer;
+use variant_table::TableFault;
 
 /// A message, for whose bytes there is room.
 pub type Message = ArrayString<80>;
@@ -17,11 +19,19 @@ pub fn line_message(number: u64, refusal: &Refusal) -> Message
     message("idn2: line ", number, refusal)
 }
 
-/// The message of a table whose line of this number has a fault.
-pub fn table_message(number: u64, refusal: &Refusal) -> Message
-    ensures { result.bytes ≡ table_message number refusal.now }
+/// The message of a table's fault. There is none for want of memory.
+pub fn table_message(fault: TableFault) -> Option<Message>
+    ensures { option_map (λ message. message.bytes) result ≡ option_map (λ told. table_message told.0 told.1) (told_of fault) }
 {
-    message("idn2: table line ", number, refusal)
+    let (line, refusal) = match fault {
+        TableFault::Syntax { line } => (line, Refusal::Syntax),
+        TableFault::SameSource { line } => (line, Refusal::SameSource),
+        TableFault::SameVariant { line } => (line, Refusal::SameVariant),
+        TableFault::BadClass { line } => (line, Refusal::BadClass),
+        TableFault::Limit { line } => (line, Refusal::Limit),
+        TableFault::Memory => return None,
+    };
+    Some(message("idn2: table line ", line, &refusal))
 }
 
 fn message(before: &str, number: u64, refusal: &Refusal) -> Message

@@ -1,6 +1,6 @@
 //! What ends the program outside a line.
 ghost use Rattle.std.specs.Prelude.{◌≡◌};
-ghost use Rattle.idn2_cli.specs.Faults.{IsFault, TakesText, closing_message, closing_status};
+ghost use Rattle.idn2_cli.specs.Ends.{IsFault, TakesText, closing_message, closing_status};
 
 use crate::session::status::Status;
 use idn_text::{Refusal, Sink, write_text};

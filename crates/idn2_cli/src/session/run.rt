@@ -3,13 +3,10 @@
 ghost use Rattle.std.specs.Prelude.{◌≡◌, IfOk};
 ghost use Rattle.idn_text.specs.Reading.{IsUnread};
 ghost use Rattle.idn2_cli.specs.Settings.{IsWithinLimits};
-ghost use Rattle.idn2_cli.specs.Held.{held};
-ghost use Rattle.idn2_cli.specs.Faults.{closing_status};
-ghost use Rattle.idn2_cli.specs.Tables.{TableGiven, IsReadAs, IsTableOf};
+ghost use Rattle.idn2_cli.specs.Ends.{held, closing_status, Does, Ends, Closes, mode_job, refusal_of};
+ghost use Rattle.idn2_cli.specs.Transcript.{TableGiven, IsReadAs, IsTableOf, check_pieces, check_status};
 ghost use Rattle.idn2_cli.specs.Emitting.{Emits};
-ghost use Rattle.idn2_cli.specs.Transcript.{check_pieces, check_status};
 ghost use Rattle.idn2_cli.specs.declared.command_line.mode.Mode.TheVariants as modes;
-ghost use Rattle.idn2_cli.specs.Ends.{Does, Ends, Closes, mode_job, refusal_of};
 
 use crate::command_line::mode::Mode;
 use crate::command_line::options::Options;
@@ -20,9 +17,10 @@ use crate::session::lines::serve_lines;
 use crate::session::report::report;
 use crate::session::status::Status;
 use crate::session::stop::Stop;
-use crate::session::table::{read_table, refuse_table};
+use crate::session::table::refuse_table;
 use idn_text::{Lines, Sink, Source};
 use std::alloc::Global;
+use variant_table::Table;
 
 /// Runs a mode over its input, of which no line was read yet. Where nothing fails, the pieces of the
 /// transcript are written, and the status tells whether something was refused. A fault of a reader,
@@ -109,9 +107,9 @@ fn serve_variants<R: Source, W: Sink, E: Sink>(
     ensures { (given : TableGiven) × IsTableOf options.now.mode text.now given
         × Does (mode_job options.now given) input.old input.new console.old console.new result }
 {
-    let table = match read_table(alloc, text)? {
+    let table = match Table::read(alloc, text) {
         Ok(table) => table,
-        Err((line, refusal)) => return refuse_table(line, refusal, console),
+        Err(fault) => return refuse_table(fault, console),
     };
     let mode = Variants {
         table: &table,
@@ -130,9 +128,9 @@ fn serve_check<W: Sink, E: Sink>(
         × Emits console.old console.new (check_pieces given) result
         × IfOk result (λ status. status ≡ check_status given) }
 {
-    match read_table(alloc, text)? {
+    match Table::read(alloc, text) {
         Ok(table) => check_table(alloc, &table, console),
-        Err((line, refusal)) => refuse_table(line, refusal, console),
+        Err(fault) => refuse_table(fault, console),
     }
 }
 

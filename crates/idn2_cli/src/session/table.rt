@@ -1,10 +1,9 @@
-//! The table of a run, from its text.
+//! A table that can't be used.
 
-ghost use Rattle.std.specs.Prelude.{◌≡◌, ℕ, List, [], ◌∷◌, IfOk, IfErr};
-ghost use Rattle.idn2_cli.specs.Pieces.{Message};
-ghost use Rattle.idn2_cli.specs.Tables.{IsReadAs, told_of};
-ghost use Rattle.idn2_cli.specs.Transcript.{table_message};
+ghost use Rattle.std.specs.Prelude.{◌≡◌, Err, IfOk, MatchOption};
+ghost use Rattle.idn2_cli.specs.Transcript.{check_pieces};
 ghost use Rattle.idn2_cli.specs.Emitting.{Emits};
+ghost use Rattle.idn2_cli.specs.Inner.{told_of};
 ghost use Rattle.idn2_cli.specs.declared.session.status.Status.TheVariants as statuses;
 ghost use Rattle.idn2_cli.specs.declared.session.stop.Stop.TheVariants as stop;
 
@@ -12,49 +11,22 @@ use crate::session::console::Console;
 use crate::session::message::table_message;
 use crate::session::status::Status;
 use crate::session::stop::Stop;
-use idn_text::{Refusal, Sink};
-use std::alloc::Global;
-use variant_table::{Table, TableFault};
+use idn_text::Sink;
+use variant_table::TableFault;
 
-/// The table that a text spells, or the number of its first faulty line and the fault.
-pub(crate) fn read_table(alloc: Global, text: &[u8]) -> Result<Result<Table, (u64, Refusal)>, Stop>
-    ensures read { IfOk result (IsReadAs text.now) }
-    ensures why { IfErr result (λ why. why ≡ stop.Memory) }
-{
-    match Table::read(alloc, text) {
-        Ok(table) => Ok(Ok(table)),
-        Err(fault) => match told_of(fault) {
-            Some(told) => Ok(Err(told)),
-            None => Err(Stop::Memory),
-        },
-    }
-}
-
-/// Tells the fault of a table, and gives the status of the run.
+/// Tells the fault of a table, and gives the status of the run. Want of memory is no fault of the
+/// table: nothing is told, and the run stops.
 pub(crate) fn refuse_table<W: Sink, E: Sink>(
-    line: u64,
-    refusal: Refusal,
+    fault: TableFault,
     console: &mut Console<'_, '_, W, E>,
 ) -> Result<Status, Stop>
-    ensures written { Emits console.old console.new (Message (table_message line refusal) ∷ []) result }
+    ensures told { MatchOption (told_of fault) ((result ≡ Err stop.Memory) × (console.new ≡ console.old))
+        (λ told. Emits console.old console.new (check_pieces (Err told)) result) }
     ensures status { IfOk result (λ status. status ≡ statuses.Unusable) }
-    ensures why { IfErr result (λ why. why ≡ stop.Messages) }
 {
-    let message = table_message(line, &refusal);
+    let Some(message) = table_message(fault) else {
+        return Err(Stop::Memory);
+    };
     console.message(message.as_str().as_bytes())?;
     Ok(Status::Unusable)
-}
-
-/// The line of a table's fault, and the fault. None for want of memory.
-fn told_of(fault: TableFault) -> Option<(u64, Refusal)>
-    ensures { result ≡ told_of fault }
-{
-    match fault {
-        TableFault::Syntax { line } => Some((line, Refusal::Syntax)),
-        TableFault::SameSource { line } => Some((line, Refusal::SameSource)),
-        TableFault::SameVariant { line } => Some((line, Refusal::SameVariant)),
-        TableFault::BadClass { line } => Some((line, Refusal::BadClass)),
-        TableFault::Limit { line } => Some((line, Refusal::Limit)),
-        TableFault::Memory => None,
-    }
 }

@@ -1,7 +1,7 @@
 use Rattle.std.proofs.Common.{◌+◌, ◌-◌, ◌∙◌, Err, ap, sym}
 use Rattle.std.proofs.lemmas.Result.{err_from_is_err_and}
 use Rattle.idn2_cli.specs.Settings.{Settings}
-use Rattle.idn2_cli.specs.Blocks.{reaches}
+use Rattle.idn2_cli.specs.Inner.{reaches}
 use Rattle.idn2_cli.proofs.Writing.{stops_first}
 use Rattle.idn2_cli.proofs.Listings.{listing-start, listing-plain, listing-spent, listing-ended, listing-found, listing-broken, listing-reached, found-from, spent-from, ended-from}
 use Rattle.idn2_cli.proofs.modes.block.write_block.Goals as goal

@@ -1,5 +1,5 @@
 use Rattle.std.proofs.Common.{ap, sym, ◌∙◌, rules}
-use Rattle.idn2_cli.specs.Held.{Held}
+use Rattle.idn2_cli.specs.Ends.{Held}
 use Rattle.idn2_cli.proofs.Lending.{same_loans, given_back}
 use Rattle.idn2_cli.proofs.session.run.run.Goals as goal
 

@@ -1,7 +1,7 @@
 use Rattle.std.proofs.Common.{refl, ap, sym, ◌∙◌, Ok, [], ℕ, List, Bool}
 use Rattle.idn_label.specs.Lookup.{lookup_answer}
 use Rattle.idn2_cli.specs.Settings.{Settings}
-use Rattle.idn2_cli.specs.LineAnswers.{LineAnswer, one_line}
+use Rattle.idn2_cli.specs.Answers.{LineAnswer, one_line}
 use Rattle.idn2_cli.specs.Ends.{lines_job}
 use Rattle.idn2_cli.specs.declared.command_line.mode.Mode.TheVariants.{Lookup, Register, Decode}
 use Rattle.idn2_cli.proofs.Finishing.{as_mode, checked}
