@@ -1,25 +1,26 @@
 -- From the lines of the input, or none, to the end of a run.
-use Rattle.std.proofs.Common.{◌≡◌, ◌≢◌, ℕ, List, [], false, Result, Ok, Err, IfOk, refl, sym, ap, subst, ◌∙◌}
+use Rattle.std.proofs.Common.{inl, inr, ◌⊎◌, ◌≡◌, ◌≢◌, ℕ, List, [], false, Result, Ok, Err, IfOk, refl, sym, ap, subst, ◌∙◌}
 use Rattle.idn_text.specs.Reading.{Reading, IsUnread}
 use Rattle.idn_text.specs.declared.refusal.Refusal.{Refusal}
 use Rattle.idn_text.proofs.ReadingLemmas.{has_read_nothing}
 use Rattle.std.proofs.lemmas.Bool.{false≢true}
 use Rattle.idn2_cli.specs.Settings.{Settings}
-use Rattle.idn2_cli.specs.Tables.{TableGiven, IsReadAs, IsTableOf}
-use Rattle.idn2_cli.specs.Pieces.{Piece}
-use Rattle.idn2_cli.specs.Held.{Held}
-use Rattle.idn2_cli.specs.Faults.{TakesText, closing_message}
-use Rattle.idn2_cli.specs.Transcript.{check_pieces, check_status}
+use Rattle.idn2_cli.specs.Transcript.{TableGiven, IsReadAs, IsTableOf, Piece, check_pieces, check_status}
+use Rattle.idn2_cli.specs.Ends.{Held, TakesText, closing_message, Job, Does, Closes, mode_job, refusal_of}
 use Rattle.idn2_cli.specs.Emitting.{Emits}
-use Rattle.idn2_cli.specs.Ends.{Job, Does, Closes, mode_job, refusal_of}
-use Rattle.idn2_cli.specs.declared.mode.Mode.{Mode}
-use Rattle.idn2_cli.specs.declared.mode.Mode.TheVariants.{Variants, CheckTable}
-use Rattle.idn2_cli.specs.declared.status.Status.{Status}
-use Rattle.idn2_cli.specs.declared.stop.Stop.{Stop}
-use Rattle.idn2_cli.specs.declared.stop.Stop.TheVariants as stop
+use Rattle.idn2_cli.specs.declared.command_line.mode.Mode.{Mode}
+use Rattle.idn2_cli.specs.declared.command_line.mode.Mode.TheVariants.{Variants, CheckTable}
+use Rattle.idn2_cli.specs.declared.session.status.Status.{Status}
+use Rattle.idn2_cli.specs.declared.session.stop.Stop.{Stop}
+use Rattle.idn2_cli.specs.declared.session.stop.Stop.TheVariants as stop
 use Rattle.idn2_cli.proofs.Writing.{stops_first}
 use Rattle.idn2_cli.proofs.Sessions.{stands_cut}
-use Rattle.idn2_cli.proofs.TableLemmas.{some_table}
+use Rattle.idn2_cli.proofs.TableLemmas.{some_table, refused_table}
+use Rattle.std.specs.Prelude.{MatchOption}
+use Rattle.variant_table.specs.Texts.{IsToldOf}
+use Rattle.variant_table.specs.declared.fault.TableFault.{TableFault}
+use Rattle.idn2_cli.specs.Inner.{told_of}
+use Rattle.idn2_cli.specs.declared.session.status.Status.TheVariants.{Unusable}
 
 -- ---- a mode that answers lines
 
@@ -91,6 +92,39 @@ pub faulty : (o : Settings) (text : List ℕ) (line : ℕ) (refusal : Refusal) (
 faulty o text line refusal start old new r e read unread writes answered =
     let job = mode_job (record o { mode = Variants }) (Err (line, refusal)) in
     as_mode o Variants text (Err (line, refusal)) job start start old new r e read refl (does_unread job start old new r unread writes (with_false r _ answered))
+
+-- a table that is not read, in the listing of variants
+pub refused_variants : (o : Settings) (text : List ℕ) (fault : TableFault) (start : Reading) (old new : Held) (r : Result Status Stop)
+    → o.mode ≡ Variants → IsUnread start → IsToldOf text fault
+    → MatchOption (told_of fault) ((r ≡ Err stop.Memory) × (new ≡ old)) (λ told. Emits old new (check_pieces (Err told)) r)
+    → IfOk r (λ status. status ≡ Unusable)
+    → (table : TableGiven) × IsTableOf o.mode text table × Does (mode_job o table) start start old new r
+refused_variants o text fault start old new r e unread is told answered = by (refused_table text fault old new r is told)
+  where
+    by : ((r ≡ Err stop.Memory) × (new ≡ old)) ⊎ ((told : ℕ × Refusal) × IsReadAs text (Err told) × Emits old new (check_pieces (Err told)) r)
+        → (table : TableGiven) × IsTableOf o.mode text table × Does (mode_job o table) start start old new r
+    by (inl memory) =
+        subst (λ (h : Held). (table : TableGiven) × IsTableOf o.mode text table × Does (mode_job o table) start start old h r) (sym memory.1)
+        (unread_stopped o text start old r stop.Memory e unread memory.0 refl)
+    by (inr t) = faulty o text t.0.0 t.0.1 start old new r e t.1 unread t.2 answered
+
+-- a table that is not read, in the check of a table
+pub refused_check : (text : List ℕ) (fault : TableFault) (old new : Held) (r : Result Status Stop) → IsToldOf text fault
+    → MatchOption (told_of fault) ((r ≡ Err stop.Memory) × (new ≡ old)) (λ told. Emits old new (check_pieces (Err told)) r)
+    → IfOk r (λ status. status ≡ Unusable)
+    → (given : TableGiven) × IsReadAs text given × Emits old new (check_pieces given) r × IfOk r (λ status. status ≡ check_status given)
+refused_check text fault old new r is told answered = by (refused_table text fault old new r is told)
+  where
+    by : ((r ≡ Err stop.Memory) × (new ≡ old)) ⊎ ((told : ℕ × Refusal) × IsReadAs text (Err told) × Emits old new (check_pieces (Err told)) r)
+        → (given : TableGiven) × IsReadAs text given × Emits old new (check_pieces given) r × IfOk r (λ status. status ≡ check_status given)
+    by (inl memory) =
+        let t = some_table text in (
+          t.0,
+          t.1,
+          subst (λ (h : Held). Emits old h (check_pieces t.0) r) (sym memory.1) (emits_memory old (check_pieces t.0) r stop.Memory memory.0 refl),
+          subst (λ (s : Result Status Stop). IfOk s (λ status. status ≡ check_status t.0)) (sym memory.0) tt,
+        )
+    by (inr t) = (Err t.0, t.1, t.2, answered)
 
 -- ---- the last message
 

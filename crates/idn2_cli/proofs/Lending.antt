@@ -2,13 +2,11 @@
 use Rattle.std.proofs.Common.{◌≡◌, List, Result, Ok, Err, inl, inr, refl, ap, subst, sym, ◌∙◌}
 use Rattle.idn_text.specs.Reading.{Reading}
 use Rattle.idn_text.specs.Writers.{Writer}
-use Rattle.idn2_cli.specs.Pieces.{Piece}
-use Rattle.idn2_cli.specs.Held.{Held, Takes, Writes, held}
-use Rattle.idn2_cli.specs.Emitting.{WritesUntil}
-use Rattle.idn2_cli.specs.Ends.{Job, Does, Stands, Closes, Ends}
-use Rattle.idn2_cli.specs.declared.status.Status.{Status}
-use Rattle.idn2_cli.specs.declared.stop.Stop.{Stop}
-use Rattle.idn2_cli.specs.declared.stop.Stop.TheVariants as stop
+use Rattle.idn2_cli.specs.Transcript.{Piece}
+use Rattle.idn2_cli.specs.Ends.{Held, Takes, Writes, held, WritesUntil, Job, Does, Stands, Closes, Ends}
+use Rattle.idn2_cli.specs.declared.session.status.Status.{Status}
+use Rattle.idn2_cli.specs.declared.session.stop.Stop.{Stop}
+use Rattle.idn2_cli.specs.declared.session.stop.Stop.TheVariants as stop
 
 -- what two writers hold, and not by which loans
 abbrev plain : Held → Held

@@ -4,11 +4,11 @@ use Rattle.std.proofs.lemmas.List.{append-nil}
 use Rattle.std.proofs.lemmas.Result.{MatchResult-at_err}
 use Rattle.std.specs.Io.KnownBytes.{Appends}
 use Rattle.idn_text.specs.Writers.{Writer, TakesWhole, TakesPart}
-use Rattle.idn2_cli.specs.Pieces.{Piece, Output, Message, output_of, messages_of}
-use Rattle.idn2_cli.specs.Held.{Held, Takes, Writes}
-use Rattle.idn2_cli.specs.Emitting.{BreaksOff, IsCutBy, WritesUntil, StopsWithin, Emits}
-use Rattle.idn2_cli.specs.declared.stop.Stop.{Stop}
-use Rattle.idn2_cli.specs.declared.stop.Stop.TheVariants as stop
+use Rattle.idn2_cli.specs.Transcript.{Piece, Output, Message, output_of, messages_of}
+use Rattle.idn2_cli.specs.Ends.{Held, Takes, Writes, BreaksOff, IsCutBy, WritesUntil}
+use Rattle.idn2_cli.specs.Emitting.{StopsWithin, Emits}
+use Rattle.idn2_cli.specs.declared.session.stop.Stop.{Stop}
+use Rattle.idn2_cli.specs.declared.session.stop.Stop.TheVariants as stop
 
 pub appends_nothing : (a : Option (List ℕ)) → Appends a a []
 appends_nothing None = tt

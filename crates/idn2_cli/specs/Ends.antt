@@ -1,23 +1,72 @@
 -- How a run goes: to its end, or to a stop and a last message.
-use Rattle.std.specs.Prelude.{◌≡◌, ◌⊎◌, ℕ, Bool, true, false, IsTrue, List, Result, Ok, Err, MatchResult}
+use Rattle.std.specs.Prelude.{◌≡◌, ℕ, List, ◌⊎◌, ◌++◌, codes, ◌≢◌, ◌<◌, [], ◌∷◌, length, take, true, Result, MatchResult, Bool, false, IsTrue, Ok, Err}
+use Rattle.std.specs.Io.KnownBytes.{Appends}
+use Rattle.idn_text.specs.Writers.{Writer, TakesWhole, TakesPart}
+use Rattle.idn2_cli.specs.Transcript.{Piece, output_of, messages_of, Output, Message, told, lines_pieces, has_refused, status_if, transcript, status_of, TableGiven}
+use Rattle.idn_text.specs.declared.refusal.Refusal.{Refusal}
+use Rattle.idn_text.specs.declared.refusal.Refusal.TheVariants.{Usage, ReadFault, WriteFault, Memory}
+use Rattle.idn2_cli.specs.declared.session.status.Status.{Status}
+use Rattle.idn2_cli.specs.declared.session.status.Status.TheVariants.{Unusable, Faulty, OutOfMemory}
+use Rattle.idn2_cli.specs.declared.session.stop.Stop.{Stop}
 use Rattle.idn_text.specs.Lines.{Numbered}
 use Rattle.idn_text.specs.Reading.{Reading, HasRead, HasStopped}
 use Rattle.idn_text.specs.declared.lines.State.TheVariants.{Ended, Stopped}
-use Rattle.idn_text.specs.declared.refusal.Refusal.{Refusal}
-use Rattle.idn_text.specs.declared.refusal.Refusal.TheVariants as refusals
 use Rattle.idn2_cli.specs.Settings.{Settings}
-use Rattle.idn2_cli.specs.Pieces.{Piece}
-use Rattle.idn2_cli.specs.Held.{Held, Writes}
-use Rattle.idn2_cli.specs.Emitting.{IsCutBy, WritesUntil}
-use Rattle.idn2_cli.specs.Tables.{TableGiven}
-use Rattle.idn2_cli.specs.Faults.{TakesText, closing_message, closing_status}
-use Rattle.idn2_cli.specs.LineAnswers.{LineAnswer}
-use Rattle.idn2_cli.specs.Transcript.{lines_pieces, has_refused, status_if, transcript, status_of}
-use Rattle.idn2_cli.specs.declared.mode.Mode.{Mode}
-use Rattle.idn2_cli.specs.declared.mode.Mode.TheVariants.{CheckTable}
-use Rattle.idn2_cli.specs.declared.stop.Stop.{Stop}
-use Rattle.idn2_cli.specs.declared.stop.Stop.TheVariants as stop
-use Rattle.idn2_cli.specs.declared.status.Status.{Status}
+use Rattle.idn2_cli.specs.Answers.{LineAnswer}
+use Rattle.idn2_cli.specs.declared.command_line.mode.Mode.{Mode}
+use Rattle.idn2_cli.specs.declared.command_line.mode.Mode.TheVariants.{CheckTable}
+use Rattle.idn2_cli.specs.declared.session.stop.Stop.TheVariants as stop
+
+-- ---- the two writers
+
+-- the output and the messages; and where they are lent, by which loans
+pub record Held : Type 0 where
+  pub output : Writer
+  pub messages : Writer
+  pub output_loan : ℕ
+  pub messages_loan : ℕ
+
+-- what these two hold
+abbrev pub held : Writer → Writer → Held
+held output messages = record { output = output; messages = messages; output_loan = 0; messages_loan = 0 }
+
+-- each of the same two writers took its pieces, in order
+pub record Takes (old new : Held) (pieces : List Piece) : Type 0 where
+  pub output : Appends old.output.contents new.output.contents (output_of pieces)
+  pub messages : Appends old.messages.contents new.messages.contents (messages_of pieces)
+  pub output_loan : new.output_loan ≡ old.output_loan
+  pub messages_loan : new.messages_loan ≡ old.messages_loan
+
+-- the same, and no write failed
+pub record Writes (old new : Held) (pieces : List Piece) : Type 0 where
+  pub takes : Takes old new pieces
+  pub output_faults : new.output.faults ≡ old.output.faults
+  pub messages_faults : new.messages.faults ≡ old.messages.faults
+
+-- ---- a stop within pieces
+
+-- of these pieces those before some piece are written, and of that piece, which is for this writer, a proper prefix
+pub record BreaksOff (writer : List ℕ → Piece) (pieces written : List Piece) : Type 0 where
+  pub before : List Piece
+  pub text : List ℕ
+  pub after : List Piece
+  pub taken : ℕ
+  pub split : pieces ≡ before ++ writer text ∷ after
+  pub proper : taken < length text
+  pub cut : written ≡ before ++ writer (take taken text) ∷ []
+
+-- what is written of the pieces where a stop comes: a writer failed within a piece, or memory was refused before one
+abbrev pub IsCutBy : Stop → Held → List Piece → List Piece → Type 0
+IsCutBy stop.Reading new pieces written = ⊥
+IsCutBy stop.Output new pieces written = BreaksOff Output pieces written × (new.output.has_failed ≡ true)
+IsCutBy stop.Messages new pieces written = BreaksOff Message pieces written × (new.messages.has_failed ≡ true)
+IsCutBy stop.Memory new pieces written = (after : List Piece) × (pieces ≡ written ++ after)
+
+-- each of the writers took its pieces, in order, and no write failed but of the writer that the stop names
+pub record WritesUntil (why : Stop) (old new : Held) (pieces : List Piece) : Type 0 where
+  pub takes : Takes old new pieces
+  pub output_faults : why ≢ stop.Output → new.output.faults ≡ old.output.faults
+  pub messages_faults : why ≢ stop.Messages → new.messages.faults ≡ old.messages.faults
 
 -- ---- what is to be done
 
@@ -71,12 +120,35 @@ pub record Does (job : Job) (start now : Reading) (old new : Held) (result : Res
 
 -- ---- the last message
 
+-- the refusal ends the program: its number is 50, 60, 61 or 70
+abbrev pub IsFault : Refusal → Type 0
+IsFault Usage = Unit {0}
+IsFault ReadFault = Unit {0}
+IsFault WriteFault = Unit {0}
+IsFault Memory = Unit {0}
+IsFault _ = ⊥
+
+-- its message, by number and text, with a line feed
+abbrev pub closing_message : Refusal → List ℕ
+closing_message refusal = codes "idn2: " ++ told refusal
+
+-- its status: 3 for a read or a write, 4 for memory, else 2
+abbrev pub closing_status : Refusal → Status
+closing_status ReadFault = Faulty
+closing_status WriteFault = Faulty
+closing_status Memory = OutOfMemory
+closing_status _ = Unusable
+
+-- a writer took the text, or a proper prefix of it where it failed
+abbrev pub TakesText : List ℕ → Writer → Writer → Type 0
+TakesText text old new = TakesWhole old new text ⊎ ((taken : ℕ) × TakesPart old new text taken)
+
 -- the refusal that is told where a run stops
 abbrev pub refusal_of : Stop → Refusal
-refusal_of stop.Reading = refusals.ReadFault
-refusal_of stop.Output = refusals.WriteFault
-refusal_of stop.Messages = refusals.WriteFault
-refusal_of stop.Memory = refusals.Memory
+refusal_of stop.Reading = ReadFault
+refusal_of stop.Output = WriteFault
+refusal_of stop.Messages = WriteFault
+refusal_of stop.Memory = Memory
 
 -- it is the last that is written. There is none where the messages failed before
 abbrev pub Closes : Stop → Held → Held → Type 0

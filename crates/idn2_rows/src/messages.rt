@@ -1,5 +1,5 @@
 //! The last message of a run that ends early, its status, and the texts of the errors.
-ghost use Rattle.idn2_cli.specs.Faults.{IsFault};
+ghost use Rattle.idn2_cli.specs.Ends.{IsFault};
 
 use crate::row::shown;
 use idn_text::hostile::StopWriter;

@@ -3,15 +3,15 @@
 ghost use Rattle.std.specs.Prelude.{◌≡◌, ◌≤◌, ◌==◌, ◌++◌, ◌∷◌, [], not, length, map, IfOk, IfErr};
 ghost use Rattle.idn_text.specs.Points.{AreScalarValues};
 ghost use Rattle.variant_table.specs.Gaps.{gaps_of, pairs_of};
-ghost use Rattle.idn2_cli.specs.Gaps.{HoldSequences};
+ghost use Rattle.idn2_cli.specs.Inner.{HoldSequences};
 ghost use Rattle.idn2_cli.specs.Transcript.{gap_line, table_line, check_lines, output_lines, status_if};
 ghost use Rattle.idn2_cli.specs.Emitting.{Emits};
-ghost use Rattle.idn2_cli.specs.declared.stop.Stop.TheVariants as stop;
+ghost use Rattle.idn2_cli.specs.declared.session.stop.Stop.TheVariants as stop;
 
-use crate::console::Console;
-use crate::line::append;
-use crate::status::Status;
-use crate::stop::Stop;
+use crate::session::buffers::append;
+use crate::session::console::Console;
+use crate::session::status::Status;
+use crate::session::stop::Stop;
 use arrayvec::{ArrayString, ArrayVec};
 use idn_text::Sink;
 use itoa::Buffer;
