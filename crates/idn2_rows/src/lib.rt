@@ -3,13 +3,23 @@
 #![tactic(auto)]
 
 #[cfg(test)]
+mod a_labels_of_others;
+#[cfg(test)]
+mod decoded_names;
+#[cfg(test)]
 mod faults;
+#[cfg(test)]
+mod label_calls;
 #[cfg(test)]
 mod labels;
 #[cfg(test)]
 mod lines;
 #[cfg(test)]
 mod listings;
+#[cfg(test)]
+mod looked_up_names;
+#[cfg(test)]
+mod registered_labels;
 #[cfg(test)]
 mod row;
 #[cfg(test)]

@@ -29,5 +29,3 @@ pub use laws::{definitions_give_the_examples, no_fault_means_all_requirements};
 pub use registration::register;
 pub use to_ascii::{lookup, lookup_utf8};
 
-#[cfg(test)]
-mod tests;
