@@ -34,32 +34,6 @@ fn classes(rt: HostRuntime) {
 }
 
 #[test]
-fn fitting_code_points(rt: HostRuntime) {
-    for c in [0x61, 0x39, 0xDF, 0x3B1, 0x430, 0x4E2D, 0xAC00] {
-        assert!(rt; fits_anywhere(c), "U+{c:04X}");
-    }
-    let others = [
-        0x2D,
-        0x41,
-        0x1F0,
-        0x301,
-        0x5D0,
-        0x627,
-        0x94D,
-        0x200C,
-        0x30FB,
-        0x660,
-        0x378,
-        0xD800,
-        0x11_0000,
-        u32::MAX,
-    ];
-    for c in others {
-        assert!(rt; !fits_anywhere(c), "U+{c:04X}");
-    }
-}
-
-#[test]
 fn joiners(rt: HostRuntime) {
     assert!(rt; contextj_ok(&[0x646, 0x627, 0x645, 0x647, 0x200C, 0x627, 0x6CC]));
     assert!(rt; !contextj_ok(&[0x61, 0x200C, 0x62]));
