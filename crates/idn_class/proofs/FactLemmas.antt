@@ -30,7 +30,7 @@ or_first : (a b : Bool) → (a || b) ≡ false → a ≡ false
 or_first true b h = h
 or_first false b h = refl
 
-full : (fact : Fact) → (bit_at 127 (place_of fact) == 0) ≡ false
+pub full : (fact : Fact) → (bit_at 127 (place_of fact) == 0) ≡ false
 full MayBeBarred = refl
 full Contextj = refl
 full Contexto = refl

@@ -28,7 +28,12 @@ use Rattle.idn_text.specs.declared.refusal.Refusal.TheVariants.{Empty, Hyphen, L
 use Rattle.idn_label.specs.ALabel.{a_label_of}
 use Rattle.idn_label.specs.FirstFault.{first_of, fault_if, fault_of_class, code_point_fault, has_hyphen_out_of_place, is_too_long, first_fault}
 use Rattle.idn_label.specs.Steps.{is_ldh_point, rule_fault}
-use Rattle.idn_label.proofs.FaultLemmas.{code_point_fault-nil, code_point_fault-cons, first_of-none, first_of-one, first_fault-parts}
+use Rattle.idn_class.specs.declared.facts.Fact.{Fact}
+use Rattle.idn_class.specs.declared.facts.Fact.TheVariants.{MayBeBarred, Contextj, Contexto, MayCompose, Mark, RightToLeft}
+use Rattle.idn_class.specs.Facts.{has_fact, IsSimple}
+use Rattle.idn_class.proofs.FactLabels.{Lacks, leading_mark-lacks, contextj_ok-lacks, contexto_ok-lacks, bidi_ok-lacks, is_nfc-lacks}
+use Rattle.idn_class.proofs.FactTrie.{is_simple_in_table, IsSimple-in_table}
+use Rattle.idn_label.proofs.FaultLemmas.{code_point_fault-lacks, code_point_fault-nil, code_point_fault-cons, first_of-none, first_of-one, first_fault-parts}
 
 -- the class of an ASCII code point: PVALID where it is LDH, else DISALLOWED
 abbrev has_class : Bool → Option Class → Bool
@@ -76,6 +81,44 @@ is_all_ascii-points label ascii =
 pub a_label_of-ldh : (label : List ℕ) → list_all is_ldh_point label ≡ true → a_label_of label ≡ label
 unfolding a_label_of
 a_label_of-ldh label ldh = cond-true _ _ _ (is_all_ascii-points label (ascii_points label ldh))
+
+-- ---- an LDH label needs no test but of its hyphens and its length
+
+simple_points : all_places 128 (λ c. not (is_ldh_point c) || is_simple_in_table c) ≡ true
+unfolding is_simple_in_table
+simple_points = refl
+
+IsSimple-ldh : (c : ℕ) → is_ldh_point c ≡ true → IsSimple c
+IsSimple-ldh c ldh =
+    IsSimple-in_table c (ap (λ b. not b || is_simple_in_table c) (sym ldh) ∙ all_places-at 128 (λ c. not (is_ldh_point c) || is_simple_in_table c) simple_points c (is_ldh_point-ascii c ldh))
+
+lacks-ldh : (fact : Fact) (label : List ℕ) → list_all is_ldh_point label ≡ true → Lacks fact label
+lacks-ldh fact label ldh =
+    list_any_none (has_fact fact) label (All-weaker (λ c. is_ldh_point c ≡ true) (λ c. has_fact fact c ≡ false) (λ c is. IsSimple-ldh c is fact) label (AllPass-from_list_all is_ldh_point label ldh))
+
+one_fault : (fails : Bool) → first_of (None ∷ fault_if fails Hyphen ∷ None ∷ None ∷ None ∷ None ∷ []) ≡ fault_if fails Hyphen
+one_fault true = refl
+one_fault false = refl
+
+rule_fault-ldh : (label : List ℕ) → list_all is_ldh_point label ≡ true → rule_fault label ≡ fault_if (has_hyphen_out_of_place label) Hyphen
+unfolding rule_fault
+rule_fault-ldh label ldh =
+    rw (
+      is_nfc-lacks label (lacks-ldh MayCompose label ldh),
+      leading_mark-lacks label (lacks-ldh Mark label ldh),
+      contextj_ok-lacks label (lacks-ldh Contextj label ldh),
+      contexto_ok-lacks label (lacks-ldh Contexto label ldh),
+      bidi_ok-lacks label (lacks-ldh RightToLeft label ldh),
+    ) (one_fault (has_hyphen_out_of_place label))
+
+or_same : (b : Bool) → (b || b) ≡ b
+or_same true = refl
+or_same false = refl
+
+pub first_fault-ldh : (label : List ℕ) → list_all is_ldh_point label ≡ true → first_fault label ≡ first_of (fault_if (length label == 0) Empty ∷ None ∷ fault_if (has_hyphen_out_of_place label) Hyphen ∷ fault_if (nat_lt 63 (length label)) LabelTooLong ∷ [])
+first_fault-ldh label ldh =
+    let long : is_too_long label ≡ nat_lt 63 (length label) = rw (a_label_of-ldh label ldh) (or_same _) in
+    rw (first_fault-parts label, code_point_fault-lacks label (lacks-ldh MayBeBarred label ldh), rule_fault-ldh label ldh, long) refl
 
 -- ---- labels that are not LDH
 
