@@ -3,11 +3,17 @@
 #![tactic(auto)]
 
 #[cfg(test)]
+mod a_labels_of_others;
+#[cfg(test)]
 mod candidates;
 #[cfg(test)]
 mod code_points;
 #[cfg(test)]
+mod decoded_names;
+#[cfg(test)]
 mod faults;
+#[cfg(test)]
+mod label_calls;
 #[cfg(test)]
 mod label_rules;
 #[cfg(test)]
@@ -16,6 +22,8 @@ mod labels;
 mod lines;
 #[cfg(test)]
 mod listings;
+#[cfg(test)]
+mod looked_up_names;
 #[cfg(test)]
 mod messages;
 #[cfg(test)]
@@ -26,6 +34,8 @@ mod options;
 mod punycode;
 #[cfg(test)]
 mod reading;
+#[cfg(test)]
+mod registered_labels;
 #[cfg(test)]
 mod row;
 #[cfg(test)]

@@ -3,31 +3,23 @@
 #![tactic(auto)]
 
 mod a_label;
-mod ace_prefix;
 mod ascii_name;
 mod code_points;
-mod coded;
 mod decoding;
 mod first_fault;
-mod fitting;
-mod fitting_name;
 mod laws;
-mod lengths;
 mod octets;
-mod plain;
-mod plain_name;
+mod query;
 mod registration;
 mod rules;
-mod to_ascii;
 mod u_label;
+mod unit;
 
 pub use a_label::ALabel;
 pub use ascii_name::decode_ascii;
 pub use decoding::decode_name;
 pub use first_fault::test_label;
 pub use laws::{definitions_give_the_examples, no_fault_means_all_requirements};
+pub use query::{lookup, lookup_utf8};
 pub use registration::register;
-pub use to_ascii::{lookup, lookup_utf8};
 
-#[cfg(test)]
-mod tests;
