@@ -1,3 +1,5 @@
+ghost use Rattle.std.specs.Prelude.{◌<◌};
+
 use crate::entry::{Entry, entry_of};
 use ucd_idna_map::IdnaStatus;
 use unicode::normal::canonical_combining_class;
