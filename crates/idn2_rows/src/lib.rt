@@ -53,6 +53,4 @@ mod utf8;
 #[cfg(test)]
 mod variants;
 #[cfg(test)]
-mod words;
-#[cfg(test)]
 mod writing;
