@@ -51,23 +51,6 @@ pub has_no_capital-lower : (label : List ℕ) → list_all (λ c. not (is_ascii_
 has_no_capital-lower [] = refl
 has_no_capital-lower (c ∷ label) = ap₂ (λ x y. x && y) (lower_no_capital c) (has_no_capital-lower label)
 
--- ---- the prefix in any case
-
-pub has_ace_prefix-few : (label : List ℕ) → length label < 4 → has_ace_prefix (map to_ascii_lowercase label) ≡ false
-has_ace_prefix-few label few =
-    elim (cases_Bool (has_ace_prefix (map to_ascii_lowercase label))) [
-      | inl coded ↦ absurd (omega (arith, (ace_parts _ coded).1, length-map label to_ascii_lowercase))
-      | inr ldh ↦ ldh
-    ]
-
-pub has_ace_prefix-four : (label : List ℕ) → 4 ≤ length label → has_ace_prefix (to_ascii_lowercase (get_or label 0 0) ∷ to_ascii_lowercase (get_or label 1 0) ∷ to_ascii_lowercase (get_or label 2 0) ∷ to_ascii_lowercase (get_or label 3 0) ∷ []) ≡ has_ace_prefix (map to_ascii_lowercase label)
-unfolding has_ace_prefix
-has_ace_prefix-four [] many = absurd (omega arith)
-has_ace_prefix-four (a ∷ []) many = absurd (omega arith)
-has_ace_prefix-four (a ∷ b ∷ []) many = absurd (omega arith)
-has_ace_prefix-four (a ∷ b ∷ c ∷ []) many = absurd (omega arith)
-has_ace_prefix-four (a ∷ b ∷ c ∷ d ∷ label) many = refl
-
 -- ---- one label
 
 pub decoded_label-coded : (label : List ℕ) → has_ace_prefix (map to_ascii_lowercase label) ≡ true → decoded_label label ≡ u_label_answer (map to_ascii_lowercase label)
@@ -152,8 +135,3 @@ labels_of-some name label others rest parts some = parts ∙ ap (λ o. label ∷
 
 pub shorter_rest : (n : ℕ) (others : Option (Bor (List ℕ))) (rest : Bor (List ℕ)) → IfSome others (λ rest. length rest.now < n) → others ≡ Some rest → length rest.now < n
 shorter_rest n others rest shorter some = subst (λ (o : Option (Bor (List ℕ))). IfSome o (λ rest. length rest.now < n)) some shorter
-
--- the prefix, code point by code point
-pub has_ace_prefix-of_four : (a b c d : ℕ) → has_ace_prefix (a ∷ b ∷ c ∷ d ∷ []) ≡ ((0x78 == a) && (0x6E == b) && (0x2D == c) && (0x2D == d))
-unfolding has_ace_prefix
-has_ace_prefix-of_four a b c d = grind (arith, nat_tests)
