@@ -8,9 +8,9 @@ use Rattle.std.specs.List.{AllByRecursion}
 use Rattle.std.proofs.lemmas.Str.{IsUtf8-from_is_utf8, is_utf8-from_IsUtf8}
 use Rattle.std.proofs.lemmas.List.Elements.{All-from_recursion}
 use Rattle.idn_text.specs.Points.{is_scalar_value, IsScalarValue, IsUtf8Of, utf8_of}
-use Rattle.idn_text.specs.declared.refusal.Refusal.TheVariants.{NotUtf8, Empty, LookupInvalid}
+use Rattle.idn_text.specs.declared.refusal.Refusal.TheVariants.{NotUtf8, Empty}
 use Rattle.idn_text.specs.declared.refusal.Refusal.{Refusal}
-use Rattle.idn_label.specs.Lookup.{lookup_answer, query_name, utf8_answer}
+use Rattle.idn_label.specs.Lookup.{lookup_answer, utf8_answer}
 use Rattle.idn2_cli.specs.Pieces.{Output}
 use Rattle.idn2_cli.specs.Transcript.{pieces_for}
 use Rattle.idn_text.proofs.Utf8Lemmas.{IsUtf8-from_points, points_from_utf8, ascii_points}

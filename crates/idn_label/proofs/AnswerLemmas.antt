@@ -13,7 +13,6 @@ use Rattle.idn_label.specs.Answers.{Answer, unless_fault, and_then, Gives}
 use Rattle.idn_label.specs.FirstFault.{first_fault, IsRegistrable}
 use Rattle.idn_label.specs.Register.{tested_answer, decoded_code, confirmed, u_label_answer, register_answer}
 use Rattle.std.specs.Option.{ok_or}
-use Rattle.arrayvec.specs.ArrayString.{ArrayString}
 use Rattle.idna.specs.Punycode.{decode, encode}
 use Rattle.idna.proofs.PunycodeCanonical.{encode-decode}
 use Rattle.idna.proofs.Uts46Lemmas.{ace_parts}

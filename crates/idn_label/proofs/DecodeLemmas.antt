@@ -1,19 +1,19 @@
 -- How the answer of decoding grows label by label.
-use Rattle.std.proofs.Common.{◌≡◌, ◌≢◌, ℕ, ◌+◌, ◌<◌, ◌≤◌, true, false, not, ◌&&◌, ◌==◌, Option, Some, None, IfSome, List, [], ◌∷◌, ◌++◌, map, take, drop, get_or, length, All, Result, Ok, Err, refl, sym, ap, ap₂, subst, ◌∙◌, inl, inr, append_assoc, take-append-drop, eq-eqb, arith}
+use Rattle.std.proofs.Common.{◌≡◌, ◌≢◌, ℕ, ◌+◌, ◌<◌, true, false, not, ◌&&◌, Option, Some, None, IfSome, List, [], ◌∷◌, ◌++◌, map, take, drop, get_or, length, All, Result, Ok, Err, refl, sym, ap, ap₂, subst, ◌∙◌, append_assoc, take-append-drop, eq-eqb, arith}
 use Rattle.std.specs.Char.{is_ascii, is_ascii_uppercase, to_ascii_lowercase}
 use Rattle.std.specs.List.{list_all}
 use Rattle.std.proofs.lemmas.List.Elements.{All-weaker}
 use Rattle.std.proofs.lemmas.List.Sums.{AllPass-from_list_all}
-use Rattle.std.proofs.lemmas.Bool.{cases_Bool, cond-true, cond-false, not-true}
+use Rattle.std.proofs.lemmas.Bool.{cond-true, cond-false, not-true}
 use Rattle.std.proofs.lemmas.Bool.Decides.{nat_tests}
-use Rattle.std.proofs.lemmas.List.{drop_more, length-map}
+use Rattle.std.proofs.lemmas.List.{drop_more}
 use Rattle.std.specs.Borrow.{Bor}
 use Rattle.std.specs.Option.{option_map_or}
 use Rattle.std.proofs.lemmas.List.Splits.{slice_split_at}
 use Rattle.idna.specs.Labels.{is_full_stop, labels_of, join_labels}
 use Rattle.idna.specs.Validity.{is_all_ascii, has_ace_prefix}
 use Rattle.idna.proofs.LabelsLemmas.{labels_of_cons}
-use Rattle.idna.proofs.Uts46Lemmas.{ace_parts, map-lowercase}
+use Rattle.idna.proofs.Uts46Lemmas.{map-lowercase}
 use Rattle.idn_text.specs.declared.refusal.Refusal.{Refusal}
 use Rattle.idn_label.specs.Answers.{Answer, and_then}
 use Rattle.idn_label.specs.Decode.{decoded_label, with_others, decoded_labels, decode_answer}

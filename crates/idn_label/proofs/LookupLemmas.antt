@@ -14,7 +14,7 @@ use Rattle.idn_text.specs.declared.refusal.Refusal.{Refusal}
 use Rattle.idn_label.specs.Answers.{Gives}
 use Rattle.idn_text.specs.declared.refusal.Refusal.TheVariants.{NotUtf8, LookupInvalid, LookupLength}
 use Rattle.idn_label.specs.Lookup.{deny_list, measured_answer, query_name, utf8_answer, lookup_answer}
-use Rattle.idn_text.specs.Points.{AreScalarValues, IsUtf8Of, utf8_of}
+use Rattle.idn_text.specs.Points.{AreScalarValues, utf8_of}
 use Rattle.idn_text.proofs.Utf8Lemmas.{IsUtf8-from_points}
 use Rattle.idn_label.proofs.AnswerLemmas.{Gives-same}
 

@@ -53,7 +53,7 @@ pub fn lookup_utf8<const N: usize>(
     requires { 254 ≤ N }
     ensures answer { Gives (λ _. query.new.items) result (utf8_answer name.now std3) }
     ensures short { OnOk result (array_vec_len query.new ≤ 254) }
-    ensures plain { IsPlain (deny_list std3) Allow name.now → result ≢ Err Refusal.Memory }
+    ensures no_memory { IsPlain (deny_list std3) Allow name.now → result ≢ Err Refusal.Memory }
 {
     query.clear();
     if let Some(()) = ldh_query(name, query) {
