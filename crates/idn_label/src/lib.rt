@@ -22,4 +22,3 @@ pub use first_fault::test_label;
 pub use laws::{definitions_give_the_examples, no_fault_means_all_requirements};
 pub use query::{lookup, lookup_utf8};
 pub use registration::register;
-
