@@ -3,6 +3,8 @@
 #![tactic(auto)]
 
 #[cfg(test)]
+mod candidates;
+#[cfg(test)]
 mod faults;
 #[cfg(test)]
 mod labels;
@@ -11,8 +13,14 @@ mod lines;
 #[cfg(test)]
 mod listings;
 #[cfg(test)]
+mod nets;
+#[cfg(test)]
 mod row;
 #[cfg(test)]
+mod spelled;
+#[cfg(test)]
 mod tables;
+#[cfg(test)]
+mod variants;
 #[cfg(test)]
 mod words;

@@ -1,0 +1,86 @@
+//! Nets and the tables that they are made of, for the tests of listings.
+use std::alloc::{AllocError, Global};
+use std::test::Fail;
+use variant_list::{Net, NetFault};
+use variant_table::Table;
+
+/// a and aa for each other.
+pub const DOUBLED: &[u8] = b"0061|0061-0061\n";
+
+/// A hyphen for a. The candidates of aaa are ---, --a, -a-, -aa, a--, a-a, aa- and aaa.
+pub const HYPHENS: &[u8] = b"0061|002D\n";
+
+/// Two segmentations begin alike, and one of them has no end.
+pub const BLIND: &[u8] = b"0061-0062|0063\n0061|0062\n";
+
+/// The sharp s of German for ss, and ss for it.
+pub const SHARP_S: &[u8] = b"0061\n0065\n0072\n0073\n0074\n0073-0073|00DF\n00DF|0073-0073\n";
+
+/// The code points of a text.
+pub fn points(alloc: Global, text: &str) -> Result<Vec<u32>, AllocError> {
+    let mut points = Vec::new(alloc);
+    for c in text.chars() {
+        points.push(c as u32)?;
+    }
+    Ok(points)
+}
+
+/// The net of a label, where it has 1 to 63 code points.
+pub fn net_of(alloc: Global, table: &Table, label: &[u32]) -> Result<Net, Fail> {
+    if label.is_empty() || label.len() > 63 {
+        return Err("a label of no code point, or of more than 63".into());
+    }
+    Ok(Net::build(alloc, table, label)?)
+}
+
+/// The same from the text of the table.
+pub fn net(alloc: Global, table: &[u8], label: &str) -> Result<Net, Fail> {
+    net_of(alloc, &Table::read(alloc, table)?, &points(alloc, label)?)
+}
+
+/// Labels with the number of edges of their nets, and the least length that they spell.
+const MEASURED: [(&[u8], &str, u64, usize); 4] = [
+    (DOUBLED, "aa", 6, 2),
+    (SHARP_S, "strasse", 10, 6),
+    (SHARP_S, "sss", 9, 2),
+    (BLIND, "ab", 5, 1),
+];
+
+#[test]
+fn edges_and_shortest_labels(rt: HostRuntime) -> Result<(), Fail> {
+    for (table, label, edges, shortest) in MEASURED {
+        let net = net(rt.alloc(), table, label)?;
+        assert_eq!(&rt; net.edges(), edges, "edges of {label}");
+        assert_eq!(&rt; net.shortest(), shortest, "shortest of {label}");
+    }
+    Ok(())
+}
+
+/// Labels that are stuck at their beginning, in their midst and at their end.
+const STUCK: [(&[u8], &str); 4] = [
+    (DOUBLED, "ba"),
+    (DOUBLED, "aba"),
+    (DOUBLED, "ab"),
+    (SHARP_S, "ssx"),
+];
+
+#[test]
+fn labels_without_a_segmentation(rt: HostRuntime) -> Result<(), Fail> {
+    for (table, label) in STUCK {
+        let table = Table::read(rt.alloc(), table)?;
+        let points = points(rt.alloc(), label)?;
+        if points.is_empty() || points.len() > 63 {
+            return Err("not a label".into());
+        }
+        let fault = Net::build(rt.alloc(), &table, &points).err();
+        assert_eq!(&rt; fault, Some(NetFault::NotInTable), "{label}");
+    }
+    Ok(())
+}
+
+#[test]
+fn texts_of_faults(rt: HostRuntime) -> Result<(), Fail> {
+    let text = format!(in rt.alloc(); "{}, {}", NetFault::NotInTable, NetFault::Memory)?;
+    assert_eq!(&rt; text.as_str(), "not made of table entries, out of memory");
+    Ok(())
+}
