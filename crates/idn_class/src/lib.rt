@@ -4,6 +4,7 @@
 //! no other test beside their like.
 #![tactic(auto)]
 
+mod beginning;
 mod bidi;
 mod bidi_class;
 mod category;
@@ -11,6 +12,7 @@ mod class;
 mod class_table;
 mod contextj;
 mod contexto;
+mod direction;
 mod fitting;
 mod joining_type;
 mod laws;
@@ -20,6 +22,7 @@ mod stability;
 #[cfg(test)]
 mod tests;
 
+pub use beginning::{hopeless, shortest_hopeless};
 pub use bidi::bidi_ok;
 pub use bidi_class::BidiClass;
 pub use class::{Class, class_of};
@@ -28,7 +31,7 @@ pub use contexto::contexto_ok;
 pub use fitting::fits_anywhere;
 pub use joining_type::JoiningType;
 pub use laws::{
-    bidi_rows, class_rows, joiner_rows, mark_rows, only_rtl_labels_pass, other_rows,
-    tests_are_rules,
+    bidi_rows, class_rows, hopeless_for_good, hopeless_rows, joiner_rows, mark_rows,
+    only_rtl_labels_pass, other_rows, tests_are_rules,
 };
 pub use mark::leading_mark;
