@@ -1,5 +1,5 @@
 -- What a call answers where it ends, and that it pays for no more dead ends than it met.
-use Rattle.std.proofs.Common.{◌≡◌, ℕ, ◌+◌, ◌-◌, ◌*◌, ◌<◌, ◌≤◌, ◌⊎◌, inl, inr, Bool, true, false, cond, List, [], ◌∷◌, ◌++◌, length, take, Some, None, slice_get, refl, sym, ap, ◌∙◌, subst, arith, append_assoc, append-nil, length-append}
+use Rattle.std.proofs.Common.{◌≡◌, ℕ, ◌+◌, ◌-◌, ◌*◌, ◌<◌, ◌≤◌, ◌⊎◌, inl, inr, Bool, true, false, cond, List, [], ◌∷◌, ◌++◌, length, take, None, slice_get, refl, sym, ap, ◌∙◌, subst, arith, append_assoc, append-nil, length-append}
 use Rattle.std.specs.List.{filter}
 use Rattle.std.specs.Ordering.{is_lt}
 use Rattle.std.specs.Option.{is_none}
@@ -10,7 +10,7 @@ use Rattle.variant_list.specs.Positions.{Position, candidates_ahead, tested_ahea
 use Rattle.variant_list.specs.Steps.{NoneAccepted, last_of, moved_over, IsFound, IsSpent, IsEnded, IsInterrupted, HasMovedOver}
 use Rattle.variant_list.specs.Beginnings.{shortest_hopeless, has_hope, dead_ends}
 use Rattle.variant_list.specs.Tested.{dead_ends_after, dead_ends_between}
-use Rattle.variant_list.specs.Skips.{edges_of_net, GoesBack, FindsHope, FindsNone}
+use Rattle.variant_list.specs.inner.Skips.{edges_of_net, GoesBack, FindsHope, FindsNone}
 use Rattle.variant_list.proofs.Lists.{looks-sum, product-le, last_of-push, filter-none, slice_get-behind}
 use Rattle.variant_list.proofs.Skipping.{IsRising-ahead, edges-same}
 use Rattle.variant_list.proofs.DeadEndLemmas.{dead_ends-joined}

@@ -3,10 +3,10 @@ use Rattle.std.proofs.Common.{◌≡◌, ℕ, ◌+◌, ◌-◌, ◌*◌, ◌<◌
 use Rattle.std.specs.List.{AllByRecursion, filter}
 use Rattle.std.specs.Option.{is_none}
 use Rattle.std.proofs.lemmas.List.Elements.{All-nil, filter-append}
-use Rattle.variant_list.specs.Positions.{Built, Position, candidates_ahead}
+use Rattle.variant_list.specs.Positions.{Position, candidates_ahead}
 use Rattle.variant_list.specs.Steps.{NoneAccepted}
 use Rattle.variant_list.specs.Beginnings.{shortest_hopeless, has_hope, dead_ends}
-use Rattle.variant_list.specs.Skips.{edges_of_net, FindsHope}
+use Rattle.variant_list.specs.inner.Skips.{edges_of_net, FindsHope}
 use Rattle.variant_list.proofs.Lists.{looks-sum, filter-none}
 use Rattle.variant_list.proofs.DeadEndLemmas.{dead_ends-joined}
 use Rattle.variant_list.proofs.Skipping.{edges-same}

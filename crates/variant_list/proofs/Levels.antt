@@ -1,8 +1,8 @@
 -- Where a label differs from another one, and how many code points both begin with.
-use Rattle.std.proofs.Common.{◌≡◌, ◌==◌, ◌&&◌, ℕ, zero, suc, ◌+◌, ◌<◌, ◌≤◌, true, false, List, [], ◌∷◌, ◌++◌, take, length, refl, ap, ◌∙◌, subst, sym, arith}
+use Rattle.std.proofs.Common.{◌≡◌, ◌==◌, ◌&&◌, ℕ, zero, suc, ◌<◌, ◌≤◌, true, false, List, [], ◌∷◌, ◌++◌, take, length, refl, ap, ◌∙◌, subst, arith}
 use Rattle.std.proofs.lemmas.Bool.{eq-eqb, ne_eqb}
 use Rattle.variant_list.specs.Beginnings.{shares}
-use Rattle.variant_list.specs.Least.{floor}
+use Rattle.variant_list.specs.inner.Least.{floor}
 use Rattle.variant_list.proofs.Orders.{floor-more, floor-first}
 
 -- labels that go on from the same code points share them

@@ -10,7 +10,7 @@ use Rattle.variant_list.specs.Spelled.{spelled}
 use Rattle.variant_list.specs.Variants.{fits_label, candidates, in_order, variants}
 use Rattle.variant_list.proofs.OrderLemmas.{ranked_labels, below_itself, Less_from_below, Greater_from_below}
 use Rattle.variant_list.specs.Beginnings.{has_hope, shares}
-use Rattle.variant_list.specs.Skips.{outside}
+use Rattle.variant_list.specs.inner.Skips.{outside}
 use Rattle.variant_list.specs.Tested.{tested}
 use Rattle.variant_list.proofs.Lists.{filter-none, AllByRecursion-map, AllByRecursion-behind}
 

@@ -1,6 +1,6 @@
 use Rattle.std.proofs.Common.{refl, subst}
 use Rattle.variant_list.specs.Positions.{Position}
-use Rattle.variant_list.specs.Skips.{Searches}
+use Rattle.variant_list.specs.inner.Skips.{Searches}
 use Rattle.variant_list.proofs.CandidateLemmas.{Searches-found}
 use Rattle.variant_list.proofs.cursor.Cursor.pass_over.Goals as goal
 
