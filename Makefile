@@ -3,7 +3,7 @@ RT ?= rt
 PROGRAM := crates/idn2/out/idn2
 PREFIX ?= /usr/local
 
-.PHONY: all run test install check-tables bench conformance fuzz clean
+.PHONY: all try run test wrong-bodies install check-tables bench conformance fuzz clean
 
 # Proves every function on the program's way, and builds it.
 all:
@@ -13,9 +13,18 @@ all:
 run: all
 	printf '0061|0061-0061\n' | $(PROGRAM) --variants /dev/stdin aa
 
+# A first look: the same job by a build that nothing vouches for.
+try:
+	printf '0061|0061-0061\n' | (cd crates/idn2 && $(RT) try -- --variants /dev/stdin aa)
+	@echo 'Nothing was proved: this build was made without the checker. make run proves the program first.'
+
 # The gate: proves everything from nothing, tries each wrong body, runs the programs and the tests.
 test:
 	RT=$(RT) tests/gate
+
+# The wrong bodies that the gate leaves out, of all crates or of those that CRATES names.
+wrong-bodies:
+	RT=$(RT) tests/wrong-bodies $(CRATES)
 
 # The program and its manual page, below $(DESTDIR)$(PREFIX).
 install: all

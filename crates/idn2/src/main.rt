@@ -5,14 +5,14 @@ mod streams;
 mod system;
 
 ghost use Rattle.std.specs.Prelude.{IfErr};
-ghost use Rattle.idn2_cli.specs.Faults.{IsFault};
+ghost use Rattle.idn2_cli.specs.Ends.{IsFault};
 ghost use Rattle.idn2_cli.specs.Settings.{IsWithinLimits};
 
 use idn_text::{Device, Lines, Refusal};
 use idn2_cli::{Options, Status, Usage, input_text, read_options, report, run};
 use std::io::{BufWriter, Stdout, Write};
 use std::process::ExitCode;
-use streams::{Answers, Messages, Output, Questions};
+use streams::{Answers, Input, Messages, Output};
 use system::{read_table, standard_output, words};
 
 fn main(rt: HostRuntime) -> ExitCode {
@@ -90,7 +90,7 @@ fn run_on_input(
         rt.alloc(),
         options,
         table,
-        &mut Lines::new(Device::new(Questions::new(rt.stdin(), output))),
+        &mut Lines::new(Device::new(Input::new(rt.stdin(), output))),
         &mut Device::new(Answers::new(output)),
         &mut Device::new(Messages::new(rt.stderr(), output)),
     )

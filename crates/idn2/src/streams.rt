@@ -101,19 +101,19 @@ impl<E: Write, W: Write> Write for Messages<'_, E, W> {
 
 /// Reads input, after the answers so far are written.
 #[derive(Drop)]
-pub struct Questions<'a, R, W> {
+pub struct Input<'a, R, W> {
     input: R,
     output: &'a Output<W>,
 }
 
-impl<'a, R, W> Questions<'a, R, W> {
+impl<'a, R, W> Input<'a, R, W> {
     /// Lines come from `input`, answers go into this output.
     pub fn new(input: R, output: &'a Output<W>) -> Self {
-        Questions { input, output }
+        Input { input, output }
     }
 }
 
-impl<R: Read, W: Write> Read for Questions<'_, R, W> {
+impl<R: Read, W: Write> Read for Input<'_, R, W> {
     fn read(&mut self, bytes: &mut [u8]) -> Result<usize> {
         self.output.flush()?;
         self.input.read(bytes)

@@ -1,6 +1,6 @@
 //! What the program takes from the system: its words, the file of its table, its output.
 ghost use Rattle.std.specs.Prelude.{IfErr};
-ghost use Rattle.idn2_cli.specs.Faults.{IsFault};
+ghost use Rattle.idn2_cli.specs.Ends.{IsFault};
 
 use idn_text::Refusal;
 use idn2_cli::{Mode, Options};
@@ -10,6 +10,9 @@ use std::io::{self, BufWriter, ErrorKind, Read, Stdout};
 
 /// One byte more than a table's text may have: no later byte changes what is wrong with it.
 const TABLE_BYTES: u64 = 1_048_577;
+
+/// How many bytes of the output are kept until they are written.
+const OUTPUT_BUFFER_LEN: usize = 65_536;
 
 /// The words of the command line. A word that is not UTF-8 can't be an option or a line.
 pub fn words(rt: &HostRuntime) -> Result<Vec<String>, Refusal>
@@ -55,7 +58,7 @@ fn read_start(rt: &HostRuntime, name: &str) -> io::Result<Vec<u8>> {
 pub fn standard_output(rt: &HostRuntime) -> Result<BufWriter<Stdout>, Refusal>
     ensures { IfErr result IsFault }
 {
-    match BufWriter::new(rt.alloc(), rt.stdout()) {
+    match BufWriter::with_capacity(rt.alloc(), OUTPUT_BUFFER_LEN, rt.stdout()) {
         Ok(output) => Ok(output),
         Err(_) => Err(Refusal::Memory),
     }

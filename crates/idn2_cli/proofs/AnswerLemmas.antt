@@ -7,8 +7,8 @@ use Rattle.clap.specs.declared.error.ErrorKind.{ErrorKind}
 use Rattle.clap.specs.declared.error.ErrorKind.TheVariants.{OutOfMemory}
 use Rattle.idn2_cli.specs.CommandLine.{app}
 use Rattle.idn2_cli.specs.Words.{Answer, IsAnswer, IsUsage, answer_of, asks_to_show, bad, chosen, is_allowed, options_of, settings_of, shown}
-use Rattle.idn2_cli.specs.declared.usage.Usage.{Usage}
-use Rattle.idn2_cli.specs.declared.usage.Usage.TheVariants.{Bad, Show, Memory}
+use Rattle.idn2_cli.specs.declared.command_line.usage.Usage.{Usage}
+use Rattle.idn2_cli.specs.declared.command_line.usage.Usage.TheVariants.{Bad, Show, Memory}
 use Rattle.idn2_cli.proofs.LoneKind.{IsLone, lone-app}
 
 -- a refusal of one kind

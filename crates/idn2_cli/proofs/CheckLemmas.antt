@@ -6,8 +6,7 @@ use Rattle.std.proofs.Common.{Vec}
 use Rattle.std.specs.declared.alloc.Global.{Global}
 use Rattle.std.proofs.lemmas.List.{get_or-map, length-map}
 use Rattle.variant_table.specs.Gaps.{IsGap, IsPair, AreGapsOf, gaps_of, pair_of, pairs_of}
-use Rattle.idn2_cli.specs.Pieces.{Piece, Output}
-use Rattle.idn2_cli.specs.Transcript.{gap_line, table_line, check_lines, output_lines}
+use Rattle.idn2_cli.specs.Transcript.{Piece, Output, gap_line, table_line, check_lines, output_lines}
 use Rattle.variant_table.proofs.MemberLemmas.{Contains-head, Contains-later}
 
 -- the rest of a list, its first element named

@@ -20,14 +20,12 @@ use Rattle.variant_list.specs.Spelled.{spelled}
 use Rattle.variant_list.specs.Variants.{variants, candidates, in_order}
 use Rattle.variant_list.specs.Examples.{a_or_two, letter_or_hyphen}
 use Rattle.idn2_cli.specs.Settings.{Settings}
-use Rattle.idn2_cli.specs.Blocks.{block, block_to, is_registrable, lesser, nth, nth_if_given}
+use Rattle.idn2_cli.specs.Answers.{block, block_to, is_registrable, lesser, nth, nth_if_given, one_line}
 use Rattle.std.specs.Char.{encode_utf8}
 use Rattle.std.specs.Str.{is_utf8, chars}
 use Rattle.idn_text.specs.Lines.{lines_of}
-use Rattle.idn2_cli.specs.Pieces.{Output, Message}
-use Rattle.idn2_cli.specs.LineAnswers.{one_line}
-use Rattle.idn2_cli.specs.Transcript.{lines_pieces, has_refused, status_if}
-use Rattle.idn2_cli.specs.declared.status.Status.TheVariants.{Refused}
+use Rattle.idn2_cli.specs.Transcript.{Output, Message, lines_pieces, has_refused, status_if}
+use Rattle.idn2_cli.specs.declared.session.status.Status.TheVariants.{Refused}
 use Rattle.idn2_cli.specs.Examples.{ExamplesOfBlocks, ExamplesOfTranscripts, listing, three_lines}
 
 -- ---- labels of lower-case letters, digits and hyphens

@@ -3,7 +3,7 @@ use Rattle.std.proofs.Common.{◌≡◌, ◌≢◌, codes, refl, ap, sym, ◌∙
 use Rattle.std.specs.Fmt.{digits}
 use Rattle.idn_text.specs.declared.refusal.Refusal.{Refusal}
 use Rattle.idn_text.specs.declared.refusal.Refusal.TheVariants.{Usage, ReadFault, WriteFault, Memory}
-use Rattle.idn2_cli.specs.Faults.{IsFault, closing_message}
+use Rattle.idn2_cli.specs.Ends.{IsFault, closing_message}
 
 usage_line : codes "idn2: 50 usage\n" ≡ closing_message Usage
 unfolding digits

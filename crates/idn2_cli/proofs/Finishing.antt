@@ -1,138 +1,73 @@
 -- From the lines of the input, or none, to the end of a run.
-use Rattle.std.proofs.Common.{◌≡◌, ◌≢◌, ℕ, List, [], ◌∷◌, Bool, true, false, Option, Result, Ok, Err, IfOk, IfErr, take, refl, sym, ap, subst, ◌∙◌}
-use Rattle.std.proofs.lemmas.List.{append-nil}
-use Rattle.std.specs.Io.KnownBytes.{Appends}
+use Rattle.std.proofs.Common.{inl, inr, ◌⊎◌, ◌≡◌, ◌≢◌, ℕ, List, [], false, Result, Ok, Err, IfOk, refl, sym, ap, subst, ◌∙◌}
 use Rattle.idn_text.specs.Reading.{Reading, IsUnread}
 use Rattle.idn_text.specs.declared.refusal.Refusal.{Refusal}
 use Rattle.idn_text.proofs.ReadingLemmas.{has_read_nothing}
 use Rattle.std.proofs.lemmas.Bool.{false≢true}
 use Rattle.idn2_cli.specs.Settings.{Settings}
-use Rattle.idn2_cli.specs.Tables.{TableGiven, IsReadAs, IsTableOf}
-use Rattle.idn2_cli.specs.Pieces.{Piece, Message}
-use Rattle.idn2_cli.specs.Held.{Held, Takes, Writes}
-use Rattle.idn2_cli.specs.Faults.{TakesText, closing_message}
-use Rattle.idn2_cli.specs.LineAnswers.{LineAnswer}
-use Rattle.idn2_cli.specs.Transcript.{transcript, status_of, lines_pieces, has_refused, status_if, check_pieces, check_status}
-use Rattle.idn2_cli.specs.Emitting.{IsCutBy, Emits}
-use Rattle.idn2_cli.specs.Ends.{Stands, Closes, IsTold, refusal_of, reads_lines}
-use Rattle.idn2_cli.specs.Serving.{HasServed, HasStoppedServing}
-use Rattle.idn2_cli.specs.Sessions.{HasFinished, HasHalted}
-use Rattle.idn2_cli.specs.declared.mode.Mode.{Mode}
-use Rattle.idn2_cli.specs.declared.mode.Mode.TheVariants.{Variants, CheckTable}
-use Rattle.idn2_cli.specs.declared.status.Status.{Status}
-use Rattle.idn2_cli.specs.declared.stop.Stop.{Stop}
-use Rattle.idn2_cli.specs.declared.stop.Stop.TheVariants as stop
-use Rattle.idn2_cli.proofs.Writing.{appends_nothing, stops_first}
+use Rattle.idn2_cli.specs.Transcript.{TableGiven, IsReadAs, IsTableOf, Piece, check_pieces, check_status}
+use Rattle.idn2_cli.specs.Ends.{Held, TakesText, closing_message, Job, Does, Closes, mode_job, refusal_of}
+use Rattle.idn2_cli.specs.Emitting.{Emits}
+use Rattle.idn2_cli.specs.declared.command_line.mode.Mode.{Mode}
+use Rattle.idn2_cli.specs.declared.command_line.mode.Mode.TheVariants.{Variants, CheckTable}
+use Rattle.idn2_cli.specs.declared.session.status.Status.{Status}
+use Rattle.idn2_cli.specs.declared.session.stop.Stop.{Stop}
+use Rattle.idn2_cli.specs.declared.session.stop.Stop.TheVariants as stop
+use Rattle.idn2_cli.proofs.Writing.{stops_first}
 use Rattle.idn2_cli.proofs.Sessions.{stands_cut}
-use Rattle.idn2_cli.proofs.TableLemmas.{some_table}
+use Rattle.idn2_cli.proofs.TableLemmas.{some_table, refused_table}
+use Rattle.std.specs.Prelude.{MatchOption}
+use Rattle.variant_table.specs.Texts.{IsToldOf}
+use Rattle.variant_table.specs.declared.fault.TableFault.{TableFault}
+use Rattle.idn2_cli.specs.Inner.{told_of}
+use Rattle.idn2_cli.specs.declared.session.status.Status.TheVariants.{Unusable}
 
 -- ---- a mode that answers lines
 
--- the table, and the run as its lines make it
-pub finished : (o : Settings) (mode : Mode) (text : List ℕ) (given : TableGiven) (answer : List ℕ → LineAnswer) (start now : Reading) (old new : Held) (r : Result Status Stop)
-    → o.mode ≡ mode → IsTableOf mode text given → reads_lines mode given ≡ true
-    → ((lines : _) → lines_pieces answer lines ≡ transcript (record o { mode = mode }) given lines)
-    → ((lines : _) → status_if (has_refused answer lines) ≡ status_of (record o { mode = mode }) given lines)
-    → IfOk r (HasServed answer start now old new)
-    → IfOk r (λ status. (table : TableGiven) × IsTableOf o.mode text table × HasFinished o table start now old new status)
-finished o mode text given answer start now old new (Err why) e table reads pieces refused h = tt
-finished o mode text given answer start now old new (Ok status) e table reads pieces refused h = (
+-- the table, and the job that its mode makes of it
+pub as_mode : (o : Settings) (mode : Mode) (text : List ℕ) (given : TableGiven) (job : Job) (start now : Reading) (old new : Held) (r : Result Status Stop)
+    → o.mode ≡ mode → IsTableOf mode text given → job ≡ mode_job (record o { mode = mode }) given → Does job start now old new r
+    → (table : TableGiven) × IsTableOf o.mode text table × Does (mode_job o table) start now old new r
+as_mode o mode text given job start now old new r e table same done = (
   given,
   subst (λ (m : Mode). IsTableOf m text given) (sym e) table,
-  record {
-    given = h.given;
-    lines = h.lines;
-    read = h.read;
-    unread = λ none. absurd (differ (reads_lines o.mode given) (ap (λ (m : Mode). reads_lines m given) e ∙ reads) none);
-    ended = λ _. h.ended;
-    pieces = subst (Writes old new) (pieces h.lines ∙ ap (λ (m : Mode). transcript (record o { mode = m }) given h.lines) (sym e)) h.pieces;
-    answered = h.answered ∙ refused h.lines ∙ ap (λ (m : Mode). status_of (record o { mode = m }) given h.lines) (sym e);
-  },
+  subst (λ (j : Job). Does j start now old new r) (same ∙ ap (λ (m : Mode). mode_job (record o { mode = m }) given) (sym e)) done,
 )
-  where
-    differ : (b : Bool) → b ≡ true → b ≡ false → ⊥
-    differ true t f = cc
-    differ false t f = cc
-
-pub halted : (o : Settings) (mode : Mode) (text : List ℕ) (given : TableGiven) (answer : List ℕ → LineAnswer) (start now : Reading) (old new : Held) (r : Result Status Stop)
-    → o.mode ≡ mode → IsTableOf mode text given → reads_lines mode given ≡ true
-    → ((lines : _) → lines_pieces answer lines ≡ transcript (record o { mode = mode }) given lines)
-    → IfErr r (λ why. HasStoppedServing answer why start now old new)
-    → IfErr r (λ why. (table : TableGiven) × IsTableOf o.mode text table × HasHalted o table why start now old new)
-halted o mode text given answer start now old new (Ok status) e table reads pieces h = tt
-halted o mode text given answer start now old new (Err why) e table reads pieces h = (
-  given,
-  subst (λ (m : Mode). IsTableOf m text given) (sym e) table,
-  record {
-    given = h.given;
-    lines = h.lines;
-    written = h.written;
-    read = h.read;
-    unread = λ none. absurd (differ (reads_lines o.mode given) (ap (λ (m : Mode). reads_lines m given) e ∙ reads) none);
-    pieces = h.pieces;
-    stands = subst (λ (ps : List Piece). Stands why now new ps h.written) (pieces h.lines ∙ ap (λ (m : Mode). transcript (record o { mode = m }) given h.lines) (sym e)) h.stands;
-  },
-)
-  where
-    differ : (b : Bool) → b ≡ true → b ≡ false → ⊥
-    differ true t f = cc
-    differ false t f = cc
 
 -- ---- a mode that reads no line
 
--- its pieces are written
-pub finished_unread : (o : Settings) (mode : Mode) (text : List ℕ) (given : TableGiven) (start : Reading) (old new : Held) (r : Result Status Stop)
-    → o.mode ≡ mode → IsTableOf mode text given → reads_lines mode given ≡ false → IsUnread start
-    → Emits old new (transcript (record o { mode = mode }) given []) r → IfOk r (λ status. status ≡ status_of (record o { mode = mode }) given [])
-    → IfOk r (λ status. (table : TableGiven) × IsTableOf o.mode text table × HasFinished o table start start old new status)
-finished_unread o mode text given start old new (Err why) e table unread start_unread writes answered = tt
-finished_unread o mode text given start old new (Ok status) e table unread start_unread writes answered = (
-  given,
-  subst (λ (m : Mode). IsTableOf m text given) (sym e) table,
-  record {
-    given = [];
-    lines = [];
-    read = has_read_nothing start start_unread;
-    unread = λ _. refl;
-    ended = λ reads. absurd (false≢true (sym (ap (λ (m : Mode). reads_lines m given) e ∙ unread) ∙ reads));
-    pieces = subst (Writes old new) (ap (λ (m : Mode). transcript (record o { mode = m }) given []) (sym e)) writes;
-    answered = answered ∙ ap (λ (m : Mode). status_of (record o { mode = m }) given []) (sym e);
-  },
-)
+-- its pieces are written, or some of them to a stop
+does_unread : (job : Job) (start : Reading) (old new : Held) (r : Result Status Stop) → IsUnread start → Emits old new (job.pieces []) r
+    → IfOk r (λ status. (job.reads ≡ false) × (status ≡ job.status [])) → Does job start start old new r
+does_unread job start old new (Ok status) unread writes answered = record {
+  given = [];
+  lines = [];
+  read = has_read_nothing start unread;
+  unread = λ _. refl;
+  ending = record { ended = λ reads. absurd (false≢true (sym answered.0 ∙ reads)); pieces = writes; answered = answered.1 };
+}
+does_unread job start old new (Err why) unread writes answered = record {
+  given = [];
+  lines = [];
+  read = has_read_nothing start unread;
+  unread = λ _. refl;
+  ending = record { written = writes.0; pieces = writes.1; stands = stands_cut why start new (job.pieces []) writes.0 writes.2 };
+}
 
--- some of its pieces are written, to a stop
-pub halted_unread : (o : Settings) (mode : Mode) (text : List ℕ) (given : TableGiven) (start : Reading) (old new : Held) (r : Result Status Stop)
-    → o.mode ≡ mode → IsTableOf mode text given → IsUnread start
-    → Emits old new (transcript (record o { mode = mode }) given []) r
-    → IfErr r (λ why. (table : TableGiven) × IsTableOf o.mode text table × HasHalted o table why start start old new)
-halted_unread o mode text given start old new (Ok status) e table start_unread writes = tt
-halted_unread o mode text given start old new (Err why) e table start_unread writes = (
-  given,
-  subst (λ (m : Mode). IsTableOf m text given) (sym e) table,
-  record {
-    given = [];
-    lines = [];
-    written = writes.0;
-    read = has_read_nothing start start_unread;
-    unread = λ _. refl;
-    pieces = writes.1;
-    stands = stands_cut why start new (transcript o given []) writes.0
-        (subst (λ (ps : List Piece). IsCutBy why new ps writes.0) (ap (λ (m : Mode). transcript (record o { mode = m }) given []) (sym e)) writes.2);
-  },
-)
+with_false : (r : Result Status Stop) (status : Status) → IfOk r (λ s. s ≡ status) → IfOk r (λ s. (false ≡ false) × (s ≡ status))
+with_false (Ok s) status e = (refl, e)
+with_false (Err why) status e = tt
 
 -- the check of a table, whatever its text is
-pub checked_ended : (o : Settings) (text : List ℕ) (given : TableGiven) (start : Reading) (old new : Held) (r : Result Status Stop)
+pub checked : (o : Settings) (text : List ℕ) (given : TableGiven) (start : Reading) (old new : Held) (r : Result Status Stop)
     → o.mode ≡ CheckTable → IsReadAs text given → IsUnread start → Emits old new (check_pieces given) r → IfOk r (λ status. status ≡ check_status given)
-    → IfOk r (λ status. (table : TableGiven) × IsTableOf o.mode text table × HasFinished o table start start old new status)
-checked_ended o text (Ok table) start old new r e read unread writes answered = finished_unread o CheckTable text (Ok table) start old new r e read refl unread writes answered
-checked_ended o text (Err fault) start old new r e read unread writes answered = finished_unread o CheckTable text (Err fault) start old new r e read refl unread writes answered
-
-pub checked_stopped : (o : Settings) (text : List ℕ) (given : TableGiven) (start : Reading) (old new : Held) (r : Result Status Stop)
-    → o.mode ≡ CheckTable → IsReadAs text given → IsUnread start → Emits old new (check_pieces given) r
-    → IfErr r (λ why. (table : TableGiven) × IsTableOf o.mode text table × HasHalted o table why start start old new)
-checked_stopped o text (Ok table) start old new r e read unread writes = halted_unread o CheckTable text (Ok table) start old new r e read unread writes
-checked_stopped o text (Err fault) start old new r e read unread writes = halted_unread o CheckTable text (Err fault) start old new r e read unread writes
+    → (table : TableGiven) × IsTableOf o.mode text table × Does (mode_job o table) start start old new r
+checked o text (Ok table) start old new r e read unread writes answered =
+    let job = mode_job (record o { mode = CheckTable }) (Ok table) in
+    as_mode o CheckTable text (Ok table) job start start old new r e read refl (does_unread job start old new r unread writes (with_false r _ answered))
+checked o text (Err fault) start old new r e read unread writes answered =
+    let job = mode_job (record o { mode = CheckTable }) (Err fault) in
+    as_mode o CheckTable text (Err fault) job start start old new r e read refl (does_unread job start old new r unread writes (with_false r _ answered))
 
 -- want of memory before any piece
 pub emits_memory : {A : Type 0} (old : Held) (pieces : List Piece) (r : Result A Stop) (why : Stop) → r ≡ Err why → why ≡ stop.Memory → Emits old old pieces r
@@ -142,59 +77,60 @@ emits_memory {A} old pieces r why e memory =
 -- memory was refused while the table was read
 pub unread_stopped : (o : Settings) (text : List ℕ) (start : Reading) (old : Held) (r : Result Status Stop) (why : Stop)
     → o.mode ≡ Variants → IsUnread start → r ≡ Err why → why ≡ stop.Memory
-    → IfErr r (λ why. (table : TableGiven) × IsTableOf o.mode text table × HasHalted o table why start start old old)
+    → (table : TableGiven) × IsTableOf o.mode text table × Does (mode_job o table) start start old old r
 unread_stopped o text start old r why e unread is memory =
     let t = some_table text in
-    halted_unread o Variants text t.0 start old old r e t.1 unread (emits_memory old (transcript (record o { mode = Variants }) t.0 []) r why is memory)
+    let job = mode_job (record o { mode = Variants }) t.0 in
+    as_mode o Variants text t.0 job start start old old r e t.1 refl
+    (does_unread job start old old r unread (emits_memory old (job.pieces []) r why is memory)
+    (subst (λ (s : Result Status Stop). IfOk s (λ status. (job.reads ≡ false) × (status ≡ job.status []))) (sym is) tt))
 
 -- the fault of a table is told
-pub faulty_ended : (o : Settings) (text : List ℕ) (line : ℕ) (refusal : Refusal) (start : Reading) (old new : Held) (r : Result Status Stop)
+pub faulty : (o : Settings) (text : List ℕ) (line : ℕ) (refusal : Refusal) (start : Reading) (old new : Held) (r : Result Status Stop)
     → o.mode ≡ Variants → IsReadAs text (Err (line, refusal)) → IsUnread start → Emits old new (check_pieces (Err (line, refusal))) r → IfOk r (λ status. status ≡ check_status (Err (line, refusal)))
-    → IfOk r (λ status. (table : TableGiven) × IsTableOf o.mode text table × HasFinished o table start start old new status)
-faulty_ended o text line refusal start old new r e read unread writes answered = finished_unread o Variants text (Err (line, refusal)) start old new r e read refl unread writes answered
+    → (table : TableGiven) × IsTableOf o.mode text table × Does (mode_job o table) start start old new r
+faulty o text line refusal start old new r e read unread writes answered =
+    let job = mode_job (record o { mode = Variants }) (Err (line, refusal)) in
+    as_mode o Variants text (Err (line, refusal)) job start start old new r e read refl (does_unread job start old new r unread writes (with_false r _ answered))
 
-pub faulty_stopped : (o : Settings) (text : List ℕ) (line : ℕ) (refusal : Refusal) (start : Reading) (old new : Held) (r : Result Status Stop)
-    → o.mode ≡ Variants → IsReadAs text (Err (line, refusal)) → IsUnread start → Emits old new (check_pieces (Err (line, refusal))) r
-    → IfErr r (λ why. (table : TableGiven) × IsTableOf o.mode text table × HasHalted o table why start start old new)
-faulty_stopped o text line refusal start old new r e read unread writes = halted_unread o Variants text (Err (line, refusal)) start old new r e read unread writes
+-- a table that is not read, in the listing of variants
+pub refused_variants : (o : Settings) (text : List ℕ) (fault : TableFault) (start : Reading) (old new : Held) (r : Result Status Stop)
+    → o.mode ≡ Variants → IsUnread start → IsToldOf text fault
+    → MatchOption (told_of fault) ((r ≡ Err stop.Memory) × (new ≡ old)) (λ told. Emits old new (check_pieces (Err told)) r)
+    → IfOk r (λ status. status ≡ Unusable)
+    → (table : TableGiven) × IsTableOf o.mode text table × Does (mode_job o table) start start old new r
+refused_variants o text fault start old new r e unread is told answered = by (refused_table text fault old new r is told)
+  where
+    by : ((r ≡ Err stop.Memory) × (new ≡ old)) ⊎ ((told : ℕ × Refusal) × IsReadAs text (Err told) × Emits old new (check_pieces (Err told)) r)
+        → (table : TableGiven) × IsTableOf o.mode text table × Does (mode_job o table) start start old new r
+    by (inl memory) =
+        subst (λ (h : Held). (table : TableGiven) × IsTableOf o.mode text table × Does (mode_job o table) start start old h r) (sym memory.1)
+        (unread_stopped o text start old r stop.Memory e unread memory.0 refl)
+    by (inr t) = faulty o text t.0.0 t.0.1 start old new r e t.1 unread t.2 answered
+
+-- a table that is not read, in the check of a table
+pub refused_check : (text : List ℕ) (fault : TableFault) (old new : Held) (r : Result Status Stop) → IsToldOf text fault
+    → MatchOption (told_of fault) ((r ≡ Err stop.Memory) × (new ≡ old)) (λ told. Emits old new (check_pieces (Err told)) r)
+    → IfOk r (λ status. status ≡ Unusable)
+    → (given : TableGiven) × IsReadAs text given × Emits old new (check_pieces given) r × IfOk r (λ status. status ≡ check_status given)
+refused_check text fault old new r is told answered = by (refused_table text fault old new r is told)
+  where
+    by : ((r ≡ Err stop.Memory) × (new ≡ old)) ⊎ ((told : ℕ × Refusal) × IsReadAs text (Err told) × Emits old new (check_pieces (Err told)) r)
+        → (given : TableGiven) × IsReadAs text given × Emits old new (check_pieces given) r × IfOk r (λ status. status ≡ check_status given)
+    by (inl memory) =
+        let t = some_table text in (
+          t.0,
+          t.1,
+          subst (λ (h : Held). Emits old h (check_pieces t.0) r) (sym memory.1) (emits_memory old (check_pieces t.0) r stop.Memory memory.0 refl),
+          subst (λ (s : Result Status Stop). IfOk s (λ status. status ≡ check_status t.0)) (sym memory.0) tt,
+        )
+    by (inr t) = (Err t.0, t.1, t.2, answered)
 
 -- ---- the last message
 
-closes_told : (why : Stop) (old new : Held) (closing : List Piece) → why ≢ stop.Messages → IsTold (closing_message (refusal_of why)) old new closing → Closes why old new closing
-closes_told stop.Messages old new closing not told = absurd (not refl)
-closes_told stop.Reading old new closing not told = told
-closes_told stop.Output old new closing not told = told
-closes_told stop.Memory old new closing not told = told
-
--- a message that its writer took, or a proper prefix of it
-pub closes_by : (why : Stop) (old new : Held) → why ≢ stop.Messages → new.output ≡ old.output
-    → TakesText (closing_message (refusal_of why)) old.messages new.messages new.messages_failed old.messages_faults new.messages_faults
-    → (closing : List Piece) × Takes old new closing × Closes why old new closing
-closes_by why old new not same taken =
-    let text = take taken.taken (closing_message (refusal_of why)) in (
-      Message text ∷ [],
-      record {
-        output = subst (λ (o : Option (List ℕ)). Appends old.output o []) (sym same) (appends_nothing old.output);
-        messages = subst (Appends old.messages new.messages) (sym (append-nil text)) taken.appends;
-      },
-      closes_told why old new (Message text ∷ []) not (record { taken = taken.taken; within = taken.within; failed = taken.cause; no_fault = taken.no_fault; cut = refl }),
-    )
-
-told_since : (text : List ℕ) (old middle new : Held) (closing : List Piece) → middle.messages_faults ≡ old.messages_faults → IsTold text middle new closing → IsTold text old new closing
-told_since text old middle new closing before told =
-    record { taken = told.taken; within = told.within; failed = told.failed; no_fault = λ whole. told.no_fault whole ∙ before; cut = told.cut }
-
--- no write of the messages failed before the last message
-pub closes_since : (why : Stop) (old middle new : Held) (closing : List Piece) → (why ≢ stop.Messages → middle.messages_faults ≡ old.messages_faults)
-    → Closes why middle new closing → Closes why old new closing
-closes_since stop.Messages old middle new closing before none = none
-closes_since stop.Reading old middle new closing before told = told_since (closing_message (refusal_of stop.Reading)) old middle new closing (before (λ e. cc)) told
-closes_since stop.Output old middle new closing before told = told_since (closing_message (refusal_of stop.Output)) old middle new closing (before (λ e. cc)) told
-closes_since stop.Memory old middle new closing before told = told_since (closing_message (refusal_of stop.Memory)) old middle new closing (before (λ e. cc)) told
-
--- the last message changes nothing of what stood
-pub stands_still : (why : Stop) (input : Reading) (middle new : Held) (pieces written : List Piece) → Stands why input middle pieces written → new.output_failed ≡ middle.output_failed → (why ≡ stop.Messages → new.messages_failed ≡ middle.messages_failed) → Stands why input new pieces written
-stands_still stop.Reading input middle new pieces written s o m = s
-stands_still stop.Output input middle new pieces written s o m = (s.0, o ∙ s.1)
-stands_still stop.Messages input middle new pieces written s o m = (s.0, m refl ∙ s.1)
-stands_still stop.Memory input middle new pieces written s o m = s
+pub closes_by : (why : Stop) (old new : Held) → why ≢ stop.Messages → new ≡ record old { messages = new.messages }
+    → TakesText (closing_message (refusal_of why)) old.messages new.messages → Closes why old new
+closes_by stop.Messages old new not same told = absurd (not refl)
+closes_by stop.Reading old new not same told = (same, told)
+closes_by stop.Output old new not same told = (same, told)
+closes_by stop.Memory old new not same told = (same, told)

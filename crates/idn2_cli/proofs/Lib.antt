@@ -10,6 +10,7 @@ pub mod TextAnswers
 pub mod Walking
 pub mod Sessions
 pub mod Finishing
+pub mod Lending
 pub mod TableLemmas
 pub mod CheckLemmas
 pub mod DecodedLemmas

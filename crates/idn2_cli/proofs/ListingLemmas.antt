@@ -18,9 +18,8 @@ use Rattle.variant_list.proofs.RecursionLemmas.{spelled-Spells}
 use Rattle.variant_list.proofs.ListedLemmas.{variants-IsListed, variants-behind}
 use Rattle.variant_list.proofs.ListingLemmas.{variants-accepted, variants-cut, fits_label-short}
 use Rattle.idn2_cli.specs.Settings.{Settings, IsCount}
-use Rattle.idn2_cli.specs.Pieces.{Piece, Output}
-use Rattle.idn2_cli.specs.Blocks.{is_registrable, nth, nth_if_given, lesser, up_to, variant_line, trailer, block_to, block}
-use Rattle.idn2_cli.specs.Transcript.{output_lines}
+use Rattle.idn2_cli.specs.Transcript.{Piece, Output, output_lines}
+use Rattle.idn2_cli.specs.Answers.{is_registrable, nth, nth_if_given, lesser, up_to, variant_line, trailer, block_to, block}
 use Rattle.idn2_cli.proofs.Walking.{walk, lines_to, lines_at-walk}
 
 -- ---- labels that may be registered

@@ -3,8 +3,8 @@ use Rattle.std.proofs.Common.{◌≡◌, ◌≢◌, ℕ, Bool, List, true, false
 use Rattle.clap.specs.Words.{Row}
 use Rattle.idn2_cli.specs.Laws.{is_named}
 use Rattle.idn2_cli.specs.Words.{is_allowed, mode_of}
-use Rattle.idn2_cli.specs.declared.mode.Mode.{Mode}
-use Rattle.idn2_cli.specs.declared.mode.Mode.TheVariants.{Lookup, Register, Decode, Variants, CheckTable}
+use Rattle.idn2_cli.specs.declared.command_line.mode.Mode.{Mode}
+use Rattle.idn2_cli.specs.declared.command_line.mode.Mode.TheVariants.{Lookup, Register, Decode, Variants, CheckTable}
 use Rattle.idn2_cli.proofs.SuitLemmas.{IsOne, mode_by, no_weight, false-where, rules}
 
 lookup-alone : (l r d v k : Bool) → IsOne l r d v k → l ≡ true → mode_by r d v k ≡ Lookup

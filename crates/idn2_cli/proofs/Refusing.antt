@@ -3,13 +3,12 @@ use Rattle.std.proofs.Common.{◌≡◌, ◌≢◌, ◌⊎◌, inl, inr, ℕ, Bo
 use Rattle.std.specs.Result.{is_err}
 use Rattle.idn_text.specs.declared.refusal.Refusal.{Refusal}
 use Rattle.idn_text.specs.declared.refusal.Refusal.TheVariants.{Memory}
-use Rattle.idn2_cli.specs.Pieces.{Piece}
-use Rattle.idn2_cli.specs.Held.{Held}
-use Rattle.idn2_cli.specs.LineAnswers.{LineAnswer}
-use Rattle.idn2_cli.specs.Transcript.{pieces_for}
+use Rattle.idn2_cli.specs.Transcript.{Piece, pieces_for}
+use Rattle.idn2_cli.specs.Ends.{Held}
+use Rattle.idn2_cli.specs.Answers.{LineAnswer}
 use Rattle.idn2_cli.specs.Emitting.{Emits}
-use Rattle.idn2_cli.specs.declared.stop.Stop.{Stop}
-use Rattle.idn2_cli.specs.declared.stop.Stop.TheVariants as stop
+use Rattle.idn2_cli.specs.declared.session.stop.Stop.{Stop}
+use Rattle.idn2_cli.specs.declared.session.stop.Stop.TheVariants as stop
 use Rattle.idn2_cli.proofs.Writing.{stops, cut_before}
 
 is_memory : (refusal : Refusal) → (refusal ≡ Memory) ⊎ (refusal ≢ Memory)

@@ -9,8 +9,7 @@ use Rattle.variant_list.specs.Spelled.{spelled}
 use Rattle.variant_list.proofs.RecursionLemmas.{spelled-Spells}
 use Rattle.variant_list.proofs.NetLemmas.{segmented, unsegmented}
 use Rattle.idn2_cli.specs.Settings.{Settings}
-use Rattle.idn2_cli.specs.Blocks.{block}
-use Rattle.idn2_cli.specs.LineAnswers.{LineAnswer, listing_answer}
+use Rattle.idn2_cli.specs.Answers.{block, LineAnswer, listing_answer}
 
 empty_or_some : {X : Type 0} (xs : List X) → (xs ≡ []) ⊎ (0 < length xs)
 empty_or_some [] = inl refl

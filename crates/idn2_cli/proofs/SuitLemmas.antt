@@ -8,8 +8,8 @@ use Rattle.std.proofs.lemmas.Str.{chars-nil}
 use Rattle.clap.specs.Words.{Row, Text}
 use Rattle.idn2_cli.specs.Settings.{SuitsMode}
 use Rattle.idn2_cli.specs.Words.{bounds_variants, checks_alone, count_of, file_of, has_counts, has_flag, has_short_start, has_strings, has_value, is_allowed, mode_of, names_one_mode, settings_of, start_of, strings_of, value_of}
-use Rattle.idn2_cli.specs.declared.mode.Mode.{Mode}
-use Rattle.idn2_cli.specs.declared.mode.Mode.TheVariants.{Lookup, Register, Decode, Variants, CheckTable}
+use Rattle.idn2_cli.specs.declared.command_line.mode.Mode.{Mode}
+use Rattle.idn2_cli.specs.declared.command_line.mode.Mode.TheVariants.{Lookup, Register, Decode, Variants, CheckTable}
 use Rattle.idn2_cli.proofs.LimitLemmas.{le-test}
 
 -- ---- tests

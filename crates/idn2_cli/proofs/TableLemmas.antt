@@ -1,5 +1,5 @@
 -- The table of a run.
-use Rattle.std.proofs.Common.{◌≡◌, ◌⊎◌, inl, inr, ℕ, List, Option, Some, None, Ok, Err, refl, sym, ap, subst, ◌∙◌}
+use Rattle.std.proofs.Common.{◌≡◌, ◌⊎◌, inl, inr, ℕ, List, Result, Option, Some, None, Ok, Err, refl, sym, ap, subst, ◌∙◌}
 use Rattle.idn_text.specs.declared.refusal.Refusal.{Refusal}
 use Rattle.variant_table.specs.Entries.{Entry}
 use Rattle.variant_table.specs.Texts.{IsTextOf, IsFaultOf, IsToldOf}
@@ -8,7 +8,14 @@ use Rattle.variant_table.specs.declared.fault.LineFault.{LineFault}
 use Rattle.variant_table.specs.declared.fault.LineFault.TheVariants as kinds
 use Rattle.variant_table.specs.declared.fault.TableFault.{TableFault}
 use Rattle.variant_table.proofs.TextLemmas.{text_decided}
-use Rattle.idn2_cli.specs.Tables.{TableGiven, IsReadAs, table_refusal, told_of}
+use Rattle.idn2_cli.specs.Transcript.{TableGiven, IsReadAs, table_refusal, check_pieces}
+use Rattle.idn2_cli.specs.Inner.{told_of}
+use Rattle.std.specs.Prelude.{MatchOption}
+use Rattle.idn2_cli.specs.Ends.{Held}
+use Rattle.idn2_cli.specs.Emitting.{Emits}
+use Rattle.idn2_cli.specs.declared.session.status.Status.{Status}
+use Rattle.idn2_cli.specs.declared.session.stop.Stop.{Stop}
+use Rattle.idn2_cli.specs.declared.session.stop.Stop.TheVariants as stop
 
 -- each text is read as some table or some fault
 pub some_table : (text : List ℕ) → (given : TableGiven) × IsReadAs text given
@@ -37,3 +44,15 @@ told_read text fault told (inl e) is = absurd (none (sym (ap told_of e) ∙ is))
 told_read text fault told (inr f) is =
     let same : (f.0, table_refusal f.1) ≡ told = from_some (f.0, table_refusal f.1) told (sym (told_of-fault f.0 f.1) ∙ sym (ap told_of f.2) ∙ is) in
     subst (λ (t : ℕ × Refusal). IsReadAs text (Err t)) same (f.1, refl, f.3)
+
+-- a table that is not read: want of memory, of which nothing is told, or a fault of its text, which is
+pub refused_table : (text : List ℕ) (fault : TableFault) (old new : Held) (r : Result Status Stop) → IsToldOf text fault
+    → MatchOption (told_of fault) ((r ≡ Err stop.Memory) × (new ≡ old)) (λ told. Emits old new (check_pieces (Err told)) r)
+    → ((r ≡ Err stop.Memory) × (new ≡ old)) ⊎ ((told : ℕ × Refusal) × IsReadAs text (Err told) × Emits old new (check_pieces (Err told)) r)
+refused_table text fault old new r is = by (told_of fault) refl
+  where
+    by : (o : Option (ℕ × Refusal)) → told_of fault ≡ o
+        → MatchOption o ((r ≡ Err stop.Memory) × (new ≡ old)) (λ told. Emits old new (check_pieces (Err told)) r)
+        → ((r ≡ Err stop.Memory) × (new ≡ old)) ⊎ ((told : ℕ × Refusal) × IsReadAs text (Err told) × Emits old new (check_pieces (Err told)) r)
+    by None e memory = inl memory
+    by (Some told) e written = inr (told, told_read text fault told is e, written)

@@ -12,10 +12,10 @@ use Rattle.idn_text.specs.declared.refusal.Refusal.TheVariants.{NotUtf8, Empty, 
 use Rattle.idn_text.specs.declared.refusal.Refusal.{Refusal}
 use Rattle.idn_label.specs.Lookup.{lookup_answer, query_name}
 use Rattle.idn_label.proofs.LookupLemmas.{query_name-not_utf8}
-use Rattle.idn2_cli.specs.Pieces.{Output}
-use Rattle.idn2_cli.specs.Transcript.{pieces_for}
+use Rattle.idn2_cli.specs.Transcript.{Output, pieces_for}
 use Rattle.idn_text.proofs.Utf8Lemmas.{IsUtf8-from_points, points_from_utf8, ascii_points}
-use Rattle.idn2_cli.specs.LineAnswers.{LineAnswer, one_line, with_feed, text_answer, query_answer}
+use Rattle.idn2_cli.specs.Answers.{LineAnswer, one_line, text_answer}
+use Rattle.idn2_cli.specs.Inner.{with_feed, query_answer}
 
 and_parts : (a b : Bool) → (a && b) ≡ true → (a ≡ true) × (b ≡ true)
 and_parts true b e = (refl, e)

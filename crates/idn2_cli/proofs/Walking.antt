@@ -6,7 +6,8 @@ use Rattle.std.specs.List.{AllByRecursion, filter, slice_get}
 use Rattle.variant_list.specs.Labels.{IsBelow, IsRising, label_cmp}
 use Rattle.variant_list.specs.Steps.{last_of}
 use Rattle.variant_list.proofs.OrderLemmas.{below_itself, below_both, ranked_labels}
-use Rattle.idn2_cli.specs.Blocks.{lesser, up_to, variant_line, trailer, reaches}
+use Rattle.idn2_cli.specs.Answers.{lesser, up_to, variant_line, trailer}
+use Rattle.idn2_cli.specs.Inner.{reaches}
 
 -- ---- the steps of a listing
 

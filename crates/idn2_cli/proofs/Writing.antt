@@ -3,17 +3,18 @@ use Rattle.std.proofs.Common.{◌≡◌, ◌<◌, ℕ, List, [], ◌∷◌, ◌+
 use Rattle.std.proofs.lemmas.List.{append-nil}
 use Rattle.std.proofs.lemmas.Result.{MatchResult-at_err}
 use Rattle.std.specs.Io.KnownBytes.{Appends}
-use Rattle.idn2_cli.specs.Pieces.{Piece, Output, Message, output_of, messages_of}
-use Rattle.idn2_cli.specs.Held.{Held, Takes, Writes}
-use Rattle.idn2_cli.specs.Emitting.{BreaksOff, IsCutBy, WritesUntil, StopsWithin, Emits}
-use Rattle.idn2_cli.specs.declared.stop.Stop.{Stop}
-use Rattle.idn2_cli.specs.declared.stop.Stop.TheVariants as stop
+use Rattle.idn_text.specs.Writers.{Writer, TakesWhole, TakesPart}
+use Rattle.idn2_cli.specs.Transcript.{Piece, Output, Message, output_of, messages_of}
+use Rattle.idn2_cli.specs.Ends.{Held, Takes, Writes, BreaksOff, IsCutBy, WritesUntil}
+use Rattle.idn2_cli.specs.Emitting.{StopsWithin, Emits}
+use Rattle.idn2_cli.specs.declared.session.stop.Stop.{Stop}
+use Rattle.idn2_cli.specs.declared.session.stop.Stop.TheVariants as stop
 
 pub appends_nothing : (a : Option (List ℕ)) → Appends a a []
 appends_nothing None = tt
 appends_nothing (Some xs) = sym (append-nil xs)
 
-appends_join : (a b c : Option (List ℕ)) (f g : List ℕ) → Appends a b f → Appends b c g → Appends a c (f ++ g)
+pub appends_join : (a b c : Option (List ℕ)) (f g : List ℕ) → Appends a b f → Appends b c g → Appends a c (f ++ g)
 appends_join None b c f g first second = tt
 appends_join (Some xs) None c f g first second = absurd first
 appends_join (Some xs) (Some ys) None f g first second = absurd second
@@ -30,12 +31,14 @@ messages_of-append (Output text ∷ p) q = messages_of-append p q
 messages_of-append (Message text ∷ p) q = ap (λ l. text ++ l) (messages_of-append p q) ∙ sym (append_assoc text (messages_of p) (messages_of q))
 
 pub takes_nothing : (a : Held) → Takes a a []
-takes_nothing a = record { output = appends_nothing a.output; messages = appends_nothing a.messages }
+takes_nothing a = record { output = appends_nothing a.output.contents; messages = appends_nothing a.messages.contents; output_loan = refl; messages_loan = refl }
 
 pub takes_join : (a b c : Held) (p q : List Piece) → Takes a b p → Takes b c q → Takes a c (p ++ q)
 takes_join a b c p q first second = record {
-  output = subst (Appends a.output c.output) (sym (output_of-append p q)) (appends_join a.output b.output c.output (output_of p) (output_of q) first.output second.output);
-  messages = subst (Appends a.messages c.messages) (sym (messages_of-append p q)) (appends_join a.messages b.messages c.messages (messages_of p) (messages_of q) first.messages second.messages);
+  output = subst (Appends a.output.contents c.output.contents) (sym (output_of-append p q)) (appends_join a.output.contents b.output.contents c.output.contents (output_of p) (output_of q) first.output second.output);
+  messages = subst (Appends a.messages.contents c.messages.contents) (sym (messages_of-append p q)) (appends_join a.messages.contents b.messages.contents c.messages.contents (messages_of p) (messages_of q) first.messages second.messages);
+  output_loan = second.output_loan ∙ first.output_loan;
+  messages_loan = second.messages_loan ∙ first.messages_loan;
 }
 
 pub writes_nothing : (a : Held) → Writes a a []
@@ -127,3 +130,60 @@ emits_as old new writer s t r e h = subst (λ (u : List ℕ). Emits old new (wri
 
 pub writes_as : (old new : Held) (writer : List ℕ → Piece) (s t : List ℕ) → s ≡ t → Writes old new (writer s ∷ []) → Writes old new (writer t ∷ [])
 writes_as old new writer s t e h = subst (λ (u : List ℕ). Writes old new (writer u ∷ [])) e h
+
+-- one writer took a text, or a proper prefix of it, and the other was not asked
+pub writes_output : (old : Held) (new : Writer) (text : List ℕ) → TakesWhole old.output new text → Writes old (record old { output = new }) (Output text ∷ [])
+writes_output old new text took = record {
+  takes = record {
+    output = subst (Appends old.output.contents new.contents) (sym (append-nil text)) took.bytes;
+    messages = appends_nothing old.messages.contents;
+    output_loan = refl;
+    messages_loan = refl;
+  };
+  output_faults = took.no_fault;
+  messages_faults = refl;
+}
+
+pub stops_output : (old : Held) (new : Writer) (text : List ℕ) (n : ℕ) → TakesPart old.output new text n → StopsWithin stop.Output old (record old { output = new }) (Output text ∷ [])
+stops_output old new text n took = (
+  Output (take n text) ∷ [],
+  record {
+    takes = record {
+      output = subst (Appends old.output.contents new.contents) (sym (append-nil (take n text))) took.bytes;
+      messages = appends_nothing old.messages.contents;
+      output_loan = refl;
+      messages_loan = refl;
+    };
+    output_faults = λ other. absurd (other refl);
+    messages_faults = λ _. refl;
+  },
+  (breaks_off Output text n took.proper, took.cause),
+)
+
+pub writes_message : (old : Held) (new : Writer) (text : List ℕ) → TakesWhole old.messages new text → Writes old (record old { messages = new }) (Message text ∷ [])
+writes_message old new text took = record {
+  takes = record {
+    output = appends_nothing old.output.contents;
+    messages = subst (Appends old.messages.contents new.contents) (sym (append-nil text)) took.bytes;
+    output_loan = refl;
+    messages_loan = refl;
+  };
+  output_faults = refl;
+  messages_faults = took.no_fault;
+}
+
+pub stops_message : (old : Held) (new : Writer) (text : List ℕ) (n : ℕ) → TakesPart old.messages new text n → StopsWithin stop.Messages old (record old { messages = new }) (Message text ∷ [])
+stops_message old new text n took = (
+  Message (take n text) ∷ [],
+  record {
+    takes = record {
+      output = appends_nothing old.output.contents;
+      messages = subst (Appends old.messages.contents new.contents) (sym (append-nil (take n text))) took.bytes;
+      output_loan = refl;
+      messages_loan = refl;
+    };
+    output_faults = λ _. refl;
+    messages_faults = λ other. absurd (other refl);
+  },
+  (breaks_off Message text n took.proper, took.cause),
+)

@@ -1,52 +1,84 @@
--- How a run ends: one of four ways.
-use Rattle.std.specs.Prelude.{◌≡◌, ◌≢◌, ◌<◌, ◌≤◌, ◌⊎◌, ℕ, Bool, true, false, IsTrue, List, [], ◌∷◌, ◌++◌, length, take, Ok, Err}
+-- How a run goes: to its end, or to a stop and a last message.
+use Rattle.std.specs.Prelude.{◌≡◌, ℕ, List, ◌⊎◌, ◌++◌, codes, ◌≢◌, ◌<◌, [], ◌∷◌, length, take, true, Result, MatchResult, Bool, false, IsTrue, Ok, Err}
+use Rattle.std.specs.Io.KnownBytes.{Appends}
+use Rattle.idn_text.specs.Writers.{Writer, TakesWhole, TakesPart}
+use Rattle.idn2_cli.specs.Transcript.{Piece, output_of, messages_of, Output, Message, told, lines_pieces, has_refused, status_if, transcript, status_of, TableGiven}
+use Rattle.idn_text.specs.declared.refusal.Refusal.{Refusal}
+use Rattle.idn_text.specs.declared.refusal.Refusal.TheVariants.{Usage, ReadFault, WriteFault, Memory}
+use Rattle.idn2_cli.specs.declared.session.status.Status.{Status}
+use Rattle.idn2_cli.specs.declared.session.status.Status.TheVariants.{Unusable, Faulty, OutOfMemory}
+use Rattle.idn2_cli.specs.declared.session.stop.Stop.{Stop}
 use Rattle.idn_text.specs.Lines.{Numbered}
 use Rattle.idn_text.specs.Reading.{Reading, HasRead, HasStopped}
 use Rattle.idn_text.specs.declared.lines.State.TheVariants.{Ended, Stopped}
-use Rattle.idn_text.specs.declared.refusal.Refusal.{Refusal}
-use Rattle.idn_text.specs.declared.refusal.Refusal.TheVariants as refusals
 use Rattle.idn2_cli.specs.Settings.{Settings}
-use Rattle.idn2_cli.specs.Pieces.{Piece, Message}
-use Rattle.idn2_cli.specs.Held.{Held, Takes}
-use Rattle.idn2_cli.specs.Emitting.{IsCutBy}
-use Rattle.idn2_cli.specs.Tables.{TableGiven}
-use Rattle.idn2_cli.specs.Faults.{closing_message, closing_status}
-use Rattle.idn2_cli.specs.Transcript.{transcript, status_of}
-use Rattle.idn2_cli.specs.declared.mode.Mode.{Mode}
-use Rattle.idn2_cli.specs.declared.mode.Mode.TheVariants.{CheckTable}
-use Rattle.idn2_cli.specs.declared.stop.Stop.{Stop}
-use Rattle.idn2_cli.specs.declared.stop.Stop.TheVariants as stop
-use Rattle.idn2_cli.specs.declared.status.Status.{Status}
+use Rattle.idn2_cli.specs.Answers.{LineAnswer}
+use Rattle.idn2_cli.specs.declared.command_line.mode.Mode.{Mode}
+use Rattle.idn2_cli.specs.declared.command_line.mode.Mode.TheVariants.{CheckTable}
+use Rattle.idn2_cli.specs.declared.session.stop.Stop.TheVariants as stop
 
--- ---- the last message
+-- ---- the two writers
 
--- the refusal that is told where a run stops
-abbrev pub refusal_of : Stop → Refusal
-refusal_of stop.Reading = refusals.ReadFault
-refusal_of stop.Output = refusals.WriteFault
-refusal_of stop.Messages = refusals.WriteFault
-refusal_of stop.Memory = refusals.Memory
+-- the output and the messages; and where they are lent, by which loans
+pub record Held : Type 0 where
+  pub output : Writer
+  pub messages : Writer
+  pub output_loan : ℕ
+  pub messages_loan : ℕ
 
--- the message stands, and no write of the messages failed; or a proper prefix of it, where one did
-pub record IsTold (text : List ℕ) (old new : Held) (closing : List Piece) : Type 0 where
+-- what these two hold
+abbrev pub held : Writer → Writer → Held
+held output messages = record { output = output; messages = messages; output_loan = 0; messages_loan = 0 }
+
+-- each of the same two writers took its pieces, in order
+pub record Takes (old new : Held) (pieces : List Piece) : Type 0 where
+  pub output : Appends old.output.contents new.output.contents (output_of pieces)
+  pub messages : Appends old.messages.contents new.messages.contents (messages_of pieces)
+  pub output_loan : new.output_loan ≡ old.output_loan
+  pub messages_loan : new.messages_loan ≡ old.messages_loan
+
+-- the same, and no write failed
+pub record Writes (old new : Held) (pieces : List Piece) : Type 0 where
+  pub takes : Takes old new pieces
+  pub output_faults : new.output.faults ≡ old.output.faults
+  pub messages_faults : new.messages.faults ≡ old.messages.faults
+
+-- ---- a stop within pieces
+
+-- of these pieces those before some piece are written, and of that piece, which is for this writer, a proper prefix
+pub record BreaksOff (writer : List ℕ → Piece) (pieces written : List Piece) : Type 0 where
+  pub before : List Piece
+  pub text : List ℕ
+  pub after : List Piece
   pub taken : ℕ
-  pub within : taken ≤ length text
-  pub failed : taken < length text → new.messages_failed ≡ true
-  pub no_fault : taken ≡ length text → new.messages_faults ≡ old.messages_faults
-  pub cut : closing ≡ Message (take taken text) ∷ []
+  pub split : pieces ≡ before ++ writer text ∷ after
+  pub proper : taken < length text
+  pub cut : written ≡ before ++ writer (take taken text) ∷ []
 
--- what is written of the last message. There is none where the messages failed before
-abbrev pub Closes : Stop → Held → Held → List Piece → Type 0
-Closes stop.Messages old new closing = closing ≡ []
-Closes why old new closing = IsTold (closing_message (refusal_of why)) old new closing
+-- what is written of the pieces where a stop comes: a writer failed within a piece, or memory was refused before one
+abbrev pub IsCutBy : Stop → Held → List Piece → List Piece → Type 0
+IsCutBy stop.Reading new pieces written = ⊥
+IsCutBy stop.Output new pieces written = BreaksOff Output pieces written × (new.output.has_failed ≡ true)
+IsCutBy stop.Messages new pieces written = BreaksOff Message pieces written × (new.messages.has_failed ≡ true)
+IsCutBy stop.Memory new pieces written = (after : List Piece) × (pieces ≡ written ++ after)
 
--- ---- the four ways
+-- each of the writers took its pieces, in order, and no write failed but of the writer that the stop names
+pub record WritesUntil (why : Stop) (old new : Held) (pieces : List Piece) : Type 0 where
+  pub takes : Takes old new pieces
+  pub output_faults : why ≢ stop.Output → new.output.faults ≡ old.output.faults
+  pub messages_faults : why ≢ stop.Messages → new.messages.faults ≡ old.messages.faults
 
--- where a read stops a run, all pieces of the lines that it read stand, which are those that a line feed ends;
--- where a write or memory does, those before some piece, and of that piece what its writer took
-abbrev pub Stands : Stop → Reading → Held → List Piece → List Piece → Type 0
-Stands stop.Reading input new pieces written = HasStopped input × (input.state ≡ Stopped) × (written ≡ pieces)
-Stands why input new pieces written = IsCutBy why new pieces written
+-- ---- what is to be done
+
+-- whether lines are read, and what is written for them, with which status
+pub record Job : Type 0 where
+  pub reads : Bool
+  pub pieces : List Numbered → List Piece
+  pub status : List Numbered → Status
+
+-- to answer each line by itself
+abbrev pub lines_job : (List ℕ → LineAnswer) → Job
+lines_job answer = record { reads = true; pieces = lines_pieces answer; status = λ lines. status_if (has_refused answer lines) }
 
 -- the input is read in every mode but the check of a table, where no table has a fault
 abbrev pub reads_lines : Mode → TableGiven → Bool
@@ -54,32 +86,83 @@ reads_lines mode (Err fault) = false
 reads_lines CheckTable (Ok table) = false
 reads_lines mode (Ok table) = true
 
--- 1. no fault: to the end of the input, if it is read, all pieces are written, and no write failed
-pub record EndsWell (o : Settings) (table : TableGiven) (input : Reading) (old new : Held) (lines : List Numbered) (written : List Piece) (status : Status) : Type 0 where
-  pub ended : IsTrue (reads_lines o.mode table) → input.state ≡ Ended
-  pub whole : written ≡ transcript o table lines
-  pub output_faults : new.output_faults ≡ old.output_faults
-  pub messages_faults : new.messages_faults ≡ old.messages_faults
-  pub answered : status ≡ status_of o table lines
+-- to serve a mode
+abbrev pub mode_job : Settings → TableGiven → Job
+mode_job o table = record { reads = reads_lines o.mode table; pieces = transcript o table; status = status_of o table }
 
--- 2. a read fault, 3. a write fault, 4. memory: what stands of the pieces, then the last message. No write failed but of the
--- writer that the stop names, or of the last message
-pub record EndsEarly (o : Settings) (table : TableGiven) (input : Reading) (old new : Held) (lines : List Numbered) (written : List Piece) (status : Status) : Type 0 where
-  pub why : Stop
-  pub standing : List Piece
-  pub closing : List Piece
-  pub split : written ≡ standing ++ closing
-  pub stands : Stands why input new (transcript o table lines) standing
-  pub closes : Closes why old new closing
-  pub output_faults : why ≢ stop.Output → new.output_faults ≡ old.output_faults
-  pub answered : status ≡ closing_status (refusal_of why)
+-- ---- to the end or to a stop
 
--- Of the input these bytes were taken, and these lines of them read. These pieces were written, in order, each to its writer.
-pub record Ends (o : Settings) (table : TableGiven) (start now : Reading) (old new : Held) (status : Status) : Type 0 where
+-- to the end of the input, if it is read: all pieces are written
+pub record EndsWell (job : Job) (lines : List Numbered) (now : Reading) (old new : Held) (status : Status) : Type 0 where
+  pub ended : IsTrue job.reads → now.state ≡ Ended
+  pub pieces : Writes old new (job.pieces lines)
+  pub answered : status ≡ job.status lines
+
+-- where a read stops a run, all pieces of the lines that it read stand, which are those that a line feed ends;
+-- where a write or memory does, those before some piece, and of that piece what its writer took
+abbrev pub Stands : Stop → Reading → Held → List Piece → List Piece → Type 0
+Stands stop.Reading input new pieces written = HasStopped input × (input.state ≡ Stopped) × (written ≡ pieces)
+Stands why input new pieces written = IsCutBy why new pieces written
+
+-- to a stop: of the pieces stands what it left
+pub record EndsEarly (job : Job) (lines : List Numbered) (now : Reading) (old new : Held) (why : Stop) : Type 0 where
+  pub written : List Piece
+  pub pieces : WritesUntil why old new written
+  pub stands : Stands why now new (job.pieces lines) written
+
+-- of the input these bytes were taken, and these lines of them read, and the job is done for them or stopped
+pub record Does (job : Job) (start now : Reading) (old new : Held) (result : Result Status Stop) : Type 0 where
   pub given : List ℕ
   pub lines : List Numbered
-  pub written : List Piece
   pub read : HasRead start now given lines
-  pub unread : reads_lines o.mode table ≡ false → now ≡ start
-  pub pieces : Takes old new written
-  pub ending : EndsWell o table now old new lines written status ⊎ EndsEarly o table now old new lines written status
+  pub unread : job.reads ≡ false → now ≡ start
+  pub ending : MatchResult result (EndsWell job lines now old new) (EndsEarly job lines now old new)
+
+-- ---- the last message
+
+-- the refusal ends the program: its number is 50, 60, 61 or 70
+abbrev pub IsFault : Refusal → Type 0
+IsFault Usage = Unit {0}
+IsFault ReadFault = Unit {0}
+IsFault WriteFault = Unit {0}
+IsFault Memory = Unit {0}
+IsFault _ = ⊥
+
+-- its message, by number and text, with a line feed
+abbrev pub closing_message : Refusal → List ℕ
+closing_message refusal = codes "idn2: " ++ told refusal
+
+-- its status: 3 for a read or a write, 4 for memory, else 2
+abbrev pub closing_status : Refusal → Status
+closing_status ReadFault = Faulty
+closing_status WriteFault = Faulty
+closing_status Memory = OutOfMemory
+closing_status _ = Unusable
+
+-- a writer took the text, or a proper prefix of it where it failed
+abbrev pub TakesText : List ℕ → Writer → Writer → Type 0
+TakesText text old new = TakesWhole old new text ⊎ ((taken : ℕ) × TakesPart old new text taken)
+
+-- the refusal that is told where a run stops
+abbrev pub refusal_of : Stop → Refusal
+refusal_of stop.Reading = ReadFault
+refusal_of stop.Output = WriteFault
+refusal_of stop.Messages = WriteFault
+refusal_of stop.Memory = Memory
+
+-- it is the last that is written. There is none where the messages failed before
+abbrev pub Closes : Stop → Held → Held → Type 0
+Closes stop.Messages old new = new ≡ old
+Closes why old new = (new ≡ record old { messages = new.messages }) × TakesText (closing_message (refusal_of why)) old.messages new.messages
+
+-- the job stopped, and then came the last message
+pub record Stops (job : Job) (start now : Reading) (old new : Held) (status : Status) : Type 0 where
+  pub why : Stop
+  pub middle : Held
+  pub stopped : Does job start now old middle (Err why)
+  pub closes : Closes why middle new
+  pub answered : status ≡ closing_status (refusal_of why)
+
+-- a run: the job is done, or it stopped
+abbrev pub Ends : Job → Reading → Reading → Held → Held → Status → Type 0
+Ends job start now old new status = Does job start now old new (Ok status) ⊎ Stops job start now old new status

@@ -5,15 +5,13 @@ use Rattle.idn_text.specs.Lines.{lines_of}
 use Rattle.idn_text.specs.declared.refusal.Refusal.TheVariants.{Disallowed, Empty, LineTooLong, NotUtf8, Syntax, WriteFault}
 use Rattle.variant_list.specs.Examples.{a_or_two, letter_or_hyphen}
 use Rattle.idn2_cli.specs.Settings.{Settings}
-use Rattle.idn2_cli.specs.Pieces.{Output, Message}
-use Rattle.idn2_cli.specs.Faults.{closing_message}
-use Rattle.idn2_cli.specs.Blocks.{block, nth, nth_if_given, lesser, up_to, trailer}
-use Rattle.idn2_cli.specs.LineAnswers.{LineAnswer, line_answer}
-use Rattle.idn2_cli.specs.Transcript.{line_message, table_message, table_line, transcript, status_of}
+use Rattle.idn2_cli.specs.Transcript.{Output, Message, line_message, table_message, table_line, transcript, status_of}
+use Rattle.idn2_cli.specs.Ends.{closing_message}
+use Rattle.idn2_cli.specs.Answers.{block, nth, nth_if_given, lesser, up_to, trailer, LineAnswer, line_answer}
 use Rattle.idn2_cli.specs.Words.{Answer, options_of, chosen, bad}
-use Rattle.idn2_cli.specs.declared.mode.Mode.{Mode}
-use Rattle.idn2_cli.specs.declared.mode.Mode.TheVariants.{Lookup, Register, Variants}
-use Rattle.idn2_cli.specs.declared.status.Status.TheVariants.{Refused}
+use Rattle.idn2_cli.specs.declared.command_line.mode.Mode.{Mode}
+use Rattle.idn2_cli.specs.declared.command_line.mode.Mode.TheVariants.{Lookup, Register, Variants}
+use Rattle.idn2_cli.specs.declared.session.status.Status.TheVariants.{Refused}
 
 -- sss, sß and ßs
 abbrev pub three : List (List ℕ)

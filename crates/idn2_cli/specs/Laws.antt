@@ -7,11 +7,10 @@ use Rattle.variant_table.specs.WellFormed.{IsWellFormed}
 use Rattle.variant_list.specs.Segmentations.{HasSegmentation}
 use Rattle.variant_list.specs.Variants.{AreVariants}
 use Rattle.idn2_cli.specs.Settings.{Settings}
-use Rattle.idn2_cli.specs.Blocks.{is_registrable, variants_after}
-use Rattle.idn2_cli.specs.LineAnswers.{listing_answer}
+use Rattle.idn2_cli.specs.Answers.{is_registrable, variants_after, listing_answer}
 use Rattle.idn2_cli.specs.Words.{has_flag, has_value, is_allowed, mode_of}
-use Rattle.idn2_cli.specs.declared.mode.Mode.{Mode}
-use Rattle.idn2_cli.specs.declared.mode.Mode.TheVariants.{Lookup, Register, Decode, Variants, CheckTable}
+use Rattle.idn2_cli.specs.declared.command_line.mode.Mode.{Mode}
+use Rattle.idn2_cli.specs.declared.command_line.mode.Mode.TheVariants.{Lookup, Register, Decode, Variants, CheckTable}
 
 -- the labels of which a block lists those up to its stop are the one rising list of the registrable labels that the label
 -- spells and that are greater than the text of the settings

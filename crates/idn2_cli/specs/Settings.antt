@@ -1,8 +1,8 @@
 -- The options of a run, as contracts see them.
 use Rattle.std.specs.Prelude.{◌≡◌, ◌≢◌, ◌≤◌, ℕ, Bool, List, [], Option, None, IfSome, length}
 use Rattle.idn_text.specs.Points.{AreScalarValues}
-use Rattle.idn2_cli.specs.declared.mode.Mode.{Mode}
-use Rattle.idn2_cli.specs.declared.mode.Mode.TheVariants.{Variants, CheckTable}
+use Rattle.idn2_cli.specs.declared.command_line.mode.Mode.{Mode}
+use Rattle.idn2_cli.specs.declared.command_line.mode.Mode.TheVariants.{Variants, CheckTable}
 
 -- an `Options`, with the bytes of each text
 pub record Settings : Type 0 where

@@ -1,22 +1,68 @@
--- The transcript of a run: all that it writes where nothing fails.
-use Rattle.std.specs.Prelude.{ℕ, ◌==◌, Bool, not, List, [], ◌∷◌, ◌++◌, length, map, codes, Ok, Err, if◌then◌else◌}
+-- The transcript of a run: all that it writes where nothing fails, piece by piece.
+use Rattle.std.specs.Prelude.{ℕ, List, [], ◌∷◌, ◌++◌, ◌≡◌, Result, Ok, Err, ◌==◌, Bool, not, length, map, codes, if◌then◌else◌}
 use Rattle.std.specs.List.{flat_map, list_any}
 use Rattle.std.specs.Result.{is_err}
 use Rattle.std.specs.Fmt.{decimal}
-use Rattle.idn_text.specs.Lines.{Numbered}
-use Rattle.idn_text.specs.Refusals.{refusal_number, refusal_text}
 use Rattle.idn_text.specs.declared.refusal.Refusal.{Refusal}
 use Rattle.variant_table.specs.Entries.{Entry}
+use Rattle.variant_table.specs.Texts.{IsTextOf, IsFaultOf}
+use Rattle.variant_table.specs.declared.fault.LineFault.{LineFault}
+use Rattle.idn2_cli.specs.declared.command_line.mode.Mode.{Mode}
+use Rattle.idn2_cli.specs.declared.command_line.mode.Mode.TheVariants.{Variants, CheckTable}
+use Rattle.idn_text.specs.Lines.{Numbered}
+use Rattle.idn_text.specs.Refusals.{refusal_number, refusal_text}
 use Rattle.variant_table.specs.Canonical.{sequence_text}
 use Rattle.variant_table.specs.Gaps.{gaps_of}
 use Rattle.idn2_cli.specs.Settings.{Settings}
-use Rattle.idn2_cli.specs.Pieces.{Piece, Output, Message}
-use Rattle.idn2_cli.specs.Tables.{TableGiven}
-use Rattle.idn2_cli.specs.LineAnswers.{LineAnswer, mode_answer, line_answer}
-use Rattle.idn2_cli.specs.declared.mode.Mode.{Mode}
-use Rattle.idn2_cli.specs.declared.mode.Mode.TheVariants.{CheckTable}
-use Rattle.idn2_cli.specs.declared.status.Status.{Status}
-use Rattle.idn2_cli.specs.declared.status.Status.TheVariants.{Clean, Refused, Unusable}
+use Rattle.idn2_cli.specs.Answers.{LineAnswer, mode_answer, line_answer}
+use Rattle.idn2_cli.specs.declared.session.status.Status.{Status}
+use Rattle.idn2_cli.specs.declared.session.status.Status.TheVariants.{Clean, Refused, Unusable}
+use Rattle.idn_text.specs.declared.refusal.Refusal.TheVariants as refusals
+use Rattle.variant_table.specs.declared.fault.LineFault.TheVariants as faults
+
+-- ---- pieces
+
+-- one line of text, with its line feed, for the output or for the messages
+pub data Piece : Type 0 where
+  Output : (text : List ℕ) → Piece
+  Message : (text : List ℕ) → Piece
+
+-- what these pieces put on the output, joined
+abbrev pub output_of : List Piece → List ℕ
+output_of [] = []
+output_of (Output text ∷ pieces) = text ++ output_of pieces
+output_of (Message text ∷ pieces) = output_of pieces
+
+-- what they put on the messages, joined
+abbrev pub messages_of : List Piece → List ℕ
+messages_of [] = []
+messages_of (Output text ∷ pieces) = messages_of pieces
+messages_of (Message text ∷ pieces) = text ++ messages_of pieces
+
+-- ---- the table of a run
+
+-- the entries of a table, or the line of its first fault, from 1, and the fault
+abbrev pub TableGiven : Type 0
+TableGiven = Result (List Entry) (ℕ × Refusal)
+
+-- the fault of a line of a table as a refusal
+abbrev pub table_refusal : LineFault → Refusal
+table_refusal faults.Limit = refusals.Limit
+table_refusal faults.Syntax = refusals.Syntax
+table_refusal faults.BadClass = refusals.BadClass
+table_refusal faults.SameVariant = refusals.SameVariant
+table_refusal faults.SameSource = refusals.SameSource
+
+-- the text spells these entries, or has this first fault
+abbrev pub IsReadAs : List ℕ → TableGiven → Type 0
+IsReadAs text (Ok table) = IsTextOf text table
+IsReadAs text (Err fault) = (kind : LineFault) × (table_refusal kind ≡ fault.1) × IsFaultOf text fault.0 kind
+
+-- the table by which a mode works, as its text tells it; a mode that names no table has no entries
+abbrev pub IsTableOf : Mode → List ℕ → TableGiven → Type 0
+IsTableOf Variants text table = IsReadAs text table
+IsTableOf CheckTable text table = IsReadAs text table
+IsTableOf mode text table = table ≡ Ok []
 
 -- ---- messages
 

@@ -14,10 +14,10 @@ use Rattle.clap.specs.declared.error.ErrorKind.{ErrorKind}
 use Rattle.clap.specs.declared.error.ErrorKind.TheVariants.{DisplayHelp, DisplayVersion, OutOfMemory}
 use Rattle.idn2_cli.specs.CommandLine.{app}
 use Rattle.idn2_cli.specs.Settings.{Settings}
-use Rattle.idn2_cli.specs.declared.mode.Mode.{Mode}
-use Rattle.idn2_cli.specs.declared.mode.Mode.TheVariants.{Lookup, Register, Decode, Variants, CheckTable}
-use Rattle.idn2_cli.specs.declared.usage.Usage.{Usage}
-use Rattle.idn2_cli.specs.declared.usage.Usage.TheVariants.{Bad, Show, Memory}
+use Rattle.idn2_cli.specs.declared.command_line.mode.Mode.{Mode}
+use Rattle.idn2_cli.specs.declared.command_line.mode.Mode.TheVariants.{Lookup, Register, Decode, Variants, CheckTable}
+use Rattle.idn2_cli.specs.declared.command_line.usage.Usage.{Usage}
+use Rattle.idn2_cli.specs.declared.command_line.usage.Usage.TheVariants.{Bad, Show, Memory}
 
 -- ---- what `clap` found
 

@@ -1,6 +1,6 @@
 //! Laws of the definitions that the contract of `run` speaks of. Each holds by its proof alone.
 ghost use Rattle.std.specs.Prelude.{ℕ, List};
-ghost use Rattle.idn2_cli.specs.LineAnswers.{LineAnswer};
+ghost use Rattle.idn2_cli.specs.Answers.{LineAnswer};
 ghost use Rattle.idn2_cli.specs.Laws.{BlockListsVariants, NotInTableMeansNoSegmentation, ModeIsTheOneNamed};
 ghost use Rattle.idn2_cli.specs.Examples.{ExamplesOfARun, ExamplesOfLines, ExamplesOfBlocks, ExamplesOfTranscripts, ExamplesOfWords};
 

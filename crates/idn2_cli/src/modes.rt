@@ -1,6 +1,9 @@
-//! What each mode does.
+//! What each mode does with a line, or with the table.
 
+pub(crate) mod answering;
+mod block;
 mod check_table;
+pub(crate) mod code_points;
 mod decode;
 mod lookup;
 mod register;

@@ -1,10 +1,8 @@
 //! Runs whose reads or writes fail: what then stands on both writers, and the status.
-use crate::row::options_of;
+use crate::row::{Given, ROOM, answers, options_of};
 use idn_text::hostile::{StopReader, StopWriter};
 use idn_text::{Device, Lines, ReadFault};
 use idn2_cli::run;
-use std::alloc::Global;
-use std::process::Abort;
 use std::test::Fail;
 
 const VARIANTS: &[&str] = &["--variants", "t"];
@@ -24,45 +22,6 @@ const READ_FAULT: &[u8] = b"idn2: 60 read fault\n";
 
 const WRITE_FAULT: &[u8] = b"idn2: 61 write fault\n";
 
-/// What a run is given: words, a table, an input, how many bytes a read or a write moves, at which read it fails
-/// (from 1; 0 for none) and whether only there, and how many bytes each writer has room for.
-#[derive(Clone, Copy)]
-struct Given<'a> {
-    words: &'a [&'a str],
-    table: &'a [u8],
-    input: &'a [u8],
-    piece: usize,
-    fail_at: u64,
-    once: bool,
-    room: (usize, usize),
-}
-
-/// What then stands on the output and on the messages, and the status.
-fn stands(
-    rt: &impl Abort,
-    alloc: Global,
-    given: &Given<'_>,
-    output: &[u8],
-    messages: &[u8],
-    status: u8,
-) -> Result<(), Fail> {
-    let options = options_of(alloc, given.words)?;
-    let mut held = [0u8; 512];
-    let mut told = [0u8; 512];
-    let piece = given.piece.max(1);
-    let mut out = Device::new(StopWriter::new(&mut held[..given.room.0.min(512)], piece));
-    let mut err = Device::new(StopWriter::new(&mut told[..given.room.1.min(512)], piece));
-    let reader = StopReader::new(given.input, piece, given.fail_at, given.once);
-    let mut input = Lines::new(Device::new(reader));
-    let code = run(alloc, &options, given.table, &mut input, &mut out, &mut err).code();
-    let written = out.inner().taken();
-    let spoken = err.inner().taken();
-    assert_eq!(rt; code, status);
-    assert_eq!(rt; held.get(..written), Some(output));
-    assert_eq!(rt; told.get(..spoken), Some(messages));
-    Ok(())
-}
-
 /// A run over the two labels, the second without a line feed, with a reader that fails behind them.
 fn with_reader(piece: usize, fail_at: u64) -> Given<'static> {
     Given {
@@ -72,15 +31,15 @@ fn with_reader(piece: usize, fail_at: u64) -> Given<'static> {
         piece,
         fail_at,
         once: false,
-        room: (512, 512),
+        room: (ROOM, ROOM),
     }
 }
 
 /// The rest without a line feed is not served.
 #[test]
 fn read_fails_behind_the_input(rt: HostRuntime) -> Result<(), Fail> {
-    stands(&rt, rt.alloc(), &with_reader(1, 6), BLOCK, READ_FAULT, 3)?;
-    stands(&rt, rt.alloc(), &with_reader(4096, 2), BLOCK, READ_FAULT, 3)
+    answers(&rt, rt.alloc(), &with_reader(1, 6), BLOCK, READ_FAULT, 3)?;
+    answers(&rt, rt.alloc(), &with_reader(4096, 2), BLOCK, READ_FAULT, 3)
 }
 
 /// Only lines that a line feed ended before the fault are served, wherever it comes.
@@ -88,7 +47,7 @@ fn read_fails_behind_the_input(rt: HostRuntime) -> Result<(), Fail> {
 fn read_fails_at_each_call(rt: HostRuntime) -> Result<(), Fail> {
     for fail_at in 1..6 {
         let output = if fail_at <= 3 { &[] } else { BLOCK };
-        stands(
+        answers(
             &rt,
             rt.alloc(),
             &with_reader(1, fail_at),
@@ -100,7 +59,7 @@ fn read_fails_at_each_call(rt: HostRuntime) -> Result<(), Fail> {
             once: true,
             ..with_reader(1, fail_at)
         };
-        stands(&rt, rt.alloc(), &once, output, READ_FAULT, 3)?;
+        answers(&rt, rt.alloc(), &once, output, READ_FAULT, 3)?;
     }
     Ok(())
 }
@@ -132,7 +91,7 @@ fn with_output(table: &'static [u8], input: &'static [u8], room: usize) -> Given
         piece: 4096,
         fail_at: 0,
         once: false,
-        room: (room, 512),
+        room: (room, ROOM),
     }
 }
 
@@ -141,8 +100,8 @@ fn with_output(table: &'static [u8], input: &'static [u8], room: usize) -> Given
 fn output_fails_at_each_byte(rt: HostRuntime) -> Result<(), Fail> {
     for room in 0..BLOCK.len() {
         let given = with_output(TABLE, b"aa\naa\n", room);
-        stands(&rt, rt.alloc(), &given, &BLOCK[..room], WRITE_FAULT, 3)?;
-        stands(
+        answers(&rt, rt.alloc(), &given, &BLOCK[..room], WRITE_FAULT, 3)?;
+        answers(
             &rt,
             rt.alloc(),
             &Given { piece: 1, ..given },
@@ -162,7 +121,7 @@ fn output_fails_within_a_code_point(rt: HostRuntime) -> Result<(), Fail> {
             piece,
             ..with_output(SHARP_S, b"sss\n", 10)
         };
-        stands(&rt, rt.alloc(), &given, b"sss\tsss\ns\xC3", WRITE_FAULT, 3)?;
+        answers(&rt, rt.alloc(), &given, b"sss\tsss\ns\xC3", WRITE_FAULT, 3)?;
     }
     Ok(())
 }
@@ -176,7 +135,7 @@ fn with_messages(room: usize) -> Given<'static> {
         piece: 4096,
         fail_at: 0,
         once: false,
-        room: (512, room),
+        room: (ROOM, room),
     }
 }
 
@@ -186,7 +145,7 @@ fn messages_fail_at_each_byte(rt: HostRuntime) -> Result<(), Fail> {
     let message = b"idn2: line 2: 10 disallowed code point\n";
     for room in 0..message.len() {
         let given = with_messages(room);
-        stands(
+        answers(
             &rt,
             rt.alloc(),
             &given,
@@ -206,7 +165,7 @@ fn both_writers_fail(rt: HostRuntime) -> Result<(), Fail> {
             room: (10, room),
             ..with_output(TABLE, b"aa\n", 10)
         };
-        stands(
+        answers(
             &rt,
             rt.alloc(),
             &given,

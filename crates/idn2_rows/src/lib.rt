@@ -1,11 +1,15 @@
-//! The worked rows of the whole program, over memory: words, a table and an input, and what then stands on the
-//! output and the messages, with the status. Tests only.
+//! Tests of what is called from outside, for every crate: worked rows of the whole program over memory, runs that fail,
+//! and examples of each crate below. Each file is named for what it shows.
 #![tactic(auto)]
 
 #[cfg(test)]
 mod candidates;
 #[cfg(test)]
+mod code_points;
+#[cfg(test)]
 mod faults;
+#[cfg(test)]
+mod label_rules;
 #[cfg(test)]
 mod labels;
 #[cfg(test)]
@@ -13,7 +17,13 @@ mod lines;
 #[cfg(test)]
 mod listings;
 #[cfg(test)]
+mod messages;
+#[cfg(test)]
 mod nets;
+#[cfg(test)]
+mod options;
+#[cfg(test)]
+mod reading;
 #[cfg(test)]
 mod row;
 #[cfg(test)]
@@ -21,6 +31,8 @@ mod spelled;
 #[cfg(test)]
 mod tables;
 #[cfg(test)]
+mod utf8;
+#[cfg(test)]
 mod variants;
 #[cfg(test)]
-mod words;
+mod writing;

@@ -1,19 +1,39 @@
-//! One row: what is given, and what is wanted.
-ghost use Rattle.std.specs.Prelude.{◌<◌, IfOk};
+//! Runs of the whole program over memory: what is given, and what is wanted.
+ghost use Rattle.std.specs.Prelude.{IfOk};
 ghost use Rattle.idn2_cli.specs.Settings.{IsWithinLimits};
 
 use idn_text::hostile::{StopReader, StopWriter};
 use idn_text::{Device, Lines};
 use idn2_cli::{Options, read_options, run};
-use std::alloc::Global;
+use std::alloc::{AllocError, Global};
 use std::process::Abort;
+use std::str;
 use std::test::Fail;
 
 /// The bytes that each writer takes at most.
-const ROOM: usize = 4096;
+pub const ROOM: usize = 4096;
 
-/// Words behind the program's name, a table and an input; what then stands on the output and the messages, and the
-/// status.
+/// What a run is given.
+#[derive(Clone, Copy)]
+pub struct Given<'a> {
+    /// The words behind the program's name.
+    pub words: &'a [&'a str],
+    /// The text of the table.
+    pub table: &'a [u8],
+    /// The lines.
+    pub input: &'a [u8],
+    /// How many bytes a read or a write moves at most, from 1.
+    pub piece: usize,
+    /// The read call that fails, from 1; 0 for none.
+    pub fail_at: u64,
+    /// Whether only that call fails, and no later one.
+    pub once: bool,
+    /// How many bytes the output and the messages have room for, up to `ROOM`.
+    pub room: (usize, usize),
+}
+
+/// A run that meets no fault: words behind the program's name, a table and an input; what then stands on the output and
+/// the messages, and the status.
 pub struct Row {
     pub words: &'static [&'static str],
     pub table: &'static [u8],
@@ -23,57 +43,90 @@ pub struct Row {
     pub status: u8,
 }
 
-/// The words of a command line: the program's name, and these behind it.
-pub fn line_of(alloc: Global, words: &[&str]) -> Result<Vec<String>, Fail> {
+/// Bytes as a failed assertion shows them: as text, or escaped where they are no UTF-8.
+pub fn shown(alloc: Global, bytes: &[u8]) -> Result<String, AllocError> {
+    match str::from_utf8(bytes) {
+        Ok(text) => String::from_str(alloc, text),
+        Err(_) => format!(in alloc; "{}", bytes.escape_ascii()),
+    }
+}
+
+/// The options of the words behind the program's name.
+pub fn options_of(alloc: Global, words: &[&str]) -> Result<Options, Fail>
+    ensures { IfOk result IsWithinLimits }
+{
     let mut all = Vec::new(alloc);
     all.push(String::from_str(alloc, "idn2")?)?;
     for word in words {
         all.push(String::from_str(alloc, word)?)?;
     }
-    Ok(all)
-}
-
-/// The options of these words.
-pub fn options_of(alloc: Global, words: &[&str]) -> Result<Options, Fail>
-    ensures { IfOk result IsWithinLimits }
-{
-    let options = read_options(alloc, &line_of(alloc, words)?)?;
+    let options = read_options(alloc, &all)?;
     Ok(options)
 }
 
 /// Runs each row with one byte a read and a write, and with many.
 pub fn hold(rt: &impl Abort, alloc: Global, rows: &[Row]) -> Result<(), Fail> {
     for row in rows {
-        holds(rt, alloc, row, 1)?;
-        holds(rt, alloc, row, 4096)?;
+        for piece in [1, ROOM] {
+            let given = Given {
+                words: row.words,
+                table: row.table,
+                input: row.input,
+                piece,
+                fail_at: 0,
+                once: false,
+                room: (ROOM, ROOM),
+            };
+            let messages = row.messages.as_bytes();
+            answers(
+                rt,
+                alloc,
+                &given,
+                row.output.as_bytes(),
+                messages,
+                row.status,
+            )?;
+        }
     }
     Ok(())
 }
 
-fn holds(rt: &impl Abort, alloc: Global, row: &Row, piece: usize) -> Result<(), Fail>
-    requires { 0 < piece }
-{
-    let mut output = [0u8; ROOM];
-    let mut messages = [0u8; ROOM];
-    let options = options_of(alloc, row.words)?;
-    let mut out = Device::new(StopWriter::new(&mut output, piece));
-    let mut err = Device::new(StopWriter::new(&mut messages, piece));
-    let mut input = Lines::new(Device::new(StopReader::new(row.input, piece, 0, false)));
-    let status = run(alloc, &options, row.table, &mut input, &mut out, &mut err);
+/// Runs, and asserts what then stands on the output and on the messages, and the status.
+pub fn answers(
+    rt: &impl Abort,
+    alloc: Global,
+    given: &Given<'_>,
+    output: &[u8],
+    messages: &[u8],
+    status: u8,
+) -> Result<(), Fail> {
+    let options = options_of(alloc, given.words)?;
+    let mut held = [0u8; ROOM];
+    let mut told = [0u8; ROOM];
+    let piece = given.piece.max(1);
+    let mut out = Device::new(StopWriter::new(&mut held[..given.room.0.min(ROOM)], piece));
+    let mut err = Device::new(StopWriter::new(&mut told[..given.room.1.min(ROOM)], piece));
+    let reader = StopReader::new(given.input, piece, given.fail_at, given.once);
+    let mut input = Lines::new(Device::new(reader));
+    let code = run(alloc, &options, given.table, &mut input, &mut out, &mut err).code();
     let written = out.inner().taken();
-    let told = err.inner().taken();
-    let words = row.words;
-    let given = row.input;
-    assert_eq!(rt; status.code(), row.status, "{words:?} {given:?}");
+    let spoken = err.inner().taken();
+    let held = shown(alloc, held.get(..written).unwrap_or(b""))?;
+    let told = shown(alloc, told.get(..spoken).unwrap_or(b""))?;
+    let output = shown(alloc, output)?;
+    let messages = shown(alloc, messages)?;
+    let Given {
+        words,
+        fail_at,
+        once,
+        room,
+        ..
+    } = *given;
+    let lines = shown(alloc, given.input)?;
     assert_eq!(rt;
-        output.get(..written),
-        Some(row.output.as_bytes()),
-        "{words:?} {given:?}"
-    );
-    assert_eq!(rt;
-        messages.get(..told),
-        Some(row.messages.as_bytes()),
-        "{words:?} {given:?}"
+        (held.as_str(), told.as_str(), code),
+        (output.as_str(), messages.as_str(), status),
+        "{words:?} on {lines:?} by {piece}, read fault at {fail_at} (once: {once}), room {room:?}"
     );
     Ok(())
 }

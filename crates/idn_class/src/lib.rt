@@ -19,8 +19,6 @@ mod laws;
 mod mark;
 mod neighbor;
 mod stability;
-#[cfg(test)]
-mod tests;
 
 pub use beginning::{hopeless, shortest_hopeless};
 pub use bidi::bidi_ok;

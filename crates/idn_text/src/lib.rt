@@ -20,6 +20,3 @@ pub use point::{hex_point, is_point};
 pub use refusal::Refusal;
 pub use utf8::{NotUtf8, decode_points, write_points};
 pub use write::{WriteFault, write_text};
-
-#[cfg(test)]
-mod tests;

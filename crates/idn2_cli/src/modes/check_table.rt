@@ -3,16 +3,15 @@
 ghost use Rattle.std.specs.Prelude.{◌≡◌, ◌≤◌, ◌==◌, ◌++◌, ◌∷◌, [], not, length, map, IfOk, IfErr};
 ghost use Rattle.idn_text.specs.Points.{AreScalarValues};
 ghost use Rattle.variant_table.specs.Gaps.{gaps_of, pairs_of};
-ghost use Rattle.idn2_cli.specs.Gaps.{HoldSequences};
+ghost use Rattle.idn2_cli.specs.Inner.{HoldSequences};
 ghost use Rattle.idn2_cli.specs.Transcript.{gap_line, table_line, check_lines, output_lines, status_if};
 ghost use Rattle.idn2_cli.specs.Emitting.{Emits};
-ghost use Rattle.idn2_cli.specs.Consoles.{held_by, HasSameWriters};
-ghost use Rattle.idn2_cli.specs.declared.stop.Stop.TheVariants as stop;
+ghost use Rattle.idn2_cli.specs.declared.session.stop.Stop.TheVariants as stop;
 
-use crate::console::Console;
-use crate::line::append;
-use crate::status::Status;
-use crate::stop::Stop;
+use crate::session::buffers::append;
+use crate::session::console::Console;
+use crate::session::status::Status;
+use crate::session::stop::Stop;
 use arrayvec::{ArrayString, ArrayVec};
 use idn_text::Sink;
 use itoa::Buffer;
@@ -25,10 +24,8 @@ pub(crate) fn check_table<W: Sink, E: Sink>(
     table: &Table,
     console: &mut Console<'_, '_, W, E>,
 ) -> Result<Status, Stop>
-    ensures written { Emits (held_by W.contents W.has_failed W.faults E.contents E.has_failed E.faults console.old)
-        (held_by W.contents W.has_failed W.faults E.contents E.has_failed E.faults console.new) (output_lines (check_lines table.now)) result }
+    ensures written { Emits console.old console.new (output_lines (check_lines table.now)) result }
     ensures status { IfOk result (λ status. status ≡ status_if (not (length (gaps_of table.now) == 0))) }
-    ensures same { HasSameWriters console.old console.new }
 {
     let gaps = table.gaps(alloc)?;
     let entries = table.len();
@@ -57,10 +54,8 @@ fn write_gaps<W: Sink, E: Sink>(
     console: &mut Console<'_, '_, W, E>,
 ) -> Result<(), Stop>
     requires { HoldSequences gaps.now }
-    ensures written { Emits (held_by W.contents W.has_failed W.faults E.contents E.has_failed E.faults console.old)
-        (held_by W.contents W.has_failed W.faults E.contents E.has_failed E.faults console.new) (output_lines (map gap_line (pairs_of gaps.now))) result }
+    ensures written { Emits console.old console.new (output_lines (map gap_line (pairs_of gaps.now))) result }
     ensures why { IfErr result (λ why. why ≡ stop.Output) }
-    ensures same { HasSameWriters console.old console.new }
 {
     'gaps: for gap in gaps {
         let line = line_of_gap(&gap.0, &gap.1);

@@ -4,13 +4,14 @@ ghost use Rattle.std.specs.Prelude.{◌≡◌, ◌≤◌, ◌++◌, [], length, 
 ghost use Rattle.idn_text.specs.Points.{AreScalarValues, utf8_of};
 ghost use Rattle.idn_label.specs.Answers.{Gives};
 ghost use Rattle.idn_label.specs.Decode.{decode_answer};
-ghost use Rattle.idn2_cli.specs.LineAnswers.{as_utf8, one_line, with_feed};
+ghost use Rattle.idn2_cli.specs.Answers.{as_utf8, one_line};
+ghost use Rattle.idn2_cli.specs.Inner.{with_feed};
 
-use crate::answering::{Answering, refuse, reply};
-use crate::by_points::{ByPoints, PointAnswering};
-use crate::console::Console;
-use crate::room::{MAX_ANSWER_LEN, Room};
-use crate::stop::Stop;
+use crate::modes::answering::{Answering, refuse, reply};
+use crate::modes::code_points::{ByPoints, PointAnswering};
+use crate::session::buffers::{Buffers, MAX_ANSWER_LEN};
+use crate::session::console::Console;
+use crate::session::stop::Stop;
 use arrayvec::ArrayVec;
 use idn_label::{decode_ascii, decode_name};
 use idn_text::{Refusal, Sink};
@@ -28,15 +29,15 @@ impl Answering for Decode {
         alloc: Global,
         number: u64,
         text: &[u8],
-        room: &mut Room,
+        buffers: &mut Buffers,
         console: &mut Console<'_, '_, W, E>,
     ) -> Result<bool, Stop> {
         // A line past ASCII, and an empty one, which is refused, are answered by their code points.
         if text.is_empty() || !text.is_ascii() {
-            return ByPoints { mode: self }.answer(alloc, number, text, room, console);
+            return ByPoints { mode: self }.answer(alloc, number, text, buffers, console);
         }
-        match fill_line(alloc, text, &mut room.answer) {
-            Ok(()) => reply(room.answer.as_slice(), console),
+        match fill_line(alloc, text, &mut buffers.answer) {
+            Ok(()) => reply(buffers.answer.as_slice(), console),
             Err(refusal) => refuse(number, refusal, console),
         }
     }

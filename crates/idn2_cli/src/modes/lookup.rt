@@ -4,12 +4,13 @@ ghost use Rattle.std.specs.Prelude.{◌≡◌, []};
 ghost use Rattle.std.specs.Str.{is_utf8};
 ghost use Rattle.idn_label.specs.Answers.{Gives};
 ghost use Rattle.idn_label.specs.Lookup.{lookup_answer};
-ghost use Rattle.idn2_cli.specs.LineAnswers.{one_line, with_feed, query_answer};
+ghost use Rattle.idn2_cli.specs.Answers.{one_line};
+ghost use Rattle.idn2_cli.specs.Inner.{with_feed, query_answer};
 
-use crate::answering::{Answering, refuse, reply};
-use crate::console::Console;
-use crate::room::{MAX_ANSWER_LEN, Room};
-use crate::stop::Stop;
+use crate::modes::answering::{Answering, refuse, reply};
+use crate::session::buffers::{Buffers, MAX_ANSWER_LEN};
+use crate::session::console::Console;
+use crate::session::stop::Stop;
 use arrayvec::ArrayVec;
 use idn_label::lookup_utf8;
 use idn_text::{Refusal, Sink};
@@ -31,11 +32,11 @@ impl Answering for Lookup {
         alloc: Global,
         number: u64,
         text: &[u8],
-        room: &mut Room,
+        buffers: &mut Buffers,
         console: &mut Console<'_, '_, W, E>,
     ) -> Result<bool, Stop> {
-        match fill_line(alloc, text, self.std3, &mut room.answer) {
-            Ok(()) => reply(room.answer.as_slice(), console),
+        match fill_line(alloc, text, self.std3, &mut buffers.answer) {
+            Ok(()) => reply(buffers.answer.as_slice(), console),
             Err(refusal) => refuse(number, refusal, console),
         }
     }

@@ -3,12 +3,13 @@
 ghost use Rattle.std.specs.Prelude.{◌≡◌, ◌≤◌, length};
 ghost use Rattle.idn_label.specs.Answers.{Gives};
 ghost use Rattle.idn_label.specs.Register.{register_answer};
-ghost use Rattle.idn2_cli.specs.LineAnswers.{one_line, with_feed};
+ghost use Rattle.idn2_cli.specs.Answers.{one_line};
+ghost use Rattle.idn2_cli.specs.Inner.{with_feed};
 
-use crate::answering::{refuse, reply};
-use crate::by_points::PointAnswering;
-use crate::console::Console;
-use crate::stop::Stop;
+use crate::modes::answering::{refuse, reply};
+use crate::modes::code_points::PointAnswering;
+use crate::session::console::Console;
+use crate::session::stop::Stop;
 use arrayvec::ArrayVec;
 use idn_label::register;
 use idn_text::{Refusal, Sink};

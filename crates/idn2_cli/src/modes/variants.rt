@@ -5,23 +5,20 @@ ghost use Rattle.std.specs.Result.{is_err};
 ghost use Rattle.idn_label.specs.FirstFault.{IsRegistrable};
 ghost use Rattle.variant_table.specs.WellFormed.{IsWellFormed};
 ghost use Rattle.idn2_cli.specs.Settings.{IsWithinLimits};
-ghost use Rattle.idn2_cli.specs.Blocks.{block, is_registrable};
-ghost use Rattle.idn2_cli.specs.LineAnswers.{variants_answer, listing_answer};
+ghost use Rattle.idn2_cli.specs.Answers.{block, variants_answer, listing_answer};
 ghost use Rattle.idn2_cli.specs.Transcript.{output_lines, pieces_for};
 ghost use Rattle.idn2_cli.specs.Emitting.{Emits};
-ghost use Rattle.idn2_cli.specs.Consoles.{held_by, HasSameWriters};
 
-use crate::answering::refuse;
-use crate::block::{is_reached, write_end, write_stop, write_variant};
-use crate::by_points::PointAnswering;
-use crate::console::Console;
-use crate::options::Options;
-use crate::stop::Stop;
-use arrayvec::ArrayVec;
+use crate::command_line::options::Options;
+use crate::modes::answering::refuse;
+use crate::modes::block::write_block;
+use crate::modes::code_points::PointAnswering;
+use crate::session::console::Console;
+use crate::session::stop::Stop;
 use idn_label::test_label;
 use idn_text::{Refusal, Sink};
-use std::alloc::{AllocError, Global};
-use variant_list::{Cursor, Filter, Net, NetFault, Step};
+use std::alloc::Global;
+use variant_list::{Net, NetFault};
 use variant_table::Table;
 
 /// The listing of variants by a table (RFC 7940 section 8). The options say behind which text it
@@ -63,11 +60,9 @@ fn list<W: Sink, E: Sink>(
     requires limits { IsWithinLimits options.now }
     requires table { IsWellFormed table.now }
     requires registrable { IsRegistrable label.now }
-    ensures written { Emits (held_by W.contents W.has_failed W.faults E.contents E.has_failed E.faults console.old)
-        (held_by W.contents W.has_failed W.faults E.contents E.has_failed E.faults console.new)
+    ensures written { Emits console.old console.new
         (pieces_for number (listing_answer options.now table.now label.now)) result }
     ensures refused { IfOk result (λ refused. refused ≡ is_err (listing_answer options.now table.now label.now)) }
-    ensures same { HasSameWriters console.old console.new }
 {
     match Net::build(alloc, table, label) {
         Ok(net) => {
@@ -76,52 +71,5 @@ fn list<W: Sink, E: Sink>(
         }
         Err(NetFault::NotInTable) => refuse(number, Refusal::NotInTable, console),
         Err(NetFault::Memory) => Err(Stop::Memory),
-    }
-}
-
-/// Only labels that may be registered are listed (RFC 5891 section 4.2).
-struct Registrable;
-
-impl Filter for Registrable {
-    ghost accepted = { λ _ label. is_registrable label };
-
-    fn accepts(&self, alloc: Global, label: &[u32]) -> Result<bool, AllocError> {
-        match test_label(alloc, label) {
-            Ok(_) => Ok(true),
-            Err(Refusal::Memory) => Err(AllocError),
-            Err(_) => Ok(false),
-        }
-    }
-}
-
-/// Writes the block of a net's label.
-fn write_block<W: Sink, E: Sink>(
-    alloc: Global,
-    options: &Options,
-    net: &Net,
-    console: &mut Console<'_, '_, W, E>,
-) -> Result<(), Stop>
-    requires limits { IsWithinLimits options.now }
-    requires table { IsWellFormed net.now.table }
-    ensures written { Emits (held_by W.contents W.has_failed W.faults E.contents E.has_failed E.faults console.old)
-        (held_by W.contents W.has_failed W.faults E.contents E.has_failed E.faults console.new)
-        (output_lines (block options.now net.now.table net.now.label)) result }
-    ensures same { HasSameWriters console.old console.new }
-{
-    let mut cursor = Cursor::new(alloc, net, &options.after)?;
-    let mut tries = options.tries;
-    let mut count = 0;
-    let mut text = ArrayVec::new();
-    'variants: loop {
-        let label = match cursor.next_variant(alloc, &Registrable, &mut tries)? {
-            Step::Found(label) => label,
-            Step::Spent => return write_stop(count, cursor.last(), &mut text, console),
-            Step::Ended => return write_end(count, console),
-        };
-        write_variant(alloc, label, &mut text, console)?;
-        count += 1;
-        if is_reached(options.limit, count) {
-            return write_stop(count, cursor.last(), &mut text, console);
-        }
     }
 }

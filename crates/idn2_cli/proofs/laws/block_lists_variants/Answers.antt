@@ -1,5 +1,5 @@
 use Rattle.variant_list.proofs.VariantLists.{variants-AreVariants}
-use Rattle.idn2_cli.specs.Blocks.{is_registrable}
+use Rattle.idn2_cli.specs.Answers.{is_registrable}
 use Rattle.idn2_cli.proofs.laws.block_lists_variants.Goals as goal
 
 pub returns : goal.returns

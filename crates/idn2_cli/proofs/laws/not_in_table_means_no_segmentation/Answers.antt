@@ -1,7 +1,6 @@
 use Rattle.std.proofs.Common.{◌≡◌, ◌∙◌, Ok, Err, sym}
 use Rattle.idn_text.specs.declared.refusal.Refusal.TheVariants.{NotInTable}
-use Rattle.idn2_cli.specs.Blocks.{block}
-use Rattle.idn2_cli.specs.LineAnswers.{LineAnswer}
+use Rattle.idn2_cli.specs.Answers.{block, LineAnswer}
 use Rattle.idn2_cli.proofs.Segmented.{listing_answer-segmented, listing_answer-unsegmented}
 use Rattle.idn2_cli.proofs.laws.not_in_table_means_no_segmentation.Goals as goal
 

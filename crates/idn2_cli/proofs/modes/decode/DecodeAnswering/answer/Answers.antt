@@ -1,6 +1,6 @@
 use Rattle.std.proofs.Common.{Ok, IsAscii, sym, ap, ◌∙◌, rules}
 use Rattle.idn_label.specs.Decode.{decode_answer}
-use Rattle.idn2_cli.specs.LineAnswers.{as_utf8, one_line}
+use Rattle.idn2_cli.specs.Answers.{as_utf8, one_line}
 use Rattle.idn2_cli.proofs.TextAnswers.{text_answer-ascii, pieces_for-line, one_line-answered, one_line-refused}
 use Rattle.idn2_cli.proofs.Refusing.{emits_refusal, refused_is}
 use Rattle.idn2_cli.proofs.modes.decode.DecodeAnswering.answer.Goals as goal

@@ -1,5 +1,5 @@
 use Rattle.idn_label.specs.Decode.{decode_answer}
-use Rattle.idn2_cli.specs.LineAnswers.{as_utf8}
+use Rattle.idn2_cli.specs.Answers.{as_utf8}
 use Rattle.idn2_cli.proofs.TextAnswers.{one_line-refused}
 use Rattle.idn2_cli.proofs.Refusing.{emits_refusal}
 use Rattle.idn2_cli.proofs.modes.decode.DecodePointAnswering.answer_points.Goals as goal

@@ -1,5 +1,5 @@
 use Rattle.std.proofs.Common.{Ok, sym, ap, ◌∙◌}
-use Rattle.idn2_cli.specs.LineAnswers.{query_answer}
+use Rattle.idn2_cli.specs.Inner.{query_answer}
 use Rattle.idn2_cli.proofs.TextAnswers.{text_answer-query, pieces_for-line, one_line-answered, one_line-refused}
 use Rattle.idn2_cli.proofs.Refusing.{emits_refusal, refused_is}
 use Rattle.idn2_cli.proofs.modes.lookup.LookupAnswering.answer.Goals as goal

@@ -1,0 +1,15 @@
+use Rattle.idn2_cli.proofs.Listings.{IsListing}
+use Rattle.idn2_cli.proofs.modes.block.write_block.Given as goal
+
+-- the lines so far are written; those to come follow from where the cursor stands, the tries left and the count
+abbrev pub invariant-variants : goal.invariant-variants
+invariant-variants g l =
+    record {
+      listing : IsListing l.options l.net
+          l.fn.console
+          l.console
+          l.cursor l.count l.tries;
+    }
+
+abbrev pub decreases-variants : goal.decreases-variants
+decreases-variants g l = l.tries

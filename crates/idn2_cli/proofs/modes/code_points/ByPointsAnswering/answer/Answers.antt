@@ -1,0 +1,29 @@
+use Rattle.std.proofs.Common.{◌∙◌, sym}
+use Rattle.idn2_cli.proofs.TextAnswers.{text_answer-not_utf8, text_answer-empty, text_answer-points}
+use Rattle.idn2_cli.proofs.modes.code_points.ByPointsAnswering.answer.Goals as goal
+
+pub returns-in-Err-clause-written : goal.returns-in-Err-clause-written
+returns-in-Err-clause-written g c = rw (text_answer-not_utf8 (g.M.PointAnswering.answer_of c.args.self.now.mode.now) c.args.text.now c.in-Err.ensures.refused) (c.refuse.ensures.told (λ e. cc))
+
+pub returns-in-Err-clause-refused : goal.returns-in-Err-clause-refused
+returns-in-Err-clause-refused g c = rw (text_answer-not_utf8 (g.M.PointAnswering.answer_of c.args.self.now.mode.now) c.args.text.now c.in-Err.ensures.refused) c.refuse.ensures.refused
+
+pub returns-in-Ok-clause-written : goal.returns-in-Ok-clause-written
+returns-in-Ok-clause-written g c =
+    let empty = sym c.is_empty.ensures ∙ c.if-is_empty.true in
+    rw (text_answer-empty (g.M.PointAnswering.answer_of c.args.self.now.mode.now) _ _ c.in-Ok.ensures.decoded empty) (c.refuse-in-Ok.ensures.told (λ e. cc))
+
+pub returns-in-Ok-clause-refused : goal.returns-in-Ok-clause-refused
+returns-in-Ok-clause-refused g c =
+    let empty = sym c.is_empty.ensures ∙ c.if-is_empty.true in
+    rw (text_answer-empty (g.M.PointAnswering.answer_of c.args.self.now.mode.now) _ _ c.in-Ok.ensures.decoded empty) c.refuse-in-Ok.ensures.refused
+
+pub returns-in-Ok-2-clause-written : goal.returns-in-Ok-2-clause-written
+returns-in-Ok-2-clause-written g c =
+    let some = sym c.is_empty.ensures ∙ c.if-is_empty.false in
+    rw (text_answer-points (g.M.PointAnswering.answer_of c.args.self.now.mode.now) _ _ c.in-Ok-2.ensures.decoded some) (rw c.as_slice.ensures.value at c.answer_points.ensures.written)
+
+pub returns-in-Ok-2-clause-refused : goal.returns-in-Ok-2-clause-refused
+returns-in-Ok-2-clause-refused g c =
+    let some = sym c.is_empty.ensures ∙ c.if-is_empty.false in
+    rw (text_answer-points (g.M.PointAnswering.answer_of c.args.self.now.mode.now) _ _ c.in-Ok-2.ensures.decoded some) (rw c.as_slice.ensures.value at c.answer_points.ensures.refused)

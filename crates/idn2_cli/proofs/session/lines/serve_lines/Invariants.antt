@@ -1,0 +1,15 @@
+use Rattle.std.proofs.Common.{◌-◌, ◌^◌}
+use Rattle.idn2_cli.proofs.Sessions.{SoFar}
+use Rattle.idn2_cli.proofs.session.lines.serve_lines.Given as goal
+
+abbrev pub invariant-lines : goal.invariant-lines
+invariant-lines g l =
+    record {
+      so_far : SoFar (g.M.Answering.answer_of l.mode) l.initial.input l.input
+          l.initial.console
+          l.console
+          l.has_refused;
+    }
+
+abbrev pub decreases-lines : goal.decreases-lines
+decreases-lines g l = 2 ^ 32 - l.input.number

@@ -1,0 +1,121 @@
+-- What a line of input is answered: lines for the output, or a refusal.
+use Rattle.std.specs.Prelude.{ℕ, ◌==◌, Bool, List, [], ◌∷◌, ◌++◌, length, chars, Option, Some, None, Result, Ok, Err, if◌then◌else◌, ◌-◌, map, filter, codes}
+use Rattle.std.specs.Str.{is_utf8}
+use Rattle.std.specs.List.{slice_get}
+use Rattle.std.specs.Option.{is_none}
+use Rattle.std.specs.Ordering.{is_le}
+use Rattle.std.specs.Fmt.{decimal}
+use Rattle.idn_text.specs.Points.{utf8_of}
+use Rattle.idn_text.specs.declared.refusal.Refusal.{Refusal}
+use Rattle.idn_text.specs.declared.refusal.Refusal.TheVariants.{LineTooLong, NotUtf8, Empty, NotInTable}
+use Rattle.idn_label.specs.FirstFault.{first_fault}
+use Rattle.idn_label.specs.Register.{register_answer}
+use Rattle.idn_label.specs.Decode.{decode_answer}
+use Rattle.idn_label.specs.Lookup.{lookup_answer}
+use Rattle.variant_table.specs.Entries.{Entry}
+use Rattle.variant_list.specs.Spelled.{spelled}
+use Rattle.idn2_cli.specs.Settings.{Settings}
+use Rattle.idn2_cli.specs.declared.command_line.mode.Mode.{Mode}
+use Rattle.idn2_cli.specs.declared.command_line.mode.Mode.TheVariants.{Lookup, Register, Decode, Variants, CheckTable}
+use Rattle.idn_label.specs.ALabel.{a_label_of}
+use Rattle.variant_list.specs.Labels.{label_cmp}
+use Rattle.variant_list.specs.Variants.{variants, candidates}
+
+-- ---- the block of a label: a line for each of its variants, and a trailer that says where the listing ends
+
+-- a label that may be registered has no fault (RFC 5891, section 4.2)
+abbrev pub is_registrable : List ℕ → Bool
+is_registrable label = is_none (first_fault label)
+
+-- the registrable labels that the label spells, after the text of the settings
+abbrev pub variants_after : Settings → List Entry → List ℕ → List (List ℕ)
+variants_after o table label = variants is_registrable table label o.after
+
+-- the n-th of the labels, counted from 1, if there is one
+abbrev pub nth : List (List ℕ) → ℕ → Option (List ℕ)
+nth labels n = slice_get labels (n - 1)
+
+-- the same, if a number is given
+abbrev pub nth_if_given : List (List ℕ) → Option ℕ → Option (List ℕ)
+nth_if_given labels None = None
+nth_if_given labels (Some n) = nth labels n
+
+-- the lesser of two labels, as far as they exist
+abbrev pub lesser : Option (List ℕ) → Option (List ℕ) → Option (List ℕ)
+lesser None b = b
+lesser (Some a) None = Some a
+lesser (Some a) (Some b) = if is_le (label_cmp a b) then Some a else Some b
+
+-- the stop of a listing: the limit-th variant or the tries-th candidate, the lesser of those that exist
+abbrev pub stop_of : Settings → List Entry → List ℕ → Option (List ℕ)
+stop_of o table label =
+    lesser (nth_if_given (variants_after o table label) o.limit) (nth (candidates table label o.after) o.tries)
+
+-- the labels that are not greater than the stop; all of them, if there is no stop
+abbrev pub up_to : Option (List ℕ) → List (List ℕ) → List (List ℕ)
+up_to None labels = labels
+up_to (Some b) labels = filter (λ v. is_le (label_cmp v b)) labels
+
+-- a variant, a tab, its A-label
+abbrev pub variant_line : List ℕ → List ℕ
+variant_line v = utf8_of v ++ 9 ∷ a_label_of v
+
+-- the last line of a block: how many variants it lists, and where it stops if there may be more
+abbrev pub trailer : ℕ → Option (List ℕ) → List ℕ
+trailer count None = codes "#end " ++ decimal count
+trailer count (Some b) = codes "#stop " ++ (decimal count ++ 32 ∷ utf8_of b)
+
+-- a line for each of these variants up to the stop, then the trailer
+abbrev pub block_to : Option (List ℕ) → List (List ℕ) → List (List ℕ)
+block_to stop labels = map variant_line (up_to stop labels) ++ trailer (length (up_to stop labels)) stop ∷ []
+
+-- the block of a label
+abbrev pub block : Settings → List Entry → List ℕ → List (List ℕ)
+block o table label = block_to (stop_of o table label) (variants_after o table label)
+
+-- ---- the answer to a line
+
+-- the lines of an answer without their line feeds, or why there is none
+abbrev pub LineAnswer : Type 0
+LineAnswer = Result (List (List ℕ)) Refusal
+
+-- an answer of one line
+abbrev pub one_line : Result (List ℕ) Refusal → LineAnswer
+one_line (Ok line) = Ok (line ∷ [])
+one_line (Err refusal) = Err refusal
+
+-- an answer of code points as their UTF-8
+abbrev pub as_utf8 : Result (List ℕ) Refusal → Result (List ℕ) Refusal
+as_utf8 (Ok points) = Ok (utf8_of points)
+as_utf8 (Err refusal) = Err refusal
+
+-- the lines, unless there is a fault
+abbrev pub unless : Option Refusal → LineAnswer → LineAnswer
+unless None answer = answer
+unless (Some refusal) answer = Err refusal
+
+-- the block of a label, if it can be cut into sources of the table
+abbrev pub listing_answer : Settings → List Entry → List ℕ → LineAnswer
+listing_answer o table label = if length (spelled table label) == 0 then Err NotInTable else Ok (block o table label)
+
+-- the same, where the label may be registered; its first fault is told before that
+abbrev pub variants_answer : Settings → List Entry → List ℕ → LineAnswer
+variants_answer o table label = unless (first_fault label) (listing_answer o table label)
+
+-- the answer of a mode to the code points of a line. The check of a table reads no line
+abbrev pub mode_answer : Mode → Settings → List Entry → List ℕ → LineAnswer
+mode_answer Lookup o table name = one_line (lookup_answer name o.std3)
+mode_answer Register o table label = one_line (register_answer label)
+mode_answer Decode o table name = one_line (as_utf8 (decode_answer name))
+mode_answer Variants o table label = variants_answer o table label
+mode_answer CheckTable o table label = Ok []
+
+-- the answer to the bytes of a line, of a mode that answers code points: they are UTF-8, and not empty
+abbrev pub text_answer : (List ℕ → LineAnswer) → List ℕ → LineAnswer
+text_answer answer bytes =
+    if is_utf8 bytes then (if length bytes == 0 then Err Empty else answer (chars bytes)) else Err NotUtf8
+
+-- the answer to the body of a line, which may be too long
+abbrev pub line_answer : (List ℕ → LineAnswer) → Option (List ℕ) → LineAnswer
+line_answer answer None = Err LineTooLong
+line_answer answer (Some bytes) = text_answer answer bytes

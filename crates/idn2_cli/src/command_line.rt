@@ -1,0 +1,11 @@
+//! The words of the command line: from words to options.
+
+pub(crate) mod arguments;
+pub(crate) mod command;
+pub(crate) mod counts;
+pub(crate) mod mode;
+pub(crate) mod options;
+pub(crate) mod rules;
+pub(crate) mod strings;
+pub(crate) mod usage;
+pub(crate) mod words;

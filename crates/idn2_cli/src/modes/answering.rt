@@ -1,0 +1,74 @@
+//! What a mode does with one line.
+
+ghost use Rattle.std.specs.Prelude.{◌≡◌, ◌≢◌, ◌≤◌, ℕ, List, [], ◌∷◌, length, IfOk, IfErr, Err, true, false};
+ghost use Rattle.std.specs.Result.{is_err};
+ghost use Rattle.idn2_cli.specs.Answers.{LineAnswer, text_answer};
+ghost use Rattle.idn2_cli.specs.Transcript.{Output, pieces_for};
+ghost use Rattle.idn2_cli.specs.Emitting.{Emits};
+ghost use Rattle.idn2_cli.specs.declared.session.stop.Stop.TheVariants as stop;
+
+use crate::session::buffers::Buffers;
+use crate::session::console::Console;
+use crate::session::message::line_message;
+use crate::session::stop::Stop;
+use idn_text::{Refusal, Sink};
+use std::alloc::Global;
+
+/// A mode that answers each line by itself.
+pub(crate) trait Answering {
+    // The answer to the code points of a line.
+    ghost answer_of: { Self → List ℕ → LineAnswer };
+
+    // What the mode needs to answer.
+    ghost is_ready: { Self → Type 0 } = { λ _. Unit {0} };
+
+    /// Writes the answer to the bytes of a line of this number, and tells whether it is a refusal.
+    fn answer<W: Sink, E: Sink>(
+        &self,
+        alloc: Global,
+        number: u64,
+        text: &[u8],
+        buffers: &mut Buffers,
+        console: &mut Console<'_, '_, W, E>,
+    ) -> Result<bool, Stop>
+        requires ready { is_ready self.now }
+        requires few { length text.now ≤ 1024 }
+        ensures written { Emits console.old console.new
+            (pieces_for number (text_answer (answer_of self.now) text.now)) result }
+        ensures refused { IfOk result (λ refused. refused ≡ is_err (text_answer (answer_of self.now) text.now)) };
+}
+
+/// Answers a line by one line, which ends in a line feed. It takes no memory.
+pub(crate) fn reply<W: Sink, E: Sink>(
+    line: &[u8],
+    console: &mut Console<'_, '_, W, E>,
+) -> Result<bool, Stop>
+    ensures written { Emits console.old console.new (Output line.now ∷ []) result }
+    ensures why { IfErr result (λ why. why ≡ stop.Output) }
+    ensures refused { IfOk result (λ refused. refused ≡ false) }
+{
+    console.output(line)?;
+    Ok(false)
+}
+
+/// Tells why a line is refused. Want of memory is no refusal of the line: nothing is told, and the
+/// run stops.
+pub(crate) fn refuse<W: Sink, E: Sink>(
+    number: u64,
+    refusal: Refusal,
+    console: &mut Console<'_, '_, W, E>,
+) -> Result<bool, Stop>
+    ensures told { refusal ≢ Refusal.Memory →
+        Emits console.old console.new (pieces_for number (Err refusal)) result }
+    ensures why { refusal ≢ Refusal.Memory → IfErr result (λ why. why ≡ stop.Messages) }
+    ensures memory { refusal ≡ Refusal.Memory → (result ≡ Err stop.Memory)
+        × Emits console.old console.new [] result }
+    ensures refused { IfOk result (λ refused. refused ≡ true) }
+{
+    if let Refusal::Memory = refusal {
+        return Err(Stop::Memory);
+    }
+    let message = line_message(number, &refusal);
+    console.message(message.as_str().as_bytes())?;
+    Ok(true)
+}

@@ -1,0 +1,146 @@
+//! The block of a label: a line for each of its variants, and a trailer.
+
+ghost use Rattle.std.specs.Prelude.{◌≡◌, ◌≤◌, ◌∷◌, [], ◌++◌, ℕ, Bool, List, length, codes, decimal, None, Some, IfErr};
+ghost use Rattle.idn_text.specs.Points.{AreScalarValues};
+ghost use Rattle.idn_label.specs.FirstFault.{IsRegistrable};
+ghost use Rattle.variant_table.specs.WellFormed.{IsWellFormed};
+ghost use Rattle.idn2_cli.specs.Settings.{IsWithinLimits};
+ghost use Rattle.idn2_cli.specs.Transcript.{output_lines, Output};
+ghost use Rattle.idn2_cli.specs.Answers.{block, is_registrable, variant_line, trailer};
+ghost use Rattle.idn2_cli.specs.Inner.{reaches};
+ghost use Rattle.idn2_cli.specs.Emitting.{Emits};
+ghost use Rattle.idn2_cli.specs.declared.session.stop.Stop.TheVariants as stop;
+
+use crate::command_line::options::Options;
+use crate::session::buffers::append;
+use crate::session::console::Console;
+use crate::session::stop::Stop;
+use arrayvec::{ArrayString, ArrayVec};
+use idn_label::test_label;
+use idn_text::{Refusal, Sink, write_points};
+use itoa::Buffer;
+use std::alloc::{AllocError, Global};
+use variant_list::{Cursor, Filter, Net, Step};
+
+/// Writes the block of a net's label.
+pub(crate) fn write_block<W: Sink, E: Sink>(
+    alloc: Global,
+    options: &Options,
+    net: &Net,
+    console: &mut Console<'_, '_, W, E>,
+) -> Result<(), Stop>
+    requires limits { IsWithinLimits options.now }
+    requires table { IsWellFormed net.now.table }
+    ensures { Emits console.old console.new
+        (output_lines (block options.now net.now.table net.now.label)) result }
+{
+    let mut cursor = Cursor::new(alloc, net, &options.after)?;
+    let mut tries = options.tries;
+    let mut count = 0;
+    let mut text = ArrayVec::new();
+    'variants: loop {
+        let label = match cursor.next_variant(alloc, &Registrable, &mut tries)? {
+            Step::Found(label) => label,
+            Step::Spent => return write_stop(count, cursor.last(), &mut text, console),
+            Step::Ended => return write_end(count, console),
+        };
+        write_variant(alloc, label, &mut text, console)?;
+        count += 1;
+        if is_reached(options.limit, count) {
+            return write_stop(count, cursor.last(), &mut text, console);
+        }
+    }
+}
+
+/// Only labels that may be registered are listed (RFC 5891 section 4.2).
+struct Registrable;
+
+impl Filter for Registrable {
+    ghost accepted = { λ _ label. is_registrable label };
+
+    fn accepts(&self, alloc: Global, label: &[u32]) -> Result<bool, AllocError> {
+        match test_label(alloc, label) {
+            Ok(_) => Ok(true),
+            Err(Refusal::Memory) => Err(AllocError),
+            Err(_) => Ok(false),
+        }
+    }
+}
+
+/// Whether so many variants are as many as may be listed.
+fn is_reached(limit: Option<u64>, count: u64) -> bool
+    ensures { result ≡ reaches limit count }
+{
+    match limit {
+        Some(limit) => limit == count,
+        None => false,
+    }
+}
+
+/// Writes a variant and its A-label. `text` is room for the line.
+fn write_variant<W: Sink, E: Sink>(
+    alloc: Global,
+    label: &[u32],
+    text: &mut ArrayVec<u8, 4096>,
+    console: &mut Console<'_, '_, W, E>,
+) -> Result<(), Stop>
+    requires { IsRegistrable label.now }
+    ensures { Emits console.old console.new (Output (variant_line label.now ++ 10 ∷ []) ∷ []) result }
+{
+    let a_label = match test_label(alloc, label) {
+        Ok(a_label) => a_label,
+        Err(Refusal::Memory) => return Err(Stop::Memory),
+        Err(_) => unreachable!(),
+    };
+    write_points(label, text);
+    text.push(b'\t');
+    append(text, a_label.as_str().as_bytes());
+    text.push(b'\n');
+    console.output(text.as_slice())
+}
+
+/// Writes the trailer of a listing that stops at a label of at most 63 code points. `text` is room
+/// for the label.
+fn write_stop<W: Sink, E: Sink>(
+    count: u64,
+    last: &[u32],
+    text: &mut ArrayVec<u8, 4096>,
+    console: &mut Console<'_, '_, W, E>,
+) -> Result<(), Stop>
+    requires short { length last.now ≤ 63 }
+    requires scalar_values { AreScalarValues last.now }
+    ensures written { Emits console.old console.new (Output (trailer count (Some last.now) ++ 10 ∷ []) ∷ []) result }
+    ensures why { IfErr result (λ why. why ≡ stop.Output) }
+{
+    write_points(last, text);
+    let line = stop_line(count, text.as_slice());
+    console.output(line.as_slice())
+}
+
+/// The line of a stop at a label, whose UTF-8 is given.
+fn stop_line(count: u64, last: &[u8]) -> ArrayVec<u8, 320>
+    requires { length last.now ≤ 252 }
+    ensures { result.items ≡ codes "#stop " ++ (decimal count ++ 32 ∷ last.now) ++ 10 ∷ [] }
+{
+    let mut digits = Buffer::new();
+    let mut line = ArrayVec::new();
+    append(&mut line, b"#stop ");
+    append(&mut line, digits.format(count).as_bytes());
+    append(&mut line, b" ");
+    append(&mut line, last);
+    append(&mut line, b"\n");
+    line
+}
+
+/// Writes the trailer of a listing that ends.
+fn write_end<W: Sink, E: Sink>(count: u64, console: &mut Console<'_, '_, W, E>) -> Result<(), Stop>
+    ensures written { Emits console.old console.new (Output (trailer count None ++ 10 ∷ []) ∷ []) result }
+    ensures why { IfErr result (λ why. why ≡ stop.Output) }
+{
+    let mut line = ArrayString::<48>::new();
+    let mut digits = Buffer::new();
+    line.push_str("#end ");
+    line.push_str(digits.format(count));
+    line.push_str("\n");
+    console.output(line.as_str().as_bytes())
+}

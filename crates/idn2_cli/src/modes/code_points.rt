@@ -1,0 +1,69 @@
+//! Modes that answer a line by its code points.
+
+ghost use Rattle.std.specs.Prelude.{◌≡◌, ◌≤◌, ℕ, List, length, IfOk};
+ghost use Rattle.std.specs.Result.{is_err};
+ghost use Rattle.idn_text.specs.Points.{AreScalarValues};
+ghost use Rattle.idn2_cli.specs.Answers.{LineAnswer};
+ghost use Rattle.idn2_cli.specs.Transcript.{pieces_for};
+ghost use Rattle.idn2_cli.specs.Emitting.{Emits};
+
+use crate::modes::answering::{Answering, refuse};
+use crate::session::buffers::Buffers;
+use crate::session::console::Console;
+use crate::session::stop::Stop;
+use idn_text::{Refusal, Sink, decode_points};
+use std::alloc::Global;
+
+/// A mode that is handed the code points of a line.
+pub(crate) trait PointAnswering {
+    // The answer to the code points of a line.
+    ghost answer_of: { Self → List ℕ → LineAnswer };
+
+    // What the mode needs to answer.
+    ghost is_ready: { Self → Type 0 } = { λ _. Unit {0} };
+
+    /// Writes the answer to a line of this number, and tells whether it is a refusal.
+    fn answer_points<W: Sink, E: Sink>(
+        &self,
+        alloc: Global,
+        number: u64,
+        points: &[u32],
+        console: &mut Console<'_, '_, W, E>,
+    ) -> Result<bool, Stop>
+        requires ready { is_ready self.now }
+        requires few { length points.now ≤ 1024 }
+        requires scalar_values { AreScalarValues points.now }
+        ensures written { Emits console.old console.new
+            (pieces_for number (answer_of self.now points.now)) result }
+        ensures refused { IfOk result (λ refused. refused ≡ is_err (answer_of self.now points.now)) };
+}
+
+/// A mode that is handed them, as one that is handed bytes.
+#[derive(Drop)]
+pub(crate) struct ByPoints<'m, M: PointAnswering> {
+    pub mode: &'m M,
+}
+
+impl<'m, M: PointAnswering> Answering for ByPoints<'m, M> {
+    ghost answer_of = { λ by. M.answer_of by.mode.now };
+
+    ghost is_ready = { λ by. M.is_ready by.mode.now };
+
+    fn answer<W: Sink, E: Sink>(
+        &self,
+        alloc: Global,
+        number: u64,
+        text: &[u8],
+        buffers: &mut Buffers,
+        console: &mut Console<'_, '_, W, E>,
+    ) -> Result<bool, Stop> {
+        match decode_points(text, &mut buffers.points) {
+            Err(_) => refuse(number, Refusal::NotUtf8, console),
+            Ok(()) if text.is_empty() => refuse(number, Refusal::Empty, console),
+            Ok(()) => {
+                self.mode
+                    .answer_points(alloc, number, buffers.points.as_slice(), console)
+            }
+        }
+    }
+}

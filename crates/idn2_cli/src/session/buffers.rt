@@ -1,0 +1,40 @@
+//! Buffers of a fixed size for the work on a line.
+
+ghost use Rattle.std.specs.Prelude.{◌≡◌, ◌≤◌, ◌+◌, ◌++◌, [], length};
+ghost use Rattle.arrayvec.specs.ArrayVec.{array_vec_len};
+
+use arrayvec::ArrayVec;
+
+/// The most octets of an answer: four for each of 1,024 code points, and a line feed.
+pub(crate) const MAX_ANSWER_LEN: usize = 4 * 1024 + 1;
+
+/// Buffers that are used again from line to line. What is left in them says nothing of the next line.
+#[derive(Drop)]
+pub(crate) struct Buffers {
+    /// The code points of a line.
+    pub points: ArrayVec<u32, 1024>,
+    /// The answer in UTF-8, of lookup or decoding, and a line feed.
+    pub answer: ArrayVec<u8, MAX_ANSWER_LEN>,
+}
+
+impl Buffers {
+    pub(crate) fn new() -> Buffers
+        ensures points { result.points.items ≡ [] }
+        ensures answer { result.answer.items ≡ [] }
+    {
+        Buffers {
+            points: ArrayVec::new(),
+            answer: ArrayVec::new(),
+        }
+    }
+}
+
+/// Appends a text for which there is room.
+pub(crate) fn append<const N: usize>(line: &mut ArrayVec<u8, N>, text: &[u8])
+    requires { array_vec_len line.old + length text.now ≤ N }
+    ensures { line.new.items ≡ line.old.items ++ text.now }
+{
+    let Ok(()) = line.try_extend_from_slice(text) else {
+        unreachable!()
+    };
+}

@@ -1,0 +1,57 @@
+//! The two writers of a run.
+
+ghost use Rattle.std.specs.Prelude.{◌≡◌, ◌∷◌, [], IfErr};
+
+use crate::session::stop::Stop;
+use idn_text::{Sink, write_text};
+use std::marker::Model;
+
+/// The output and the messages of a run. Contracts see what the two hold.
+#[derive(Drop)]
+pub(crate) struct Console<'o, 'm, W: Sink, E: Sink> {
+    /// Takes the answers.
+    pub output: &'o mut W,
+    /// Takes what is told of refusals and faults.
+    pub messages: &'m mut E,
+}
+
+impl<'o, 'm, W: Sink, E: Sink> Model for Console<'o, 'm, W, E> {
+    ghost use Rattle.idn2_cli.specs.Ends.{Held};
+
+    ghost Value = { Held };
+
+    ghost view = { λ c. record {
+      output = W.state c.output.now;
+      messages = E.state c.messages.now;
+      output_loan = c.output.ghost_name;
+      messages_loan = c.messages.ghost_name;
+    } };
+}
+
+impl<'o, 'm, W: Sink, E: Sink> Console<'o, 'm, W, E> {
+    ghost use Rattle.idn2_cli.specs.Transcript as pieces;
+    ghost use Rattle.idn2_cli.specs.Emitting.{Emits};
+    ghost use Rattle.idn2_cli.specs.declared.session.stop.Stop.TheVariants as stop;
+
+    /// Writes a piece to the output. It takes no memory.
+    pub fn output(&mut self, text: &[u8]) -> Result<(), Stop>
+        ensures written { Emits self.old self.new (pieces.Output text.now ∷ []) result }
+        ensures why { IfErr result (λ why. why ≡ stop.Output) }
+    {
+        match write_text(self.output, text) {
+            Ok(()) => Ok(()),
+            Err(_fault) => Err(Stop::Output),
+        }
+    }
+
+    /// Writes a piece to the messages. It takes no memory.
+    pub fn message(&mut self, text: &[u8]) -> Result<(), Stop>
+        ensures written { Emits self.old self.new (pieces.Message text.now ∷ []) result }
+        ensures why { IfErr result (λ why. why ≡ stop.Messages) }
+    {
+        match write_text(self.messages, text) {
+            Ok(()) => Ok(()),
+            Err(_fault) => Err(Stop::Messages),
+        }
+    }
+}

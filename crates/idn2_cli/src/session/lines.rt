@@ -1,0 +1,62 @@
+//! The lines of the input, one after another.
+
+ghost use Rattle.std.specs.Prelude.{◌≡◌, ℕ, List, IfOk};
+ghost use Rattle.std.specs.Result.{is_err};
+ghost use Rattle.idn_text.specs.Bodies.{bytes_of};
+ghost use Rattle.idn_text.specs.Reading.{IsUnread, numbered_line};
+ghost use Rattle.idn2_cli.specs.Emitting.{Emits};
+ghost use Rattle.idn2_cli.specs.Answers.{line_answer};
+ghost use Rattle.idn2_cli.specs.Transcript.{line_pieces};
+ghost use Rattle.idn2_cli.specs.Ends.{Does, lines_job};
+
+use crate::modes::answering::{Answering, refuse};
+use crate::session::buffers::Buffers;
+use crate::session::console::Console;
+use crate::session::status::Status;
+use crate::session::stop::Stop;
+use idn_text::{Body, Line, Lines, Refusal, Sink, Source};
+use std::alloc::Global;
+
+/// Answers each line to the end of the input, and gives the status of the run.
+pub(crate) fn serve_lines<M: Answering, R: Source, W: Sink, E: Sink>(
+    alloc: Global,
+    mode: &M,
+    input: &mut Lines<R>,
+    console: &mut Console<'_, '_, W, E>,
+) -> Result<Status, Stop>
+    requires ready { M.is_ready mode.now }
+    requires unread { IsUnread input.old }
+    ensures { Does (lines_job (M.answer_of mode.now)) input.old input.new console.old console.new result }
+{
+    let mut line = Line::new();
+    let mut buffers = Buffers::new();
+    let mut has_refused = false;
+    'lines: while input.read_line(&mut line)? {
+        let is_refused = serve_line(alloc, mode, &line, &mut buffers, console)?;
+        has_refused = has_refused || is_refused;
+    }
+    Ok(if has_refused {
+        Status::Refused
+    } else {
+        Status::Clean
+    })
+}
+
+/// Answers a line, and tells whether it was refused.
+fn serve_line<M: Answering, W: Sink, E: Sink>(
+    alloc: Global,
+    mode: &M,
+    line: &Line,
+    buffers: &mut Buffers,
+    console: &mut Console<'_, '_, W, E>,
+) -> Result<bool, Stop>
+    requires { M.is_ready mode.now }
+    ensures written { Emits console.old console.new
+        (line_pieces (M.answer_of mode.now) (numbered_line line.now)) result }
+    ensures refused { IfOk result (λ refused. refused ≡ is_err (line_answer (M.answer_of mode.now) (bytes_of line.now.body))) }
+{
+    match &line.body {
+        Body::TooLong => refuse(line.number, Refusal::LineTooLong, console),
+        Body::Text(text) => mode.answer(alloc, line.number, text, buffers, console),
+    }
+}

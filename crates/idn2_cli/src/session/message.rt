@@ -1,0 +1,51 @@
+//! The messages of refusals.
+
+ghost use Rattle.std.specs.Prelude.{◌≡◌, ◌≤◌, ◌++◌, length, codes, decimal, option_map};
+ghost use Rattle.idn2_cli.specs.Inner.{told_of};
+ghost use Rattle.idn2_cli.specs.Transcript.{told, line_message, table_message};
+
+use arrayvec::ArrayString;
+use idn_text::Refusal;
+use itoa::Buffer;
+use variant_table::TableFault;
+
+/// A message, for whose bytes there is room.
+pub type Message = ArrayString<80>;
+
+/// The message of a refused line.
+pub fn line_message(number: u64, refusal: &Refusal) -> Message
+    ensures { result.bytes ≡ line_message number refusal.now }
+{
+    message("idn2: line ", number, refusal)
+}
+
+/// The message of a table's fault. There is none for want of memory.
+pub fn table_message(fault: TableFault) -> Option<Message>
+    ensures { option_map (λ message. message.bytes) result ≡ option_map (λ told. table_message told.0 told.1) (told_of fault) }
+{
+    let (line, refusal) = match fault {
+        TableFault::Syntax { line } => (line, Refusal::Syntax),
+        TableFault::SameSource { line } => (line, Refusal::SameSource),
+        TableFault::SameVariant { line } => (line, Refusal::SameVariant),
+        TableFault::BadClass { line } => (line, Refusal::BadClass),
+        TableFault::Limit { line } => (line, Refusal::Limit),
+        TableFault::Memory => return None,
+    };
+    Some(message("idn2: table line ", line, &refusal))
+}
+
+fn message(before: &str, number: u64, refusal: &Refusal) -> Message
+    requires { length before.now ≤ 17 }
+    ensures { result.bytes ≡ before.now ++ (decimal number ++ (codes ": " ++ told refusal.now)) }
+{
+    let mut message = Message::new();
+    let mut digits = Buffer::new();
+    message.push_str(before);
+    message.push_str(digits.format(number));
+    message.push_str(": ");
+    message.push_str(digits.format(refusal.number()));
+    message.push_str(" ");
+    message.push_str(refusal.text());
+    message.push_str("\n");
+    message
+}

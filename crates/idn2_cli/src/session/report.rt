@@ -1,0 +1,41 @@
+//! What ends the program outside a line.
+ghost use Rattle.std.specs.Prelude.{◌≡◌};
+ghost use Rattle.idn2_cli.specs.Ends.{IsFault, TakesText, closing_message, closing_status};
+
+use crate::session::status::Status;
+use idn_text::{Refusal, Sink, write_text};
+
+/// Writes the message of `Usage`, `ReadFault`, `WriteFault` or `Memory`, and answers its status.
+/// The status is the same where the writer fails, and then a proper prefix of the message stands.
+/// It takes no memory.
+pub fn report<E: Sink>(refusal: &Refusal, err: &mut E) -> Status
+    requires { IsFault refusal.now }
+    ensures status { result ≡ closing_status refusal.now }
+    ensures message { TakesText (closing_message refusal.now) (E.state err.old) (E.state err.new) }
+{
+    // Nobody is left to be told of a fault here.
+    let _ = write_text(err, message_of(refusal).as_bytes());
+    status_of(refusal)
+}
+
+fn message_of(refusal: &Refusal) -> &'static str
+    requires { IsFault refusal.now }
+    ensures { result.now ≡ closing_message refusal.now }
+{
+    match refusal {
+        Refusal::ReadFault => "idn2: 60 read fault\n",
+        Refusal::WriteFault => "idn2: 61 write fault\n",
+        Refusal::Memory => "idn2: 70 out of memory\n",
+        _ => "idn2: 50 usage\n",
+    }
+}
+
+fn status_of(refusal: &Refusal) -> Status
+    ensures { result ≡ closing_status refusal.now }
+{
+    match refusal {
+        Refusal::ReadFault | Refusal::WriteFault => Status::Faulty,
+        Refusal::Memory => Status::OutOfMemory,
+        _ => Status::Unusable,
+    }
+}

@@ -1,0 +1,146 @@
+//! A whole run.
+
+ghost use Rattle.std.specs.Prelude.{◌≡◌, IfOk};
+ghost use Rattle.idn_text.specs.Reading.{IsUnread};
+ghost use Rattle.idn2_cli.specs.Settings.{IsWithinLimits};
+ghost use Rattle.idn2_cli.specs.Ends.{held, closing_status, Does, Ends, Closes, mode_job, refusal_of};
+ghost use Rattle.idn2_cli.specs.Transcript.{TableGiven, IsReadAs, IsTableOf, check_pieces, check_status};
+ghost use Rattle.idn2_cli.specs.Emitting.{Emits};
+ghost use Rattle.idn2_cli.specs.declared.command_line.mode.Mode.TheVariants as modes;
+
+use crate::command_line::mode::Mode;
+use crate::command_line::options::Options;
+use crate::modes::code_points::ByPoints;
+use crate::modes::{Decode, Lookup, Register, Variants, check_table};
+use crate::session::console::Console;
+use crate::session::lines::serve_lines;
+use crate::session::report::report;
+use crate::session::status::Status;
+use crate::session::stop::Stop;
+use crate::session::table::refuse_table;
+use idn_text::{Lines, Sink, Source};
+use std::alloc::Global;
+use variant_table::Table;
+
+/// Runs a mode over its input, of which no line was read yet. Where nothing fails, the pieces of the
+/// transcript are written, and the status tells whether something was refused. A fault of a reader,
+/// of a writer or of memory ends the run at once with a last message.
+pub fn run<R: Source, W: Sink, E: Sink>(
+    alloc: Global,
+    options: &Options,
+    table: &[u8],
+    input: &mut Lines<R>,
+    out: &mut W,
+    err: &mut E,
+) -> Status
+    requires limits { IsWithinLimits options.now }
+    requires unread { IsUnread input.old }
+    ensures { (given : TableGiven) × IsTableOf options.now.mode table.now given
+        × Ends (mode_job options.now given) input.old input.new
+        (held (W.state out.old) (E.state err.old)) (held (W.state out.new) (E.state err.new)) result }
+{
+    let mut console = Console {
+        output: out,
+        messages: err,
+    };
+    let status = serve(alloc, options, table, input, &mut console);
+    // Both writers are given back.
+    let (_output, _messages) = (console.output, console.messages);
+    status
+}
+
+/// The same over the two writers as one value.
+fn serve<R: Source, W: Sink, E: Sink>(
+    alloc: Global,
+    options: &Options,
+    table: &[u8],
+    input: &mut Lines<R>,
+    console: &mut Console<'_, '_, W, E>,
+) -> Status
+    requires limits { IsWithinLimits options.now }
+    requires unread { IsUnread input.old }
+    ensures { (given : TableGiven) × IsTableOf options.now.mode table.now given
+        × Ends (mode_job options.now given) input.old input.new console.old console.new result }
+{
+    match serve_mode(alloc, options, table, input, console) {
+        Ok(status) => status,
+        Err(why) => close(why, console),
+    }
+}
+
+/// Runs the mode to its end, and gives the status, or to a stop.
+fn serve_mode<R: Source, W: Sink, E: Sink>(
+    alloc: Global,
+    options: &Options,
+    table: &[u8],
+    input: &mut Lines<R>,
+    console: &mut Console<'_, '_, W, E>,
+) -> Result<Status, Stop>
+    requires limits { IsWithinLimits options.now }
+    requires unread { IsUnread input.old }
+    ensures { (given : TableGiven) × IsTableOf options.now.mode table.now given
+        × Does (mode_job options.now given) input.old input.new console.old console.new result }
+{
+    match options.mode {
+        Mode::Lookup => {
+            let mode = Lookup { std3: options.std3 };
+            serve_lines(alloc, &mode, input, console)
+        }
+        Mode::Register => serve_lines(alloc, &ByPoints { mode: &Register }, input, console),
+        Mode::Decode => serve_lines(alloc, &Decode, input, console),
+        Mode::Variants => serve_variants(alloc, options, table, input, console),
+        Mode::CheckTable => serve_check(alloc, table, console),
+    }
+}
+
+/// Lists the variants of each line by the table that a text spells, or tells the fault of the text.
+fn serve_variants<R: Source, W: Sink, E: Sink>(
+    alloc: Global,
+    options: &Options,
+    text: &[u8],
+    input: &mut Lines<R>,
+    console: &mut Console<'_, '_, W, E>,
+) -> Result<Status, Stop>
+    requires limits { IsWithinLimits options.now }
+    requires mode { options.now.mode ≡ modes.Variants }
+    requires unread { IsUnread input.old }
+    ensures { (given : TableGiven) × IsTableOf options.now.mode text.now given
+        × Does (mode_job options.now given) input.old input.new console.old console.new result }
+{
+    let table = match Table::read(alloc, text) {
+        Ok(table) => table,
+        Err(fault) => return refuse_table(fault, console),
+    };
+    let mode = Variants {
+        table: &table,
+        options,
+    };
+    serve_lines(alloc, &ByPoints { mode: &mode }, input, console)
+}
+
+/// Checks the table that a text spells, or tells the fault of the text.
+fn serve_check<W: Sink, E: Sink>(
+    alloc: Global,
+    text: &[u8],
+    console: &mut Console<'_, '_, W, E>,
+) -> Result<Status, Stop>
+    ensures { (given : TableGiven) × IsReadAs text.now given
+        × Emits console.old console.new (check_pieces given) result
+        × IfOk result (λ status. status ≡ check_status given) }
+{
+    match Table::read(alloc, text) {
+        Ok(table) => check_table(alloc, &table, console),
+        Err(fault) => refuse_table(fault, console),
+    }
+}
+
+/// Writes the last message of a run that stops, and gives its status.
+fn close<W: Sink, E: Sink>(why: Stop, console: &mut Console<'_, '_, W, E>) -> Status
+    ensures closes { Closes why console.old console.new }
+    ensures status { result ≡ closing_status (refusal_of why) }
+{
+    if let Stop::Messages = why {
+        return Status::Faulty;
+    }
+    report(&why.refusal(), console.messages)
+}

@@ -1,0 +1,85 @@
+//! The last message of a run that ends early, its status, and the texts of the errors.
+ghost use Rattle.idn2_cli.specs.Ends.{IsFault};
+
+use crate::row::shown;
+use idn_text::hostile::StopWriter;
+use idn_text::{Device, ReadFault, Refusal, WriteFault};
+use idn2_cli::report;
+use std::alloc::Global;
+use std::process::Abort;
+use std::test::Fail;
+
+/// Reports a fault to a writer with this room, and asserts what it took, and the status.
+fn reports(
+    rt: &impl Abort,
+    alloc: Global,
+    refusal: &Refusal,
+    room_len: usize,
+    message: &str,
+    status: u8,
+) -> Result<(), Fail>
+    requires { IsFault refusal.now }
+{
+    for piece in [1, 4096] {
+        let mut room = vec![in alloc; 0u8; room_len]?;
+        let mut messages = Device::new(StopWriter::new(&mut room, piece));
+        let code = report(refusal, &mut messages).code();
+        let taken = messages.inner().taken();
+        let text = shown(alloc, room.get(..taken).unwrap_or(b""))?;
+        assert_eq!(rt;
+            (text.as_str(), code),
+            (message, status),
+            "{refusal:?}, room for {room_len}, by {piece}"
+        );
+    }
+    Ok(())
+}
+
+#[test]
+fn last_messages(rt: HostRuntime) -> Result<(), Fail> {
+    reports(&rt, rt.alloc(), &Refusal::Usage, 64, "idn2: 50 usage\n", 2)?;
+    reports(
+        &rt,
+        rt.alloc(),
+        &Refusal::ReadFault,
+        64,
+        "idn2: 60 read fault\n",
+        3,
+    )?;
+    reports(
+        &rt,
+        rt.alloc(),
+        &Refusal::WriteFault,
+        64,
+        "idn2: 61 write fault\n",
+        3,
+    )?;
+    reports(
+        &rt,
+        rt.alloc(),
+        &Refusal::Memory,
+        64,
+        "idn2: 70 out of memory\n",
+        4,
+    )
+}
+
+/// The writer fails within the message, or before it.
+#[test]
+fn last_messages_cut(rt: HostRuntime) -> Result<(), Fail> {
+    reports(&rt, rt.alloc(), &Refusal::Memory, 5, "idn2:", 4)?;
+    reports(&rt, rt.alloc(), &Refusal::WriteFault, 0, "", 3)
+}
+
+#[test]
+fn texts_of_errors(rt: HostRuntime) -> Result<(), Fail> {
+    let read = format!(in rt.alloc(); "{}", ReadFault)?;
+    let write = format!(in rt.alloc(); "{}", WriteFault { taken: 3 })?;
+    let texts = (read.as_str(), write.as_str());
+    assert_eq!(rt; texts, ("read fault", "write fault"));
+    assert_eq!(rt;
+        texts,
+        (Refusal::ReadFault.text(), Refusal::WriteFault.text())
+    );
+    Ok(())
+}

@@ -1,0 +1,218 @@
+//! What the words of the command line ask for: options, help, the version, or nothing that can be done.
+use idn2_cli::{Options, Usage, input_text, read_options};
+use std::alloc::{AllocError, Global};
+use std::test::Fail;
+use unicode::UNICODE_VERSION;
+
+const HELP: &str = "\
+Converts and tests internationalized domain names, and lists the variants of a label.
+
+Usage: idn2 [OPTIONS] [STRINGS]...
+
+Arguments:
+  [STRINGS]...  Lines of input [default: the standard input]
+
+Options:
+  -l, --lookup              Convert each name for a query; the default
+  -r, --register            Test each line as one label to be registered, and print its A-label
+  -d, --decode              Turn the A-labels of each name into U-labels
+      --variants <FILE>     List the variants of each line, one label, by the table in FILE
+      --check-table <FILE>  Print the reverse and transitive pairs that the table in FILE lacks
+  -N, --tr46nt              Non-transitional lookup, which lookup does anyway
+      --usestd3asciirules   Lookup refuses ASCII other than letters, digits and hyphens
+      --quiet               Accepted; there is no banner
+      --after <TEXT>        With --variants: list only variants after TEXT
+      --limit <N>           With --variants: stop after N variants of a line [default: no limit]
+      --tries <N>           With --variants: stop after N tested labels of a line [default: 1000000]
+  -h, --help                Print help
+  -V, --version             Print version
+
+Write --after=TEXT where TEXT begins with '-'; strings that begin with '-' come after '--'.
+
+Examples:
+  idn2 faß.de                                      answers xn--fa-hia.de
+  idn2 --variants german.txt --limit 100 strasse   lists the first 100 variants of strasse
+
+Status:
+  0  every line was answered
+  1  a line was refused, or the table has a gap
+  2  the options or the table can't be used
+  3  reading or writing failed
+  4  memory ran out
+";
+
+/// The options of a command line, which is written with `|` between its words.
+fn read(alloc: Global, line: &str) -> Result<Options, Usage> {
+    let words = words_of(alloc, line)?;
+    read_options(alloc, words.as_slice())
+}
+
+fn words_of(alloc: Global, line: &str) -> Result<Vec<String>, AllocError> {
+    let mut words = Vec::new(alloc);
+    for word in line.split('|') {
+        words.push(String::from_str(alloc, word)?)?;
+    }
+    Ok(words)
+}
+
+fn input_of(alloc: Global, options: &Options) -> Result<String, AllocError> {
+    match input_text(alloc, options)? {
+        Some(bytes) => String::from_utf8_lossy(alloc, bytes.as_slice()),
+        None => String::from_str(alloc, "none"),
+    }
+}
+
+/// What a command line asks for, in one line.
+fn summary_of(alloc: Global, line: &str) -> Result<String, AllocError> {
+    match read(alloc, line) {
+        Ok(options) => {
+            let input = input_of(alloc, &options)?;
+            let Options {
+                mode,
+                std3,
+                file,
+                strings: _,
+                after,
+                limit,
+                tries,
+            } = options;
+            format!(in alloc; "{mode:?} {std3} {file:?} {after:?} {limit:?} {tries} {input:?}")
+        }
+        Err(Usage::Bad) => String::from_str(alloc, "bad"),
+        Err(Usage::Show(text)) => Ok(text),
+        Err(Usage::Memory) => Err(AllocError),
+    }
+}
+
+#[test]
+fn read_as_options(rt: HostRuntime) -> Result<(), Fail> {
+    let rows = [
+        ("idn2", "Lookup false \"\" [] None 1000000 \"none\""),
+        (
+            "idn2|-r|faß",
+            "Register false \"\" [] None 1000000 \"faß\\n\"",
+        ),
+        (
+            "idn2|-N|--quiet|faß",
+            "Lookup false \"\" [] None 1000000 \"faß\\n\"",
+        ),
+        (
+            "idn2|-l|--usestd3asciirules|a_b",
+            "Lookup true \"\" [] None 1000000 \"a_b\\n\"",
+        ),
+        (
+            "idn2|b|--decode|a|--|-c",
+            "Decode false \"\" [] None 1000000 \"b\\na\\n-c\\n\"",
+        ),
+        (
+            "idn2|--variants|t|-N|--usestd3asciirules|--quiet",
+            "Variants true \"t\" [] None 1000000 \"none\"",
+        ),
+        (
+            "idn2|--check-table|t",
+            "CheckTable false \"t\" [] None 1000000 \"none\"",
+        ),
+        (
+            "idn2|--variants=t|x|",
+            "Variants false \"t\" [] None 1000000 \"x\\n\\n\"",
+        ),
+        (
+            "idn2|--variants||-",
+            "Variants false \"\" [] None 1000000 \"-\\n\"",
+        ),
+        (
+            "idn2|--variants|t|--after|aß|--limit|0000000007|--tries|1|x",
+            "Variants false \"t\" [97, 223] Some(7) 1 \"x\\n\"",
+        ),
+        (
+            "idn2|--variants|t|--after=-x|--limit=1000000000|--tries=1000000000",
+            "Variants false \"t\" [45, 120] Some(1000000000) 1000000000 \"none\"",
+        ),
+        (
+            "idn2|--variants|t|--after|",
+            "Variants false \"t\" [] None 1000000 \"none\"",
+        ),
+        (
+            "idn2|--variants|t|--after|-",
+            "Variants false \"t\" [45] None 1000000 \"none\"",
+        ),
+    ];
+    for (line, want) in rows {
+        let got = summary_of(rt.alloc(), line)?;
+        assert_eq!(rt; got.as_str(), want, "at {line}");
+    }
+    Ok(())
+}
+
+#[test]
+fn refused(rt: HostRuntime) -> Result<(), Fail> {
+    let rows = [
+        "idn2|-r|-d|x",
+        "idn2|-l|-d|x",
+        "idn2|-l|--variants|t",
+        "idn2|--variants|t|--check-table|t",
+        "idn2|-r|--register|x",
+        "idn2|--quiet|--quiet",
+        "idn2|--variants|t|--variants|u",
+        "idn2|--variants",
+        "idn2|--check-table|t|x",
+        "idn2|--check-table|t|",
+        "idn2|--after|a|x",
+        "idn2|--after||x",
+        "idn2|--limit|1|x",
+        "idn2|-r|--tries|1|x",
+        "idn2|--variants|t|--limit|0|x",
+        "idn2|--variants|t|--limit|+5|x",
+        "idn2|--variants|t|--limit| 5|x",
+        "idn2|--variants|t|--limit||x",
+        "idn2|--variants|t|--limit|00000000001|x",
+        "idn2|--variants|t|--limit|1000000001|x",
+        "idn2|--variants|t|--tries|0|x",
+        "idn2|--variants|t|--tries|1000000001|x",
+        "idn2|--variants|t|--after|--",
+        "idn2|--variants|t|--after|-x",
+        "idn2|--after|-h",
+        "idn2|--bogus|-h",
+        "idn2|-T|x",
+        "idn2|--quiet=yes",
+    ];
+    for line in rows {
+        let got = summary_of(rt.alloc(), line)?;
+        assert_eq!(rt; got.as_str(), "bad", "at {line}");
+    }
+    Ok(())
+}
+
+#[test]
+fn longest_start(rt: HostRuntime) -> Result<(), Fail> {
+    let longest = "a".repeat(rt.alloc(), 1_024)?;
+    let line = format!(in rt.alloc(); "idn2|--variants|t|x|--after|{longest}")?;
+    let options = read(rt.alloc(), line.as_str())?;
+    assert_eq!(rt; options.after.len(), 1_024);
+    let line = format!(in rt.alloc(); "idn2|--variants|t|x|--after|{longest}a")?;
+    let got = summary_of(rt.alloc(), line.as_str())?;
+    assert_eq!(rt; got.as_str(), "bad", "a start of 1,025 bytes");
+    Ok(())
+}
+
+#[test]
+fn shown_as_text(rt: HostRuntime) -> Result<(), Fail> {
+    let lines = [
+        "idn2|-h",
+        "idn2|--help|x",
+        "idn2|-r|-d|-h",
+        "idn2|--limit|0|-h",
+        "idn2|--variants|t|--limit|0|-h",
+    ];
+    for line in lines {
+        let got = summary_of(rt.alloc(), line)?;
+        assert_eq!(rt; got.as_str(), HELP, "at {line}");
+    }
+    let (major, minor, update) = UNICODE_VERSION;
+    let version = format!(in rt.alloc(); "idn2 0.1.0 (Unicode {major}.{minor}.{update})\n")?;
+    for line in ["idn2|-V", "idn2|--version|--bogus"] {
+        let got = summary_of(rt.alloc(), line)?;
+        assert_eq!(rt; got.as_str(), version.as_str(), "at {line}");
+    }
+    Ok(())
+}

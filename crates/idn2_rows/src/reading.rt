@@ -1,0 +1,160 @@
+//! The lines of a reader, and what is told where it fails.
+use crate::row::shown;
+use idn_text::hostile::StopReader;
+use idn_text::{Body, Device, DeviceFault, Line, Lines, ReadFault, Source};
+use std::alloc::{AllocError, Global};
+use std::test::Fail;
+
+/// Where a reader fails.
+#[derive(Clone, Copy)]
+struct Stop {
+    piece: usize,
+    fail_at: u64,
+    once: bool,
+}
+
+/// Never.
+const NEVER: Stop = Stop {
+    piece: 4096,
+    fail_at: 0,
+    once: false,
+};
+
+/// The lines of an input, each as its body behind a colon, `#` and its length for a long one, `!` for one that is too
+/// long; then `.` at the end or `F` at a fault, each as often as two further calls give it.
+fn spelled_lines(alloc: Global, input: &[u8], stop: Stop) -> Result<String, Fail> {
+    let mut spelled = String::new(alloc);
+    let reader = StopReader::new(input, stop.piece.max(1), stop.fail_at, stop.once);
+    let mut lines = Lines::new(Device::new(reader));
+    for number in 1..100u64 {
+        match lines.next_line() {
+            Ok(Some(line)) if line.number == number => spell_line(alloc, &mut spelled, &line)?,
+            Ok(Some(_)) => spelled.push('?')?,
+            Ok(None) => spelled.push('.')?,
+            Err(ReadFault) => spelled.push('F')?,
+        }
+        if spelled.ends_with("...") || spelled.ends_with("FFF") {
+            break;
+        }
+    }
+    Ok(spelled)
+}
+
+fn spell_line(alloc: Global, spelled: &mut String, line: &Line) -> Result<(), AllocError> {
+    let text = match &line.body {
+        Body::Text(text) if text.len() < 100 => shown(alloc, text)?,
+        Body::Text(text) => format!(in alloc; "#{}", text.len())?,
+        Body::TooLong => String::from_str(alloc, "!")?,
+    };
+    spelled.push(':')?;
+    spelled.push_str(text.as_str())
+}
+
+#[test]
+fn lines(rt: HostRuntime) -> Result<(), Fail> {
+    let rows = [
+        ("", "..."),
+        ("\n", ":..."),
+        ("\n\n", "::..."),
+        ("aa", ":aa..."),
+        ("aa\r\n", ":aa..."),
+        ("aa\r\n\nb", ":aa::b..."),
+        ("aa\r", ":aa..."),
+        ("aa\r\r\n", ":aa\r..."),
+        ("\r\n\r", "::..."),
+        ("a\rb\n", ":a\rb..."),
+        ("a\0b\n\0", ":a\0b:\0..."),
+    ];
+    for (input, want) in rows {
+        for piece in [1, 2, 4096] {
+            let got = spelled_lines(rt.alloc(), input.as_bytes(), Stop { piece, ..NEVER })?;
+            assert_eq!(rt; got.as_str(), want, "{input:?} by {piece}");
+        }
+    }
+    Ok(())
+}
+
+/// A line has at most 1,024 bytes, a carriage return at its end counted. Each row is so many times `a` with a text
+/// behind it.
+#[test]
+fn long_lines(rt: HostRuntime) -> Result<(), Fail> {
+    let rows = [
+        (1023, "\nb", ":#1023:b..."),
+        (1024, "\nb", ":#1024:b..."),
+        (1025, "\nb", ":!:b..."),
+        (1022, "\r\nb", ":#1022:b..."),
+        (1023, "\r\nb", ":#1023:b..."),
+        (1024, "\r\nb", ":!:b..."),
+        (1024, "", ":#1024..."),
+        (1025, "", ":!..."),
+        (1023, "\r", ":#1023..."),
+        (1024, "\r", ":!..."),
+        (5000, "\nb", ":!:b..."),
+        (40000, "\nb", ":!:b..."),
+    ];
+    for (length, end, want) in rows {
+        for piece in [1, 4096] {
+            let mut input = vec![in rt.alloc(); b'a'; length]?;
+            input.extend_from_slice(end.as_bytes())?;
+            let got = spelled_lines(rt.alloc(), &input, Stop { piece, ..NEVER })?;
+            assert_eq!(rt; got.as_str(), want, "{length} and {end:?} by {piece}");
+        }
+    }
+    Ok(())
+}
+
+/// A reader that fails has failed for good, also where only one of its calls fails.
+#[test]
+fn lines_up_to_a_fault(rt: HostRuntime) -> Result<(), Fail> {
+    let rows = [
+        (1, 1, "FFF"),
+        (1, 2, "FFF"),
+        (1, 3, "FFF"),
+        (1, 4, ":aaFFF"),
+        (1, 5, ":aaFFF"),
+        (1, 6, ":aaFFF"),
+        (1, 7, ":aa:bb..."),
+        (4096, 1, "FFF"),
+        (4096, 2, ":aaFFF"),
+        (4096, 3, ":aa:bb..."),
+    ];
+    for (piece, fail_at, want) in rows {
+        for once in [false, true] {
+            let stop = Stop {
+                piece,
+                fail_at,
+                once,
+            };
+            let got = spelled_lines(rt.alloc(), b"aa\nbb", stop)?;
+            assert_eq!(rt;
+                got.as_str(),
+                want,
+                "by {piece}, fault at {fail_at}, once: {once}"
+            );
+        }
+    }
+    Ok(())
+}
+
+#[test]
+fn whether_the_last_call_failed(rt: HostRuntime) {
+    let mut lines = Lines::new(Device::new(StopReader::new(b"aa", 1, 2, true)));
+    assert_eq!(rt; lines.failed(), false, "before the first call");
+    assert_eq!(rt; lines.next_line().err(), Some(ReadFault));
+    assert_eq!(rt; lines.failed(), true, "after a fault");
+
+    let mut reader = Device::new(StopReader::new(b"aa", 1, 1, true));
+    let mut buffer = [0; 4];
+    let given = reader.get(&mut buffer);
+    assert_eq!(rt;
+        (given, Source::failed(&reader)),
+        (Err(DeviceFault), true),
+        "first call"
+    );
+    let given = reader.get(&mut buffer);
+    assert_eq!(rt;
+        (given, Source::failed(&reader)),
+        (Ok(1), false),
+        "second call"
+    );
+}

@@ -1,0 +1,74 @@
+//! Texts written whole, or up to where the writer fails.
+use crate::row::shown;
+use idn_text::hostile::StopWriter;
+use idn_text::{Device, Sink, WriteFault, write_text};
+use std::io::{self, Error, ErrorKind, Write};
+use std::test::Fail;
+
+/// A writer whose first call alone is an error; it counts its calls.
+#[derive(Drop)]
+struct LateWriter {
+    calls: u64,
+}
+
+impl Write for LateWriter {
+    fn write(&mut self, text: &[u8]) -> io::Result<usize> {
+        self.calls = self.calls.saturating_add(1);
+        if self.calls == 1 {
+            return Err(Error::from(ErrorKind::Other));
+        }
+        Ok(text.len())
+    }
+
+    fn flush(&mut self) -> io::Result<()> {
+        Ok(())
+    }
+}
+
+/// A text of eight bytes, into less room, just enough, and more.
+#[test]
+fn up_to_the_room(rt: HostRuntime) -> Result<(), Fail> {
+    let rows = [
+        (0, Err(WriteFault { taken: 0 }), ""),
+        (1, Err(WriteFault { taken: 1 }), "a"),
+        (4, Err(WriteFault { taken: 4 }), "aaa\t"),
+        (7, Err(WriteFault { taken: 7 }), "aaa\taaa"),
+        (8, Ok(()), "aaa\taaa\n"),
+        (9, Ok(()), "aaa\taaa\n"),
+    ];
+    for (room_len, result, want) in rows {
+        for piece in [1, 4096] {
+            let mut room = vec![in rt.alloc(); 0u8; room_len]?;
+            let mut writer = Device::new(StopWriter::new(&mut room, piece));
+            let got = write_text(&mut writer, b"aaa\taaa\n");
+            let taken = writer.inner().taken();
+            let text = shown(rt.alloc(), room.get(..taken).unwrap_or(b""))?;
+            assert_eq!(rt;
+                (got, text.as_str()),
+                (result, want),
+                "room for {room_len}, by {piece}"
+            );
+        }
+    }
+    Ok(())
+}
+
+#[test]
+fn no_call_follows_a_fault(rt: HostRuntime) {
+    let mut writer = Device::new(LateWriter { calls: 0 });
+    let result = write_text(&mut writer, b"aa");
+    assert_eq!(rt;
+        (result, writer.inner().calls),
+        (Err(WriteFault { taken: 0 }), 1)
+    );
+}
+
+#[test]
+fn whether_the_last_call_failed(rt: HostRuntime) {
+    let mut room = [0; 1];
+    let mut writer = Device::new(StopWriter::new(&mut room, 1));
+    let taken = writer.put(b"ab");
+    assert_eq!(rt; (taken, Sink::failed(&writer)), (Ok(1), false));
+    assert!(rt; writer.put(b"b").is_err(), "a byte was taken past the room");
+    assert_eq!(rt; Sink::failed(&writer), true);
+}
