@@ -9,6 +9,8 @@ mod code_points;
 #[cfg(test)]
 mod faults;
 #[cfg(test)]
+mod hopeless;
+#[cfg(test)]
 mod label_rules;
 #[cfg(test)]
 mod labels;

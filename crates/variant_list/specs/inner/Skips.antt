@@ -18,6 +18,7 @@ outside n v = filter (λ w. not (shares n v w))
 pub record Searches (old : Position) (top : ℕ) (found : Bool) (new : Position) : Type 0 where
   pub net : new.net ≡ old.net
   pub first : slice_get (outside top old.last (candidates_ahead old)) 0 ≡ (if found then Some new.last else None)
+  pub stays : found ≡ false → new.last ≡ old.last
   pub looks : new.edge_tests ≤ old.edge_tests + 190 * edges_of_net old
 
 -- the cursor went behind a label

@@ -9,4 +9,4 @@ returns c =
     let old : Position = record { net = c.self.inside.net.value; last = c.self.inside.search.last; edge_tests = c.self.inside.edge_tests } in
     let new : Position = record { net = c.self.inside.net.value; last = c.advance.new.self.last; edge_tests = c.advance.new.looks } in
     subst (λ p. Searches p c.args.top c.advance.result new) c.self.view_is
-    (Searches-found c.advance.result old new c.self.inside.search.net c.args.top c.self.invariant refl c.advance.ensures.next c.advance.ensures.none c.advance.ensures.looks)
+    (Searches-found c.advance.result old new c.self.inside.search.net c.args.top c.self.invariant refl c.advance.ensures.next c.advance.ensures.none c.advance.ensures.stays c.advance.ensures.looks)
