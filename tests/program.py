@@ -6,6 +6,7 @@ files. The last line is 'N passed, M failed', and the exit status is 0 where not
 
 import os
 import re
+import resource
 import signal
 import subprocess
 import sys
@@ -98,6 +99,24 @@ def resumes_where_it_stopped(folder):
             break
         stops, start = stops + 1, trailer.split(b" ")[2].decode()
     assert (lines, stops, trailer) == (whole[:-1], 19, b"#end 1"), (stops, trailer)
+
+
+def lists_any_number_of_lines_in_the_memory_of_ten(folder):
+    """In an address space that just suffices for ten lines of 2^62, a hundred thousand are listed too."""
+    words = ["--variants", table_file(folder, b"0061|0062\n0062|0061\n"), "--limit"]
+
+    def lists(count, space):
+        bound = lambda: resource.setrlimit(resource.RLIMIT_AS, (space, space))
+        done = run([*words, str(count), "a" * 62], preexec_fn=bound)
+        return done.returncode == 0 and done.stdout.count(b"\n") == count + 1
+
+    page, low, high = 4096, 0, 16384
+    assert lists(10, high * page)
+    while low + 1 < high:
+        middle = (low + high) // 2
+        low, high = (low, middle) if lists(10, middle * page) else (middle, high)
+    # Some pages more, since an address space is not laid out the same way each time.
+    assert lists(100000, (high + 16) * page), high
 
 
 def checks_a_table(folder):
@@ -259,6 +278,7 @@ TESTS = [
     shows_help_and_version,
     lists_variants,
     resumes_where_it_stopped,
+    lists_any_number_of_lines_in_the_memory_of_ten,
     checks_a_table,
     finds_no_gap_in_the_example_tables,
     reads_a_table_up_to_its_limit,

@@ -98,7 +98,11 @@ fn an_ended_listing_stays_ended(rt: HostRuntime) -> Result<(), Fail> {
     let alloc = rt.alloc();
     let net = net(alloc, SHARP_S, "sss")?;
     for count in 3..6 {
-        assert_eq!(&rt; behind(alloc, &net, count)?, (points(alloc, "ßs")?, 3), "{count}");
+        assert_eq!(&rt;
+            behind(alloc, &net, count)?,
+            (points(alloc, "ßs")?, 3),
+            "{count}"
+        );
     }
     Ok(())
 }

@@ -86,11 +86,18 @@ fn assert_listed(
             let given = cursor.next_candidate();
             assert_eq!(rt; given, Some(spelled.as_slice()), "behind {after:?}");
             let tests = cursor.edge_tests();
-            assert!(rt; tests <= net.edges() * 256, "{tests} at {spelled:?} behind {after:?}");
+            assert!(rt;
+                tests <= net.edges() * 256,
+                "{tests} at {spelled:?} behind {after:?}"
+            );
             listed = listed.saturating_add(1);
         }
     }
-    assert_eq!(rt; cursor.next_candidate(), None, "at the end, behind {after:?}");
+    assert_eq!(rt;
+        cursor.next_candidate(),
+        None,
+        "at the end, behind {after:?}"
+    );
     assert_eq!(rt; net.shortest(), shortest, "the shortest label");
     listed
 }

@@ -117,7 +117,11 @@ fn assert_found<F: Filter>(
     let got = accepted(alloc, &mut cursor, filter, &mut tries)?;
     assert_eq!(rt; got, points(alloc, want)?, "behind {after}");
     assert_eq!(rt; tries, left, "behind {after}");
-    assert_eq!(rt; cursor.last(), points(alloc, last)?.as_slice(), "behind {after}");
+    assert_eq!(rt;
+        cursor.last(),
+        points(alloc, last)?.as_slice(),
+        "behind {after}"
+    );
     Ok(())
 }
 
