@@ -1,293 +1,214 @@
 #!/usr/bin/env python3
-"""Times this repository's idn2 beside libidn2's idn2 (Debian's package idn2): python3 bench/bench.py
+"""Times this repository's idn2 beside libidn2: python3 bench/bench.py
 
-Both programs are given the same files on their standard input, in turn, for some rounds; each time is the median,
-from the start of the process to its end. Both run with LC_ALL=C.UTF-8, and write to /dev/null. What each line of the
-table compares:
+Both programs are given the same files on their standard input, in turn, for some rounds, and write to /dev/null. The
+times are medians: of the processor, in the program and for it in the kernel, and of the clock. Ratios are libidn2's
+time over ours, so above 1 is in our favour, and the last column says which ratio of processor time is wanted. What
+each line of the table compares:
 
     lookup, mixed names   `idn2 -l -N` of both, names of two or three labels in 17 scripts, a part with capitals
-    lookup, ASCII names   `idn2 -l -N` of both, names of letters, digits and hyphens, a part with capitals
+    lookup, ASCII names   `idn2 -l -N` of both, names of letters, digits and hyphens, a part with capitals; ten times
+                          as many lines as elsewhere, so that the start of a process counts for little
     register              `idn2 -r` of both, one label a line. Every label has a code point past ASCII, since libidn2
                           copies an ASCII label without any test
     decode                `idn2 -d` of both, names with A-labels. Ours also tests each decoded label by the rules for
                           registration, libidn2 decodes alone
-    variants              ours lists the variants of some labels (`--variants tables/han.txt`): each spelling, tested,
-                          in order, with its A-label. libidn2's `idn2 -r` is handed all those spellings ready made, so
-                          its time has no part in finding them or in putting them in order
-    start-up              `idn2 -l` of both with an empty input, one start of many in a shell's loop
-    memory                the peak of resident memory in `idn2 -l -N` on mixed names, of few lines and of all lines
+    listing               ours lists the variants of labels under tables/han.txt, 2^8 to 3^9 of each label; the peer is
+                          bench/listing_peer.cpp, a program over libidn2 that makes all spellings of a label by an index
+                          of the table, puts them in order, and tests and encodes each
+    start                 `idn2 -l` of both with an empty input
+    memory                the peak of resident memory: of `idn2 -l -N` on few and on all mixed names; and of a listing
+                          of ten and of a million of the 2^62 variants of a label, where the peer can do neither
 
-libidn2's idn2 ends at the first line that it refuses. So every line is one that both accept, and before anything is
-timed the answers are compared: they must be the same. Ratios are libidn2's figure over ours, so above 1 is in our
-favour. Without libidn2's idn2 ours is measured alone; without GNU time (Debian's package time) there is no memory.
+Before anything is timed the answers are compared, and they must be the same. libidn2's idn2 ends at the first line
+that it refuses, so every line is one that both accept. With `--instructions` callgrind counts the instructions a line
+too, less those of the start; of a listing, those of a variant.
+
+To be installed (Debian's names), each left out with a word where it is missing: idn2 for the comparison, g++ and
+libidn2-dev for the peer, time for the memory, valgrind for the instructions.
 """
 
 import argparse
+import dataclasses
 import itertools
 import pathlib
-import random
-import shutil
-import statistics
 import subprocess
 import sys
 import tempfile
-import time
+
+from inputs import SEED, TABLE, write_inputs
+from runs import Failed, Run, found, in_turn, version
 
 HERE = pathlib.Path(__file__).resolve().parent
 OURS = HERE.parent / "crates/idn2/out/idn2"
-TABLE = HERE.parent / "tables/han.txt"
-SEED = 5891
-ENVIRONMENT = {"LC_ALL": "C.UTF-8", "PATH": "/usr/bin:/bin"}
+# Lines that callgrind is given of each input, since it takes fifty times as long.
+LINES_COUNTED = 2_000
 
 
-def span(first, last):
-    return [chr(point) for point in range(first, last + 1)]
+@dataclasses.dataclass
+class Row:
+    """A line of the table: a run of ours, one of theirs if there is one, and the least ratio that is wanted."""
+
+    name: str
+    ours: Run
+    theirs: Run | None
+    wanted: float
+
+    def runs(self):
+        return [run for run in (self.ours, self.theirs) if run]
 
 
-ASCII_LETTERS = span(0x61, 0x7A)
-SCRIPTS = {
-    "Latin": ASCII_LETTERS + list("äöüßéèêñçåøæœłśžčřůőűğışțđħ"),
-    "Greek": span(0x03B1, 0x03C9),
-    "Cyrillic": span(0x0430, 0x044F),
-    "Armenian": span(0x0561, 0x0586),
-    "Hebrew": span(0x05D0, 0x05EA),
-    "Arabic": span(0x062A, 0x063A) + span(0x0641, 0x064A),
-    "Devanagari": span(0x0915, 0x0928),
-    "Bengali": span(0x0995, 0x09A8),
-    "Thai": span(0x0E01, 0x0E2E),
-    "Georgian": span(0x10D0, 0x10F0),
-    "Ethiopic": span(0x1208, 0x1246),
-    "Khmer": span(0x1780, 0x17A2),
-    "Hiragana": span(0x3042, 0x3093),
-    "Katakana": span(0x30A2, 0x30F3),
-    "Han": span(0x4E00, 0x9FA5),
-    "Hangul": span(0xAC00, 0xD7A3),
-    "Tibetan": span(0x0F49, 0x0F4C) + span(0x0F4E, 0x0F51),
-}
-WITH_CAPITALS = ("Latin", "Greek", "Cyrillic", "Armenian")
-TOP_LABELS = ["example", "com", "org", "de", "рф", "中国", "ไทย", "भारत", "ελ", "한국"]
+def peer(folder):
+    """The program that lists variants over libidn2, built into the folder; or nothing, and why."""
+    compiler = found("g++")
+    if not compiler:
+        return None, "no g++ here (Debian's package g++)"
+    program = folder / "listing_peer"
+    words = [compiler, "-O2", "-std=c++17", "-o", program, HERE / "listing_peer.cpp", "-lidn2"]
+    done = subprocess.run(words, capture_output=True, text=True)
+    if done.returncode != 0:
+        return None, "it does not build (Debian's package libidn2-dev)"
+    return program, None
 
 
-# The inputs.
+def rows_of(options, files, listing_peer):
+    def row(name, words, source, wanted):
+        theirs = Run(options.theirs, words, files[source]) if options.theirs else None
+        return Row(name, Run(options.ours, words, files[source]), theirs, wanted)
+
+    listed = listing_peer and Run(listing_peer, [str(TABLE)], files["sources"])
+    return {
+        "mixed": row("lookup, mixed names", ["-l", "-N"], "mixed", 25),
+        "ascii": row("lookup, ASCII names", ["-l", "-N"], "ascii", 80),
+        "labels": row("register", ["-r"], "labels", 7),
+        "coded": row("decode", ["-d"], "coded", 4),
+        "sources": Row("listing", Run(options.ours, ["--variants", str(TABLE)], files["sources"]), listed, 6),
+        "nothing": row("start", ["-l"], "nothing", 1),
+    }
 
 
-def script_label(chance, script):
-    """A label of the script that is registrable, and that has a code point past ASCII."""
-    letters = SCRIPTS[script]
-    label = chance.choices(letters, k=chance.randint(3, 10))
-    if all(letter < "\u0080" for letter in label):
-        label[-1] = letters[-1]
-    if chance.random() < 0.15:
-        label.insert(len(label) // 2, "-")
-    if chance.random() < 0.15:
-        label.append(chance.choice("0123456789"))
-    return "".join(label)
+def without_trailers(text):
+    return "".join(line for line in text.splitlines(keepends=True) if not line.startswith("#"))
 
 
-def capitals(chance, text):
-    """The text, at times with its first letter or all of it in capitals that lookup maps back."""
-    capital = chance.choice((text[:1].upper() + text[1:], text.upper()))
-    return capital if chance.random() < 0.3 and capital.lower() == text else text
-
-
-def mixed_name(chance):
-    script = chance.choice(list(SCRIPTS))
-    labels = [script_label(chance, script) for _ in range(chance.choice((1, 1, 2)))]
-    if script in WITH_CAPITALS:
-        labels = [capitals(chance, label) for label in labels]
-    return ".".join([*labels, chance.choice(TOP_LABELS)])
-
-
-def ascii_name(chance):
-    labels = []
-    for _ in range(chance.choice((1, 1, 2))):
-        label = "".join(chance.choices(ASCII_LETTERS, k=chance.randint(3, 14)))
-        labels.append(capitals(chance, label + chance.choice(("", "", "-x", "24"))))
-    return ".".join([*labels, chance.choice(TOP_LABELS[:4])])
-
-
-def label_to_register(chance):
-    return script_label(chance, chance.choice(list(SCRIPTS)))
-
-
-def a_label(label):
-    return "xn--" + label.encode("punycode").decode("ascii")
-
-
-def coded_name(chance):
-    labels = [a_label(label_to_register(chance)) for _ in range(chance.choice((1, 1, 2)))]
-    return ".".join([*labels, chance.choice(TOP_LABELS[:4])])
-
-
-def pairs_of_table():
-    """For each character of the table with one variant, that variant; and the characters without variants."""
-    one_variant, alone = {}, []
-    for line in TABLE.read_text(encoding="ascii").splitlines():
-        if line and not line.startswith("#"):
-            source, _, variants = line.partition("|")
-            if not variants and int(source, 16) > 0x7F:
-                alone.append(chr(int(source, 16)))
-            elif variants and ":" not in variants:
-                one_variant[chr(int(source, 16))] = chr(int(variants, 16))
-    return one_variant, alone
-
-
-def labels_with_variants(chance, lines):
-    """Labels under the table, and all their spellings in label order, about as many as `lines`."""
-    one_variant, alone = pairs_of_table()
-    labels, spellings = [], []
-    while len(spellings) < lines:
-        label = chance.sample(sorted(one_variant), k=8) + chance.choices(alone, k=2)
-        chance.shuffle(label)
-        spelled = [""]
-        for letter in label:
-            choices = [letter, one_variant[letter]] if letter in one_variant else [letter]
-            spelled = [start + choice for start in spelled for choice in choices]
-        labels.append("".join(label))
-        spellings.extend(sorted(spelled))
-    return labels, spellings
-
-
-def write_inputs(folder, lines):
-    """The input files by name, written anew from the seed."""
-    makers = {"mixed": mixed_name, "ascii": ascii_name, "labels": label_to_register, "coded": coded_name}
-    texts = {"nothing": []}
-    for name, maker in makers.items():
-        chance = random.Random(f"{SEED} {name}")
-        texts[name] = [maker(chance) for _ in range(lines)]
-    texts["few"] = texts["mixed"][: lines // 100]
-    texts["sources"], texts["spellings"] = labels_with_variants(random.Random(f"{SEED} variants"), lines)
-    inputs = {}
-    for name, text in texts.items():
-        inputs[name] = folder / name
-        inputs[name].write_text("".join(line + "\n" for line in text), encoding="utf-8", newline="\n")
-    return inputs
-
-
-# The runs.
-
-
-class Run:
-    """A program with its words, and the file that it reads."""
-
-    def __init__(self, program, words, source):
-        self.command, self.source = [str(program), *words], source
-
-    def output(self):
-        with self.source.open("rb") as source:
-            done = subprocess.run(self.command, stdin=source, capture_output=True, env=ENVIRONMENT)
-        if done.returncode != 0 or done.stderr:
-            message = done.stderr.decode(errors="replace").strip()
-            raise SystemExit(f"{' '.join(self.command)} < {self.source}: status {done.returncode}, {message}")
-        return done.stdout.decode("utf-8")
-
-    def seconds(self):
-        with self.source.open("rb") as source:
-            start = time.perf_counter()
-            subprocess.run(self.command, stdin=source, stdout=subprocess.DEVNULL, env=ENVIRONMENT, check=True)
-            return time.perf_counter() - start
-
-    def seconds_of_a_start(self, starts):
-        loop = 'for start in $(seq "$1"); do "$2" "$3" < "$4"; done'
-        words = [str(starts), *self.command, str(self.source)]
-        start = time.perf_counter()
-        subprocess.run(["sh", "-c", loop, "sh", *words], stdout=subprocess.DEVNULL, env=ENVIRONMENT, check=True)
-        return (time.perf_counter() - start) / starts
-
-    def kibibytes(self, gnu_time):
-        with self.source.open("rb") as source:
-            done = subprocess.run([gnu_time, "-f", "%M", *self.command], stdin=source, stdout=subprocess.DEVNULL,
-                                  stderr=subprocess.PIPE, env=ENVIRONMENT, check=True)
-        return int(done.stderr.split()[-1])
-
-
-def medians(runs, rounds, seconds):
-    """The median time of each run, all taken in turn in each round."""
-    times = [[] for _ in runs]
-    for _ in range(rounds):
-        for run, taken in zip(runs, times):
-            taken.append(seconds(run))
-    return [statistics.median(taken) for taken in times]
-
-
-def a_labels_of_blocks(text):
-    """The A-labels of a listing of variants, without its trailers."""
-    lines = [line for line in text.splitlines() if not line.startswith("#")]
-    return "".join(line.split("\t")[1] + "\n" for line in lines)
-
-
-def compare_answers(pairs):
-    for name, ours, theirs in pairs:
-        mine, other = ours.output(), theirs.output() if theirs else None
-        if name == "variants":
-            mine = a_labels_of_blocks(mine)
-        if other is not None and mine != other:
+def compare_answers(rows):
+    for row in rows.values():
+        mine = without_trailers(row.ours.output())
+        other = row.theirs.output() if row.theirs else mine
+        if mine != other:
             lines = itertools.zip_longest(mine.splitlines(), other.splitlines())
             first = next((a, b) for a, b in lines if a != b)
-            raise SystemExit(f"{name}: the answers differ, first {first[0]} and {first[1]}")
+            raise Failed(f"{row.name}: the answers differ, first {first[0]} and {first[1]}")
 
 
 # The table.
 
 
-def row(name, figures, unit, wanted):
-    ours, theirs = figures[0], figures[1] if len(figures) > 1 else None
-    shown = [f"{figure:,.2f} {unit}" if figure is not None else "-" for figure in (ours, theirs)]
-    ratio = f"{theirs / ours:.1f}" if theirs is not None else "-"
-    print(f"{name:<34}{shown[0]:>14}{shown[1]:>14}{ratio:>9}{wanted:>14}".rstrip())
+def cells(*texts):
+    print(f"{texts[0]:<22}" + "".join(f"{text:>13}" for text in texts[1:]))
+
+
+def show_times(options, rows, counts):
+    print("milliseconds of processor, and of the clock")
+    cells("", "lines", "ours", "libidn2", "ratio", "wanted", "ours, clock", "theirs", "ratio")
+    for source, row in rows.items():
+        rounds = options.starts if source == "nothing" else options.rounds
+        ours, *theirs = in_turn(row.runs(), rounds)
+        processor = ours_and_theirs(ours.processor, [taken.processor for taken in theirs])
+        wall = ours_and_theirs(ours.wall, [taken.wall for taken in theirs])
+        cells(row.name, f"{counts.get(source, 0):,}", *processor, f"{row.wanted}", *wall)
+
+
+def ours_and_theirs(ours, theirs):
+    """Both times in milliseconds, and their ratio."""
+    if not theirs:
+        return f"{1000 * ours:,.2f}", "-", "-"
+    return f"{1000 * ours:,.2f}", f"{1000 * theirs[0]:,.2f}", f"{theirs[0] / ours:.1f}"
+
+
+def show_memory(options, files, counts):
+    gnu_time = found("time")
+    if not gnu_time:
+        print("\nmemory: no GNU time here (Debian's package time)")
+        return
+    print("\nMiB of resident memory at the peak")
+    cells("", "lines", "ours", "libidn2")
+    for source in ("few", "mixed"):
+        programs = [options.ours, *([options.theirs] if options.theirs else [])]
+        peaks = [Run(program, ["-l", "-N"], files[source]).kibibytes(gnu_time) for program in programs]
+        cells("lookup, mixed names", f"{counts[source]:,}", *[f"{peak / 1024:.2f}" for peak in peaks])
+    for limit in (10, 1_000_000):
+        words = ["--variants", str(files["table"]), "--limit", str(limit)]
+        show_peak_of_listing(Run(options.ours, words, files["label"]), limit, gnu_time)
+
+
+def show_peak_of_listing(run, limit, gnu_time):
+    try:
+        cells("listing of 2^62", f"{limit:,}", f"{run.kibibytes(gnu_time) / 1024:.2f}", "-")
+    except (Failed, subprocess.TimeoutExpired) as failure:
+        cells("listing of 2^62", f"{limit:,}", "failed", "-", f"  {failure}")
+
+
+def show_instructions(rows):
+    if not found("valgrind"):
+        print("\ninstructions: no valgrind here (Debian's package valgrind)")
+        return
+    print("\ninstructions a line, less those of the start")
+    cells("", "ours", "libidn2", "ratio")
+    for source, row in rows.items():
+        if source == "nothing":
+            continue
+        lines = 1 if source == "sources" else LINES_COUNTED
+        counted = lines if source != "sources" else listed_of_first(row.ours)
+        figures = [run.instructions_a_line(lines, counted) for run in row.runs()]
+        ratio = f"{figures[1] / figures[0]:.1f}" if len(figures) > 1 else "-"
+        cells(row.name, *[f"{figure:,.0f}" for figure in figures], ratio)
+
+
+def listed_of_first(run):
+    """How many variants the first label has."""
+    return int(run.output().split("#end ")[1].split("\n")[0])
+
+
+def read_options():
+    words = argparse.ArgumentParser(description="Times our idn2 beside libidn2's.")
+    words.add_argument("--ours", default=OURS, type=pathlib.Path, help="our program")
+    words.add_argument("--theirs", default=found("idn2"), help="libidn2's program")
+    words.add_argument("--lines", default=100_000, type=int, help="lines of each input, but of ASCII ten times as many")
+    words.add_argument("--rounds", default=5, type=int, help="rounds of which the medians are taken")
+    words.add_argument("--starts", default=101, type=int, help="rounds of a start")
+    words.add_argument("--instructions", action="store_true", help="count instructions too, by callgrind")
+    options = words.parse_args()
+    if not options.ours.exists():
+        raise Failed(f"{options.ours} is not there: run make first, or name our program by --ours")
+    return options
+
+
+def measure(options, folder):
+    files, counts = write_inputs(folder, options.lines)
+    print("ours:    " + version(options.ours))
+    # A program that is installed under this name may be our own.
+    if not options.theirs or "Libidn2" not in version(options.theirs):
+        options.theirs = None
+    print("libidn2: " + (version(options.theirs) if options.theirs else "not there (Debian's package idn2); ours alone"))
+    listing_peer, reason = peer(folder)
+    if reason:
+        print("listing: without the peer over libidn2, " + reason)
+    print(f"medians of {options.rounds} rounds, {options.starts} of the start, seed {SEED}\n")
+    rows = rows_of(options, files, listing_peer)
+    compare_answers(rows)
+    show_times(options, rows, counts)
+    show_memory(options, files, counts)
+    if options.instructions:
+        show_instructions(rows)
 
 
 def main():
-    words = argparse.ArgumentParser(description="Times our idn2 beside libidn2's.")
-    words.add_argument("--ours", default=OURS, type=pathlib.Path, help="our program")
-    words.add_argument("--theirs", default=shutil.which("idn2", path="/usr/bin"), help="libidn2's program")
-    words.add_argument("--lines", default=100_000, type=int, help="lines of each input")
-    words.add_argument("--rounds", default=5, type=int, help="rounds of which the median is taken")
-    words.add_argument("--starts", default=100, type=int, help="starts in each round")
-    options = words.parse_args()
-    if not options.ours.exists():
-        raise SystemExit(f"{options.ours} is not there: run make first, or name our program by --ours")
-    with tempfile.TemporaryDirectory() as folder:
-        measure(options, write_inputs(pathlib.Path(folder), options.lines))
-
-
-def version(program):
-    done = subprocess.run([program, "--version"], capture_output=True, text=True, env=ENVIRONMENT, check=True)
-    return done.stdout.split("\n")[0]
-
-
-def measure(options, inputs):
-    # A program that is installed under this name may be our own.
-    has_theirs = bool(options.theirs) and "Libidn2" in version(options.theirs)
-    programs = [options.ours, options.theirs] if has_theirs else [options.ours]
-    print("ours:    " + version(options.ours))
-    print("libidn2: " + (version(options.theirs) if has_theirs else "not there (Debian's package idn2); ours alone"))
-    print(f"{options.lines:,} lines, {options.rounds} rounds, seed {SEED}\n")
-    print(f"{'':<34}{'ours':>14}{'libidn2':>14}{'ratio':>9}{'wanted':>14}")
-
-    same = lambda *words, source: [Run(program, words, inputs[source]) for program in programs]
-    timed = [
-        ("lookup, mixed names", same("-l", "-N", source="mixed"), "at least 10"),
-        ("lookup, ASCII names", same("-l", "-N", source="ascii"), "at least 30"),
-        ("register", same("-r", source="labels"), "at least 3"),
-        ("decode", same("-d", source="coded"), "at least 2"),
-        ("variants", [Run(options.ours, ["--variants", str(TABLE)], inputs["sources"]),
-                      *[Run(program, ["-r"], inputs["spellings"]) for program in programs[1:]]], "at least 8"),
-    ]
-    compare_answers([(name, *(runs + [None])[:2]) for name, runs, _ in timed])
-    for name, runs, wanted in timed:
-        row(name, [1000 * seconds for seconds in medians(runs, options.rounds, Run.seconds)], "ms", wanted)
-    starts = medians(same("-l", source="nothing"), options.rounds, lambda run: run.seconds_of_a_start(options.starts))
-    row("start-up", [1000 * seconds for seconds in starts], "ms", "at least 1")
-
-    gnu_time = shutil.which("time", path="/usr/bin:/bin")
-    if not gnu_time:
-        print("memory: no GNU time here (Debian's package time)")
-        return
-    for source in ("few", "mixed"):
-        count = sum(1 for _ in inputs[source].open("rb"))
-        peaks = [run.kibibytes(gnu_time) / 1024 for run in same("-l", "-N", source=source)]
-        row(f"memory, {count:,} lines", peaks, "MiB", "")
+    try:
+        with tempfile.TemporaryDirectory() as folder:
+            measure(read_options(), pathlib.Path(folder))
+    except Failed as failure:
+        return str(failure)
 
 
 if __name__ == "__main__":

@@ -10,7 +10,7 @@ use Rattle.idn_text.specs.declared.refusal.Refusal.{Refusal}
 use Rattle.idn_label.specs.Answers.{Answer, and_then}
 use Rattle.idn_label.specs.Decode.{decoded_label, decoded_labels, decode_answer, with_others}
 use Rattle.idn_label.proofs.AnswerLemmas.{u_label_answer-from}
-use Rattle.idn_label.proofs.DecodeLemmas.{decoded_label-coded, decoded_label-plain}
+use Rattle.idn_label.proofs.DecodeLemmas.{decoded_label-coded, decoded_label-other}
 use Rattle.idn_label.proofs.FaultLemmas.{permitted_scalar}
 use Rattle.idn_label.proofs.RequirementLemmas.{MeetsRequirements-registrable}
 use Rattle.idn_label.specs.FirstFault.{first_fault}
@@ -55,7 +55,7 @@ decoded_label-scalar label decoded h e = by_prefix (has_ace_prefix (map to_ascii
     by_prefix true is =
         let fault = (u_label_answer-from (map to_ascii_lowercase label) decoded (sym (decoded_label-coded label is) ∙ e)).0 in
         recursion_from_All IsScalarValue decoded (registrable-scalar decoded fault)
-    by_prefix false is = subst AreScalar (from_ok label decoded (sym (decoded_label-plain label is) ∙ e)) h
+    by_prefix false is = subst AreScalar (from_ok label decoded (sym (decoded_label-other label is) ∙ e)) h
 
 with_others-from : (first : Answer) (rest : Result (List (List ℕ)) Refusal) (labels : List (List ℕ)) → with_others first rest ≡ Ok labels → (label : List ℕ) × (others : List (List ℕ)) × (first ≡ Ok label) × (rest ≡ Ok others) × (labels ≡ label ∷ others)
 with_others-from (Err refusal) rest labels e = absurd (let clash : (let r : Result (List (List ℕ)) Refusal = Err refusal in r) ≡ Ok labels = e in cc)

@@ -13,9 +13,9 @@ use Rattle.idn_class.proofs.Computing.{rules}
 use Rattle.idn_label.specs.ALabel.{a_label_of}
 use Rattle.idn_label.specs.FirstFault.{first_of, fault_if, has_hyphen_out_of_place, first_fault}
 use Rattle.idn_label.specs.Register.{register_answer}
-use Rattle.idn_label.specs.Steps.{is_plain_point}
-use Rattle.idn_label.proofs.AnswerLemmas.{register_answer-plain, tested_answer-ok, tested_answer-fault}
-use Rattle.idn_label.proofs.PlainLemmas.{first_fault-plain}
+use Rattle.idn_label.specs.Steps.{is_ldh_point}
+use Rattle.idn_label.proofs.AnswerLemmas.{register_answer-other, tested_answer-ok, tested_answer-fault}
+use Rattle.idn_label.proofs.LdhLemmas.{first_fault-ldh}
 use Rattle.variant_table.specs.Entries.{Entry}
 use Rattle.variant_list.specs.Labels.{label_cmp}
 use Rattle.variant_list.specs.Spelled.{spelled}
@@ -32,49 +32,49 @@ use Rattle.idn2_cli.specs.Examples.{ExamplesOfBlocks, ExamplesOfTranscripts, lis
 
 -- ---- labels of lower-case letters, digits and hyphens
 
-abbrev AllPlain : List (List ℕ) → Type 0
-AllPlain = AllByRecursion (λ v. list_all is_plain_point v ≡ true)
+abbrev AllLdh : List (List ℕ) → Type 0
+AllLdh = AllByRecursion (λ v. list_all is_ldh_point v ≡ true)
 
 -- whether such a label may be registered
 abbrev passes : List ℕ → Bool
 passes label = is_none (first_of (fault_if (length label == 0) Empty ∷ None ∷ fault_if (has_hyphen_out_of_place label) Hyphen ∷ fault_if (nat_lt 63 (length label)) LabelTooLong ∷ []))
 
-registrable-passes : (label : List ℕ) → list_all is_plain_point label ≡ true → is_registrable label ≡ passes label
-registrable-passes label plain = ap is_none (first_fault-plain label plain)
+registrable-passes : (label : List ℕ) → list_all is_ldh_point label ≡ true → is_registrable label ≡ passes label
+registrable-passes label ldh = ap is_none (first_fault-ldh label ldh)
 
-filter-passes : (after : List ℕ) (vs : List (List ℕ)) → AllPlain vs
+filter-passes : (after : List ℕ) (vs : List (List ℕ)) → AllLdh vs
     → filter (λ v. is_registrable v && is_gt (label_cmp v after)) vs ≡ filter (λ v. passes v && is_gt (label_cmp v after)) vs
-filter-passes after [] plain = refl
-filter-passes after (v ∷ vs) plain =
-    ap (λ (b : Bool). if b && is_gt (label_cmp v after) then v ∷ filter (λ v. is_registrable v && is_gt (label_cmp v after)) vs else filter (λ v. is_registrable v && is_gt (label_cmp v after)) vs) (registrable-passes v plain.0)
-    ∙ ap (λ (rest : List (List ℕ)). if passes v && is_gt (label_cmp v after) then v ∷ rest else rest) (filter-passes after vs plain.1)
+filter-passes after [] ldh = refl
+filter-passes after (v ∷ vs) ldh =
+    ap (λ (b : Bool). if b && is_gt (label_cmp v after) then v ∷ filter (λ v. is_registrable v && is_gt (label_cmp v after)) vs else filter (λ v. is_registrable v && is_gt (label_cmp v after)) vs) (registrable-passes v ldh.0)
+    ∙ ap (λ (rest : List (List ℕ)). if passes v && is_gt (label_cmp v after) then v ∷ rest else rest) (filter-passes after vs ldh.1)
 
 -- the block of a label that spells such labels alone
-abbrev plain_block : Settings → List Entry → List ℕ → List (List ℕ)
-plain_block o table label =
+abbrev ldh_block : Settings → List Entry → List ℕ → List (List ℕ)
+ldh_block o table label =
     let vs = variants passes table label o.after in
     block_to (lesser (nth_if_given vs o.limit) (nth (tested_after o table label) o.tries)) vs
 
-block-plain : (o : Settings) (table : List Entry) (label : List ℕ) → AllPlain (in_order (spelled table label)) → block o table label ≡ plain_block o table label
-block-plain o table label plain =
+block-ldh : (o : Settings) (table : List Entry) (label : List ℕ) → AllLdh (in_order (spelled table label)) → block o table label ≡ ldh_block o table label
+block-ldh o table label ldh =
     ap (λ (vs : List (List ℕ)). block_to (lesser (nth_if_given vs o.limit) (nth (tested_after o table label) o.tries)) vs)
-    (filter-passes o.after (in_order (spelled table label)) plain)
+    (filter-passes o.after (in_order (spelled table label)) ldh)
 
 pub blocks : ExamplesOfBlocks
 unfolding digits a_label_of idna hopeless rules
 blocks = record {
-  doubled = block-plain (listing None 1000000) a_or_two (codes "aa") (refl, (refl, (refl, tt))) ∙ refl;
-  limited = block-plain (listing (Some 2) 1000000) a_or_two (codes "aa") (refl, (refl, (refl, tt))) ∙ refl;
-  spent = block-plain (listing None 4) letter_or_hyphen (codes "aaa") (refl, (refl, (refl, (refl, (refl, (refl, (refl, (refl, tt)))))))) ∙ refl;
+  doubled = block-ldh (listing None 1000000) a_or_two (codes "aa") (refl, (refl, (refl, tt))) ∙ refl;
+  limited = block-ldh (listing (Some 2) 1000000) a_or_two (codes "aa") (refl, (refl, (refl, tt))) ∙ refl;
+  spent = block-ldh (listing None 4) letter_or_hyphen (codes "aaa") (refl, (refl, (refl, (refl, (refl, (refl, (refl, (refl, tt)))))))) ∙ refl;
 }
 
 -- ---- a run
 
 good : (label : List ℕ) → has_ace_prefix label ≡ false → first_fault label ≡ None → register_answer label ≡ Ok (a_label_of label)
-good label plain none = register_answer-plain label plain ∙ tested_answer-ok label none
+good label ldh none = register_answer-other label ldh ∙ tested_answer-ok label none
 
 refused : (label : List ℕ) (refusal : Refusal) → has_ace_prefix label ≡ false → first_fault label ≡ Some refusal → register_answer label ≡ Err refusal
-refused label refusal plain fault = register_answer-plain label plain ∙ tested_answer-fault label refusal fault
+refused label refusal ldh fault = register_answer-other label ldh ∙ tested_answer-fault label refusal fault
 
 -- a good label, one with a hyphen at its end, and a good one
 Answered : (List ℕ → Result (List ℕ) Refusal) → Type 0
@@ -83,9 +83,9 @@ Answered r = (r (codes "abc") ≡ Ok (codes "abc")) × (r (codes "a-") ≡ Err H
 answered : Answered register_answer
 unfolding Answered a_label_of idna
 answered = (
-  good (codes "abc") refl (first_fault-plain (codes "abc") refl),
-  refused (codes "a-") Hyphen refl (first_fault-plain (codes "a-") refl),
-  good (codes "b") refl (first_fault-plain (codes "b") refl),
+  good (codes "abc") refl (first_fault-ldh (codes "abc") refl),
+  refused (codes "a-") Hyphen refl (first_fault-ldh (codes "a-") refl),
+  good (codes "b") refl (first_fault-ldh (codes "b") refl),
 )
 
 written : (r : List ℕ → Result (List ℕ) Refusal) → Answered r

@@ -3,9 +3,8 @@ use Rattle.std.proofs.Common.{◌≡◌, ◌⊎◌, inl, inr, ℕ, List, Result,
 use Rattle.idn_text.specs.declared.refusal.Refusal.{Refusal}
 use Rattle.variant_table.specs.Entries.{Entry}
 use Rattle.variant_table.specs.Texts.{IsTextOf, IsFaultOf, IsToldOf}
-use Rattle.variant_table.specs.Faults.{table_fault}
-use Rattle.variant_table.specs.declared.fault.LineFault.{LineFault}
-use Rattle.variant_table.specs.declared.fault.LineFault.TheVariants as kinds
+use Rattle.variant_table.specs.Faults.{table_fault, LineFault}
+use Rattle.variant_table.specs.Faults as kinds
 use Rattle.variant_table.specs.declared.fault.TableFault.{TableFault}
 use Rattle.variant_table.proofs.TextLemmas.{text_decided}
 use Rattle.idn2_cli.specs.Transcript.{TableGiven, IsReadAs, table_refusal, check_pieces}

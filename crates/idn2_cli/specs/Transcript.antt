@@ -6,7 +6,7 @@ use Rattle.std.specs.Fmt.{decimal}
 use Rattle.idn_text.specs.declared.refusal.Refusal.{Refusal}
 use Rattle.variant_table.specs.Entries.{Entry}
 use Rattle.variant_table.specs.Texts.{IsTextOf, IsFaultOf}
-use Rattle.variant_table.specs.declared.fault.LineFault.{LineFault}
+use Rattle.variant_table.specs.Faults.{LineFault}
 use Rattle.idn2_cli.specs.declared.command_line.mode.Mode.{Mode}
 use Rattle.idn2_cli.specs.declared.command_line.mode.Mode.TheVariants.{Variants, CheckTable}
 use Rattle.idn_text.specs.Lines.{Numbered}
@@ -18,7 +18,7 @@ use Rattle.idn2_cli.specs.Answers.{LineAnswer, mode_answer, line_answer}
 use Rattle.idn2_cli.specs.declared.session.status.Status.{Status}
 use Rattle.idn2_cli.specs.declared.session.status.Status.TheVariants.{Clean, Refused, Unusable}
 use Rattle.idn_text.specs.declared.refusal.Refusal.TheVariants as refusals
-use Rattle.variant_table.specs.declared.fault.LineFault.TheVariants as faults
+use Rattle.variant_table.specs.Faults as faults
 
 -- ---- pieces
 

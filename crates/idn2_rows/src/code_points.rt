@@ -1,5 +1,5 @@
-//! What a code point is to a label: its class, and whether it needs no other test beside its like.
-use idn_class::{Class, class_of, fits_anywhere};
+//! What a code point is to a label: its class, and the facts that tell which tests a label needs.
+use idn_class::{Class, Fact, Facts, class_of};
 
 /// The seven rows from U+01F0 on take memory, and succeed too.
 #[test]
@@ -34,31 +34,37 @@ fn classes(rt: HostRuntime) {
     }
 }
 
-/// Letters and a digit fit. A hyphen, a capital, a letter that normalization or folding changes, a mark, letters and a
-/// digit of right-to-left scripts, code points with a context rule and numbers without a character do not.
+/// Letters of some scripts, a digit and the hyphen cause no fault in a label of such alone.
 #[test]
-fn code_points_that_fit_anywhere(rt: HostRuntime) {
-    let fitting = [0x61, 0x39, 0xDF, 0x3B1, 0x430, 0x4E2D, 0xAC00];
-    let others = [
-        0x2D,
-        0x41,
-        0x1F0,
-        0x301,
-        0x5D0,
-        0x627,
-        0x94D,
-        0x200C,
-        0x30FB,
-        0x660,
-        0x378,
-        0xD800,
-        0x11_0000,
-        u32::MAX,
-    ];
-    for c in fitting {
-        assert_eq!(rt; fits_anywhere(c), true, "U+{c:04X}");
+fn simple_code_points_have_no_fact(rt: HostRuntime) {
+    for c in [0x61, 0x39, 0x2D, 0xDF, 0x3B1, 0x430, 0x4E2D, 0xAC00] {
+        assert_eq!(rt; Facts::of(c).is_empty(), true, "U+{c:04X}");
     }
-    for c in others {
-        assert_eq!(rt; fits_anywhere(c), false, "U+{c:04X}");
+}
+
+/// A capital, a letter that folding changes, marks, letters and a digit of right-to-left scripts, code points with a
+/// context rule, and numbers without a character.
+#[test]
+fn other_code_points_have_facts(rt: HostRuntime) {
+    let rows = [
+        (0x41, Fact::MayBeBarred),
+        (0x41, Fact::NotKept),
+        (0x1F0, Fact::MayBeBarred),
+        (0x301, Fact::MayCompose),
+        (0x301, Fact::Mark),
+        (0x94D, Fact::Mark),
+        (0x5D0, Fact::RightToLeft),
+        (0x627, Fact::RightToLeft),
+        (0x200C, Fact::Contextj),
+        (0x30FB, Fact::Contexto),
+        (0x660, Fact::Contexto),
+        (0x660, Fact::RightToLeft),
+        (0x378, Fact::MayBeBarred),
+        (0xD800, Fact::MayBeBarred),
+        (0x11_0000, Fact::Mark),
+        (u32::MAX, Fact::NotKept),
+    ];
+    for (c, fact) in rows {
+        assert_eq!(rt; Facts::of(c).contains(fact), true, "U+{c:04X} {fact:?}");
     }
 }

@@ -3,13 +3,19 @@
 #![tactic(auto)]
 
 #[cfg(test)]
+mod a_labels_of_others;
+#[cfg(test)]
 mod candidates;
 #[cfg(test)]
 mod code_points;
 #[cfg(test)]
+mod decoded_names;
+#[cfg(test)]
 mod faults;
 #[cfg(test)]
 mod hopeless;
+#[cfg(test)]
+mod label_calls;
 #[cfg(test)]
 mod label_rules;
 #[cfg(test)]
@@ -19,17 +25,29 @@ mod lines;
 #[cfg(test)]
 mod listings;
 #[cfg(test)]
+mod looked_up_names;
+#[cfg(test)]
 mod messages;
 #[cfg(test)]
 mod nets;
 #[cfg(test)]
 mod options;
 #[cfg(test)]
+mod punycode;
+#[cfg(test)]
 mod reading;
+#[cfg(test)]
+mod registered_labels;
 #[cfg(test)]
 mod row;
 #[cfg(test)]
 mod spelled;
+#[cfg(test)]
+mod table_entries;
+#[cfg(test)]
+mod table_faults;
+#[cfg(test)]
+mod table_texts;
 #[cfg(test)]
 mod tables;
 #[cfg(test)]

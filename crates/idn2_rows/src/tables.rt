@@ -3,7 +3,7 @@ use crate::row::{Row, hold};
 use std::test::Fail;
 
 /// Tables, the pairs that they lack, and how many entries and gaps there are.
-const CHECKED: [Row; 6] = [
+const CHECKED: [Row; 8] = [
     Row {
         words: &["--check-table", "t"],
         table: b"0061\n0065\n0072\n0073\n0074\n0073-0073|00DF\n00DF|0073-0073\n",
@@ -25,6 +25,22 @@ const CHECKED: [Row; 6] = [
         table: b"0061|0062\n0062|0061:0063\n0063|0062\n",
         input: b"not read\n",
         output: "missing 0061|0063\nmissing 0063|0061\n#table 3 2\n",
+        messages: "",
+        status: 1,
+    },
+    Row {
+        words: &["--check-table", "t"],
+        table: b"0061|0062\n0062|0061\n",
+        input: b"not read\n",
+        output: "#table 2 0\n",
+        messages: "",
+        status: 0,
+    },
+    Row {
+        words: &["--check-table", "t"],
+        table: b"0063|0062\n0062|0061\n",
+        input: b"not read\n",
+        output: "missing 0061|0062\nmissing 0062|0063\nmissing 0063|0061\n#table 2 3\n",
         messages: "",
         status: 1,
     },

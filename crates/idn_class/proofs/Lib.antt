@@ -2,9 +2,10 @@ pub mod BidiLemmas
 pub mod CategoryLemmas
 pub mod ClassNumbers
 pub mod ClassTrie
-pub mod FitsSteps
-pub mod FitsTrie
-pub mod FittingLabels
+pub mod FactLemmas
+pub mod FactSteps
+pub mod FactTrie
+pub mod FactLabels
 pub mod JoiningLemmas
 pub mod StabilityLemmas
 pub mod ContextJTests

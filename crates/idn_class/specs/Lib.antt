@@ -3,7 +3,7 @@ pub mod BidiRule
 pub mod Class
 pub mod ContextJ
 pub mod ContextO
-pub mod FitsAnywhere
+pub mod Facts
 pub mod JoiningType
 pub mod LeadingMark
 pub mod Neighbors

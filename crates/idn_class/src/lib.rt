@@ -1,7 +1,7 @@
 //! Which code points a label may hold, and where: the class of a code point (RFC 5892), the rules
 //! for those that need a context (RFC 5892, appendix A), the Bidi rule (RFC 5893, section 2),
-//! whether a label begins with a combining mark (RFC 5891, section 4.2.3.2), and which code points need
-//! no other test beside their like.
+//! whether a label begins with a combining mark (RFC 5891, section 4.2.3.2), and by one look-up a code
+//! point which of these tests a label needs.
 #![tactic(auto)]
 
 mod beginning;
@@ -13,7 +13,7 @@ mod class_table;
 mod contextj;
 mod contexto;
 mod direction;
-mod fitting;
+mod facts;
 mod joining_type;
 mod laws;
 mod mark;
@@ -26,7 +26,7 @@ pub use bidi_class::BidiClass;
 pub use class::{Class, class_of};
 pub use contextj::contextj_ok;
 pub use contexto::contexto_ok;
-pub use fitting::fits_anywhere;
+pub use facts::{Fact, Facts};
 pub use joining_type::JoiningType;
 pub use laws::{
     bidi_rows, class_rows, hopeless_for_good, hopeless_rows, joiner_rows, mark_rows,

@@ -7,18 +7,18 @@
 #![tactic(auto)]
 
 mod entry;
-mod fits;
+mod facts;
 mod print;
 mod trie;
 
 use crate::entry::entry_of;
-use crate::fits::fits_anywhere;
+use crate::facts::absent_facts;
 use crate::print::print_tables;
 use crate::trie::Trie;
 
 fn main(rt: HostRuntime) -> anyhow::Result<()> {
     let classes = Trie::new::<4, 8, _>(rt.alloc(), &|c| entry_of(c).number())?;
-    let fits = Trie::new::<1, 2, _>(rt.alloc(), &|c| u32::from(fits_anywhere(c)))?;
-    print_tables(&rt, &classes, &fits)?;
+    let facts = Trie::new::<8, 16, _>(rt.alloc(), &|c| absent_facts(c))?;
+    print_tables(&rt, &classes, &facts)?;
     Ok(())
 }

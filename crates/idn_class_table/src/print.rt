@@ -3,7 +3,7 @@ use std::fmt::Display;
 use std::io;
 
 /// Prints the whole file.
-pub(crate) fn print_tables(rt: &impl Print, classes: &Trie, fits: &Trie) -> io::Result<()> {
+pub(crate) fn print_tables(rt: &impl Print, classes: &Trie, facts: &Trie) -> io::Result<()> {
     println!(rt;
         "//! Two tables of all code points. Printed by the program `idn_class_table`: do not edit."
     )?;
@@ -16,8 +16,9 @@ pub(crate) fn print_tables(rt: &impl Print, classes: &Trie, fits: &Trie) -> io::
     )?;
     println!(rt; "//!")?;
     println!(rt;
-        "//! That of the code points that fit anywhere, for `ucd_table::get::<1, 2>`: they have 1."
+        "//! That of the facts, for `ucd_table::get::<8, 16>`: a bit for each fact that is absent, as the"
     )?;
+    println!(rt; "//! places of `Fact` have it.")?;
     print_index(rt, "CLASS_INDEX: [u8", &classes.index)?;
     print_words(
         rt,
@@ -25,12 +26,12 @@ pub(crate) fn print_tables(rt: &impl Print, classes: &Trie, fits: &Trie) -> io::
         "CLASS_WORDS: [u64",
         &classes.words,
     )?;
-    print_index(rt, "FITS_INDEX: [u8", &fits.index)?;
+    print_index(rt, "FACT_INDEX: [u8", &facts.index)?;
     print_words(
         rt,
-        "The blocks: two words of 64 entries each.",
-        "FITS_WORDS: [u64",
-        &fits.words,
+        "The blocks: sixteen words of eight entries each.",
+        "FACT_WORDS: [u64",
+        &facts.words,
     )
 }
 

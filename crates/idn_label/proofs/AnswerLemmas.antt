@@ -126,9 +126,9 @@ u_label_answer-confirmed given code label answer same decoded is =
 
 -- ---- registration
 
-pub register_answer-plain : (label : List ℕ) → has_ace_prefix label ≡ false → register_answer label ≡ tested_answer label
+pub register_answer-other : (label : List ℕ) → has_ace_prefix label ≡ false → register_answer label ≡ tested_answer label
 unfolding register_answer
-register_answer-plain label plain = cond-false _ _ _ plain
+register_answer-other label ldh = cond-false _ _ _ ldh
 
 pub register_answer-fault : (label : List ℕ) (refusal : Refusal) → has_ace_prefix label ≡ true → u_label_answer label ≡ Err refusal → register_answer label ≡ Err refusal
 unfolding register_answer

@@ -57,7 +57,7 @@ pub has_ace_prefix-few : (label : List ℕ) → length label < 4 → has_ace_pre
 has_ace_prefix-few label few =
     elim (cases_Bool (has_ace_prefix (map to_ascii_lowercase label))) [
       | inl coded ↦ absurd (omega (arith, (ace_parts _ coded).1, length-map label to_ascii_lowercase))
-      | inr plain ↦ plain
+      | inr ldh ↦ ldh
     ]
 
 pub has_ace_prefix-four : (label : List ℕ) → 4 ≤ length label → has_ace_prefix (to_ascii_lowercase (get_or label 0 0) ∷ to_ascii_lowercase (get_or label 1 0) ∷ to_ascii_lowercase (get_or label 2 0) ∷ to_ascii_lowercase (get_or label 3 0) ∷ []) ≡ has_ace_prefix (map to_ascii_lowercase label)
@@ -74,9 +74,9 @@ pub decoded_label-coded : (label : List ℕ) → has_ace_prefix (map to_ascii_lo
 unfolding decoded_label
 decoded_label-coded label coded = cond-true _ _ _ coded
 
-pub decoded_label-plain : (label : List ℕ) → has_ace_prefix (map to_ascii_lowercase label) ≡ false → decoded_label label ≡ Ok label
+pub decoded_label-other : (label : List ℕ) → has_ace_prefix (map to_ascii_lowercase label) ≡ false → decoded_label label ≡ Ok label
 unfolding decoded_label
-decoded_label-plain label plain = cond-false _ _ _ plain
+decoded_label-other label ldh = cond-false _ _ _ ldh
 
 -- ---- all labels
 

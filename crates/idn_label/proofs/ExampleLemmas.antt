@@ -65,10 +65,10 @@ no_code = u_label_answer-code_fault (codes "xn--") [] refusals.BadALabel refl re
 needless_code : u_label_answer (codes "xn--abc-") ≡ Err refusals.BadALabel
 unfolding idna decoded_code a_label_of rules in_table
 needless_code =
-    let plain : first_fault (codes "abc") ≡ None = told_is (codes "abc") (Pvalid ∷ Pvalid ∷ Pvalid ∷ []) None (map-class_of-in_table (codes "abc") (Pvalid ∷ Pvalid ∷ Pvalid ∷ []) refl) refl in
+    let ldh : first_fault (codes "abc") ≡ None = told_is (codes "abc") (Pvalid ∷ Pvalid ∷ Pvalid ∷ []) None (map-class_of-in_table (codes "abc") (Pvalid ∷ Pvalid ∷ Pvalid ∷ []) refl) refl in
     let other : a_label_of (codes "abc") ≢ codes "xn--abc-" = λ same. cc in
     u_label_answer-confirmed (codes "xn--abc-") (codes "abc-") (codes "abc") (Err refusals.BadALabel) refl refl
-    (confirmed-other (codes "xn--abc-") (codes "abc") (a_label_of (codes "abc")) (tested_answer-ok (codes "abc") plain) other)
+    (confirmed-other (codes "xn--abc-") (codes "abc") (a_label_of (codes "abc")) (tested_answer-ok (codes "abc") ldh) other)
 
 -- the code of U+0080
 disallowed_code : u_label_answer (codes "xn--a") ≡ Err refusals.Disallowed

@@ -1,22 +1,27 @@
 -- The first fault by its parts.
-use Rattle.std.proofs.Common.{◌≡◌, ℕ, ◌+◌, ◌<◌, Bool, true, false, not, ◌==◌, List, [], ◌∷◌, ◌++◌, length, map, drop, All, Option, Some, None, get_or, refl, sym, ap, ◌∙◌, inl, inr, arith}
+use Rattle.std.proofs.Common.{◌≡◌, ℕ, ◌+◌, ◌<◌, ◌≤◌, Bool, true, false, not, ◌==◌, ◌||◌, nat_lt, lit<, List, [], ◌∷◌, ◌++◌, length, map, drop, All, Option, Some, None, get_or, refl, sym, ap, ◌∙◌, inl, inr, arith}
 use Rattle.std.proofs.lemmas.List.{at_drop_more}
 use Rattle.idn_text.specs.declared.refusal.Refusal.{Refusal}
 use Rattle.idn_class.specs.Class.{class_of}
-use Rattle.std.proofs.lemmas.Bool.{cases_Bool}
+use Rattle.std.proofs.lemmas.Bool.{cases_Bool, true≢false}
 use Rattle.std.proofs.lemmas.Bool.Decides.{nat_tests}
-use Rattle.std.proofs.lemmas.List.Elements.{All-nil, All-cons}
+use Rattle.std.proofs.lemmas.List.Elements.{All-nil, All-cons, All-head, All-tail}
 use Rattle.ucd_table.specs.Rows.{in_ranges}
 use Rattle.idn_text.specs.declared.refusal.Refusal.TheVariants.{Empty, LabelTooLong}
 use Rattle.idn_text.specs.Points.{is_scalar_value, IsScalarValue, AreScalarValues}
 use Rattle.idn_class.specs.declared.class.Class.{Class}
+use Rattle.idn_class.specs.declared.class.Class.TheVariants as classes
+use Rattle.idn_class.specs.declared.facts.Fact.TheVariants.{MayBeBarred}
+use Rattle.idn_class.specs.Facts.{is_barred_class, has_fact}
+use Rattle.idn_class.proofs.FactLabels.{Lacks, each_lacks, class_without}
+use Rattle.idn_label.specs.ALabel.{a_label_of}
 use Rattle.idn_class.specs.Class.{is_scalar}
 use Rattle.idn_class.proofs.ClassNumbers.{class_of-no_scalar}
 use Rattle.unicode_normalization.specs.Forms.{is_nfc}
 use Rattle.idn_text.specs.declared.refusal.Refusal.TheVariants as refusals
 use Rattle.idn_class.specs.Tests.{leading_mark, contextj_ok, contexto_ok, bidi_ok}
 use Rattle.idn_label.specs.FirstFault.{first_of, fault_if, fault_of_class, code_point_fault, has_hyphen_out_of_place, is_too_long, first_fault}
-use Rattle.idn_label.specs.Steps.{rule_fault}
+use Rattle.idn_label.specs.Steps.{rule_fault, fault_but_length}
 
 -- where a list of faults goes on, its first part tells the first fault or leaves it to the rest
 pub first_of-append : (xs ys : List (Option Refusal)) → first_of (xs ++ ys) ≡ first_of (first_of xs ∷ ys)
@@ -107,3 +112,71 @@ first_of-all (Some refusal ∷ faults) none = absurd (let clash : Some refusal �
 pub fault_if-none : (fails : Bool) (refusal : Refusal) → fault_if fails refusal ≡ None → fails ≡ false
 fault_if-none true refusal none = absurd (let clash : Some refusal ≡ None = none in cc)
 fault_if-none false refusal none = refl
+
+-- ---- the first fault but for the length
+
+abbrev faults_but_length : List ℕ → List (Option Refusal)
+faults_but_length label = fault_if (length label == 0) Empty ∷ code_point_fault label ∷ rule_fault label ∷ []
+
+first_fault-split : (label : List ℕ) → first_fault label ≡ first_of (fault_but_length label ∷ fault_if (is_too_long label) LabelTooLong ∷ [])
+unfolding fault_but_length
+first_fault-split label = first_fault-parts label ∙ first_of-append (faults_but_length label) (fault_if (is_too_long label) LabelTooLong ∷ [])
+
+pub fault_but_length-empty : (label : List ℕ) → (length label == 0) ≡ true → fault_but_length label ≡ Some Empty
+unfolding fault_but_length
+fault_but_length-empty label empty = rw empty refl
+
+pub fault_but_length-points : (label : List ℕ) (refusal : Refusal) → (length label == 0) ≡ false → code_point_fault label ≡ Some refusal → fault_but_length label ≡ Some refusal
+unfolding fault_but_length
+fault_but_length-points label refusal some fault = rw (some, fault) refl
+
+pub fault_but_length-rules : (label : List ℕ) → (length label == 0) ≡ false → code_point_fault label ≡ None → fault_but_length label ≡ rule_fault label
+unfolding fault_but_length
+fault_but_length-rules label some none = rw (some, none) (first_of-one (rule_fault label))
+
+pub permitted-faultless : (label : List ℕ) → fault_but_length label ≡ None → code_point_fault label ≡ None
+unfolding fault_but_length
+permitted-faultless label none = first_of-all (faults_but_length label) none 1 None (lit< tt)
+
+pub first_fault-but_length : (label : List ℕ) (refusal : Refusal) → fault_but_length label ≡ Some refusal → first_fault label ≡ Some refusal
+first_fault-but_length label refusal fault = first_fault-split label ∙ rw fault refl
+
+-- a label without another fault is measured
+pub first_fault-measured : (label : List ℕ) → fault_but_length label ≡ None → first_fault label ≡ fault_if (is_too_long label) LabelTooLong
+first_fault-measured label none = first_fault-split label ∙ rw none (first_of-one (fault_if (is_too_long label) LabelTooLong))
+
+pub first_fault-short : (label : List ℕ) → fault_but_length label ≡ None → length label ≤ 63 → length (a_label_of label) ≤ 63 → first_fault label ≡ None
+first_fault-short label none few short = first_fault-measured label none ∙ ap (λ b. fault_if b LabelTooLong) (within (length label) (length (a_label_of label)) few short)
+  where
+    within : (n m : ℕ) → n ≤ 63 → m ≤ 63 → (nat_lt 63 n || nat_lt 63 m) ≡ false
+    within n m few short = grind (arith, nat_tests)
+
+pub first_fault-many : (label : List ℕ) → fault_but_length label ≡ None → 63 < length label → first_fault label ≡ Some LabelTooLong
+first_fault-many label none many = first_fault-measured label none ∙ ap (λ b. fault_if b LabelTooLong) (long (length label) (length (a_label_of label)) many)
+  where
+    long : (n m : ℕ) → 63 < n → (nat_lt 63 n || nat_lt 63 m) ≡ true
+    long n m many = grind (arith, nat_tests)
+
+pub first_fault-long : (label : List ℕ) → fault_but_length label ≡ None → 63 < length (a_label_of label) → first_fault label ≡ Some LabelTooLong
+first_fault-long label none long = first_fault-measured label none ∙ ap (λ b. fault_if b LabelTooLong) (over (length label) (length (a_label_of label)) long)
+  where
+    over : (n m : ℕ) → 63 < m → (nat_lt 63 n || nat_lt 63 m) ≡ true
+    over n m long = grind (arith, nat_tests)
+
+-- ---- what the facts leave
+
+no_fault_of_class : (class : Class) → is_barred_class class ≡ false → fault_of_class class ≡ None
+no_fault_of_class classes.Disallowed h = absurd (true≢false h)
+no_fault_of_class classes.Unassigned h = absurd (true≢false h)
+no_fault_of_class classes.Pvalid h = refl
+no_fault_of_class classes.Contextj h = refl
+no_fault_of_class classes.Contexto h = refl
+
+pub code_point_fault-lacks : (label : List ℕ) → Lacks MayBeBarred label → code_point_fault label ≡ None
+code_point_fault-lacks label none = each label (each_lacks MayBeBarred label none)
+  where
+    each : (label : List ℕ) → All (λ c. has_fact MayBeBarred c ≡ false) label → code_point_fault label ≡ None
+    each [] all = code_point_fault-nil
+    each (c ∷ label) all =
+        let here = no_fault_of_class (class_of c) (class_without c (All-head (λ c. has_fact MayBeBarred c ≡ false) c label all)).0 in
+        rw (code_point_fault-cons c label, here, each label (All-tail (λ c. has_fact MayBeBarred c ≡ false) c label all)) refl

@@ -36,10 +36,10 @@ pub lengths-octet : (name : List ℕ) (i n : ℕ) → i < length name → get_or
 lengths-octet name i n within other = ap (λ x. have_lengths_behind n (labels_of x)) (drop_more name i 0 within) ∙ behind_other n (get_or name i 0) (drop (i + 1) name) (ne_eqb (get_or name i 0) 0x2E other)
 
 pub lengths-stop : (name : List ℕ) (i n : ℕ) → i < length name → get_or name i 0 ≡ 0x2E → is_in_range 1 63 n ≡ true → have_lengths_behind n (labels_of (drop i name)) ≡ have_lengths_behind 0 (labels_of (drop (i + 1) name))
-lengths-stop name i n within stop fits =
+lengths-stop name i n within stop measured =
     ap (λ x. have_lengths_behind n (labels_of x)) (drop_more name i 0 within)
     ∙ behind_stop n (get_or name i 0) (drop (i + 1) name) (eq-eqb (get_or name i 0) 0x2E stop)
-    ∙ ap (λ b. b && list_all has_length (labels_of (drop (i + 1) name))) fits
+    ∙ ap (λ b. b && list_all has_length (labels_of (drop (i + 1) name))) measured
     ∙ sym (behind_none (labels_of (drop (i + 1) name)))
 
 pub lengths-short : (name : List ℕ) (i n : ℕ) → i < length name → get_or name i 0 ≡ 0x2E → is_in_range 1 63 n ≡ false → have_lengths_behind n (labels_of (drop i name)) ≡ false

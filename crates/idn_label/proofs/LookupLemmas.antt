@@ -20,18 +20,18 @@ query_name-measured name std3 deny ascii listed is =
     ap measured_answer (ap (λ d. to_ascii d Allow Ignore name) (sym listed) ∙ is)
 
 short_name : (name : List ℕ) → has_dns_lengths name ≡ true → length name ≤ 253
-short_name name fits = leb-true (length name) 253 (and_parts _ _ fits).0
+short_name name within = leb-true (length name) 253 (and_parts _ _ within).0
 
 -- a name that passes has room in 254 octets
-pub verified-fits : (name : List ℕ) → verify_dns_length name true ≡ true → length name ≤ 254
+pub verified-short : (name : List ℕ) → verify_dns_length name true ≡ true → length name ≤ 254
 unfolding verify_dns_length
-verified-fits name fits =
+verified-short name within =
     elim (cases_Bool (is_full_stop (slice_index name (length name - 1)))) [
       | inl stop ↦
-          let front = short_name (take (length name - 1) name) (sym (cond-true _ _ _ stop) ∙ fits) in
+          let front = short_name (take (length name - 1) name) (sym (cond-true _ _ _ stop) ∙ within) in
           omega (arith, front, length-take (length name - 1) name)
       | inr other ↦
-          let whole = short_name name (sym (cond-false _ _ _ other) ∙ fits) in
+          let whole = short_name name (sym (cond-false _ _ _ other) ∙ within) in
           omega (arith, whole)
     ]
 

@@ -21,11 +21,11 @@ use Rattle.idn_label.specs.ALabel.{a_label_of}
 use Rattle.idn_label.specs.Answers.{Gives}
 use Rattle.idn_label.specs.FirstFault.{first_fault, IsRegistrable}
 use Rattle.idn_label.specs.Register.{decoded_code, u_label_answer}
-use Rattle.idn_label.specs.Steps.{is_plain_point}
+use Rattle.idn_label.specs.Steps.{is_ldh_point}
 use Rattle.idn_label.proofs.AnswerLemmas.{tested_answer-ok, tested_answer-fault, confirmed-same, confirmed-other, confirmed-fault, decoded_code-as, decoded_code-other, decoded_code-from, u_label_answer-code_fault, u_label_answer-confirmed}
-use Rattle.idn_label.proofs.PlainLemmas.{is_all_ascii-points}
+use Rattle.idn_label.proofs.LdhLemmas.{is_all_ascii-points}
 use Rattle.idn_label.proofs.RequirementLemmas.{MeetsRequirements-registrable}
-use Rattle.idn_label.proofs.RoundTrips.{plain_a_label, short_a_label, no_prefix}
+use Rattle.idn_label.proofs.RoundTrips.{ldh_a_label, short_a_label, no_prefix}
 
 -- ---- no label that may be registered has such an A-label
 
@@ -35,14 +35,14 @@ of_none-long given long label registrable = λ same.
     let count : length (a_label_of label) ≡ length given = ap length same in
     absurd (omega (arith, long, short, count))
 
-plain_lower : (c : ℕ) → is_plain_point c ≡ true → not (is_ascii_uppercase c) ≡ true
-plain_lower c plain = grind (arith, nat_tests)
+ldh_lower : (c : ℕ) → is_ldh_point c ≡ true → not (is_ascii_uppercase c) ≡ true
+ldh_lower c ldh = grind (arith, nat_tests)
 
 pub of_none-capital : (given : List ℕ) → list_all (λ c. not (is_ascii_uppercase c)) given ≡ false → (label : List ℕ) → IsRegistrable label → a_label_of label ≢ given
 of_none-capital given capital label registrable = λ same.
     let lower : list_all (λ c. not (is_ascii_uppercase c)) (a_label_of label) ≡ true =
     list_all-from_AllPass (λ c. not (is_ascii_uppercase c)) (a_label_of label)
-    (All-weaker (λ c. is_plain_point c ≡ true) (λ c. not (is_ascii_uppercase c) ≡ true) plain_lower (a_label_of label) (plain_a_label label registrable)) in
+    (All-weaker (λ c. is_ldh_point c ≡ true) (λ c. not (is_ascii_uppercase c) ≡ true) ldh_lower (a_label_of label) (ldh_a_label label registrable)) in
     let clash : true ≡ false = sym lower ∙ ap (list_all (λ c. not (is_ascii_uppercase c))) same ∙ capital in
     absurd (let no : true ≡ false = clash in cc)
 

@@ -98,5 +98,5 @@ registrable-MeetsRequirements label meets =
     let joiners = (contextj_ok-PassesContextJ label).1 meets.joiners in
     let others = (contexto_ok-PassesContextO label).1 meets.others in
     let bidi = (bidi_ok-PassesBidiRule label).1 meets.bidi in
-    let fits : is_too_long label ≡ false = not_long (length label) (length (a_label_of label)) meets.points meets.octets in
-    rw (some, points, normal, hyphens, mark, joiners, others, bidi, fits) refl
+    let within : is_too_long label ≡ false = not_long (length label) (length (a_label_of label)) meets.points meets.octets in
+    rw (some, points, normal, hyphens, mark, joiners, others, bidi, within) refl

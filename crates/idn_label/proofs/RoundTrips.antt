@@ -12,7 +12,7 @@ use Rattle.idna.specs.Punycode.{encode, decode, is_scalar}
 use Rattle.idna.specs.Validity.{is_all_ascii, has_ace_prefix, has_hyphens_third_and_fourth, has_hyphen_first_or_last}
 use Rattle.idna.proofs.Computing.{idna}
 use Rattle.idna.proofs.Uts46Lemmas.{ace_parts, map-lowercase}
-use Rattle.idn_label.proofs.DecodeLemmas.{decoded_label-plain, decoded_label-coded, decode_answer-last}
+use Rattle.idn_label.proofs.DecodeLemmas.{decoded_label-other, decoded_label-coded, decode_answer-last}
 use Rattle.idna.proofs.PunycodeLemmas.{IsDigitChar, All-encode, decode-encode}
 use Rattle.idn_text.specs.Points.{is_scalar_value, IsScalarValue}
 use Rattle.idn_text.specs.declared.refusal.Refusal.TheVariants as refusals
@@ -21,12 +21,12 @@ use Rattle.idn_class.specs.Tests.{leading_mark, contextj_ok, contexto_ok, bidi_o
 use Rattle.idn_text.specs.declared.refusal.Refusal.TheVariants.{Empty, Hyphen, LabelTooLong}
 use Rattle.idn_label.specs.ALabel.{a_label_of}
 use Rattle.idn_label.specs.FirstFault.{fault_if, fault_of_class, code_point_fault, has_hyphen_out_of_place, is_too_long, IsRegistrable}
-use Rattle.idn_label.specs.Steps.{is_plain_point, rule_fault}
+use Rattle.idn_label.specs.Steps.{is_ldh_point, rule_fault}
 use Rattle.idn_label.specs.Register.{u_label_answer, register_answer}
 use Rattle.idn_label.specs.Decode.{decode_answer}
 use Rattle.idn_label.proofs.FaultLemmas.{first_of-none, first_of-all, fault_if-none, code_point_fault-cons, permitted_scalars, first_fault-parts}
-use Rattle.idn_label.proofs.PlainLemmas.{is_plain_point-ascii, is_plain_point-permitted, is_all_ascii-points, a_label_of-plain, a_label_of-coded}
-use Rattle.idn_label.proofs.AnswerLemmas.{tested_answer-ok, confirmed-same, decoded_code-as, u_label_answer-confirmed, register_answer-plain, register_answer-coded}
+use Rattle.idn_label.proofs.LdhLemmas.{is_ldh_point-ascii, is_ldh_point-permitted, is_all_ascii-points, a_label_of-ldh, a_label_of-coded}
+use Rattle.idn_label.proofs.AnswerLemmas.{tested_answer-ok, confirmed-same, decoded_code-as, u_label_answer-confirmed, register_answer-other, register_answer-coded}
 use Rattle.idn_class.specs.Class.{class_of}
 
 -- what holds of a label that may be registered
@@ -59,39 +59,39 @@ faultless label registrable =
     }
 
 pub short_a_label : (label : List ℕ) → IsRegistrable label → length (a_label_of label) ≤ 63
-short_a_label label registrable = fits (length label) (length (a_label_of label)) (faultless label registrable).short
+short_a_label label registrable = within (length label) (length (a_label_of label)) (faultless label registrable).short
   where
-    fits : (n m : ℕ) → (nat_lt 63 n || nat_lt 63 m) ≡ false → m ≤ 63
-    fits n m h = grind (arith, nat_tests)
+    within : (n m : ℕ) → (nat_lt 63 n || nat_lt 63 m) ≡ false → m ≤ 63
+    within n m h = grind (arith, nat_tests)
 
 -- ---- an A-label holds lower-case letters, digits and hyphens alone
 
-plain_ascii_points : (label : List ℕ) → code_point_fault label ≡ None → All (λ c. c < 128 → is_plain_point c ≡ true) label
-plain_ascii_points [] none = All-nil (λ c. c < 128 → is_plain_point c ≡ true)
-plain_ascii_points (c ∷ label) none =
+ldh_ascii_points : (label : List ℕ) → code_point_fault label ≡ None → All (λ c. c < 128 → is_ldh_point c ≡ true) label
+ldh_ascii_points [] none = All-nil (λ c. c < 128 → is_ldh_point c ≡ true)
+ldh_ascii_points (c ∷ label) none =
     let parts = first_of-none (fault_of_class (class_of c)) (code_point_fault label) (sym (code_point_fault-cons c label) ∙ none) in
-    All-cons (λ c. c < 128 → is_plain_point c ≡ true) c label (λ low. is_plain_point-permitted c low parts.0) (plain_ascii_points label parts.1)
+    All-cons (λ c. c < 128 → is_ldh_point c ≡ true) c label (λ low. is_ldh_point-permitted c low parts.0) (ldh_ascii_points label parts.1)
 
-plain_digit : (c : ℕ) → IsDigitChar c → is_plain_point c ≡ true
-plain_digit c digit = rw digit refl
+ldh_digit : (c : ℕ) → IsDigitChar c → is_ldh_point c ≡ true
+ldh_digit c digit = rw digit refl
 
-plain_prefix : All (λ c. is_plain_point c ≡ true) (codes "xn--")
-plain_prefix = AllPass-from_list_all is_plain_point (codes "xn--") refl
+ldh_prefix : All (λ c. is_ldh_point c ≡ true) (codes "xn--")
+ldh_prefix = AllPass-from_list_all is_ldh_point (codes "xn--") refl
 
-pub plain_a_label : (label : List ℕ) → IsRegistrable label → All (λ c. is_plain_point c ≡ true) (a_label_of label)
-plain_a_label label registrable =
-    let P = λ (c : ℕ). is_plain_point c ≡ true in
+pub ldh_a_label : (label : List ℕ) → IsRegistrable label → All (λ c. is_ldh_point c ≡ true) (a_label_of label)
+ldh_a_label label registrable =
+    let P = λ (c : ℕ). is_ldh_point c ≡ true in
     let points = (faultless label registrable).points in
-    elim (cases_Bool (list_all is_plain_point label)) [
-      | inl plain ↦ subst (All P) (sym (a_label_of-plain label plain)) (AllPass-from_list_all is_plain_point label plain)
+    elim (cases_Bool (list_all is_ldh_point label)) [
+      | inl ldh ↦ subst (All P) (sym (a_label_of-ldh label ldh)) (AllPass-from_list_all is_ldh_point label ldh)
       | inr coded ↦
           subst (All P) (sym (a_label_of-coded label coded points))
-          (All-append P (codes "xn--") (encode label) plain_prefix (All-encode P label (plain_ascii_points label points) refl plain_digit))
+          (All-append P (codes "xn--") (encode label) ldh_prefix (All-encode P label (ldh_ascii_points label points) refl ldh_digit))
     ]
 
 pub ascii_a_label : (label : List ℕ) → IsRegistrable label → All (λ c. c < 128) (a_label_of label)
 ascii_a_label label registrable =
-    All-weaker (λ c. is_plain_point c ≡ true) (λ c. c < 128) is_plain_point-ascii (a_label_of label) (plain_a_label label registrable)
+    All-weaker (λ c. is_ldh_point c ≡ true) (λ c. c < 128) is_ldh_point-ascii (a_label_of label) (ldh_a_label label registrable)
 
 -- ---- what an A-label stands for
 
@@ -106,15 +106,15 @@ no_prefix label placed =
           let both : has_hyphens_third_and_fourth label ≡ true = ap has_hyphens_third_and_fourth (sym (ace_parts label coded).0) in
           let none : has_hyphens_third_and_fourth label ≡ false = or_second (has_hyphen_first_or_last label) _ placed in
           absurd (let clash : true ≡ false = sym both ∙ none in cc)
-      | inr plain ↦ plain
+      | inr ldh ↦ ldh
     ]
 
 decode-nil : decode [] ≡ Some []
 unfolding idna
 decode-nil = refl
 
--- the Punycode of a label that is not plain has a character
-some_code : (label : List ℕ) → list_all is_plain_point label ≡ false → decode (encode label) ≡ Some label → (length (encode label) == 0) ≡ false
+-- the Punycode of a label that is not LDH has a character
+some_code : (label : List ℕ) → list_all is_ldh_point label ≡ false → decode (encode label) ≡ Some label → (length (encode label) == 0) ≡ false
 some_code label coded back = by_code (encode label) refl
   where
     by_code : (code : List ℕ) → code ≡ encode label → (length code == 0) ≡ false
@@ -122,12 +122,12 @@ some_code label coded back = by_code (encode label) refl
     by_code [] is =
         let none : Some [] ≡ Some label = sym decode-nil ∙ ap decode is ∙ back in
         let empty : [] ≡ label = cc in
-        let clash : true ≡ false = ap (list_all is_plain_point) empty ∙ coded in cc
+        let clash : true ≡ false = ap (list_all is_ldh_point) empty ∙ coded in cc
 
 ascii_code : (label : List ℕ) → is_all_ascii (encode label) ≡ true
 ascii_code label =
     is_all_ascii-points (encode label)
-    (All-encode (λ c. c < 128) label (λ k d lt low. low) (lit< tt) (λ c digit. is_plain_point-ascii c (plain_digit c digit)))
+    (All-encode (λ c. c < 128) label (λ k d lt low. low) (lit< tt) (λ c digit. is_ldh_point-ascii c (ldh_digit c digit)))
 
 scalar_points : (label : List ℕ) → code_point_fault label ≡ None → All (λ c. is_scalar c ≡ true) label
 scalar_points label none = All-weaker IsScalarValue (λ c. is_scalar c ≡ true) scalar label (permitted_scalars label none)
@@ -139,8 +139,8 @@ prefixed : (code : List ℕ) → has_ace_prefix (codes "xn--" ++ code) ≡ true
 unfolding has_ace_prefix
 prefixed code = refl
 
--- the A-label of a label that is not plain stands for that label
-u_label_answer-a_label : (label : List ℕ) → IsRegistrable label → list_all is_plain_point label ≡ false → u_label_answer (codes "xn--" ++ encode label) ≡ Ok label
+-- the A-label of a label that is not LDH stands for that label
+u_label_answer-a_label : (label : List ℕ) → IsRegistrable label → list_all is_ldh_point label ≡ false → u_label_answer (codes "xn--" ++ encode label) ≡ Ok label
 u_label_answer-a_label label registrable coded =
     let points = (faultless label registrable).points in
     let back = decode-encode label (scalar_points label points) in
@@ -151,10 +151,10 @@ u_label_answer-a_label label registrable coded =
 pub register_answer-a_label : (label : List ℕ) → IsRegistrable label → register_answer (a_label_of label) ≡ Ok (a_label_of label)
 register_answer-a_label label registrable =
     let whole = faultless label registrable in
-    elim (cases_Bool (list_all is_plain_point label)) [
-      | inl plain ↦
-          ap register_answer (a_label_of-plain label plain)
-          ∙ register_answer-plain label (no_prefix label whole.hyphens)
+    elim (cases_Bool (list_all is_ldh_point label)) [
+      | inl ldh ↦
+          ap register_answer (a_label_of-ldh label ldh)
+          ∙ register_answer-other label (no_prefix label whole.hyphens)
           ∙ tested_answer-ok label registrable
       | inr coded ↦
           let is = a_label_of-coded label coded whole.points in
@@ -163,25 +163,25 @@ register_answer-a_label label registrable =
           ∙ ap Ok (sym is)
     ]
 
-plain_lower : (c : ℕ) → is_plain_point c ≡ true → is_ascii_uppercase c ≡ false
-plain_lower c plain = grind (arith, nat_tests)
+ldh_lower : (c : ℕ) → is_ldh_point c ≡ true → is_ascii_uppercase c ≡ false
+ldh_lower c ldh = grind (arith, nat_tests)
 
-plain_no_stop : (c : ℕ) → is_plain_point c ≡ true → is_full_stop c ≡ false
-plain_no_stop c plain = grind (arith, nat_tests)
+ldh_no_stop : (c : ℕ) → is_ldh_point c ≡ true → is_full_stop c ≡ false
+ldh_no_stop c ldh = grind (arith, nat_tests)
 
 pub decode_answer-a_label : (label : List ℕ) → IsRegistrable label → decode_answer (a_label_of label) ≡ Ok label
 decode_answer-a_label label registrable =
-    let P = λ (c : ℕ). is_plain_point c ≡ true in
+    let P = λ (c : ℕ). is_ldh_point c ≡ true in
     let given = a_label_of label in
-    let all = plain_a_label label registrable in
+    let all = ldh_a_label label registrable in
     let whole = faultless label registrable in
-    let one : labels_of given ≡ given ∷ [] = slice_split_none is_full_stop given (All-weaker P (λ c. is_full_stop c ≡ false) plain_no_stop given all) in
-    let lower : map to_ascii_lowercase given ≡ given = map-lowercase given (All-weaker P (λ c. is_ascii_uppercase c ≡ false) plain_lower given all) in
+    let one : labels_of given ≡ given ∷ [] = slice_split_none is_full_stop given (All-weaker P (λ c. is_full_stop c ≡ false) ldh_no_stop given all) in
+    let lower : map to_ascii_lowercase given ≡ given = map-lowercase given (All-weaker P (λ c. is_ascii_uppercase c ≡ false) ldh_lower given all) in
     decode_answer-last given given one
-    ∙ elim (cases_Bool (list_all is_plain_point label)) [
-      | inl plain ↦
-          let is = a_label_of-plain label plain in
-          decoded_label-plain given (ap has_ace_prefix (lower ∙ is) ∙ no_prefix label whole.hyphens) ∙ ap Ok is
+    ∙ elim (cases_Bool (list_all is_ldh_point label)) [
+      | inl ldh ↦
+          let is = a_label_of-ldh label ldh in
+          decoded_label-other given (ap has_ace_prefix (lower ∙ is) ∙ no_prefix label whole.hyphens) ∙ ap Ok is
       | inr coded ↦
           let is = a_label_of-coded label coded whole.points in
           decoded_label-coded given (ap has_ace_prefix (lower ∙ is) ∙ prefixed (encode label))

@@ -1,7 +1,12 @@
 //! A-labels.
-ghost use Rattle.std.specs.Prelude.{◌≡◌, ◌<◌, ◌≤◌, ◌++◌, length, codes, false, IfOk, IfErr, OnOk, All};
+ghost use Rattle.std.specs.Prelude.{◌≡◌, ◌≢◌, ◌<◌, ◌≤◌, ◌++◌, length, codes, None, Some, Err, IfOk, IfErr, OnOk, All};
 ghost use Rattle.idna.specs.Punycode.{encode};
+ghost use Rattle.idn_label.specs.ALabel.{a_label_of};
+ghost use Rattle.idn_label.specs.FirstFault.{first_fault, IsRegistrable};
+ghost use Rattle.idn_label.specs.Steps.{fault_but_length};
 
+use crate::code_points::short_chars;
+use crate::unit::is_all_ascii;
 use arrayvec::ArrayString;
 use idn_punycode::push_encoded;
 use idn_text::Refusal;
@@ -11,6 +16,23 @@ pub(crate) const MAX_LABEL_LEN: usize = 63;
 
 /// An A-label of at most 63 octets. A label in ASCII is its own A-label.
 pub type ALabel = ArrayString<63>;
+
+/// The A-label of a label whose only fault may be its length.
+pub(crate) fn measured_a_label(label: &[u32]) -> Result<ALabel, Refusal>
+    requires { fault_but_length label.now ≡ None }
+    ensures registrable { OnOk result (IsRegistrable label.now) }
+    ensures a_label { IfOk result (λ answer. answer.bytes ≡ a_label_of label.now) }
+    ensures fault { IfErr result (λ refusal. first_fault label.now ≡ Some refusal) }
+    ensures no_memory { result ≢ Err Refusal.Memory }
+{
+    if label.len() > MAX_LABEL_LEN {
+        return Err(Refusal::LabelTooLong);
+    }
+    if is_all_ascii(label) {
+        return Ok(ascii_text(label));
+    }
+    encoded_label(&short_chars(label))
+}
 
 /// The prefix and the Punycode of a label, if they are short enough.
 pub(crate) fn encoded_label(label: &[char]) -> Result<ALabel, Refusal>

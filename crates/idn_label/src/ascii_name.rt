@@ -11,8 +11,8 @@ ghost use Rattle.idn_label.specs.Answers.{Gives};
 ghost use Rattle.idn_label.specs.Decode.{decoded_label, decode_answer};
 ghost use Rattle.idn_label.specs.Steps.{appended, begins_with_prefix, in_utf8};
 
-use crate::ace_prefix::octets_have_ace_prefix_in_any_case;
 use crate::u_label::u_label_in_any_case;
+use crate::unit::has_ace_prefix_in_any_case;
 use arrayvec::ArrayVec;
 use idn_text::Refusal;
 use memchr::memchr;
@@ -20,7 +20,7 @@ use std::alloc::Global;
 
 /// Appends the UTF-8 of what `decode_name` makes of a name in ASCII. A name without A-labels takes no memory, nor does an
 /// A-label in most cases: of more than 63 octets it does, as the code of a label in ASCII, and where what it stands for
-/// is not all code points that fit anywhere and hyphens. Where the name is refused, what was appended says nothing.
+/// may compose or is no code point of which a look-up tells the class. Where the name is refused, what was appended says nothing.
 pub fn decode_ascii<const N: usize>(
     alloc: Global,
     name: &[u8],
@@ -31,7 +31,7 @@ pub fn decode_ascii<const N: usize>(
     requires room { array_vec_len text.old + 4 * length name.now ≤ N }
     ensures answer { Gives (λ _. text.new.items) result (appended text.old.items (in_utf8 (decode_answer name.now))) }
     ensures grown { array_vec_len text.new ≤ array_vec_len text.old + 4 * length name.now }
-    ensures plain { list_any begins_with_prefix (labels_of name.now) ≡ false → result ≢ Err Refusal.Memory }
+    ensures no_a_label { list_any begins_with_prefix (labels_of name.now) ≡ false → result ≢ Err Refusal.Memory }
 {
     let mut u_label = ArrayVec::new();
     let mut rest = name;
@@ -70,9 +70,9 @@ fn decode_label<const N: usize>(
     requires room { array_vec_len text.old + 4 * length label.now ≤ N }
     ensures answer { Gives (λ _. text.new.items) result (appended text.old.items (in_utf8 (decoded_label label.now))) }
     ensures grown { array_vec_len text.new ≤ array_vec_len text.old + 4 * length label.now }
-    ensures plain { begins_with_prefix label.now ≡ false → result ≢ Err Refusal.Memory }
+    ensures no_a_label { begins_with_prefix label.now ≡ false → result ≢ Err Refusal.Memory }
 {
-    if octets_have_ace_prefix_in_any_case(label) {
+    if has_ace_prefix_in_any_case(label) {
         u_label_in_any_case(alloc, label, u_label)?;
         push_utf8(u_label, text);
         return Ok(());

@@ -11,9 +11,9 @@ ghost use Rattle.idn_label.specs.FirstFault.{IsRegistrable};
 ghost use Rattle.idn_label.specs.Register.{u_label_answer};
 ghost use Rattle.idn_label.specs.Steps.{appended};
 
-use crate::ace_prefix::has_ace_prefix_in_any_case;
 use crate::octets::ascii_octets;
-use crate::u_label::{MAX_INPUT_LEN, u_label_in_any_case};
+use crate::u_label::{MAX_LINE_LEN, u_label_in_any_case};
+use crate::unit::has_ace_prefix_in_any_case;
 use arrayvec::ArrayVec;
 use idn_text::Refusal;
 use std::alloc::{AllocError, Global};
@@ -24,7 +24,7 @@ const FULL_STOP: u32 = 0x2E;
 /// in any ASCII case is put into lower case and decoded, or refuses the name as `BadALabel` or by the first fault of
 /// what it stands for; any other label stays as it is. The first refused label tells. `Memory` says nothing of the name.
 pub fn decode_name(alloc: Global, name: &[u32]) -> Result<Vec<u32>, Refusal>
-    requires { length name.now ≤ MAX_INPUT_LEN }
+    requires { length name.now ≤ MAX_LINE_LEN }
     ensures answer { Gives (λ decoded. decoded.items) result (decode_answer name.now) }
 
     // The A-label of a label that may be registered is decoded to that label.
@@ -38,7 +38,7 @@ pub fn decode_name(alloc: Global, name: &[u32]) -> Result<Vec<u32>, Refusal>
 
 /// Appends the decoded name.
 fn decode_labels(alloc: Global, name: &[u32], decoded: &mut Vec<u32>) -> Result<(), Refusal>
-    requires { length name.now ≤ MAX_INPUT_LEN }
+    requires { length name.now ≤ MAX_LINE_LEN }
     ensures { Gives (λ _. decoded.new.items) result (appended decoded.old.items (decode_answer name.now)) }
 {
     let mut rest = name;
@@ -69,7 +69,7 @@ fn split_first_label(name: &[u32]) -> (&[u32], Option<&[u32]>)
 
 /// Appends a label, decoded if it begins with `xn--` in any ASCII case.
 fn decode_label(alloc: Global, label: &[u32], decoded: &mut Vec<u32>) -> Result<(), Refusal>
-    requires { length label.now ≤ MAX_INPUT_LEN }
+    requires { length label.now ≤ MAX_LINE_LEN }
     ensures { Gives (λ _. decoded.new.items) result (appended decoded.old.items (decoded_label label.now)) }
 {
     if has_ace_prefix_in_any_case(label) {
@@ -83,7 +83,7 @@ fn decode_label(alloc: Global, label: &[u32], decoded: &mut Vec<u32>) -> Result<
 /// Appends what an A-label in any ASCII case stands for.
 fn decode_a_label(alloc: Global, label: &[u32], decoded: &mut Vec<u32>) -> Result<(), Refusal>
     requires prefix { has_ace_prefix (map to_ascii_lowercase label.now) ≡ true }
-    requires short { length label.now ≤ MAX_INPUT_LEN }
+    requires short { length label.now ≤ MAX_LINE_LEN }
     ensures { Gives (λ _. decoded.new.items) result (appended decoded.old.items (u_label_answer (map to_ascii_lowercase label.now))) }
 {
     let Some(octets) = ascii_octets(label) else {

@@ -1,44 +1,80 @@
-//! The test of a label for registration.
-ghost use Rattle.std.specs.Prelude.{◌≡◌, ◌≢◌, length, true, None, Some, IfOk, IfErr, OnOk};
-ghost use Rattle.std.specs.List.{list_all};
-ghost use Rattle.idn_class.specs.FitsAnywhere.{fits_or_hyphen};
+//! The test of a label for registration (RFC 5891 section 4.2), in one order of faults.
+ghost use Rattle.std.specs.Prelude.{◌≡◌, ◌≢◌, ◌≤◌, length, None, Some, Err, IfOk, IfErr, OnOk, false};
+ghost use Rattle.std.specs.List.{list_any};
+ghost use Rattle.idn_class.specs.Class.{is_left_open};
+ghost use Rattle.idn_class.specs.Facts.{has_fact};
 ghost use Rattle.idn_label.specs.ALabel.{a_label_of};
-ghost use Rattle.idn_label.specs.FirstFault.{first_fault, IsRegistrable};
-ghost use Rattle.idn_label.specs.Steps.{is_plain_point};
+ghost use Rattle.idn_label.specs.FirstFault.{code_point_fault, fault_of_class, first_fault, IsRegistrable};
+ghost use Rattle.idn_label.specs.Steps.{fault_but_length};
+ghost use Rattle.ucd_normal.specs.declared.forms.Form.TheVariants.{Nfc};
+ghost use Rattle.ucd_normal.specs.declared.forms.QuickCheck.TheVariants.{Maybe};
+ghost use Rattle.unicode_normalization.specs.QuickCheck.{quick_check_text};
 
-use crate::a_label::{ALabel, MAX_LABEL_LEN};
-use crate::code_points::{chars_of, check_code_points, short_chars};
-use crate::coded::coded_label;
-use crate::fitting::{fits, test_fitting};
-use crate::plain::{is_plain, test_plain};
+use crate::a_label::{ALabel, measured_a_label};
 use crate::rules::check_rules;
+use idn_class::{Class, Fact, Facts, class_of};
 use idn_text::Refusal;
 use std::alloc::Global;
 
 /// The A-label of a label that may be registered (RFC 5891 section 4.2), else its first fault: no code point; a code
 /// point that is disallowed or unassigned; not in NFC; a hyphen out of place; a leading mark; a context rule; the Bidi
-/// rule; more than 63 code points, or an A-label of more than 63 octets. `Memory` says nothing of the label; most labels
-/// take none.
+/// rule; more than 63 code points, or an A-label of more than 63 octets. `Memory` says nothing of the label. No memory
+/// is taken where look-ups tell each class, and either no code point may compose, or the label has at most 63 code
+/// points and the quick check of NFC is not Maybe.
 pub fn test_label(alloc: Global, label: &[u32]) -> Result<ALabel, Refusal>
     ensures registrable { OnOk result (IsRegistrable label.now) }
     ensures a_label { IfOk result (λ answer. answer.bytes ≡ a_label_of label.now) }
     ensures fault { IfErr result (λ refusal. refusal ≢ Refusal.Memory → first_fault label.now ≡ Some refusal) }
-    ensures plain { list_all is_plain_point label.now ≡ true → result ≢ Err Refusal.Memory }
-    ensures fitting { list_all fits_or_hyphen label.now ≡ true → result ≢ Err Refusal.Memory }
+
+    ensures simple { list_any is_left_open label.now ≡ false → list_any (has_fact Fact.MayCompose) label.now ≡ false
+        → result ≢ Err Refusal.Memory }
+    ensures short { list_any is_left_open label.now ≡ false → length label.now ≤ 63 → quick_check_text Nfc label.now ≢ Maybe
+        → result ≢ Err Refusal.Memory }
 {
-    if is_plain(label) {
-        return test_plain(label);
+    check_label(alloc, label)?;
+    measured_a_label(label)
+}
+
+/// Tells the first fault of a label, but for its length. Its facts tell which tests it needs.
+pub(crate) fn check_label(alloc: Global, label: &[u32]) -> Result<(), Refusal>
+    ensures passes { OnOk result (fault_but_length label.now ≡ None) }
+    ensures fault { IfErr result (λ refusal. refusal ≢ Refusal.Memory → fault_but_length label.now ≡ Some refusal) }
+    ensures simple { list_any is_left_open label.now ≡ false → list_any (has_fact Fact.MayCompose) label.now ≡ false
+        → result ≢ Err Refusal.Memory }
+    ensures short { list_any is_left_open label.now ≡ false → length label.now ≤ 63 → quick_check_text Nfc label.now ≢ Maybe
+        → result ≢ Err Refusal.Memory }
+{
+    if label.is_empty() {
+        return Err(Refusal::Empty);
     }
-    if fits(label) {
-        return test_fitting(label);
+    let facts = Facts::of_label(label);
+    if facts.contains(Fact::MayBeBarred) {
+        check_code_points(alloc, label)?;
     }
-    check_code_points(alloc, label)?;
-    if label.len() > MAX_LABEL_LEN {
-        let chars = chars_of(alloc, label)?;
-        check_rules(alloc, label, &chars)?;
-        return Err(Refusal::LabelTooLong);
+    check_rules(alloc, label, facts)
+}
+
+/// Tells the first code point that may not be registered (RFC 5891 section 4.2.2).
+fn check_code_points(alloc: Global, label: &[u32]) -> Result<(), Refusal>
+    ensures passes { OnOk result (code_point_fault label.now ≡ None) }
+    ensures fault { IfErr result (λ refusal. refusal ≢ Refusal.Memory → code_point_fault label.now ≡ Some refusal) }
+    ensures closed { list_any is_left_open label.now ≡ false → result ≢ Err Refusal.Memory }
+{
+    for c in label {
+        let class = class_of(alloc, *c)?;
+        if let Some(refusal) = fault_of_class(class) {
+            return Err(refusal);
+        }
     }
-    let chars = short_chars(label);
-    check_rules(alloc, label, &chars)?;
-    coded_label(&chars)
+    Ok(())
+}
+
+fn fault_of_class(class: Class) -> Option<Refusal>
+    ensures { result ≡ fault_of_class class }
+{
+    match class {
+        Class::Disallowed => Some(Refusal::Disallowed),
+        Class::Unassigned => Some(Refusal::Unassigned),
+        Class::Pvalid | Class::Contextj | Class::Contexto => None,
+    }
 }

@@ -3,12 +3,12 @@ ghost use Rattle.std.specs.Prelude.{◌≡◌, ◌≤◌, length, map, false, tr
 ghost use Rattle.std.specs.Char.{to_ascii_lowercase};
 ghost use Rattle.idna.specs.Validity.{is_all_ascii};
 
-use crate::u_label::MAX_INPUT_LEN;
+use crate::u_label::MAX_LINE_LEN;
 use arrayvec::ArrayVec;
 
 /// The octets of a label, if it is all ASCII.
-pub(crate) fn ascii_octets(label: &[u32]) -> Option<ArrayVec<u8, MAX_INPUT_LEN>>
-    requires { length label.now ≤ MAX_INPUT_LEN }
+pub(crate) fn ascii_octets(label: &[u32]) -> Option<ArrayVec<u8, MAX_LINE_LEN>>
+    requires { length label.now ≤ MAX_LINE_LEN }
     ensures same { IfSome result (λ octets. octets.items ≡ label.now) }
     ensures ascii { IfSome result (λ _. is_all_ascii label.now ≡ true) }
     ensures other { IfNone result (is_all_ascii label.now ≡ false) }
@@ -24,8 +24,8 @@ pub(crate) fn ascii_octets(label: &[u32]) -> Option<ArrayVec<u8, MAX_INPUT_LEN>>
 }
 
 /// A label in lower case.
-pub(crate) fn lowercase_of(label: &[u8]) -> ArrayVec<u8, MAX_INPUT_LEN>
-    requires { length label.now ≤ MAX_INPUT_LEN }
+pub(crate) fn lowercase_of(label: &[u8]) -> ArrayVec<u8, MAX_LINE_LEN>
+    requires { length label.now ≤ MAX_LINE_LEN }
     ensures { result.items ≡ map to_ascii_lowercase label.now }
 {
     let mut lower = ArrayVec::new();

@@ -7,10 +7,10 @@ ghost use Rattle.idn_label.specs.FirstFault.{IsRegistrable};
 ghost use Rattle.idn_label.specs.Register.{register_answer};
 
 use crate::a_label::{ALabel, ascii_text};
-use crate::ace_prefix::has_ace_prefix;
-use crate::first_fault::test_label;
 use crate::octets::ascii_octets;
-use crate::u_label::{MAX_INPUT_LEN, u_label};
+use crate::first_fault::test_label;
+use crate::u_label::{MAX_LINE_LEN, u_label};
+use crate::unit::has_ace_prefix;
 use arrayvec::ArrayVec;
 use idn_text::Refusal;
 use std::alloc::Global;
@@ -19,7 +19,7 @@ use std::alloc::Global;
 /// A label that begins with `xn--` is decoded first, and is the answer if it is the A-label of what it stands for;
 /// else it is refused as `BadALabel`, or by the first fault of what it stands for. `Memory` says nothing of the label.
 pub fn register(alloc: Global, label: &[u32]) -> Result<ALabel, Refusal>
-    requires { length label.now ≤ MAX_INPUT_LEN }
+    requires { length label.now ≤ MAX_LINE_LEN }
     ensures answer { Gives (λ answer. answer.bytes) result (register_answer label.now) }
 
     // The A-label of a label that may be registered is its own answer.
@@ -36,7 +36,7 @@ pub fn register(alloc: Global, label: &[u32]) -> Result<ALabel, Refusal>
 /// The answer for a label that begins with `xn--`.
 fn register_a_label(alloc: Global, label: &[u32]) -> Result<ALabel, Refusal>
     requires prefix { has_ace_prefix label.now ≡ true }
-    requires short { length label.now ≤ MAX_INPUT_LEN }
+    requires short { length label.now ≤ MAX_LINE_LEN }
     ensures { Gives (λ answer. answer.bytes) result (register_answer label.now) }
 {
     let Some(octets) = ascii_octets(label) else {

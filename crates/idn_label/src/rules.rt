@@ -1,48 +1,105 @@
 //! The tests of a label beyond those of its single code points (RFC 5891 sections 4.2.1 and 4.2.3).
-ghost use Rattle.std.specs.Prelude.{◌≡◌, ◌≢◌, ◌==◌, slice_index, Some, None, IfOk, IfErr, OnOk};
+ghost use Rattle.std.specs.Prelude.{◌≡◌, ◌≢◌, ◌≤◌, length, Some, None, Err, IfOk, IsOk, IfErr, OnOk, false};
+ghost use Rattle.ucd_normal.specs.declared.forms.Form.TheVariants.{Nfc};
+ghost use Rattle.ucd_normal.specs.declared.forms.QuickCheck.TheVariants.{Maybe};
 ghost use Rattle.unicode_normalization.specs.Forms.{is_nfc};
-ghost use Rattle.idn_label.specs.FirstFault.{has_hyphen_out_of_place};
-ghost use Rattle.idn_label.specs.Steps.{rule_fault};
+ghost use Rattle.unicode_normalization.specs.QuickCheck.{quick_check_text};
+ghost use Rattle.idn_text.specs.Points.{AreScalarValues};
+ghost use Rattle.idn_class.specs.Facts.{contains};
+ghost use Rattle.idn_class.specs.Tests.{leading_mark, contextj_ok, contexto_ok, bidi_ok};
+ghost use Rattle.idn_label.specs.Steps.{AreFactsOf, rule_fault};
 
-use idn_class::{bidi_ok, contextj_ok, contexto_ok, leading_mark};
+use crate::a_label::MAX_LABEL_LEN;
+use crate::code_points::{chars_of, short_chars};
+use crate::unit::has_hyphen_out_of_place;
+use idn_class::{Fact, Facts, bidi_ok, contextj_ok, contexto_ok, leading_mark};
 use idn_text::Refusal;
 use std::alloc::{AllocError, Global};
 use unicode_normalization::IsNormalized;
 use unicode_normalization::slice::{extend_nfc, is_nfc_quick};
 
-pub(crate) const HYPHEN: u32 = 0x2D;
-
-/// Tells the first fault that is neither of a code point nor of the length. `chars` is the label again.
+/// Tells the first fault that is neither of a code point nor of the length. `facts` are those of the label.
 #[tactic(auto, unfolding(crate::specs::Steps::rule_fault))]
-pub(crate) fn check_rules(alloc: Global, label: &[u32], chars: &[char]) -> Result<(), Refusal>
-    requires { chars.now ≡ label.now }
+pub(crate) fn check_rules(alloc: Global, label: &[u32], facts: Facts) -> Result<(), Refusal>
+    requires scalars { AreScalarValues label.now }
+    requires facts { AreFactsOf facts label.now }
     ensures passes { OnOk result (rule_fault label.now ≡ None) }
     ensures fault { IfErr result (λ refusal. refusal ≢ Refusal.Memory → rule_fault label.now ≡ Some refusal) }
+    ensures simple { contains facts Fact.MayCompose ≡ false → result ≢ Err Refusal.Memory }
+    ensures short { length label.now ≤ 63 → quick_check_text Nfc label.now ≢ Maybe → result ≢ Err Refusal.Memory }
 {
-    if !is_nfc(alloc, chars)? {
+    if !is_nfc(alloc, label, facts)? {
         return Err(Refusal::NotNfc);
     }
     if has_hyphen_out_of_place(label) {
         return Err(Refusal::Hyphen);
     }
-    if leading_mark(label) {
+    if begins_with_mark(label, facts) {
         return Err(Refusal::LeadingMark);
     }
-    if !contextj_ok(label) {
+    if !passes_contextj(label, facts) {
         return Err(Refusal::ContextJ);
     }
-    if !contexto_ok(label) {
+    if !passes_contexto(label, facts) {
         return Err(Refusal::ContextO);
     }
-    if !bidi_ok(label) {
+    if !passes_bidi_rule(label, facts) {
         return Err(Refusal::Bidi);
     }
     Ok(())
 }
 
-/// Whether a text is in Normalization Form C. It takes memory only where the quick check cannot tell.
-fn is_nfc(alloc: Global, text: &[char]) -> Result<bool, AllocError>
-    ensures { IfOk result (λ answer. answer ≡ is_nfc text.now) }
+fn begins_with_mark(label: &[u32], facts: Facts) -> bool
+    requires { AreFactsOf facts label.now }
+    ensures { result ≡ leading_mark label.now }
+{
+    facts.contains(Fact::Mark) && leading_mark(label)
+}
+
+fn passes_contextj(label: &[u32], facts: Facts) -> bool
+    requires { AreFactsOf facts label.now }
+    ensures { result ≡ contextj_ok label.now }
+{
+    !facts.contains(Fact::Contextj) || contextj_ok(label)
+}
+
+fn passes_contexto(label: &[u32], facts: Facts) -> bool
+    requires { AreFactsOf facts label.now }
+    ensures { result ≡ contexto_ok label.now }
+{
+    !facts.contains(Fact::Contexto) || contexto_ok(label)
+}
+
+fn passes_bidi_rule(label: &[u32], facts: Facts) -> bool
+    requires { AreFactsOf facts label.now }
+    ensures { result ≡ bidi_ok label.now }
+{
+    !facts.contains(Fact::RightToLeft) || bidi_ok(label)
+}
+
+/// Whether a label is in Normalization Form C. Where a code point may compose, it takes memory for a label of more than 63
+/// code points, and where the quick check cannot tell.
+fn is_nfc(alloc: Global, label: &[u32], facts: Facts) -> Result<bool, AllocError>
+    requires scalars { AreScalarValues label.now }
+    requires facts { AreFactsOf facts label.now }
+    ensures answer { IfOk result (λ answer. answer ≡ is_nfc label.now) }
+    ensures simple { contains facts Fact.MayCompose ≡ false → IsOk result }
+    ensures short { length label.now ≤ 63 → quick_check_text Nfc label.now ≢ Maybe → IsOk result }
+{
+    if !facts.contains(Fact::MayCompose) {
+        return Ok(true);
+    }
+    if label.len() <= MAX_LABEL_LEN {
+        is_nfc_text(alloc, &short_chars(label))
+    } else {
+        is_nfc_text(alloc, &chars_of(alloc, label)?)
+    }
+}
+
+/// Whether a text is in Normalization Form C.
+fn is_nfc_text(alloc: Global, text: &[char]) -> Result<bool, AllocError>
+    ensures answer { IfOk result (λ answer. answer ≡ is_nfc text.now) }
+    ensures told { quick_check_text Nfc text.now ≢ Maybe → IsOk result }
 {
     match is_nfc_quick(text) {
         IsNormalized::Yes => Ok(true),
@@ -53,21 +110,4 @@ fn is_nfc(alloc: Global, text: &[char]) -> Result<bool, AllocError>
             Ok(composed.as_slice() == text)
         }
     }
-}
-
-/// Whether a hyphen stands first, last, or in both the third and the fourth places (RFC 5891 section 4.2.3.1).
-pub(crate) fn has_hyphen_out_of_place(label: &[u32]) -> bool
-    ensures { result ≡ has_hyphen_out_of_place label.now }
-{
-    let last = label.len().saturating_sub(1);
-    is_hyphen_at(label, 0)
-        || is_hyphen_at(label, last)
-        || (is_hyphen_at(label, 2) && is_hyphen_at(label, 3))
-}
-
-#[inline]
-fn is_hyphen_at(label: &[u32], place: usize) -> bool
-    ensures { result ≡ (slice_index label.now place == HYPHEN) }
-{
-    place < label.len() && label[place] == HYPHEN
 }

@@ -10,11 +10,10 @@ ghost use Rattle.idn_label.specs.FirstFault.{first_fault, IsRegistrable};
 ghost use Rattle.idn_label.specs.Register.{decoded_code, confirmed, u_label_answer};
 
 use crate::a_label::{ALabel, MAX_LABEL_LEN};
-use crate::code_points::{check_code_points, is_all_ascii, points_of, short_points};
-use crate::first_fault::test_label;
-use crate::fitting::{chars_fit, check_fitting};
+use crate::code_points::{points_of, short_points};
 use crate::octets::lowercase_of;
-use crate::rules::check_rules;
+use crate::first_fault::{check_label, test_label};
+use crate::unit::is_all_ascii;
 use arrayvec::ArrayVec;
 use idn_punycode::decode;
 use idn_text::Refusal;
@@ -23,7 +22,7 @@ use std::alloc::Global;
 use std::str;
 
 /// The most code points of a label or a name that is handed in.
-pub(crate) const MAX_INPUT_LEN: usize = 1024;
+pub(crate) const MAX_LINE_LEN: usize = 1024;
 
 /// Leaves in `label` what an A-label in any ASCII case stands for, in place of what stood there. Most are in lower case,
 /// and are taken as they stand.
@@ -34,7 +33,7 @@ pub(crate) fn u_label_in_any_case(
 ) -> Result<(), Refusal>
     requires prefix { has_ace_prefix (map to_ascii_lowercase given.now) ≡ true }
     requires ascii { is_all_ascii given.now ≡ true }
-    requires short { length given.now ≤ MAX_INPUT_LEN }
+    requires short { length given.now ≤ MAX_LINE_LEN }
     ensures answer { Gives (λ _. label.new.items) result (u_label_answer (map to_ascii_lowercase given.now)) }
     ensures shorter { OnOk result (length label.new.items < length given.now) }
 {
@@ -54,7 +53,7 @@ pub(crate) fn u_label(
 ) -> Result<(), Refusal>
     requires prefix { has_ace_prefix given.now ≡ true }
     requires ascii { is_all_ascii given.now ≡ true }
-    requires short { length given.now ≤ MAX_INPUT_LEN }
+    requires short { length given.now ≤ MAX_LINE_LEN }
     ensures { Gives (λ _. label.new.items) result (u_label_answer given.now) }
 {
     if has_no_capital(given) {
@@ -84,7 +83,7 @@ fn lowercase_u_label(
 ) -> Result<(), Refusal>
     requires prefix { has_ace_prefix given.now ≡ true }
     requires ascii { is_all_ascii given.now ≡ true }
-    requires short { length given.now ≤ MAX_INPUT_LEN }
+    requires short { length given.now ≤ MAX_LINE_LEN }
     requires lowercase { list_all (λ c. not (is_ascii_uppercase c)) given.now ≡ true }
     ensures answer { Gives (λ _. label.new.items) result (u_label_answer given.now) }
     ensures shorter { OnOk result (length label.new.items < length given.now) }
@@ -111,19 +110,14 @@ fn check_u_label(alloc: Global, label: &[char]) -> Result<(), Refusal>
     ensures registrable { OnOk result (IsRegistrable label.now) }
     ensures fault { IfErr result (λ refusal. refusal ≢ Refusal.Memory → first_fault label.now ≡ Some refusal) }
 {
-    if chars_fit(label) {
-        return check_fitting(label);
-    }
-    let points = short_points(label);
-    check_code_points(alloc, &points)?;
-    check_rules(alloc, &points, label)
+    check_label(alloc, &short_points(label))
 }
 
 /// Why an A-label is refused that no label which may be registered has.
 fn refusal_of(alloc: Global, given: &[u8]) -> Refusal
     requires prefix { has_ace_prefix given.now ≡ true }
     requires ascii { is_all_ascii given.now ≡ true }
-    requires short { length given.now ≤ MAX_INPUT_LEN }
+    requires short { length given.now ≤ MAX_LINE_LEN }
     requires of_none { (label : List ℕ) → decoded_code (drop 4 given.now) ≡ Ok label → IsRegistrable label → a_label_of label ≢ given.now }
     ensures { result ≢ Refusal.Memory → u_label_answer given.now ≡ Err result }
 {
@@ -141,7 +135,7 @@ fn refusal_of(alloc: Global, given: &[u8]) -> Refusal
 /// Decodes what stands behind the prefix, which may be long.
 fn decode_code(alloc: Global, code: &[u8]) -> Result<Vec<char>, Refusal>
     requires ascii { is_all_ascii code.now ≡ true }
-    requires short { length code.now ≤ MAX_INPUT_LEN }
+    requires short { length code.now ≤ MAX_LINE_LEN }
     ensures { Gives (λ label. label.items) result (decoded_code code.now) }
 {
     if code.is_empty() {

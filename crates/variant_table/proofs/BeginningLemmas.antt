@@ -11,6 +11,7 @@ use Rattle.std.proofs.lemmas.List.Kept.{AllPairs-cons}
 use Rattle.std.proofs.lemmas.Slice.Eq.{bytes_eq-Decides}
 use Rattle.variant_table.specs.Entries.{Entry}
 use Rattle.variant_table.specs.WellFormed.{IsEntry, IsWellFormed}
+use Rattle.variant_table.specs.Order.{HasNoLonger}
 use Rattle.variant_table.specs.Places.{entry_with, entries_from, entries_at, BeginsAt, AreEntriesAt}
 use Rattle.variant_table.proofs.MemberLemmas.{Contains-head, Contains-later, Contains-none, Contains-one, find_some, find_none}
 
@@ -73,6 +74,17 @@ members_from table beginning (c ∷ rest) e h = step (Contains-append_cases (opt
     step (inr k) later =
         let f = later k in
         record { in_table = f.in_table; front = c ∷ f.front; behind = f.behind; some = omega arith; cut = ap (λ t. c ∷ t) f.cut; source = f.source ∙ append_assoc beginning (c ∷ []) f.front }
+
+-- a beginning that no longer source has
+pub entries_from-none : (table : List Entry) (beginning rest : List ℕ) → HasNoLonger table beginning → entries_from table beginning rest ≡ []
+entries_from-none table beginning [] none = refl
+entries_from-none table beginning (c ∷ rest) none =
+    ap (λ o. option_to_list o ++ entries_from table (beginning ++ c ∷ []) rest) (by_cases (entry_with table (beginning ++ c ∷ [])) refl)
+    ∙ entries_from-none table (beginning ++ c ∷ []) rest (λ e d more h is. none e c (d ∷ more) h (is ∙ append_assoc beginning (c ∷ []) (d ∷ more)))
+  where
+    by_cases : (o : Option Entry) → entry_with table (beginning ++ c ∷ []) ≡ o → entry_with table (beginning ++ c ∷ []) ≡ None
+    by_cases None e = e
+    by_cases (Some x) e = let r = entry_with-found table (beginning ++ c ∷ []) x e in absurd (none x c [] r.0 r.1)
 
 members_of : (table : List Entry) (apart : AllPairs Apart table) (beginning front behind : List ℕ) (e : Entry) → Contains table e → 0 < length front → e.source ≡ beginning ++ front → Contains (entries_from table beginning (front ++ behind)) e
 members_of table apart beginning [] behind e h l is = absurd (omega (arith, l))

@@ -5,7 +5,7 @@ use Rattle.std.proofs.lemmas.Bool.{eqb-true}
 use Rattle.std.proofs.lemmas.List.{append-nil}
 use Rattle.variant_table.specs.declared.token.Token.{Token}
 use Rattle.variant_table.specs.declared.token.Token.TheVariants.{Point, Hyphen, Bar, Colon, Unknown}
-use Rattle.variant_table.specs.declared.fault.LineFault.{LineFault}
+use Rattle.variant_table.specs.Faults.{LineFault}
 use Rattle.idn_text.specs.Points.{point_of_hex}
 use Rattle.variant_table.specs.Tokens.{is_blank, is_separator, is_word_end, is_word_byte, begins_in_word, lexemes, lexeme_token, without_prefix, word_token, point_token, tokens_of}
 use Rattle.variant_table.specs.Entries.{replacements}

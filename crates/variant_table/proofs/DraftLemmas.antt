@@ -3,7 +3,7 @@ use Rattle.std.proofs.Common.{◌≡◌, ℕ, Bool, true, false, List, [], ◌�
 use Rattle.std.specs.Prelude.{OnErr}
 use Rattle.variant_table.specs.declared.token.Token.{Token}
 use Rattle.variant_table.specs.declared.token.Token.TheVariants.{Point, Hyphen, Bar, Colon}
-use Rattle.variant_table.specs.declared.fault.LineFault.{LineFault}
+use Rattle.variant_table.specs.Faults.{LineFault}
 use Rattle.variant_table.specs.Reading.{sequences_after}
 
 pub on_err : {A E : Type 0} (r : Result A E) (P : Type 0) → P → OnErr r P

@@ -2,7 +2,7 @@
 use Rattle.std.proofs.Common.{◌≡◌, ℕ, List, [], ◌∷◌, true, false, Ok, Err, refl}
 use Rattle.idn_class.specs.declared.class.Class.TheVariants.{Pvalid, Disallowed}
 use Rattle.idn_class.proofs.Computing.{in_table, class_of-in_table}
-use Rattle.variant_table.specs.declared.fault.LineFault.TheVariants.{BadClass, SameVariant, SameSource}
+use Rattle.variant_table.specs.Faults.{BadClass, SameVariant, SameSource}
 use Rattle.variant_table.specs.Entries.{Entry}
 use Rattle.variant_table.specs.Conditions.{has_bad_class}
 use Rattle.variant_table.specs.Reading.{with_entry}

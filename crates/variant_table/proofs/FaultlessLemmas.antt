@@ -7,8 +7,7 @@ use Rattle.std.proofs.lemmas.Bool.{ltb-false, le-ltb, leb-false, lt-leb, or_part
 use Rattle.std.proofs.lemmas.List.{append-nil}
 use Rattle.std.proofs.lemmas.List.Elements.{All-from_recursion, recursion_from_All}
 use Rattle.idn_text.specs.Lines.{raw_lines}
-use Rattle.variant_table.specs.declared.fault.LineFault.{LineFault}
-use Rattle.variant_table.specs.declared.fault.LineFault.TheVariants.{Limit, Syntax, BadClass, SameVariant, SameSource}
+use Rattle.variant_table.specs.Faults.{LineFault, Limit, Syntax, BadClass, SameVariant, SameSource}
 use Rattle.variant_table.specs.Entries.{Entry}
 use Rattle.variant_table.specs.Notation.{IsEntryLine}
 use Rattle.variant_table.specs.WellFormed.{IsEntry}

@@ -5,8 +5,7 @@ use Rattle.std.specs.List.{list_all}
 use Rattle.std.proofs.lemmas.Bool.{eqb-true, and_parts}
 use Rattle.variant_table.specs.declared.token.Token.{Token}
 use Rattle.variant_table.specs.declared.token.Token.TheVariants.{Point, Hyphen, Bar, Colon}
-use Rattle.variant_table.specs.declared.fault.LineFault.{LineFault}
-use Rattle.variant_table.specs.declared.fault.LineFault.TheVariants.{Syntax}
+use Rattle.variant_table.specs.Faults.{LineFault, Syntax}
 use Rattle.idn_text.specs.Points.{is_hex_digit}
 use Rattle.variant_table.specs.Entries.{Entry, replacements}
 use Rattle.variant_table.specs.Tokens.{is_blank, tokens_of}

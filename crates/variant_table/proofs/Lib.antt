@@ -5,7 +5,6 @@ pub mod SkipLemmas
 pub mod PartLemmas
 pub mod DraftLemmas
 pub mod EntryLemmas
-pub mod IndexLemmas
 pub mod RowLemmas
 pub mod ReadLemmas
 pub mod PlaceLemmas
@@ -20,6 +19,7 @@ pub mod FaultLemmas
 pub mod TextLemmas
 pub mod MemberLemmas
 pub mod BeginningLemmas
+pub mod OrderLemmas
 pub mod CanonicalLemmas
 pub mod WritingLemmas
 pub mod GapLemmas

@@ -5,7 +5,9 @@ use Rattle.std.specs.Option.{option_to_list}
 use Rattle.std.proofs.lemmas.Bool.{cases_lt}
 use Rattle.std.proofs.lemmas.List.{take_more, drop_all}
 use Rattle.variant_table.specs.Entries.{Entry}
+use Rattle.variant_table.specs.Order.{HasNoLonger}
 use Rattle.variant_table.specs.Places.{entry_with, entries_from, entries_longer}
+use Rattle.variant_table.proofs.BeginningLemmas.{entries_from-none}
 
 drop_here : (xs : List ℕ) (i : ℕ) → i < length xs → drop i xs ≡ get_or xs i 0 ∷ drop (i + 1) xs
 drop_here xs i l = steps xs i l ∙ ap (λ n. get_or xs i 0 ∷ drop n xs) (sym (add-one i))
@@ -32,3 +34,10 @@ module _ (table : List Entry) (label : List ℕ) (place len : ℕ) where
 
   pub longer_end : (len < 8 → length label ≤ place + len) → entries_longer table label place len ≡ []
   longer_end over = ap (entries_from table (slice_range label place (place + len))) (drop_all len (take 8 (drop place label)) (elim (cases_lt len 8) [ inl l ↦ omega (arith, length-take 8 (drop place label), length-drop place label, over l) | inr r ↦ omega (arith, length-take 8 (drop place label)) ]))
+
+  -- where no longer source begins the label here, nothing is left
+  pub longer_stop : HasNoLonger table (slice_range label place (place + (len + 1))) → entries_longer table label place 8 ≡ entries_longer table label place (len + 1)
+  longer_stop none = eight ∙ sym (entries_from-none table (slice_range label place (place + (len + 1))) (drop (len + 1) (take 8 (drop place label))) none)
+    where
+      eight : entries_longer table label place 8 ≡ []
+      eight = ap (entries_from table (slice_range label place (place + 8))) (drop_all 8 (take 8 (drop place label)) (omega (arith, length-take 8 (drop place label))))

@@ -1,15 +1,10 @@
 -- Reading line by line.
-use Rattle.std.proofs.Common.{◌≡◌, inl, inr, ℕ, ◌+◌, List, [], ◌∷◌, length, Result, Ok, Err, sym, ap, ◌∙◌, add_assoc, false, ◌||◌, cond, ◌++◌}
-use Rattle.std.specs.Prelude.{nat_le}
-use Rattle.variant_table.specs.declared.fault.LineFault.TheVariants.{Limit, BadClass, SameVariant, SameSource}
-use Rattle.variant_table.specs.Conditions.{is_too_large, has_bad_class, has_repeat, has_source_in}
-use Rattle.variant_table.specs.declared.fault.LineFault.{LineFault}
-use Rattle.variant_table.specs.declared.fault.LineError.{LineError}
-use Rattle.variant_table.specs.declared.fault.LineError.TheVariants.{Memory, Fault}
+use Rattle.std.proofs.Common.{◌≡◌, inl, inr, ℕ, ◌+◌, List, [], ◌∷◌, length, Result, Ok, Err, refl, sym, ap, ◌∙◌, add_assoc}
+use Rattle.variant_table.specs.Faults.{LineFault, Limit, Syntax, BadClass, SameVariant, SameSource}
 use Rattle.variant_table.specs.declared.fault.TableFault.{TableFault}
+use Rattle.variant_table.specs.declared.fault.TableFault.TheVariants as tables
 use Rattle.variant_table.specs.Entries.{Entry}
-use Rattle.variant_table.specs.Faults.{fault_in_line}
-use Rattle.variant_table.specs.Reading.{◌>>=◌, in_line, with_entry, with_raw_line, with_lines, Fails, FailsIn}
+use Rattle.variant_table.specs.Reading.{◌>>=◌, in_line, with_raw_line, with_lines, Fails, FailsIn}
 
 abbrev Whole : Type 0
 Whole = Result (List Entry) (ℕ × LineFault)
@@ -26,23 +21,17 @@ module _ (n b : ℕ) (t : List Entry) (line : List ℕ) (lines rest : List (List
   unfolding with_lines
   lines_step t' e = ap (λ k. with_lines (n + 1) k t' lines) (sym (add_assoc b (length line) 1)) ∙ sym (ap (further n b line lines) e) ∙ begun
 
-  pub lines_fail : (error : LineError) (fault : TableFault) → Fails error (with_raw_line b t line) → fault ≡ fault_in_line n error → FailsIn fault total
-  lines_fail Memory fault e is = inl is
-  lines_fail (Fault kind) fault e is = inr (n, kind, is, sym begun ∙ ap (further n b line lines) e)
+  failed : (kind : LineFault) → with_raw_line b t line ≡ Err kind → total ≡ Err (n, kind)
+  failed kind e = sym begun ∙ ap (further n b line lines) e
+
+  pub lines_fail : (fault : TableFault) → Fails n fault (with_raw_line b t line) → FailsIn fault total
+  lines_fail tables.Memory h = inl refl
+  lines_fail (tables.Limit k) h = inr (n, Limit, ap (λ m. tables.Limit m) h.0, failed Limit h.1)
+  lines_fail (tables.Syntax k) h = inr (n, Syntax, ap (λ m. tables.Syntax m) h.0, failed Syntax h.1)
+  lines_fail (tables.BadClass k) h = inr (n, BadClass, ap (λ m. tables.BadClass m) h.0, failed BadClass h.1)
+  lines_fail (tables.SameVariant k) h = inr (n, SameVariant, ap (λ m. tables.SameVariant m) h.0, failed SameVariant h.1)
+  lines_fail (tables.SameSource k) h = inr (n, SameSource, ap (λ m. tables.SameSource m) h.0, failed SameSource h.1)
 
 pub lines_end : (n b : ℕ) (t : List Entry) (rest : List (List ℕ)) (total : Whole) → rest ≡ [] → with_lines n b t rest ≡ total → total ≡ Ok t
 unfolding with_lines
 lines_end n b t rest total e so_far = sym so_far ∙ ap (with_lines n b t) e
-
--- ---- the faults of an entry
-
--- an entry that lacks the first three faults
-pub with_entry-source : (table : List Entry) (e : Entry) → nat_le 4096 (length table) ≡ false → is_too_large e ≡ false → has_bad_class e ≡ false → has_repeat e ≡ false
-    → with_entry table e ≡ cond (has_source_in table e) (Err SameSource) (Ok (table ++ e ∷ []))
-unfolding with_entry
-with_entry-source table e a b d f =
-    let last : Result (List Entry) LineFault = cond (has_source_in table e) (Err SameSource) (Ok (table ++ e ∷ [])) in
-    ap (λ x. cond (x || is_too_large e) (Err Limit) (cond (has_bad_class e) (Err BadClass) (cond (has_repeat e) (Err SameVariant) last))) a
-    ∙ ap (λ x. cond x (Err Limit) (cond (has_bad_class e) (Err BadClass) (cond (has_repeat e) (Err SameVariant) last))) b
-    ∙ ap (λ x. cond x (Err BadClass) (cond (has_repeat e) (Err SameVariant) last)) d
-    ∙ ap (λ x. cond x (Err SameVariant) last) f

@@ -9,4 +9,5 @@ pub mod Tokens
 pub mod Reading
 pub mod Faults
 pub mod Held
+pub mod Order
 pub mod Gaps

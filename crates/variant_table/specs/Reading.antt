@@ -4,13 +4,9 @@ use Rattle.std.specs.Str.Lines.{strip_carriage_return}
 use Rattle.idn_text.specs.Lines.{raw_lines}
 use Rattle.variant_table.specs.declared.token.Token.{Token}
 use Rattle.variant_table.specs.declared.token.Token.TheVariants.{Point, Hyphen, Bar, Colon}
-use Rattle.variant_table.specs.declared.fault.LineFault.{LineFault}
-use Rattle.variant_table.specs.declared.fault.LineFault.TheVariants.{Limit, Syntax, BadClass, SameVariant, SameSource}
-use Rattle.variant_table.specs.declared.fault.LineError.{LineError}
-use Rattle.variant_table.specs.declared.fault.LineError.TheVariants.{Memory, Fault}
 use Rattle.variant_table.specs.declared.fault.TableFault.{TableFault}
 use Rattle.variant_table.specs.declared.fault.TableFault.TheVariants as tables
-use Rattle.variant_table.specs.Faults.{table_fault}
+use Rattle.variant_table.specs.Faults.{LineFault, Limit, Syntax, BadClass, SameVariant, SameSource, table_fault}
 use Rattle.variant_table.specs.Tokens.{is_blank, tokens_of}
 use Rattle.variant_table.specs.Entries.{Entry}
 use Rattle.variant_table.specs.Conditions.{is_too_long, is_too_large, has_bad_class, has_repeat, has_source_in}
@@ -23,15 +19,19 @@ abbrev pub ◌>>=◌ : {A B F : Type 0} → Result A F → (A → Result B F) �
 (Ok x) >>= f = f x
 (Err e) >>= f = Err e
 
--- an error is the fault of reading, unless memory was refused
-abbrev pub Fails : {Y : Type 0} → LineError → Result Y LineFault → Type 0
-Fails Memory read = Unit {0}
-Fails (Fault fault) read = read ≡ Err fault
+-- a call fails with what reading the line of this number tells, unless memory was refused
+abbrev pub Fails : {Y : Type 0} → ℕ → TableFault → Result Y LineFault → Type 0
+Fails number tables.Memory read = Unit {0}
+Fails number (tables.Limit line) read = (line ≡ number) × (read ≡ Err Limit)
+Fails number (tables.Syntax line) read = (line ≡ number) × (read ≡ Err Syntax)
+Fails number (tables.BadClass line) read = (line ≡ number) × (read ≡ Err BadClass)
+Fails number (tables.SameVariant line) read = (line ≡ number) × (read ≡ Err SameVariant)
+Fails number (tables.SameSource line) read = (line ≡ number) × (read ≡ Err SameSource)
 
--- where a call succeeds, y is what reading gives; its error is as said
-abbrev pub Leaves : {X Y : Type 0} → Result X LineError → Y → Result Y LineFault → Type 0
-Leaves (Ok x) y read = read ≡ Ok y
-Leaves (Err e) y read = Fails e read
+-- where a call succeeds, y is what reading the line of this number gives; its fault is as said
+abbrev pub Leaves : {X Y : Type 0} → ℕ → Result X TableFault → Y → Result Y LineFault → Type 0
+Leaves number (Ok x) y read = read ≡ Ok y
+Leaves number (Err fault) y read = Fails number fault read
 
 -- ---- the entry of a line
 
@@ -60,14 +60,17 @@ sequences_of tokens = Err Syntax
 
 -- ---- the table so far
 
+-- the table with an entry, whose source is to be new
+abbrev pub with_new_source : List Entry → Entry → Result (List Entry) LineFault
+with_new_source table e = if has_source_in table e then Err SameSource else Ok (table ++ e ∷ [])
+
 -- the table with an entry
 unfoldable pub with_entry : List Entry → Entry → Result (List Entry) LineFault
 with_entry table e =
     if nat_le 4096 (length table) || is_too_large e then Err Limit else
     if has_bad_class e then Err BadClass else
     if has_repeat e then Err SameVariant else
-    if has_source_in table e then Err SameSource else
-    Ok (table ++ e ∷ [])
+    with_new_source table e
 
 -- the table with what a line adds
 unfoldable pub with_line : List Entry → List ℕ → Result (List Entry) LineFault
@@ -101,10 +104,10 @@ abbrev pub BeginsWithPoint : List Token → Type 0
 BeginsWithPoint (Point c ∷ tokens) = Unit {0}
 BeginsWithPoint tokens = ⊥
 
--- the point was taken off the tokens, or they don't begin with one
-abbrev pub IsPoint : Result ℕ LineError → List Token → List Token → Type 0
-IsPoint (Ok c) old new = old ≡ Point c ∷ new
-IsPoint (Err e) old new = (e ≡ Fault Syntax) × (BeginsWithPoint old → ⊥)
+-- the point was taken off the tokens of the line of this number, or they don't begin with one
+abbrev pub IsPoint : ℕ → Result ℕ TableFault → List Token → List Token → Type 0
+IsPoint number (Ok c) old new = old ≡ Point c ∷ new
+IsPoint number (Err fault) old new = (fault ≡ tables.Syntax number) × (BeginsWithPoint old → ⊥)
 
 -- ---- the whole text
 

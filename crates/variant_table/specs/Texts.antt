@@ -3,11 +3,9 @@ use Rattle.std.specs.Prelude.{◌≡◌, ◌⊎◌, ℕ, ◌+◌, ◌≤◌, ◌
 use Rattle.std.specs.List.{list_any}
 use Rattle.std.specs.Str.Lines.{strip_carriage_return}
 use Rattle.idn_text.specs.Lines.{raw_lines}
-use Rattle.variant_table.specs.declared.fault.LineFault.{LineFault}
-use Rattle.variant_table.specs.declared.fault.LineFault.TheVariants.{Limit, Syntax, BadClass, SameVariant, SameSource}
+use Rattle.variant_table.specs.Faults.{LineFault, Limit, Syntax, BadClass, SameVariant, SameSource, table_fault}
 use Rattle.variant_table.specs.declared.fault.TableFault.{TableFault}
 use Rattle.variant_table.specs.declared.fault.TableFault.TheVariants.{Memory}
-use Rattle.variant_table.specs.Faults.{table_fault}
 use Rattle.variant_table.specs.Entries.{Entry}
 use Rattle.variant_table.specs.Notation.{AreBlanks, IsEntryLine}
 use Rattle.variant_table.specs.WellFormed.{IsWellFormed}

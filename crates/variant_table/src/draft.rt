@@ -3,7 +3,7 @@ ghost use Rattle.std.specs.Prelude.{◌≡◌, ◌<◌, [], ◌∷◌, ◌++◌,
 ghost use Rattle.variant_table.specs.Tokens.{tokens_of};
 ghost use Rattle.variant_table.specs.Reading.{sequences_of, Leaves, IsPoint};
 
-use crate::fault::{LineError, LineFault};
+use crate::fault::TableFault;
 use crate::sequences::Sequences;
 use crate::token::{Token, Tokens};
 use std::alloc::{AllocError, Global};
@@ -34,16 +34,16 @@ impl Draft {
         Ok(())
     }
 
-    /// Takes in the line of an entry in place of what was there before.
+    /// Takes in the line of this number, of an entry, in place of what was there before.
     #[tactic(auto, unfolding(crate::specs::Reading::sequences_of, crate::specs::Reading::sequences_after))]
-    pub fn read(&mut self, line: &[u8]) -> Result<(), LineError>
-        ensures read { Leaves result self.new.sequences (sequences_of (tokens_of line.now)) }
+    pub fn read(&mut self, number: u64, line: &[u8]) -> Result<(), TableFault>
+        ensures read { Leaves number result self.new.sequences (sequences_of (tokens_of line.now)) }
         ensures some { OnOk result (0 < length self.new.sequences) }
     {
         self.sequences.clear();
         self.current.clear();
         let mut tokens = Tokens::new(line);
-        self.current.push(next_point(&mut tokens)?)?;
+        self.current.push(next_point(number, &mut tokens)?)?;
         let mut in_variants = false;
         while let Some(token) = tokens.next() {
             match token {
@@ -53,21 +53,21 @@ impl Draft {
                     in_variants = true;
                 }
                 Token::Colon if in_variants => self.end_sequence()?,
-                _ => return Err(LineError::Fault(LineFault::Syntax)),
+                _ => return Err(TableFault::Syntax { line: number }),
             }
-            self.current.push(next_point(&mut tokens)?)?;
+            self.current.push(next_point(number, &mut tokens)?)?;
         }
         self.end_sequence()?;
         Ok(())
     }
 }
 
-/// The next token, which is to be a point.
-fn next_point(tokens: &mut Tokens) -> Result<u32, LineError>
-    ensures { IsPoint result (tokens_of tokens.old.rest.now) (tokens_of tokens.new.rest.now) }
+/// The next token of the line of this number, which is to be a point.
+fn next_point(number: u64, tokens: &mut Tokens) -> Result<u32, TableFault>
+    ensures { IsPoint number result (tokens_of tokens.old.rest.now) (tokens_of tokens.new.rest.now) }
 {
     match tokens.next() {
         Some(Token::Point(point)) => Ok(point),
-        _ => Err(LineError::Fault(LineFault::Syntax)),
+        _ => Err(TableFault::Syntax { line: number }),
     }
 }

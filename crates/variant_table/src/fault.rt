@@ -1,7 +1,6 @@
 //! Why a text is no table.
 ghost use Rattle.std.specs.Prelude.{◌≡◌};
-ghost use Rattle.variant_table.specs.declared.fault.LineError.TheVariants.{Memory};
-ghost use Rattle.variant_table.specs.Faults.{fault_in_line};
+ghost use Rattle.variant_table.specs.declared.fault.TableFault.TheVariants.{Memory};
 
 use std::alloc::{AllocError, AllocFailed};
 use thiserror::Error;
@@ -31,51 +30,18 @@ pub enum TableFault {
     Memory,
 }
 
-/// What is wrong with a line.
-#[derive(Clone, Copy, Debug, PartialEq, Eq)]
-pub enum LineFault {
-    Limit,
-    Syntax,
-    BadClass,
-    SameVariant,
-    SameSource,
-}
-
-/// Why a line is not taken into a table.
-#[derive(Clone, Copy, Debug, PartialEq, Eq)]
-pub enum LineError {
-    Memory,
-    Fault(LineFault),
-}
-
-impl From<AllocError> for LineError {
+impl From<AllocError> for TableFault {
     ghost from_gives = { λ _ e. e ≡ Memory };
 
     fn from(_: AllocError) -> Self {
-        LineError::Memory
+        TableFault::Memory
     }
 }
 
-impl<T: Drop> From<AllocFailed<T>> for LineError {
+impl<T: Drop> From<AllocFailed<T>> for TableFault {
     ghost from_gives = { λ _ e. e ≡ Memory };
 
     fn from(_: AllocFailed<T>) -> Self {
-        LineError::Memory
-    }
-}
-
-impl LineError {
-    /// The fault of the table whose line of this number is not read.
-    pub fn in_line(self, line: u64) -> TableFault
-        ensures { result ≡ fault_in_line line self }
-    {
-        match self {
-            LineError::Memory => TableFault::Memory,
-            LineError::Fault(LineFault::Limit) => TableFault::Limit { line },
-            LineError::Fault(LineFault::Syntax) => TableFault::Syntax { line },
-            LineError::Fault(LineFault::BadClass) => TableFault::BadClass { line },
-            LineError::Fault(LineFault::SameVariant) => TableFault::SameVariant { line },
-            LineError::Fault(LineFault::SameSource) => TableFault::SameSource { line },
-        }
+        TableFault::Memory
     }
 }

@@ -1,7 +1,7 @@
 //! Laws of the definitions, each the contract of a function that does nothing.
 ghost use Rattle.std.specs.Prelude.{◌≡◌, ◌↔◌, ◌⊎◌, ◌≤◌, ℕ, List, [], ◌∷◌, ◌++◌, length, Ok, Err, codes};
 ghost use Rattle.idn_text.specs.Lines.{raw_lines, with_last_feed};
-ghost use Rattle.variant_table.specs.declared.fault.LineFault.{LineFault};
+ghost use Rattle.variant_table.specs.Faults.{LineFault};
 ghost use Rattle.variant_table.specs.Canonical.{canonical_line, canonical_text};
 ghost use Rattle.variant_table.specs.Entries.{Entry, replacements};
 ghost use Rattle.variant_table.specs.Notation.{IsEntryLine};
@@ -10,7 +10,7 @@ ghost use Rattle.variant_table.specs.Texts.{IsTextOf, IsFaultOf, size_of};
 ghost use Rattle.variant_table.specs.Tokens.{tokens_of};
 ghost use Rattle.variant_table.specs.Gaps.{AreGapsOf, gaps_of};
 ghost use Rattle.variant_table.specs.Places.{entries_at};
-ghost use Rattle.variant_table.specs.declared.fault.LineFault.TheVariants as faults;
+ghost use Rattle.variant_table.specs.Faults as faults;
 ghost use Rattle.variant_table.specs.WellFormed.{IsEntry, IsWellFormed};
 
 /// The line of an entry is read as that entry.

@@ -5,6 +5,7 @@
 mod canonical;
 mod checks;
 mod draft;
+mod entries;
 mod entry;
 mod fault;
 mod gaps;
@@ -22,6 +23,3 @@ pub use entry::Entry;
 pub use fault::TableFault;
 pub use places::EntriesAt;
 pub use table::Table;
-
-#[cfg(test)]
-mod tests;

@@ -4,7 +4,7 @@ ghost use Rattle.std.specs.Iterator.{YieldsFirst, item_count};
 ghost use Rattle.variant_table.specs.Places.{entries_at as entries_at_place};
 
 use crate::entry::Entry;
-use crate::rows::Rows;
+use crate::rows::{LookUp, Rows};
 use std::marker::Model;
 
 /// The most code points of a source.
@@ -17,19 +17,19 @@ pub struct EntriesAt<'a> {
     rows: &'a Rows,
     label: &'a [u32],
     place: usize,
-    /// The sources that are longer than this are left.
+    /// The sources that are longer than this are left; at the limit there are none.
     len: usize,
 }
 
 impl<'a> Model for EntriesAt<'a> {
-    ghost use Rattle.std.specs.Prelude.{List, ◌+◌, ◌≤◌, length};
+    ghost use Rattle.std.specs.Prelude.{List, ◌≤◌, length};
     ghost use Rattle.variant_table.specs.Places.{EntryValue, entries_longer};
 
     ghost Value = { List EntryValue };
 
     ghost view = { λ s. entries_longer s.rows.now s.label.now s.place s.len };
 
-    ghost invariant = { λ s. s.place + s.len ≤ length s.label.now };
+    ghost invariant = { λ s. (s.place ≤ length s.label.now) × (s.len ≤ 8) };
 }
 
 impl<'a> EntriesAt<'a> {
@@ -45,14 +45,19 @@ impl<'a> EntriesAt<'a> {
         }
     }
 
-    /// The next entry, by the next length at which there is one.
+    /// The next entry, by the next length at which there is one. Where no longer source begins with
+    /// the code points so far, no other length is tried.
     fn next_entry(&mut self) -> Option<Entry<'a>>
         ensures { YieldsFirst (λ s. s) self.old result self.new }
     {
         while self.len < SOURCE_LIMIT && self.place + self.len < self.label.len() {
             self.len += 1;
-            let source = &self.label[self.place..self.place + self.len];
-            if let Some(entry) = self.rows.find(source) {
+            let sequence = &self.label[self.place..self.place + self.len];
+            let LookUp { entry, has_longer } = self.rows.look_up(sequence);
+            if !has_longer {
+                self.len = SOURCE_LIMIT;
+            }
+            if let Some(entry) = entry {
                 return Some(entry);
             }
         }

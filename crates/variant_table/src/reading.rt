@@ -4,7 +4,7 @@ ghost use Rattle.variant_table.specs.Reading.{Leaves, Reads, entry_from, with_en
 
 use crate::checks::{has_bad_class, has_repeat, is_too_large};
 use crate::draft::Draft;
-use crate::fault::{LineError, LineFault, TableFault};
+use crate::fault::TableFault;
 use crate::line::{RawLines, without_return};
 use crate::rows::Rows;
 use crate::sequences::Sequences;
@@ -31,65 +31,71 @@ pub fn read_rows(alloc: Global, text: &[u8]) -> Result<Rows, TableFault>
     let mut bytes = 0;
     for line in RawLines::new(text) {
         number += 1;
-        if let Err(error) = add_raw_line(alloc, &mut rows, &mut draft, bytes, line) {
-            return Err(error.in_line(number));
-        }
+        add_raw_line(alloc, &mut rows, &mut draft, number, bytes, line)?;
         bytes += line.len() + 1;
     }
     Ok(rows)
 }
 
-/// Adds what a line says, as it stands in a text behind so many bytes.
+/// Adds what the line of this number says, as it stands in a text behind so many bytes.
 #[tactic(auto, unfolding(crate::specs::Reading::with_raw_line))]
 fn add_raw_line(
     alloc: Global,
     rows: &mut Rows,
     draft: &mut Draft,
+    number: u64,
     bytes: usize,
     line: &[u8],
-) -> Result<(), LineError>
+) -> Result<(), TableFault>
     requires { bytes ≤ 1048576 }
-    ensures read { Leaves result rows.new (with_raw_line bytes rows.old line.now) }
+    ensures read { Leaves number result rows.new (with_raw_line bytes rows.old line.now) }
     ensures within { OnOk result (bytes + length line.now + 1 ≤ 1048576) }
 {
     if line.len() > LINE_LIMIT || bytes + line.len() + 1 > TEXT_LIMIT {
-        return Err(LineError::Fault(LineFault::Limit));
+        return Err(TableFault::Limit { line: number });
     }
-    add_line(alloc, rows, draft, without_return(line))
+    add_line(alloc, rows, draft, number, without_return(line))
 }
 
-/// Adds what a line says.
+/// Adds what the line of this number says.
 #[tactic(auto, unfolding(crate::specs::Reading::with_line))]
-fn add_line(alloc: Global, rows: &mut Rows, draft: &mut Draft, line: &[u8]) -> Result<(), LineError>
-    ensures { Leaves result rows.new (with_line rows.old line.now) }
+fn add_line(
+    alloc: Global,
+    rows: &mut Rows,
+    draft: &mut Draft,
+    number: u64,
+    line: &[u8],
+) -> Result<(), TableFault>
+    ensures { Leaves number result rows.new (with_line rows.old line.now) }
 {
     if is_skipped(line) {
         return Ok(());
     }
-    draft.read(line)?;
-    add_entry(alloc, rows, &draft.sequences)
+    draft.read(number, line)?;
+    add_entry(alloc, rows, number, &draft.sequences)
 }
 
 /// Adds the entry of these sequences, the source first, unless it has a fault.
 #[tactic(auto, unfolding(crate::specs::Reading::with_entry))]
-fn add_entry(alloc: Global, rows: &mut Rows, sequences: &Sequences) -> Result<(), LineError>
+fn add_entry(
+    alloc: Global,
+    rows: &mut Rows,
+    number: u64,
+    sequences: &Sequences,
+) -> Result<(), TableFault>
     requires { 0 < length sequences.now }
-    ensures { Leaves result rows.new (with_entry rows.old (entry_from sequences.now)) }
+    ensures { Leaves number result rows.new (with_entry rows.old (entry_from sequences.now)) }
 {
     if rows.len() >= ENTRY_LIMIT || is_too_large(sequences) {
-        return Err(LineError::Fault(LineFault::Limit));
+        return Err(TableFault::Limit { line: number });
     }
     if has_bad_class(alloc, sequences)? {
-        return Err(LineError::Fault(LineFault::BadClass));
+        return Err(TableFault::BadClass { line: number });
     }
     if has_repeat(sequences) {
-        return Err(LineError::Fault(LineFault::SameVariant));
+        return Err(TableFault::SameVariant { line: number });
     }
-    if rows.has_source(sequences.get(0)) {
-        return Err(LineError::Fault(LineFault::SameSource));
-    }
-    rows.push(alloc, sequences)?;
-    Ok(())
+    rows.push(number, sequences)
 }
 
 /// Whether a line has nothing but blanks, or a comment.

@@ -1,35 +1,34 @@
-//! Entries in memory, with an ordered index of their sources.
-ghost use Rattle.std.specs.Prelude.{◌≡◌, ◌<◌, [], ◌∷◌, ◌++◌, length, false, bytes_eq, slice_get, Some, OnOk, OnErr};
-ghost use Rattle.std.specs.List.{list_any};
-ghost use Rattle.variant_table.specs.Conditions.{has_source_in};
+//! Entries with different sources, and the order of their sources.
+ghost use Rattle.std.specs.Prelude.{◌≡◌, ◌<◌, ◌^◌, [], length, slice_get, Some, OnErr, false};
+ghost use Rattle.variant_table.specs.Order.{IsOrderOf, IsPlaceFor, begins_at as begins_at_place, HasNoLonger};
 ghost use Rattle.variant_table.specs.Places.{entry_with};
-ghost use Rattle.variant_table.specs.Reading.{entry_from};
+ghost use Rattle.variant_table.specs.Reading.{Leaves, entry_from, with_new_source};
 
+use crate::entries::Entries;
 use crate::entry::Entry;
-use crate::sequences::{Sequences, Span};
-use std::alloc::{AllocError, Global};
-use std::collections::BTreeMap;
+use crate::fault::TableFault;
+use crate::sequences::Sequences;
+use std::alloc::Global;
+use std::cmp::Ordering;
 use std::marker::Model;
 
-/// Entries with different sources: parts of one list of sequences, and the number of the entry of
-/// each source.
+/// Entries with different sources, and their numbers in the order of their sources.
 #[derive(Drop)]
 pub struct Rows {
-    sequences: Sequences,
-    entries: Vec<Span>,
-    index: BTreeMap<Vec<u32>, usize>,
+    entries: Entries,
+    order: Vec<u16>,
 }
 
 impl Model for Rows {
     ghost use Rattle.std.specs.Prelude.{List};
+    ghost use Rattle.variant_table.specs.Order.{IsOrderOf};
     ghost use Rattle.variant_table.specs.Places.{EntryValue};
-    ghost use Rattle.variant_table.specs.Held.{entries_of, IsHeld};
 
     ghost Value = { List EntryValue };
 
-    ghost view = { λ r. entries_of r.sequences r.entries.items };
+    ghost view = { λ r. r.entries };
 
-    ghost invariant = { λ r. IsHeld r.sequences r.entries.items r.index };
+    ghost invariant = { λ r. IsOrderOf r.entries r.order.items };
 }
 
 impl Rows {
@@ -37,9 +36,8 @@ impl Rows {
         ensures { result ≡ [] }
     {
         Rows {
-            sequences: Sequences::new(alloc),
-            entries: Vec::new(alloc),
-            index: BTreeMap::new(alloc),
+            entries: Entries::new(alloc),
+            order: Vec::new(alloc),
         }
     }
 
@@ -54,38 +52,98 @@ impl Rows {
         requires { number < length self.now }
         ensures { slice_get self.now number ≡ Some result }
     {
-        Entry::new(&self.sequences, self.entries[number])
+        self.entries.get(number)
     }
 
     /// The entry with this source.
     pub fn find(&self, source: &[u32]) -> Option<Entry<'_>>
         ensures { result ≡ entry_with self.now source.now }
     {
-        let number = self.index.get(source).copied()?;
-        Some(Entry::new(&self.sequences, self.entries[number]))
+        self.look_up(source).entry
     }
 
-    /// Whether an entry has this source.
-    pub fn has_source(&self, source: &[u32]) -> bool
-        ensures { result ≡ list_any (λ e. bytes_eq e.source source.now) self.now }
+    /// The entry with this source, and whether there may be sources that begin with it.
+    pub fn look_up(&self, source: &[u32]) -> LookUp<'_>
+        ensures entry { result.entry ≡ entry_with self.now source.now }
+        ensures longer { result.has_longer ≡ false → HasNoLonger self.now source.now }
     {
-        self.index.contains_key(source)
+        match search(&self.entries, &self.order, source) {
+            Place::Found(place) => LookUp {
+                entry: Some(self.entries.get(self.order[place] as usize)),
+                has_longer: begins_at(&self.entries, &self.order, place + 1, source),
+            },
+            Place::Absent(place) => LookUp {
+                entry: None,
+                has_longer: begins_at(&self.entries, &self.order, place, source),
+            },
+        }
     }
 
-    /// Adds an entry with a new source. An `Err` changes nothing.
-    pub fn push(&mut self, alloc: Global, sequences: &Sequences) -> Result<(), AllocError>
+    /// Adds the entry of these sequences, the source first, which stand in the line of this number,
+    /// unless an entry has its source. An `Err` changes nothing.
+    pub fn push(&mut self, number: u64, sequences: &Sequences) -> Result<(), TableFault>
         requires some { 0 < length sequences.now }
-        requires fresh { has_source_in self.old (entry_from sequences.now) ≡ false }
-        ensures ok { OnOk result (self.new ≡ self.old ++ entry_from sequences.now ∷ []) }
+        requires room { length self.old < 2 ^ 16 }
+        ensures read { Leaves number result self.new (with_new_source self.old (entry_from sequences.now)) }
         ensures err { OnErr result (self.new ≡ self.old) }
     {
-        let source = Vec::from_slice(alloc, sequences.get(0))?;
-        let start = self.sequences.len();
-        self.sequences.append(sequences)?;
-        let end = self.sequences.len();
-        self.entries.reserve(1)?;
-        self.index.insert(source, self.entries.len())?;
-        self.entries.push(Span { start, end }).unwrap();
+        let Place::Absent(place) = search(&self.entries, &self.order, sequences.get(0)) else {
+            return Err(TableFault::SameSource { line: number });
+        };
+        let entry = self.entries.len() as u16;
+        self.order.reserve(1)?;
+        self.entries.push(sequences)?;
+        self.order.insert(place, entry).unwrap();
         Ok(())
     }
+}
+
+/// What the sources have of a sequence.
+#[derive(Drop)]
+pub struct LookUp<'a> {
+    /// The entry whose source it is.
+    pub entry: Option<Entry<'a>>,
+    /// Whether a longer source begins with it.
+    pub has_longer: bool,
+}
+
+/// Where a source stands in the order of the sources.
+#[derive(Clone, Copy, Debug, PartialEq, Eq)]
+enum Place {
+    /// At this place.
+    Found(usize),
+    /// Nowhere: it would stand at this place.
+    Absent(usize),
+}
+
+/// The place of a source in the order of the sources.
+fn search(entries: &Entries, order: &[u16], source: &[u32]) -> Place
+    requires { IsOrderOf entries.now order.now }
+    ensures { IsPlaceFor entries.now order.now source.now result }
+{
+    let mut low = 0;
+    let mut high = order.len();
+    // The last source is compared first, since the sources of most tables rise.
+    let mut place = high.saturating_sub(1);
+    while low < high {
+        match entries.get(order[place] as usize).source().cmp(&source) {
+            Ordering::Less => low = place + 1,
+            Ordering::Equal => return Place::Found(place),
+            Ordering::Greater => high = place,
+        }
+        place = low + (high - low) / 2;
+    }
+    Place::Absent(low)
+}
+
+/// Whether there is a source at this place of the order that begins with a sequence.
+fn begins_at(entries: &Entries, order: &[u16], place: usize, sequence: &[u32]) -> bool
+    requires { IsOrderOf entries.now order.now }
+    ensures { result ≡ begins_at_place entries.now order.now place sequence.now }
+{
+    place < order.len()
+        && entries
+            .get(order[place] as usize)
+            .source()
+            .starts_with(sequence)
 }

@@ -3,7 +3,7 @@ use Rattle.std.proofs.lemmas.Result.{err_from_is_err_and}
 use Rattle.idn_label.specs.Decode.{decode_answer}
 use Rattle.idna.specs.Labels.{labels_of}
 use Rattle.idn_label.specs.Steps.{appended, begins_with_prefix, in_utf8}
-use Rattle.idn_label.proofs.PlainNames.{any_label-none}
+use Rattle.idn_label.proofs.LdhNames.{any_label-none}
 use Rattle.idn_label.proofs.DecodeLemmas.{labels_of-none, labels_of-some}
 use Rattle.idn_label.proofs.Utf8Decoding.{utf8_turn_err, utf8_turn_last, utf8_turn_more, rest_parts, rest_ascii, label_ascii}
 use Rattle.idn_label.proofs.ascii_name.decode_ascii.Goals as goal

@@ -2,7 +2,7 @@ use Rattle.std.proofs.Common.{◌++◌, Ok, sym, ap, ◌∙◌}
 use Rattle.std.proofs.lemmas.Result.{err_from_is_err_and}
 use Rattle.idn_label.specs.Answers.{Answer}
 use Rattle.idn_label.specs.Steps.{appended, in_utf8}
-use Rattle.idn_label.proofs.DecodeLemmas.{decoded_label-plain, decoded_label-coded}
+use Rattle.idn_label.proofs.DecodeLemmas.{decoded_label-other, decoded_label-coded}
 use Rattle.idn_label.proofs.OtherLabels.{is_all_ascii-bytes}
 use Rattle.idn_label.proofs.Utf8Decoding.{utf8_of-ascii_text}
 use Rattle.idn_label.proofs.ascii_name.decode_label.Goals as goal
@@ -13,20 +13,20 @@ u_label_in_any_case-requires-clause-ascii g c = is_all_ascii-bytes c.args.label.
 pub returns-in_err-u_label_in_any_case-clause-answer : goal.returns-in_err-u_label_in_any_case-clause-answer
 returns-in_err-u_label_in_any_case-clause-answer g c =
     let label = c.args.label.now in
-    let coded = decoded_label-coded label (sym c.if-octets_have_ace_prefix_in_any_case.ensures) in
+    let coded = decoded_label-coded label (sym c.if-has_ace_prefix_in_any_case.ensures) in
     let p = err_from_is_err_and c.from_residual.result c.from_residual.ensures.1 in
     rw (p.1, p.2) (λ other. ap (λ (a : Answer). appended c.args.text.now.items (in_utf8 a)) (coded ∙ c.in_err-u_label_in_any_case.ensures.answer other))
 
-pub returns-then-octets_have_ace_prefix_in_any_case-clause-answer : goal.returns-then-octets_have_ace_prefix_in_any_case-clause-answer
-returns-then-octets_have_ace_prefix_in_any_case-clause-answer g c =
+pub returns-then-has_ace_prefix_in_any_case-clause-answer : goal.returns-then-has_ace_prefix_in_any_case-clause-answer
+returns-then-has_ace_prefix_in_any_case-clause-answer g c =
     let label = c.args.label.now in
-    let coded = decoded_label-coded label (sym c.if-octets_have_ace_prefix_in_any_case.ensures) in
+    let coded = decoded_label-coded label (sym c.if-has_ace_prefix_in_any_case.ensures) in
     rw (c.push_utf8.ensures.written, c.deref.ensures.0) (ap (λ (a : Answer). appended c.args.text.now.items (in_utf8 a)) (coded ∙ c.in_ok-u_label_in_any_case.ensures.answer))
 
 pub returns-clause-answer : goal.returns-clause-answer
 returns-clause-answer g c =
     let label = c.args.label.now in
-    let plain = decoded_label-plain label (sym c.if-octets_have_ace_prefix_in_any_case.ensures) in
-    ap (λ (a : Answer). appended c.args.text.now.items (in_utf8 a)) plain
+    let ldh = decoded_label-other label (sym c.if-has_ace_prefix_in_any_case.ensures) in
+    ap (λ (a : Answer). appended c.args.text.now.items (in_utf8 a)) ldh
     ∙ ap (λ bytes. Ok (c.args.text.now.items ++ bytes)) (utf8_of-ascii_text label c.requires.ascii)
     ∙ ap Ok (sym c.in-Ok.ensures.ok)

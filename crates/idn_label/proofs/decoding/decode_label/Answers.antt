@@ -1,7 +1,7 @@
 use Rattle.std.proofs.Common.{Ok, sym, ap, ◌∙◌}
 use Rattle.idn_label.specs.Steps.{appended}
 use Rattle.idn_label.proofs.AnswerLemmas.{Gives-same}
-use Rattle.idn_label.proofs.DecodeLemmas.{decoded_label-plain, decoded_label-coded}
+use Rattle.idn_label.proofs.DecodeLemmas.{decoded_label-other, decoded_label-coded}
 use Rattle.idn_label.proofs.decoding.decode_label.Goals as goal
 
 pub returns-then-has_ace_prefix_in_any_case : goal.returns-then-has_ace_prefix_in_any_case
@@ -11,5 +11,5 @@ returns-then-has_ace_prefix_in_any_case c =
 
 pub returns-in_ok-extend_from_slice : goal.returns-in_ok-extend_from_slice
 returns-in_ok-extend_from_slice c =
-    ap (appended c.args.decoded.now.items) (decoded_label-plain c.args.label.now (sym c.if-has_ace_prefix_in_any_case.ensures))
+    ap (appended c.args.decoded.now.items) (decoded_label-other c.args.label.now (sym c.if-has_ace_prefix_in_any_case.ensures))
     ∙ ap Ok (sym c.in_ok-extend_from_slice.ensures.items)

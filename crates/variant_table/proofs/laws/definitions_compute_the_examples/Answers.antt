@@ -1,7 +1,7 @@
 use Rattle.std.proofs.Common.{ℕ, List, [], Result, Ok, refl, ap, ◌∙◌}
 use Rattle.idn_text.specs.Points.{point_of_hex}
 use Rattle.variant_table.specs.Canonical.{point_text}
-use Rattle.variant_table.specs.declared.fault.LineFault.{LineFault}
+use Rattle.variant_table.specs.Faults.{LineFault}
 use Rattle.variant_table.specs.Entries.{Entry}
 use Rattle.variant_table.specs.Reading.{◌>>=◌, in_line, sequences_of, sequences_after, table_of_text, with_lines, with_raw_line, with_line, with_entry}
 use Rattle.variant_table.specs.Tokens.{tokens_of}

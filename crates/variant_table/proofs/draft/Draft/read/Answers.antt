@@ -1,7 +1,7 @@
 use Rattle.std.proofs.Common.{◌≡◌, ℕ, List, [], ◌∷◌, ◌++◌, Bool, true, false, Result, ap, refl, sym, ◌∙◌}
 use Rattle.variant_table.specs.declared.token.Token.{Token}
 use Rattle.variant_table.specs.declared.token.Token.TheVariants.{Point, Hyphen, Bar, Colon}
-use Rattle.variant_table.specs.declared.fault.LineFault.{LineFault}
+use Rattle.variant_table.specs.Faults.{LineFault}
 use Rattle.variant_table.specs.Tokens.{tokens_of}
 use Rattle.variant_table.specs.Reading.{sequences_of, sequences_after}
 use Rattle.variant_table.proofs.DraftLemmas.{after_hyphen, after_bar, after_colon}

@@ -1,74 +1,48 @@
-use Rattle.std.proofs.Common.{arith, cond, length-append, ◌≡◌, ◌+◌, ◌++◌, ◌∷◌, [], List, ℕ, length, false, ap, sym, ◌∙◌, subst, refl, Some}
+use Rattle.std.proofs.Common.{cond, ◌≡◌, ◌++◌, ◌∷◌, [], List, ℕ, length, true, refl, ap, sym, subst, ◌∙◌, Ok, Err}
 use Rattle.std.specs.Prelude.{is_ok}
-use Rattle.variant_table.specs.declared.sequences.Span.{Span}
-use Rattle.std.specs.Map.{lookup}
+use Rattle.std.specs.List.{insert}
+use Rattle.variant_table.specs.Faults.{SameSource}
+use Rattle.variant_table.specs.declared.rows.Place.TheVariants.{Found, Absent}
 use Rattle.variant_table.specs.Conditions.{has_source_in}
-use Rattle.variant_table.specs.Held.{entries_of, IsHeld}
-use Rattle.variant_table.specs.Reading.{entry_from}
-use Rattle.variant_table.proofs.DraftLemmas.{on_err}
-use Rattle.variant_table.proofs.EntryLemmas.{source-first, entries_of-push}
-use Rattle.variant_table.proofs.IndexLemmas.{is_source, lookup-other}
-use Rattle.variant_table.proofs.RowLemmas.{held-longer, held-same, held-push, entries_of-longer}
+use Rattle.variant_table.specs.Entries.{Entry}
+use Rattle.variant_table.specs.Order.{IsPlaceFor, IsOrderOf, IsGapFor}
+use Rattle.variant_table.specs.Reading.{entry_from, with_new_source}
+use Rattle.variant_table.proofs.EntryLemmas.{source-first}
+use Rattle.variant_table.proofs.OrderLemmas.{known-at, new-gap, order-pushed}
 use Rattle.variant_table.proofs.rows.Rows.push.Goals as goal
 
-pub invariant_of-self : goal.invariant_of-self
-invariant_of-self c = held-longer c.self.inside.sequences c.append.new.self c.in_err-append.ensures.kept c.self.inside.entries.items c.self.inside.index c.self.invariant
-
-pub returns-in_err-append-clause-err : goal.returns-in_err-append-clause-err
-returns-in_err-append-clause-err c =
-    on_err c.from_residual-in_err-append.result _ (entries_of-longer c.self.inside.sequences c.append.new.self c.in_err-append.ensures.kept c.self.inside.entries.items c.self.invariant.below ∙ c.self.view_is)
-
-pub invariant_of-self-in_err-reserve : goal.invariant_of-self-in_err-reserve
-invariant_of-self-in_err-reserve c =
-    held-same c.append.new.self c.self.inside.entries.items c.reserve.new.self.items c.self.inside.index c.self.inside.index c.in_err-reserve.ensures.items refl
-    (held-longer c.self.inside.sequences c.append.new.self c.in_ok-append.ensures.kept c.self.inside.entries.items c.self.inside.index c.self.invariant)
-
-pub returns-in_err-reserve-clause-err : goal.returns-in_err-reserve-clause-err
-returns-in_err-reserve-clause-err c =
-    on_err c.from_residual-in_err-reserve.result _ (ap (entries_of c.append.new.self) c.in_err-reserve.ensures.items
-    ∙ entries_of-longer c.self.inside.sequences c.append.new.self c.in_ok-append.ensures.kept c.self.inside.entries.items c.self.invariant.below ∙ c.self.view_is)
-
-pub invariant_of-self-in_err-insert : goal.invariant_of-self-in_err-insert
-invariant_of-self-in_err-insert c =
-    held-same c.append.new.self c.self.inside.entries.items c.reserve.new.self.items c.self.inside.index c.insert.new.self c.in_ok-reserve.ensures.items c.in_err-insert.ensures.err
-    (held-longer c.self.inside.sequences c.append.new.self c.in_ok-append.ensures.kept c.self.inside.entries.items c.self.inside.index c.self.invariant)
-
-pub returns-in_err-insert-clause-err : goal.returns-in_err-insert-clause-err
-returns-in_err-insert-clause-err c =
-    on_err c.from_residual-in_err-insert.result _ (ap (entries_of c.append.new.self) c.in_ok-reserve.ensures.items
-    ∙ entries_of-longer c.self.inside.sequences c.append.new.self c.in_ok-append.ensures.kept c.self.inside.entries.items c.self.invariant.below ∙ c.self.view_is)
+pub returns-in_default-clause-read : goal.returns-in_default-clause-read
+returns-in_default-clause-read c =
+    let table : List Entry = c.self.inside.entries in
+    let order : List ℕ = c.self.inside.order.items in
+    let e : Entry = entry_from c.args.sequences.now in
+    let found = subst (λ o. IsPlaceFor table o c.get.result.now (Found c.in_default.field-0)) c.deref.ensures.value c.in_default.ensures in
+    let known : has_source_in table e ≡ true = known-at table order c.in_default.field-0 e c.self.invariant found.0 (found.1 ∙ sym (source-first c.args.sequences.now c.get.result.now c.get.ensures)) in
+    (refl, ap (λ t. with_new_source t e) (sym c.self.view_is) ∙ ap (λ b. cond b (Err SameSource) (Ok (table ++ e ∷ []))) known)
 
 pub invariant_of-self-2 : goal.invariant_of-self-2
 invariant_of-self-2 c =
-    let ss : List (List ℕ) = c.self.inside.sequences in
-    let more : List (List ℕ) = c.args.sequences.now in
-    let spans : List Span = c.self.inside.entries.items in
-    let source : List ℕ = c.in_ok-source.source.items in
-    let span : Span = record { start = c.len-start.result; end = c.len-end.result } in
-    let begins : c.len-start.result ≡ length ss = c.len-start.ensures in
-    let ends : c.len-end.result ≡ length ss + length more = c.len-end.ensures ∙ ap length c.in_ok-append.ensures.ok ∙ length-append ss more in
-    let count : c.len.result ≡ length spans = omega (arith, c.len.ensures, c.in_ok-reserve.ensures.len, c.self.inside.entries.ok) in
-    let pushed : c.push.new.self.items ≡ spans ++ span ∷ [] =
-    c.push.ensures.items ∙ ap (λ r. cond (is_ok r) (c.reserve.new.self.items ++ span ∷ []) c.reserve.new.self.items) c.unwrap.ensures ∙ ap (λ xs. xs ++ span ∷ []) c.in_ok-reserve.ensures.items in
-    let is : (entry_from more).source ≡ source = source-first more c.get.result.now c.get.ensures ∙ sym c.in_ok-source.ensures.items in
-    let fresh : has_source_in (entries_of ss spans) (entry_from more) ≡ false = ap (λ t. has_source_in t (entry_from more)) c.self.view_is ∙ c.requires.fresh in
-    let held : IsHeld (ss ++ more) (spans ++ span ∷ []) c.insert.new.self =
-    held-push ss more spans c.self.inside.index c.insert.new.self c.len-start.result c.len-end.result source c.self.invariant begins ends c.requires.some fresh is
-    (λ s h. ap (lookup (is_source s)) c.in_ok-insert.ensures.entries ∙ lookup-other s c.in_ok-source.source c.len.result c.self.inside.index.entries h)
-    (c.in_ok-insert.ensures.updates.1 ∙ ap (λ n. Some n) count) in
-    subst (λ x. IsHeld x c.push.new.self.items c.insert.new.self) (sym c.in_ok-append.ensures.ok)
-    (subst (λ y. IsHeld (ss ++ more) y c.insert.new.self) (sym pushed) held)
+    let table : List Entry = c.self.inside.entries in
+    let order : List ℕ = c.self.inside.order.items in
+    let place : ℕ = c.in-Absent.place in
+    let e : Entry = entry_from c.args.sequences.now in
+    let gap : IsGapFor table order e.source place =
+    subst (λ s. IsGapFor table order s place) (sym (source-first c.args.sequences.now c.get.result.now c.get.ensures))
+    (subst (λ o. IsPlaceFor table o c.get.result.now (Absent place)) c.deref.ensures.value c.in-Absent.ensures) in
+    let inserted : c.insert.new.self.items ≡ insert order place (length table) =
+    c.insert.ensures.items ∙ ap (λ r. cond (is_ok r) (insert c.reserve.new.self.items place c.len-entry.result) c.reserve.new.self.items) c.unwrap.ensures
+    ∙ ap (λ xs. insert xs place c.len-entry.result) c.in_ok-reserve.ensures.items ∙ ap (insert order place) c.len-entry.ensures in
+    subst (λ t. IsOrderOf t c.insert.new.self.items) (sym c.in_ok-push.ensures.ok)
+    (subst (IsOrderOf (table ++ e ∷ [])) (sym inserted) (order-pushed table order e place c.self.invariant gap))
 
-pub returns-clause-ok : goal.returns-clause-ok
-returns-clause-ok c =
-    let ss : List (List ℕ) = c.self.inside.sequences in
-    let more : List (List ℕ) = c.args.sequences.now in
-    let spans : List Span = c.self.inside.entries.items in
-    let span : Span = record { start = c.len-start.result; end = c.len-end.result } in
-    let begins : c.len-start.result ≡ length ss = c.len-start.ensures in
-    let ends : c.len-end.result ≡ length ss + length more = c.len-end.ensures ∙ ap length c.in_ok-append.ensures.ok ∙ length-append ss more in
-    let pushed : c.push.new.self.items ≡ spans ++ span ∷ [] =
-    c.push.ensures.items ∙ ap (λ r. cond (is_ok r) (c.reserve.new.self.items ++ span ∷ []) c.reserve.new.self.items) c.unwrap.ensures ∙ ap (λ xs. xs ++ span ∷ []) c.in_ok-reserve.ensures.items in
-    ap (λ x. entries_of x c.push.new.self.items) c.in_ok-append.ensures.ok ∙ ap (entries_of (ss ++ more)) pushed
-    ∙ entries_of-push ss more spans c.len-start.result c.len-end.result c.self.invariant.below begins ends
-    ∙ ap (λ t. t ++ entry_from more ∷ []) c.self.view_is
+pub returns-clause-read : goal.returns-clause-read
+returns-clause-read c =
+    let table : List Entry = c.self.inside.entries in
+    let order : List ℕ = c.self.inside.order.items in
+    let place : ℕ = c.in-Absent.place in
+    let e : Entry = entry_from c.args.sequences.now in
+    let gap : IsGapFor table order e.source place =
+    subst (λ s. IsGapFor table order s place) (sym (source-first c.args.sequences.now c.get.result.now c.get.ensures))
+    (subst (λ o. IsPlaceFor table o c.get.result.now (Absent place)) c.deref.ensures.value c.in-Absent.ensures) in
+    ap (λ t. with_new_source t e) (sym c.self.view_is) ∙ ap (λ b. cond b (Err SameSource) (Ok (table ++ e ∷ []))) (new-gap table order place e c.self.invariant gap)
+    ∙ ap (λ t. Ok t) (sym c.in_ok-push.ensures.ok)

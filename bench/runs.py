@@ -1,0 +1,102 @@
+"""Runs of programs: what they write, how long they take, and what memory they hold at most."""
+
+import dataclasses
+import os
+import re
+import shutil
+import statistics
+import subprocess
+import time
+
+ENVIRONMENT = {"LC_ALL": "C.UTF-8", "PATH": "/usr/bin:/bin"}
+# A listing that holds all labels in memory is to fail, and not to take that of the machine.
+MEMORY_LIMIT_KIB = 1 << 20
+SECONDS_LIMIT = 120
+
+
+@dataclasses.dataclass
+class Taken:
+    """Seconds of the clock, and of the processor in the program and for it in the kernel."""
+
+    wall: float
+    processor: float
+
+
+class Failed(Exception):
+    """A run that did not end as it was to."""
+
+
+class Run:
+    """A program with its words, and the file that it reads."""
+
+    def __init__(self, program, words, source):
+        self.command, self.source = [str(program), *words], source
+
+    def __str__(self):
+        return f"{' '.join(self.command)} < {self.source.name}"
+
+    def output(self):
+        with self.source.open("rb") as source:
+            done = subprocess.run(self.command, stdin=source, capture_output=True, env=ENVIRONMENT)
+        if done.returncode != 0 or done.stderr:
+            raise Failed(f"{self}: status {done.returncode}, {done.stderr.decode(errors='replace').strip()}")
+        return done.stdout.decode("utf-8")
+
+    def taken(self):
+        """One run, begun by posix_spawn, so that nothing of this process is copied."""
+        actions = [
+            (os.POSIX_SPAWN_OPEN, 0, str(self.source), os.O_RDONLY, 0),
+            (os.POSIX_SPAWN_OPEN, 1, os.devnull, os.O_WRONLY, 0),
+        ]
+        start = time.perf_counter()
+        process = os.posix_spawn(self.command[0], self.command, ENVIRONMENT, file_actions=actions)
+        _, status, usage = os.wait4(process, 0)
+        wall = time.perf_counter() - start
+        if status != 0:
+            raise Failed(f"{self}: status {os.waitstatus_to_exitcode(status)}")
+        return Taken(wall, usage.ru_utime + usage.ru_stime)
+
+    def kibibytes(self, gnu_time):
+        """The peak of resident memory. GNU time starts the program, since it is small itself."""
+        limited = ["sh", "-c", f'ulimit -v {MEMORY_LIMIT_KIB}; exec "$@"', "sh", gnu_time, "-f", "%M", *self.command]
+        with self.source.open("rb") as source:
+            done = subprocess.run(limited, stdin=source, stdout=subprocess.DEVNULL, stderr=subprocess.PIPE,
+                                  env=ENVIRONMENT, timeout=SECONDS_LIMIT)
+        if done.returncode != 0:
+            raise Failed(f"status {done.returncode}, of at most {MEMORY_LIMIT_KIB >> 10:,} MiB")
+        return int(done.stderr.split()[-1])
+
+    def instructions(self, lines):
+        """The instructions that callgrind counts for the first lines."""
+        with self.source.open("rb") as source:
+            first = b"".join(line for line, _ in zip(source, range(lines)))
+        words = ["valgrind", "--tool=callgrind", "--callgrind-out-file=/dev/null", *self.command]
+        done = subprocess.run(words, input=first, stdout=subprocess.DEVNULL, stderr=subprocess.PIPE, env=ENVIRONMENT)
+        if done.returncode != 0:
+            raise Failed(f"{self} under callgrind: status {done.returncode}")
+        return int(re.search(rb"Collected : (\d+)", done.stderr)[1])
+
+    def instructions_a_line(self, lines, counted):
+        """The same over `counted` lines of output, less those of the start."""
+        return (self.instructions(lines) - self.instructions(0)) / counted
+
+
+def in_turn(runs, rounds):
+    """What each run takes: the medians of all rounds, in each of which all run in turn."""
+    rounds_of_each = [[] for _ in runs]
+    for _ in range(rounds):
+        for run, taken in zip(runs, rounds_of_each):
+            taken.append(run.taken())
+    return [
+        Taken(statistics.median(one.wall for one in taken), statistics.median(one.processor for one in taken))
+        for taken in rounds_of_each
+    ]
+
+
+def found(program):
+    return shutil.which(program, path="/usr/bin:/bin:/usr/local/bin")
+
+
+def version(program):
+    done = subprocess.run([program, "--version"], capture_output=True, text=True, env=ENVIRONMENT, check=True)
+    return done.stdout.split("\n")[0]

@@ -1,0 +1,103 @@
+//! Decoding of names, which gives the same by octets as by code points. The texts are what libidn2's `idn2 -d` prints,
+//! but for capitals behind a prefix, which it keeps and this program puts into lower case. The codes of refused labels
+//! are those of Python's codec of Punycode.
+use crate::a_labels_of_others::{LIBIDN2, RFC_3492};
+use crate::label_calls::{letters, points_of};
+use arrayvec::ArrayVec;
+use idn_label::{decode_ascii, decode_name};
+use idn_text::Refusal;
+use std::alloc::Global;
+use std::process::Abort;
+use std::test::Fail;
+
+const CASES: [(&str, Result<&str, Refusal>); 28] = [
+    ("xn--fiqs8s.example", Ok("中国.example")),
+    ("www.xn--fa-hia.xn--fiqs8s", Ok("www.faß.中国")),
+    ("xn--fa-hia.", Ok("faß.")),
+    ("example.com.", Ok("example.com.")),
+    ("a..xn--fa-hia", Ok("a..faß")),
+    (".xn--fa-hia", Ok(".faß")),
+    (".", Ok(".")),
+    ("", Ok("")),
+    ("XN--FA-HIA.de", Ok("faß.de")),
+    ("XN--fa-hia.de", Ok("faß.de")),
+    ("Xn--FA-HIA.DE", Ok("faß.DE")),
+    ("xN--FIQS8S", Ok("中国")),
+    ("www.Example-1.COM", Ok("www.Example-1.COM")),
+    ("Fa..A_b.", Ok("Fa..A_b.")),
+    ("xn-.axn--b._a", Ok("xn-.axn--b._a")),
+    // The mark may compose with other letters than the one before it.
+    ("xn--q-xbb.de", Ok("q\u{301}.de")),
+    ("xn--11b2f", Ok("\u{915}\u{93C}")),
+    ("xn--", Err(Refusal::BadALabel)),
+    ("XN--.de", Err(Refusal::BadALabel)),
+    ("xn--abc-", Err(Refusal::BadALabel)),
+    ("a.XN--ABC-.de", Err(Refusal::BadALabel)),
+    ("xn--99999999", Err(Refusal::BadALabel)),
+    ("xn--a", Err(Refusal::Disallowed)),
+    ("a.xn--a.xn--", Err(Refusal::Disallowed)),
+    ("a.xn--.xn--a", Err(Refusal::BadALabel)),
+    ("xn--a-xbb", Err(Refusal::NotNfc)),
+    ("xn--l2b4b", Err(Refusal::NotNfc)),
+    (
+        "xn--aaaaaaaaaaaaaaaaaaaaaaaaaaaaaaaaaaaaaaaaaaaaaaaaaaaaaaaa-lqe",
+        Err(Refusal::LabelTooLong),
+    ),
+];
+
+/// By code points and by octets.
+fn decodes(
+    rt: &impl Abort,
+    alloc: Global,
+    name: &str,
+    expected: Result<&str, Refusal>,
+) -> Result<(), Fail> {
+    let points = points_of(name)?;
+    let decoded = decode_name(alloc, &points);
+    match (&decoded, expected) {
+        (Ok(decoded), Ok(text)) => {
+            assert_eq!(rt; decoded.as_slice(), points_of(text)?.as_slice(), "{name}");
+        }
+        _ => assert_eq!(rt; decoded.err(), expected.err(), "{name}"),
+    }
+    let mut text: ArrayVec<u8, 4096> = ArrayVec::new();
+    if name.is_ascii() && name.len() <= 1024 {
+        match (decode_ascii(alloc, name.as_bytes(), &mut text), expected) {
+            (Ok(()), Ok(expected)) => {
+                assert_eq!(rt; text.as_slice(), expected.as_bytes(), "{name}");
+            }
+            (answer, _) => assert_eq!(rt; answer.err(), expected.err(), "{name}"),
+        }
+    }
+    Ok(())
+}
+
+#[test]
+fn a_labels_of_many_scripts_are_decoded(rt: HostRuntime) -> Result<(), Fail> {
+    for (label, a_label) in RFC_3492.iter().chain(LIBIDN2.iter()) {
+        decodes(&rt, rt.alloc(), a_label, Ok(*label))?;
+    }
+    Ok(())
+}
+
+#[test]
+fn names_are_decoded_or_refused(rt: HostRuntime) -> Result<(), Fail> {
+    for (name, expected) in CASES.iter() {
+        decodes(&rt, rt.alloc(), name, *expected)?;
+    }
+    Ok(())
+}
+
+#[test]
+fn other_labels_stay(rt: HostRuntime) -> Result<(), Fail> {
+    decodes(&rt, rt.alloc(), "Faß..A_b.", Ok("Faß..A_b."))?;
+    let ascii = letters(rt.alloc(), 64, ".de")?;
+    decodes(&rt, rt.alloc(), &ascii, Ok(ascii.as_str()))
+}
+
+#[test]
+fn the_longest_a_label_is_decoded(rt: HostRuntime) -> Result<(), Fail> {
+    let longest = "xn--aaaaaaaaaaaaaaaaaaaaaaaaaaaaaaaaaaaaaaaaaaaaaaaaaaaaaaa-une";
+    let label = letters(rt.alloc(), 55, "ß")?;
+    decodes(&rt, rt.alloc(), longest, Ok(label.as_str()))
+}

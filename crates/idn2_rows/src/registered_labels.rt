@@ -1,0 +1,102 @@
+//! Labels that are registered, and the first faults of others. The A-labels come from elsewhere, the faults from the
+//! sections of RFC 5891, RFC 5892 and RFC 5893.
+use crate::a_labels_of_others::{LIBIDN2, RFC_3492};
+use crate::label_calls::{letters, points_of, told};
+use idn_label::{register, test_label};
+use idn_text::Refusal;
+use std::test::Fail;
+
+const CASES: [(&str, Result<&str, Refusal>); 37] = [
+    ("faß", Ok("xn--fa-hia")),
+    ("xn--fa-hia", Ok("xn--fa-hia")),
+    ("abc", Ok("abc")),
+    ("Faß", Err(Refusal::Disallowed)),
+    ("l·l", Ok("xn--ll-0ea")),
+    ("a·l", Err(Refusal::ContextO)),
+    ("نامه\u{200C}ای", Ok("xn--mgba3gch31f060k")),
+    ("a\u{200C}b", Err(Refusal::ContextJ)),
+    ("", Err(Refusal::Empty)),
+    ("\u{50000}", Err(Refusal::Unassigned)),
+    ("a\u{301}", Err(Refusal::NotNfc)),
+    ("ab--c", Err(Refusal::Hyphen)),
+    ("a-", Err(Refusal::Hyphen)),
+    ("-ß", Err(Refusal::Hyphen)),
+    ("ß-", Err(Refusal::Hyphen)),
+    ("ab--ß", Err(Refusal::Hyphen)),
+    ("\u{301}a", Err(Refusal::LeadingMark)),
+    ("a\u{5D0}", Err(Refusal::Bidi)),
+    ("\u{5D0}a", Err(Refusal::Bidi)),
+    ("a.b", Err(Refusal::Disallowed)),
+    ("straße", Ok("xn--strae-oqa")),
+    ("sß", Ok("xn--s-qfa")),
+    ("ßs", Ok("xn--s-pfa")),
+    ("q\u{301}", Ok("xn--q-xbb")),
+    ("\u{5D0}\u{5D1}", Ok("xn--4dbc")),
+    ("\u{627}\u{660}\u{660}", Ok("xn--mgb8ia")),
+    ("\u{627}\u{6F0}\u{6F0}", Ok("xn--mgb61ba")),
+    ("\u{627}\u{660}\u{6F0}", Err(Refusal::ContextO)),
+    ("xn--a", Err(Refusal::Disallowed)),
+    ("xn--abc-", Err(Refusal::BadALabel)),
+    ("xn--", Err(Refusal::BadALabel)),
+    ("xn---", Err(Refusal::BadALabel)),
+    ("xn----", Err(Refusal::Hyphen)),
+    ("xn--ü", Err(Refusal::BadALabel)),
+    ("xn--fa-HIA", Err(Refusal::BadALabel)),
+    ("xn--FA-hia", Err(Refusal::Disallowed)),
+    ("XN--FA-HIA", Err(Refusal::Disallowed)),
+];
+
+/// How many letters a stand before the other text, and the first fault.
+const LONG: [(usize, &str, Result<&str, Refusal>); 6] = [
+    (
+        63,
+        "",
+        Ok("aaaaaaaaaaaaaaaaaaaaaaaaaaaaaaaaaaaaaaaaaaaaaaaaaaaaaaaaaaaaaaa"),
+    ),
+    (64, "", Err(Refusal::LabelTooLong)),
+    (
+        55,
+        "ß",
+        Ok("xn--aaaaaaaaaaaaaaaaaaaaaaaaaaaaaaaaaaaaaaaaaaaaaaaaaaaaaaa-une"),
+    ),
+    (56, "ß", Err(Refusal::LabelTooLong)),
+    (63, "ß", Err(Refusal::LabelTooLong)),
+    (64, "ß-", Err(Refusal::Hyphen)),
+];
+
+#[test]
+fn labels_of_many_scripts_have_the_known_a_labels(rt: HostRuntime) -> Result<(), Fail> {
+    for (label, a_label) in RFC_3492.iter().chain(LIBIDN2.iter()) {
+        let tested = test_label(rt.alloc(), &points_of(label)?);
+        assert_eq!(rt; told(&tested), Ok(*a_label), "{label}");
+        let registered = register(rt.alloc(), &points_of(a_label)?);
+        assert_eq!(rt; told(&registered), Ok(*a_label), "{a_label}");
+    }
+    Ok(())
+}
+
+#[test]
+fn the_first_fault_is_told(rt: HostRuntime) -> Result<(), Fail> {
+    for (label, expected) in CASES.iter() {
+        let registered = register(rt.alloc(), &points_of(label)?);
+        assert_eq!(rt; told(&registered), *expected, "{label}");
+    }
+    Ok(())
+}
+
+#[test]
+fn a_long_label_is_told_last(rt: HostRuntime) -> Result<(), Fail> {
+    for (count, last, expected) in LONG.iter() {
+        let label = letters(rt.alloc(), *count, last)?;
+        let registered = register(rt.alloc(), &points_of(&label)?);
+        assert_eq!(rt; told(&registered), *expected, "{label}");
+    }
+    Ok(())
+}
+
+#[test]
+fn a_label_to_be_tested_is_taken_as_it_stands(rt: HostRuntime) -> Result<(), Fail> {
+    let tested = test_label(rt.alloc(), &points_of("xn--s-qfa")?);
+    assert_eq!(rt; told(&tested), Err(Refusal::Hyphen));
+    Ok(())
+}

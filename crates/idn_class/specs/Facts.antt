@@ -1,0 +1,92 @@
+-- What one look-up tells of a code point. A label of which no code point has a fact passes the test that the fact asks for.
+use Rattle.std.specs.Prelude.{◌≡◌, ℕ, Bool, true, false, ◌&&◌, ◌||◌, ◌==◌, not, nat_le}
+use Rattle.std.specs.Int.{bit_at}
+use Rattle.ucd_bidi.specs.declared.BidiClass.{BidiClass as UnicodeBidiClass}
+use Rattle.ucd_bidi.specs.declared.BidiClass.TheVariants.{RightToLeft as UnicodeRightToLeft, ArabicLetter, ArabicNumber}
+use Rattle.ucd_bidi.specs.BidiClass.{bidi_class as unicode_bidi_class}
+use Rattle.ucd_idna_map.specs.declared.IdnaStatus.{IdnaStatus}
+use Rattle.ucd_idna_map.specs.declared.IdnaStatus.TheVariants.{Valid, Deviation}
+use Rattle.ucd_idna_map.specs.IdnaStatus.{idna_status}
+use Rattle.ucd_normal.specs.declared.forms.Form.TheVariants.{Nfc}
+use Rattle.ucd_normal.specs.declared.forms.QuickCheck.{QuickCheck}
+use Rattle.ucd_normal.specs.declared.forms.QuickCheck.TheVariants.{Yes}
+use Rattle.ucd_normal.specs.CanonicalCombiningClass.{canonical_combining_class}
+use Rattle.ucd_normal.specs.QuickCheck.{quick_check}
+use Rattle.idn_class.specs.declared.class.Class.{Class}
+use Rattle.idn_class.specs.declared.class.Class.TheVariants as classes
+use Rattle.idn_class.specs.declared.facts.Fact.{Fact}
+use Rattle.idn_class.specs.declared.facts.Fact.TheVariants.{MayBeBarred, Contextj, Contexto, MayCompose, Mark, RightToLeft, NotKept}
+use Rattle.idn_class.specs.declared.facts.Facts.{Facts}
+use Rattle.idn_class.specs.BidiClass.{bidi_class}
+use Rattle.idn_class.specs.BidiRule.{is_rtl_class}
+use Rattle.idn_class.specs.Class.{class_of, is_left_open}
+use Rattle.idn_class.specs.LeadingMark.{is_mark}
+
+-- DISALLOWED or UNASSIGNED (RFC 5892, section 1)
+abbrev pub is_barred_class : Class → Bool
+is_barred_class classes.Disallowed = true
+is_barred_class classes.Unassigned = true
+is_barred_class _ = false
+
+abbrev pub is_contextj : Class → Bool
+is_contextj classes.Contextj = true
+is_contextj _ = false
+
+abbrev pub is_contexto : Class → Bool
+is_contexto classes.Contexto = true
+is_contexto _ = false
+
+abbrev pub is_yes : QuickCheck → Bool
+is_yes Yes = true
+is_yes _ = false
+
+-- R, AL or AN of Unicode's own Bidi_Class, which UTS 46 asks. The kit's `idna`, on which this crate does not stand, says it so too
+abbrev pub is_unicode_rtl_class : UnicodeBidiClass → Bool
+is_unicode_rtl_class UnicodeRightToLeft = true
+is_unicode_rtl_class ArabicLetter = true
+is_unicode_rtl_class ArabicNumber = true
+is_unicode_rtl_class _ = false
+
+-- UTS 46 maps the code point to itself: a deviation too, where processing is not transitional
+abbrev pub is_kept_status : IdnaStatus → Bool
+is_kept_status Valid = true
+is_kept_status Deviation = true
+is_kept_status _ = false
+
+-- a code point has the fact
+unfoldable pub is_so : Fact → ℕ → Bool
+-- it may not be registered, or no look-up tells whether it may
+is_so MayBeBarred c = is_barred_class (class_of c) || is_left_open c
+-- a joiner, or another code point that needs a context (RFC 5892, appendix A)
+is_so Contextj c = is_contextj (class_of c)
+is_so Contexto c = is_contexto (class_of c)
+-- NFC may change a text that holds it (UAX 15, section 9)
+is_so MayCompose c = not (is_yes (quick_check Nfc c) && (canonical_combining_class c == 0))
+-- it may not begin a label (RFC 5891, section 4.2.3.2)
+is_so Mark c = is_mark c
+-- it makes the Bidi rule apply, by the profile or by Unicode (RFC 5893, section 2)
+is_so RightToLeft c = is_rtl_class (bidi_class c) || is_unicode_rtl_class (unicode_bidi_class c)
+-- UTS 46 maps it to another text, ignores it or disallows it
+is_so NotKept c = not (is_kept_status (idna_status c))
+
+-- the same, and a number past Unicode has each fact
+abbrev pub has_fact : Fact → ℕ → Bool
+has_fact fact c = nat_le 0x11_0000 c || is_so fact c
+
+-- the bit of a fact
+abbrev pub place_of : Fact → ℕ
+place_of MayBeBarred = 0
+place_of Contextj = 1
+place_of Contexto = 2
+place_of MayCompose = 3
+place_of Mark = 4
+place_of RightToLeft = 5
+place_of NotKept = 6
+
+-- a fact is among the facts
+unfoldable pub contains : Facts → Fact → Bool
+contains facts fact = bit_at facts.absent (place_of fact) == 0
+
+-- a code point that causes no fault in a label of its like, but where it is a hyphen: it has no fact
+abbrev pub IsSimple : ℕ → Type 0
+IsSimple c = (fact : Fact) → has_fact fact c ≡ false

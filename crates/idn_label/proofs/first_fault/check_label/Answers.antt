@@ -1,0 +1,46 @@
+use Rattle.std.proofs.Common.{◌≡◌, None, sym, ◌∙◌}
+use Rattle.std.proofs.lemmas.Result.{err_from_is_err_and, on_ok_weaker, MatchResult-weaker}
+use Rattle.idn_class.specs.declared.facts.Fact.TheVariants.{MayBeBarred}
+use Rattle.idn_label.specs.FirstFault.{code_point_fault}
+use Rattle.idn_label.proofs.FaultLemmas.{permitted_scalars, code_point_fault-lacks, fault_but_length-empty, fault_but_length-points, fault_but_length-rules}
+use Rattle.idn_label.proofs.first_fault.check_label.Goals as goal
+use Rattle.idn_label.proofs.first_fault.check_label.Goals.{then-contains+in_ok-check_code_points, else-contains}
+
+pub returns-then-is_empty-clause-fault : goal.returns-then-is_empty-clause-fault
+returns-then-is_empty-clause-fault c = λ _. fault_but_length-empty c.args.label.now (sym c.if-is_empty.ensures)
+
+pub returns-in_err-check_code_points-clause-fault : goal.returns-in_err-check_code_points-clause-fault
+returns-in_err-check_code_points-clause-fault c =
+    let p = err_from_is_err_and c.from_residual.result c.from_residual.ensures.1 in
+    rw (p.1, p.2) (λ other. fault_but_length-points c.args.label.now _ (sym c.if-is_empty.ensures) (c.in_err-check_code_points.ensures.fault other))
+
+pub check_rules-requires-clause-scalars : goal.check_rules-requires-clause-scalars
+check_rules-requires-clause-scalars c =
+    let label = c.args.label.now in
+    let points : code_point_fault label ≡ None =
+    elim c.if-contains.branch as (λ _. code_point_fault label ≡ None) [
+      | then-contains+in_ok-check_code_points w ↦ w.in_ok-check_code_points.ensures.passes
+      | else-contains w ↦ code_point_fault-lacks label (sym (c.of_label-facts.ensures MayBeBarred) ∙ sym w.if-contains.ensures)
+    ] in
+    permitted_scalars label points
+
+pub returns-clause-passes : goal.returns-clause-passes
+returns-clause-passes c =
+    let label = c.args.label.now in
+    let points : code_point_fault label ≡ None =
+    elim c.if-contains.branch as (λ _. code_point_fault label ≡ None) [
+      | then-contains+in_ok-check_code_points w ↦ w.in_ok-check_code_points.ensures.passes
+      | else-contains w ↦ code_point_fault-lacks label (sym (c.of_label-facts.ensures MayBeBarred) ∙ sym w.if-contains.ensures)
+    ] in
+    on_ok_weaker c.check_rules.result (λ passes. fault_but_length-rules label (sym c.if-is_empty.ensures) points ∙ passes) c.check_rules.ensures.passes
+
+pub returns-clause-fault : goal.returns-clause-fault
+returns-clause-fault c =
+    let label = c.args.label.now in
+    let points : code_point_fault label ≡ None =
+    elim c.if-contains.branch as (λ _. code_point_fault label ≡ None) [
+      | then-contains+in_ok-check_code_points w ↦ w.in_ok-check_code_points.ensures.passes
+      | else-contains w ↦ code_point_fault-lacks label (sym (c.of_label-facts.ensures MayBeBarred) ∙ sym w.if-contains.ensures)
+    ] in
+    MatchResult-weaker c.check_rules.result c.check_rules.ensures.fault (λ _ t. t)
+    (λ refusal told other. fault_but_length-rules label (sym c.if-is_empty.ensures) points ∙ told other)

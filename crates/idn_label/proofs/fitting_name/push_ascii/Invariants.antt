@@ -1,5 +1,0 @@
-use Rattle.std.proofs.Common.{◌≡◌, ◌++◌, take}
-use Rattle.idn_label.proofs.fitting_name.push_ascii.Given as goal
-
-abbrev pub invariant-loop-c : goal.invariant-loop-c
-invariant-loop-c g l = l.query.items ≡ l.initial.query.items ++ take l.c-index l.label

@@ -1,0 +1,51 @@
+//! Lookup of any name, by all of UTS 46.
+ghost use Rattle.std.specs.Prelude.{◌≡◌, ◌≢◌, ◌≤◌, length, Some, Err, OnOk};
+ghost use Rattle.arrayvec.specs.ArrayVec.{array_vec_len};
+ghost use Rattle.idna.specs.Display.{IsPlain};
+ghost use Rattle.idna.specs.declared.options.Hyphens.TheVariants.{Allow};
+ghost use Rattle.idn_label.specs.Answers.{Gives};
+ghost use Rattle.idn_label.specs.Lookup.{deny_list, query_name};
+
+use crate::query::lengths::verify;
+use arrayvec::ArrayVec;
+use idn_text::Refusal;
+use idna::{AsciiDenyList, Errors, domain_to_ascii_cow};
+use std::alloc::Global;
+
+/// Leaves in `query` what `lookup_utf8` answers.
+// It is long, and most names do not come here.
+#[inline(never)]
+pub(crate) fn full_lookup<const N: usize>(
+    alloc: Global,
+    name: &[u8],
+    std3: bool,
+    query: &mut ArrayVec<u8, N>,
+) -> Result<(), Refusal>
+    requires { 254 ≤ N }
+    ensures answer { Gives (λ _. query.new.items) result (query_name name.now std3) }
+    ensures short { OnOk result (array_vec_len query.new ≤ 254) }
+    ensures plain { IsPlain (deny_list std3) Allow name.now → result ≢ Err Refusal.Memory }
+{
+    let ascii = match domain_to_ascii_cow(alloc, name, deny_list(std3)) {
+        Ok(ascii) => ascii,
+        Err(Errors::Invalid) => return Err(Refusal::LookupInvalid),
+        Err(Errors::OutOfMemory) => return Err(Refusal::Memory),
+    };
+    let octets = ascii.as_str().as_bytes();
+    verify(octets)?;
+    query.clear();
+    let Ok(()) = query.try_extend_from_slice(octets) else {
+        unreachable!()
+    };
+    Ok(())
+}
+
+fn deny_list(std3: bool) -> AsciiDenyList
+    ensures { result ≡ deny_list std3 }
+{
+    if std3 {
+        AsciiDenyList::STD3
+    } else {
+        AsciiDenyList::EMPTY
+    }
+}

@@ -1,0 +1,141 @@
+//! What octets, numbers and characters share, as the code points of a label.
+ghost use Rattle.std.specs.Prelude.{◌≡◌, ℕ, List, map, slice_index};
+ghost use Rattle.std.specs.Char.{to_ascii_lowercase};
+ghost use Rattle.std.proofs.Common.{map-id, sym};
+ghost use Rattle.idna.specs.Validity.{is_all_ascii, has_ace_prefix, has_hyphens_third_and_fourth};
+ghost use Rattle.idn_label.specs.FirstFault.{has_hyphen_out_of_place};
+
+const HYPHEN: u32 = 0x2D;
+
+/// A code point of a label as it is held: an octet of ASCII, a number, or a character.
+pub(crate) trait Unit: Copy {
+    ghost code: { Self → ℕ };
+
+    /// The code points of a text of such units.
+    ghost codes: { List Self → List ℕ };
+
+    fn code_point(self) -> u32
+        ensures { result ≡ code self };
+
+    ghost codes_are: { (units : List Self) → codes units ≡ map code units };
+}
+
+impl Unit for u8 {
+    ghost code = { λ octet. octet };
+
+    ghost codes = { λ octets. octets };
+
+    ghost codes_are = { λ octets. sym (map-id octets) };
+
+    #[inline]
+    fn code_point(self) -> u32 {
+        u32::from(self)
+    }
+}
+
+impl Unit for u32 {
+    ghost code = { λ number. number };
+
+    ghost codes = { λ numbers. numbers };
+
+    ghost codes_are = { λ numbers. sym (map-id numbers) };
+
+    #[inline]
+    fn code_point(self) -> u32 {
+        self
+    }
+}
+
+impl Unit for char {
+    ghost code = { λ character. character };
+
+    ghost codes = { λ characters. characters };
+
+    ghost codes_are = { λ characters. sym (map-id characters) };
+
+    #[inline]
+    fn code_point(self) -> u32 {
+        self as u32
+    }
+}
+
+/// The code point at a place, or 0 past the end.
+#[inline]
+fn code_point_at<U: Unit>(label: &[U], place: usize) -> u32
+    ensures { result ≡ slice_index (U.codes label.now) place }
+{
+    if place < label.len() {
+        label[place].code_point()
+    } else {
+        0
+    }
+}
+
+/// Whether each code point is ASCII.
+#[inline]
+pub(crate) fn is_all_ascii<U: Unit>(label: &[U]) -> bool
+    ensures { result ≡ is_all_ascii (U.codes label.now) }
+{
+    for unit in label {
+        if unit.code_point() >= 128 {
+            return false;
+        }
+    }
+    true
+}
+
+/// Whether a label begins with `xn--` (RFC 5890 section 2.3.2.5).
+#[inline]
+pub(crate) fn has_ace_prefix<U: Unit>(label: &[U]) -> bool
+    ensures { result ≡ has_ace_prefix (U.codes label.now) }
+{
+    has_hyphens_third_and_fourth(label)
+        & (code_point_at(label, 0) == 'x' as u32)
+        & (code_point_at(label, 1) == 'n' as u32)
+}
+
+/// The same in any ASCII case.
+#[inline]
+pub(crate) fn has_ace_prefix_in_any_case<U: Unit>(label: &[U]) -> bool
+    ensures { result ≡ has_ace_prefix (map to_ascii_lowercase (U.codes label.now)) }
+{
+    (lowercase_at(label, 2) == HYPHEN)
+        & (lowercase_at(label, 3) == HYPHEN)
+        & (lowercase_at(label, 0) == 'x' as u32)
+        & (lowercase_at(label, 1) == 'n' as u32)
+}
+
+/// The code point at a place in lower case, or 0 past the end.
+#[inline]
+fn lowercase_at<U: Unit>(label: &[U], place: usize) -> u32
+    ensures { result ≡ slice_index (map to_ascii_lowercase (U.codes label.now)) place }
+{
+    to_lowercase(code_point_at(label, place))
+}
+
+#[inline]
+fn to_lowercase(c: u32) -> u32
+    ensures { result ≡ to_ascii_lowercase c }
+{
+    if matches!(c, 0x41..=0x5A) {
+        c + 0x20
+    } else {
+        c
+    }
+}
+
+/// Whether a hyphen stands first, last, or in both the third and the fourth places (RFC 5891 section 4.2.3.1).
+pub(crate) fn has_hyphen_out_of_place<U: Unit>(label: &[U]) -> bool
+    ensures { result ≡ has_hyphen_out_of_place (U.codes label.now) }
+{
+    code_point_at(label, 0) == HYPHEN
+        || code_point_at(label, label.len().saturating_sub(1)) == HYPHEN
+        || has_hyphens_third_and_fourth(label)
+}
+
+#[inline]
+fn has_hyphens_third_and_fourth<U: Unit>(label: &[U]) -> bool
+    ensures { result ≡ has_hyphens_third_and_fourth (U.codes label.now) }
+{
+    code_point_at(label, 2) == HYPHEN && code_point_at(label, 3) == HYPHEN
+}
