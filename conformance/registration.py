@@ -105,6 +105,22 @@ class Registration:
         }
         return next((number for number, is_there in faults.items() if is_there), None)
 
+    def has_hope(self, label):
+        """No beginning of the label is hopeless, nor the whole: some label that begins so might be registered."""
+        return not any(self.is_hopeless([ord(letter) for letter in label[:count]]) for count in range(1, len(label) + 1))
+
+    def is_hopeless(self, points):
+        """A test of the hyphens, of a leading mark or of the Bidi rule has failed, whatever follows."""
+        classes = {self.profile.bidi_class(point) for point in points}
+        begins_right_to_left = self.profile.bidi_class(points[0]) in ("R", "AL")
+        has = lambda first, last: any(first <= point <= last for point in points)
+        return (
+            points[0] == 0x2D or points[2:4] == [0x2D, 0x2D] or self.classes.category.get(points[0]) in ("Mn", "Mc", "Me")
+            or not begins_right_to_left and bool(classes & {"R", "AL", "AN"})
+            or begins_right_to_left and ("L" in classes or {"EN", "AN"} <= classes)
+            or has(0x0660, 0x0669) and has(0x06F0, 0x06F9)
+        )
+
     def passes_context_o(self, points):
         """RFC 5892, appendices A.3 to A.9."""
         has = lambda first, last: any(is_in(((first, last),), point) for point in points)

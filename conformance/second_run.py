@@ -179,7 +179,8 @@ class Run:
         after = sorted(each for each in spelled if each > options.after)
         candidates = [each for each in after if len(each) <= LABEL_LIMIT]
         variants = [each for each in candidates if self.registration.first_fault(self.known(each)) is None]
-        stops = candidates[options.tries - 1:options.tries]
+        tested = [each for each in candidates if self.registration.has_hope(each)]
+        stops = tested[options.tries - 1:options.tries]
         if options.limit is not None:
             stops += variants[options.limit - 1:options.limit]
         if stops:

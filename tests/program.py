@@ -98,7 +98,7 @@ def resumes_where_it_stopped(folder):
         if trailer.startswith(b"#end "):
             break
         stops, start = stops + 1, trailer.split(b" ")[2].decode()
-    assert (lines, stops, trailer) == (whole[:-1], 51, b"#end 1"), (stops, trailer)
+    assert (lines, stops, trailer) == (whole[:-1], 19, b"#end 1"), (stops, trailer)
 
 
 def lists_any_number_of_lines_in_the_memory_of_ten(folder):

@@ -8,6 +8,8 @@ use Rattle.idna.proofs.Computing.{idna}
 use Rattle.idna.specs.Validity.{has_ace_prefix}
 use Rattle.idn_text.specs.declared.refusal.Refusal.{Refusal}
 use Rattle.idn_text.specs.declared.refusal.Refusal.TheVariants.{Empty, Hyphen, LabelTooLong}
+use Rattle.idn_class.specs.Hopeless.{hopeless}
+use Rattle.idn_class.proofs.Computing.{rules}
 use Rattle.idn_label.specs.ALabel.{a_label_of}
 use Rattle.idn_label.specs.FirstFault.{first_of, fault_if, has_hyphen_out_of_place, first_fault}
 use Rattle.idn_label.specs.Register.{register_answer}
@@ -17,10 +19,10 @@ use Rattle.idn_label.proofs.LdhLemmas.{first_fault-ldh}
 use Rattle.variant_table.specs.Entries.{Entry}
 use Rattle.variant_list.specs.Labels.{label_cmp}
 use Rattle.variant_list.specs.Spelled.{spelled}
-use Rattle.variant_list.specs.Variants.{variants, candidates, in_order}
+use Rattle.variant_list.specs.Variants.{variants, in_order}
 use Rattle.variant_list.specs.Examples.{a_or_two, letter_or_hyphen}
 use Rattle.idn2_cli.specs.Settings.{Settings}
-use Rattle.idn2_cli.specs.Answers.{block, block_to, is_registrable, lesser, nth, nth_if_given, one_line}
+use Rattle.idn2_cli.specs.Answers.{block, block_to, is_registrable, lesser, nth, nth_if_given, one_line, tested_after}
 use Rattle.std.specs.Char.{encode_utf8}
 use Rattle.std.specs.Str.{is_utf8, chars}
 use Rattle.idn_text.specs.Lines.{lines_of}
@@ -51,15 +53,15 @@ filter-passes after (v ∷ vs) ldh =
 abbrev ldh_block : Settings → List Entry → List ℕ → List (List ℕ)
 ldh_block o table label =
     let vs = variants passes table label o.after in
-    block_to (lesser (nth_if_given vs o.limit) (nth (candidates table label o.after) o.tries)) vs
+    block_to (lesser (nth_if_given vs o.limit) (nth (tested_after o table label) o.tries)) vs
 
 block-ldh : (o : Settings) (table : List Entry) (label : List ℕ) → AllLdh (in_order (spelled table label)) → block o table label ≡ ldh_block o table label
 block-ldh o table label ldh =
-    ap (λ (vs : List (List ℕ)). block_to (lesser (nth_if_given vs o.limit) (nth (candidates table label o.after) o.tries)) vs)
+    ap (λ (vs : List (List ℕ)). block_to (lesser (nth_if_given vs o.limit) (nth (tested_after o table label) o.tries)) vs)
     (filter-passes o.after (in_order (spelled table label)) ldh)
 
 pub blocks : ExamplesOfBlocks
-unfolding digits a_label_of idna
+unfolding digits a_label_of idna hopeless rules
 blocks = record {
   doubled = block-ldh (listing None 1000000) a_or_two (codes "aa") (refl, (refl, (refl, tt))) ∙ refl;
   limited = block-ldh (listing (Some 2) 1000000) a_or_two (codes "aa") (refl, (refl, (refl, tt))) ∙ refl;

@@ -21,3 +21,4 @@ pub mod Listings
 pub mod SuitLemmas
 pub mod ModeLemmas
 pub mod ExampleLemmas
+pub mod HopeLemmas

@@ -1,22 +1,28 @@
 -- The listing of a label's variants, and the labels in it.
-use Rattle.std.proofs.Common.{◌≡◌, ◌≤◌, ◌+◌, ◌-◌, ℕ, zero, suc, List, [], ◌∷◌, ◌++◌, Bool, true, IsTrue, Option, Some, None, IfSome, All, Contains, map, length, take, drop, refl, sym, ap, subst, ◌∙◌, arith, take-append-drop, length-take}
+use Rattle.std.proofs.Common.{◌≡◌, ◌≤◌, ◌+◌, ◌-◌, ℕ, zero, suc, List, [], ◌∷◌, ◌++◌, ◌&&◌, Bool, true, IsTrue, Option, Some, None, IfSome, All, Contains, map, length, take, drop, refl, sym, ap, subst, ◌∙◌, arith, take-append-drop, length-take}
 use Rattle.std.specs.Option.{is_none}
 use Rattle.std.specs.List.{AllByRecursion, filter, slice_get}
 use Rattle.std.proofs.lemmas.List.Elements.{All-from_recursion, recursion_from_All}
 use Rattle.idn_text.specs.Points.{IsScalarValue, AreScalarValues}
+use Rattle.idn_class.specs.Hopeless.{hopeless}
 use Rattle.idn_label.specs.FirstFault.{first_fault}
+use Rattle.idn_label.proofs.HopeLemmas.{none_hopeless}
 use Rattle.idn_label.proofs.RequirementLemmas.{MeetsRequirements-registrable}
 use Rattle.variant_table.specs.Entries.{Entry, replacements}
 use Rattle.variant_table.specs.WellFormed.{IsWellFormed, IsEntry, IsSequence}
 use Rattle.variant_list.specs.Labels.{IsRising}
 use Rattle.variant_list.specs.Spelling.{JoinsReplacements}
-use Rattle.variant_list.specs.Variants.{candidates, fits_label}
-use Rattle.variant_list.specs.Positions.{Position, candidates_ahead}
+use Rattle.variant_list.specs.Beginnings.{has_hope}
+use Rattle.variant_list.specs.Tested.{tested}
+use Rattle.variant_list.specs.Variants.{fits_label}
+use Rattle.variant_list.specs.Positions.{Position, tested_ahead}
 use Rattle.variant_list.specs.Steps.{last_of, moved_over}
 use Rattle.variant_list.proofs.Members.{Contains-head, Contains-later}
 use Rattle.variant_list.proofs.RecursionLemmas.{spelled-Spells}
 use Rattle.variant_list.proofs.ListedLemmas.{variants-IsListed, variants-behind}
-use Rattle.variant_list.proofs.ListingLemmas.{variants-accepted, variants-cut, fits_label-short}
+use Rattle.variant_list.proofs.ListingLemmas.{fits_label-short}
+use Rattle.variant_list.proofs.TestedLaws.{variants_are_accepted_tested, tested-cut}
+use Rattle.variant_list.proofs.VariantLists.{both}
 use Rattle.idn2_cli.specs.Settings.{Settings, IsCount}
 use Rattle.idn2_cli.specs.Transcript.{Piece, Output, output_lines}
 use Rattle.idn2_cli.specs.Answers.{is_registrable, nth, nth_if_given, lesser, up_to, variant_line, trailer, block_to, block}
@@ -56,18 +62,22 @@ block_lists accepts (Some (suc m)) (suc t) cs last rising limits count =
     ∙ lines_at-walk accepts cs rising last 0 (Some m) t
     ∙ ap (λ (n : ℕ). walk accepts (Some n) 0 last cs (suc t)) (let same : (0 + 1) + m ≡ suc m = omega arith in same)
 
-candidates-rising : (table : List Entry) (label after : List ℕ) → IsRising (candidates table label after)
-candidates-rising table label after = (variants-IsListed fits_label table label after).rising
+-- the test of the labels that a listing tests
+abbrev fits_with_hope : List ℕ → Bool
+fits_with_hope v = fits_label v && has_hope hopeless v
+
+tested-rising : (table : List Entry) (label after : List ℕ) → IsRising (tested hopeless table label after)
+tested-rising table label after = (variants-IsListed fits_with_hope table label after).rising
 
 pub block-walk : (o : Settings) (table : List Entry) (label last : List ℕ) → IfSome o.limit IsCount → IsCount o.tries
-    → block o table label ≡ walk is_registrable o.limit 0 last (candidates table label (take 63 o.after)) o.tries
+    → block o table label ≡ walk is_registrable o.limit 0 last (tested hopeless table label (take 63 o.after)) o.tries
 block-walk o table label last limits count =
-    let cs = candidates table label o.after in
-    ap (λ (vs : List (List ℕ)). block_to (lesser (nth_if_given vs o.limit) (nth cs o.tries)) vs) (variants-accepted is_registrable registrable-short table label o.after)
-    ∙ block_lists is_registrable o.limit o.tries cs last (candidates-rising table label o.after) limits count
-    ∙ ap (λ (ds : List (List ℕ)). walk is_registrable o.limit 0 last ds o.tries) (variants-cut fits_label fits_label-short table label o.after)
+    let cs = tested hopeless table label o.after in
+    ap (λ (vs : List (List ℕ)). block_to (lesser (nth_if_given vs o.limit) (nth cs o.tries)) vs) (variants_are_accepted_tested is_registrable hopeless registrable-short none_hopeless table label o.after)
+    ∙ block_lists is_registrable o.limit o.tries cs last (tested-rising table label o.after) limits count
+    ∙ ap (λ (ds : List (List ℕ)). walk is_registrable o.limit 0 last ds o.tries) (tested-cut hopeless table label o.after)
 
--- ---- candidates can be written
+-- ---- tested labels can be written
 
 -- at most 63 code points, all scalar values
 pub record IsPlain (v : List ℕ) : Type 0 where
@@ -94,12 +104,12 @@ all_members : (P : List ℕ → Type 0) (vs : List (List ℕ)) → ((v : List �
 all_members P [] h = tt
 all_members P (v ∷ vs) h = (h v (Contains-head v vs), all_members P vs (λ w c. h w (Contains-later v vs w c)))
 
-pub candidates-plain : (table : List Entry) → IsWellFormed table → (label after : List ℕ) → AllByRecursion IsPlain (candidates table label after)
-candidates-plain table formed label after = all_members IsPlain (candidates table label after) (λ v c.
-    let is = ((variants-IsListed fits_label table label after).members v).0 c in
+pub tested-plain : (table : List Entry) → IsWellFormed table → (label after : List ℕ) → AllByRecursion IsPlain (tested hopeless table label after)
+tested-plain table formed label after = all_members IsPlain (tested hopeless table label after) (λ v c.
+    let is = ((variants-IsListed fits_with_hope table label after).members v).0 c in
     let spells = (spelled-Spells table label v formed.entries).0 is.spelled in
     record {
-      short = fits_label-short v is.accepted;
+      short = fits_label-short v (both (fits_label v) (has_hope hopeless v) is.accepted).0;
       scalar_values = All-from_recursion IsScalarValue v (joins_scalar table formed spells.0 spells.1.of_table v spells.2);
     })
 
@@ -113,14 +123,14 @@ take_all_of P (suc n) [] all = tt
 take_all_of P (suc n) (x ∷ xs) all = (all.0, take_all_of P n xs all.1)
 
 -- where a cursor comes to can be written, where it was can
-pub moved-plain : (count : ℕ) (p : Position) → IsWellFormed p.net.table → IsPlain p.last → IsPlain (moved_over count p).last
-moved-plain count p formed plain = last_of-plain p.last (take count (candidates_ahead p)) plain (take_all_of IsPlain count (candidates_ahead p) (candidates-plain p.net.table formed p.net.label p.last))
+pub moved-plain : (count : ℕ) (p : Position) → IsWellFormed p.net.table → IsPlain p.last → IsPlain (moved_over hopeless count p).last
+moved-plain count p formed plain = last_of-plain p.last (take count (tested_ahead hopeless p)) plain (take_all_of IsPlain count (tested_ahead hopeless p) (tested-plain p.net.table formed p.net.label p.last))
 
 -- what is ahead of it then
-pub moved-ahead : (count : ℕ) (p : Position) → candidates_ahead (moved_over count p) ≡ drop count (candidates_ahead p)
+pub moved-ahead : (count : ℕ) (p : Position) → tested_ahead hopeless (moved_over hopeless count p) ≡ drop count (tested_ahead hopeless p)
 moved-ahead count p =
-    let cs = candidates_ahead p in
-    variants-behind fits_label p.net.table p.net.label p.last (take count cs) (drop count cs) (sym (take-append-drop count cs))
+    let cs = tested_ahead hopeless p in
+    variants-behind fits_with_hope p.net.table p.net.label p.last (take count cs) (drop count cs) (sym (take-append-drop count cs))
 
 take_scalar : (n : ℕ) (points : List ℕ) → AreScalarValues points → AreScalarValues (take n points)
 take_scalar n points h = All-from_recursion IsScalarValue (take n points) (take_all_of IsScalarValue n points (recursion_from_All IsScalarValue points h))

@@ -8,6 +8,7 @@ use Rattle.std.specs.Fmt.{decimal}
 use Rattle.idn_text.specs.Points.{utf8_of}
 use Rattle.idn_text.specs.declared.refusal.Refusal.{Refusal}
 use Rattle.idn_text.specs.declared.refusal.Refusal.TheVariants.{LineTooLong, NotUtf8, Empty, NotInTable}
+use Rattle.idn_class.specs.Hopeless.{hopeless}
 use Rattle.idn_label.specs.FirstFault.{first_fault}
 use Rattle.idn_label.specs.Register.{register_answer}
 use Rattle.idn_label.specs.Decode.{decode_answer}
@@ -19,7 +20,8 @@ use Rattle.idn2_cli.specs.declared.command_line.mode.Mode.{Mode}
 use Rattle.idn2_cli.specs.declared.command_line.mode.Mode.TheVariants.{Lookup, Register, Decode, Variants, CheckTable}
 use Rattle.idn_label.specs.ALabel.{a_label_of}
 use Rattle.variant_list.specs.Labels.{label_cmp}
-use Rattle.variant_list.specs.Variants.{variants, candidates}
+use Rattle.variant_list.specs.Tested.{tested}
+use Rattle.variant_list.specs.Variants.{variants}
 
 -- ---- the block of a label: a line for each of its variants, and a trailer that says where the listing ends
 
@@ -46,10 +48,15 @@ lesser None b = b
 lesser (Some a) None = Some a
 lesser (Some a) (Some b) = if is_le (label_cmp a b) then Some a else Some b
 
--- the stop of a listing: the limit-th variant or the tries-th candidate, the lesser of those that exist
+-- the labels that a listing tests: those of at most 63 code points that the label spells, after the text of the settings, no
+-- beginning of which is hopeless
+abbrev pub tested_after : Settings → List Entry → List ℕ → List (List ℕ)
+tested_after o table label = tested hopeless table label o.after
+
+-- the stop of a listing: the limit-th variant or the tries-th tested label, the lesser of those that exist
 abbrev pub stop_of : Settings → List Entry → List ℕ → Option (List ℕ)
 stop_of o table label =
-    lesser (nth_if_given (variants_after o table label) o.limit) (nth (candidates table label o.after) o.tries)
+    lesser (nth_if_given (variants_after o table label) o.limit) (nth (tested_after o table label) o.tries)
 
 -- the labels that are not greater than the stop; all of them, if there is no stop
 abbrev pub up_to : Option (List ℕ) → List (List ℕ) → List (List ℕ)

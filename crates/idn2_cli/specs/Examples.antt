@@ -47,11 +47,11 @@ plain_run mode strings =
 abbrev pub listing : Option ℕ → ℕ → Settings
 listing limit tries = record (plain_run Variants []) { file = codes "t"; limit = limit; tries = tries }
 
--- aa spells aa, aaa and aaaa; of the candidates of aaa, the first four have a hyphen first
+-- aa spells aa, aaa and aaaa; of the labels that aaa spells, the four that have a hyphen first are not tested
 pub record ExamplesOfBlocks : Type 0 where
   pub doubled : block (listing None 1000000) a_or_two (codes "aa") ≡ codes "aa\taa" ∷ codes "aaa\taaa" ∷ codes "aaaa\taaaa" ∷ codes "#end 3" ∷ []
   pub limited : block (listing (Some 2) 1000000) a_or_two (codes "aa") ≡ codes "aa\taa" ∷ codes "aaa\taaa" ∷ codes "#stop 2 aaa" ∷ []
-  pub spent : block (listing None 4) letter_or_hyphen (codes "aaa") ≡ codes "#stop 0 -aa" ∷ []
+  pub spent : block (listing None 4) letter_or_hyphen (codes "aaa") ≡ codes "a-a\ta-a" ∷ codes "aaa\taaa" ∷ codes "#stop 2 aaa" ∷ []
 
 -- three lines, of which the second is refused
 abbrev pub three_lines : List ℕ

@@ -13,6 +13,8 @@ mod decoded_names;
 #[cfg(test)]
 mod faults;
 #[cfg(test)]
+mod hopeless;
+#[cfg(test)]
 mod label_calls;
 #[cfg(test)]
 mod label_rules;

@@ -102,9 +102,9 @@ const WHOLE: [Row; 12] = [
     },
 ];
 
-/// Listings with a start, a limit or a number of tries, for each line anew. Under the table `0061|002D` the
-/// candidates of `aaa` are `---`, `--a`, `-a-`, `-aa`, `a--`, `a-a`, `aa-` and `aaa`.
-const BOUNDED: [Row; 18] = [
+/// Listings with a start, a limit or a number of tries, for each line anew. Under the table `0061|002D` the labels
+/// tested of `aaa` are `a--`, `a-a`, `aa-` and `aaa`: the others that it spells begin with a hyphen.
+const BOUNDED: [Row; 22] = [
     Row {
         words: &["--variants", "t", "--limit", "2", "--tries", "2"],
         table: b"0061\n0065\n0072\n0073\n0074\n0073-0073|00DF\n00DF|0073-0073\n",
@@ -186,10 +186,34 @@ const BOUNDED: [Row; 18] = [
         status: 0,
     },
     Row {
+        words: &["--variants", "t", "--tries", "1"],
+        table: b"0061|002D\n",
+        input: b"aaa\n",
+        output: "#stop 0 a--\n",
+        messages: "",
+        status: 0,
+    },
+    Row {
+        words: &["--variants", "t", "--tries", "3"],
+        table: b"0061|002D\n",
+        input: b"aaa\n",
+        output: "a-a\ta-a\n#stop 1 aa-\n",
+        messages: "",
+        status: 0,
+    },
+    Row {
         words: &["--variants", "t", "--tries", "4"],
         table: b"0061|002D\n",
         input: b"aaa\n",
-        output: "#stop 0 -aa\n",
+        output: "a-a\ta-a\naaa\taaa\n#stop 2 aaa\n",
+        messages: "",
+        status: 0,
+    },
+    Row {
+        words: &["--variants", "t", "--limit", "1", "--tries", "1"],
+        table: b"0061|002D\n",
+        input: b"aaa\n",
+        output: "#stop 0 a--\n",
         messages: "",
         status: 0,
     },
@@ -213,7 +237,7 @@ const BOUNDED: [Row; 18] = [
         words: &["--variants", "t", "--limit", "1", "--tries", "5"],
         table: b"0061|002D\n",
         input: b"aaa\n",
-        output: "#stop 0 a--\n",
+        output: "a-a\ta-a\n#stop 1 a-a\n",
         messages: "",
         status: 0,
     },
@@ -226,10 +250,10 @@ const BOUNDED: [Row; 18] = [
         status: 0,
     },
     Row {
-        words: &["--variants", "t", "--tries", "8"],
+        words: &["--variants", "t", "--tries", "5"],
         table: b"0061|002D\n",
         input: b"aaa\n",
-        output: "a-a\ta-a\naaa\taaa\n#stop 2 aaa\n",
+        output: "a-a\ta-a\naaa\taaa\n#end 2\n",
         messages: "",
         status: 0,
     },
@@ -238,6 +262,15 @@ const BOUNDED: [Row; 18] = [
         table: b"0061|002D\n",
         input: b"aaa\n",
         output: "a-a\ta-a\naaa\taaa\n#end 2\n",
+        messages: "",
+        status: 0,
+    },
+    // Of 2 to the power of 63 labels most begin with a hyphen, or have two in the third and fourth place.
+    Row {
+        words: &["--variants", "t", "--limit", "1", "--tries", "2"],
+        table: b"0061|002D\n",
+        input: b"aaaaaaaaaaaaaaaaaaaaaaaaaaaaaaaaaaaaaaaaaaaaaaaaaaaaaaaaaaaaaaa\n",
+        output: "a--a----------------------------------------------------------a\ta--a----------------------------------------------------------a\n#stop 1 a--a----------------------------------------------------------a\n",
         messages: "",
         status: 0,
     },

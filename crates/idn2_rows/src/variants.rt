@@ -1,5 +1,7 @@
-//! The accepted candidates of a net: how tries are counted, and what want of memory leaves.
-ghost use Rattle.std.specs.Prelude.{false, ◌==◌, slice_index};
+//! The accepted labels of a net: how tries are counted, what is passed over, and what want of memory leaves.
+ghost use Rattle.std.specs.Prelude.{◌≡◌, false, refl};
+ghost use Rattle.std.proofs.lemmas.Bool.{false≢true};
+ghost use Rattle.idn2_rows.specs.Filters.{begins_with, begins_otherwise, otherwise-refused};
 
 use crate::nets::{HYPHENS, net, points};
 use std::alloc::{AllocError, Global};
@@ -7,15 +9,50 @@ use std::process::Abort;
 use std::test::Fail;
 use variant_list::{Cursor, Filter, Step};
 
-/// Accepts the labels that begin with this code point.
+/// Accepts the labels that begin with this code point, and tells of no list that it is hopeless.
 struct BeginsWith(u32);
 
 impl Filter for BeginsWith {
-    ghost accepted = { λ f v. slice_index v 0 == f.0 };
+    ghost accepted = { λ f v. begins_with f.0 v };
+
+    ghost lost = { λ _ _. false };
+
+    ghost lost_for_good = { λ _ _ _ lost. absurd (false≢true lost) };
 
     fn accepts(&self, _alloc: Global, label: &[u32]) -> Result<bool, AllocError> {
-        let first = if label.is_empty() { 0 } else { label[0] };
-        Ok(first == self.0)
+        Ok(begins_with(self.0, label))
+    }
+
+    fn hopeless(&self, _label: &[u32]) -> bool {
+        false
+    }
+}
+
+/// Accepts the same labels, and tells that all lists that begin otherwise are hopeless.
+struct OnlyBehind(u32);
+
+impl Filter for OnlyBehind {
+    ghost accepted = { λ f v. begins_with f.0 v };
+
+    ghost lost = { λ f w. begins_otherwise f.0 w };
+
+    ghost lost_for_good = { λ f w z lost. otherwise-refused f.0 w z lost };
+
+    fn accepts(&self, _alloc: Global, label: &[u32]) -> Result<bool, AllocError> {
+        Ok(begins_with(self.0, label))
+    }
+
+    fn hopeless(&self, label: &[u32]) -> bool {
+        !label.is_empty() && !begins_with(self.0, label)
+    }
+}
+
+fn begins_with(point: u32, label: &[u32]) -> bool
+    ensures { result ≡ begins_with point label.now }
+{
+    match label {
+        [] => false,
+        [first, ..] => *first == point,
     }
 }
 
@@ -25,23 +62,32 @@ struct RefusedAt(u32);
 impl Filter for RefusedAt {
     ghost accepted = { λ _ _. false };
 
+    ghost lost = { λ _ _. false };
+
+    ghost lost_for_good = { λ _ _ _ _. refl };
+
     fn accepts(&self, _alloc: Global, label: &[u32]) -> Result<bool, AllocError> {
-        if !label.is_empty() && label[0] == self.0 {
+        if begins_with(self.0, label) {
             return Err(AllocError);
         }
         Ok(false)
     }
+
+    fn hopeless(&self, _label: &[u32]) -> bool {
+        false
+    }
 }
 
-/// The accepted candidates, each with a comma behind it, and how their listing ends.
-fn accepted(
+/// The accepted labels, each with a comma behind it, and how their listing ends.
+fn accepted<F: Filter>(
     alloc: Global,
     cursor: &mut Cursor<'_>,
+    filter: &F,
     tries: &mut u64,
 ) -> Result<Vec<u32>, AllocError> {
     let mut listed = Vec::new(alloc);
     for _ in 0..100 {
-        let end = match cursor.next_variant(alloc, &BeginsWith(97), tries)? {
+        let end = match cursor.next_variant(alloc, filter, tries)? {
             Step::Found(label) => {
                 listed.extend_from_slice(label)?;
                 listed.push(44)?;
@@ -58,16 +104,17 @@ fn accepted(
 
 /// What is found with so many tries behind a text, how many are left, and the text behind which the listing
 /// then stands.
-fn assert_found(
+fn assert_found<F: Filter>(
     rt: &impl Abort,
     alloc: Global,
+    filter: &F,
     (after, tries): (&str, u64),
     (want, left, last): (&str, u64, &str),
 ) -> Result<(), Fail> {
     let net = net(alloc, HYPHENS, "aaa")?;
     let mut cursor = Cursor::new(alloc, &net, &points(alloc, after)?)?;
     let mut tries = tries;
-    let got = accepted(alloc, &mut cursor, &mut tries)?;
+    let got = accepted(alloc, &mut cursor, filter, &mut tries)?;
     assert_eq!(rt; got, points(alloc, want)?, "behind {after}");
     assert_eq!(rt; tries, left, "behind {after}");
     assert_eq!(rt;
@@ -91,8 +138,45 @@ fn tries_are_counted(rt: HostRuntime) -> Result<(), Fail> {
         (("aaa", 3), ("ended", 3, "aaa")),
     ];
     for (from, want) in rows {
-        assert_found(&rt, rt.alloc(), from, want)?;
+        assert_found(&rt, rt.alloc(), &BeginsWith(97), from, want)?;
     }
+    Ok(())
+}
+
+/// Labels with a hopeless beginning need no try, and the listing never stops at one.
+#[test]
+fn hopeless_beginnings_are_passed_over(rt: HostRuntime) -> Result<(), Fail> {
+    let rows = [
+        (("", 0), ("spent", 0, "")),
+        (("", 1), ("a--,spent", 0, "a--")),
+        (("", 4), ("a--,a-a,aa-,aaa,spent", 0, "aaa")),
+        (("", 5), ("a--,a-a,aa-,aaa,ended", 1, "aaa")),
+        (("-a-", 2), ("a--,a-a,spent", 0, "a-a")),
+        (("aaa", 3), ("ended", 3, "aaa")),
+    ];
+    for (from, want) in rows {
+        assert_found(&rt, rt.alloc(), &OnlyBehind(97), from, want)?;
+    }
+    for after in ["", "-aa", "a"] {
+        let none = ("ended", 7, after);
+        assert_found(&rt, rt.alloc(), &OnlyBehind(98), (after, 7), none)?;
+    }
+    Ok(())
+}
+
+/// Of 2 to the power of 63 labels, half of which begin with a hyphen, the first other one is found by two searches.
+#[test]
+fn all_behind_one_beginning_cost_one_search(rt: HostRuntime) -> Result<(), Fail> {
+    let alloc = rt.alloc();
+    let label = "aaaaaaaaaaaaaaaaaaaaaaaaaaaaaaaaaaaaaaaaaaaaaaaaaaaaaaaaaaaaaaa";
+    let net = net(alloc, HYPHENS, label)?;
+    let mut cursor = Cursor::new(alloc, &net, &[])?;
+    let mut tries = 1;
+    let got = accepted(alloc, &mut cursor, &OnlyBehind(97), &mut tries)?;
+    let first = "a--------------------------------------------------------------,spent";
+    assert_eq!(&rt; got, points(alloc, first)?);
+    let few = cursor.edge_tests() <= 256 * net.edges() * 3;
+    assert!(&rt; few);
     Ok(())
 }
 
@@ -108,7 +192,7 @@ fn what_could_not_be_decided_comes_next(rt: HostRuntime) -> Result<(), Fail> {
         .is_err();
     assert!(&rt; refused);
     assert_eq!(&rt; tries, 4);
-    let got = accepted(alloc, &mut cursor, &mut tries)?;
+    let got = accepted(alloc, &mut cursor, &BeginsWith(97), &mut tries)?;
     assert_eq!(&rt; got, points(alloc, "a--,a-a,aa-,aaa,spent")?);
     assert_eq!(&rt; tries, 0);
     Ok(())

@@ -12,4 +12,7 @@ pub mod ContextJTests
 pub mod TestLemmas
 pub mod ContextOTests
 pub mod BidiTests
+pub mod HopelessSteps
+pub mod HopelessTests
+pub mod HopelessShortest
 pub mod Computing

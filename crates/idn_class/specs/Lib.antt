@@ -9,3 +9,5 @@ pub mod LeadingMark
 pub mod Neighbors
 pub mod Rows
 pub mod Tests
+pub mod Hopeless
+pub mod Directions

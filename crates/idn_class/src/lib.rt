@@ -4,6 +4,7 @@
 //! point which of these tests a label needs.
 #![tactic(auto)]
 
+mod beginning;
 mod bidi;
 mod bidi_class;
 mod category;
@@ -11,6 +12,7 @@ mod class;
 mod class_table;
 mod contextj;
 mod contexto;
+mod direction;
 mod facts;
 mod joining_type;
 mod laws;
@@ -18,6 +20,7 @@ mod mark;
 mod neighbor;
 mod stability;
 
+pub use beginning::{hopeless, shortest_hopeless};
 pub use bidi::bidi_ok;
 pub use bidi_class::BidiClass;
 pub use class::{Class, class_of};
@@ -26,7 +29,7 @@ pub use contexto::contexto_ok;
 pub use facts::{Fact, Facts};
 pub use joining_type::JoiningType;
 pub use laws::{
-    bidi_rows, class_rows, joiner_rows, mark_rows, only_rtl_labels_pass, other_rows,
-    tests_are_rules,
+    bidi_rows, class_rows, hopeless_for_good, hopeless_rows, joiner_rows, mark_rows,
+    only_rtl_labels_pass, other_rows, tests_are_rules,
 };
 pub use mark::leading_mark;

@@ -7,3 +7,4 @@ pub mod Holding
 pub mod Least
 pub mod Scans
 pub mod Searches
+pub mod Skips

@@ -18,7 +18,7 @@ pub struct Options {
     pub after: Vec<u32>,
     /// At most how many variants of a line are listed: 1 to 1,000,000,000, or no limit.
     pub limit: Option<u64>,
-    /// At most how many candidates of a line are tested: 1 to 1,000,000,000.
+    /// At most how many labels of a line are tested: 1 to 1,000,000,000.
     pub tries: u64,
 }
 

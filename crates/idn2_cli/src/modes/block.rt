@@ -2,7 +2,9 @@
 
 ghost use Rattle.std.specs.Prelude.{◌≡◌, ◌≤◌, ◌∷◌, [], ◌++◌, ℕ, Bool, List, length, codes, decimal, None, Some, IfErr};
 ghost use Rattle.idn_text.specs.Points.{AreScalarValues};
+ghost use Rattle.idn_class.specs.Hopeless.{hopeless};
 ghost use Rattle.idn_label.specs.FirstFault.{IsRegistrable};
+ghost use Rattle.idn_label.proofs.HopeLemmas.{none_hopeless};
 ghost use Rattle.variant_table.specs.WellFormed.{IsWellFormed};
 ghost use Rattle.idn2_cli.specs.Settings.{IsWithinLimits};
 ghost use Rattle.idn2_cli.specs.Transcript.{output_lines, Output};
@@ -16,6 +18,7 @@ use crate::session::buffers::append;
 use crate::session::console::Console;
 use crate::session::stop::Stop;
 use arrayvec::{ArrayString, ArrayVec};
+use idn_class::{hopeless, shortest_hopeless};
 use idn_label::test_label;
 use idn_text::{Refusal, Sink, write_points};
 use itoa::Buffer;
@@ -58,12 +61,24 @@ struct Registrable;
 impl Filter for Registrable {
     ghost accepted = { λ _ label. is_registrable label };
 
+    ghost lost = { λ _ label. hopeless label };
+
+    ghost lost_for_good = { λ _ w z lost. none_hopeless w z lost };
+
     fn accepts(&self, alloc: Global, label: &[u32]) -> Result<bool, AllocError> {
         match test_label(alloc, label) {
             Ok(_) => Ok(true),
             Err(Refusal::Memory) => Err(AllocError),
             Err(_) => Ok(false),
         }
+    }
+
+    fn hopeless(&self, label: &[u32]) -> bool {
+        hopeless(label)
+    }
+
+    fn shortest_hopeless(&self, label: &[u32]) -> Option<usize> {
+        shortest_hopeless(label)
     }
 }
 

@@ -19,16 +19,16 @@ variants-init g c = record {
 
 pub write_stop-requires-clause-short : goal.write_stop-requires-clause-short
 write_stop-requires-clause-short g c =
-    (listing-plain _ _ _ _ c.variants.cursor c.next_variant.follows.lender-at-none _ _ (c.variants.tries - c.next_variant.new.tries) c.last.result.now c.requires.table c.variants.invariant.listing c.next_variant.follows.holds-at-none c.last.ensures).short
+    (listing-plain _ _ _ _ c.variants.cursor c.next_variant.follows.lender-at-none _ _ (c.variants.tries - c.next_variant.new.tries) c.last.result.now c.requires.table c.variants.invariant.listing c.next_variant.follows.holds-at-none.last c.last.ensures).short
 
 pub write_stop-requires-clause-scalar_values : goal.write_stop-requires-clause-scalar_values
 write_stop-requires-clause-scalar_values g c =
-    (listing-plain _ _ _ _ c.variants.cursor c.next_variant.follows.lender-at-none _ _ (c.variants.tries - c.next_variant.new.tries) c.last.result.now c.requires.table c.variants.invariant.listing c.next_variant.follows.holds-at-none c.last.ensures).scalar_values
+    (listing-plain _ _ _ _ c.variants.cursor c.next_variant.follows.lender-at-none _ _ (c.variants.tries - c.next_variant.new.tries) c.last.result.now c.requires.table c.variants.invariant.listing c.next_variant.follows.holds-at-none.last c.last.ensures).scalar_values
 
 pub returns-in-Spent : goal.returns-in-Spent
 returns-in-Spent g c =
     let spent = spent-from c.variants.cursor _ c.variants.tries c.next_variant.new.tries c.next_variant.result c.in_ok-label.field-0 c.in_ok-label.was c.in-Spent.is c.next_variant.follows.claims in
-    listing-spent _ _ _ _ _ c.variants.cursor c.next_variant.follows.lender-at-none _ _ _ _ c.last.result.now c.write_stop.result c.variants.invariant.listing spent c.next_variant.follows.holds-at-none c.last.ensures c.write_stop.ensures.written
+    listing-spent _ _ _ _ _ c.variants.cursor c.next_variant.follows.lender-at-none _ _ _ _ c.last.result.now c.write_stop.result c.variants.invariant.listing spent c.next_variant.follows.holds-at-none.last c.last.ensures c.write_stop.ensures.written
 
 pub returns-in-Ended : goal.returns-in-Ended
 returns-in-Ended g c =
@@ -43,18 +43,18 @@ returns-in_err-write_variant g c =
 
 pub write_stop-requires-then-is_reached-clause-short : goal.write_stop-requires-then-is_reached-clause-short
 write_stop-requires-then-is_reached-clause-short g c =
-    (listing-plain _ _ _ _ c.variants.cursor c.next_variant.follows.lender-at-none _ _ (c.variants.tries - c.next_variant.new.tries) c.last-then-is_reached.result.now c.requires.table c.variants.invariant.listing c.next_variant.follows.holds-at-none c.last-then-is_reached.ensures).short
+    (listing-plain _ _ _ _ c.variants.cursor c.next_variant.follows.lender-at-none _ _ (c.variants.tries - c.next_variant.new.tries) c.last-then-is_reached.result.now c.requires.table c.variants.invariant.listing c.next_variant.follows.holds-at-none.last c.last-then-is_reached.ensures).short
 
 pub write_stop-requires-then-is_reached-clause-scalar_values : goal.write_stop-requires-then-is_reached-clause-scalar_values
 write_stop-requires-then-is_reached-clause-scalar_values g c =
-    (listing-plain _ _ _ _ c.variants.cursor c.next_variant.follows.lender-at-none _ _ (c.variants.tries - c.next_variant.new.tries) c.last-then-is_reached.result.now c.requires.table c.variants.invariant.listing c.next_variant.follows.holds-at-none c.last-then-is_reached.ensures).scalar_values
+    (listing-plain _ _ _ _ c.variants.cursor c.next_variant.follows.lender-at-none _ _ (c.variants.tries - c.next_variant.new.tries) c.last-then-is_reached.result.now c.requires.table c.variants.invariant.listing c.next_variant.follows.holds-at-none.last c.last-then-is_reached.ensures).scalar_values
 
 pub returns-then-is_reached : goal.returns-then-is_reached
 returns-then-is_reached g c =
     let found = found-from c.variants.cursor _ c.variants.tries c.next_variant.new.tries c.next_variant.result c.in_ok-label.field-0 c.in-Found.label c.in_ok-label.was c.in-Found.is c.next_variant.follows.claims in
     let reached = sym (ap (λ (o : Settings). reaches o.limit (c.variants.count + 1)) c.options.view_is) ∙ sym c.is_reached.ensures ∙ c.if-is_reached.true in
     listing-reached _ _ _ _ _ _ c.variants.cursor c.next_variant.follows.lender-at-none _ c.variants.tries c.next_variant.new.tries c.in-Found.label.now c.last-then-is_reached.result.now c.write_stop-then-is_reached.result c.variants.invariant.listing
-    c.next_variant.follows.holds-at-none found c.in_ok-write_variant.ensures reached c.last-then-is_reached.ensures c.write_stop-then-is_reached.ensures.written
+    c.next_variant.follows.holds-at-none.net c.next_variant.follows.holds-at-none.last found c.in_ok-write_variant.ensures reached c.last-then-is_reached.ensures c.write_stop-then-is_reached.ensures.written
 
 pub variants-preserved : goal.variants-preserved
 variants-preserved g c =
@@ -62,5 +62,5 @@ variants-preserved g c =
     let going = sym (ap (λ (o : Settings). reaches o.limit (c.variants.count + 1)) c.options.view_is) ∙ sym c.is_reached.ensures ∙ c.if-is_reached.false in
     record {
       listing = listing-found _ _ _ _ _ c.variants.cursor c.next_variant.follows.lender-at-none _ c.variants.tries c.next_variant.new.tries c.in-Found.label.now c.requires.table c.variants.invariant.listing
-          c.next_variant.follows.holds-at-none found c.in_ok-write_variant.ensures going;
+          c.next_variant.follows.holds-at-none.net c.next_variant.follows.holds-at-none.last found c.in_ok-write_variant.ensures going;
     }

@@ -1,0 +1,78 @@
+ghost use Rattle.std.specs.Prelude.{◌≡◌, MatchOption};
+ghost use Rattle.idn_class.specs.Directions.{IsShortest, HasNone, begun, lengthened, rtl_lengthened, breaks_behind};
+
+use crate::bidi::is_rtl_code_point;
+use crate::bidi_class::{BidiClass, bidi_class};
+use crate::mark::is_mark;
+
+/// What the code points of a beginning let follow under the Bidi rule (RFC 5893, section 2).
+#[derive(Clone, Copy)]
+pub(crate) enum Direction {
+    /// The first is neither R nor AL: no R, AL and AN may follow.
+    Ltr,
+    /// The first is R or AL: no L may follow, and not both EN and AN, of which none stands yet.
+    Rtl,
+    /// The same with an EN: no L and no AN may follow.
+    RtlEuropean,
+    /// The same with an AN: no L and no EN may follow.
+    RtlArabic,
+}
+
+impl Direction {
+    /// The direction of a first code point. `None` for one with which no label may begin: a hyphen, a
+    /// combining mark, or AN.
+    pub(crate) fn begun(first: u32) -> Option<Direction>
+        ensures { result ≡ begun first }
+    {
+        if first == 0x2D || is_mark(first) {
+            return None;
+        }
+        if !is_rtl_code_point(first) {
+            return Some(Direction::Ltr);
+        }
+        match bidi_class(first) {
+            BidiClass::AN => None,
+            _ => Some(Direction::Rtl),
+        }
+    }
+
+    /// How many code points have to follow until the Bidi rule is broken for good. `None` where all may
+    /// follow.
+    pub(crate) fn shortest_breaking(self, rest: &[u32]) -> Option<usize>
+        ensures { MatchOption result (HasNone (breaks_behind self) rest.now) (IsShortest (breaks_behind self) rest.now) }
+    {
+        let mut direction = self;
+        for index in 0..rest.len() {
+            match direction.lengthened(rest[index]) {
+                Some(longer) => direction = longer,
+                None => return Some(index + 1),
+            }
+        }
+        None
+    }
+
+    /// The direction once a code point follows. `None` where it may not.
+    fn lengthened(self, c: u32) -> Option<Direction>
+        ensures { result ≡ lengthened self c }
+    {
+        match self {
+            Direction::Ltr if is_rtl_code_point(c) => None,
+            Direction::Ltr => Some(self),
+            _ => self.rtl_lengthened(bidi_class(c)),
+        }
+    }
+
+    /// The same behind R or AL, by the Bidi class of the code point.
+    fn rtl_lengthened(self, class: BidiClass) -> Option<Direction>
+        ensures { result ≡ rtl_lengthened self class }
+    {
+        match (self, class) {
+            (_, BidiClass::L) => None,
+            (Direction::Rtl, BidiClass::EN) => Some(Direction::RtlEuropean),
+            (Direction::RtlArabic, BidiClass::EN) => None,
+            (Direction::Rtl, BidiClass::AN) => Some(Direction::RtlArabic),
+            (Direction::RtlEuropean, BidiClass::AN) => None,
+            _ => Some(self),
+        }
+    }
+}

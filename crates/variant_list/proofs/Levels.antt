@@ -1,0 +1,30 @@
+-- Where a label differs from another one, and how many code points both begin with.
+use Rattle.std.proofs.Common.{◌≡◌, ◌==◌, ◌&&◌, ℕ, zero, suc, ◌<◌, ◌≤◌, true, false, List, [], ◌∷◌, ◌++◌, take, length, refl, ap, ◌∙◌, subst, arith}
+use Rattle.std.proofs.lemmas.Bool.{eq-eqb, ne_eqb}
+use Rattle.variant_list.specs.Beginnings.{shares}
+use Rattle.variant_list.specs.inner.Least.{floor}
+use Rattle.variant_list.proofs.Orders.{floor-more, floor-first}
+
+-- labels that go on from the same code points share them
+pub shares-fork : (n j : ℕ) (old rest : List ℕ) → n ≤ j → j ≤ length old → shares n old (take j old ++ rest) ≡ true
+shares-fork zero j old rest few within = refl
+shares-fork (suc n) zero old rest few within = absurd (omega arith)
+shares-fork (suc n) (suc j) [] rest few within = absurd (omega arith)
+shares-fork (suc n) (suc j) (x ∷ old) rest few within =
+    ap (λ b. b && shares n old (take j old ++ rest)) (eq-eqb x x refl) ∙ shares-fork n j old rest (omega arith) (omega arith)
+
+-- labels that differ at a level do not share more
+apart_here : (n : ℕ) (old : List ℕ) (point : ℕ) (rest : List ℕ) → floor old 0 ≤ point → shares (suc n) old (point ∷ rest) ≡ false
+apart_here n [] point rest greater = refl
+apart_here n (x ∷ old) point rest greater =
+    let other : (x == point) ≡ false = ne_eqb x point (λ e. omega (arith, greater, floor-first x old)) in
+    ap (λ b. b && shares n old rest) other
+
+pub apart_from_diverges : (n : ℕ) (old : List ℕ) (j : ℕ) (point : ℕ) (rest : List ℕ) → floor old j ≤ point → j ≤ length old → j < n → shares n old (take j old ++ point ∷ rest) ≡ false
+apart_from_diverges zero old j point rest greater within low = absurd (omega arith)
+apart_from_diverges (suc n) old zero point rest greater within low = apart_here n old point rest greater
+apart_from_diverges (suc n) [] (suc j) point rest greater within low = absurd (omega arith)
+apart_from_diverges (suc n) (x ∷ old) (suc j) point rest greater within low =
+    let same : (x == x) ≡ true = eq-eqb x x refl in
+    ap (λ b. b && shares n old (take j old ++ point ∷ rest)) same
+    ∙ apart_from_diverges n old j point rest (subst (λ f. f ≤ point) (floor-more x old j) greater) (omega arith) (omega arith)

@@ -1,0 +1,42 @@
+-- Beginnings of labels: the shortest hopeless one, and the labels by which a listing learns of a new one.
+use Rattle.std.specs.Prelude.{◌≡◌, ◌==◌, ◌<◌, ◌≤◌, ◌&&◌, ℕ, zero, suc, Bool, true, false, not, List, [], ◌∷◌, length, take, Option, Some, None, if◌then◌else◌}
+use Rattle.std.specs.Option.{option_map, is_none}
+
+-- how many code points the shortest hopeless beginning of a label has, of one code point or more, as it computes
+abbrev pub shortest_hopeless : (List ℕ → Bool) → List ℕ → Option ℕ
+shortest_hopeless hopeless [] = None
+shortest_hopeless hopeless (c ∷ v) = if hopeless (c ∷ []) then Some 1 else option_map suc (shortest_hopeless (λ w. hopeless (c ∷ w)) v)
+
+-- no beginning of the label is hopeless, nor the whole, as it computes
+abbrev pub has_hope : (List ℕ → Bool) → List ℕ → Bool
+has_hope hopeless v = is_none (shortest_hopeless hopeless v)
+
+-- the first n code points are hopeless, and no fewer, of one or more, are
+pub record IsShortest (hopeless : List ℕ → Bool) (v : List ℕ) (n : ℕ) : Type 0 where
+  pub some : 1 ≤ n
+  pub within : n ≤ length v
+  pub holds : hopeless (take n v) ≡ true
+  pub first : (k : ℕ) → 1 ≤ k → k < n → hopeless (take k v) ≡ false
+
+-- no beginning of one code point or more is hopeless, nor is the whole
+abbrev pub HasHope : (List ℕ → Bool) → List ℕ → Type 0
+HasHope hopeless v = (k : ℕ) → 1 ≤ k → k ≤ length v → hopeless (take k v) ≡ false
+
+-- both labels begin with the same n code points
+abbrev pub shares : ℕ → List ℕ → List ℕ → Bool
+shares zero v w = true
+shares (suc n) [] w = false
+shares (suc n) (c ∷ v) [] = false
+shares (suc n) (c ∷ v) (d ∷ w) = (c == d) && shares n v w
+
+-- v has a shortest hopeless beginning, with which the label before it does not begin
+abbrev pub is_new : Option (List ℕ) → List ℕ → Option ℕ → Bool
+is_new before v None = false
+is_new None v (Some n) = true
+is_new (Some u) v (Some n) = not (shares n u v)
+
+-- the dead ends of a list: in order, the labels with a shortest hopeless beginning that the label before them does not begin with
+abbrev pub dead_ends : (List ℕ → Bool) → Option (List ℕ) → List (List ℕ) → List (List ℕ)
+dead_ends hopeless before [] = []
+dead_ends hopeless before (v ∷ vs) =
+    if is_new before v (shortest_hopeless hopeless v) then v ∷ dead_ends hopeless (Some v) vs else dead_ends hopeless (Some v) vs
