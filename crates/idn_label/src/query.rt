@@ -59,23 +59,6 @@ pub fn lookup_utf8<const N: usize>(
     if let Some(()) = ldh_query(name, query) {
         return verify(query);
     }
-    other_query(alloc, name, std3, query)
-}
-
-/// The same of a name that is not all letters, digits, hyphens and full stops, or has an A-label.
-// Most names do not come here.
-#[inline(never)]
-fn other_query<const N: usize>(
-    alloc: Global,
-    name: &[u8],
-    std3: bool,
-    query: &mut ArrayVec<u8, N>,
-) -> Result<(), Refusal>
-    requires { 254 ≤ N }
-    ensures answer { Gives (λ _. query.new.items) result (utf8_answer name.now std3) }
-    ensures short { OnOk result (array_vec_len query.new ≤ 254) }
-    ensures no_memory { IsPlain (deny_list std3) Allow name.now → result ≢ Err Refusal.Memory }
-{
     let Ok(text) = str::from_utf8(name) else {
         return Err(Refusal::NotUtf8);
     };
