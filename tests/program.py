@@ -22,6 +22,11 @@ def run(words, given=b"", **more):
     return subprocess.run([PROGRAM, *words], input=given, capture_output=True, timeout=LIMIT, **more)
 
 
+def run_within(space, words):
+    """Runs the program with an address space of so many bytes."""
+    return run(words, preexec_fn=lambda: resource.setrlimit(resource.RLIMIT_AS, (space, space)))
+
+
 def expect(words, given, output, messages, status):
     done = run(words, given)
     wanted = (output, messages, status)
@@ -106,8 +111,7 @@ def lists_any_number_of_lines_in_the_memory_of_ten(folder):
     words = ["--variants", table_file(folder, b"0061|0062\n0062|0061\n"), "--limit"]
 
     def lists(count, space):
-        bound = lambda: resource.setrlimit(resource.RLIMIT_AS, (space, space))
-        done = run([*words, str(count), "a" * 62], preexec_fn=bound)
+        done = run_within(space, [*words, str(count), "a" * 62])
         return done.returncode == 0 and done.stdout.count(b"\n") == count + 1
 
     page, low, high = 4096, 0, 16384
@@ -115,8 +119,29 @@ def lists_any_number_of_lines_in_the_memory_of_ten(folder):
     while low + 1 < high:
         middle = (low + high) // 2
         low, high = (low, middle) if lists(10, middle * page) else (middle, high)
-    # Some pages more, since an address space is not laid out the same way each time.
-    assert lists(100000, (high + 16) * page), high
+    # A mebibyte more, since an address space is not laid out the same way each time; the lines alone are twelve.
+    assert lists(100000, (high + 256) * page), high
+
+
+def tells_of_memory_within_any_address_space(folder):
+    """A large table and some lines of its listing, or what stands of them in whole lines before refusal 70."""
+    first, count = 0x4E00, 4096
+    variants = lambda entry: ":".join(f"{first + (entry * 7 + each * 131) % count:04X}-4E01" for each in range(1, 17))
+    text = "".join(f"{first + entry:04X}|{variants(entry)}\n" for entry in range(count))
+    words = ["--variants", table_file(folder, text.encode()), "--limit", "5", "\u4e10" * 9]
+    whole = run(words)
+    assert (whole.returncode, whole.stdout.count(b"\n"), whole.stderr) == (0, 6, b""), whole
+    refused = 0
+    for space in range(3 << 20, 16 << 20, 128 << 10):
+        done = run_within(space, words)
+        # The loader, which needs some room before the program begins, ends with 127.
+        if done.returncode != 127 and done.returncode != 0:
+            assert (done.returncode, done.stderr) == (4, b"idn2: 70 out of memory\n"), (space, done)
+            assert whole.stdout.startswith(done.stdout) and done.stdout[-1:] in (b"", b"\n"), (space, done)
+            refused += 1
+        elif done.returncode == 0:
+            assert done.stdout == whole.stdout, (space, done)
+    assert refused > 0
 
 
 def checks_a_table(folder):
@@ -279,6 +304,7 @@ TESTS = [
     lists_variants,
     resumes_where_it_stopped,
     lists_any_number_of_lines_in_the_memory_of_ten,
+    tells_of_memory_within_any_address_space,
     checks_a_table,
     finds_no_gap_in_the_example_tables,
     reads_a_table_up_to_its_limit,
