@@ -135,6 +135,7 @@ is_some-hopeless w None hope =
     sym (no_true (hopeless w) (λ h. hope (length w) (subst IsHopeless (sym (take_all (length w) w (omega arith))) (hopeless-gives w h))))
 is_some-hopeless w (Some n) s =
     sym (ap hopeless (sym (take-append-drop n w)) ∙ hopeless-more (take n w) (drop n w) (hopeless-from (take n w) s.holds))
+
 -- ---- the lesser of the two
 
 pub shortest-without : (w : List ℕ) (o : Option ℕ) → MatchOption o (HasNone breaks_at_first w) (IsShortest breaks_at_first w) → has_hyphens_third_and_fourth w ≡ false → MatchOption o (HasHope w) (IsShortestHopeless w)

@@ -15,4 +15,3 @@ pub returns : goal.returns
 returns c =
     let end : c.loop-index.index ≡ length c.args.rest.now = omega (arith, c.loop-index-test.false, c.loop-index.auto.index-end) in
     HasNone-all c.args.self c.args.rest.now c.loop-index.direction (subst (λ i. HasKept c.args.self c.args.rest.now i c.loop-index.direction) end c.loop-index.invariant)
-
