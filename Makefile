@@ -2,11 +2,15 @@
 RT ?= rt
 PROGRAM := crates/idn2/out/idn2
 PREFIX ?= /usr/local
+# As many crates side by side as there are processors, and 3 GB of free memory for each.
+LANES ?= $(shell awk -v processors="$$(nproc)" '/MemAvailable/ { lanes = int($$2 / 3000000) } \
+    END { print (lanes < 1 ? 1 : lanes < processors ? lanes : processors) }' /proc/meminfo)
 
 .PHONY: all try run test wrong-bodies install check-tables bench conformance fuzz clean
 
-# Proves every function on the program's way, and builds it.
+# Proves every function on the program's way, the first time with crates side by side, and builds it.
 all:
+	test -x $(PROGRAM) || (cd crates/idn2 && $(RT) all check --jobs $(LANES))
 	cd crates/idn2 && $(RT) run < stdin > /dev/null
 
 # The main job: the variants of a label under a table, here of one line, from the standard input.
@@ -24,7 +28,7 @@ test:
 
 # The wrong bodies that the gate leaves out, of all crates or of those that CRATES names.
 wrong-bodies:
-	RT=$(RT) tests/wrong-bodies $(CRATES)
+	RT=$(RT) LANES=$(LANES) tests/wrong-bodies $(CRATES)
 
 # The program and its manual page, below $(DESTDIR)$(PREFIX).
 install: all

@@ -3,8 +3,8 @@
 
 Both programs are given the same files on their standard input, in turn, for some rounds, and write to /dev/null. The
 times are medians: of the processor, in the program and for it in the kernel, and of the clock. Ratios are libidn2's
-time over ours, so above 1 is in our favour, and the last column says which ratio of processor time is wanted. What
-each line of the table compares:
+time over ours, so above 1 is in our favour; beside that of processor time stands the one that is wanted. What each line
+of the table compares:
 
     lookup, mixed names   `idn2 -l -N` of both, names of two or three labels in 17 scripts, a part with capitals
     lookup, ASCII names   `idn2 -l -N` of both, names of letters, digits and hyphens, a part with capitals; ten times

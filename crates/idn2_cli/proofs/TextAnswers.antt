@@ -8,10 +8,9 @@ use Rattle.std.specs.List.{AllByRecursion}
 use Rattle.std.proofs.lemmas.Str.{IsUtf8-from_is_utf8, is_utf8-from_IsUtf8}
 use Rattle.std.proofs.lemmas.List.Elements.{All-from_recursion}
 use Rattle.idn_text.specs.Points.{is_scalar_value, IsScalarValue, IsUtf8Of, utf8_of}
-use Rattle.idn_text.specs.declared.refusal.Refusal.TheVariants.{NotUtf8, Empty, LookupInvalid}
+use Rattle.idn_text.specs.declared.refusal.Refusal.TheVariants.{NotUtf8, Empty}
 use Rattle.idn_text.specs.declared.refusal.Refusal.{Refusal}
-use Rattle.idn_label.specs.Lookup.{lookup_answer, query_name}
-use Rattle.idn_label.proofs.LookupLemmas.{query_name-not_utf8}
+use Rattle.idn_label.specs.Lookup.{lookup_answer, utf8_answer}
 use Rattle.idn2_cli.specs.Transcript.{Output, pieces_for}
 use Rattle.idn_text.proofs.Utf8Lemmas.{IsUtf8-from_points, points_from_utf8, ascii_points}
 use Rattle.idn2_cli.specs.Answers.{LineAnswer, one_line, text_answer}
@@ -72,23 +71,14 @@ text_answer-query std3 bytes =
       | inr other ↦ rw other refl
     ]
 
-query_answer-utf8 : (std3 : Bool) (bytes : List ℕ) (answer : Result (List ℕ) Refusal) → (length bytes == 0) ≡ false → is_utf8 bytes ≡ true → query_name bytes std3 ≡ answer → query_answer bytes std3 ≡ answer
-unfolding query_answer
-query_answer-utf8 std3 bytes answer some utf8 is = rw (utf8, some) is
-
-pub query_answer-name : (std3 : Bool) (bytes name : List ℕ) → (length bytes == 0) ≡ false → query_name bytes std3 ≡ Ok name → query_answer bytes std3 ≡ Ok name
-query_answer-name std3 bytes name some is =
+-- of some bytes it is the answer of lookup
+pub query_answer-some : (std3 : Bool) (bytes : List ℕ) → (length bytes == 0) ≡ false → query_answer bytes std3 ≡ utf8_answer bytes std3
+unfolding query_answer utf8_answer
+query_answer-some std3 bytes some =
     elim (cases_Bool (is_utf8 bytes)) [
-      | inl utf8 ↦ query_answer-utf8 std3 bytes (Ok name) some utf8 is
-      | inr other ↦ absurd (let clash : Err LookupInvalid ≡ Ok name = sym (query_name-not_utf8 bytes std3 other) ∙ is in cc)
+      | inl utf8 ↦ rw (utf8, some) refl
+      | inr other ↦ rw other refl
     ]
-
-pub query_answer-fault : (std3 : Bool) (bytes : List ℕ) (refusal : Refusal) → (length bytes == 0) ≡ false → is_utf8 bytes ≡ true → query_name bytes std3 ≡ Err refusal → query_answer bytes std3 ≡ Err refusal
-query_answer-fault std3 bytes refusal some utf8 is = query_answer-utf8 std3 bytes (Err refusal) some utf8 is
-
-pub query_answer-not_utf8 : (std3 : Bool) (bytes : List ℕ) → is_utf8 bytes ≡ false → query_answer bytes std3 ≡ Err NotUtf8
-unfolding query_answer
-query_answer-not_utf8 std3 bytes other = rw other refl
 
 pub query_answer-empty : (std3 : Bool) (bytes : List ℕ) → (length bytes == 0) ≡ true → query_answer bytes std3 ≡ Err Empty
 unfolding query_answer

@@ -1,4 +1,7 @@
 //! Calls of the label crate on texts, and what is expected of them.
+ghost use Rattle.std.specs.Prelude.{IfOk};
+ghost use Rattle.idn_text.specs.Points.{AreScalarValues};
+
 use arrayvec::ArrayVec;
 use idn_label::ALabel;
 use idn_text::{Refusal, decode_points};
@@ -6,7 +9,9 @@ use std::alloc::Global;
 use std::test::Fail;
 
 /// The code points of a text of at most 1,024 octets.
-pub fn points_of(text: &str) -> Result<ArrayVec<u32, 1024>, Fail> {
+pub fn points_of(text: &str) -> Result<ArrayVec<u32, 1024>, Fail>
+    ensures { IfOk result (λ points. AreScalarValues points.items) }
+{
     let mut points = ArrayVec::new();
     if text.len() > 1024 {
         return Err("a text of more than 1,024 octets")?;

@@ -8,64 +8,62 @@ use std::alloc::Global;
 use std::process::Abort;
 use std::test::Fail;
 
-/// Names that the ASCII rules change nothing of.
-const CASES: [(&str, Result<&str, Refusal>); 50] = [
-    ("Faß.de", Ok("xn--fa-hia.de")),
-    ("Example.COM", Ok("example.com")),
-    ("example.", Ok("example.")),
-    ("日本語。ＪＰ", Ok("xn--wgv71a119e.jp")),
-    ("0a.\u{5D0}", Err(Refusal::LookupInvalid)),
-    ("a\u{200C}b", Err(Refusal::LookupInvalid)),
-    ("xn--a", Err(Refusal::LookupInvalid)),
-    ("", Err(Refusal::LookupLength)),
-    (".", Err(Refusal::LookupLength)),
-    ("a..b", Err(Refusal::LookupLength)),
-    // Code points that cause no fault in a label of their like.
-    ("Bücher.DE", Ok("xn--bcher-kva.de")),
-    ("straße.example", Ok("xn--strae-oqa.example")),
-    ("λάμδα.рф", Ok("xn--hxaki0ag.xn--p1ai")),
-    (
-        "中国.Example.한국",
-        Ok("xn--fiqs8s.example.xn--3e0b707e"),
-    ),
-    ("ελληνικά-1.gr", Ok("xn---1-v8b9akmhfav.gr")),
-    ("ς.gr", Ok("xn--3xa.gr")),
-    ("ü-", Ok("xn----dha")),
-    ("ü--a", Ok("xn----a-goa")),
-    ("ü.", Ok("xn--tda.")),
-    ("abc.ü.A-B", Ok("abc.xn--tda.a-b")),
-    ("ΒΌΛΟΣ.Ü", Ok("xn--nxasmq6b.xn--tda")),
-    ("ΒΌΛΟΣ.Ü.", Ok("xn--nxasmq6b.xn--tda.")),
-    ("Faẞ.de", Ok("xn--fa-hia.de")),
-    ("ﬀü", Ok("xn--ff-yka")),
-    ("भारत.भारत", Ok("xn--h2brj9c.xn--h2brj9c")),
-    // Others.
-    ("日本語。JP", Ok("xn--wgv71a119e.jp")),
-    ("שלום.example", Ok("xn--9dbne9b.example")),
-    ("हिन्दी", Ok("xn--j2bd4cyah0f")),
-    ("বাংলা", Ok("xn--54b7fta0cc")),
-    ("ไทย", Ok("xn--o3cw4h")),
-    ("a\u{308}.de", Ok("xn--4ca.de")),
-    ("ab\u{301}ü", Ok("xn--ab-yka18r")),
-    ("ü\u{AD}.de", Ok("xn--tda.de")),
-    ("ü.xn--tda", Ok("xn--tda.xn--tda")),
-    ("ü。de", Ok("xn--tda.de")),
-    ("l·l", Ok("xn--ll-0ea")),
-    ("ක\u{DCA}\u{200D}ෂ", Ok("xn--3zc4fxa418p")),
-    // Refused names.
-    ("xn--ü.de", Err(Refusal::LookupInvalid)),
-    ("XN--ü.de", Err(Refusal::LookupInvalid)),
-    ("ü.xn--a", Err(Refusal::LookupInvalid)),
-    ("\u{301}ü", Err(Refusal::LookupInvalid)),
-    ("ü.\u{93E}", Err(Refusal::LookupInvalid)),
-    ("\u{93E}ü", Err(Refusal::LookupInvalid)),
-    ("a\u{200C}ü", Err(Refusal::LookupInvalid)),
-    ("ü\u{640}", Err(Refusal::LookupInvalid)),
-    ("ü\u{FFFD}", Err(Refusal::LookupInvalid)),
-    ("ü..de", Err(Refusal::LookupLength)),
-    ("ü..a-b", Err(Refusal::LookupLength)),
-    (".ü", Err(Refusal::LookupLength)),
-    ("..ü", Err(Refusal::LookupLength)),
+/// Names that the ASCII rules change nothing of, and their queries.
+const TAKEN: [(&str, &str); 31] = [
+    ("Faß.de", "xn--fa-hia.de"),
+    ("Example.COM", "example.com"),
+    ("example.", "example."),
+    ("日本語。ＪＰ", "xn--wgv71a119e.jp"),
+    ("Bücher.DE", "xn--bcher-kva.de"),
+    ("straße.example", "xn--strae-oqa.example"),
+    ("λάμδα.рф", "xn--hxaki0ag.xn--p1ai"),
+    ("中国.Example.한국", "xn--fiqs8s.example.xn--3e0b707e"),
+    ("ελληνικά-1.gr", "xn---1-v8b9akmhfav.gr"),
+    ("ς.gr", "xn--3xa.gr"),
+    ("ü-", "xn----dha"),
+    ("ü--a", "xn----a-goa"),
+    ("ü.", "xn--tda."),
+    ("abc.ü.A-B", "abc.xn--tda.a-b"),
+    ("ΒΌΛΟΣ.Ü", "xn--nxasmq6b.xn--tda"),
+    ("ΒΌΛΟΣ.Ü.", "xn--nxasmq6b.xn--tda."),
+    ("Faẞ.de", "xn--fa-hia.de"),
+    ("ﬀü", "xn--ff-yka"),
+    ("भारत.भारत", "xn--h2brj9c.xn--h2brj9c"),
+    ("日本語。JP", "xn--wgv71a119e.jp"),
+    ("שלום.example", "xn--9dbne9b.example"),
+    ("हिन्दी", "xn--j2bd4cyah0f"),
+    ("বাংলা", "xn--54b7fta0cc"),
+    ("ไทย", "xn--o3cw4h"),
+    ("a\u{308}.de", "xn--4ca.de"),
+    ("ab\u{301}ü", "xn--ab-yka18r"),
+    ("ü\u{AD}.de", "xn--tda.de"),
+    ("ü.xn--tda", "xn--tda.xn--tda"),
+    ("ü。de", "xn--tda.de"),
+    ("l·l", "xn--ll-0ea"),
+    ("ක\u{DCA}\u{200D}ෂ", "xn--3zc4fxa418p"),
+];
+
+/// Names that are refused, whichever the ASCII rules are.
+const REFUSED: [(&str, Refusal); 19] = [
+    ("0a.\u{5D0}", Refusal::LookupInvalid),
+    ("a\u{200C}b", Refusal::LookupInvalid),
+    ("xn--a", Refusal::LookupInvalid),
+    ("", Refusal::LookupLength),
+    (".", Refusal::LookupLength),
+    ("a..b", Refusal::LookupLength),
+    ("xn--ü.de", Refusal::LookupInvalid),
+    ("XN--ü.de", Refusal::LookupInvalid),
+    ("ü.xn--a", Refusal::LookupInvalid),
+    ("\u{301}ü", Refusal::LookupInvalid),
+    ("ü.\u{93E}", Refusal::LookupInvalid),
+    ("\u{93E}ü", Refusal::LookupInvalid),
+    ("a\u{200C}ü", Refusal::LookupInvalid),
+    ("ü\u{640}", Refusal::LookupInvalid),
+    ("ü\u{FFFD}", Refusal::LookupInvalid),
+    ("ü..de", Refusal::LookupLength),
+    ("ü..a-b", Refusal::LookupLength),
+    (".ü", Refusal::LookupLength),
+    ("..ü", Refusal::LookupLength),
 ];
 
 /// A name with and without the ASCII rules.
@@ -103,7 +101,8 @@ fn looks_up(
     std3: bool,
     expected: Result<&str, Refusal>,
 ) -> Result<(), Fail> {
-    match (lookup(alloc, &points_of(name)?, std3), expected) {
+    let points = points_of(name)?;
+    match (lookup(alloc, &points, std3), expected) {
         (Ok(query), Ok(text)) => assert_eq!(rt; query.as_str(), text, "{name}"),
         (answer, _) => assert_eq!(rt; answer.err(), expected.err(), "{name}"),
     }
@@ -120,10 +119,33 @@ fn looks_up(
 }
 
 #[test]
-fn names_are_looked_up_or_refused(rt: HostRuntime) -> Result<(), Fail> {
-    for (name, expected) in CASES.iter() {
-        looks_up(&rt, rt.alloc(), name, false, *expected)?;
-        looks_up(&rt, rt.alloc(), name, true, *expected)?;
+fn names_are_looked_up(rt: HostRuntime) -> Result<(), Fail> {
+    for (name, query) in TAKEN.iter() {
+        looks_up(&rt, rt.alloc(), name, false, Ok(*query))?;
+    }
+    Ok(())
+}
+
+#[test]
+fn the_ascii_rules_change_nothing_of_them(rt: HostRuntime) -> Result<(), Fail> {
+    for (name, query) in TAKEN.iter() {
+        looks_up(&rt, rt.alloc(), name, true, Ok(*query))?;
+    }
+    Ok(())
+}
+
+#[test]
+fn other_names_are_refused(rt: HostRuntime) -> Result<(), Fail> {
+    for (name, refusal) in REFUSED.iter() {
+        looks_up(&rt, rt.alloc(), name, false, Err(*refusal))?;
+    }
+    Ok(())
+}
+
+#[test]
+fn they_are_refused_by_the_ascii_rules_too(rt: HostRuntime) -> Result<(), Fail> {
+    for (name, refusal) in REFUSED.iter() {
+        looks_up(&rt, rt.alloc(), name, true, Err(*refusal))?;
     }
     Ok(())
 }
@@ -147,6 +169,16 @@ fn lengths_are_measured(rt: HostRuntime) -> Result<(), Fail> {
             }
             Err(refusal) => looks_up(&rt, rt.alloc(), &name, false, Err(*refusal))?,
         }
+    }
+    Ok(())
+}
+
+#[test]
+fn bytes_that_are_no_utf8_are_refused(rt: HostRuntime) -> Result<(), Fail> {
+    let mut query: ArrayVec<u8, 254> = ArrayVec::new();
+    for bytes in [b"\xC3", b"\xFF"] {
+        let answer = lookup_utf8(rt.alloc(), bytes, false, &mut query);
+        assert_eq!(rt; answer, Err(Refusal::NotUtf8), "{bytes:?}");
     }
     Ok(())
 }

@@ -8,18 +8,25 @@ use unicode_normalization::IsNormalized;
 use unicode_normalization::slice::is_nfc_quick;
 
 const MAY_BE_BARRED: u32 = 1;
+
 const CONTEXTJ: u32 = 2;
+
 const CONTEXTO: u32 = 4;
+
 const MAY_COMPOSE: u32 = 8;
+
 const MARK: u32 = 16;
+
 const RIGHT_TO_LEFT: u32 = 32;
+
 const NOT_KEPT: u32 = 64;
 
+/// The bits of all facts.
+const ALL: u32 = 127;
+
 /// The facts that a code point does not have, a bit each.
-pub(crate) fn absent_facts(c: u32) -> u32
-    ensures { result < 128 }
-{
-    let mut absent = 127 - class_facts(c);
+pub(crate) fn absent_facts(c: u32) -> u32 {
+    let mut absent = ALL & !class_facts(c);
     let Some(point) = char::from_u32(c) else {
         return absent & !NOT_KEPT;
     };
@@ -41,9 +48,7 @@ pub(crate) fn absent_facts(c: u32) -> u32
     absent
 }
 
-fn class_facts(c: u32) -> u32
-    ensures { result < 128 }
-{
+fn class_facts(c: u32) -> u32 {
     match entry_of(c) {
         Entry::Pvalid => 0,
         Entry::Contextj => CONTEXTJ,

@@ -13,7 +13,6 @@ use Rattle.idn_label.specs.Answers.{Answer, unless_fault, and_then, Gives}
 use Rattle.idn_label.specs.FirstFault.{first_fault, IsRegistrable}
 use Rattle.idn_label.specs.Register.{tested_answer, decoded_code, confirmed, u_label_answer, register_answer}
 use Rattle.std.specs.Option.{ok_or}
-use Rattle.arrayvec.specs.ArrayString.{ArrayString}
 use Rattle.idna.specs.Punycode.{decode, encode}
 use Rattle.idna.proofs.PunycodeCanonical.{encode-decode}
 use Rattle.idna.proofs.Uts46Lemmas.{ace_parts}
@@ -139,11 +138,6 @@ unfolding register_answer
 register_answer-coded label decoded coded is =
     cond-true _ _ _ coded ∙ and_then-ok _ _ decoded is ∙ ap Ok (u_label_answer-from label decoded is).1
 
--- the same for a view of an `ALabel`
-pub Gives-test : (r : Result ArrayString Refusal) (given label : List ℕ) → given ≡ label → OnOk r (IsRegistrable given) → IfOk r (λ a. a.bytes ≡ a_label_of given) → IfErr r (λ refusal. refusal ≢ Memory → first_fault given ≡ Some refusal) → Gives (λ a. a.bytes) r (tested_answer label)
-Gives-test r given label same registrable is fault =
-    Gives-same (λ (a : ArrayString). a.bytes) r (tested_answer given) (tested_answer label) (ap tested_answer same) (Gives-tested (λ (a : ArrayString). a.bytes) r given registrable is fault)
-
 -- ---- what was decoded, encoded again
 
 some_from_ok : (decoded : Option (List ℕ)) (label : List ℕ) → ok_or decoded BadALabel ≡ Ok label → decoded ≡ Some label
@@ -171,8 +165,3 @@ ace_label-again given label ace decoded lower =
 pub a_label_of-not_ascii : (label : List ℕ) → is_all_ascii label ≡ false → a_label_of label ≡ codes "xn--" ++ encode label
 unfolding a_label_of
 a_label_of-not_ascii label other = cond-false _ _ _ other
-
--- the test of a label of which the A-label is known to be the one given, as the confirmation of that
-pub Gives-confirmed : (r : Result (Unit {0}) Refusal) (given label : List ℕ) → a_label_of label ≡ given → OnOk r (IsRegistrable label) → IfErr r (λ refusal. refusal ≢ Memory → first_fault label ≡ Some refusal) → Gives (λ (_ : Unit {0}). label) r (confirmed given label)
-Gives-confirmed (Ok value) given label same registrable fault = confirmed-same given label (a_label_of label) (tested_answer-ok label registrable) same
-Gives-confirmed (Err refusal) given label same registrable fault = λ other. confirmed-fault given label refusal (tested_answer-fault label refusal (fault other))

@@ -1,19 +1,19 @@
 -- How the answer of decoding grows label by label.
-use Rattle.std.proofs.Common.{◌≡◌, ◌≢◌, ℕ, ◌+◌, ◌<◌, ◌≤◌, true, false, not, ◌&&◌, ◌==◌, Option, Some, None, IfSome, List, [], ◌∷◌, ◌++◌, map, take, drop, get_or, length, All, Result, Ok, Err, refl, sym, ap, ap₂, subst, ◌∙◌, inl, inr, append_assoc, take-append-drop, eq-eqb, arith}
+use Rattle.std.proofs.Common.{◌≡◌, ◌≢◌, ℕ, ◌+◌, ◌<◌, true, false, not, ◌&&◌, Option, Some, None, IfSome, List, [], ◌∷◌, ◌++◌, map, take, drop, get_or, length, All, Result, Ok, Err, refl, sym, ap, ap₂, subst, ◌∙◌, append_assoc, take-append-drop, eq-eqb, arith}
 use Rattle.std.specs.Char.{is_ascii, is_ascii_uppercase, to_ascii_lowercase}
 use Rattle.std.specs.List.{list_all}
 use Rattle.std.proofs.lemmas.List.Elements.{All-weaker}
 use Rattle.std.proofs.lemmas.List.Sums.{AllPass-from_list_all}
-use Rattle.std.proofs.lemmas.Bool.{cases_Bool, cond-true, cond-false, not-true}
+use Rattle.std.proofs.lemmas.Bool.{cond-true, cond-false, not-true}
 use Rattle.std.proofs.lemmas.Bool.Decides.{nat_tests}
-use Rattle.std.proofs.lemmas.List.{drop_more, length-map}
+use Rattle.std.proofs.lemmas.List.{drop_more}
 use Rattle.std.specs.Borrow.{Bor}
 use Rattle.std.specs.Option.{option_map_or}
 use Rattle.std.proofs.lemmas.List.Splits.{slice_split_at}
 use Rattle.idna.specs.Labels.{is_full_stop, labels_of, join_labels}
 use Rattle.idna.specs.Validity.{is_all_ascii, has_ace_prefix}
 use Rattle.idna.proofs.LabelsLemmas.{labels_of_cons}
-use Rattle.idna.proofs.Uts46Lemmas.{ace_parts, map-lowercase}
+use Rattle.idna.proofs.Uts46Lemmas.{map-lowercase}
 use Rattle.idn_text.specs.declared.refusal.Refusal.{Refusal}
 use Rattle.idn_label.specs.Answers.{Answer, and_then}
 use Rattle.idn_label.specs.Decode.{decoded_label, with_others, decoded_labels, decode_answer}
@@ -50,23 +50,6 @@ lower_no_capital c = grind (arith, nat_tests)
 pub has_no_capital-lower : (label : List ℕ) → list_all (λ c. not (is_ascii_uppercase c)) (map to_ascii_lowercase label) ≡ true
 has_no_capital-lower [] = refl
 has_no_capital-lower (c ∷ label) = ap₂ (λ x y. x && y) (lower_no_capital c) (has_no_capital-lower label)
-
--- ---- the prefix in any case
-
-pub has_ace_prefix-few : (label : List ℕ) → length label < 4 → has_ace_prefix (map to_ascii_lowercase label) ≡ false
-has_ace_prefix-few label few =
-    elim (cases_Bool (has_ace_prefix (map to_ascii_lowercase label))) [
-      | inl coded ↦ absurd (omega (arith, (ace_parts _ coded).1, length-map label to_ascii_lowercase))
-      | inr ldh ↦ ldh
-    ]
-
-pub has_ace_prefix-four : (label : List ℕ) → 4 ≤ length label → has_ace_prefix (to_ascii_lowercase (get_or label 0 0) ∷ to_ascii_lowercase (get_or label 1 0) ∷ to_ascii_lowercase (get_or label 2 0) ∷ to_ascii_lowercase (get_or label 3 0) ∷ []) ≡ has_ace_prefix (map to_ascii_lowercase label)
-unfolding has_ace_prefix
-has_ace_prefix-four [] many = absurd (omega arith)
-has_ace_prefix-four (a ∷ []) many = absurd (omega arith)
-has_ace_prefix-four (a ∷ b ∷ []) many = absurd (omega arith)
-has_ace_prefix-four (a ∷ b ∷ c ∷ []) many = absurd (omega arith)
-has_ace_prefix-four (a ∷ b ∷ c ∷ d ∷ label) many = refl
 
 -- ---- one label
 
@@ -152,8 +135,3 @@ labels_of-some name label others rest parts some = parts ∙ ap (λ o. label ∷
 
 pub shorter_rest : (n : ℕ) (others : Option (Bor (List ℕ))) (rest : Bor (List ℕ)) → IfSome others (λ rest. length rest.now < n) → others ≡ Some rest → length rest.now < n
 shorter_rest n others rest shorter some = subst (λ (o : Option (Bor (List ℕ))). IfSome o (λ rest. length rest.now < n)) some shorter
-
--- the prefix, code point by code point
-pub has_ace_prefix-of_four : (a b c d : ℕ) → has_ace_prefix (a ∷ b ∷ c ∷ d ∷ []) ≡ ((0x78 == a) && (0x6E == b) && (0x2D == c) && (0x2D == d))
-unfolding has_ace_prefix
-has_ace_prefix-of_four a b c d = grind (arith, nat_tests)

@@ -1,29 +1,20 @@
 -- Code points and labels in ASCII.
-use Rattle.std.proofs.Common.{inl, inr, ◌≡◌, ℕ, ◌<◌, ◌≤◌, Bool, true, false, not, ◌||◌, ◌==◌, nat_lt, cond, List, [], ◌∷◌, ◌++◌, map, codes, length, All, Option, Some, None, get_or, refl, sym, ap, ◌∙◌, arith}
-use Rattle.std.specs.List.{list_all, list_any}
-use Rattle.std.proofs.lemmas.Bool.{and_parts, cond-true, cond-false, cases_Bool}
+use Rattle.std.proofs.Common.{◌≡◌, ℕ, ◌<◌, Bool, true, false, not, ◌||◌, ◌==◌, nat_lt, cond, List, [], ◌∷◌, ◌++◌, codes, length, All, Option, Some, None, refl, sym, ap, ◌∙◌, arith}
+use Rattle.std.specs.List.{list_all}
+use Rattle.std.proofs.lemmas.Bool.{and_parts, cond-true, cond-false}
 use Rattle.std.proofs.lemmas.Bool.Decides.{nat_tests}
 use Rattle.idn_class.proofs.Computing.{rules, in_table, class_of-in_table}
 use Rattle.idn_class.specs.declared.class.Class.{Class}
 use Rattle.idn_class.specs.declared.class.Class.TheVariants.{Pvalid, Disallowed}
-use Rattle.idn_class.specs.BidiClass.{bidi_class}
-use Rattle.idn_class.specs.BidiRule.{is_rtl_class}
 use Rattle.idn_class.specs.Class.{class_of}
-use Rattle.idn_class.specs.LeadingMark.{is_mark}
-use Rattle.idn_class.specs.Tests.{all_places, leading_mark, contextj_ok, contexto_ok, bidi_ok}
-use Rattle.idn_class.specs.ContextO.{is_arabic_digit, is_extended_arabic_digit}
-use Rattle.idn_class.proofs.ContextJTests.{contextj_ok-PassesContextJ}
-use Rattle.idn_class.proofs.ContextOTests.{contexto_ok-PassesContextO}
+use Rattle.idn_class.specs.Tests.{all_places}
 use Rattle.idn_class.proofs.TestLemmas.{all_places-at}
 use Rattle.std.specs.Char.{is_ascii}
-use Rattle.std.proofs.lemmas.List.Elements.{All-weaker, All-map}
+use Rattle.std.proofs.lemmas.List.Elements.{All-weaker}
 use Rattle.std.proofs.lemmas.List.Folds.{list_any_none}
 use Rattle.std.proofs.lemmas.List.Sums.{AllPass-from_list_all, list_all-from_AllPass}
 use Rattle.idna.specs.Punycode.{encode}
 use Rattle.idna.specs.Validity.{is_all_ascii}
-use Rattle.unicode_normalization.specs.Forms.{Nfc, is_nfc}
-use Rattle.unicode_normalization.proofs.FormsLemmas.{normalize-ascii, is_in_form_from}
-use Rattle.idn_text.specs.declared.refusal.Refusal.{Refusal}
 use Rattle.idn_text.specs.declared.refusal.Refusal.TheVariants.{Empty, Hyphen, LabelTooLong}
 use Rattle.idn_label.specs.ALabel.{a_label_of}
 use Rattle.idn_label.specs.FirstFault.{first_of, fault_if, fault_of_class, code_point_fault, has_hyphen_out_of_place, is_too_long, first_fault}
@@ -33,7 +24,7 @@ use Rattle.idn_class.specs.declared.facts.Fact.TheVariants.{MayBeBarred, Context
 use Rattle.idn_class.specs.Facts.{has_fact, IsSimple}
 use Rattle.idn_class.proofs.FactLabels.{Lacks, leading_mark-lacks, contextj_ok-lacks, contexto_ok-lacks, bidi_ok-lacks, is_nfc-lacks}
 use Rattle.idn_class.proofs.FactTrie.{is_simple_in_table, IsSimple-in_table}
-use Rattle.idn_label.proofs.FaultLemmas.{code_point_fault-lacks, code_point_fault-nil, code_point_fault-cons, first_of-none, first_of-one, first_fault-parts}
+use Rattle.idn_label.proofs.FaultLemmas.{code_point_fault-lacks, code_point_fault-cons, first_of-none, first_fault-parts}
 
 -- the class of an ASCII code point: PVALID where it is LDH, else DISALLOWED
 abbrev has_class : Bool → Option Class → Bool

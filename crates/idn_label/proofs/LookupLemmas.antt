@@ -1,6 +1,7 @@
 -- The name as a query sends it, by what ToASCII gives.
 use Rattle.std.proofs.Common.{◌≢◌, [], ◌∷◌, get_or, eq-eqb, ne_eqb, ◌≡◌, ◌≤◌, ℕ, ◌-◌, Bool, true, false, List, length, take, slice_index, Option, Some, None, Result, Ok, Err, refl, sym, ap, ◌∙◌, inl, inr, arith}
-use Rattle.std.specs.Str.{is_utf8, IsAscii}
+use Rattle.std.specs.Str.{is_utf8, IsUtf8, IsAscii}
+use Rattle.std.proofs.lemmas.Str.{IsUtf8-from_is_utf8, is_utf8-from_IsUtf8}
 use Rattle.std.proofs.lemmas.List.{length-take}
 use Rattle.std.proofs.lemmas.Bool.{cond-true, cond-false, cases_Bool, and_parts, leb-true}
 use Rattle.idna.specs.declared.deny_list.AsciiDenyList.{AsciiDenyList}
@@ -11,8 +12,11 @@ use Rattle.idna.specs.Uts46.{to_ascii, verify_dns_length, has_dns_lengths}
 use Rattle.idna.proofs.Uts46Lemmas.{IsAscii-to_ascii}
 use Rattle.idn_text.specs.declared.refusal.Refusal.{Refusal}
 use Rattle.idn_label.specs.Answers.{Gives}
-use Rattle.idn_text.specs.declared.refusal.Refusal.TheVariants.{LookupInvalid, LookupLength}
-use Rattle.idn_label.specs.Lookup.{deny_list, measured_answer, query_name}
+use Rattle.idn_text.specs.declared.refusal.Refusal.TheVariants.{NotUtf8, LookupInvalid, LookupLength}
+use Rattle.idn_label.specs.Lookup.{deny_list, measured_answer, query_name, utf8_answer, lookup_answer}
+use Rattle.idn_text.specs.Points.{AreScalarValues, utf8_of}
+use Rattle.idn_text.proofs.Utf8Lemmas.{IsUtf8-from_points}
+use Rattle.idn_label.proofs.AnswerLemmas.{Gives-same}
 
 pub query_name-measured : (name : List ℕ) (std3 : Bool) (deny : AsciiDenyList) (ascii : Option (List ℕ)) → deny ≡ deny_list std3 → to_ascii deny Allow Ignore name ≡ ascii → query_name name std3 ≡ measured_answer ascii
 unfolding query_name
@@ -35,10 +39,38 @@ verified-short name within =
           omega (arith, whole)
     ]
 
--- bytes that are no UTF-8 are refused
-pub query_name-not_utf8 : (bytes : List ℕ) (std3 : Bool) → is_utf8 bytes ≡ false → query_name bytes std3 ≡ Err LookupInvalid
-unfolding query_name to_ascii
-query_name-not_utf8 bytes std3 other = rw other refl
+-- ---- bytes
+
+-- what ToASCII gives something of is UTF-8
+to_ascii-utf8 : (deny : AsciiDenyList) (bytes query : List ℕ) → to_ascii deny Allow Ignore bytes ≡ Some query → is_utf8 bytes ≡ true
+unfolding to_ascii
+to_ascii-utf8 deny bytes query is = by_test (is_utf8 bytes) refl
+  where
+    by_test : (b : Bool) → is_utf8 bytes ≡ b → b ≡ true
+    by_test true e = refl
+    by_test false e =
+        let none : to_ascii deny Allow Ignore bytes ≡ None = rw e refl in
+        absurd (let clash : None ≡ Some query = sym none ∙ is in cc)
+
+utf8_answer-name : (bytes : List ℕ) (std3 : Bool) → is_utf8 bytes ≡ true → utf8_answer bytes std3 ≡ query_name bytes std3
+unfolding utf8_answer
+utf8_answer-name bytes std3 utf8 = cond-true _ _ _ utf8
+
+pub utf8_answer-other : (bytes : List ℕ) (std3 : Bool) → ¬ (IsUtf8 bytes) → utf8_answer bytes std3 ≡ Err NotUtf8
+unfolding utf8_answer
+utf8_answer-other bytes std3 other =
+    elim (cases_Bool (is_utf8 bytes)) [
+      | inl utf8 ↦ absurd (other (IsUtf8-from_is_utf8 bytes utf8))
+      | inr missing ↦ cond-false _ _ _ missing
+    ]
+
+pub utf8_answer-text : (bytes text : List ℕ) (std3 : Bool) → IsUtf8 text → text ≡ bytes → utf8_answer bytes std3 ≡ query_name bytes std3
+utf8_answer-text bytes text std3 utf8 same = utf8_answer-name bytes std3 (ap is_utf8 (sym same) ∙ is_utf8-from_IsUtf8 text utf8)
+
+pub utf8_answer-points : (name text : List ℕ) (std3 : Bool) → AreScalarValues name → text ≡ utf8_of name → utf8_answer text std3 ≡ lookup_answer name std3
+utf8_answer-points name text std3 scalars same =
+    ap (λ bytes. utf8_answer bytes std3) same
+    ∙ utf8_answer-text (utf8_of name) (utf8_of name) std3 (IsUtf8-from_points (utf8_of name) name (record { scalar_values = scalars; encoded = refl })) refl
 
 -- ---- the lengths
 
@@ -71,7 +103,20 @@ pub query_name-ascii : (name query : List ℕ) (std3 : Bool) → query_name name
 unfolding query_name
 query_name-ascii name query std3 e = IsAscii-to_ascii (deny_list std3) Allow Ignore name query (measured_answer-ok _ query e)
 
--- the lengths of what ToASCII gives, as the answer
-pub Gives-measured : (r : Result (Unit {0}) Refusal) (name query text : List ℕ) (std3 : Bool) → text ≡ query → query_name name std3 ≡ measured_answer (Some query) → Gives (λ (_ : Unit {0}). text) r (measured_answer (Some text)) → Gives (λ (_ : Unit {0}). query) r (query_name name std3)
-Gives-measured (Ok value) name query text std3 same measured given = measured ∙ ap (λ t. measured_answer (Some t)) (sym same) ∙ given ∙ ap Ok same
-Gives-measured (Err refusal) name query text std3 same measured given = λ other. measured ∙ ap (λ t. measured_answer (Some t)) (sym same) ∙ given other
+pub utf8_answer-ascii : (name query : List ℕ) (std3 : Bool) → utf8_answer name std3 ≡ Ok query → IsAscii query
+unfolding utf8_answer
+utf8_answer-ascii name query std3 is =
+    elim (cases_Bool (is_utf8 name)) [
+      | inl utf8 ↦ query_name-ascii name query std3 (sym (cond-true _ _ _ utf8) ∙ is)
+      | inr other ↦ absurd (let clash : Err NotUtf8 ≡ Ok query = sym (cond-false _ _ _ other) ∙ is in cc)
+    ]
+
+-- the lengths of what ToASCII gives of a name, as the answer
+pub Gives-measured : (r : Result (Unit {0}) Refusal) (name query text : List ℕ) (std3 : Bool) → text ≡ query → to_ascii (deny_list std3) Allow Ignore name ≡ Some query → Gives (λ (_ : Unit {0}). text) r (measured_answer (Some text)) → Gives (λ (_ : Unit {0}). query) r (utf8_answer name std3)
+Gives-measured r name query text std3 same given measured =
+    Gives-same (λ (_ : Unit {0}). query) r (query_name name std3) (utf8_answer name std3) (sym (utf8_answer-name name std3 (to_ascii-utf8 (deny_list std3) name query given)))
+    (by_name r (query_name-measured name std3 _ _ refl given) measured)
+  where
+    by_name : (r : Result (Unit {0}) Refusal) → query_name name std3 ≡ measured_answer (Some query) → Gives (λ (_ : Unit {0}). text) r (measured_answer (Some text)) → Gives (λ (_ : Unit {0}). query) r (query_name name std3)
+    by_name (Ok value) is given = is ∙ ap (λ t. measured_answer (Some t)) (sym same) ∙ given ∙ ap Ok same
+    by_name (Err refusal) is given = λ other. is ∙ ap (λ t. measured_answer (Some t)) (sym same) ∙ given other

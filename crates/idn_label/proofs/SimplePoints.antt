@@ -1,12 +1,11 @@
 -- Code points that pass in a label of lookup, by their facts.
-use Rattle.std.proofs.Common.{inl, inr, ◌≡◌, ℕ, ◌<◌, ◌≤◌, Bool, true, false, not, ◌||◌, ◌==◌, bytes_eq, List, [], ◌∷◌, All, cond, refl, sym, ap, subst, ◌∙◌, arith, lit<, eqb-true}
+use Rattle.std.proofs.Common.{inl, inr, ◌≡◌, ℕ, ◌<◌, ◌≤◌, Bool, true, false, not, ◌==◌, bytes_eq, List, [], ◌∷◌, All, cond, refl, sym, ap, subst, ◌∙◌, arith}
 use Rattle.std.specs.Char.{is_ascii, to_ascii_lowercase}
 use Rattle.std.specs.Cmp.Lexicographic.{bytes_decides}
-use Rattle.std.proofs.lemmas.Bool.{cases_Bool, cases_lt, and_parts, ne_eqb, not-true, false≢true}
+use Rattle.std.proofs.lemmas.Bool.{cases_lt, ne_eqb, false≢true}
 use Rattle.std.proofs.lemmas.Bool.Decides.{nat_tests}
 use Rattle.std.proofs.lemmas.List.Elements.{All-nil, All-cons, All-head, All-weaker}
 use Rattle.ucd_bidi.specs.BidiClass.{bidi_class as unicode_bidi_class}
-use Rattle.ucd_bidi.specs.BidiClassRows.{bidi_class_rows}
 use Rattle.ucd_bidi.specs.declared.BidiClass.{BidiClass}
 use Rattle.ucd_bidi.specs.declared.BidiClass.TheVariants.{RightToLeft as UnicodeRightToLeft, ArabicLetter, ArabicNumber}
 use Rattle.ucd_category.specs.GeneralCategory.{general_category}
@@ -15,17 +14,11 @@ use Rattle.ucd_category.specs.declared.GeneralCategory.{GeneralCategory}
 use Rattle.ucd_category.specs.declared.GeneralCategory.TheVariants.{NonspacingMark, SpacingMark, EnclosingMark}
 use Rattle.ucd_category.specs.declared.GeneralCategoryGroup.TheVariants.{Mark}
 use Rattle.ucd_idna_map.specs.IdnaMapping.{idna_mapping, idna_mapping_rows}
-use Rattle.ucd_idna_map.specs.IdnaStatus.{idna_status, idna_status_eq}
+use Rattle.ucd_idna_map.specs.IdnaStatus.{idna_status}
 use Rattle.ucd_idna_map.specs.IdnaStatusRows.{idna_status_rows}
 use Rattle.ucd_idna_map.specs.declared.IdnaStatus.{IdnaStatus}
 use Rattle.ucd_idna_map.specs.declared.IdnaStatus.TheVariants.{Valid, Mapped, Deviation}
-use Rattle.ucd_normal.specs.declared.forms.Form.TheVariants.{Nfc}
-use Rattle.ucd_normal.specs.declared.forms.QuickCheck.{QuickCheck}
-use Rattle.ucd_normal.specs.declared.forms.QuickCheck.TheVariants.{Yes}
-use Rattle.ucd_normal.specs.CanonicalCombiningClass.{canonical_combining_class}
-use Rattle.ucd_normal.specs.QuickCheck.{quick_check}
 use Rattle.ucd_table.proofs.Computing.{tables}
-use Rattle.unicode_normalization.proofs.FormsLemmas.{class-latin, quick_check-ascii}
 use Rattle.idna.specs.AsciiDenyList.{may_be_denied}
 use Rattle.idna.specs.BidiRule.{is_rtl}
 use Rattle.idna.specs.Labels.{is_full_stop}
@@ -33,10 +26,7 @@ use Rattle.idna.specs.Uts46.{map_by, map_char}
 use Rattle.idna.specs.Validity.{begins_with_mark, is_valid_status}
 use Rattle.idn_class.proofs.Computing.{rules, in_table, class_of-in_table}
 use Rattle.idn_class.specs.declared.class.Class.TheVariants.{Pvalid, Contextj, Disallowed}
-use Rattle.idn_class.specs.BidiClass.{bidi_class}
-use Rattle.idn_class.specs.BidiRule.{is_rtl_class}
 use Rattle.idn_class.specs.Class.{class_of}
-use Rattle.idn_class.specs.declared.facts.Fact.{Fact}
 use Rattle.idn_class.specs.declared.facts.Fact.TheVariants.{MayBeBarred, Contextj as fact_Contextj, MayCompose, Mark as Mark_fact, RightToLeft, NotKept}
 use Rattle.idn_class.specs.Facts.{is_barred_class, is_contextj, is_unicode_rtl_class, is_kept_status, has_fact, IsSimple}
 use Rattle.idn_class.proofs.FactLabels.{class_without, contextj_without, compose_without, mark_without, rtl_without, kept_without}

@@ -27,6 +27,16 @@ pub record IsRead (name label query : List ℕ) : Type 0 where
   pub passes : All PassesInLabel label
   pub no_mark : begins_with_mark label ≡ false
 
+pub read_nothing : IsRead [] [] []
+read_nothing = record {
+  whole = [];
+  mapped = refl;
+  written = refl;
+  short = All-nil IsShortLabel;
+  passes = All-nil PassesInLabel;
+  no_mark = refl;
+}
+
 pub same_read : {name name' label label' query query' : List ℕ} → name ≡ name' → label ≡ label' → query ≡ query' → IsRead name label query → IsRead name' label' query'
 same_read n l q r = record {
   whole = r.whole;

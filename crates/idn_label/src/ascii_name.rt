@@ -19,8 +19,9 @@ use memchr::memchr;
 use std::alloc::Global;
 
 /// Appends the UTF-8 of what `decode_name` makes of a name in ASCII. A name without A-labels takes no memory, nor does an
-/// A-label in most cases: of more than 63 octets it does, as the code of a label in ASCII, and where what it stands for
-/// may compose or is no code point of which a look-up tells the class. Where the name is refused, what was appended says nothing.
+/// A-label in most cases: one of more than 63 octets does, one of a label in ASCII, and one of a label with a code point
+/// of which no look-up tells the class, or for which the quick check of NFC is Maybe. Where the name is refused, what was
+/// appended says nothing.
 pub fn decode_ascii<const N: usize>(
     alloc: Global,
     name: &[u8],

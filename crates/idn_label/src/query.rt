@@ -5,7 +5,7 @@ ghost use Rattle.idna.specs.Display.{IsPlain};
 ghost use Rattle.idna.specs.declared.options.Hyphens.TheVariants.{Allow};
 ghost use Rattle.idn_text.specs.Points.{AreScalarValues, utf8_of};
 ghost use Rattle.idn_label.specs.Answers.{Gives};
-ghost use Rattle.idn_label.specs.Lookup.{deny_list, query_name, lookup_answer};
+ghost use Rattle.idn_label.specs.Lookup.{deny_list, utf8_answer, lookup_answer};
 
 mod full;
 mod ldh;
@@ -41,7 +41,7 @@ pub fn lookup(alloc: Global, name: &[u32], std3: bool) -> Result<String, Refusal
 }
 
 /// Leaves in `query` the octets that `lookup` answers of a name in UTF-8 (RFC 3629), in place of what stood there: at most
-/// 254. Other bytes are refused as `LookupInvalid`; where the name is refused, what is left in `query` says nothing. A
+/// 254. Other bytes are refused as `NotUtf8`; where the name is refused, what is left in `query` says nothing. A
 /// name in ASCII without capitals takes no memory where none of its labels begins with `xn--` and, with `std3`, it has
 /// only letters, digits, hyphens and full stops.
 pub fn lookup_utf8<const N: usize>(
@@ -51,17 +51,20 @@ pub fn lookup_utf8<const N: usize>(
     query: &mut ArrayVec<u8, N>,
 ) -> Result<(), Refusal>
     requires { 254 ≤ N }
-    ensures answer { Gives (λ _. query.new.items) result (query_name name.now std3) }
+    ensures answer { Gives (λ _. query.new.items) result (utf8_answer name.now std3) }
     ensures short { OnOk result (array_vec_len query.new ≤ 254) }
-    ensures plain { IsPlain (deny_list std3) Allow name.now → result ≢ Err Refusal.Memory }
+    ensures no_memory { IsPlain (deny_list std3) Allow name.now → result ≢ Err Refusal.Memory }
 {
     query.clear();
     if let Some(()) = ldh_query(name, query) {
         return verify(query);
     }
+    let Ok(text) = str::from_utf8(name) else {
+        return Err(Refusal::NotUtf8);
+    };
     query.clear();
     if !name.is_ascii() {
-        if let Some(()) = simple_query(name, query) {
+        if let Some(()) = simple_query(text, query) {
             return verify(query);
         }
     }

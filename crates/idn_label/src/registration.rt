@@ -7,8 +7,8 @@ ghost use Rattle.idn_label.specs.FirstFault.{IsRegistrable};
 ghost use Rattle.idn_label.specs.Register.{register_answer};
 
 use crate::a_label::{ALabel, ascii_text};
-use crate::octets::ascii_octets;
 use crate::first_fault::test_label;
+use crate::octets::ascii_octets;
 use crate::u_label::{MAX_LINE_LEN, u_label};
 use crate::unit::has_ace_prefix;
 use arrayvec::ArrayVec;

@@ -11,8 +11,8 @@ ghost use Rattle.idn_label.specs.Register.{decoded_code, confirmed, u_label_answ
 
 use crate::a_label::{ALabel, MAX_LABEL_LEN};
 use crate::code_points::{points_of, short_points};
-use crate::octets::lowercase_of;
 use crate::first_fault::{check_label, test_label};
+use crate::octets::lowercase_of;
 use crate::unit::is_all_ascii;
 use arrayvec::ArrayVec;
 use idn_punycode::decode;

@@ -6,6 +6,7 @@ use Rattle.std.specs.Io.KnownBytes.{Consumes, IsAtEnd, prepend_known}
 use Rattle.idn_text.specs.Lines.{Numbered, raw_lines, lines_of}
 use Rattle.idn_text.specs.declared.lines.State.{State}
 use Rattle.idn_text.specs.declared.lines.State.TheVariants.{Ended, Stopped}
+use Rattle.idn_text.specs.Readers.{Reader}
 use Rattle.idn_text.specs.Reading.{Reading, AreLines, HasRead, unread, idle_reads}
 
 -- what is taken to the end is the text
@@ -22,10 +23,10 @@ taken_within text held (Some rest) given taken =
     omega (arith, sum)
 
 -- the lines at the end are those of the text
-pub lines-ended : (text : List ℕ) (failed : Bool) (calls : ℕ) (now : Reading) (given : List ℕ) (lines : List Numbered) → HasRead (unread (Some text) failed calls) now given lines → now.state ≡ Ended → lines ≡ lines_of text
-lines-ended text failed calls now given lines has is_ended =
+pub lines-ended : (text : List ℕ) (reader : Reader) (now : Reading) (given : List ℕ) (lines : List Numbered) → HasRead (unread (record reader { remaining = Some text })) now given lines → now.state ≡ Ended → lines ≡ lines_of text
+lines-ended text reader now given lines has is_ended =
     let read = subst (λ (s : State). AreLines s now.input given lines) is_ended has.read in
-    read.0 ∙ ap lines_of (taken_whole text now.input.held now.input.coming given has.taken read.1.held read.1.coming)
+    read.0 ∙ ap lines_of (taken_whole text now.input.held now.input.reader.remaining given has.taken read.1.held read.1.coming)
 
 onto_first-count : (c : ℕ) (lines : List (List ℕ)) → length (onto_first c lines) ≤ length lines + 1
 onto_first-count c [] = omega arith
@@ -41,11 +42,11 @@ length-raw_lines-le [] = omega arith
 length-raw_lines-le (c ∷ cs) = let step = count_step c cs (eqb c 10) (length-raw_lines-le cs) in omega (arith, step)
 
 -- a reader that does not fail is not stopped in a text of fewer bytes than lines may be
-pub never_stopped : (text : List ℕ) (failed : Bool) (calls : ℕ) (now : Reading) (given : List ℕ) (lines : List Numbered) → HasRead (unread (Some text) failed calls) now given lines → length text < 2 ^ 32 → now.state ≡ Stopped → now.input.failed ≡ true
-never_stopped text failed calls now given lines has few is_stopped =
+pub never_stopped : (text : List ℕ) (reader : Reader) (now : Reading) (given : List ℕ) (lines : List Numbered) → HasRead (unread (record reader { remaining = Some text })) now given lines → length text < 2 ^ 32 → now.state ≡ Stopped → now.input.reader.has_failed ≡ true
+never_stopped text reader now given lines has few is_stopped =
     let read = subst (λ (s : State). AreLines s now.input given lines) is_stopped has.read in
     let asked : now.input.reads + 0 ≤ 0 + length given + length now.input.held + 1 = subst (λ (s : State). now.input.reads + 0 ≤ 0 + length given + length now.input.held + idle_reads s) is_stopped has.asked in
-    let within : length given ≤ length text = taken_within text now.input.held now.input.coming given has.taken in
+    let within : length given ≤ length text = taken_within text now.input.held now.input.reader.remaining given has.taken in
     elim read.1 [
       | inl stop ↦ (let none : length now.input.held ≡ 0 = ap length stop.held in elim stop.cause [ inl is ↦ is | inr bound ↦ absurd (omega (arith, bound, none, asked, within, few)) ])
       | inr many ↦ absurd (omega (arith, many, within, few, length-raw_lines-le given))

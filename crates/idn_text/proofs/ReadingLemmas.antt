@@ -19,6 +19,7 @@ has_read_nothing start unread =
       taken = consumes_nothing (left start.input);
       asked = omega arith;
       called = omega arith;
+      no_fault = λ _. refl;
       counted = number;
       few = omega arith;
       read = subst (λ (s : State). AreLines s start.input [] []) (sym unread.state) (refl, tt);
@@ -31,9 +32,12 @@ asked_more start old new given line feed idle before takes =
     let asked = takes.asked in
     omega arith
 
+not_stopped : {s : State} → s ≡ Open → s ≢ Stopped
+not_stopped is_open stopped = let bad : Open ≡ Stopped = sym is_open ∙ stopped in cc
+
 -- a line that a line feed ends
-pub has_line : (start old new : Reading) (given line : List ℕ) (lines : List Numbered) → HasRead start old given lines → old.state ≡ Open → Takes old.input new.input line (10 ∷ []) 0 → old.number < 2 ^ 32 → new.number ≡ old.number + 1 → new.state ≡ Open → HasRead start new (given ++ (line ++ 10 ∷ [])) (lines ++ record { number = old.number + 1; body = body_of line } ∷ [])
-has_line start old new given line lines has is_open takes few number still =
+pub has_line : (start old new : Reading) (given line : List ℕ) (lines : List Numbered) → HasRead start old given lines → old.state ≡ Open → Takes old.input new.input line (10 ∷ []) 0 → new.input.reader.faults ≡ old.input.reader.faults → old.number < 2 ^ 32 → new.number ≡ old.number + 1 → new.state ≡ Open → HasRead start new (given ++ (line ++ 10 ∷ [])) (lines ++ record { number = old.number + 1; body = body_of line } ∷ [])
+has_line start old new given line lines has is_open takes no_fault few number still =
     let read = subst (λ (s : State). AreLines s old.input given lines) is_open has.read in
     let asked = subst (λ (s : State). old.input.reads + length start.input.held ≤ start.input.reads + length given + length old.input.held + idle_reads s) is_open has.asked in
     let counted = has.counted in
@@ -43,6 +47,7 @@ has_line start old new given line lines has is_open takes few number still =
       taken = consumes_join (left start.input) (left old.input) (left new.input) given (line ++ 10 ∷ []) has.taken takes.taken;
       asked = subst (λ (s : State). new.input.reads + length start.input.held ≤ start.input.reads + length after + length new.input.held + idle_reads s) (sym still) (asked_more start old new given line (10 ∷ []) 0 asked takes);
       called = omega (arith, has.called, takes.called);
+      no_fault = λ _. no_fault ∙ has.no_fault (not_stopped is_open);
       counted = omega (arith, length-append lines (record { number = old.number + 1; body = body_of line } ∷ []));
       few = omega arith;
       read = subst (λ (s : State). AreLines s new.input after now) (sym still)
@@ -50,8 +55,8 @@ has_line start old new given line lines has is_open takes few number still =
     }
 
 -- the last line, which no line feed ends
-pub has_last : (start old new : Reading) (given line : List ℕ) (lines : List Numbered) → HasRead start old given lines → old.state ≡ Open → Takes old.input new.input line [] 1 → line ≢ [] → HasEnded new.input → old.number < 2 ^ 32 → new.number ≡ old.number + 1 → new.state ≡ Ended → HasRead start new (given ++ (line ++ [])) (lines ++ record { number = old.number + 1; body = body_of line } ∷ [])
-has_last start old new given line lines has is_open takes some at_end few number still =
+pub has_last : (start old new : Reading) (given line : List ℕ) (lines : List Numbered) → HasRead start old given lines → old.state ≡ Open → Takes old.input new.input line [] 1 → line ≢ [] → HasEnded new.input → new.input.reader.faults ≡ old.input.reader.faults → old.number < 2 ^ 32 → new.number ≡ old.number + 1 → new.state ≡ Ended → HasRead start new (given ++ (line ++ [])) (lines ++ record { number = old.number + 1; body = body_of line } ∷ [])
+has_last start old new given line lines has is_open takes some at_end no_fault few number still =
     let read = subst (λ (s : State). AreLines s old.input given lines) is_open has.read in
     let asked = subst (λ (s : State). old.input.reads + length start.input.held ≤ start.input.reads + length given + length old.input.held + idle_reads s) is_open has.asked in
     let counted = has.counted in
@@ -61,6 +66,7 @@ has_last start old new given line lines has is_open takes some at_end few number
       taken = consumes_join (left start.input) (left old.input) (left new.input) given (line ++ []) has.taken takes.taken;
       asked = subst (λ (s : State). new.input.reads + length start.input.held ≤ start.input.reads + length after + length new.input.held + idle_reads s) (sym still) (asked_more start old new given line [] 1 asked takes);
       called = omega (arith, has.called, takes.called);
+      no_fault = λ _. no_fault ∙ has.no_fault (not_stopped is_open);
       counted = omega (arith, length-append lines (record { number = old.number + 1; body = body_of line } ∷ []));
       few = omega arith;
       read = subst (λ (s : State). AreLines s new.input after now) (sym still)
@@ -79,6 +85,7 @@ has_failed start old new given line lines has is_open takes failed number still 
       taken = consumes_join (left start.input) (left old.input) (left new.input) given (line ++ []) has.taken takes.taken;
       asked = subst (λ (s : State). new.input.reads + length start.input.held ≤ start.input.reads + length after + length new.input.held + idle_reads s) (sym still) (asked_more start old new given line [] 1 asked takes);
       called = omega (arith, has.called, takes.called);
+      no_fault = λ other. absurd (other still);
       counted = rw (append-nil lines) (number ∙ counted);
       few = omega arith;
       read = subst (λ (s : State). AreLines s new.input after (lines ++ [])) (sym still)
@@ -103,6 +110,7 @@ has_too_many start old new given line lines has_feed has is_open takes some full
       taken = consumes_join (left start.input) (left old.input) (left new.input) given (line ++ feed) has.taken takes.taken;
       asked = subst (λ (s : State). new.input.reads + length start.input.held ≤ start.input.reads + length after + length new.input.held + idle_reads s) (sym still) more;
       called = omega (arith, has.called, takes.called);
+      no_fault = λ other. absurd (other still);
       counted = rw (append-nil lines) (number ∙ counted);
       few = omega arith;
       read = subst (λ (s : State). AreLines s new.input after (lines ++ [])) (sym still)
@@ -118,9 +126,9 @@ has_too_many start old new given line lines has_feed has is_open takes some full
     at_most_once false = omega arith
 
 -- the line that a line feed ends, or the last one
-pub has_next : (start old new : Reading) (given line : List ℕ) (lines : List Numbered) (body : Option (List ℕ)) (has_feed : Bool) → HasRead start old given lines → old.state ≡ Open → Takes old.input new.input line (cond has_feed (10 ∷ []) []) (cond has_feed 0 1) → old.number < 2 ^ 32 → new.number ≡ old.number + 1 → (has_feed ≡ true → new.state ≡ Open) → (has_feed ≡ false → (new.state ≡ Ended) × (line ≢ []) × HasEnded new.input) → body ≡ body_of line → HasRead start new (given ++ (line ++ cond has_feed (10 ∷ []) [])) (lines ++ record { number = old.number + 1; body = body } ∷ [])
-has_next start old new given line lines body true has is_open takes few number then_opens then_ended e =
-    subst (λ (b : Option (List ℕ)). HasRead start new (given ++ (line ++ 10 ∷ [])) (lines ++ record { number = old.number + 1; body = b } ∷ [])) (sym e) (has_line start old new given line lines has is_open takes few number (then_opens refl))
-has_next start old new given line lines body false has is_open takes few number then_opens then_ended e =
+pub has_next : (start old new : Reading) (given line : List ℕ) (lines : List Numbered) (body : Option (List ℕ)) (has_feed : Bool) → HasRead start old given lines → old.state ≡ Open → Takes old.input new.input line (cond has_feed (10 ∷ []) []) (cond has_feed 0 1) → new.input.reader.faults ≡ old.input.reader.faults → old.number < 2 ^ 32 → new.number ≡ old.number + 1 → (has_feed ≡ true → new.state ≡ Open) → (has_feed ≡ false → (new.state ≡ Ended) × (line ≢ []) × HasEnded new.input) → body ≡ body_of line → HasRead start new (given ++ (line ++ cond has_feed (10 ∷ []) [])) (lines ++ record { number = old.number + 1; body = body } ∷ [])
+has_next start old new given line lines body true has is_open takes no_fault few number then_opens then_ended e =
+    subst (λ (b : Option (List ℕ)). HasRead start new (given ++ (line ++ 10 ∷ [])) (lines ++ record { number = old.number + 1; body = b } ∷ [])) (sym e) (has_line start old new given line lines has is_open takes no_fault few number (then_opens refl))
+has_next start old new given line lines body false has is_open takes no_fault few number then_opens then_ended e =
     let last = then_ended refl in
-    subst (λ (b : Option (List ℕ)). HasRead start new (given ++ (line ++ [])) (lines ++ record { number = old.number + 1; body = b } ∷ [])) (sym e) (has_last start old new given line lines has is_open takes last.1 last.2 few number last.0)
+    subst (λ (b : Option (List ℕ)). HasRead start new (given ++ (line ++ [])) (lines ++ record { number = old.number + 1; body = b } ∷ [])) (sym e) (has_last start old new given line lines has is_open takes last.1 last.2 no_fault few number last.0)

@@ -33,7 +33,7 @@ takes_ended old new k first here e =
     let after : Input = record old { held = drop (k + 1) old.held } in
     subst (λ (n : Input). Takes old n (take k old.held) (10 ∷ []) 0) (sym e) (let is : Takes old after (take k old.held) (10 ∷ []) 0 = record {
       plain = plain_take old.held k k first.before (omega (arith, length-take k old.held));
-      taken = subst (Consumes (left old) (left after)) split (consumes_front old.coming old.held (k + 1));
+      taken = subst (Consumes (left old) (left after)) split (consumes_front old.reader.remaining old.held (k + 1));
       asked = omega (arith, first.high);
       called = omega arith;
     } in is)
@@ -47,7 +47,7 @@ takes_all old new none e =
     let after : Input = record old { held = drop n old.held } in
     subst (λ (m : Input). Takes old m old.held [] 0) (sym e) (let is : Takes old after old.held [] 0 = record {
       plain = subst (All (λ byte. byte ≢ 10)) all (plain_take old.held n n none (omega (arith, length-take n old.held)));
-      taken = subst (Consumes (left old) (left after)) (all ∙ sym (append-nil old.held)) (consumes_front old.coming old.held n);
+      taken = subst (Consumes (left old) (left after)) (all ∙ sym (append-nil old.held)) (consumes_front old.reader.remaining old.held n);
       asked = omega arith;
       called = omega arith;
     } in is)
@@ -73,7 +73,7 @@ takes_then a b c f g feed idle first second =
     }
 
 -- a read call behind what was taken, which may have given bytes
-pub takes_read : (a b c : Input) (f feed : List ℕ) (idle : ℕ) → Takes a b f feed 0 → Keeps (left b) (left c) → c.reads + length b.held ≤ b.reads + length c.held + idle → c.calls + b.reads ≤ b.calls + c.reads → Takes a c f feed idle
+pub takes_read : (a b c : Input) (f feed : List ℕ) (idle : ℕ) → Takes a b f feed 0 → Keeps (left b) (left c) → c.reads + length b.held ≤ b.reads + length c.held + idle → c.reader.calls + b.reads ≤ b.reader.calls + c.reads → Takes a c f feed idle
 takes_read a b c f feed idle first same asked called =
     let first_asked = first.asked in
     record { plain = first.plain; taken = consumes_kept (left a) (left b) (left c) (f ++ feed) first.taken same; asked = omega arith; called = omega (arith, first.called, called) }

@@ -1,5 +1,5 @@
 -- The numbered lines of what a reader gave.
-use Rattle.std.specs.Prelude.{◌≡◌, ℕ, ◌+◌, ◌^◌, ◌⊎◌, ◌<◌, ◌≤◌, List, [], ◌∷◌, length, take, Option, Some, None, Bool, true, false, Result, Ok, Err}
+use Rattle.std.specs.Prelude.{◌≡◌, ◌≢◌, ℕ, ◌+◌, ◌^◌, ◌⊎◌, ◌<◌, ◌≤◌, List, [], ◌∷◌, length, take, Option, Some, None, Bool, true, false, Result, Ok, Err}
 use Rattle.std.specs.Io.KnownBytes.{Consumes}
 use Rattle.idn_text.specs.declared.lines.Line.{Line}
 use Rattle.idn_text.specs.declared.lines.ReadFault.{ReadFault}
@@ -7,6 +7,7 @@ use Rattle.idn_text.specs.declared.lines.State.{State}
 use Rattle.idn_text.specs.declared.lines.State.TheVariants.{Open, Ended, Stopped}
 use Rattle.idn_text.specs.Bodies.{bytes_of}
 use Rattle.idn_text.specs.Lines.{Numbered, EndsInFeed, raw_lines, lines_of, ended_lines_of}
+use Rattle.idn_text.specs.Readers.{Reader}
 use Rattle.idn_text.specs.Taking.{Input, left, HasEnded, HasFailed}
 
 -- where the reading of lines has come to: its input, the number of the last line, and whether more may come
@@ -16,9 +17,8 @@ pub record Reading : Type 0 where
   pub state : State
 
 -- the lines of a reader of which none was read yet
-abbrev pub unread : Option (List ℕ) → Bool → ℕ → Reading
-unread coming failed calls =
-    record { input = record { held = []; coming = coming; reads = 0; calls = calls; failed = failed }; number = 0; state = Open }
+abbrev pub unread : Reader → Reading
+unread reader = record { input = record { held = []; reader = reader; reads = 0 }; number = 0; state = Open }
 
 -- none was read yet
 pub record IsUnread (reading : Reading) : Type 0 where
@@ -44,18 +44,20 @@ idle_reads Open = 0
 idle_reads Ended = 1
 idle_reads Stopped = 1
 
--- from the start to now these bytes were given and these lines of them were read, and each read call but the idle ones gave a byte or more; none is uncounted
+-- from the start to now these bytes were given and these lines of them were read, and each read call but the idle ones gave a byte or more; none is
+-- uncounted, and none failed but one that stopped the reading
 pub record HasRead (start now : Reading) (given : List ℕ) (lines : List Numbered) : Type 0 where
   pub taken : Consumes (left start.input) (left now.input) given
   pub asked : now.input.reads + length start.input.held ≤ start.input.reads + length given + length now.input.held + idle_reads now.state
-  pub called : now.input.calls + start.input.reads ≤ start.input.calls + now.input.reads
+  pub called : now.input.reader.calls + start.input.reads ≤ start.input.reader.calls + now.input.reads
+  pub no_fault : now.state ≢ Stopped → now.input.reader.faults ≡ start.input.reader.faults
   pub counted : now.number ≡ length lines
   pub few : now.number ≤ 2 ^ 32
   pub read : AreLines now.state now.input given lines
 
 -- the reader failed, or a bound was met
 abbrev pub HasStopped : Reading → Type 0
-HasStopped reading = (reading.input.failed ≡ true) ⊎ ((reading.input.reads ≡ 2 ^ 40) ⊎ (reading.number ≡ 2 ^ 32))
+HasStopped reading = (reading.input.reader.has_failed ≡ true) ⊎ ((reading.input.reads ≡ 2 ^ 40) ⊎ (reading.number ≡ 2 ^ 32))
 
 -- a line as its number and its body
 abbrev pub numbered_line : Line → Numbered

@@ -1,36 +1,35 @@
 -- Lines taken from what a reader gave.
-use Rattle.std.specs.Prelude.{◌≡◌, ℕ, ◌+◌, ◌^◌, ◌≤◌, ◌⊎◌, nat_lt, List, [], ◌++◌, length, Option, Some, None, Bool, true, if◌then◌else◌}
+use Rattle.std.specs.Prelude.{◌≡◌, ℕ, ◌+◌, ◌^◌, ◌≤◌, ◌⊎◌, nat_lt, List, [], ◌++◌, length, Option, Some, None, true, if◌then◌else◌}
 use Rattle.std.specs.Io.KnownBytes.{Consumes, IsAtEnd, prepend_known}
 use Rattle.idn_text.specs.Lines.{IsPlain}
+use Rattle.idn_text.specs.Readers.{Reader}
 
 -- a reader, with the bytes that it gave and that no line has taken yet
 pub record Input : Type 0 where
   pub held : List ℕ
-  pub coming : Option (List ℕ)
+  pub reader : Reader
   pub reads : ℕ
-  pub calls : ℕ
-  pub failed : Bool
 
 -- the bytes that no line has taken, where they are known
 abbrev pub left : Input → Option (List ℕ)
-left input = prepend_known input.held input.coming
+left input = prepend_known input.held input.reader.remaining
 
 -- the reader is at its end, and all that it gave is taken
 pub record HasEnded (input : Input) : Type 0 where
   pub held : input.held ≡ []
-  pub coming : IsAtEnd input.coming
+  pub coming : IsAtEnd input.reader.remaining
 
 -- the reader failed or was asked as often as it may be, and all that it gave is taken
 pub record HasFailed (input : Input) : Type 0 where
   pub held : input.held ≡ []
-  pub cause : (input.failed ≡ true) ⊎ (input.reads ≡ 2 ^ 40)
+  pub cause : (input.reader.has_failed ≡ true) ⊎ (input.reads ≡ 2 ^ 40)
 
 -- these bytes without a line feed, and then these, were taken; of the read calls between, none uncounted, all but so many gave a byte
 pub record Takes (old new : Input) (line feed : List ℕ) (idle : ℕ) : Type 0 where
   pub plain : IsPlain line
   pub taken : Consumes (left old) (left new) (line ++ feed)
   pub asked : new.reads + length old.held ≤ old.reads + length (line ++ feed) + length new.held + idle
-  pub called : new.calls + old.reads ≤ old.calls + new.reads
+  pub called : new.reader.calls + old.reads ≤ old.reader.calls + new.reads
 
 -- what is kept of a line: its bytes, if they are at most 1,024
 abbrev pub kept : List ℕ → Option (List ℕ)

@@ -1,6 +1,6 @@
 //! A reader with a buffer, cut at line feeds.
 
-ghost use Rattle.std.specs.Prelude.{◌≡◌, ◌<◌, ◌≤◌, ◌+◌, ◌^◌, ℕ, List, [], ◌∷◌, ◌++◌, length, drop, OnErr, IfOk, Ok, true, false, if◌then◌else◌};
+ghost use Rattle.std.specs.Prelude.{◌≡◌, ◌<◌, ◌≤◌, ◌+◌, ◌^◌, ℕ, List, [], ◌∷◌, ◌++◌, length, drop, OnErr, OnOk, IfOk, Ok, true, false, if◌then◌else◌};
 ghost use Rattle.std.specs.Io.KnownBytes.{Keeps};
 ghost use Rattle.idn_text.specs.Taking as seen;
 
@@ -29,7 +29,7 @@ impl<R: Source> Model for Input<R> {
 
     ghost Value = { seen.Input };
 
-    ghost view = { λ i. record { held = slice_range i.buffer i.start i.end; coming = R.remaining i.reader; reads = i.reads; calls = R.calls i.reader; failed = R.has_failed i.reader } };
+    ghost view = { λ i. record { held = slice_range i.buffer i.start i.end; reader = R.state i.reader; reads = i.reads } };
 
     ghost invariant = { λ i. (i.start ≤ i.end) × (i.end ≤ 16384) × (i.reads ≤ 2 ^ 40) };
 }
@@ -38,7 +38,7 @@ impl<R: Source> Input<R> {
     ghost use Rattle.idn_text.specs.Bodies.{bytes_of};
 
     pub fn new(reader: R) -> Self
-        ensures { result ≡ record { held = []; coming = R.remaining reader; reads = 0; calls = R.calls reader; failed = R.has_failed reader } }
+        ensures { result ≡ record { held = []; reader = R.state reader; reads = 0 } }
     {
         Input {
             reader,
@@ -51,7 +51,7 @@ impl<R: Source> Input<R> {
 
     /// Whether the last read call failed.
     pub fn failed(&self) -> bool
-        ensures { result ≡ self.now.failed }
+        ensures { result ≡ self.now.reader.has_failed }
     {
         self.reader.failed()
     }
@@ -62,6 +62,7 @@ impl<R: Source> Input<R> {
         requires { bytes_of body.old ≡ seen.kept [] }
         ensures line { IfOk result (λ has_feed. (line : List ℕ) × (bytes_of body.new ≡ seen.kept line)
             × seen.Takes self.old self.new line (if has_feed then 10 ∷ [] else []) (if has_feed then 0 else 1)) }
+        ensures no_fault { OnOk result (self.new.reader.faults ≡ self.old.reader.faults) }
         ensures ended { result ≡ Ok false → seen.HasEnded self.new }
         ensures failed { OnErr result ((line : List ℕ) × seen.Takes self.old self.new line [] 1 × seen.HasFailed self.new) }
     {
@@ -104,7 +105,8 @@ impl<R: Source> Input<R> {
         requires { self.old.held ≡ [] }
         ensures same { Keeps (seen.left self.old) (seen.left self.new) }
         ensures counted { self.new.reads ≤ self.old.reads + 1 }
-        ensures called { self.new.calls + self.old.reads ≤ self.old.calls + self.new.reads }
+        ensures called { self.new.reader.calls + self.old.reads ≤ self.old.reader.calls + self.new.reads }
+        ensures no_fault { OnOk result (self.new.reader.faults ≡ self.old.reader.faults) }
         ensures counts { result ≡ Ok true → self.new.reads ≡ self.old.reads + 1 }
         ensures limit { self.new.reads ≤ 2 ^ 40 }
         ensures came { result ≡ Ok true → 0 < length self.new.held }

@@ -74,7 +74,7 @@ impl<R: Source> Lines<R> {
 
     /// The lines of what a reader gives from here on. It is not asked yet.
     pub fn new(reader: R) -> Self
-        ensures { result ≡ unread (R.remaining reader) (R.has_failed reader) (R.calls reader) }
+        ensures { result ≡ unread (R.state reader) }
     {
         Lines {
             input: Input::new(reader),
@@ -85,7 +85,7 @@ impl<R: Source> Lines<R> {
 
     /// Whether the reader's last call failed.
     pub fn failed(&self) -> bool
-        ensures { result ≡ self.now.input.failed }
+        ensures { result ≡ self.now.input.reader.has_failed }
     {
         self.input.failed()
     }

@@ -1,8 +1,8 @@
 -- Entries as spans of a list of sequences.
-use Rattle.std.proofs.Common.{◌≡◌, ℕ, zero, suc, ◌+◌, ◌-◌, ◌<◌, ◌≤◌, List, [], ◌∷◌, ◌++◌, length, take, drop, Some, refl, ap, ◌∙◌, arith, length-take, length-drop}
+use Rattle.std.proofs.Common.{◌≡◌, ℕ, zero, suc, ◌+◌, ◌-◌, ◌<◌, ◌≤◌, List, [], ◌∷◌, ◌++◌, length, take, drop, Some, refl, sym, ap, ◌∙◌, arith, length-take, length-drop}
 use Rattle.std.specs.Prelude.{slice_get}
 use Rattle.std.specs.List.{All, AllByRecursion, slice_range}
-use Rattle.std.proofs.lemmas.List.{map-append}
+use Rattle.std.proofs.lemmas.List.{map-append, take-append-drop}
 use Rattle.std.proofs.lemmas.List.Elements.{recursion_from_All}
 use Rattle.variant_table.specs.declared.sequences.Span.{Span}
 use Rattle.variant_table.specs.Entries.{replacements}
@@ -72,6 +72,11 @@ by_cases sequences more limit (s ∷ spans) l h =
 -- what was there stays
 pub entries_of-append : (sequences more : List (List ℕ)) (spans : List Span) → All (IsEntryBelow (length sequences)) spans → entries_of (sequences ++ more) spans ≡ entries_of sequences spans
 entries_of-append sequences more spans h = by_cases sequences more (length sequences) spans (omega arith) (recursion_from_All (IsEntryBelow (length sequences)) spans h)
+
+-- sequences that no entry has yet leave the entries as they were
+pub entries_of-longer : (sequences longer : List (List ℕ)) (spans : List Span) → take (length sequences) longer ≡ sequences → All (IsEntryBelow (length sequences)) spans → entries_of longer spans ≡ entries_of sequences spans
+entries_of-longer sequences longer spans kept h =
+    ap (λ l. entries_of l spans) (sym (ap (λ t. t ++ drop (length sequences) longer) (sym kept) ∙ take-append-drop (length sequences) longer)) ∙ entries_of-append sequences (drop (length sequences) longer) spans h
 
 -- one more entry, at the end
 pub entries_of-push : (sequences more : List (List ℕ)) (spans : List Span) (a b : ℕ) → All (IsEntryBelow (length sequences)) spans → a ≡ length sequences → b ≡ length sequences + length more

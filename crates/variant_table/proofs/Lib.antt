@@ -5,7 +5,6 @@ pub mod SkipLemmas
 pub mod PartLemmas
 pub mod DraftLemmas
 pub mod EntryLemmas
-pub mod RowLemmas
 pub mod ReadLemmas
 pub mod PlaceLemmas
 pub mod HexLemmas

@@ -1,6 +1,6 @@
 -- The entries whose source begins a label at a place.
 use Rattle.std.specs.Prelude.{◌≡◌, ◌↔◌, ℕ, ◌+◌, ◌<◌, ◌≤◌, List, [], ◌∷◌, ◌++◌, length, take, drop, find, bytes_eq, Option, AllPairs, Contains}
-use Rattle.std.specs.List.{slice_range, position_from}
+use Rattle.std.specs.List.{slice_range}
 use Rattle.std.specs.Option.{option_to_list}
 use Rattle.variant_table.specs.Entries.{Entry}
 
@@ -11,10 +11,6 @@ EntryValue = Entry
 -- the entry with this source
 abbrev pub entry_with : List Entry → List ℕ → Option Entry
 entry_with table source = find (λ e. bytes_eq e.source source) table
-
--- the number of the entry with this source
-abbrev pub number_of : List Entry → List ℕ → Option ℕ
-number_of table source = position_from (λ e. bytes_eq e.source source) 0 table
 
 -- the entries whose source is a beginning followed by some of the rest, by rising length
 abbrev pub entries_from : List Entry → List ℕ → List ℕ → List Entry

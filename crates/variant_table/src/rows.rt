@@ -62,7 +62,7 @@ impl Rows {
         self.look_up(source).entry
     }
 
-    /// The entry with this source, and whether there may be sources that begin with it.
+    /// The entry with this source, and whether a longer source may begin with it.
     pub fn look_up(&self, source: &[u32]) -> LookUp<'_>
         ensures entry { result.entry ≡ entry_with self.now source.now }
         ensures longer { result.has_longer ≡ false → HasNoLonger self.now source.now }
@@ -103,7 +103,7 @@ impl Rows {
 pub struct LookUp<'a> {
     /// The entry whose source it is.
     pub entry: Option<Entry<'a>>,
-    /// Whether a longer source begins with it.
+    /// Not set where no longer source begins with it.
     pub has_longer: bool,
 }
 

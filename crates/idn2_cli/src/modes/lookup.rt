@@ -1,7 +1,6 @@
 //! Lookup: a name is answered by the name that a query has.
 
 ghost use Rattle.std.specs.Prelude.{◌≡◌, []};
-ghost use Rattle.std.specs.Str.{is_utf8};
 ghost use Rattle.idn_label.specs.Answers.{Gives};
 ghost use Rattle.idn_label.specs.Lookup.{lookup_answer};
 ghost use Rattle.idn2_cli.specs.Answers.{one_line};
@@ -15,7 +14,6 @@ use arrayvec::ArrayVec;
 use idn_label::lookup_utf8;
 use idn_text::{Refusal, Sink};
 use std::alloc::Global;
-use std::str;
 
 /// Lookup (UTS 46 section 4.2).
 #[derive(Clone, Copy)]
@@ -55,21 +53,7 @@ fn fill_line(
     if name.is_empty() {
         return Err(Refusal::Empty);
     }
-    match lookup_utf8(alloc, name, std3, line) {
-        Ok(()) => {
-            line.push(b'\n');
-            Ok(())
-        }
-        Err(refusal) if is_utf8(name) => Err(refusal),
-        Err(_) => Err(Refusal::NotUtf8),
-    }
-}
-
-fn is_utf8(text: &[u8]) -> bool
-    ensures { result ≡ is_utf8 text.now }
-{
-    match str::from_utf8(text) {
-        Ok(_) => true,
-        Err(_) => false,
-    }
+    lookup_utf8(alloc, name, std3, line)?;
+    line.push(b'\n');
+    Ok(())
 }

@@ -24,7 +24,7 @@ pub(crate) fn full_lookup<const N: usize>(
     requires { 254 ≤ N }
     ensures answer { Gives (λ _. query.new.items) result (query_name name.now std3) }
     ensures short { OnOk result (array_vec_len query.new ≤ 254) }
-    ensures plain { IsPlain (deny_list std3) Allow name.now → result ≢ Err Refusal.Memory }
+    ensures no_memory { IsPlain (deny_list std3) Allow name.now → result ≢ Err Refusal.Memory }
 {
     let ascii = match domain_to_ascii_cow(alloc, name, deny_list(std3)) {
         Ok(ascii) => ascii,

@@ -15,7 +15,6 @@ use crate::a_label::{MAX_LABEL_LEN, encoded_label};
 use crate::unit::{has_ace_prefix, is_all_ascii};
 use arrayvec::ArrayVec;
 use idn_class::{Fact, Facts};
-use std::str;
 use ucd_idna_map::{IdnaStatus, idna_mapping};
 
 /// A label, as it is mapped.
@@ -23,18 +22,15 @@ type Label = ArrayVec<char, MAX_LABEL_LEN>;
 
 /// Leaves in `query` what ToASCII (UTS 46 section 4.2) gives of a name in UTF-8, its lengths not verified. `None`
 /// says nothing of the name, and all of UTS 46 then gives the answer: a code point needs more tests, a label begins with
-/// `xn--`, a label or the answer has no room, or the bytes are no UTF-8.
+/// `xn--`, or a label or the answer has no room.
 // Its rooms are not to be made ready for each name that another way answers.
 #[inline(never)]
-pub(crate) fn simple_query<const N: usize>(name: &[u8], query: &mut ArrayVec<u8, N>) -> Option<()>
+pub(crate) fn simple_query<const N: usize>(name: &str, query: &mut ArrayVec<u8, N>) -> Option<()>
     requires { query.old.items ≡ [] }
     ensures { OnSome result ((std3 : Bool) → to_ascii (deny_list std3) Allow Ignore name.now ≡ Some query.new.items) }
 {
-    let Ok(text) = str::from_utf8(name) else {
-        return None;
-    };
     let mut label = Label::new();
-    for c in text.chars() {
+    for c in name.chars() {
         if c == '.' {
             push_a_label(&label, query)?;
             query.try_push(b'.').ok()?;

@@ -1,4 +1,4 @@
-use Rattle.std.proofs.Common.{◌≡◌, ◌≤◌, ◌<◌, ◌++◌, ℕ, List, codes, length, Some, sym, ap, subst, ◌∙◌, arith}
+use Rattle.std.proofs.Common.{◌≤◌, ◌<◌, ◌++◌, ℕ, List, codes, length, Some, sym, ap, subst, ◌∙◌}
 use Rattle.std.proofs.lemmas.Result.{on_ok_weaker, IfOk-weaker, MatchResult-weaker}
 use Rattle.idna.specs.Punycode.{encode}
 use Rattle.idn_label.proofs.FaultLemmas.{permitted-faultless, permitted_scalars, first_fault-short, first_fault-many, first_fault-long}

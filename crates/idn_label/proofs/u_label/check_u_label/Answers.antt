@@ -1,6 +1,5 @@
 use Rattle.std.proofs.Common.{sym, ap, ◌∙◌, ◌≤◌, length, subst}
 use Rattle.std.proofs.lemmas.Result.{on_ok_weaker, MatchResult-weaker}
-use Rattle.idn_label.specs.FirstFault.{first_fault}
 use Rattle.idn_label.specs.Steps.{fault_but_length}
 use Rattle.idn_label.proofs.FaultLemmas.{first_fault-short, first_fault-but_length}
 use Rattle.idn_label.proofs.SimpleNames.{a_label_of-other}

@@ -1,4 +1,4 @@
-use Rattle.std.proofs.Common.{bit_and, eqb-true, eq-eqb, IsTrue}
+use Rattle.std.proofs.Common.{bit_and, eqb-true, eq-eqb}
 use Rattle.idn_class.specs.Facts.{contains}
 use Rattle.idn_class.proofs.FactLemmas.{none-from_bits, bits-from_none}
 use Rattle.idn_class.proofs.facts.Facts.is_empty.Goals as goal

@@ -1,7 +1,7 @@
 use Rattle.std.proofs.Common.{ap, ap₂, sym, take_all, ◌∙◌, ◌||◌}
 use Rattle.std.specs.List.{list_any}
 use Rattle.std.proofs.lemmas.List.Folds.{list_any_more}
-use Rattle.idn_class.specs.Facts.{contains, has_fact}
+use Rattle.idn_class.specs.Facts.{has_fact}
 use Rattle.idn_class.proofs.FactLemmas.{none-all}
 use Rattle.idn_class.proofs.facts.Facts.of_label.Goals as goal
 

@@ -1,4 +1,4 @@
-use Rattle.std.proofs.Common.{◌≡◌, ◌++◌, ◌∷◌, [], false, ℕ, List, All, Option, Some, None, OnSome, refl, sym, ap, subst, ◌∙◌, rules}
+use Rattle.std.proofs.Common.{◌≡◌, ◌++◌, ◌∷◌, [], All, Option, Some, None, OnSome, refl, sym, ap, subst, ◌∙◌, rules}
 use Rattle.idna.specs.Validity.{begins_with_mark}
 use Rattle.idn_class.specs.Facts.{IsSimple}
 use Rattle.idn_label.specs.SimpleNames.{PassesInLabel}

@@ -4,8 +4,11 @@ use Rattle.std.proofs.lemmas.Iterator.Consumers.{YieldsList-end}
 use Rattle.std.specs.declared.str.Chars.{Chars}
 use Rattle.idn_label.specs.ALabel.{a_label_of}
 use Rattle.idn_label.specs.Lookup.{deny_list}
-use Rattle.idn_label.proofs.SimpleReads.{IsEnded, same_read, read_char, read_full_stop, read_all}
+use Rattle.idn_label.proofs.SimpleReads.{IsEnded, read_nothing, same_read, read_char, read_full_stop, read_all}
 use Rattle.idn_label.proofs.query.simple.simple_query.Goals as goal
+
+pub loop-c-init : goal.loop-c-init
+loop-c-init g c = same_read refl (sym c.new-label.ensures) (sym c.requires) read_nothing
 
 pub loop-c-preserved-then-c-eq46 : goal.loop-c-preserved-then-c-eq46
 loop-c-preserved-then-c-eq46 g c =
@@ -24,10 +27,10 @@ loop-c-preserved g c =
 
 pub returns : goal.returns
 returns g c std3 =
-    let text = c.in-Ok.ensures.cases in
-    let coming = ap (λ (chars : Chars). chars.rest.now) c.into_iter-c-iterator.ensures.into_iter_gives ∙ c.chars-c-items.ensures.rest ∙ text.0 in
-    let end = YieldsList-end (YieldsList-from_chars c.args.name.now text.1 coming) c.loop-c.yielded _ c.loop-c.yielded_by _ _ c.in-None.is c.next.ensures.steps in
+    let utf8 = c.utf8.name in
+    let coming = ap (λ (chars : Chars). chars.rest.now) c.into_iter-c-iterator.ensures.into_iter_gives ∙ c.chars-c-items.ensures.rest in
+    let end = YieldsList-end (YieldsList-from_chars c.args.name.now utf8 coming) c.loop-c.yielded _ c.loop-c.yielded_by _ _ c.in-None.is c.next.ensures.steps in
     let few : length c.deref-2.result.now ≤ 63 = c.deref-2.ensures.1 in
     let ended : IsEnded c.deref-2.result.now = record { no_prefix = c.in_ok-push_a_label-2.ensures.no_prefix; few = few; short = c.in_ok-push_a_label-2.ensures.short } in
-    read_all (deny_list std3) c.args.name.now text.1 (sym end.0 ∙ map-id c.loop-c.yielded) c.loop-c.invariant (subst IsEnded c.deref-2.ensures.0 ended)
+    read_all (deny_list std3) c.args.name.now utf8 (sym end.0 ∙ map-id c.loop-c.yielded) c.loop-c.invariant (subst IsEnded c.deref-2.ensures.0 ended)
     ∙ ap Some (ap (λ x. c.loop-c.query.items ++ a_label_of x) (sym c.deref-2.ensures.0) ∙ sym c.in_ok-push_a_label-2.ensures.written)

@@ -8,5 +8,5 @@ returns g c =
     let i = c.self.inside in
     let n = c.args.count in
     let enough = subst (λ (v : Input). n ≤ length v.held) (sym c.self.view_is) c.requires in
-    ap (λ (held : List ℕ). let v : Input = record { held = held; coming = g.R.Source.remaining i.reader; reads = i.reads; calls = g.R.Source.calls i.reader; failed = g.R.Source.has_failed i.reader } in v) (slice_range_later i.buffer i.start i.end n enough)
+    ap (λ (held : List ℕ). let v : Input = record { held = held; reader = g.R.Source.state i.reader; reads = i.reads } in v) (slice_range_later i.buffer i.start i.end n enough)
     ∙ ap (λ (v : Input). let w : Input = record v { held = drop n v.held } in w) c.self.view_is

@@ -1,5 +1,6 @@
 use Rattle.std.proofs.lemmas.Result.{err_from_is_err_and}
-use Rattle.std.proofs.Common.{◌++◌, length, Ok, refl, ap, arith}
+use Rattle.std.proofs.Common.{◌++◌, ◌∙◌, length, Ok, refl, ap, arith}
+use Rattle.idn_text.specs.Taking.{Input}
 use Rattle.idn_text.proofs.TakingLemmas.{takes_then, takes_read}
 use Rattle.idn_text.proofs.input.Input.take_line.Goals as goal
 
@@ -33,4 +34,4 @@ reads-preserved g c =
     let emptied = ap length (c.if-take_held.ensures.rest refl) in
     let counted = c.in_ok-fill.ensures.counted in
     let came = c.in_ok-fill.ensures.came (ap Ok c.if-not-branch.false) in
-    (before.0 ++ more.0, more.2 before.0 before.1, takes_read _ _ _ (before.0 ++ more.0) _ 0 (takes_then _ _ _ before.0 more.0 _ 0 before.2 more.1) c.in_ok-fill.ensures.same (omega (arith, emptied, counted, came)) c.in_ok-fill.ensures.called)
+    (before.0 ++ more.0, more.2 before.0 before.1, takes_read _ _ _ (before.0 ++ more.0) _ 0 (takes_then _ _ _ before.0 more.0 _ 0 before.2 more.1) c.in_ok-fill.ensures.same (omega (arith, emptied, counted, came)) c.in_ok-fill.ensures.called, c.in_ok-fill.ensures.no_fault ∙ ap (λ (v : Input). v.reader.faults) c.if-take_held.ensures.same ∙ before.3)

@@ -43,4 +43,4 @@ returns-clause-lines g c start given lines has =
     ] in
     let then_ended : c.in_ok-has_feed.has_feed ≡ false → (c.if-has_feed.self ≡ Ended) × (taken.0 ≢ []) × HasEnded c.take_line.new.self =
     elim c.if-has_feed.branch [ then-has_feed w ↦ λ h. (cc (h, w.if-has_feed.true)) | else-has_feed w ↦ λ h. (w.self-is, some h, c.in_ok-has_feed.ensures.ended (ap Ok h)) ] in
-    (taken.0 ++ cond c.in_ok-has_feed.has_feed (10 ∷ []) [], has_next start _ _ given taken.0 lines _ c.in_ok-has_feed.has_feed before is_open taken.2 few refl then_opens then_ended body)
+    (taken.0 ++ cond c.in_ok-has_feed.has_feed (10 ∷ []) [], has_next start _ _ given taken.0 lines _ c.in_ok-has_feed.has_feed before is_open taken.2 c.in_ok-has_feed.ensures.no_fault few refl then_opens then_ended body)

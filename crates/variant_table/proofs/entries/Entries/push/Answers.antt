@@ -2,18 +2,17 @@ use Rattle.std.proofs.Common.{length-append, ◌≡◌, ◌+◌, ◌++◌, ◌�
 use Rattle.variant_table.specs.Held.{entries_of}
 use Rattle.variant_table.specs.Reading.{entry_from}
 use Rattle.variant_table.proofs.DraftLemmas.{on_err}
-use Rattle.variant_table.proofs.EntryLemmas.{entries_of-push}
-use Rattle.variant_table.proofs.RowLemmas.{entries_of-longer}
+use Rattle.variant_table.proofs.EntryLemmas.{entries_of-longer, entries_of-push}
 use Rattle.variant_table.proofs.entries.Entries.push.Goals as goal
 
 pub returns-in_err-append-clause-err : goal.returns-in_err-append-clause-err
 returns-in_err-append-clause-err c =
-    on_err c.from_residual.result _ (entries_of-longer c.self.inside.sequences c.append.new.self c.in_err-append.ensures.kept c.self.inside.spans.items c.self.invariant ∙ c.self.view_is)
+    on_err c.from_residual.result _ (entries_of-longer c.self.inside.sequences c.append.new.self c.self.inside.spans.items c.in_err-append.ensures.kept c.self.invariant ∙ c.self.view_is)
 
 pub returns-in_err-push-clause-err : goal.returns-in_err-push-clause-err
 returns-in_err-push-clause-err c =
     on_err c.from_residual-in_err-push.result _ (ap (entries_of c.append.new.self) c.in_err-push.ensures.items
-    ∙ entries_of-longer c.self.inside.sequences c.append.new.self c.in_ok-append.ensures.kept c.self.inside.spans.items c.self.invariant ∙ c.self.view_is)
+    ∙ entries_of-longer c.self.inside.sequences c.append.new.self c.self.inside.spans.items c.in_ok-append.ensures.kept c.self.invariant ∙ c.self.view_is)
 
 pub returns-clause-ok : goal.returns-clause-ok
 returns-clause-ok c =

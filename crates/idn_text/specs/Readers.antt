@@ -1,0 +1,19 @@
+-- What is known of a reader.
+use Rattle.std.specs.Prelude.{◌≡◌, ℕ, ◌+◌, ◌≤◌, Bool, false, List, Option, Result}
+use Rattle.std.specs.Io.KnownBytes.{ReadConsumes}
+use Rattle.idn_text.specs.Devices.{get_fails}
+
+-- the bytes that it will give from here on, where they are known; whether its last read failed; and how many reads were made
+-- and how many failed, where it counts them
+pub record Reader : Type 0 where
+  pub remaining : Option (List ℕ)
+  pub has_failed : Bool
+  pub calls : ℕ
+  pub faults : ℕ
+
+-- one read of it into a buffer, with this outcome
+pub record Gets {E : Type 0} (old new : Reader) (buffer : List ℕ) (result : Result ℕ E) : Type 0 where
+  pub bytes : ReadConsumes old.remaining new.remaining result buffer
+  pub failed : new.has_failed ≡ get_fails result
+  pub counted : new.calls ≤ old.calls + 1
+  pub kept : get_fails result ≡ false → new.faults ≡ old.faults
