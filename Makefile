@@ -57,4 +57,4 @@ fuzz: all
 	python3 conformance/fuzz.py --seconds $(SECONDS)
 
 clean:
-	rm -rf crates/*/out build
+	rm -rf crates/*/out
