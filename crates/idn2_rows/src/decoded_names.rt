@@ -58,7 +58,11 @@ fn decodes(
         (Ok(decoded), Ok(text)) => {
             assert_eq!(rt; decoded.as_slice(), points_of(text)?.as_slice(), "{name}");
         }
-        _ => assert_eq!(rt; decoded.err(), expected.err(), "{name}"),
+        _ => assert_eq!(rt;
+            decoded.as_ref().err().copied(),
+            expected.err(),
+            "{name}: {decoded:?}"
+        ),
     }
     let mut text: ArrayVec<u8, 4096> = ArrayVec::new();
     if name.is_ascii() && name.len() <= 1024 {
@@ -66,7 +70,7 @@ fn decodes(
             (Ok(()), Ok(expected)) => {
                 assert_eq!(rt; text.as_slice(), expected.as_bytes(), "{name}");
             }
-            (answer, _) => assert_eq!(rt; answer.err(), expected.err(), "{name}"),
+            (answer, _) => assert_eq!(rt; answer.err(), expected.err(), "{name}: {text:?}"),
         }
     }
     Ok(())

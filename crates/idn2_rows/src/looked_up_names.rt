@@ -102,9 +102,14 @@ fn looks_up(
     expected: Result<&str, Refusal>,
 ) -> Result<(), Fail> {
     let points = points_of(name)?;
-    match (lookup(alloc, &points, std3), expected) {
+    let answer = lookup(alloc, &points, std3);
+    match (&answer, expected) {
         (Ok(query), Ok(text)) => assert_eq!(rt; query.as_str(), text, "{name}"),
-        (answer, _) => assert_eq!(rt; answer.err(), expected.err(), "{name}"),
+        _ => assert_eq!(rt;
+            answer.as_ref().err().copied(),
+            expected.err(),
+            "{name}: {answer:?}"
+        ),
     }
     let mut query: ArrayVec<u8, 254> = ArrayVec::new();
     query.push(b'?');
@@ -113,7 +118,7 @@ fn looks_up(
         expected,
     ) {
         (Ok(()), Ok(text)) => assert_eq!(rt; query.as_slice(), text.as_bytes(), "{name}"),
-        (answer, _) => assert_eq!(rt; answer.err(), expected.err(), "{name}"),
+        (answer, _) => assert_eq!(rt; answer.err(), expected.err(), "{name}: {query:?}"),
     }
     Ok(())
 }

@@ -84,60 +84,62 @@ fn summary_of(alloc: Global, line: &str) -> Result<String, AllocError> {
     }
 }
 
+/// Words, parted by bars, and what they are read as.
+const READ: [(&str, &str); 13] = [
+    ("idn2", "Lookup false \"\" [] None 1000000 \"none\""),
+    (
+        "idn2|-r|faß",
+        "Register false \"\" [] None 1000000 \"faß\\n\"",
+    ),
+    (
+        "idn2|-N|--quiet|faß",
+        "Lookup false \"\" [] None 1000000 \"faß\\n\"",
+    ),
+    (
+        "idn2|-l|--usestd3asciirules|a_b",
+        "Lookup true \"\" [] None 1000000 \"a_b\\n\"",
+    ),
+    (
+        "idn2|b|--decode|a|--|-c",
+        "Decode false \"\" [] None 1000000 \"b\\na\\n-c\\n\"",
+    ),
+    (
+        "idn2|--variants|t|-N|--usestd3asciirules|--quiet",
+        "Variants true \"t\" [] None 1000000 \"none\"",
+    ),
+    (
+        "idn2|--check-table|t",
+        "CheckTable false \"t\" [] None 1000000 \"none\"",
+    ),
+    (
+        "idn2|--variants=t|x|",
+        "Variants false \"t\" [] None 1000000 \"x\\n\\n\"",
+    ),
+    (
+        "idn2|--variants||-",
+        "Variants false \"\" [] None 1000000 \"-\\n\"",
+    ),
+    (
+        "idn2|--variants|t|--after|aß|--limit|0000000007|--tries|1|x",
+        "Variants false \"t\" [97, 223] Some(7) 1 \"x\\n\"",
+    ),
+    (
+        "idn2|--variants|t|--after=-x|--limit=1000000000|--tries=1000000000",
+        "Variants false \"t\" [45, 120] Some(1000000000) 1000000000 \"none\"",
+    ),
+    (
+        "idn2|--variants|t|--after|",
+        "Variants false \"t\" [] None 1000000 \"none\"",
+    ),
+    (
+        "idn2|--variants|t|--after|-",
+        "Variants false \"t\" [45] None 1000000 \"none\"",
+    ),
+];
+
 #[test]
 fn read_as_options(rt: HostRuntime) -> Result<(), Fail> {
-    let rows = [
-        ("idn2", "Lookup false \"\" [] None 1000000 \"none\""),
-        (
-            "idn2|-r|faß",
-            "Register false \"\" [] None 1000000 \"faß\\n\"",
-        ),
-        (
-            "idn2|-N|--quiet|faß",
-            "Lookup false \"\" [] None 1000000 \"faß\\n\"",
-        ),
-        (
-            "idn2|-l|--usestd3asciirules|a_b",
-            "Lookup true \"\" [] None 1000000 \"a_b\\n\"",
-        ),
-        (
-            "idn2|b|--decode|a|--|-c",
-            "Decode false \"\" [] None 1000000 \"b\\na\\n-c\\n\"",
-        ),
-        (
-            "idn2|--variants|t|-N|--usestd3asciirules|--quiet",
-            "Variants true \"t\" [] None 1000000 \"none\"",
-        ),
-        (
-            "idn2|--check-table|t",
-            "CheckTable false \"t\" [] None 1000000 \"none\"",
-        ),
-        (
-            "idn2|--variants=t|x|",
-            "Variants false \"t\" [] None 1000000 \"x\\n\\n\"",
-        ),
-        (
-            "idn2|--variants||-",
-            "Variants false \"\" [] None 1000000 \"-\\n\"",
-        ),
-        (
-            "idn2|--variants|t|--after|aß|--limit|0000000007|--tries|1|x",
-            "Variants false \"t\" [97, 223] Some(7) 1 \"x\\n\"",
-        ),
-        (
-            "idn2|--variants|t|--after=-x|--limit=1000000000|--tries=1000000000",
-            "Variants false \"t\" [45, 120] Some(1000000000) 1000000000 \"none\"",
-        ),
-        (
-            "idn2|--variants|t|--after|",
-            "Variants false \"t\" [] None 1000000 \"none\"",
-        ),
-        (
-            "idn2|--variants|t|--after|-",
-            "Variants false \"t\" [45] None 1000000 \"none\"",
-        ),
-    ];
-    for (line, want) in rows {
+    for (line, want) in READ {
         let got = summary_of(rt.alloc(), line)?;
         assert_eq!(rt; got.as_str(), want, "at {line}");
     }
