@@ -5,6 +5,7 @@ What the contracts say of a run is proved; this tests what they can't speak of: 
 files. The last line is 'N passed, M failed', and the exit status is 0 where nothing failed."""
 
 import os
+import random
 import re
 import resource
 import signal
@@ -121,6 +122,52 @@ def lists_any_number_of_lines_in_the_memory_of_ten(folder):
         low, high = (low, middle) if lists(10, middle * page) else (middle, high)
     # A mebibyte more, since an address space is not laid out the same way each time; the lines alone are twelve.
     assert lists(100000, (high + 256) * page), high
+
+
+def spelled(table, label):
+    """All labels that arise by cutting the label into sources and replacing each by itself or one of its variants."""
+    if not label:
+        return {""}
+    return {
+        first + end
+        for source, variants in table.items()
+        if label.startswith(source)
+        for end in spelled(table, label[len(source):])
+        for first in (source, *variants)
+    }
+
+
+def is_registrable(label):
+    """RFC 5891, section 4.2, of a label of letters and hyphens."""
+    return 1 <= len(label) <= 63 and label[0] != "-" and label[-1] != "-" and label[2:4] != "--"
+
+
+def block_of(table, label):
+    """What is printed for a label, and the message for one that is refused, as a number."""
+    if not is_registrable(label):
+        return "", 18 if len(label) > 63 else 13
+    variants = sorted(filter(is_registrable, spelled(table, label)))
+    if not spelled(table, label):
+        return "", 40
+    return "".join(f"{each}\t{each}\n" for each in variants) + f"#end {len(variants)}\n", None
+
+
+def lists_what_sets_of_all_labels_list(folder):
+    """Blocks of 2,000 labels under 250 random tables, from a fixed seed, beside blocks made from whole sets."""
+    chance = random.Random(5891)
+    sequence = lambda: "".join(chance.choices("ab-", weights=(4, 4, 1), k=chance.choice((1, 1, 2, 3))))
+    for _ in range(250):
+        table = {sequence(): {sequence() for _ in range(chance.randrange(3))} for _ in range(chance.randint(1, 5))}
+        table = {source: sorted(variants - {source}) for source, variants in table.items()}
+        points = lambda text: "-".join(f"{ord(letter):04X}" for letter in text)
+        lines = [points(source) + ("|" if variants else "") + ":".join(map(points, variants))
+                 for source, variants in table.items()]
+        labels = ["".join(chance.choices([*table, "ab"], k=chance.randint(1, 6))) for _ in range(8)]
+        blocks = [block_of(table, label) for label in labels]
+        done = run(["--variants", table_file(folder, "\n".join(lines).encode())], "\n".join(labels).encode())
+        assert done.stdout.decode() == "".join(block for block, _ in blocks), (lines, labels, done.stdout)
+        told = [int(message.split()[3]) for message in done.stderr.decode().splitlines()]
+        assert told == [number for _, number in blocks if number], (lines, labels, done.stderr)
 
 
 def tells_of_memory_within_any_address_space(folder):
@@ -304,6 +351,7 @@ TESTS = [
     lists_variants,
     resumes_where_it_stopped,
     lists_any_number_of_lines_in_the_memory_of_ten,
+    lists_what_sets_of_all_labels_list,
     tells_of_memory_within_any_address_space,
     checks_a_table,
     finds_no_gap_in_the_example_tables,

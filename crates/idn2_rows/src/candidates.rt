@@ -5,6 +5,8 @@ use std::test::Fail;
 use variant_list::{Cursor, Net};
 use variant_table::Table;
 
+const CHINA: &[u8] = b"4E2D\n56FD|570B\n570B|56FD\n";
+
 /// All candidates of the label behind the text, each with a comma behind it.
 fn listed(alloc: Global, net: &Net, after: &str) -> Result<Vec<u32>, Fail> {
     let mut cursor = Cursor::new(alloc, net, &points(alloc, after)?)?;
@@ -117,7 +119,16 @@ fn looks_at_edges_are_counted(rt: HostRuntime) -> Result<(), Fail> {
         (DOUBLED, "aa"),
         (HYPHENS, "aaa"),
         (BLIND, "ab"),
+        (CHINA, "中国"),
         (SHARP_S, long),
+        (
+            DOUBLED,
+            "aaaaaaaaaaaaaaaaaaaaaaaaaaaaaaaaaaaaaaaaaaaaaaaaaaaaaaaaaaaaaa",
+        ),
+        (
+            DOUBLED,
+            "aaaaaaaaaaaaaaaaaaaaaaaaaaaaaaaaaaaaaaaaaaaaaaaaaaaaaaaaaaaaaaa",
+        ),
     ] {
         let net = net(alloc, table, label)?;
         let mut cursor = Cursor::new(alloc, &net, &[])?;
@@ -131,6 +142,18 @@ fn looks_at_edges_are_counted(rt: HostRuntime) -> Result<(), Fail> {
             assert!(&rt; tests <= net.edges() * 256, "{label}: {tests}");
             assert_eq!(&rt; cursor.row_bits(), bits, "{label}");
         }
+    }
+    Ok(())
+}
+
+/// Each look is counted: of each step so many, and of the one that finds no label.
+#[test]
+fn looks_of_each_step(rt: HostRuntime) -> Result<(), Fail> {
+    let net = net(rt.alloc(), SHARP_S, "sss")?;
+    let mut cursor = Cursor::new(rt.alloc(), &net, &[])?;
+    for looks in [14, 10, 12, 4] {
+        let _ = cursor.next_candidate();
+        assert_eq!(&rt; cursor.edge_tests(), looks);
     }
     Ok(())
 }

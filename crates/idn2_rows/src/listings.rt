@@ -3,7 +3,15 @@ use crate::row::{Row, hold};
 use std::test::Fail;
 
 /// Whole listings, and labels that have none.
-const WHOLE: [Row; 12] = [
+const WHOLE: [Row; 13] = [
+    Row {
+        words: &["--variants", "t"],
+        table: b"0061-0062|0063\n0061|0062\n",
+        input: b"ab\n",
+        output: "ab\tab\nc\tc\n#end 2\n",
+        messages: "",
+        status: 0,
+    },
     Row {
         words: &["--variants", "t"],
         table: b"0061\n0065\n0072\n0073\n0074\n0073-0073|00DF\n00DF|0073-0073\n",
@@ -104,7 +112,23 @@ const WHOLE: [Row; 12] = [
 
 /// Listings with a start, a limit or a number of tries, for each line anew. Under the table `0061|002D` the labels
 /// tested of `aaa` are `a--`, `a-a`, `aa-` and `aaa`: the others that it spells begin with a hyphen.
-const BOUNDED: [Row; 22] = [
+const BOUNDED: [Row; 24] = [
+    Row {
+        words: &["--variants", "t", "--after", "b"],
+        table: b"0061-0062|0063\n0061|0062\n",
+        input: b"ab\n",
+        output: "c\tc\n#end 1\n",
+        messages: "",
+        status: 0,
+    },
+    Row {
+        words: &["--variants", "t", "--tries", "2"],
+        table: b"0061\n0065\n0072\n0073\n0074\n0073-0073|00DF\n00DF|0073-0073\n",
+        input: b"sssssssssssssssssssssssssssssssssssssssssssssssssssssssssssssss\n",
+        output: "sssssssssssssssssssssssssssssssssssssssssssssssssssssssssssssss\tsssssssssssssssssssssssssssssssssssssssssssssssssssssssssssssss\n#stop 1 sssssssssssssssssssssssssssssssssssssssssssssssssssssssssssssß\n",
+        messages: "",
+        status: 0,
+    },
     Row {
         words: &["--variants", "t", "--limit", "2", "--tries", "2"],
         table: b"0061\n0065\n0072\n0073\n0074\n0073-0073|00DF\n00DF|0073-0073\n",
