@@ -2,27 +2,31 @@
 RT ?= rt
 PROGRAM := crates/idn2/out/idn2
 PREFIX ?= /usr/local
+# The version at the top of the changes. A test compares it with the program's.
+VERSION := $(shell sed -n 's/^## //p' CHANGELOG.md | head -n 1)
+# Where the archive goes.
+DIST ?= dist
 # As many crates side by side as there are processors, and 3 GB of free memory for each.
 LANES ?= $(shell awk -v processors="$$(nproc)" '/MemAvailable/ { lanes = int($$2 / 3000000) } \
     END { print (lanes < 1 ? 1 : lanes < processors ? lanes : processors) }' /proc/meminfo)
 
-.PHONY: all try run test wrong-bodies install check-tables bench conformance fuzz clean
+.PHONY: all try run test wrong-bodies install dist check-tables bench conformance fuzz clean
 
-# Proves every function on the program's way, the first time with crates side by side, and builds it.
+# Proves every function that the program uses, the first time with several crates at once, and builds the program.
 all:
 	test -x $(PROGRAM) || (cd crates/idn2 && $(RT) all check --jobs $(LANES))
 	cd crates/idn2 && $(RT) run < stdin > /dev/null
 
-# The main job: the variants of a label under a table, here of one line, from the standard input.
+# The main job: the variants of a label under a table.
 run: all
-	printf '0061|0061-0061\n' | $(PROGRAM) --variants /dev/stdin aa
+	$(PROGRAM) --variants tables/german.txt strasse
 
-# A first look: the same job by a build that nothing vouches for.
+# A first look: the same job by a build without any proof.
 try:
-	printf '0061|0061-0061\n' | (cd crates/idn2 && $(RT) try -- --variants /dev/stdin aa)
+	cd crates/idn2 && $(RT) try -- --variants $(CURDIR)/tables/german.txt strasse
 	@echo 'Nothing was proved: this build was made without the checker. make run proves the program first.'
 
-# The gate: proves everything from nothing, tries each wrong body, runs the programs and the tests.
+# The gate: proves everything from nothing, tries the wrong bodies, runs the programs and the tests.
 test:
 	RT=$(RT) tests/gate
 
@@ -30,17 +34,30 @@ test:
 wrong-bodies:
 	RT=$(RT) LANES=$(LANES) tests/wrong-bodies $(CRATES)
 
-# The program and its manual page, below $(DESTDIR)$(PREFIX).
+# The program, its manual page and its completions for bash, below $(DESTDIR)$(PREFIX).
 install: all
-	install -d $(DESTDIR)$(PREFIX)/bin $(DESTDIR)$(PREFIX)/share/man/man1
-	install -m 755 $(PROGRAM) $(DESTDIR)$(PREFIX)/bin/idn2
-	install -m 644 docs/idn2.1 $(DESTDIR)$(PREFIX)/share/man/man1/idn2.1
+	install -D -m 755 $(PROGRAM) $(DESTDIR)$(PREFIX)/bin/idn2
+	install -D -m 644 docs/idn2.1 $(DESTDIR)$(PREFIX)/share/man/man1/idn2.1
+	install -D -m 644 completions/idn2.bash $(DESTDIR)$(PREFIX)/share/bash-completion/completions/idn2
+
+# One archive for servers without the kit: what is installed, the tables, what an engineer reads, and check sums.
+PACKED := idn2-$(VERSION)
+dist:
+	rm -rf $(DIST)/$(PACKED)
+	$(MAKE) --no-print-directory install DESTDIR= PREFIX=$(abspath $(DIST))/$(PACKED)
+	install -D -m 644 -t $(DIST)/$(PACKED)/tables tables/*.txt tables/from_lgr.py
+	install -D -m 644 -t $(DIST)/$(PACKED)/docs docs/GUIDE.md docs/NOTATION.md docs/PROFILE.md docs/GLOSSARY.md
+	install -m 644 -t $(DIST)/$(PACKED) CHANGELOG.md $(wildcard LICENSE* LICENCE* COPYING*)
+	cd $(DIST)/$(PACKED) && find . -type f ! -name SHA256SUMS -printf '%P\n' | LC_ALL=C sort | xargs sha256sum > SHA256SUMS
+	cd $(DIST) && tar --sort=name --mtime=@0 --owner=0 --group=0 --numeric-owner -cf - $(PACKED) | gzip -n > $(PACKED).tar.gz
+	cd $(DIST) && sha256sum $(PACKED).tar.gz > $(PACKED).tar.gz.sha256
+	rm -rf $(DIST)/$(PACKED)
 
 # The gaps of the example tables: none.
 check-tables: all
 	for table in tables/*.txt; do $(PROGRAM) --check-table $$table || exit 1; done
 
-# Times the program beside libidn2's, and prints one table of ratios.
+# Times the program against libidn2's, and prints one table of ratios.
 bench: all
 	python3 bench/bench.py
 
@@ -57,4 +74,4 @@ fuzz: all
 	python3 conformance/fuzz.py --seconds $(SECONDS)
 
 clean:
-	rm -rf crates/*/out
+	rm -rf crates/*/out dist

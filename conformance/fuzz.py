@@ -10,11 +10,13 @@ import argparse
 import collections
 import pathlib
 import random
+import re
 import resource
 import subprocess
 import sys
 import tempfile
 import time
+import unicodedata
 
 from compare import PROGRAM, our_answers
 
@@ -91,6 +93,9 @@ class Fuzz:
         if any(letter in name for letter in names.NOT_IN_A_LINE):
             return Unknown
         (ours, refusal), = our_answers(self.program, ["-l"], [name])
+        (strict, strict_refusal), = our_answers(self.program, ["-l", "--usestd3asciirules"], [name])
+        if not obeys(name, (ours, refusal), (strict, strict_refusal)):
+            return f"lookup {name!r}: {ours}, {refusal}, and by the rules for ASCII {strict}, {strict_refusal}"
         case = kinds.Case(name, ours, refusal, *self.library.lookup(name))
         if not case.differs() or any(kind.explains(self.facts, case) for kind in kinds.LOOKUP):
             return None
@@ -148,6 +153,17 @@ class Fuzz:
         words = self.chance.choices(WORDS, k=self.chance.randint(0, 6))
         table, _ = self.table("ab")
         return self.compare(words, self.lines(lambda: "ab"), table)
+
+
+def obeys(name, answer, strict):
+    """Whether the answer by the rules for ASCII of UTS #46, section 4, fits the answer without them: the same one where it
+    has letters, digits and hyphens alone, else a refusal. Three signs for mathematics stand outside of that."""
+    if any(sign in unicodedata.normalize("NFKC", name) for sign in "\u2260\u226e\u226f"):
+        return True
+    text, number = answer
+    if text is not None and re.fullmatch("[-.0-9a-z]*", text):
+        return strict == answer
+    return strict == (None, 20) or (number == 21 and strict == (None, 21))
 
 
 def spelled(sequence):

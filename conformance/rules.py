@@ -4,6 +4,7 @@ Asked once of this project's range lists and once of Unicode's own properties, t
 reason why two programs answer differently.
 """
 
+import functools
 import unicodedata
 
 from unicode_data import is_in, lines_of, properties
@@ -36,6 +37,7 @@ class ProfileProperties:
             return "D"
         return "T" if unicodedata.category(chr(point)) == "Mn" else "U"
 
+    @functools.cache
     def bidi_class(self, point):
         if point in (ZERO_WIDTH_NON_JOINER, ZERO_WIDTH_JOINER):
             return "BN"

@@ -10,7 +10,7 @@ from registration import a_label
 
 LINE_LIMIT, TEXT_LIMIT, LABEL_LIMIT = 1024, 1024, 63
 COUNT_LIMIT, TRIES = 1_000_000_000, 1_000_000
-SPELLED_LIMIT = 20_000
+SPELLED_LIMIT = 1_000
 
 TEXTS = {
     1: "not UTF-8", 2: "line too long", 3: "empty", 10: "disallowed code point", 11: "unassigned code point",

@@ -12,6 +12,7 @@ import signal
 import subprocess
 import sys
 import tempfile
+import textwrap
 
 ROOT = os.path.dirname(os.path.dirname(os.path.abspath(__file__)))
 PROGRAM = os.path.join(ROOT, "crates", "idn2", "out", "idn2")
@@ -23,9 +24,9 @@ def run(words, given=b"", **more):
     return subprocess.run([PROGRAM, *words], input=given, capture_output=True, timeout=LIMIT, **more)
 
 
-def run_within(space, words):
+def run_within(space, words, given=b""):
     """Runs the program with an address space of so many bytes."""
-    return run(words, preexec_fn=lambda: resource.setrlimit(resource.RLIMIT_AS, (space, space)))
+    return run(words, given, preexec_fn=lambda: resource.setrlimit(resource.RLIMIT_AS, (space, space)))
 
 
 def expect(words, given, output, messages, status):
@@ -35,8 +36,8 @@ def expect(words, given, output, messages, status):
     assert found == wanted, f"{words}: wanted {wanted}, found {found}"
 
 
-def table_file(folder, text):
-    path = os.path.join(folder, "table.txt")
+def table_file(folder, text, name="table.txt"):
+    path = os.path.join(folder, name)
     with open(path, "wb") as file:
         file.write(text)
     return path
@@ -81,6 +82,23 @@ def shows_help_and_version(folder):
     for option in (b"--register", b"--decode", b"--variants", b"--check-table", b"--after", b"--limit", b"--tries"):
         assert option in run(["--help"]).stdout, option
     assert b"Unicode" in run(["--version"]).stdout
+
+
+def has_the_version_that_the_changes_name(folder):
+    """The version at the top of the changes, with its version of Unicode, is that of the program and its documents."""
+    with open(os.path.join(ROOT, "CHANGELOG.md"), encoding="utf-8") as file:
+        version, unicode = re.search(r"^## (\S+)\n\nUnicode (\S+)\. ", file.read(), re.MULTILINE).groups()
+    expect(["--version"], b"", f"idn2 {version} (Unicode {unicode})\n".encode(), b"", 0)
+    with open(os.path.join(ROOT, "docs", "idn2.1"), encoding="utf-8") as file:
+        assert f'"idn2 {version}"' in file.read(), version
+    with open(os.path.join(ROOT, "docs", "GUIDE.md"), encoding="utf-8") as file:
+        assert f"tar xf idn2-{version}.tar.gz\n" in file.read(), version
+
+
+def needs_only_the_c_library(folder):
+    needed = subprocess.run(["ldd", PROGRAM], capture_output=True, text=True, timeout=LIMIT).stdout
+    names = {os.path.basename(line.split()[0]).split(".")[0] for line in needed.splitlines()}
+    assert "libc" in names and names <= {"libc", "linux-vdso", "ld-linux-x86-64", "ld-linux-aarch64"}, needed
 
 
 def lists_variants(folder):
@@ -170,29 +188,9 @@ def lists_what_sets_of_all_labels_list(folder):
         assert told == [number for _, number in blocks if number], (lines, labels, done.stderr)
 
 
-def tells_of_memory_within_any_address_space(folder):
-    """A large table and some lines of its listing, or what stands of them in whole lines before refusal 70."""
-    first, count = 0x4E00, 4096
-    variants = lambda entry: ":".join(f"{first + (entry * 7 + each * 131) % count:04X}-4E01" for each in range(1, 17))
-    text = "".join(f"{first + entry:04X}|{variants(entry)}\n" for entry in range(count))
-    words = ["--variants", table_file(folder, text.encode()), "--limit", "5", "\u4e10" * 9]
-    whole = run(words)
-    assert (whole.returncode, whole.stdout.count(b"\n"), whole.stderr) == (0, 6, b""), whole
-    refused = 0
-    for space in range(3 << 20, 16 << 20, 128 << 10):
-        done = run_within(space, words)
-        # The loader, which needs some room before the program begins, ends with 127.
-        if done.returncode != 127 and done.returncode != 0:
-            assert (done.returncode, done.stderr) == (4, b"idn2: 70 out of memory\n"), (space, done)
-            assert whole.stdout.startswith(done.stdout) and done.stdout[-1:] in (b"", b"\n"), (space, done)
-            refused += 1
-        elif done.returncode == 0:
-            assert done.stdout == whole.stdout, (space, done)
-    assert refused > 0
-
-
 def checks_a_table(folder):
-    expect(["--check-table", table_file(folder, b"0061|0061-0061\n")], b"", b"missing 0061-0061|0061\n#table 1 1\n", b"", 1)
+    lacks_a_pair = table_file(folder, b"0061|0061-0061\n")
+    expect(["--check-table", lacks_a_pair], b"", b"missing 0061-0061|0061\n#table 1 1\n", b"", 1)
     expect(["--check-table", table_file(folder, b"0061\n")], b"", b"#table 1 0\n", b"", 0)
     expect(["--check-table", table_file(folder, b"0061|\n")], b"", b"", b"idn2: table line 1: 30 table syntax\n", 2)
 
@@ -293,6 +291,82 @@ def tells_messages_in_order(folder):
         assert both.read() == b"abc\nidn2: line 2: 10 disallowed code point\ndef\n"
 
 
+def finds_collisions_by_least_variants(folder):
+    """Under random tables of single code points without gaps, labels have one least variant exactly if they collide."""
+    chance = random.Random(4290)
+    for _ in range(50):
+        letters = "abcdefgh"
+        sets = {}
+        for letter in letters:
+            sets.setdefault(chance.randrange(4), []).append(letter)
+        members = {letter: each for each in sets.values() for letter in each}
+        lines = ("|".join([f"{ord(a):04X}", ":".join(f"{ord(b):04X}" for b in members[a] if b != a)]) for a in letters)
+        table = table_file(folder, "".join(line.rstrip("|") + "\n" for line in lines).encode())
+        expect(["--check-table", table], b"", b"#table 8 0\n", b"", 0)
+        labels = ["".join(chance.choices(letters, k=chance.randint(1, 3))) for _ in range(20)]
+        listed = run(["--variants", table], "\n".join(labels).encode()).stdout.decode()
+        blocks = [{line.split("\t")[0] for line in block.splitlines()} for block in re.split(r"#end \d+\n", listed)]
+        limited = run(["--variants", table, "--limit", "1"], "\n".join(labels).encode()).stdout.decode()
+        keys = [line.split("\t")[0] for line in limited.splitlines() if not line.startswith("#")]
+        for one, key in enumerate(keys):
+            for other, block in enumerate(blocks[: len(labels)]):
+                assert (labels[one] in block) == (key == keys[other]), (lines, labels[one], labels[other])
+
+
+def completes(words):
+    """What bash completes the last of the words to."""
+    script = (
+        f"source '{ROOT}/completions/idn2.bash'; COMP_WORDS=(\"$@\"); COMP_CWORD=$(($# - 1)); _idn2; "
+        "printf '%s\\n' \"${COMPREPLY[@]}\""
+    )
+    words = ["bash", "--norc", "-c", script, "bash", "idn2", *words]
+    return subprocess.run(words, cwd=ROOT, capture_output=True, text=True, timeout=LIMIT).stdout.split()
+
+
+def completes_words_in_bash(folder):
+    source = f"source '{ROOT}/completions/idn2.bash'; complete -p idn2"
+    done = subprocess.run(["bash", "--norc", "-c", source], capture_output=True, text=True, timeout=LIMIT)
+    assert (done.stdout, done.stderr) == ("complete -o filenames -F _idn2 idn2\n", ""), done
+    for words, completions in (
+        (["--re"], ["--register"]),
+        (["--register", "--l"], []),
+        (["--a"], []),
+        (["--variants", "t", "--a"], ["--after"]),
+        (["--variants", "t", "--limit", "7", "--l"], []),
+        (["--variants", "tables/ger"], ["tables/german.txt"]),
+        (["--check-table", "=", "tables/ger"], ["tables/german.txt"]),
+        (["--variants", "t", "--limit", ""], []),
+        (["-r", "--", "--q"], []),
+        ([""], []),
+    ):
+        assert completes(words) == completions, (words, completes(words))
+    # Each option that is completed is one that the program has, and each of the help's is completed.
+    helped = set(re.findall(r"(?<![\w-])--?[A-Za-z][\w-]*", run(["--help"]).stdout.decode().split("Examples:")[0]))
+    offered = {*completes(["-"]), *completes(["--variants", "t", "-"])}
+    assert offered == helped - {"--after=TEXT"}, offered ^ helped
+
+
+def packs_what_a_server_needs(folder):
+    """`make dist` with a command that does nothing for rt, so that the program here is packed as it is."""
+    words = ["make", "--no-print-directory", "-s", "-C", ROOT, "dist", "RT=true", f"DIST={folder}"]
+    done = subprocess.run(words, capture_output=True, text=True, timeout=LIMIT)
+    assert done.returncode == 0, done
+    [archive] = [name for name in os.listdir(folder) if name.endswith(".tar.gz")]
+    version = run(["--version"]).stdout.split()[1].decode()
+    assert archive == f"idn2-{version}.tar.gz", archive
+    check = f"sha256sum --check {archive}.sha256 && tar xf {archive}"
+    check += f" && cd idn2-{version} && sha256sum --check SHA256SUMS"
+    done = subprocess.run(check, shell=True, cwd=folder, capture_output=True, text=True, timeout=LIMIT)
+    assert done.returncode == 0, done
+    packed = os.path.join(folder, f"idn2-{version}")
+    files = sorted(os.path.relpath(os.path.join(at, name), packed) for at, _, names in os.walk(packed) for name in names)
+    for name in ("bin/idn2", "share/man/man1/idn2.1", "share/bash-completion/completions/idn2", "tables/german.txt",
+                 "tables/from_lgr.py", "docs/GUIDE.md", "CHANGELOG.md"):
+        assert name in files, (name, files)
+    words = [os.path.join(packed, "bin", "idn2"), "--variants", os.path.join(packed, "tables", "german.txt"), "aß"]
+    assert subprocess.run(words, capture_output=True, timeout=LIMIT).stdout.startswith(b"ass\tass\n")
+
+
 def sessions_of(lines):
     """The commands behind '$ ' and what each of them prints."""
     sessions = []
@@ -304,10 +378,16 @@ def sessions_of(lines):
     return sessions
 
 
-def readme_blocks(text):
-    """The indented blocks of a text in Markdown."""
-    for block in re.findall(r"(?:^    .*\n)+", text, re.MULTILINE):
-        yield [line[4:] for line in block.splitlines()]
+def markdown_blocks(text):
+    """The indented blocks of a text in Markdown, also those of a list, but not what stands between fences."""
+    unfenced = re.sub(r"^```.*?^```$", "", text, flags=re.MULTILINE | re.DOTALL)
+    for block in re.findall(r"(?:^    .*\n)+", unfenced, re.MULTILINE):
+        yield textwrap.dedent(block).splitlines()
+
+
+def markdown_files(text):
+    """The files that a text in Markdown tells to save: the name and the text of each."""
+    return re.findall(r"ave this as `(\S+)`:\s+^```\w+\n(.*?)^```$", text, re.MULTILINE | re.DOTALL)
 
 
 def manual_blocks(text):
@@ -322,10 +402,15 @@ def prints_what_the_documents_show(folder):
     os.symlink(PROGRAM, os.path.join(folder, "idn2"))
     os.symlink(TABLES, os.path.join(folder, "tables"))
     path = folder + os.pathsep + os.environ["PATH"]
-    for name, blocks, least in (("README.md", readme_blocks, 8), (os.path.join("docs", "idn2.1"), manual_blocks, 6)):
+    documents = {"README.md": markdown_blocks, "docs/GUIDE.md": markdown_blocks, "docs/idn2.1": manual_blocks}
+    for (name, blocks), least in zip(documents.items(), (8, 45, 6)):
         with open(os.path.join(ROOT, name), encoding="utf-8") as file:
-            sessions = [session for block in blocks(file.read()) for session in sessions_of(block)]
+            text = file.read()
+        sessions = [session for block in blocks(text) for session in sessions_of(block)]
         assert len(sessions) >= least, (name, len(sessions))
+        for saved, content in markdown_files(text):
+            with open(os.path.join(folder, saved), "w", encoding="utf-8") as file:
+                file.write(content)
         for command, lines in sessions:
             done = subprocess.run(
                 command,
@@ -348,11 +433,12 @@ TESTS = [
     refuses_words,
     refuses_words_that_are_not_utf8,
     shows_help_and_version,
+    has_the_version_that_the_changes_name,
+    needs_only_the_c_library,
     lists_variants,
     resumes_where_it_stopped,
     lists_any_number_of_lines_in_the_memory_of_ten,
     lists_what_sets_of_all_labels_list,
-    tells_of_memory_within_any_address_space,
     checks_a_table,
     finds_no_gap_in_the_example_tables,
     reads_a_table_up_to_its_limit,
@@ -366,23 +452,27 @@ TESTS = [
     keeps_its_status_where_messages_fail,
     serves_what_it_read_before_a_read_fails,
     tells_messages_in_order,
+    finds_collisions_by_least_variants,
+    completes_words_in_bash,
+    packs_what_a_server_needs,
     prints_what_the_documents_show,
 ]
 
 
-def main():
+def run_tests(name, tests):
+    """Runs each test in a folder of its own, and prints how many passed; 1 if any failed, else 0."""
     failed = 0
-    for test in TESTS:
+    for test in tests:
         with tempfile.TemporaryDirectory() as folder:
             try:
                 test(folder)
-                print(f"program {test.__name__} ... ok")
+                print(f"{name} {test.__name__} ... ok")
             except Exception as reason:
                 failed += 1
-                print(f"program {test.__name__} ... FAILED: {type(reason).__name__} {reason}")
-    print(f"{len(TESTS) - failed} passed, {failed} failed")
+                print(f"{name} {test.__name__} ... FAILED: {type(reason).__name__} {reason}")
+    print(f"{len(tests) - failed} passed, {failed} failed")
     return 1 if failed else 0
 
 
 if __name__ == "__main__":
-    sys.exit(main())
+    sys.exit(run_tests("program", TESTS))

@@ -23,7 +23,7 @@ fn main(rt: HostRuntime) -> ExitCode {
     ExitCode::from(status.code())
 }
 
-/// Answers what the words ask for. A refusal is that of the whole call, and no message tells it yet.
+/// Answers what the words request. A refusal is that of the whole call, and no message reports it yet.
 fn serve(rt: &HostRuntime) -> Result<Status, Refusal>
     ensures { IfErr result IsFault }
 {
@@ -40,14 +40,14 @@ fn serve(rt: &HostRuntime) -> Result<Status, Refusal>
         Some(text) => run_on_words(rt, &options, &table, &text, &output),
         None => run_on_input(rt, &options, &table, &output),
     };
-    // Where answers were lost the run could tell nothing more, whatever its status is.
-    match output.flush() {
+    // Where answers were lost the run could report nothing more, whatever its status is.
+    match output.end() {
         Ok(()) => Ok(status),
         Err(_) => Err(Refusal::WriteFault),
     }
 }
 
-/// Prints a text that was asked for.
+/// Prints a text that was requested.
 fn show(rt: &HostRuntime, text: &str) -> Result<Status, Refusal>
     ensures { IfErr result IsFault }
 {

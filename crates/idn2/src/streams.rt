@@ -2,11 +2,11 @@
 //! input, and before a message is written, so that neither overtakes an answer.
 //!
 //! Once the output has failed, every read and every write of these streams fails. So the run ends at its next
-//! step with no message of its own, and the program tells that answers were lost.
+//! step with no message of its own, and the program reports that answers were lost.
 ghost use Rattle.std.specs.Io.{WritesAtMost};
 
 use std::cell::{Cell, RefCell, RefMut};
-use std::io::{Error, ErrorKind, Read, Result, Write};
+use std::io::{BufWriter, Error, ErrorKind, Read, Result, Write};
 
 /// An output that the streams below share. It fails for good: a write after one that failed would leave a gap.
 #[derive(Drop)]
@@ -26,7 +26,7 @@ impl<W> Output<W> {
 }
 
 impl<W: Write> Output<W> {
-    /// Writes some of a text, and tells how many bytes of it.
+    /// Writes some of a text, and returns how many bytes of it.
     fn write(&self, text: &[u8]) -> Result<usize>
         ensures { WritesAtMost result text.now }
     {
@@ -36,7 +36,7 @@ impl<W: Write> Output<W> {
     }
 
     /// Writes what is still in the buffer. An error means that some answer was lost, now or earlier.
-    pub fn flush(&self) -> Result<()> {
+    fn flush(&self) -> Result<()> {
         let flushed = self.lend()?.flush();
         self.has_failed.set(flushed.is_err());
         flushed
@@ -48,6 +48,18 @@ impl<W: Write> Output<W> {
             Ok(writer) if !self.has_failed.get() => Ok(writer),
             _ => Err(Error::from(ErrorKind::Other)),
         }
+    }
+}
+
+impl<W: Write + Drop> Output<BufWriter<W>> {
+    /// Writes what is still in the buffer, and ends the output. Where some answer was lost, what the buffer still holds
+    /// is dropped with it: by itself the buffer would try once more to write it.
+    pub fn end(self) -> Result<()> {
+        let ended = self.flush();
+        if ended.is_err() {
+            let _lost = self.writer.into_inner().into_parts();
+        }
+        ended
     }
 }
 

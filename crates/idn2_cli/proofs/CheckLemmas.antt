@@ -1,6 +1,6 @@
 -- The gaps of a table, as they are written.
 use Rattle.std.proofs.Common.{◌≡◌, ◌<◌, ◌⊎◌, inl, inr, ℕ, ◌+◌, suc, List, [], ◌∷◌, ◌++◌, All, map, drop, length, get_or, Contains, refl, sym, ap, subst, ◌∙◌, drop-cons, add-one}
-use Rattle.variant_table.specs.Entries.{Entry, replacements}
+use Rattle.variant_table.specs.Entries.{Entry, sequences_in, replacements}
 use Rattle.variant_table.specs.WellFormed.{IsWellFormed, IsEntry, IsSequence}
 use Rattle.std.proofs.Common.{Vec}
 use Rattle.std.specs.declared.alloc.Global.{Global}
@@ -20,8 +20,8 @@ pair_sequences : (table : List Entry) (s v : List ℕ) → IsWellFormed table �
 pair_sequences table s v formed p =
     let entry = all_at IsEntry table p.0 formed.entries p.1 in
     let sequences = entry.sequences in (
-      subst IsSequence p.2 (all_at IsSequence (replacements p.0) p.0.source sequences (Contains-head p.0.source p.0.variants)),
-      all_at IsSequence (replacements p.0) v sequences (Contains-later p.0.source p.0.variants v p.3),
+      subst IsSequence p.2 (all_at IsSequence (replacements p.0) p.0.source sequences (Contains-head p.0.source (sequences_in p.0.variants))),
+      all_at IsSequence (replacements p.0) v sequences (Contains-later p.0.source (sequences_in p.0.variants) v p.3),
     )
 
 gap_sequences : (table : List Entry) (a b : List ℕ) → IsWellFormed table → IsGap table a b → IsSequence a × IsSequence b

@@ -14,12 +14,11 @@ use Rattle.idn2_cli.specs.declared.session.status.Status.{Status}
 use Rattle.idn2_cli.specs.declared.session.stop.Stop.{Stop}
 use Rattle.idn2_cli.specs.declared.session.stop.Stop.TheVariants as stop
 use Rattle.idn2_cli.proofs.Writing.{stops_first}
-use Rattle.idn2_cli.proofs.Sessions.{stands_cut}
+use Rattle.idn2_cli.proofs.Sessions.{stands_at}
 use Rattle.idn2_cli.proofs.TableLemmas.{some_table, refused_table}
 use Rattle.std.specs.Prelude.{MatchOption}
-use Rattle.variant_table.specs.Texts.{IsToldOf}
 use Rattle.variant_table.specs.declared.fault.TableFault.{TableFault}
-use Rattle.idn2_cli.specs.Inner.{told_of}
+use Rattle.idn2_cli.specs.Inner.{IsRefusedAs, told_of}
 use Rattle.idn2_cli.specs.declared.session.status.Status.TheVariants.{Unusable}
 
 -- ---- a mode that answers lines
@@ -51,7 +50,7 @@ does_unread job start old new (Err why) unread writes answered = record {
   lines = [];
   read = has_read_nothing start unread;
   unread = λ _. refl;
-  ending = record { written = writes.0; pieces = writes.1; stands = stands_cut why start new (job.pieces []) writes.0 writes.2 };
+  ending = record { written = writes.0; pieces = writes.1; stands = stands_at job why [] start start (job.pieces []) writes.0 writes.0 writes.2 (inr (record { no_line = refl; unread = refl; cut = writes.2 })) };
 }
 
 with_false : (r : Result Status Stop) (status : Status) → IfOk r (λ s. s ≡ status) → IfOk r (λ s. (false ≡ false) × (s ≡ status))
@@ -95,7 +94,7 @@ faulty o text line refusal start old new r e read unread writes answered =
 
 -- a table that is not read, in the listing of variants
 pub refused_variants : (o : Settings) (text : List ℕ) (fault : TableFault) (start : Reading) (old new : Held) (r : Result Status Stop)
-    → o.mode ≡ Variants → IsUnread start → IsToldOf text fault
+    → o.mode ≡ Variants → IsUnread start → IsRefusedAs text fault
     → MatchOption (told_of fault) ((r ≡ Err stop.Memory) × (new ≡ old)) (λ told. Emits old new (check_pieces (Err told)) r)
     → IfOk r (λ status. status ≡ Unusable)
     → (table : TableGiven) × IsTableOf o.mode text table × Does (mode_job o table) start start old new r
@@ -109,7 +108,7 @@ refused_variants o text fault start old new r e unread is told answered = by (re
     by (inr t) = faulty o text t.0.0 t.0.1 start old new r e t.1 unread t.2 answered
 
 -- a table that is not read, in the check of a table
-pub refused_check : (text : List ℕ) (fault : TableFault) (old new : Held) (r : Result Status Stop) → IsToldOf text fault
+pub refused_check : (text : List ℕ) (fault : TableFault) (old new : Held) (r : Result Status Stop) → IsRefusedAs text fault
     → MatchOption (told_of fault) ((r ≡ Err stop.Memory) × (new ≡ old)) (λ told. Emits old new (check_pieces (Err told)) r)
     → IfOk r (λ status. status ≡ Unusable)
     → (given : TableGiven) × IsReadAs text given × Emits old new (check_pieces given) r × IfOk r (λ status. status ≡ check_status given)

@@ -6,7 +6,7 @@ use Rattle.idn_class.proofs.HopelessTests.{hopeless-gives, hopeless-from}
 use Rattle.variant_list.specs.Beginnings.{shortest_hopeless}
 use Rattle.variant_list.proofs.BeginningLemmas.{shortest_hopeless-at, shortest_hopeless-none}
 
-clear : (w : List ℕ) → ¬ IsHopeless w → hopeless w ≡ false
+pub clear : (w : List ℕ) → ¬ IsHopeless w → hopeless w ≡ false
 clear w h = by_test (hopeless w) refl
   where
     by_test : (b : Bool) → hopeless w ≡ b → b ≡ false

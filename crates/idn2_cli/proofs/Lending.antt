@@ -3,7 +3,7 @@ use Rattle.std.proofs.Common.{◌≡◌, List, Result, Ok, Err, inl, inr, refl, 
 use Rattle.idn_text.specs.Reading.{Reading}
 use Rattle.idn_text.specs.Writers.{Writer}
 use Rattle.idn2_cli.specs.Transcript.{Piece}
-use Rattle.idn2_cli.specs.Ends.{Held, Takes, Writes, held, WritesUntil, Job, Does, Stands, Closes, Ends}
+use Rattle.idn2_cli.specs.Ends.{Held, Takes, Writes, held, WritesUntil, Job, Does, Closes, Ends}
 use Rattle.idn2_cli.specs.declared.session.status.Status.{Status}
 use Rattle.idn2_cli.specs.declared.session.stop.Stop.{Stop}
 use Rattle.idn2_cli.specs.declared.session.stop.Stop.TheVariants as stop
@@ -20,14 +20,13 @@ writes_plain old new pieces w =
     record { takes = takes_plain old new pieces w.takes; output_faults = w.output_faults; messages_faults = w.messages_faults }
 
 until_plain : (why : Stop) (old new : Held) (pieces : List Piece) → WritesUntil why old new pieces → WritesUntil why (plain old) (plain new) pieces
-until_plain why old new pieces w =
-    record { takes = takes_plain old new pieces w.takes; output_faults = w.output_faults; messages_faults = w.messages_faults }
-
-stands_plain : (why : Stop) (input : Reading) (new : Held) (pieces written : List Piece) → Stands why input new pieces written → Stands why input (plain new) pieces written
-stands_plain stop.Reading input new pieces written s = s
-stands_plain stop.Output input new pieces written s = s
-stands_plain stop.Messages input new pieces written s = s
-stands_plain stop.Memory input new pieces written s = s
+until_plain why old new pieces w = record {
+  takes = takes_plain old new pieces w.takes;
+  output_failed = w.output_failed;
+  output_faults = w.output_faults;
+  messages_failed = w.messages_failed;
+  messages_faults = w.messages_faults;
+}
 
 closes_plain : (why : Stop) (old new : Held) → Closes why old new → Closes why (plain old) (plain new)
 closes_plain stop.Messages old new c = ap plain c
@@ -51,7 +50,7 @@ does_plain job start now old new (Err why) done = record {
   ending = record {
     written = done.ending.written;
     pieces = until_plain why old new done.ending.written done.ending.pieces;
-    stands = stands_plain why now new (job.pieces done.lines) done.ending.written done.ending.stands;
+    stands = done.ending.stands;
   };
 }
 

@@ -1,24 +1,50 @@
+-- The command is a simple one, with no rule between arguments, and its builder makes it so.
 mod AppLemmas
+-- What the getters of a parse say of the definition's entries.
 mod EntryLemmas
+-- A short numeral is read whole.
 mod CountLemmas
+-- Options that the rules allow are within the limits of a run.
 mod LimitLemmas
+-- The definition of a command without subcommands names one kind of error at most.
 mod LoneKind
+-- From what `clap` gives to the answer.
 mod AnswerLemmas
+-- The messages of faults, written out.
 mod FaultLemmas
+-- What is written, piece by piece.
 pub mod Writing
+-- What the bytes of a line are answered, by the code points that they spell.
 pub mod TextAnswers
+-- A listing step by step, and that it is the block.
 pub mod Walking
+-- One line more, and the end of the lines.
 pub mod Sessions
+-- From the lines of the input, or none, to the end of a run.
 pub mod Finishing
+-- A run over a console is a run over the two writers that were lent to it.
 pub mod Lending
+-- The table of a run.
 pub mod TableLemmas
+-- The gaps of a table, as they are written.
 pub mod CheckLemmas
+-- A name that is decoded has scalar values alone, where the name has.
 pub mod DecodedLemmas
+-- The listing of a label's variants, and the labels in it.
 pub mod ListingLemmas
+-- Labels that can be cut into sources of a table, and others.
 pub mod Segmented
+-- The block and the check that compute are those that are listed.
+pub mod ListedLemmas
+-- The answer to a line that a call refused.
 pub mod Refusing
+-- A listing under way: what it has written, and what is still to come.
 pub mod Listings
+-- Options that the rules allow suit their mode.
 pub mod SuitLemmas
+-- The mode that the words name.
 pub mod ModeLemmas
+-- The examples, computed.
 pub mod ExampleLemmas
+-- The shortest hopeless beginning of a label, as a listing asks for it.
 pub mod HopeLemmas

@@ -19,7 +19,7 @@ is_memory other = inr (λ e. cc)
 none_of : {A : Type 0} (old new : Held) (r : Result A Stop) (pieces : List Piece) → r ≡ Err stop.Memory → Emits old new [] r → Emits old new pieces r
 none_of {A} old new r pieces e nothing =
     let at = stops old new [] r stop.Memory nothing e in
-    subst (λ (s : Result A Stop). Emits old new pieces s) (sym e) (at.0, at.1, cut_before stop.Memory new [] pieces at.0 at.2)
+    subst (λ (s : Result A Stop). Emits old new pieces s) (sym e) (at.0, at.1, cut_before stop.Memory [] pieces at.0 at.2)
 
 -- the answer is this refusal, unless memory was refused
 pub emits_refusal : {A : Type 0} (old new : Held) (number : ℕ) (refusal : Refusal) (answer : LineAnswer) (r : Result A Stop) → (refusal ≢ Memory → answer ≡ Err refusal)

@@ -40,3 +40,11 @@ listing_answer-unsegmented o table label formed none = by_cases (empty_or_some (
     by_cases : (spelled table label ≡ []) ⊎ (0 < length (spelled table label)) → listing_answer o table label ≡ Err NotInTable
     by_cases (inl e) = ap (λ (xs : List (List ℕ)). let r : LineAnswer = if length xs == 0 then Err NotInTable else Ok (block o table label) in r) e
     by_cases (inr lt) = absurd (none (segmented table label (spelled table label) (λ v. spelled-Spells table label v formed.entries) lt))
+
+-- a label can be cut into sources of the table, or not
+pub segmented_or_not : (table : List Entry) (label : List ℕ) → IsWellFormed table → HasSegmentation table label ⊎ (HasSegmentation table label → ⊥)
+segmented_or_not table label formed = by_cases (empty_or_some (spelled table label))
+  where
+    by_cases : (spelled table label ≡ []) ⊎ (0 < length (spelled table label)) → HasSegmentation table label ⊎ (HasSegmentation table label → ⊥)
+    by_cases (inl e) = inr (unsegmented table label (spelled table label) (λ v. spelled-Spells table label v formed.entries) e)
+    by_cases (inr lt) = inl (segmented table label (spelled table label) (λ v. spelled-Spells table label v formed.entries) lt)

@@ -1,9 +1,10 @@
 -- What is written, piece by piece.
-use Rattle.std.proofs.Common.{◌≡◌, ◌<◌, ℕ, List, [], ◌∷◌, ◌++◌, Option, Some, None, Result, Err, take, length, refl, sym, ap, subst, ◌∙◌, append_assoc}
+use Rattle.std.proofs.Common.{◌≡◌, ◌≢◌, ◌<◌, ℕ, suc, List, [], ◌∷◌, ◌++◌, Option, Some, None, Result, Err, take, length, refl, sym, ap, subst, ◌∙◌, append_assoc}
 use Rattle.std.proofs.lemmas.List.{append-nil}
 use Rattle.std.proofs.lemmas.Result.{MatchResult-at_err}
+use Rattle.std.specs.Option.{option_map}
 use Rattle.std.specs.Io.KnownBytes.{Appends}
-use Rattle.idn_text.specs.Writers.{Writer, TakesWhole, TakesPart}
+use Rattle.idn_text.specs.Writers.{Writer, Fails, TakesWhole, TakesPart}
 use Rattle.idn2_cli.specs.Transcript.{Piece, Output, Message, output_of, messages_of}
 use Rattle.idn2_cli.specs.Ends.{Held, Takes, Writes, BreaksOff, IsCutBy, WritesUntil}
 use Rattle.idn2_cli.specs.Emitting.{StopsWithin, Emits}
@@ -51,17 +52,32 @@ writes_join a b c p q first second = record {
   messages_faults = second.messages_faults ∙ first.messages_faults;
 }
 
+-- writes without a fault before those of which the last failed
+fails_after : (a b c : Writer) → b.faults ≡ a.faults → Fails b c → Fails a c
+fails_after a b c same f = record { last = f.last; one = f.one ∙ ap (option_map suc) same }
+
 -- what was written without a fault, and then to a stop
 pub writes_until : (why : Stop) (a b c : Held) (p q : List Piece) → Writes a b p → WritesUntil why b c q → WritesUntil why a c (p ++ q)
 writes_until why a b c p q first second = record {
   takes = takes_join a b c p q first.takes second.takes;
+  output_failed = λ is. fails_after a.output b.output c.output first.output_faults (second.output_failed is);
   output_faults = λ other. second.output_faults other ∙ first.output_faults;
+  messages_failed = λ is. fails_after a.messages b.messages c.messages first.messages_faults (second.messages_failed is);
   messages_faults = λ other. second.messages_faults other ∙ first.messages_faults;
 }
 
 -- to a stop that no writer made
-pub until_here : (why : Stop) (a b : Held) (p : List Piece) → Writes a b p → WritesUntil why a b p
-until_here why a b p w = record { takes = w.takes; output_faults = λ _. w.output_faults; messages_faults = λ _. w.messages_faults }
+pub until_here : (why : Stop) (a b : Held) (p : List Piece) → why ≢ stop.Output → why ≢ stop.Messages → Writes a b p → WritesUntil why a b p
+until_here why a b p not_output not_messages w = record {
+  takes = w.takes;
+  output_failed = λ is. absurd (not_output is);
+  output_faults = λ _. w.output_faults;
+  messages_failed = λ is. absurd (not_messages is);
+  messages_faults = λ _. w.messages_faults;
+}
+
+until_memory : (a b : Held) (p : List Piece) → Writes a b p → WritesUntil stop.Memory a b p
+until_memory a b p w = until_here stop.Memory a b p (λ e. cc) (λ e. cc) w
 
 -- a proper prefix of one piece
 pub breaks_off : (writer : List ℕ → Piece) (text : List ℕ) (n : ℕ) → n < length text → BreaksOff writer (writer text ∷ []) (writer (take n text) ∷ [])
@@ -90,26 +106,26 @@ breaks_before writer pieces after written b = record {
 }
 
 -- pieces that were written before
-cut_after : (why : Stop) (new : Held) (before pieces written : List Piece) → IsCutBy why new pieces written → IsCutBy why new (before ++ pieces) (before ++ written)
-cut_after stop.Reading new before pieces written c = c
-cut_after stop.Output new before pieces written c = (breaks_after Output before pieces written c.0, c.1)
-cut_after stop.Messages new before pieces written c = (breaks_after Message before pieces written c.0, c.1)
-cut_after stop.Memory new before pieces written c = (c.0, ap (λ l. before ++ l) c.1 ∙ sym (append_assoc before written c.0))
+cut_after : (why : Stop) (before pieces written : List Piece) → IsCutBy why pieces written → IsCutBy why (before ++ pieces) (before ++ written)
+cut_after stop.Reading before pieces written c = c
+cut_after stop.Output before pieces written c = breaks_after Output before pieces written c
+cut_after stop.Messages before pieces written c = breaks_after Message before pieces written c
+cut_after stop.Memory before pieces written c = (c.0, ap (λ l. before ++ l) c.1 ∙ sym (append_assoc before written c.0))
 
 -- pieces that were to come
-pub cut_before : (why : Stop) (new : Held) (pieces after written : List Piece) → IsCutBy why new pieces written → IsCutBy why new (pieces ++ after) written
-cut_before stop.Reading new pieces after written c = c
-cut_before stop.Output new pieces after written c = (breaks_before Output pieces after written c.0, c.1)
-cut_before stop.Messages new pieces after written c = (breaks_before Message pieces after written c.0, c.1)
-cut_before stop.Memory new pieces after written c = (c.0 ++ after, ap (λ l. l ++ after) c.1 ∙ append_assoc written c.0 after)
+pub cut_before : (why : Stop) (pieces after written : List Piece) → IsCutBy why pieces written → IsCutBy why (pieces ++ after) written
+cut_before stop.Reading pieces after written c = c
+cut_before stop.Output pieces after written c = breaks_before Output pieces after written c
+cut_before stop.Messages pieces after written c = breaks_before Message pieces after written c
+cut_before stop.Memory pieces after written c = (c.0 ++ after, ap (λ l. l ++ after) c.1 ∙ append_assoc written c.0 after)
 
 -- memory was refused before any of the pieces
 pub stops_first : (old : Held) (pieces : List Piece) → StopsWithin stop.Memory old old pieces
-stops_first old pieces = ([], until_here stop.Memory old old [] (writes_nothing old), (pieces, refl))
+stops_first old pieces = ([], until_memory old old [] (writes_nothing old), (pieces, refl))
 
 -- memory was refused between the pieces that stand and those to come
 pub stops_after : (old middle : Held) (all so_far rest : List Piece) → all ≡ so_far ++ rest → Writes old middle so_far → StopsWithin stop.Memory old middle all
-stops_after old middle all so_far rest split first = (so_far, until_here stop.Memory old middle so_far first, (rest, split))
+stops_after old middle all so_far rest split first = (so_far, until_memory old middle so_far first, (rest, split))
 
 -- a call that stopped
 pub stops : {A : Type 0} (old new : Held) (p : List Piece) (r : Result A Stop) (why : Stop) → Emits old new p r → r ≡ Err why → StopsWithin why old new p
@@ -121,7 +137,7 @@ stops_between old middle new all so_far p rest r why split first emits e =
     let at = stops middle new p r why emits e in (
       so_far ++ at.0,
       writes_until why old middle new so_far at.0 first at.1,
-      subst (λ (ps : List Piece). IsCutBy why new ps (so_far ++ at.0)) (sym split) (cut_after why new so_far (p ++ rest) at.0 (cut_before why new p rest at.0 at.2)),
+      subst (λ (ps : List Piece). IsCutBy why ps (so_far ++ at.0)) (sym split) (cut_after why so_far (p ++ rest) at.0 (cut_before why p rest at.0 at.2)),
     )
 
 -- the same text, spelled otherwise
@@ -154,10 +170,12 @@ stops_output old new text n took = (
       output_loan = refl;
       messages_loan = refl;
     };
+    output_failed = λ _. took.cause;
     output_faults = λ other. absurd (other refl);
+    messages_failed = λ is. cc;
     messages_faults = λ _. refl;
   },
-  (breaks_off Output text n took.proper, took.cause),
+  breaks_off Output text n took.proper,
 )
 
 pub writes_message : (old : Held) (new : Writer) (text : List ℕ) → TakesWhole old.messages new text → Writes old (record old { messages = new }) (Message text ∷ [])
@@ -182,8 +200,10 @@ stops_message old new text n took = (
       output_loan = refl;
       messages_loan = refl;
     };
+    output_failed = λ is. cc;
     output_faults = λ _. refl;
+    messages_failed = λ _. took.cause;
     messages_faults = λ other. absurd (other refl);
   },
-  (breaks_off Message text n took.proper, took.cause),
+  breaks_off Message text n took.proper,
 )

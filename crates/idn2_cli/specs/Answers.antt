@@ -1,5 +1,5 @@
 -- What a line of input is answered: lines for the output, or a refusal.
-use Rattle.std.specs.Prelude.{ℕ, ◌==◌, Bool, List, [], ◌∷◌, ◌++◌, length, chars, Option, Some, None, Result, Ok, Err, if◌then◌else◌, ◌-◌, map, filter, codes}
+use Rattle.std.specs.Prelude.{◌≡◌, ℕ, ◌≤◌, ◌==◌, Bool, List, [], ◌∷◌, ◌++◌, length, chars, Option, Some, None, Result, Ok, Err, if◌then◌else◌, ◌-◌, map, filter, codes}
 use Rattle.std.specs.Str.{is_utf8}
 use Rattle.std.specs.List.{slice_get}
 use Rattle.std.specs.Option.{is_none}
@@ -8,8 +8,10 @@ use Rattle.std.specs.Fmt.{decimal}
 use Rattle.idn_text.specs.Points.{utf8_of}
 use Rattle.idn_text.specs.declared.refusal.Refusal.{Refusal}
 use Rattle.idn_text.specs.declared.refusal.Refusal.TheVariants.{LineTooLong, NotUtf8, Empty, NotInTable}
-use Rattle.idn_class.specs.Hopeless.{hopeless}
-use Rattle.idn_label.specs.FirstFault.{first_fault}
+use Rattle.idn_class.specs.Hopeless.{hopeless, HasHope}
+use Rattle.idn_label.specs.FirstFault.{first_fault, IsRegistrable}
+use Rattle.idn_label.specs.Answers.{unless_fault}
+use Rattle.idn_label.specs.Steps.{in_utf8}
 use Rattle.idn_label.specs.Register.{register_answer}
 use Rattle.idn_label.specs.Decode.{decode_answer}
 use Rattle.idn_label.specs.Lookup.{lookup_answer}
@@ -19,7 +21,9 @@ use Rattle.idn2_cli.specs.Settings.{Settings}
 use Rattle.idn2_cli.specs.declared.command_line.mode.Mode.{Mode}
 use Rattle.idn2_cli.specs.declared.command_line.mode.Mode.TheVariants.{Lookup, Register, Decode, Variants, CheckTable}
 use Rattle.idn_label.specs.ALabel.{a_label_of}
-use Rattle.variant_list.specs.Labels.{label_cmp}
+use Rattle.variant_list.specs.Labels.{label_cmp, IsBelow, IsListOf}
+use Rattle.variant_list.specs.Segmentations.{HasSegmentation}
+use Rattle.variant_list.specs.Spelling.{Spells}
 use Rattle.variant_list.specs.Tested.{tested}
 use Rattle.variant_list.specs.Variants.{variants}
 
@@ -91,29 +95,19 @@ abbrev pub one_line : Result (List ℕ) Refusal → LineAnswer
 one_line (Ok line) = Ok (line ∷ [])
 one_line (Err refusal) = Err refusal
 
--- an answer of code points as their UTF-8
-abbrev pub as_utf8 : Result (List ℕ) Refusal → Result (List ℕ) Refusal
-as_utf8 (Ok points) = Ok (utf8_of points)
-as_utf8 (Err refusal) = Err refusal
-
--- the lines, unless there is a fault
-abbrev pub unless : Option Refusal → LineAnswer → LineAnswer
-unless None answer = answer
-unless (Some refusal) answer = Err refusal
-
 -- the block of a label, if it can be cut into sources of the table
 abbrev pub listing_answer : Settings → List Entry → List ℕ → LineAnswer
 listing_answer o table label = if length (spelled table label) == 0 then Err NotInTable else Ok (block o table label)
 
--- the same, where the label may be registered; its first fault is told before that
+-- the same, where the label may be registered; its first fault is reported before that
 abbrev pub variants_answer : Settings → List Entry → List ℕ → LineAnswer
-variants_answer o table label = unless (first_fault label) (listing_answer o table label)
+variants_answer o table label = unless_fault (first_fault label) (listing_answer o table label)
 
 -- the answer of a mode to the code points of a line. The check of a table reads no line
 abbrev pub mode_answer : Mode → Settings → List Entry → List ℕ → LineAnswer
 mode_answer Lookup o table name = one_line (lookup_answer name o.std3)
 mode_answer Register o table label = one_line (register_answer label)
-mode_answer Decode o table name = one_line (as_utf8 (decode_answer name))
+mode_answer Decode o table name = one_line (in_utf8 (decode_answer name))
 mode_answer Variants o table label = variants_answer o table label
 mode_answer CheckTable o table label = Ok []
 
@@ -126,3 +120,35 @@ text_answer answer bytes =
 abbrev pub line_answer : (List ℕ → LineAnswer) → Option (List ℕ) → LineAnswer
 line_answer answer None = Err LineTooLong
 line_answer answer (Some bytes) = text_answer answer bytes
+
+-- ---- the same block, by what its lines have to be: no list is computed here
+
+-- a registrable label, greater than the text of the settings, that arises by cutting the label into sources of the table and
+-- replacing each by itself or one of its variants
+pub record IsListed (o : Settings) (table : List Entry) (label v : List ℕ) : Type 0 where
+  pub registrable : IsRegistrable v
+  pub greater : IsBelow o.after v
+  pub spelled : Spells table label v
+
+-- a label of at most 63 code points that arises so, greater than the text, with no hopeless beginning
+pub record IsTried (o : Settings) (table : List Entry) (label v : List ℕ) : Type 0 where
+  pub short : length v ≤ 63
+  pub hope : HasHope v
+  pub greater : IsBelow o.after v
+  pub spelled : Spells table label v
+
+-- the stop is the lesser of the limit-th label that is listed and the tries-th that is tried, as far as they exist; up to it
+-- there is a line for each label that is listed, with its A-label, and then the trailer
+pub record IsBlock (o : Settings) (table : List Entry) (label : List ℕ) (lines : List (List ℕ)) : Type 0 where
+  pub listed : List (List ℕ)
+  pub exactly : IsListOf (IsListed o table label) listed
+  pub tried : List (List ℕ)
+  pub exactly_tried : IsListOf (IsTried o table label) tried
+  pub stop : Option (List ℕ)
+  pub stops : stop ≡ lesser (nth_if_given listed o.limit) (nth tried o.tries)
+  pub printed : lines ≡ map variant_line (up_to stop listed) ++ trailer (length (up_to stop listed)) stop ∷ []
+
+-- a label that can be cut into sources of the table is answered by its block, and any other is refused
+abbrev pub IsListing : Settings → List Entry → List ℕ → LineAnswer → Type 0
+IsListing o table label (Ok lines) = HasSegmentation table label × IsBlock o table label lines
+IsListing o table label (Err refusal) = (¬ HasSegmentation table label) × (refusal ≡ NotInTable)

@@ -1,7 +1,7 @@
 -- How a run goes: to its end, or to a stop and a last message.
 use Rattle.std.specs.Prelude.{◌≡◌, ℕ, List, ◌⊎◌, ◌++◌, codes, ◌≢◌, ◌<◌, [], ◌∷◌, length, take, true, Result, MatchResult, Bool, false, IsTrue, Ok, Err}
 use Rattle.std.specs.Io.KnownBytes.{Appends}
-use Rattle.idn_text.specs.Writers.{Writer, TakesWhole, TakesPart}
+use Rattle.idn_text.specs.Writers.{Writer, Fails, TakesWhole, TakesPart}
 use Rattle.idn2_cli.specs.Transcript.{Piece, output_of, messages_of, Output, Message, told, lines_pieces, has_refused, status_if, transcript, status_of, TableGiven}
 use Rattle.idn_text.specs.declared.refusal.Refusal.{Refusal}
 use Rattle.idn_text.specs.declared.refusal.Refusal.TheVariants.{Usage, ReadFault, WriteFault, Memory}
@@ -56,16 +56,18 @@ pub record BreaksOff (writer : List ℕ → Piece) (pieces written : List Piece)
   pub cut : written ≡ before ++ writer (take taken text) ∷ []
 
 -- what is written of the pieces where a stop comes: a writer failed within a piece, or memory was refused before one
-abbrev pub IsCutBy : Stop → Held → List Piece → List Piece → Type 0
-IsCutBy stop.Reading new pieces written = ⊥
-IsCutBy stop.Output new pieces written = BreaksOff Output pieces written × (new.output.has_failed ≡ true)
-IsCutBy stop.Messages new pieces written = BreaksOff Message pieces written × (new.messages.has_failed ≡ true)
-IsCutBy stop.Memory new pieces written = (after : List Piece) × (pieces ≡ written ++ after)
+abbrev pub IsCutBy : Stop → List Piece → List Piece → Type 0
+IsCutBy stop.Reading pieces written = ⊥
+IsCutBy stop.Output pieces written = BreaksOff Output pieces written
+IsCutBy stop.Messages pieces written = BreaksOff Message pieces written
+IsCutBy stop.Memory pieces written = (after : List Piece) × (pieces ≡ written ++ after)
 
--- each of the writers took its pieces, in order, and no write failed but of the writer that the stop names
+-- each of the writers took its pieces, in order, and no write failed but the last one of the writer that the stop names
 pub record WritesUntil (why : Stop) (old new : Held) (pieces : List Piece) : Type 0 where
   pub takes : Takes old new pieces
+  pub output_failed : why ≡ stop.Output → Fails old.output new.output
   pub output_faults : why ≢ stop.Output → new.output.faults ≡ old.output.faults
+  pub messages_failed : why ≡ stop.Messages → Fails old.messages new.messages
   pub messages_faults : why ≢ stop.Messages → new.messages.faults ≡ old.messages.faults
 
 -- ---- what is to be done
@@ -98,17 +100,35 @@ pub record EndsWell (job : Job) (lines : List Numbered) (now : Reading) (old new
   pub pieces : Writes old new (job.pieces lines)
   pub answered : status ≡ job.status lines
 
--- where a read stops a run, all pieces of the lines that it read stand, which are those that a line feed ends;
--- where a write or memory does, those before some piece, and of that piece what its writer took
-abbrev pub Stands : Stop → Reading → Held → List Piece → List Piece → Type 0
-Stands stop.Reading input new pieces written = HasStopped input × (input.state ≡ Stopped) × (written ≡ pieces)
-Stands why input new pieces written = IsCutBy why new pieces written
+-- a write or memory stopped the job at the last line that was read: all pieces of the lines before it are written, and then
+-- those of its own pieces that the stop let through
+pub record StopsAtLine (job : Job) (why : Stop) (lines : List Numbered) (now : Reading) (written : List Piece) : Type 0 where
+  pub before : List Numbered
+  pub line : Numbered
+  pub part : List Piece
+  pub last : lines ≡ before ++ line ∷ []
+  pub going : now.state ≢ Stopped
+  pub cut : IsCutBy why (job.pieces (line ∷ [])) part
+  pub stand : written ≡ job.pieces before ++ part
+
+-- a write or memory stopped the job before a line was read, and the reader was not called: while the table was read, at the
+-- message of its fault, or in its check
+pub record StopsUnread (job : Job) (why : Stop) (lines : List Numbered) (start now : Reading) (written : List Piece) : Type 0 where
+  pub no_line : lines ≡ []
+  pub unread : now ≡ start
+  pub cut : IsCutBy why (job.pieces []) written
+
+-- where a read stops a job, all pieces of the lines that it read stand, which are those that a line feed ends; where a write or
+-- memory does, it stops at once, and no line is read after that
+abbrev pub Stands : Job → Stop → List Numbered → Reading → Reading → List Piece → Type 0
+Stands job stop.Reading lines start now written = HasStopped now × (now.state ≡ Stopped) × (written ≡ job.pieces lines)
+Stands job why lines start now written = StopsAtLine job why lines now written ⊎ StopsUnread job why lines start now written
 
 -- to a stop: of the pieces stands what it left
-pub record EndsEarly (job : Job) (lines : List Numbered) (now : Reading) (old new : Held) (why : Stop) : Type 0 where
+pub record EndsEarly (job : Job) (lines : List Numbered) (start now : Reading) (old new : Held) (why : Stop) : Type 0 where
   pub written : List Piece
   pub pieces : WritesUntil why old new written
-  pub stands : Stands why now new (job.pieces lines) written
+  pub stands : Stands job why lines start now written
 
 -- of the input these bytes were taken, and these lines of them read, and the job is done for them or stopped
 pub record Does (job : Job) (start now : Reading) (old new : Held) (result : Result Status Stop) : Type 0 where
@@ -116,7 +136,7 @@ pub record Does (job : Job) (start now : Reading) (old new : Held) (result : Res
   pub lines : List Numbered
   pub read : HasRead start now given lines
   pub unread : job.reads ≡ false → now ≡ start
-  pub ending : MatchResult result (EndsWell job lines now old new) (EndsEarly job lines now old new)
+  pub ending : MatchResult result (EndsWell job lines now old new) (EndsEarly job lines start now old new)
 
 -- ---- the last message
 
@@ -143,7 +163,7 @@ closing_status _ = Unusable
 abbrev pub TakesText : List ℕ → Writer → Writer → Type 0
 TakesText text old new = TakesWhole old new text ⊎ ((taken : ℕ) × TakesPart old new text taken)
 
--- the refusal that is told where a run stops
+-- the refusal that is reported where a run stops
 abbrev pub refusal_of : Stop → Refusal
 refusal_of stop.Reading = ReadFault
 refusal_of stop.Output = WriteFault

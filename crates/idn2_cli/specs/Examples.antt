@@ -62,7 +62,7 @@ pub record ExamplesOfTranscripts : Type 0 where
   pub between : transcript (plain_run Register []) (Ok []) (lines_of three_lines) ≡ Output (codes "abc\n") ∷ Message (codes "idn2: line 2: 13 hyphen out of place\n") ∷ Output (codes "b\n") ∷ []
   pub status : status_of (plain_run Register []) (Ok []) (lines_of three_lines) ≡ Refused
 
--- what the words behind the program's name ask for
+-- what the words after the program's name request
 abbrev pub asked : List (List ℕ) → Answer
 asked words = options_of (codes "idn2" ∷ words)
 

@@ -1,29 +1,9 @@
 -- Laws of the definitions.
-use Rattle.std.specs.Prelude.{◌≡◌, ◌≢◌, ◌↔◌, ℕ, Bool, true, false, List, Err, codes}
+use Rattle.std.specs.Prelude.{◌≡◌, ◌≢◌, Bool, true, false, List, codes}
 use Rattle.clap.specs.Words.{Row}
-use Rattle.idn_text.specs.declared.refusal.Refusal.TheVariants.{NotInTable}
-use Rattle.variant_table.specs.Entries.{Entry}
-use Rattle.variant_table.specs.WellFormed.{IsWellFormed}
-use Rattle.variant_list.specs.Segmentations.{HasSegmentation}
-use Rattle.variant_list.specs.Variants.{AreVariants}
-use Rattle.idn2_cli.specs.Settings.{Settings}
-use Rattle.idn2_cli.specs.Answers.{is_registrable, variants_after, listing_answer}
 use Rattle.idn2_cli.specs.Words.{has_flag, has_value, is_allowed, mode_of}
 use Rattle.idn2_cli.specs.declared.command_line.mode.Mode.{Mode}
 use Rattle.idn2_cli.specs.declared.command_line.mode.Mode.TheVariants.{Lookup, Register, Decode, Variants, CheckTable}
-
--- the labels of which a block lists those up to its stop are the one rising list of the registrable labels that the label
--- spells and that are greater than the text of the settings
-abbrev pub BlockListsVariants : Type 0
-BlockListsVariants =
-    (o : Settings) (table : List Entry) (label : List ℕ) → IsWellFormed table →
-    AreVariants is_registrable table label o.after (variants_after o table label)
-
--- a label is not in the table exactly where it has no segmentation into sources of the table
-abbrev pub NotInTableMeansNoSegmentation : Type 0
-NotInTableMeansNoSegmentation =
-    (o : Settings) (table : List Entry) (label : List ℕ) → IsWellFormed table →
-    (listing_answer o table label ≡ Err NotInTable) ↔ ¬ HasSegmentation table label
 
 -- a word of the command line names the mode
 abbrev pub is_named : Mode → List Row → Bool

@@ -1,10 +1,11 @@
 -- The transcript of a run: all that it writes where nothing fails, piece by piece.
-use Rattle.std.specs.Prelude.{ℕ, List, [], ◌∷◌, ◌++◌, ◌≡◌, Result, Ok, Err, ◌==◌, Bool, not, length, map, codes, if◌then◌else◌}
+use Rattle.std.specs.Prelude.{ℕ, List, [], ◌∷◌, ◌++◌, ◌≡◌, ◌⊎◌, Result, Ok, Err, ◌==◌, Bool, not, length, map, codes, if◌then◌else◌}
 use Rattle.std.specs.List.{flat_map, list_any}
 use Rattle.std.specs.Result.{is_err}
 use Rattle.std.specs.Fmt.{decimal}
 use Rattle.idn_text.specs.declared.refusal.Refusal.{Refusal}
-use Rattle.variant_table.specs.Entries.{Entry}
+use Rattle.variant_table.specs.declared.version.Version.TheVariants.{One, Two}
+use Rattle.variant_table.specs.Entries.{Entry, TableValue}
 use Rattle.variant_table.specs.Texts.{IsTextOf, IsFaultOf}
 use Rattle.variant_table.specs.Faults.{LineFault}
 use Rattle.idn2_cli.specs.declared.command_line.mode.Mode.{Mode}
@@ -12,7 +13,7 @@ use Rattle.idn2_cli.specs.declared.command_line.mode.Mode.TheVariants.{Variants,
 use Rattle.idn_text.specs.Lines.{Numbered}
 use Rattle.idn_text.specs.Refusals.{refusal_number, refusal_text}
 use Rattle.variant_table.specs.Canonical.{sequence_text}
-use Rattle.variant_table.specs.Gaps.{gaps_of}
+use Rattle.variant_table.specs.Gaps.{gaps_of, AreGapsOf}
 use Rattle.idn2_cli.specs.Settings.{Settings}
 use Rattle.idn2_cli.specs.Answers.{LineAnswer, mode_answer, line_answer}
 use Rattle.idn2_cli.specs.declared.session.status.Status.{Status}
@@ -53,12 +54,21 @@ table_refusal faults.BadClass = refusals.BadClass
 table_refusal faults.SameVariant = refusals.SameVariant
 table_refusal faults.SameSource = refusals.SameSource
 
--- the text spells these entries, or has this first fault
-abbrev pub IsReadAs : List ℕ → TableGiven → Type 0
-IsReadAs text (Ok table) = IsTextOf text table
-IsReadAs text (Err fault) = (kind : LineFault) × (table_refusal kind ≡ fault.1) × IsFaultOf text fault.0 kind
+-- the text has this first fault
+abbrev pub HasFault : List ℕ → ℕ × Refusal → Type 0
+HasFault text fault = (kind : LineFault) × (table_refusal kind ≡ fault.1) × IsFaultOf text fault.0 kind
 
--- the table by which a mode works, as its text tells it; a mode that names no table has no entries
+-- the text spells a table of version 2
+abbrev pub SpellsVersionTwo : List ℕ → Type 0
+SpellsVersionTwo text = (table : TableValue) × IsTextOf text table × (table.version ≡ Two)
+
+-- the text spells these entries in version 1, or has this first fault. No mode works by a table of version 2 yet: its version line
+-- is told as syntax
+abbrev pub IsReadAs : List ℕ → TableGiven → Type 0
+IsReadAs text (Ok table) = IsTextOf text (record { version = One; entries = table })
+IsReadAs text (Err fault) = HasFault text fault ⊎ (SpellsVersionTwo text × (fault ≡ (1, refusals.Syntax)))
+
+-- the table by which a mode works, as its text says; a mode that names no table has no entries
 abbrev pub IsTableOf : Mode → List ℕ → TableGiven → Type 0
 IsTableOf Variants text table = IsReadAs text table
 IsTableOf CheckTable text table = IsReadAs text table
@@ -118,6 +128,14 @@ table_line entries gaps = codes "#table " ++ (decimal entries ++ 32 ∷ decimal 
 -- the lines of a check
 abbrev pub check_lines : List Entry → List (List ℕ)
 check_lines table = map gap_line (gaps_of table) ++ table_line (length table) (length (gaps_of table)) ∷ []
+
+-- the same, by what these lines have to be
+-- a line for each pair that symmetry or transitivity requires and the table lacks, in order, and then how many entries and how
+-- many such pairs there are
+pub record IsCheck (table : List Entry) (lines : List (List ℕ)) : Type 0 where
+  pub gaps : List (List ℕ × List ℕ)
+  pub exactly : AreGapsOf table gaps
+  pub printed : lines ≡ map gap_line gaps ++ table_line (length table) (length gaps) ∷ []
 
 -- what a check writes; the one message of a faulty table
 abbrev pub check_pieces : TableGiven → List Piece

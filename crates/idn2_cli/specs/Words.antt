@@ -1,4 +1,4 @@
--- What the words of the command line ask for: what `clap`'s definition of the command gives for
+-- What the words of the command line request: what `clap`'s definition of the command gives for
 -- them, and then the rules that the program has of its own.
 use Rattle.std.specs.Prelude.{ℕ, ◌≡◌, ◌≢◌, ◌&&◌, ◌||◌, Bool, true, false, not, List, [], ◌∷◌, length, Option, Some, None}
 use Rattle.std.specs.Prelude.{codes, count_by, if◌then◌else◌, is_some, nat_eq, nat_le, option_and_then, unwrap_or}
@@ -123,7 +123,7 @@ settings_of rows = record {
 
 -- ---- the answer
 
--- what the words ask for: a run with these options, a text to be shown, or nothing that can be read
+-- what the words request: a run with these options, a text to be shown, or nothing that can be read
 pub data Answer : Type 0 where
   chosen : Settings → Answer
   shown : Answer

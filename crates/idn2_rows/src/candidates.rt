@@ -7,7 +7,7 @@ use variant_table::Table;
 
 const CHINA: &[u8] = b"4E2D\n56FD|570B\n570B|56FD\n";
 
-/// All candidates of the label behind the text, each with a comma behind it.
+/// All candidates of the label after the text, each with a comma after it.
 fn listed(alloc: Global, net: &Net, after: &str) -> Result<Vec<u32>, Fail> {
     let mut cursor = Cursor::new(alloc, net, &points(alloc, after)?)?;
     let mut listed = Vec::new(alloc);
@@ -21,7 +21,7 @@ fn listed(alloc: Global, net: &Net, after: &str) -> Result<Vec<u32>, Fail> {
     Err("a listing without an end".into())
 }
 
-/// Tables, labels and texts, and the candidates behind them.
+/// Tables, labels and texts, and the candidates after them.
 const FROM_TEXTS: [(&[u8], &str, &str, &str); 10] = [
     (DOUBLED, "aa", "", "aa,aaa,aaaa,"),
     (DOUBLED, "aa", "aaa", "aaaa,"),

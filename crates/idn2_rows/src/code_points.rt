@@ -1,4 +1,4 @@
-//! What a code point is to a label: its class, and the facts that tell which tests a label needs.
+//! What a code point is to a label: its class, and the facts that say which tests a label needs.
 use idn_class::{Class, Fact, Facts, class_of};
 
 /// The seven rows from U+01F0 on take memory, and succeed too.

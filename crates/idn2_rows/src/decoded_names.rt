@@ -1,5 +1,5 @@
 //! Decoding of names, which gives the same by octets as by code points. The texts are what libidn2's `idn2 -d` prints,
-//! but for capitals behind a prefix, which it keeps and this program puts into lower case. The codes of refused labels
+//! but for capitals after a prefix, which it keeps and this program puts into lower case. The codes of refused labels
 //! are those of Python's codec of Punycode.
 use crate::a_labels_of_others::{LIBIDN2, RFC_3492};
 use crate::label_calls::{letters, points_of};
@@ -10,7 +10,9 @@ use std::alloc::Global;
 use std::process::Abort;
 use std::test::Fail;
 
+/// Names with their U-labels, or their first refusal.
 const CASES: [(&str, Result<&str, Refusal>); 28] = [
+    // A-labels beside other labels, empty ones too.
     ("xn--fiqs8s.example", Ok("中国.example")),
     ("www.xn--fa-hia.xn--fiqs8s", Ok("www.faß.中国")),
     ("xn--fa-hia.", Ok("faß.")),
@@ -19,6 +21,7 @@ const CASES: [(&str, Result<&str, Refusal>); 28] = [
     (".xn--fa-hia", Ok(".faß")),
     (".", Ok(".")),
     ("", Ok("")),
+    // A-labels in any case (RFC 5890, section 2.3.2.4), and other labels, which stay as they are.
     ("XN--FA-HIA.de", Ok("faß.de")),
     ("XN--fa-hia.de", Ok("faß.de")),
     ("Xn--FA-HIA.DE", Ok("faß.DE")),
@@ -29,11 +32,13 @@ const CASES: [(&str, Result<&str, Refusal>); 28] = [
     // The mark may compose with other letters than the one before it.
     ("xn--q-xbb.de", Ok("q\u{301}.de")),
     ("xn--11b2f", Ok("\u{915}\u{93C}")),
+    // The prefix, with no Punycode of scalar values after it, or with that of ASCII alone.
     ("xn--", Err(Refusal::BadALabel)),
     ("XN--.de", Err(Refusal::BadALabel)),
     ("xn--abc-", Err(Refusal::BadALabel)),
     ("a.XN--ABC-.de", Err(Refusal::BadALabel)),
     ("xn--99999999", Err(Refusal::BadALabel)),
+    // What is decoded is not registrable; the first such label decides.
     ("xn--a", Err(Refusal::Disallowed)),
     ("a.xn--a.xn--", Err(Refusal::Disallowed)),
     ("a.xn--.xn--a", Err(Refusal::BadALabel)),

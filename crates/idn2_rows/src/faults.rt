@@ -1,65 +1,256 @@
-//! Runs whose reads or writes fail: what then stands on both writers, and the status.
+//! Runs in which one read, or one byte of a writer, is refused: each in turn. What then stands on both writers, and the
+//! status.
 use crate::row::{Given, ROOM, answers, options_of};
 use idn_text::hostile::{StopReader, StopWriter};
 use idn_text::{Device, Lines, ReadFault};
 use idn2_cli::run;
+use std::alloc::{AllocError, Global};
+use std::process::Abort;
 use std::test::Fail;
 
 const VARIANTS: &[&str] = &["--variants", "t"];
 
+const CHECK_TABLE: &[&str] = &["--check-table", "t"];
+
 const REGISTER: &[&str] = &["-r"];
 
-const TABLE: &[u8] = b"0061|0061-0061\n";
-
-const BLOCK: &[u8] = b"aa\taa\naaa\taaa\naaaa\taaaa\n#end 3\n";
+const DOUBLED: &[u8] = b"0061|0061-0061\n";
 
 const SHARP_S: &[u8] = b"0061\n0065\n0072\n0073\n0074\n0073-0073|00DF\n00DF|0073-0073\n";
 
-/// The second line is refused.
-const LABELS: &[u8] = b"fa\xC3\x9F\nFa\xC3\x9F\nabc\n";
+const BLOCK: &[u8] = b"aa\taa\naaa\taaa\naaaa\taaaa\n#end 3\n";
+
+const STRASSE: &[u8] = b"strasse\tstrasse\nstra\xC3\x9Fe\txn--strae-oqa\n#end 2\n";
 
 const READ_FAULT: &[u8] = b"idn2: 60 read fault\n";
 
 const WRITE_FAULT: &[u8] = b"idn2: 61 write fault\n";
 
-/// A run over the two labels, the second without a line feed, with a reader that fails behind them.
-fn with_reader(piece: usize, fail_at: u64) -> Given<'static> {
-    Given {
-        words: VARIANTS,
-        table: TABLE,
-        input: b"aa\naa",
-        piece,
-        fail_at,
-        once: false,
-        room: (ROOM, ROOM),
+/// A line of the input with its line feed, its answer, and its message; the first is empty where no line is read.
+struct Line(&'static [u8], &'static [u8], &'static [u8]);
+
+/// A run in which nothing is refused.
+struct Case {
+    words: &'static [&'static str],
+    table: &'static [u8],
+    lines: &'static [Line],
+}
+
+/// What a run reads or writes.
+#[derive(Clone, Copy)]
+enum Stream {
+    Input,
+    Output,
+    Messages,
+}
+
+impl Line {
+    /// What the line has of a stream.
+    fn part(&self, stream: Stream) -> &'static [u8] {
+        match stream {
+            Stream::Input => self.0,
+            Stream::Output => self.1,
+            Stream::Messages => self.2,
+        }
     }
 }
 
-/// The rest without a line feed is not served.
-#[test]
-fn read_fails_behind_the_input(rt: HostRuntime) -> Result<(), Fail> {
-    answers(&rt, rt.alloc(), &with_reader(1, 6), BLOCK, READ_FAULT, 3)?;
-    answers(&rt, rt.alloc(), &with_reader(4096, 2), BLOCK, READ_FAULT, 3)
+const CASES: [Case; 13] = [
+    Case {
+        words: REGISTER,
+        table: b"",
+        lines: &[
+            Line(b"fa\xC3\x9F\n", b"xn--fa-hia\n", b""),
+            Line(
+                b"Fa\xC3\x9F\n",
+                b"",
+                b"idn2: line 2: 10 disallowed code point\n",
+            ),
+            Line(b"abc\n", b"abc\n", b""),
+        ],
+    },
+    Case {
+        words: &[],
+        table: b"",
+        lines: &[Line(b"Fa\xC3\x9F.de\n", b"xn--fa-hia.de\n", b"")],
+    },
+    Case {
+        words: &["-d"],
+        table: b"",
+        lines: &[
+            Line(
+                b"xn--fiqs8s.example\n",
+                b"\xE4\xB8\xAD\xE5\x9B\xBD.example\n",
+                b"",
+            ),
+            Line(b"XN--FA-HIA.de\n", b"fa\xC3\x9F.de\n", b""),
+            Line(b"xn--a\n", b"", b"idn2: line 3: 10 disallowed code point\n"),
+            Line(b"xn--abc-\n", b"", b"idn2: line 4: 19 not an A-label\n"),
+            Line(b"xn--\n", b"", b"idn2: line 5: 19 not an A-label\n"),
+        ],
+    },
+    Case {
+        words: VARIANTS,
+        table: SHARP_S,
+        lines: &[
+            Line(b"strasse\n", STRASSE, b""),
+            Line(b"stra\xC3\x9Fe\n", STRASSE, b""),
+        ],
+    },
+    Case {
+        words: &["--variants", "t", "--limit", "2", "--tries", "2"],
+        table: SHARP_S,
+        lines: &[Line(
+            b"sss\n",
+            b"sss\tsss\ns\xC3\x9F\txn--s-qfa\n#stop 2 s\xC3\x9F\n",
+            b"",
+        )],
+    },
+    Case {
+        words: VARIANTS,
+        table: DOUBLED,
+        lines: &[
+            Line(b"aa\n", BLOCK, b""),
+            Line(
+                b"ab\n",
+                b"",
+                b"idn2: line 2: 40 not made of table entries\n",
+            ),
+            Line(b"aa\r\n", BLOCK, b""),
+        ],
+    },
+    Case {
+        words: VARIANTS,
+        table: b"05D0|0061\n05D1\n",
+        lines: &[Line(
+            b"\xD7\x90\xD7\x91\n",
+            b"\xD7\x90\xD7\x91\txn--4dbc\n#end 1\n",
+            b"",
+        )],
+    },
+    Case {
+        words: VARIANTS,
+        table: b"0061|\n",
+        lines: &[Line(b"", b"", b"idn2: table line 1: 30 table syntax\n")],
+    },
+    Case {
+        words: VARIANTS,
+        table: b"0061\n0061\n",
+        lines: &[Line(b"", b"", b"idn2: table line 2: 31 source given twice\n")],
+    },
+    Case {
+        words: VARIANTS,
+        table: b"",
+        lines: &[Line(b"a\n", b"", b"idn2: line 1: 40 not made of table entries\n")],
+    },
+    Case {
+        words: CHECK_TABLE,
+        table: SHARP_S,
+        lines: &[Line(b"", b"#table 7 0\n", b"")],
+    },
+    Case {
+        words: CHECK_TABLE,
+        table: DOUBLED,
+        lines: &[Line(b"", b"missing 0061-0061|0061\n#table 1 1\n", b"")],
+    },
+    Case {
+        words: CHECK_TABLE,
+        table: b"0061|0062\n0062|0061:0063\n0063|0062\n",
+        lines: &[Line(
+            b"",
+            b"missing 0061|0063\nmissing 0063|0061\n#table 3 2\n",
+            b"",
+        )],
+    },
+];
+
+/// What some lines have of a stream.
+fn joined(alloc: Global, lines: &[Line], stream: Stream) -> Result<Vec<u8>, AllocError> {
+    let mut joined = Vec::new(alloc);
+    for line in lines {
+        joined.extend_from_slice(line.part(stream))?;
+    }
+    Ok(joined)
 }
 
-/// Only lines that a line feed ended before the fault are served, wherever it comes.
-#[test]
-fn read_fails_at_each_call(rt: HostRuntime) -> Result<(), Fail> {
-    for fail_at in 1..6 {
-        let output = if fail_at <= 3 { &[] } else { BLOCK };
-        answers(
-            &rt,
-            rt.alloc(),
-            &with_reader(1, fail_at),
-            output,
-            READ_FAULT,
-            3,
-        )?;
-        let once = Given {
-            once: true,
-            ..with_reader(1, fail_at)
+/// The lines that end before the byte at a place of a stream.
+fn lines_before(lines: &[Line], stream: Stream, place: usize) -> &[Line] {
+    let mut end: usize = 0;
+    for (count, line) in lines.iter().enumerate() {
+        end = end.saturating_add(line.part(stream).len());
+        if place < end {
+            return lines.get(..count).unwrap_or(lines);
+        }
+    }
+    lines
+}
+
+/// Runs a case whose stream fails at a place: those lines stand that ended before it, of a writer also the bytes before
+/// it, and then the message of the fault.
+fn assert_stops(
+    rt: &impl Abort,
+    alloc: Global,
+    case: &Case,
+    stream: Stream,
+    place: usize,
+) -> Result<(), Fail> {
+    let before = lines_before(case.lines, stream, place);
+    let mut output = joined(alloc, before, Stream::Output)?;
+    let mut messages = joined(alloc, before, Stream::Messages)?;
+    let (mut fail_at, mut room) = (0, (ROOM, ROOM));
+    match stream {
+        Stream::Input => {
+            fail_at = (place as u64).saturating_add(1);
+            messages.extend_from_slice(READ_FAULT)?;
+        }
+        Stream::Output => {
+            room.0 = place;
+            output = joined(alloc, case.lines, Stream::Output)?;
+            output.truncate(place);
+            messages.extend_from_slice(WRITE_FAULT)?;
+        }
+        Stream::Messages => {
+            room.1 = place;
+            messages = joined(alloc, case.lines, Stream::Messages)?;
+            messages.truncate(place);
+        }
+    }
+    let input = joined(alloc, case.lines, Stream::Input)?;
+    // Reads fail for good and once; writers take single bytes and large pieces.
+    let turns = match stream {
+        Stream::Input => [(1, false), (1, true)],
+        Stream::Output | Stream::Messages => [(1, false), (ROOM, false)],
+    };
+    for (piece, once) in turns {
+        let given = Given {
+            words: case.words,
+            table: case.table,
+            input: &input,
+            piece,
+            fail_at,
+            once,
+            room,
         };
-        answers(&rt, rt.alloc(), &once, output, READ_FAULT, 3)?;
+        answers(rt, alloc, &given, &output, &messages, 3)?;
+    }
+    Ok(())
+}
+
+/// Each read of each input, its end too, and each byte of each writer. Where no line is read, no read can fail.
+#[test]
+fn each_place_of_each_stream_fails(rt: HostRuntime) -> Result<(), Fail> {
+    let alloc = rt.alloc();
+    for case in &CASES {
+        for stream in [Stream::Input, Stream::Output, Stream::Messages] {
+            let length = joined(alloc, case.lines, stream)?.len();
+            for place in 0..length {
+                assert_stops(&rt, alloc, case, stream, place)?;
+            }
+        }
+        let input = joined(alloc, case.lines, Stream::Input)?.len();
+        if input > 0 {
+            assert_stops(&rt, alloc, case, Stream::Input, input)?;
+        }
     }
     Ok(())
 }
@@ -82,97 +273,40 @@ fn read_fault_stays(rt: HostRuntime) -> Result<(), Fail> {
     Ok(())
 }
 
-/// A run with an output of so much room.
-fn with_output(table: &'static [u8], input: &'static [u8], room: usize) -> Given<'static> {
-    Given {
-        words: VARIANTS,
-        table,
-        input,
-        piece: 4096,
-        fail_at: 0,
-        once: false,
-        room: (room, ROOM),
-    }
-}
-
-/// What the output took stands, and nothing is written twice.
+/// A rest of the input without a line feed is not served where a read fails after it.
 #[test]
-fn output_fails_at_each_byte(rt: HostRuntime) -> Result<(), Fail> {
-    for room in 0..BLOCK.len() {
-        let given = with_output(TABLE, b"aa\naa\n", room);
-        answers(&rt, rt.alloc(), &given, &BLOCK[..room], WRITE_FAULT, 3)?;
-        answers(
-            &rt,
-            rt.alloc(),
-            &Given { piece: 1, ..given },
-            &BLOCK[..room],
-            WRITE_FAULT,
-            3,
-        )?;
-    }
-    Ok(())
-}
-
-/// A piece is cut where the writer cuts it, within a code point too.
-#[test]
-fn output_fails_within_a_code_point(rt: HostRuntime) -> Result<(), Fail> {
-    for piece in [1, 4096] {
+fn read_fails_behind_half_a_line(rt: HostRuntime) -> Result<(), Fail> {
+    for (piece, fail_at) in [(1, 6), (ROOM, 2)] {
         let given = Given {
+            words: VARIANTS,
+            table: DOUBLED,
+            input: b"aa\naa",
             piece,
-            ..with_output(SHARP_S, b"sss\n", 10)
+            fail_at,
+            once: false,
+            room: (ROOM, ROOM),
         };
-        answers(&rt, rt.alloc(), &given, b"sss\tsss\ns\xC3", WRITE_FAULT, 3)?;
+        answers(&rt, rt.alloc(), &given, BLOCK, READ_FAULT, 3)?;
     }
     Ok(())
 }
 
-/// A run with messages of so much room.
-fn with_messages(room: usize) -> Given<'static> {
-    Given {
-        words: REGISTER,
-        table: b"",
-        input: LABELS,
-        piece: 4096,
-        fail_at: 0,
-        once: false,
-        room: (ROOM, room),
-    }
-}
-
-/// The line behind a message that can't be written is not served, and there is no further message.
-#[test]
-fn messages_fail_at_each_byte(rt: HostRuntime) -> Result<(), Fail> {
-    let message = b"idn2: line 2: 10 disallowed code point\n";
-    for room in 0..message.len() {
-        let given = with_messages(room);
-        answers(
-            &rt,
-            rt.alloc(),
-            &given,
-            b"xn--fa-hia\n",
-            &message[..room],
-            3,
-        )?;
-    }
-    Ok(())
-}
-
-/// The last message is cut too, and the status stays.
+/// The last message is cut too where the messages fail as well, and the status stays. The output is cut within a code
+/// point.
 #[test]
 fn both_writers_fail(rt: HostRuntime) -> Result<(), Fail> {
+    let output = b"sss\tsss\ns\xC3";
     for room in 0..WRITE_FAULT.len() {
         let given = Given {
-            room: (10, room),
-            ..with_output(TABLE, b"aa\n", 10)
+            words: VARIANTS,
+            table: SHARP_S,
+            input: b"sss\n",
+            piece: ROOM,
+            fail_at: 0,
+            once: false,
+            room: (output.len(), room),
         };
-        answers(
-            &rt,
-            rt.alloc(),
-            &given,
-            &BLOCK[..10],
-            &WRITE_FAULT[..room],
-            3,
-        )?;
+        answers(&rt, rt.alloc(), &given, output, &WRITE_FAULT[..room], 3)?;
     }
     Ok(())
 }

@@ -28,7 +28,7 @@ pub fn told(answer: &Result<ALabel, Refusal>) -> Result<&str, Refusal> {
     }
 }
 
-/// `count` letters a with `last` behind them.
+/// `count` letters a with `last` after them.
 pub fn letters(alloc: Global, count: usize, last: &str) -> Result<String, Fail> {
     let mut text = String::new(alloc);
     for _ in 0..count {

@@ -41,6 +41,8 @@ mod registered_labels;
 #[cfg(test)]
 mod row;
 #[cfg(test)]
+mod sizes;
+#[cfg(test)]
 mod spelled;
 #[cfg(test)]
 mod table_entries;
@@ -54,5 +56,7 @@ mod tables;
 mod utf8;
 #[cfg(test)]
 mod variants;
+#[cfg(test)]
+mod version_two;
 #[cfg(test)]
 mod writing;

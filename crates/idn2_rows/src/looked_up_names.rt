@@ -45,12 +45,15 @@ const TAKEN: [(&str, &str); 31] = [
 
 /// Names that are refused, whichever the ASCII rules are.
 const REFUSED: [(&str, Refusal); 19] = [
+    // The Bidi rule over a name, a joiner, and an A-label of a DISALLOWED code point (UTS #46, section 4.1).
     ("0a.\u{5D0}", Refusal::LookupInvalid),
     ("a\u{200C}b", Refusal::LookupInvalid),
     ("xn--a", Refusal::LookupInvalid),
+    // No octet, no label (RFC 1035, section 2.3.4).
     ("", Refusal::LookupLength),
     (".", Refusal::LookupLength),
     ("a..b", Refusal::LookupLength),
+    // No A-labels, leading marks, a joiner, and code points that are disallowed, each beside another label or letter.
     ("xn--ü.de", Refusal::LookupInvalid),
     ("XN--ü.de", Refusal::LookupInvalid),
     ("ü.xn--a", Refusal::LookupInvalid),
@@ -60,6 +63,7 @@ const REFUSED: [(&str, Refusal); 19] = [
     ("a\u{200C}ü", Refusal::LookupInvalid),
     ("ü\u{640}", Refusal::LookupInvalid),
     ("ü\u{FFFD}", Refusal::LookupInvalid),
+    // Empty labels beside others.
     ("ü..de", Refusal::LookupLength),
     ("ü..a-b", Refusal::LookupLength),
     (".ü", Refusal::LookupLength),

@@ -56,6 +56,78 @@ fn edges_and_shortest_labels(rt: HostRuntime) -> Result<(), Fail> {
     Ok(())
 }
 
+/// Two segmentations of aa: one entry for both letters, or one for each.
+const PAIRED: &[u8] = b"0061-0061|0062-0062\n0061|0062\n";
+
+/// A letter, and three letters for two of it.
+const PADDED: &[u8] = b"0061-0061|0062-0063-0062\n0061\n";
+
+/// Labels, others, and whether they spell them.
+const SPELLED: [(&[u8], &str, &str, bool); 24] = [
+    (PAIRED, "aa", "aa", true),
+    (PAIRED, "aa", "ab", true),
+    (PAIRED, "aa", "ba", true),
+    (PAIRED, "aa", "bb", true),
+    (PAIRED, "aa", "", false),
+    (PAIRED, "aa", "b", false),
+    (PAIRED, "aa", "ac", false),
+    (PAIRED, "aa", "aab", false),
+    (PADDED, "aaa", "aaa", true),
+    (PADDED, "aaa", "abcb", true),
+    (PADDED, "aaa", "bcba", true),
+    (PADDED, "aaa", "bcb", false),
+    (PADDED, "aaa", "aa", false),
+    (PADDED, "aaa", "bcab", false),
+    (PADDED, "aaa", "bcbbcb", false),
+    (BLIND, "ab", "c", true),
+    (BLIND, "ab", "ab", true),
+    (BLIND, "ab", "b", false),
+    (SHARP_S, "strasse", "strasse", true),
+    (SHARP_S, "strasse", "straße", true),
+    (SHARP_S, "strasse", "strase", false),
+    (SHARP_S, "straße", "strasse", true),
+    (SHARP_S, "sss", "sß", true),
+    (SHARP_S, "sss", "ßß", false),
+];
+
+#[test]
+fn labels_that_are_spelled(rt: HostRuntime) -> Result<(), Fail> {
+    let alloc = rt.alloc();
+    for (table, label, other, want) in SPELLED {
+        let net = net(alloc, table, label)?;
+        let spelled = net.spells(alloc, &points(alloc, other)?)?;
+        assert_eq!(&rt; spelled, want, "{label} spells {other}");
+    }
+    Ok(())
+}
+
+/// So many times a for 63 of them, each of which may be doubled: from 63 to 126.
+#[test]
+fn spelled_labels_of_more_than_63_code_points(rt: HostRuntime) -> Result<(), Fail> {
+    let alloc = rt.alloc();
+    let label: Vec<u32> = vec![in alloc; 0x61; 63]?;
+    let net = net_of(alloc, &Table::read(alloc, DOUBLED)?, &label)?;
+    for (count, want) in [
+        (0, false),
+        (62, false),
+        (63, true),
+        (64, true),
+        (126, true),
+        (127, false),
+        (1024, false),
+    ] {
+        let mut other: Vec<u32> = vec![in alloc; 0x61; count]?;
+        assert_eq!(&rt; net.spells(alloc, &other)?, want, "{count} times a");
+        other.push(0x62)?;
+        assert_eq!(&rt;
+            net.spells(alloc, &other)?,
+            false,
+            "b after {count} times a"
+        );
+    }
+    Ok(())
+}
+
 /// Labels that are stuck at their beginning, in their midst and at their end.
 const STUCK: [(&[u8], &str); 4] = [
     (DOUBLED, "ba"),

@@ -1,4 +1,4 @@
-//! What the words of the command line ask for: options, help, the version, or nothing that can be done.
+//! What the words of the command line request: options, help, the version, or nothing that can be done.
 use idn2_cli::{Options, Usage, input_text, read_options};
 use std::alloc::{AllocError, Global};
 use std::test::Fail;
@@ -62,7 +62,7 @@ fn input_of(alloc: Global, options: &Options) -> Result<String, AllocError> {
     }
 }
 
-/// What a command line asks for, in one line.
+/// What a command line requests, in one line.
 fn summary_of(alloc: Global, line: &str) -> Result<String, AllocError> {
     match read(alloc, line) {
         Ok(options) => {

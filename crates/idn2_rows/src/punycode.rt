@@ -70,7 +70,7 @@ const DECODED: [(&str, Option<&str>); 18] = [
     ("bcher-kv\u{E0}", None),
 ];
 
-/// What a text holds, a label, and the text with the label's Punycode behind it, if it fits.
+/// What a text holds, a label, and the text with the label's Punycode after it, if it fits.
 const APPENDED: [(&str, &str, Option<&str>); 11] = [
     ("xn--", "bücher", Some("xn--bcher-kva")),
     ("xn--", "", Some("xn--")),
@@ -101,7 +101,7 @@ const APPENDED: [(&str, &str, Option<&str>); 11] = [
     ),
 ];
 
-/// The text with the Punycode of a label behind it, or nothing where it does not fit. The text has no more than 63 octets,
+/// The text with the Punycode of a label after it, or nothing where it does not fit. The text has no more than 63 octets,
 /// and the label no more than 63 characters.
 fn appended(before: &str, label: &str) -> Option<ArrayString<63>> {
     let mut chars = ArrayVec::<char, 63>::new();
@@ -116,15 +116,16 @@ fn appended(before: &str, label: &str) -> Option<ArrayString<63>> {
 /// What a code of at most 63 octets stands for, or nothing where it is not Punycode.
 fn decoded(code: &str) -> Option<ArrayString<252>> {
     // What stood there before is no part of the answer.
-    let mut chars = ArrayVec::<char, 63>::new();
-    chars.push('?');
+    let mut points = ArrayVec::<u32, 63>::new();
+    points.push(0x3F);
     if code.len() > 63 {
         return None;
     }
-    decode(code.as_bytes(), &mut chars).ok()?;
+    decode(code.as_bytes(), &mut points).ok()?;
     let mut text = ArrayString::<252>::new();
-    for c in chars.iter() {
-        text.try_push(*c).ok()?;
+    for point in points.iter() {
+        let c = char::from_u32(*point)?;
+        text.try_push(c).ok()?;
     }
     Some(text)
 }

@@ -1,4 +1,4 @@
-//! The lines of a reader, and what is told where it fails.
+//! The lines of a reader, and what is reported where it fails.
 use crate::row::shown;
 use idn_text::hostile::StopReader;
 use idn_text::{Body, Device, DeviceFault, Line, Lines, ReadFault, Source};
@@ -75,7 +75,7 @@ fn lines(rt: HostRuntime) -> Result<(), Fail> {
 }
 
 /// A line has at most 1,024 bytes, a carriage return at its end counted. Each row is so many times `a` with a text
-/// behind it.
+/// after it.
 #[test]
 fn long_lines(rt: HostRuntime) -> Result<(), Fail> {
     let rows = [
@@ -157,4 +157,15 @@ fn whether_the_last_call_failed(rt: HostRuntime) {
         (Ok(1), false),
         "second call"
     );
+}
+
+/// The end of input is no fault, and each call is one call of what the device stands on.
+#[test]
+fn gets_of_a_device(rt: HostRuntime) {
+    let mut reader = Device::new(StopReader::new(b"ab", 1, 2, true));
+    let mut buffer = [0; 4];
+    for want in [Ok(1), Err(DeviceFault), Ok(1), Ok(0), Ok(0)] {
+        let given = reader.get(&mut buffer);
+        assert_eq!(rt; (given, Source::failed(&reader)), (want, want.is_err()));
+    }
 }

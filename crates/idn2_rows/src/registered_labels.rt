@@ -6,15 +6,19 @@ use idn_label::{register, test_label};
 use idn_text::Refusal;
 use std::test::Fail;
 
+/// Labels with their A-labels or their first faults.
 const CASES: [(&str, Result<&str, Refusal>); 37] = [
+    // A U-label, an A-label, a label in ASCII; a capital (RFC 5891, sections 4.1 and 4.2.2).
     ("faß", Ok("xn--fa-hia")),
     ("xn--fa-hia", Ok("xn--fa-hia")),
     ("abc", Ok("abc")),
     ("Faß", Err(Refusal::Disallowed)),
+    // The middle dot and the zero width non-joiner, where they may stand and where not (RFC 5892, appendices A.3, A.1).
     ("l·l", Ok("xn--ll-0ea")),
     ("a·l", Err(Refusal::ContextO)),
     ("نامه\u{200C}ای", Ok("xn--mgba3gch31f060k")),
     ("a\u{200C}b", Err(Refusal::ContextJ)),
+    // The other faults (RFC 5891, section 4.2).
     ("", Err(Refusal::Empty)),
     ("\u{50000}", Err(Refusal::Unassigned)),
     ("a\u{301}", Err(Refusal::NotNfc)),
@@ -27,6 +31,8 @@ const CASES: [(&str, Result<&str, Refusal>); 37] = [
     ("a\u{5D0}", Err(Refusal::Bidi)),
     ("\u{5D0}a", Err(Refusal::Bidi)),
     ("a.b", Err(Refusal::Disallowed)),
+    // The sharp s (RFC 5892, section 2.6), a mark that composes with nothing, Hebrew (RFC 5893, section 2), and letters
+    // with either kind of Arabic-Indic digits, but not with both (RFC 5892, appendices A.8 and A.9).
     ("straße", Ok("xn--strae-oqa")),
     ("sß", Ok("xn--s-qfa")),
     ("ßs", Ok("xn--s-pfa")),
@@ -35,6 +41,7 @@ const CASES: [(&str, Result<&str, Refusal>); 37] = [
     ("\u{627}\u{660}\u{660}", Ok("xn--mgb8ia")),
     ("\u{627}\u{6F0}\u{6F0}", Ok("xn--mgb61ba")),
     ("\u{627}\u{660}\u{6F0}", Err(Refusal::ContextO)),
+    // The prefix, without the A-label of a registrable label after it (RFC 5890, section 2.3.2.1).
     ("xn--a", Err(Refusal::Disallowed)),
     ("xn--abc-", Err(Refusal::BadALabel)),
     ("xn--", Err(Refusal::BadALabel)),

@@ -16,7 +16,7 @@ pub const ROOM: usize = 4096;
 /// What a run is given.
 #[derive(Clone, Copy)]
 pub struct Given<'a> {
-    /// The words behind the program's name.
+    /// The words after the program's name.
     pub words: &'a [&'a str],
     /// The text of the table.
     pub table: &'a [u8],
@@ -32,12 +32,12 @@ pub struct Given<'a> {
     pub room: (usize, usize),
 }
 
-/// A run that meets no fault: words behind the program's name, a table and an input; what then stands on the output and
+/// A run that meets no fault: words after the program's name, a table and an input; what then stands on the output and
 /// the messages, and the status.
 pub struct Row {
     pub words: &'static [&'static str],
     pub table: &'static [u8],
-    pub input: &'static [u8],
+    pub input: &'static str,
     pub output: &'static str,
     pub messages: &'static str,
     pub status: u8,
@@ -51,7 +51,7 @@ pub fn shown(alloc: Global, bytes: &[u8]) -> Result<String, AllocError> {
     }
 }
 
-/// The options of the words behind the program's name.
+/// The options of the words after the program's name.
 pub fn options_of(alloc: Global, words: &[&str]) -> Result<Options, Fail>
     ensures { IfOk result IsWithinLimits }
 {
@@ -71,7 +71,7 @@ pub fn hold(rt: &impl Abort, alloc: Global, rows: &[Row]) -> Result<(), Fail> {
             let given = Given {
                 words: row.words,
                 table: row.table,
-                input: row.input,
+                input: row.input.as_bytes(),
                 piece,
                 fail_at: 0,
                 once: false,

@@ -69,7 +69,7 @@ impl Numbers {
     }
 }
 
-/// The candidates that a net gives behind the text are those of the plain lister, which also has its shortest label;
+/// The candidates that a net gives after the text are those of the plain lister, which also has its shortest label;
 /// and a step costs no more than is told. The answer is how many candidates there are.
 fn assert_listed(
     rt: &impl Abort,
@@ -102,7 +102,8 @@ fn assert_listed(
     listed
 }
 
-/// The same for a table and a label. Where the plain lister has no label, there is no net.
+/// The same for a table and a label, which spells the labels of the plain lister and the text only where it is one of
+/// them. Where the plain lister has no label, there is no net.
 fn assert_case(
     rt: &impl Abort,
     alloc: Global,
@@ -120,6 +121,16 @@ fn assert_case(
         return Ok(0);
     }
     let net = Net::build(alloc, table, label)?;
+    let mut among = false;
+    for spelled in &labels {
+        assert!(rt; net.spells(alloc, spelled)?, "{label:?} spells {spelled:?}");
+        among = among || spelled.as_slice() == after;
+    }
+    assert_eq!(rt;
+        net.spells(alloc, after)?,
+        among,
+        "{label:?} spells {after:?}"
+    );
     let mut cursor = Cursor::new(alloc, &net, after)?;
     Ok(assert_listed(rt, &net, &labels, &mut cursor, after))
 }

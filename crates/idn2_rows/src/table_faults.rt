@@ -1,9 +1,9 @@
-//! What is told of a text that is no table: the first fault in it, and its line.
+//! What is reported of a text that is no table: the first fault in it, and its line.
 use std::test::Fail;
 use variant_table::{Table, TableFault};
 
 /// Texts whose first line is no entry, each for a cause of its own.
-const NO_ENTRIES: [&str; 23] = [
+const NO_ENTRIES: [&str; 27] = [
     "0061|",
     "|0061",
     "0061||0062",
@@ -24,7 +24,11 @@ const NO_ENTRIES: [&str; 23] = [
     "0061|0062|0063",
     "0061..0063",
     "!0061",
-    "%version 2",
+    "0061|!0062",
+    "%version 3",
+    "%version 1",
+    " %version 2",
+    "%version 2\r\r\n",
     "0061 # note",
     "0061\r\r\n",
 ];
@@ -90,7 +94,7 @@ fn first_faults(rt: HostRuntime) {
     }
 }
 
-/// Lines of a length at the limit and one past it: what stands in front, how often '#' stands behind it, and the end.
+/// Lines of a length at the limit and one past it: what stands in front, how often '#' stands after it, and the end.
 const LINES: [(&str, u32, &str, Option<TableFault>); 6] = [
     ("", 1024, "", None),
     ("", 1025, "", Some(TableFault::Limit { line: 1 })),

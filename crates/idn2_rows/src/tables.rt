@@ -7,7 +7,7 @@ const CHECKED: [Row; 8] = [
     Row {
         words: &["--check-table", "t"],
         table: b"0061\n0065\n0072\n0073\n0074\n0073-0073|00DF\n00DF|0073-0073\n",
-        input: b"not read\n",
+        input: "not read\n",
         output: "#table 7 0\n",
         messages: "",
         status: 0,
@@ -15,7 +15,7 @@ const CHECKED: [Row; 8] = [
     Row {
         words: &["--check-table", "t"],
         table: b"0061|0061-0061\n",
-        input: b"not read\n",
+        input: "not read\n",
         output: "missing 0061-0061|0061\n#table 1 1\n",
         messages: "",
         status: 1,
@@ -23,7 +23,7 @@ const CHECKED: [Row; 8] = [
     Row {
         words: &["--check-table", "t"],
         table: b"0061|0062\n0062|0061:0063\n0063|0062\n",
-        input: b"not read\n",
+        input: "not read\n",
         output: "missing 0061|0063\nmissing 0063|0061\n#table 3 2\n",
         messages: "",
         status: 1,
@@ -31,7 +31,7 @@ const CHECKED: [Row; 8] = [
     Row {
         words: &["--check-table", "t"],
         table: b"0061|0062\n0062|0061\n",
-        input: b"not read\n",
+        input: "not read\n",
         output: "#table 2 0\n",
         messages: "",
         status: 0,
@@ -39,7 +39,7 @@ const CHECKED: [Row; 8] = [
     Row {
         words: &["--check-table", "t"],
         table: b"0063|0062\n0062|0061\n",
-        input: b"not read\n",
+        input: "not read\n",
         output: "missing 0061|0062\nmissing 0062|0063\nmissing 0063|0061\n#table 2 3\n",
         messages: "",
         status: 1,
@@ -47,7 +47,7 @@ const CHECKED: [Row; 8] = [
     Row {
         words: &["--check-table", "t"],
         table: b"0061|0062:0063\n",
-        input: b"not read\n",
+        input: "not read\n",
         output: "missing 0062|0061\nmissing 0063|0061\n#table 1 2\n",
         messages: "",
         status: 1,
@@ -55,7 +55,7 @@ const CHECKED: [Row; 8] = [
     Row {
         words: &["--check-table", "t"],
         table: b"",
-        input: b"not read\n",
+        input: "not read\n",
         output: "#table 0 0\n",
         messages: "",
         status: 0,
@@ -63,19 +63,19 @@ const CHECKED: [Row; 8] = [
     Row {
         words: &["--check-table", "t"],
         table: b"u+0061 | 0062 : 0063-0064\r\n",
-        input: b"not read\n",
+        input: "not read\n",
         output: "missing 0062|0061\nmissing 0063-0064|0061\n#table 1 2\n",
         messages: "",
         status: 1,
     },
 ];
 
-/// Tables with a fault, which is told before any line is read.
+/// Tables with a fault, which is reported before any line is read.
 const FAULTY: [Row; 12] = [
     Row {
         words: &["--check-table", "t"],
         table: b"0061|\n",
-        input: b"not read\n",
+        input: "not read\n",
         output: "",
         messages: "idn2: table line 1: 30 table syntax\n",
         status: 2,
@@ -83,7 +83,7 @@ const FAULTY: [Row; 12] = [
     Row {
         words: &["--check-table", "t"],
         table: b"0061\n0061\n",
-        input: b"not read\n",
+        input: "not read\n",
         output: "",
         messages: "idn2: table line 2: 31 source given twice\n",
         status: 2,
@@ -91,7 +91,7 @@ const FAULTY: [Row; 12] = [
     Row {
         words: &["--check-table", "t"],
         table: b"0061|0062:0062\n",
-        input: b"not read\n",
+        input: "not read\n",
         output: "",
         messages: "idn2: table line 1: 32 variant given twice\n",
         status: 2,
@@ -99,7 +99,7 @@ const FAULTY: [Row; 12] = [
     Row {
         words: &["--check-table", "t"],
         table: b"0061|0061\n",
-        input: b"not read\n",
+        input: "not read\n",
         output: "",
         messages: "idn2: table line 1: 32 variant given twice\n",
         status: 2,
@@ -107,7 +107,7 @@ const FAULTY: [Row; 12] = [
     Row {
         words: &["--check-table", "t"],
         table: b"0061\n0061|0062:0062\n",
-        input: b"not read\n",
+        input: "not read\n",
         output: "",
         messages: "idn2: table line 2: 32 variant given twice\n",
         status: 2,
@@ -115,7 +115,7 @@ const FAULTY: [Row; 12] = [
     Row {
         words: &["--check-table", "t"],
         table: b"0041|0041\n",
-        input: b"not read\n",
+        input: "not read\n",
         output: "",
         messages: "idn2: table line 1: 33 code point not allowed in a table\n",
         status: 2,
@@ -123,7 +123,7 @@ const FAULTY: [Row; 12] = [
     Row {
         words: &["--check-table", "t"],
         table: b"0041\n",
-        input: b"not read\n",
+        input: "not read\n",
         output: "",
         messages: "idn2: table line 1: 33 code point not allowed in a table\n",
         status: 2,
@@ -131,7 +131,7 @@ const FAULTY: [Row; 12] = [
     Row {
         words: &["--check-table", "t"],
         table: b"0041-0041-0041-0041-0041-0041-0041-0041-0041\n",
-        input: b"not read\n",
+        input: "not read\n",
         output: "",
         messages: "idn2: table line 1: 34 table limit\n",
         status: 2,
@@ -139,7 +139,7 @@ const FAULTY: [Row; 12] = [
     Row {
         words: &["--check-table", "t"],
         table: b"%version 2\n",
-        input: b"not read\n",
+        input: "not read\n",
         output: "",
         messages: "idn2: table line 1: 30 table syntax\n",
         status: 2,
@@ -147,7 +147,7 @@ const FAULTY: [Row; 12] = [
     Row {
         words: &["--check-table", "t"],
         table: b"0061\n0065\n0072\n0073\n0074\n0073-0073|00DF\n00D",
-        input: b"not read\n",
+        input: "not read\n",
         output: "",
         messages: "idn2: table line 7: 30 table syntax\n",
         status: 2,
@@ -155,7 +155,7 @@ const FAULTY: [Row; 12] = [
     Row {
         words: &["--variants", "t"],
         table: b"0061|\n",
-        input: b"aa\n",
+        input: "aa\n",
         output: "",
         messages: "idn2: table line 1: 30 table syntax\n",
         status: 2,
@@ -163,7 +163,7 @@ const FAULTY: [Row; 12] = [
     Row {
         words: &["--variants", "t"],
         table: b"0061\n0061\n",
-        input: b"Aa\n",
+        input: "Aa\n",
         output: "",
         messages: "idn2: table line 2: 31 source given twice\n",
         status: 2,

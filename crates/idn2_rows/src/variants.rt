@@ -78,7 +78,7 @@ impl Filter for RefusedAt {
     }
 }
 
-/// The accepted labels, each with a comma behind it, and how their listing ends.
+/// The accepted labels, each with a comma after it, and how their listing ends.
 fn accepted<F: Filter>(
     alloc: Global,
     cursor: &mut Cursor<'_>,
@@ -102,7 +102,7 @@ fn accepted<F: Filter>(
     Ok(listed)
 }
 
-/// What is found with so many tries behind a text, how many are left, and the text behind which the listing
+/// What is found with so many tries after a text, how many are left, and the text after which the listing
 /// then stands.
 fn assert_found<F: Filter>(
     rt: &impl Abort,

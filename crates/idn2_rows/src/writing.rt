@@ -1,7 +1,8 @@
 //! Texts written whole, or up to where the writer fails.
 use crate::row::shown;
 use idn_text::hostile::StopWriter;
-use idn_text::{Device, Sink, WriteFault, write_text};
+use idn_text::{Device, Refusal, Sink, WriteFault, write_text};
+use idn2_cli::report;
 use std::io::{self, Error, ErrorKind, Write};
 use std::test::Fail;
 
@@ -61,6 +62,22 @@ fn no_call_follows_a_fault(rt: HostRuntime) {
         (result, writer.inner().calls),
         (Err(WriteFault { taken: 0 }), 1)
     );
+}
+
+/// A fault from before a call is no cause to give up: the writer is asked again.
+#[test]
+fn a_writer_that_failed_before_is_asked(rt: HostRuntime) {
+    let mut writer = Device::new(LateWriter { calls: 0 });
+    let before = write_text(&mut writer, b"aa");
+    let result = write_text(&mut writer, b"aa");
+    assert_eq!(rt;
+        (before.is_err(), result, writer.inner().calls),
+        (true, Ok(()), 2)
+    );
+    let mut messages = Device::new(LateWriter { calls: 0 });
+    let _ = messages.put(b"aa");
+    let status = report(&Refusal::Memory, &mut messages).code();
+    assert_eq!(rt; (status, messages.inner().calls), (4, 2));
 }
 
 #[test]

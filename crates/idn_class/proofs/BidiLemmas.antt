@@ -1,5 +1,5 @@
--- What the six conditions come to for a label with a right-to-left class.
-use Rattle.std.proofs.Common.{◌≡◌, ℕ, ◌<◌, Bool, true, false, ◌&&◌, ◌||◌, ◌⊎◌, cond, List, [], ◌∷◌, length, map, Any, Contains, Some, option_map, slice_get, refl, sym, ap, subst, ◌∙◌, inl, inr, arith, get_or, IsTrue}
+-- What the six conditions amount to for a label with a right-to-left class.
+use Rattle.std.proofs.Common.{◌≡◌, ℕ, ◌<◌, Bool, true, false, ◌&&◌, ◌||◌, ◌⊎◌, cond, List, [], ◌∷◌, length, map, Any, Contains, Some, option_map, slice_get, refl, sym, ap, ap₂, subst, ◌∙◌, inl, inr, arith, get_or, IsTrue}
 use Rattle.std.specs.List.{list_any, list_all}
 use Rattle.std.proofs.lemmas.Bool.{cases_lt}
 use Rattle.std.proofs.lemmas.Bool.Decides.{nat_tests}
@@ -148,3 +148,66 @@ is_rtl_class-outside c out =
 pub list_any-classes : (label : List ℕ) → list_any is_rtl_class (map bidi_class label) ≡ list_any (λ c. is_rtl_class (bidi_class c)) label
 list_any-classes [] = refl
 list_any-classes (c ∷ label) = ap (λ b. is_rtl_class (bidi_class c) || b) (list_any-classes label)
+
+-- ---- numbers, by their ranges alone
+
+en_of : (bn es en an nsm r al : Bool) → (en ≡ true → bn ≡ false) → (en ≡ true → es ≡ false) → is_en (cond bn BN (cond es ES (cond en EN (cond an AN (cond nsm NSM (cond r R (cond al AL L))))))) ≡ en
+en_of true es true an nsm r al no_bn no_es = sym (no_bn refl)
+en_of true es false an nsm r al no_bn no_es = refl
+en_of false true true an nsm r al no_bn no_es = sym (no_es refl)
+en_of false true false an nsm r al no_bn no_es = refl
+en_of false false true an nsm r al no_bn no_es = refl
+en_of false false false true nsm r al no_bn no_es = refl
+en_of false false false false true r al no_bn no_es = refl
+en_of false false false false false true al no_bn no_es = refl
+en_of false false false false false false true no_bn no_es = refl
+en_of false false false false false false false no_bn no_es = refl
+
+an_of : (bn es en an nsm r al : Bool) → (an ≡ true → bn ≡ false) → (an ≡ true → es ≡ false) → (an ≡ true → en ≡ false) → is_an (cond bn BN (cond es ES (cond en EN (cond an AN (cond nsm NSM (cond r R (cond al AL L))))))) ≡ an
+an_of true es en true nsm r al no_bn no_es no_en = sym (no_bn refl)
+an_of true es en false nsm r al no_bn no_es no_en = refl
+an_of false true en true nsm r al no_bn no_es no_en = sym (no_es refl)
+an_of false true en false nsm r al no_bn no_es no_en = refl
+an_of false false true true nsm r al no_bn no_es no_en = sym (no_en refl)
+an_of false false true false nsm r al no_bn no_es no_en = refl
+an_of false false false true nsm r al no_bn no_es no_en = refl
+an_of false false false false true r al no_bn no_es no_en = refl
+an_of false false false false false true al no_bn no_es no_en = refl
+an_of false false false false false false true no_bn no_es no_en = refl
+an_of false false false false false false false no_bn no_es no_en = refl
+
+en_not_bn : (c : ℕ) → is_european_number c ≡ true → is_boundary_neutral c ≡ false
+unfolding is_european_number is_boundary_neutral
+en_not_bn c en = grind (arith, nat_tests)
+
+en_not_es : (c : ℕ) → is_european_number c ≡ true → is_european_separator c ≡ false
+unfolding is_european_number is_european_separator
+en_not_es c en = grind (arith, nat_tests)
+
+an_not_bn : (c : ℕ) → is_arabic_number c ≡ true → is_boundary_neutral c ≡ false
+unfolding is_arabic_number is_boundary_neutral
+an_not_bn c an = grind (arith, nat_tests)
+
+an_not_es : (c : ℕ) → is_arabic_number c ≡ true → is_european_separator c ≡ false
+unfolding is_arabic_number is_european_separator
+an_not_es c an = grind (arith, nat_tests)
+
+an_not_en : (c : ℕ) → is_arabic_number c ≡ true → is_european_number c ≡ false
+unfolding is_arabic_number is_european_number
+an_not_en c an = grind (arith, nat_tests)
+
+is_en-class : (c : ℕ) → is_en (bidi_class c) ≡ is_european_number c
+unfolding bidi_class
+is_en-class c = en_of (is_boundary_neutral c) (is_european_separator c) (is_european_number c) (is_arabic_number c) (is_nonspacing c) (is_right_to_left c) (is_arabic_letter c) (en_not_bn c) (en_not_es c)
+
+is_an-class : (c : ℕ) → is_an (bidi_class c) ≡ is_arabic_number c
+unfolding bidi_class
+is_an-class c = an_of (is_boundary_neutral c) (is_european_separator c) (is_european_number c) (is_arabic_number c) (is_nonspacing c) (is_right_to_left c) (is_arabic_letter c) (an_not_bn c) (an_not_es c) (an_not_en c)
+
+pub list_any-en : (label : List ℕ) → list_any is_european_number label ≡ list_any is_en (map bidi_class label)
+list_any-en [] = refl
+list_any-en (c ∷ label) = ap₂ (λ a b. a || b) (sym (is_en-class c)) (list_any-en label)
+
+pub list_any-an : (label : List ℕ) → list_any is_arabic_number label ≡ list_any is_an (map bidi_class label)
+list_any-an [] = refl
+list_any-an (c ∷ label) = ap₂ (λ a b. a || b) (sym (is_an-class c)) (list_any-an label)

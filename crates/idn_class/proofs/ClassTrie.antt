@@ -1,3 +1,4 @@
+-- The table of the classes holds the class of each code point.
 use Rattle.std.proofs.Common.{◌≡◌, ℕ, ◌<◌, true, [], refl}
 use Rattle.ucd_table.specs.Trie.{IsTrie, trie_value}
 use Rattle.ucd_table.proofs.Stepped.{runs_of}

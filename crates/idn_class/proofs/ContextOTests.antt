@@ -1,4 +1,4 @@
--- The test of the other code points that need a context is their rule.
+-- The test of the other code points that need a context agrees with their rule.
 use Rattle.std.proofs.Common.{◌≡◌, ℕ, ◌<◌, Bool, true, false, ◌&&◌, not, ◌==◌, ◌↔◌, List, length, Option, None, Some, IsSomeAnd, IsTrue, Any, refl, sym, ap, ◌∙◌, slice_index}
 use Rattle.std.specs.List.{list_any}
 use Rattle.std.proofs.lemmas.Bool.{and_parts, and_from, not-true, not_from_false, false_from_ne_true, eqb-true}

@@ -1,4 +1,4 @@
--- Labels of which no code point has a fact pass the test that the fact asks for.
+-- A label of which no code point has a fact passes the test that the fact stands for.
 use Rattle.std.proofs.Common.{◌≡◌, ℕ, ◌≤◌, Bool, true, false, not, ◌||◌, ◌==◌, nat_le, List, [], ◌∷◌, map, All, get_or, refl, sym, ap, ◌∙◌, eqb-true, arith}
 use Rattle.std.specs.List.{list_any}
 use Rattle.std.proofs.lemmas.Bool.{and_parts, true≢false}

@@ -1,18 +1,38 @@
+-- What the six conditions amount to for a label with a right-to-left class.
 pub mod BidiLemmas
+-- The categories of numbers that are no characters.
 pub mod CategoryLemmas
+-- The number that the table has for each class, as a function of properties whose steps are known.
 pub mod ClassNumbers
+-- The table of the classes holds the class of each code point.
 pub mod ClassTrie
+-- Sets of facts as bits.
 pub mod FactLemmas
+-- The facts of a code point, as a number of a property whose steps are known.
 pub mod FactSteps
+-- The table of the facts holds those of each code point.
 pub mod FactTrie
+-- A label of which no code point has a fact passes the test that the fact stands for.
 pub mod FactLabels
+-- What a walk from a joiner decides: the first code point that is not transparent settles the answer.
 pub mod JoiningLemmas
+-- What the quick checks say of one code point.
 pub mod StabilityLemmas
+-- The test of the joiners agrees with their rule.
 pub mod ContextJTests
+-- How a test that computes agrees with a rule: at each place, at a value that may be there, and under a condition.
 pub mod TestLemmas
+-- The test of the other code points that need a context agrees with their rule.
 pub mod ContextOTests
+-- The test of the Bidi rule agrees with the rule.
 pub mod BidiTests
+-- The test of hopeless beginnings, code point by code point: a list that is hopeless once stays so.
 pub mod HopelessSteps
+-- The test of hopeless beginnings says what it is to be hopeless; a hopeless list stays so, and fails some test of a label.
 pub mod HopelessTests
+-- The shortest hopeless beginning: the shortest that breaks the direction, or hyphens third and fourth before it.
 pub mod HopelessShortest
+-- How a proof computes classes and rules on a label that is written out.
 pub mod Computing
+-- What is known of a beginning, and of one that is longer by a code point.
+pub mod KnownLemmas

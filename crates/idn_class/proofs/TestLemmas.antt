@@ -1,4 +1,4 @@
--- How a test that computes says what a rule says: at each place, at a value that may be there, and under a condition.
+-- How a test that computes agrees with a rule: at each place, at a value that may be there, and under a condition.
 use Rattle.std.proofs.Common.{◌≡◌, ℕ, zero, suc, ◌<◌, Bool, true, false, ◌==◌, Option, None, Some, IsSomeAnd, IsTrue, refl, sym, ap, ◌∙◌, inl, inr, arith}
 use Rattle.std.proofs.lemmas.Bool.{and_parts, and_from, cases_Bool, cases_lt, eq-eqb, eqb-true, false_from_ne_true}
 use Rattle.idn_class.specs.Tests.{all_places, is_some_and}

@@ -1,4 +1,4 @@
--- Bidi_Class (RFC 5893, section 1.4), by the list of this profile, which holds as it stands.
+-- Bidi_Class (RFC 5893, section 1.4), by this profile's own list, which is the definition.
 use Rattle.std.specs.Prelude.{ℕ, Bool, true, false, [], ◌∷◌, if◌then◌else◌}
 use Rattle.ucd_table.specs.Rows.{in_ranges}
 use Rattle.ucd_category.specs.declared.GeneralCategory.{GeneralCategory}
@@ -27,7 +27,7 @@ unfoldable pub is_arabic_number : ℕ → Bool
 unfolding in_ranges
 is_arabic_number = in_ranges ((0x660, 0x669) ∷ [])
 
--- the categories of marks that take no place of their own
+-- the categories of nonspacing and enclosing marks
 abbrev pub is_nonspacing_or_enclosing : GeneralCategory → Bool
 is_nonspacing_or_enclosing Mn = true
 is_nonspacing_or_enclosing Me = true

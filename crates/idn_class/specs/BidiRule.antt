@@ -52,7 +52,7 @@ is_end_of_ltr L = true
 is_end_of_ltr EN = true
 is_end_of_ltr _ = false
 
--- a class that passes the test stands at some place, and behind it stand only NSM
+-- a class that passes the test stands at some place, and only NSM follow it
 pub record EndsIn (is_end : BidiClass → Bool) (classes : List BidiClass) : Type 0 where
   pub place : ℕ
   pub class : BidiClass
@@ -82,7 +82,7 @@ is_rtl_class AL = true
 is_rtl_class AN = true
 is_rtl_class _ = false
 
--- the profile asks the rule of each label by itself, and only of one that holds R, AL or AN
+-- the profile applies the rule to each label by itself, and only to a label that holds R, AL or AN
 abbrev pub PassesBidiRule : List ℕ → Type 0
 PassesBidiRule label =
     let classes = map bidi_class label in

@@ -84,7 +84,7 @@ class_by_properties c =
     else (if is_letter_or_digit (general_category c) then Pvalid
     else Disallowed))))
 
--- section 3, behind two lines of this profile: the first line that fits decides. BackwardCompatible (G, 2.7) is empty.
+-- section 3, after two lines of this profile: the first line that fits decides. BackwardCompatible (G, 2.7) is empty.
 unfoldable pub class_of : ℕ → Class
 class_of c =
     if not (is_scalar c) then Disallowed
@@ -99,7 +99,7 @@ class_of c =
 
 -- ---- where memory is needed
 
--- by its quick checks of NFKC and of NFKD: NFKC may change the code point, or it keeps it and the code point folds to several
+-- by the quick checks of NFKC and NFKD, NFKC may change the code point; or NFKC keeps it, and it folds to several
 abbrev pub is_undecided : QuickCheck → QuickCheck → Bool → Bool
 is_undecided No nfkd folds_to_several = false
 is_undecided Yes nfkd folds_to_several = folds_to_several
@@ -107,10 +107,10 @@ is_undecided Maybe Yes folds_to_several = folds_to_several
 is_undecided Maybe No folds_to_several = true
 is_undecided Maybe Maybe folds_to_several = true
 
--- no look-up tells whether the code point is stable
+-- no look-up says whether the code point is stable
 unfoldable pub is_stability_open : ℕ → Bool
 is_stability_open c = is_undecided (quick_check Nfkc c) (quick_check Nfkd c) (nat_lt 1 (length (full_folding c)))
 
--- a letter, mark or digit (A), no exception (F) that is PVALID, and no look-up tells whether it is stable (B)
+-- a letter, mark or digit (A), no exception (F) that is PVALID, and no look-up says whether it is stable (B)
 unfoldable pub is_left_open : ℕ → Bool
 is_left_open c = not (is_pvalid_exception c) && is_letter_or_digit (general_category c) && is_stability_open c

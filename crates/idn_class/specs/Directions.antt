@@ -1,4 +1,4 @@
--- How far a label goes before it is hopeless, one code point after the other: words of inner functions.
+-- How far a label goes before it is hopeless, code point by code point: words of inner functions.
 use Rattle.std.specs.Prelude.{◌≡◌, ℕ, ◌≤◌, ◌<◌, Bool, true, false, ◌&&◌, ◌||◌, ◌==◌, List, length, map, take, Option, Some, None, if◌then◌else◌}
 use Rattle.std.specs.List.{list_any}
 use Rattle.idn_class.specs.declared.bidi_class.BidiClass.{BidiClass}
@@ -17,7 +17,7 @@ pub record IsShortest (test : List ℕ → Bool) (label : List ℕ) (n : ℕ) : 
   pub holds : test (take n label) ≡ true
   pub first : (k : ℕ) → k < n → test (take k label) ≡ false
 
--- no beginning passes the test, nor the whole
+-- neither a beginning nor the whole passes the test
 abbrev pub HasNone : (List ℕ → Bool) → List ℕ → Type 0
 HasNone test label = (k : ℕ) → test (take k label) ≡ false
 
@@ -25,7 +25,7 @@ HasNone test label = (k : ℕ) → test (take k label) ≡ false
 abbrev pub breaks_at_first : List ℕ → Bool
 breaks_at_first w = begins_with_hyphen w || leading_mark w || breaks_bidi (is_rtl (map bidi_class w)) (map bidi_class w)
 
--- behind code points of this direction, a list breaks the Bidi rule for good
+-- after code points of this direction, a list breaks the Bidi rule for good
 abbrev pub breaks_behind : Direction → List ℕ → Bool
 breaks_behind Ltr w = list_any is_rtl_class (map bidi_class w)
 breaks_behind Rtl w = list_any is_l (map bidi_class w) || (list_any is_en (map bidi_class w) && list_any is_an (map bidi_class w))

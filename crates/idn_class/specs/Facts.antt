@@ -1,6 +1,8 @@
--- What one look-up tells of a code point. A label of which no code point has a fact passes the test that the fact asks for.
-use Rattle.std.specs.Prelude.{◌≡◌, ℕ, Bool, true, false, ◌&&◌, ◌||◌, ◌==◌, not, nat_le}
+-- What one look-up says about a code point. If no code point of a label has a fact, the label passes the test that the
+-- fact stands for.
+use Rattle.std.specs.Prelude.{◌≡◌, ℕ, Bool, true, false, ◌&&◌, ◌||◌, ◌==◌, not, nat_le, List}
 use Rattle.std.specs.Int.{bit_at}
+use Rattle.std.specs.List.{list_any}
 use Rattle.ucd_bidi.specs.declared.BidiClass.{BidiClass as UnicodeBidiClass}
 use Rattle.ucd_bidi.specs.declared.BidiClass.TheVariants.{RightToLeft as UnicodeRightToLeft, ArabicLetter, ArabicNumber}
 use Rattle.ucd_bidi.specs.BidiClass.{bidi_class as unicode_bidi_class}
@@ -40,14 +42,15 @@ abbrev pub is_yes : QuickCheck → Bool
 is_yes Yes = true
 is_yes _ = false
 
--- R, AL or AN of Unicode's own Bidi_Class, which UTS 46 asks. The kit's `idna`, on which this crate does not stand, says it so too
+-- R, AL or AN by Unicode's own Bidi_Class, which UTS 46 uses. The kit's `idna`, which this crate does not use, defines
+-- it in the same way
 abbrev pub is_unicode_rtl_class : UnicodeBidiClass → Bool
 is_unicode_rtl_class UnicodeRightToLeft = true
 is_unicode_rtl_class ArabicLetter = true
 is_unicode_rtl_class ArabicNumber = true
 is_unicode_rtl_class _ = false
 
--- UTS 46 maps the code point to itself: a deviation too, where processing is not transitional
+-- UTS 46 maps the code point to itself; it does so with a deviation character too, where processing is not transitional
 abbrev pub is_kept_status : IdnaStatus → Bool
 is_kept_status Valid = true
 is_kept_status Deviation = true
@@ -55,7 +58,7 @@ is_kept_status _ = false
 
 -- a code point has the fact
 unfoldable pub is_so : Fact → ℕ → Bool
--- it may not be registered, or no look-up tells whether it may
+-- it may not be registered, or no look-up says whether it may
 is_so MayBeBarred c = is_barred_class (class_of c) || is_left_open c
 -- a joiner, or another code point that needs a context (RFC 5892, appendix A)
 is_so Contextj c = is_contextj (class_of c)
@@ -87,6 +90,10 @@ place_of NotKept = 6
 unfoldable pub contains : Facts → Fact → Bool
 contains facts fact = bit_at facts.absent (place_of fact) == 0
 
--- a code point that causes no fault in a label of its like, but where it is a hyphen: it has no fact
+-- the facts that some code point of the label has
+abbrev pub AreFactsOf : Facts → List ℕ → Type 0
+AreFactsOf facts label = (fact : Fact) → contains facts fact ≡ list_any (has_fact fact) label
+
+-- a code point without a fact: in a label made only of such code points it causes no fault, unless it is a hyphen
 abbrev pub IsSimple : ℕ → Type 0
 IsSimple c = (fact : Fact) → has_fact fact c ≡ false

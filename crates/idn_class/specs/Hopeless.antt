@@ -31,11 +31,12 @@ pub record IsShortestHopeless (label : List ℕ) (n : ℕ) : Type 0 where
   pub holds : IsHopeless (take n label)
   pub first : (k : ℕ) → k < n → ¬ IsHopeless (take k label)
 
--- no beginning is hopeless, nor the whole
+-- neither a beginning nor the whole is hopeless
 abbrev pub HasHope : List ℕ → Type 0
 HasHope label = (k : ℕ) → ¬ IsHopeless (take k label)
 
--- ---- hopeless, as a test that computes. Digits of both kinds need no look: one kind is AN and the other EN
+-- ---- hopeless, as a test that computes. Digits of both kinds need no test of their own: one kind is AN and
+-- the other EN
 
 abbrev pub is_l : BidiClass → Bool
 is_l L = true
@@ -47,7 +48,7 @@ begins_with_hyphen w = slice_index w 0 == 0x2D
 abbrev pub has_hyphens_third_and_fourth : List ℕ → Bool
 has_hyphens_third_and_fourth w = (slice_index w 2 == 0x2D) && (slice_index w 3 == 0x2D)
 
--- the classes break the Bidi rule for good: behind a first that is R or AL, and behind any other
+-- the classes break the Bidi rule for good: after a first that is R or AL, and after any other
 abbrev pub breaks_bidi : Bool → List BidiClass → Bool
 breaks_bidi true classes = list_any is_l classes || (list_any is_en classes && list_any is_an classes)
 breaks_bidi false classes = list_any is_rtl_class classes

@@ -1,4 +1,4 @@
--- Properties that the rules for joiners ask for, by the lists of this profile, which hold as they stand.
+-- The properties that the rules for joiners use, by this profile's own lists, which are the definition.
 use Rattle.std.specs.Prelude.{ℕ, Bool, true, false, [], ◌∷◌, if◌then◌else◌}
 use Rattle.ucd_table.specs.Rows.{in_ranges}
 use Rattle.ucd_category.specs.declared.GeneralCategory.{GeneralCategory}

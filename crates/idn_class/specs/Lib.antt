@@ -11,3 +11,4 @@ pub mod Rows
 pub mod Tests
 pub mod Hopeless
 pub mod Directions
+pub mod Known

@@ -1,4 +1,4 @@
-ghost use Rattle.std.specs.Prelude.{◌≡◌, ◌↔◌, IsTrue, MatchOption};
+ghost use Rattle.std.specs.Prelude.{◌≡◌, ◌↔◌, IsTrue, None, MatchOption};
 ghost use Rattle.idn_class.specs.Hopeless.{has_hyphens_third_and_fourth, hopeless, IsHopeless, IsShortestHopeless, HasHope};
 ghost use Rattle.idn_class.specs.Directions.{IsShortest, HasNone, breaks_at_first};
 
@@ -17,11 +17,20 @@ pub fn hopeless(label: &[u32]) -> bool
 }
 
 /// How many code points the shortest hopeless beginning of a label has, by one pass over the label.
-/// `None` where no beginning is hopeless, nor the whole.
+/// `None` where neither a beginning nor the whole label is hopeless.
 pub fn shortest_hopeless(label: &[u32]) -> Option<usize>
     ensures { MatchOption result (HasHope label.now) (IsShortestHopeless label.now) }
 {
-    let breaking = shortest_breaking(label);
+    with_hyphens(label, shortest_breaking(label))
+}
+
+/// The shortest hopeless beginning of a label, by the shortest that breaks a test of its first code point or the Bidi
+/// rule, and by the hyphens third and fourth.
+pub(crate) fn with_hyphens(label: &[u32], breaking: Option<usize>) -> Option<usize>
+    requires { MatchOption breaking (HasNone breaks_at_first label.now) (IsShortest breaks_at_first label.now) }
+    ensures shortest { MatchOption result (HasHope label.now) (IsShortestHopeless label.now) }
+    ensures whole { result ≡ None → breaking ≡ None }
+{
     if has_hyphens_third_and_fourth(label) {
         Some(breaking.unwrap_or(4).min(4))
     } else {

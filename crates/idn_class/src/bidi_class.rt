@@ -2,10 +2,11 @@ ghost use Rattle.std.specs.Prelude.{◌≡◌};
 ghost use Rattle.idn_class.specs.BidiClass.{is_boundary_neutral, is_european_separator, is_european_number, is_arabic_number, is_nonspacing, is_right_to_left, is_arabic_letter, bidi_class};
 
 use crate::category::category_of;
+use crate::facts::{Fact, Facts};
 use unicode::properties::GeneralCategory;
 
-/// Bidi_Class, as far as the Bidi rule names its values, by the list of this profile. No code
-/// point has ET, CS or ON in it.
+/// Bidi_Class, with the values that the Bidi rule names, by this profile's own list. The list gives
+/// no code point ET, CS or ON.
 #[derive(Clone, Copy, Debug, PartialEq, Eq)]
 pub enum BidiClass {
     /// Left-to-right.
@@ -71,23 +72,27 @@ fn is_european_separator(c: u32) -> bool
 }
 
 #[tactic(auto, unfolding(crate::specs::BidiClass::is_european_number))]
-fn is_european_number(c: u32) -> bool
+pub(crate) fn is_european_number(c: u32) -> bool
     ensures { result ≡ is_european_number c }
 {
     matches!(c, 0x30..=0x39 | 0x6F0..=0x6F9)
 }
 
 #[tactic(auto, unfolding(crate::specs::BidiClass::is_arabic_number))]
-fn is_arabic_number(c: u32) -> bool
+pub(crate) fn is_arabic_number(c: u32) -> bool
     ensures { result ≡ is_arabic_number c }
 {
     matches!(c, 0x660..=0x669)
 }
 
 #[tactic(auto, unfolding(crate::specs::BidiClass::is_nonspacing))]
-fn is_nonspacing(c: u32) -> bool
+pub(crate) fn is_nonspacing(c: u32) -> bool
     ensures { result ≡ is_nonspacing c }
 {
+    // Most code points are not marks, and one look-up says so.
+    if !Facts::of(c).contains(Fact::Mark) {
+        return false;
+    }
     matches!(
         category_of(c),
         GeneralCategory::NonspacingMark | GeneralCategory::EnclosingMark

@@ -5,7 +5,7 @@ use crate::class_table::{CLASS_INDEX, CLASS_WORDS};
 use crate::stability::is_unstable;
 use std::alloc::{AllocError, Global};
 
-/// The entry of a code point of which only its stability is open.
+/// The entry of a code point for which only stability is open.
 const LEFT_OPEN: u32 = 5;
 
 /// What a code point may be in a label (RFC 5892, section 1).
@@ -47,7 +47,7 @@ pub fn class_of(alloc: Global, c: u32) -> Result<Class, AllocError>
     })
 }
 
-/// The class of a letter, mark or digit of which only its stability is open.
+/// The class of a letter, mark or digit for which only stability is open.
 #[cold]
 fn class_by_stability(alloc: Global, c: char) -> Result<Class, AllocError>
     requires { class_of c ≡ (if is_unstable c then Class.Disallowed else Class.Pvalid) }

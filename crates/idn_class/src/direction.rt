@@ -5,12 +5,12 @@ use crate::bidi::is_rtl_code_point;
 use crate::bidi_class::{BidiClass, bidi_class};
 use crate::mark::is_mark;
 
-/// What the code points of a beginning let follow under the Bidi rule (RFC 5893, section 2).
+/// What may follow the code points of a beginning under the Bidi rule (RFC 5893, section 2).
 #[derive(Clone, Copy)]
 pub(crate) enum Direction {
     /// The first is neither R nor AL: no R, AL and AN may follow.
     Ltr,
-    /// The first is R or AL: no L may follow, and not both EN and AN, of which none stands yet.
+    /// The first is R or AL: no L may follow, and EN and AN may not both follow. Neither is there yet.
     Rtl,
     /// The same with an EN: no L and no AN may follow.
     RtlEuropean,
@@ -52,7 +52,7 @@ impl Direction {
     }
 
     /// The direction once a code point follows. `None` where it may not.
-    fn lengthened(self, c: u32) -> Option<Direction>
+    pub(crate) fn lengthened(self, c: u32) -> Option<Direction>
         ensures { result ≡ lengthened self c }
     {
         match self {
@@ -62,7 +62,7 @@ impl Direction {
         }
     }
 
-    /// The same behind R or AL, by the Bidi class of the code point.
+    /// The same after R or AL, by the Bidi class of the code point.
     fn rtl_lengthened(self, class: BidiClass) -> Option<Direction>
         ensures { result ≡ rtl_lengthened self class }
     {

@@ -1,14 +1,13 @@
 ghost use Rattle.std.specs.Prelude.{◌≡◌, ◌||◌, ◌<◌, ◌↔◌, false, IsTrue};
-ghost use Rattle.std.specs.List.{list_any};
-ghost use Rattle.idn_class.specs.Facts.{contains, has_fact, place_of};
+ghost use Rattle.idn_class.specs.Facts.{AreFactsOf, contains, has_fact, place_of};
 
 use crate::class_table::{FACT_INDEX, FACT_WORDS};
 
-/// What a code point may ask of a label. A label of which no code point has a fact passes the test
-/// that the fact asks for.
+/// A test that a label may need because of one of its code points. If no code point of a label has a
+/// fact, the label passes the test that the fact stands for.
 #[derive(Clone, Copy, Debug, PartialEq, Eq)]
 pub enum Fact {
-    /// The class is DISALLOWED or UNASSIGNED, or no look-up tells it.
+    /// The class is DISALLOWED or UNASSIGNED, or no look-up says which class it is.
     MayBeBarred,
     /// The class is CONTEXTJ.
     Contextj,
@@ -55,6 +54,9 @@ pub struct Facts {
 const ALL: u32 = 0x7F;
 
 impl Facts {
+    /// No fact.
+    pub(crate) const NONE: Facts = Facts { absent: ALL };
+
     /// The facts of a code point, by one look-up. A number past Unicode has each.
     #[inline]
     pub fn of(c: u32) -> Facts
@@ -67,7 +69,7 @@ impl Facts {
 
     /// The facts that some code point of a label has.
     pub fn of_label(label: &[u32]) -> Facts
-        ensures { (fact : Fact) → contains result fact ≡ list_any (has_fact fact) label.now }
+        ensures { AreFactsOf result label.now }
     {
         let mut facts = Facts { absent: ALL };
         for c in label {

@@ -1,7 +1,7 @@
-//! Which code points a label may hold, and where: the class of a code point (RFC 5892), the rules
-//! for those that need a context (RFC 5892, appendix A), the Bidi rule (RFC 5893, section 2),
-//! whether a label begins with a combining mark (RFC 5891, section 4.2.3.2), and by one look-up a code
-//! point which of these tests a label needs.
+//! Which code points a label may hold, and where: the class of a code point (RFC 5892), the rules for
+//! those that need a context (RFC 5892, appendix A), the Bidi rule (RFC 5893, section 2), whether a
+//! label begins with a combining mark (RFC 5891, section 4.2.3.2), and, by one look-up for each code
+//! point, which of these tests a label needs.
 #![tactic(auto)]
 
 mod beginning;
@@ -15,6 +15,8 @@ mod contexto;
 mod direction;
 mod facts;
 mod joining_type;
+mod kept_beginnings;
+mod known;
 mod laws;
 mod mark;
 mod neighbor;
@@ -28,6 +30,7 @@ pub use contextj::contextj_ok;
 pub use contexto::contexto_ok;
 pub use facts::{Fact, Facts};
 pub use joining_type::JoiningType;
+pub use kept_beginnings::KeptBeginnings;
 pub use laws::{
     bidi_rows, class_rows, hopeless_for_good, hopeless_rows, joiner_rows, mark_rows,
     only_rtl_labels_pass, other_rows, tests_are_rules,

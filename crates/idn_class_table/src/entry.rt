@@ -35,7 +35,7 @@ impl Entry {
     }
 }
 
-/// The entry of a code point: the lines of RFC 5892, section 3, behind those of this profile.
+/// The entry of a code point: the lines of RFC 5892, section 3, after those of this profile.
 pub(crate) fn entry_of(c: u32) -> Entry {
     let Some(point) = char::from_u32(c) else {
         return Entry::Disallowed;

@@ -66,7 +66,7 @@ fn is_mark(c: char) -> bool {
     )
 }
 
-/// R, AL or AN in the profile or in Unicode. The profile has whole blocks, but for the extended
+/// R, AL or AN in the profile or in Unicode. The profile has whole blocks, except for the extended
 /// Arabic-Indic digits and for marks.
 fn is_right_to_left(c: char) -> bool {
     is_right_to_left_in_profile(c)

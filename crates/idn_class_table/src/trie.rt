@@ -11,9 +11,9 @@ const BLOCKS: u32 = 8704;
 /// The entries of all code points, in the form that `ucd_table::get` reads.
 #[derive(Drop)]
 pub(crate) struct Trie {
-    /// For each block its place among the different ones.
+    /// For each block, its place among the different ones.
     pub(crate) index: Vec<u8>,
-    /// The different blocks, one behind the other.
+    /// The different blocks, one after the other.
     pub(crate) words: Vec<u64>,
 }
 

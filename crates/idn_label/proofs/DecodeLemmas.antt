@@ -23,10 +23,12 @@ use Rattle.idn_label.proofs.AnswerLemmas.{and_then-ok}
 
 -- ---- the first label of a name
 
+pub parts_at : (name : List ℕ) (at : ℕ) → at < length name → name ≡ take at name ++ get_or name at 0 ∷ drop (at + 1) name
+parts_at name at lt = sym (take-append-drop at name) ∙ ap (λ zs. take at name ++ zs) (drop_more name at 0 lt)
+
 pub labels_of-stop : (name : List ℕ) (at : ℕ) → at < length name → get_or name at 0 ≡ 0x2E → All (λ c. is_full_stop c ≡ false) (take at name) → labels_of name ≡ take at name ∷ labels_of (drop (at + 1) name)
 labels_of-stop name at lt stop none =
-    let parts : name ≡ take at name ++ get_or name at 0 ∷ drop (at + 1) name = sym (take-append-drop at name) ∙ ap (λ zs. take at name ++ zs) (drop_more name at 0 lt) in
-    ap labels_of parts ∙ slice_split_at is_full_stop (take at name) (get_or name at 0) (drop (at + 1) name) none (eq-eqb (get_or name at 0) 0x2E stop)
+    ap labels_of (parts_at name at lt) ∙ slice_split_at is_full_stop (take at name) (get_or name at 0) (drop (at + 1) name) none (eq-eqb (get_or name at 0) 0x2E stop)
 
 -- ---- lower case
 

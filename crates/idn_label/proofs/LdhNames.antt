@@ -1,8 +1,8 @@
 -- Names of ASCII letters, digits, hyphens and full stops: what ToASCII gives of them is the name in lower case.
-use Rattle.std.proofs.Common.{◌≡◌, ◌≢◌, ℕ, ◌+◌, ◌<◌, ◌==◌, ◌||◌, Bool, true, false, not, List, [], ◌∷◌, ◌++◌, map, take, get_or, length, All, Some, refl, sym, ap, subst, ◌∙◌, arith}
+use Rattle.std.proofs.Common.{◌≡◌, ◌≢◌, ℕ, ◌+◌, ◌<◌, ◌==◌, ◌||◌, Bool, true, false, not, cond, List, [], ◌∷◌, ◌++◌, map, take, get_or, length, All, Some, refl, sym, ap, subst, ◌∙◌, inl, inr, arith}
 use Rattle.std.specs.Char.{is_ascii_uppercase, to_ascii_lowercase}
 use Rattle.std.specs.List.{list_all, list_any}
-use Rattle.std.proofs.lemmas.Bool.{eqb-true}
+use Rattle.std.proofs.lemmas.Bool.{eqb-true, cases_Bool, cond-true, cond-false}
 use Rattle.std.proofs.lemmas.Bool.Decides.{nat_tests}
 use Rattle.std.proofs.lemmas.List.{take_more, map-append}
 use Rattle.std.proofs.lemmas.List.Sums.{list_all-from_AllPass}
@@ -15,8 +15,8 @@ use Rattle.idna.specs.declared.options.DnsLength.TheVariants.{Ignore}
 use Rattle.idna.specs.AsciiDenyList.{may_be_denied}
 use Rattle.idna.specs.Labels.{labels_of}
 use Rattle.idna.specs.Uts46.{to_ascii}
-use Rattle.idna.specs.Validity.{hyphen, has_ace_prefix, is_valid_char, passes_hyphens}
-use Rattle.idna.proofs.Uts46Lemmas.{All-list_any, to_ascii-map-lowercase, to_ascii-plain, list_all-passes_hyphens}
+use Rattle.idna.specs.Validity.{has_ace_prefix, is_valid_char, passes_hyphens}
+use Rattle.idna.proofs.Uts46Lemmas.{to_ascii-map-lowercase, to_ascii-plain}
 use Rattle.idna.proofs.ValidityLemmas.{denies-may_be_denied, is_valid_char-ascii}
 use Rattle.idn_class.specs.Tests.{all_places}
 use Rattle.idn_class.proofs.TestLemmas.{all_places-at}
@@ -25,7 +25,7 @@ use Rattle.idn_label.specs.declared.query.ldh.TheConstants.{LOWERCASE}
 
 -- ---- one more octet
 
-pub lowercase_more : (name : List ℕ) (i c : ℕ) → i < length name → c ≡ get_or name i 0 → map to_ascii_lowercase (take (i + 1) name) ≡ map to_ascii_lowercase (take i name) ++ to_ascii_lowercase c ∷ []
+lowercase_more : (name : List ℕ) (i c : ℕ) → i < length name → c ≡ get_or name i 0 → map to_ascii_lowercase (take (i + 1) name) ≡ map to_ascii_lowercase (take i name) ++ to_ascii_lowercase c ∷ []
 lowercase_more name i c within is =
     ap (map to_ascii_lowercase) (take_more name i 0 within ∙ ap (λ x. take i name ++ x ∷ []) (sym is)) ∙ map-append to_ascii_lowercase (take i name) (c ∷ [])
 
@@ -69,9 +69,6 @@ no_prefixes : (labels : List (List ℕ)) → list_any has_ace_prefix labels ≡ 
 no_prefixes labels none =
     list_all-from_AllPass (passes_hyphens Allow) labels (All-weaker (λ l. has_ace_prefix l ≡ false) (λ l. passes_hyphens Allow l ≡ true) passes_without labels (no_prefix_in labels none))
 
-no_hyphens : (c : ℕ) → (c == hyphen) ≡ false → c ≢ hyphen
-no_hyphens c h = grind (arith, nat_tests)
-
 IsPlain-ldh : (deny : AsciiDenyList) (query : List ℕ) → All (λ c. is_name_point c ≡ true) query → list_all (passes_hyphens Allow) (labels_of query) ≡ true → IsPlain deny Allow query
 IsPlain-ldh deny query points placed = record { valid = All-weaker _ _ (valid deny) query points; placed = placed }
 
@@ -84,26 +81,10 @@ to_ascii-lowercase_name deny name query points is none =
     ∙ ap (to_ascii deny Allow Ignore) (sym is)
     ∙ to_ascii-plain deny Allow query (IsPlain-ldh deny query lower (no_prefixes (labels_of query) none))
 
--- the same where there is no hyphen
-pub to_ascii-no_hyphen : (deny : AsciiDenyList) (name query : List ℕ) → All (λ c. is_name_point (to_ascii_lowercase c) ≡ true) name → query ≡ map to_ascii_lowercase name → list_any (λ c. c == hyphen) query ≡ false → to_ascii deny Allow Ignore name ≡ Some query
-to_ascii-no_hyphen deny name query points is none =
-    let ascii = IsAscii-from_all name (All-weaker _ _ name_point_low name points) in
-    let lower : All (λ c. is_name_point c ≡ true) query = subst (All (λ c. is_name_point c ≡ true)) (sym is) (All-map (λ c. is_name_point c ≡ true) to_ascii_lowercase name points) in
-    let free : All (λ c. c ≢ hyphen) query = All-weaker _ _ no_hyphens query (All-list_any (λ c. c == hyphen) query none) in
-    sym (to_ascii-map-lowercase deny Allow Ignore name ascii)
-    ∙ ap (to_ascii deny Allow Ignore) (sym is)
-    ∙ to_ascii-plain deny Allow query (IsPlain-ldh deny query lower (list_all-passes_hyphens Allow query free))
-
 -- ---- the labels one by one
-
-pub any_label-here : (p : List ℕ → Bool) (name first : List ℕ) (others : List (List ℕ)) → labels_of name ≡ first ∷ others → p first ≡ true → list_any p (labels_of name) ≡ true
-any_label-here p name first others parts here = ap (list_any p) parts ∙ ap (λ b. b || list_any p others) here
 
 pub any_label-none : (p : List ℕ → Bool) (name first : List ℕ) (others : List (List ℕ)) → labels_of name ≡ first ∷ others → list_any p (labels_of name) ≡ false → (p first ≡ false) × (list_any p others ≡ false)
 any_label-none p name first others parts none = or_false (p first) (list_any p others) (sym (ap (list_any p) parts) ∙ none)
-
-pub any_label-later : (p : List ℕ → Bool) (name first : List ℕ) (others : List (List ℕ)) → labels_of name ≡ first ∷ others → p first ≡ false → list_any p (labels_of name) ≡ list_any p others
-any_label-later p name first others parts none = ap (list_any p) parts ∙ ap (λ b. b || list_any p others) none
 
 -- ---- the table
 
@@ -119,21 +100,26 @@ entries = refl
 entry_at : (c : ℕ) → c < 256 → is_entry (is_name_point (to_ascii_lowercase c)) (to_ascii_lowercase c) (get_or LOWERCASE c 0) ≡ true
 entry_at c lt = all_places-at 256 (λ c. is_entry (is_name_point (to_ascii_lowercase c)) (to_ascii_lowercase c) (get_or LOWERCASE c 0)) entries c lt
 
-by_entry-none : (point : Bool) (lower entry : ℕ) → is_entry point lower entry ≡ true → (point ≡ true → lower ≢ 0) → entry ≡ 0 → point ≡ false
+by_entry : (point : Bool) (lower entry : ℕ) → is_entry point lower entry ≡ true → entry ≡ cond point lower 0
 unfolding is_entry
-by_entry-none true lower entry h some zero = absurd (some refl (sym (eqb-true entry lower h) ∙ zero))
-by_entry-none false lower entry h some zero = refl
+by_entry true lower entry h = eqb-true entry lower h
+by_entry false lower entry h = eqb-true entry 0 h
 
-by_entry-some : (point : Bool) (lower entry : ℕ) → is_entry point lower entry ≡ true → entry ≢ 0 → (entry ≡ lower) × (point ≡ true)
-unfolding is_entry
-by_entry-some true lower entry h other = (eqb-true entry lower h, refl)
-by_entry-some false lower entry h other = absurd (other (eqb-true entry 0 h))
+pub LOWERCASE-entry : (c : ℕ) → c < 256 → get_or LOWERCASE c 0 ≡ cond (is_name_point (to_ascii_lowercase c)) (to_ascii_lowercase c) 0
+LOWERCASE-entry c lt = by_entry _ _ _ (entry_at c lt)
 
-not_zero : (c : ℕ) → is_name_point c ≡ true → c ≢ 0
-not_zero c h = grind (arith, nat_tests)
+-- an octet that has an entry: its lower case
+pub lower_some : (c lower : ℕ) → lower ≡ cond (is_name_point (to_ascii_lowercase c)) (to_ascii_lowercase c) 0 → lower ≢ 0 → (lower ≡ to_ascii_lowercase c) × (is_name_point (to_ascii_lowercase c) ≡ true)
+lower_some c lower is some =
+    elim (cases_Bool (is_name_point (to_ascii_lowercase c))) [
+      | inl point ↦ (is ∙ cond-true _ _ _ point, point)
+      | inr other ↦ absurd (some (is ∙ cond-false _ _ _ other))
+    ]
 
-pub LOWERCASE-none : (c : ℕ) → c < 256 → get_or LOWERCASE c 0 ≡ 0 → is_name_point (to_ascii_lowercase c) ≡ false
-LOWERCASE-none c lt none = by_entry-none _ _ _ (entry_at c lt) (not_zero (to_ascii_lowercase c)) none
-
-pub LOWERCASE-some : (c : ℕ) → c < 256 → get_or LOWERCASE c 0 ≢ 0 → (get_or LOWERCASE c 0 ≡ to_ascii_lowercase c) × (is_name_point (to_ascii_lowercase c) ≡ true)
-LOWERCASE-some c lt some = by_entry-some _ _ _ (entry_at c lt) some
+-- one more octet of the name, in lower case
+pub lowercase_push : (name query more : List ℕ) (i lower : ℕ) → i < length name → lower ≡ to_ascii_lowercase (get_or name i 0) → more ≡ query ++ lower ∷ [] → query ≡ map to_ascii_lowercase (take i name) → more ≡ map to_ascii_lowercase (take (i + 1) name)
+lowercase_push name query more i lower within is pushed so_far =
+    pushed
+    ∙ ap (λ x. query ++ x ∷ []) is
+    ∙ ap (λ x. x ++ to_ascii_lowercase (get_or name i 0) ∷ []) so_far
+    ∙ sym (lowercase_more name i (get_or name i 0) within refl)

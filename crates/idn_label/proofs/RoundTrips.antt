@@ -14,7 +14,7 @@ use Rattle.idna.proofs.Computing.{idna}
 use Rattle.idna.proofs.Uts46Lemmas.{ace_parts, map-lowercase}
 use Rattle.idn_label.proofs.DecodeLemmas.{decoded_label-other, decoded_label-coded, decode_answer-last}
 use Rattle.idna.proofs.PunycodeLemmas.{IsDigitChar, All-encode, decode-encode}
-use Rattle.idn_text.specs.Points.{is_scalar_value, IsScalarValue}
+use Rattle.idn_text.specs.Points.{is_scalar_value, IsScalarValue, AreScalarValues}
 use Rattle.idn_text.specs.declared.refusal.Refusal.TheVariants as refusals
 use Rattle.unicode_normalization.specs.Forms.{is_nfc}
 use Rattle.idn_class.specs.Tests.{leading_mark, contextj_ok, contexto_ok, bidi_ok}
@@ -63,6 +63,9 @@ short_a_label label registrable = within (length label) (length (a_label_of labe
   where
     within : (n m : ℕ) → (nat_lt 63 n || nat_lt 63 m) ≡ false → m ≤ 63
     within n m h = grind (arith, nat_tests)
+
+pub registrable_scalars : (label : List ℕ) → IsRegistrable label → AreScalarValues label
+registrable_scalars label registrable = permitted_scalars label (faultless label registrable).points
 
 -- ---- an A-label holds lower-case letters, digits and hyphens alone
 

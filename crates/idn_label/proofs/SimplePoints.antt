@@ -28,12 +28,13 @@ use Rattle.idn_class.proofs.Computing.{rules, in_table, class_of-in_table}
 use Rattle.idn_class.specs.declared.class.Class.TheVariants.{Pvalid, Contextj, Disallowed}
 use Rattle.idn_class.specs.Class.{class_of}
 use Rattle.idn_class.specs.declared.facts.Fact.TheVariants.{MayBeBarred, Contextj as fact_Contextj, MayCompose, Mark as Mark_fact, RightToLeft, NotKept}
-use Rattle.idn_class.specs.Facts.{is_barred_class, is_contextj, is_unicode_rtl_class, is_kept_status, has_fact, IsSimple}
-use Rattle.idn_class.proofs.FactLabels.{class_without, contextj_without, compose_without, mark_without, rtl_without, kept_without}
+use Rattle.idn_class.specs.declared.facts.Facts.{Facts}
+use Rattle.idn_class.specs.Facts.{is_barred_class, is_contextj, is_unicode_rtl_class, is_kept_status, contains, has_fact, IsSimple}
+use Rattle.idn_class.proofs.FactLabels.{class_without, contextj_without, mark_without, rtl_without, kept_without}
 use Rattle.idn_class.specs.LeadingMark.{is_mark_category, is_mark}
 use Rattle.idn_class.specs.Tests.{all_places}
 use Rattle.idn_class.proofs.TestLemmas.{all_places-at}
-use Rattle.idn_label.specs.SimpleNames.{PassesInLabel}
+use Rattle.idn_label.specs.SimpleNames.{PassesInLabel, TellsRightToLeft, TellsComposing}
 use Rattle.idn_label.specs.Steps.{is_ldh_point}
 use Rattle.idn_label.proofs.LdhLemmas.{class_of-ascii}
 
@@ -90,15 +91,11 @@ allowed_simple c is =
       | inr high ↦ allowed_high c high
     ]
 
-PassesInLabel-facts : (c : ℕ) → has_fact NotKept c ≡ false → has_fact MayCompose c ≡ false → has_fact RightToLeft c ≡ false → has_fact fact_Contextj c ≡ false → (may_be_denied c ≡ false) × (is_full_stop c ≡ false) → PassesInLabel c
-PassesInLabel-facts c kept composes rtl_fact joins allowed =
-    let normal = compose_without c composes in
+PassesInLabel-facts : (c : ℕ) → has_fact NotKept c ≡ false → has_fact fact_Contextj c ≡ false → (may_be_denied c ≡ false) × (is_full_stop c ≡ false) → PassesInLabel c
+PassesInLabel-facts c kept joins allowed =
     let other = contextj_without c joins in
     record {
       valid = sym (status (idna_status c)) ∙ kept_without c kept;
-      normal = normal.0;
-      starter = normal.1;
-      not_rtl = sym (rtl (unicode_bidi_class c)) ∙ (rtl_without c rtl_fact).1;
       no_non_joiner = other_class c 0x200C other non_joiner;
       no_joiner = other_class c 0x200D other joiner;
       allowed = allowed.0;
@@ -107,10 +104,28 @@ PassesInLabel-facts c kept composes rtl_fact joins allowed =
 
 pub PassesInLabel-simple : (c : ℕ) → IsSimple c → PassesInLabel c
 PassesInLabel-simple c simple =
-    PassesInLabel-facts c (simple NotKept) (simple MayCompose) (simple RightToLeft) (simple fact_Contextj) (allowed_simple c (class_without c (simple MayBeBarred)).0)
+    PassesInLabel-facts c (simple NotKept) (simple fact_Contextj) (allowed_simple c (class_without c (simple MayBeBarred)).0)
 
-pub PassesInLabel-high : (c : ℕ) → 128 ≤ c → has_fact NotKept c ≡ false → has_fact MayCompose c ≡ false → has_fact RightToLeft c ≡ false → has_fact fact_Contextj c ≡ false → PassesInLabel c
-PassesInLabel-high c high kept composes rtl_fact joins = PassesInLabel-facts c kept composes rtl_fact joins (allowed_high c high)
+pub PassesInLabel-high : (c : ℕ) → 128 ≤ c → has_fact NotKept c ≡ false → has_fact fact_Contextj c ≡ false → PassesInLabel c
+PassesInLabel-high c high kept joins = PassesInLabel-facts c kept joins (allowed_high c high)
+
+-- ---- the direction and composition
+
+pub not_rtl-fact : (c : ℕ) → has_fact RightToLeft c ≡ false → is_rtl (unicode_bidi_class c) ≡ false
+not_rtl-fact c without = sym (rtl (unicode_bidi_class c)) ∙ (rtl_without c without).1
+
+pub TellsRightToLeft-simple : (facts : Facts) (points : List ℕ) → All IsSimple points → TellsRightToLeft facts points
+TellsRightToLeft-simple facts points simple none = All-weaker IsSimple (λ c. is_rtl (unicode_bidi_class c) ≡ false) (λ c h. not_rtl-fact c (h RightToLeft)) points simple
+
+pub TellsComposing-simple : (facts : Facts) (points : List ℕ) → All IsSimple points → TellsComposing facts points
+TellsComposing-simple facts points simple none = All-weaker IsSimple (λ c. has_fact MayCompose c ≡ false) (λ c h. h MayCompose) points simple
+
+pub TellsComposing-one : (facts : Facts) (c : ℕ) → contains facts MayCompose ≡ has_fact MayCompose c → TellsComposing facts (c ∷ [])
+TellsComposing-one facts c is none = All-cons (λ x. has_fact MayCompose x ≡ false) c [] (sym is ∙ none) (All-nil (λ x. has_fact MayCompose x ≡ false))
+
+pub TellsRightToLeft-one : (facts : Facts) (c : ℕ) → contains facts RightToLeft ≡ has_fact RightToLeft c → TellsRightToLeft facts (c ∷ [])
+TellsRightToLeft-one facts c is none =
+    All-cons (λ x. is_rtl (unicode_bidi_class x) ≡ false) c [] (not_rtl-fact c (sym is ∙ none)) (All-nil (λ x. is_rtl (unicode_bidi_class x) ≡ false))
 
 pub past_ascii : (c : ℕ) → is_ascii c ≡ false → 128 ≤ c
 past_ascii c h = grind (arith, nat_tests)

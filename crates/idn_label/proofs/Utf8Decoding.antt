@@ -1,14 +1,12 @@
 -- How the UTF-8 of a decoded name grows label by label.
-use Rattle.std.proofs.Common.{◌≡◌, ◌≢◌, ℕ, true, false, length, take, All, Option, Some, None, IfSome, ◌≤◌, take_all, length-append, List, [], ◌∷◌, ◌++◌, Ok, Err, ◌<◌, zero-le, lit<, inl, inr, refl, sym, subst, ap, ap₂, ◌∙◌, append_assoc, length-take, arith}
+use Rattle.std.proofs.Common.{◌≡◌, ℕ, length, take, Option, Some, None, IfSome, ◌≤◌, take_all, length-append, List, [], ◌∷◌, ◌++◌, Ok, Err, ◌<◌, lit<, refl, sym, subst, ap, ap₂, ◌∙◌, append_assoc, arith}
 use Rattle.std.specs.Borrow.{Bor}
 use Rattle.std.proofs.lemmas.Str.{encodes-append, IsAscii-drop, IsAscii-take}
 use Rattle.std.specs.Str.{IsAscii}
-use Rattle.std.proofs.lemmas.Bool.{cases_Bool}
 use Rattle.std.proofs.lemmas.Str.Ascii.{IsAscii-from_all}
 use Rattle.std.proofs.lemmas.List.Elements.{All-nil, All-cons}
-use Rattle.std.proofs.lemmas.List.{get_or_default, get_or-take, take-append-le}
-use Rattle.memchr.specs.Find.{Nowhere, NoneBefore, Passes, is_byte}
-use Rattle.idna.specs.Labels.{labels_of, is_full_stop}
+use Rattle.std.proofs.lemmas.List.{take-append-le}
+use Rattle.idna.specs.Labels.{labels_of}
 use Rattle.idn_text.proofs.Utf8Lemmas.{ascii_points}
 use Rattle.idn_text.specs.Points.{utf8_of}
 use Rattle.idn_text.specs.declared.refusal.Refusal.{Refusal}
@@ -59,26 +57,6 @@ utf8_turn_more before name label others after parts is =
     ∙ appended_twice before (utf8_of (points.0 ++ 0x2E ∷ [])) (in_utf8 (decode_answer others))
     ∙ ap (λ text. appended (before ++ text) (in_utf8 (decode_answer others))) stop
     ∙ ap (λ front. appended front (in_utf8 (decode_answer others))) (sym (append_assoc before step.0 (0x2E ∷ [])) ∙ ap (λ front. front ++ 0x2E ∷ []) (sym step.2))
-
--- ---- full stops
-
-stop_free : (c : ℕ) → is_byte 0x2E c ≢ true → is_full_stop c ≡ false
-stop_free c none =
-    elim (cases_Bool (is_full_stop c)) [
-      | inl stop ↦ absurd (none stop)
-      | inr other ↦ other
-    ]
-
-pub no_stop_before : (name : List ℕ) (at : ℕ) → NoneBefore (Passes (is_byte 0x2E) name) 0 (length name) at → All (λ c. is_full_stop c ≡ false) (take at name)
-no_stop_before name at none = λ k d lt.
-    let short = length-take at name in
-    let below : k < at = omega (arith, none.high) in
-    let within : k < length name = omega (arith, none.high) in
-    stop_free _ (λ stop. none.before k zero-le below (ap (is_byte 0x2E) (get_or_default name k 0 d within ∙ sym (get_or-take at name k d below)) ∙ stop))
-
-pub no_stop_at_all : (name : List ℕ) → Nowhere (Passes (is_byte 0x2E) name) 0 (length name) → All (λ c. is_full_stop c ≡ false) name
-no_stop_at_all name none = λ k d lt.
-    stop_free _ (λ stop. none k zero-le lt (ap (is_byte 0x2E) (get_or_default name k 0 d lt) ∙ stop))
 
 -- ---- what stands behind the first full stop
 

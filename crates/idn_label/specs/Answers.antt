@@ -6,10 +6,10 @@ use Rattle.idn_text.specs.declared.refusal.Refusal.TheVariants.{Memory}
 abbrev pub Answer : Type 0
 Answer = Result (List ℕ) Refusal
 
--- the answer, unless there is a fault
-abbrev pub unless_fault : Option Refusal → Answer → Answer
-unless_fault None answer = answer
-unless_fault (Some refusal) answer = Err refusal
+-- the result, unless there is a fault
+abbrev pub unless_fault : {A : Type 0} → Option Refusal → Result A Refusal → Result A Refusal
+unless_fault None result = result
+unless_fault (Some refusal) result = Err refusal
 
 -- what the function makes of the answer, if it is no refusal
 abbrev pub and_then : {A : Type 0} → Result A Refusal → (A → Answer) → Answer

@@ -58,7 +58,7 @@ first_faults =
     (replicate 56 0x61 ++ 0xDF ∷ [], Some LabelTooLong) ∷
     []
 
--- labels with two faults, of which the first is told
+-- labels with two faults, of which the first is reported
 abbrev pub first_faults_of_two : List (List ℕ × Option Refusal)
 first_faults_of_two =
     (0x41 ∷ 0x50000 ∷ [], Some Disallowed) ∷

@@ -1,4 +1,4 @@
--- The tests of a label that is to be registered (RFC 5891 section 4.2), in the order in which their faults are told.
+-- The tests of a label that is to be registered (RFC 5891 section 4.2), in the order in which their faults are reported.
 use Rattle.std.specs.Prelude.{◌≡◌, ℕ, Bool, not, ◌||◌, ◌==◌, nat_lt, List, [], ◌∷◌, length, map, Option, Some, None, if◌then◌else◌}
 use Rattle.unicode_normalization.specs.Forms.{is_nfc}
 use Rattle.idna.specs.Validity.{has_hyphen_first_or_last, has_hyphens_third_and_fourth}

@@ -1,7 +1,12 @@
 -- Names of ASCII letters, digits and hyphens.
-use Rattle.std.specs.Prelude.{ℕ, Bool, ◌||◌, ◌==◌}
+use Rattle.std.specs.Prelude.{ℕ, ◌-◌, Bool, not, ◌&&◌, ◌||◌, ◌==◌, nat_le, if◌then◌else◌}
+use Rattle.std.specs.Int.{is_in_range}
 use Rattle.idn_label.specs.Steps.{is_ldh_point}
 
 -- a lower-case ASCII letter, a digit, the hyphen or the full stop
 abbrev pub is_name_point : ℕ → Bool
 is_name_point c = is_ldh_point c || (c == 0x2E)
+
+-- a name of so many octets may end in the label that begins at this place: a full stop behind another label, which is put aside, or 1 to 63 octets; and it has at most 253 octets (RFC 1035 section 2.3.4)
+abbrev pub may_end : ℕ → ℕ → Bool
+may_end start count = if start == count then not (start == 0) && nat_le count 254 else is_in_range 1 63 (count - start) && nat_le count 253

@@ -1,5 +1,6 @@
 pub mod ALabel
 pub mod FirstFault
+pub mod Memory
 pub mod Answers
 pub mod Register
 pub mod Decode

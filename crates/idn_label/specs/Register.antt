@@ -12,7 +12,7 @@ use Rattle.idn_label.specs.FirstFault.{first_fault}
 unfoldable pub tested_answer : List ℕ → Answer
 tested_answer label = unless_fault (first_fault label) (Ok (a_label_of label))
 
--- what the code behind the prefix stands for (RFC 3492 section 6.2), where there is some and all of it is ASCII
+-- what the code after the prefix stands for (RFC 3492 section 6.2), where there is some and all of it is ASCII
 unfoldable pub decoded_code : List ℕ → Answer
 decoded_code code = if length code == 0 || not (is_all_ascii code) then Err BadALabel else ok_or (decode code) BadALabel
 

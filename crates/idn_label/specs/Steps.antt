@@ -1,15 +1,11 @@
 -- Parts of the definitions, by which the steps of the tests are said.
 use Rattle.std.specs.Prelude.{◌≡◌, ℕ, Bool, not, ◌||◌, ◌==◌, List, [], ◌∷◌, ◌++◌, length, map, Option, Ok}
-use Rattle.std.specs.List.{list_any}
 use Rattle.std.specs.Char.{is_ascii_lowercase, is_ascii_digit, to_ascii_lowercase}
 use Rattle.idna.specs.Validity.{has_ace_prefix}
 use Rattle.unicode_normalization.specs.Forms.{is_nfc}
 use Rattle.idn_text.specs.Points.{utf8_of}
 use Rattle.idn_text.specs.declared.refusal.Refusal.{Refusal}
 use Rattle.idn_text.specs.declared.refusal.Refusal.TheVariants.{Empty, NotNfc, Hyphen, LeadingMark, ContextJ, ContextO, Bidi}
-use Rattle.idn_class.specs.declared.facts.Fact.{Fact}
-use Rattle.idn_class.specs.declared.facts.Facts.{Facts}
-use Rattle.idn_class.specs.Facts.{contains, has_fact}
 use Rattle.idn_class.specs.Tests.{leading_mark, contextj_ok, contexto_ok, bidi_ok}
 use Rattle.idn_label.specs.Answers.{Answer, and_then}
 use Rattle.idn_label.specs.FirstFault.{first_of, fault_if, code_point_fault, has_hyphen_out_of_place}
@@ -31,15 +27,11 @@ rule_fault label =
     ∷ []
     )
 
--- the facts that some code point of the label has
-abbrev pub AreFactsOf : Facts → List ℕ → Type 0
-AreFactsOf facts label = (fact : Fact) → contains facts fact ≡ list_any (has_fact fact) label
-
 -- the first fault but for the length
 unfoldable pub fault_but_length : List ℕ → Option Refusal
 fault_but_length label = first_of (fault_if (length label == 0) Empty ∷ code_point_fault label ∷ rule_fault label ∷ [])
 
--- the answer behind what there was
+-- the answer after what there was
 abbrev pub appended : List ℕ → Answer → Answer
 appended before answer = and_then answer (λ more. Ok (before ++ more))
 

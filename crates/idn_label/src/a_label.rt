@@ -49,7 +49,7 @@ pub(crate) fn encoded_label(label: &[char]) -> Result<ALabel, Refusal>
     }
 }
 
-/// ASCII code points as text. There must be room.
+/// ASCII code points as text. There must be space for them.
 pub(crate) fn ascii_text<const N: usize>(points: &[u32]) -> ArrayString<N>
     requires short { length points.now ≤ N }
     requires ascii { All (λ c. c < 128) points.now }

@@ -12,15 +12,14 @@ ghost use Rattle.idn_label.specs.Decode.{decoded_label, decode_answer};
 ghost use Rattle.idn_label.specs.Steps.{appended, begins_with_prefix, in_utf8};
 
 use crate::u_label::u_label_in_any_case;
-use crate::unit::has_ace_prefix_in_any_case;
+use crate::unit::{has_ace_prefix_in_any_case, split_first_label};
 use arrayvec::ArrayVec;
-use idn_text::Refusal;
-use memchr::memchr;
+use idn_text::{Refusal, push_points};
 use std::alloc::Global;
 
 /// Appends the UTF-8 of what `decode_name` makes of a name in ASCII. A name without A-labels takes no memory, nor does an
 /// A-label in most cases: one of more than 63 octets does, one of a label in ASCII, and one of a label with a code point
-/// of which no look-up tells the class, or for which the quick check of NFC is Maybe. Where the name is refused, what was
+/// of which no look-up says the class, or for which the quick check of NFC is Maybe. Where the name is refused, what was
 /// appended says nothing.
 pub fn decode_ascii<const N: usize>(
     alloc: Global,
@@ -47,23 +46,11 @@ pub fn decode_ascii<const N: usize>(
     }
 }
 
-/// What stands before the first full stop, and what stands behind it if there is one.
-pub(crate) fn split_first_label(name: &[u8]) -> (&[u8], Option<&[u8]>)
-    ensures labels { labels_of name.now ≡ result.0.now ∷ option_map_or (λ others. labels_of others.now) result.1 [] }
-    ensures last { result.1 ≡ None → result.0.now ≡ name.now }
-    ensures others { IfSome result.1 (λ others. name.now ≡ result.0.now ++ 0x2E ∷ others.now) }
-{
-    match memchr(b'.', name) {
-        Some(at) => (&name[..at], Some(&name[at + 1..])),
-        None => (name, None),
-    }
-}
-
-/// Appends the UTF-8 of a label, decoded if it begins with `xn--` in any ASCII case. `u_label` is room.
+/// Appends the UTF-8 of a label, decoded if it begins with `xn--` in any ASCII case. `u_label` is a buffer.
 fn decode_label<const N: usize>(
     alloc: Global,
     label: &[u8],
-    u_label: &mut ArrayVec<char, 63>,
+    u_label: &mut ArrayVec<u32, 63>,
     text: &mut ArrayVec<u8, N>,
 ) -> Result<(), Refusal>
     requires ascii { IsAscii label.now }
@@ -75,35 +62,11 @@ fn decode_label<const N: usize>(
 {
     if has_ace_prefix_in_any_case(label) {
         u_label_in_any_case(alloc, label, u_label)?;
-        push_utf8(u_label, text);
+        push_points(u_label, text);
         return Ok(());
     }
     let Ok(()) = text.try_extend_from_slice(label) else {
         unreachable!()
     };
     Ok(())
-}
-
-/// Appends the UTF-8 of a label (RFC 3629 section 3), for which there is room.
-fn push_utf8<const N: usize>(label: &[char], text: &mut ArrayVec<u8, N>)
-    requires room { array_vec_len text.old + 4 * length label.now ≤ N }
-    ensures written { text.new.items ≡ text.old.items ++ utf8_of label.now }
-    ensures grown { array_vec_len text.new ≤ array_vec_len text.old + 4 * length label.now }
-{
-    for c in label {
-        let mut buffer = [0; 4];
-        push_octets(c.encode_utf8(&mut buffer).as_bytes(), text);
-    }
-}
-
-/// Appends a few octets, for which there is room, one by one, which is faster than to copy them as a block.
-#[inline]
-fn push_octets<const N: usize>(octets: &[u8], text: &mut ArrayVec<u8, N>)
-    requires room { array_vec_len text.old + length octets.now ≤ N }
-    ensures written { text.new.items ≡ text.old.items ++ octets.now }
-    ensures grown { array_vec_len text.new ≡ array_vec_len text.old + length octets.now }
-{
-    for octet in octets {
-        text.push(*octet);
-    }
 }

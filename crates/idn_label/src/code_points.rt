@@ -41,21 +41,14 @@ pub(crate) fn to_char(c: u32) -> char
     }
 }
 
-/// A short label as numbers, which takes no memory.
-pub(crate) fn short_points(label: &[char]) -> ArrayVec<u32, 63>
-    requires { length label.now ≤ 63 }
-    ensures { result.items ≡ label.now }
-{
-    let mut points = ArrayVec::new();
-    for c in label {
-        points.push(*c as u32);
-    }
-    points
-}
-
 /// A label as numbers.
 pub(crate) fn points_of(alloc: Global, label: &[char]) -> Result<Vec<u32>, AllocError>
     ensures { IfOk result (λ points. points.items ≡ label.now) }
 {
-    label.iter().map(|c| *c as u32).collect(alloc)
+    // Not by `collect`, which goes on where the room that it takes ahead is refused.
+    let mut points = Vec::with_capacity(alloc, label.len())?;
+    for c in label {
+        points.push(*c as u32)?;
+    }
+    Ok(points)
 }

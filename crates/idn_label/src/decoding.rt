@@ -13,16 +13,14 @@ ghost use Rattle.idn_label.specs.Steps.{appended};
 
 use crate::octets::ascii_octets;
 use crate::u_label::{MAX_LINE_LEN, u_label_in_any_case};
-use crate::unit::has_ace_prefix_in_any_case;
+use crate::unit::{FULL_STOP, has_ace_prefix_in_any_case, split_first_label};
 use arrayvec::ArrayVec;
 use idn_text::Refusal;
-use std::alloc::{AllocError, Global};
-
-const FULL_STOP: u32 = 0x2E;
+use std::alloc::Global;
 
 /// The name with each A-label turned into what it stands for (RFC 5891 section 5.3). A label that begins with `xn--`
 /// in any ASCII case is put into lower case and decoded, or refuses the name as `BadALabel` or by the first fault of
-/// what it stands for; any other label stays as it is. The first refused label tells. `Memory` says nothing of the name.
+/// what it stands for; any other label stays as it is. The first refused label decides. `Memory` says nothing of the name.
 pub fn decode_name(alloc: Global, name: &[u32]) -> Result<Vec<u32>, Refusal>
     requires { length name.now ≤ MAX_LINE_LEN }
     ensures answer { Gives (λ decoded. decoded.items) result (decode_answer name.now) }
@@ -53,20 +51,6 @@ fn decode_labels(alloc: Global, name: &[u32], decoded: &mut Vec<u32>) -> Result<
     }
 }
 
-/// What stands before the first full stop, and what stands behind it if there is one.
-fn split_first_label(name: &[u32]) -> (&[u32], Option<&[u32]>)
-    ensures labels { labels_of name.now ≡ result.0.now ∷ option_map_or (λ others. labels_of others.now) result.1 [] }
-    ensures label_length { length result.0.now ≤ length name.now }
-    ensures others_length { IfSome result.1 (λ others. length others.now < length name.now) }
-{
-    for (at, c) in name.iter().enumerate() {
-        if *c == FULL_STOP {
-            return (&name[..at], Some(&name[at + 1..]));
-        }
-    }
-    (name, None)
-}
-
 /// Appends a label, decoded if it begins with `xn--` in any ASCII case.
 fn decode_label(alloc: Global, label: &[u32], decoded: &mut Vec<u32>) -> Result<(), Refusal>
     requires { length label.now ≤ MAX_LINE_LEN }
@@ -91,15 +75,6 @@ fn decode_a_label(alloc: Global, label: &[u32], decoded: &mut Vec<u32>) -> Resul
     };
     let mut u_label = ArrayVec::new();
     u_label_in_any_case(alloc, &octets, &mut u_label)?;
-    push_points(&u_label, decoded)?;
-    Ok(())
-}
-
-fn push_points(label: &[char], out: &mut Vec<u32>) -> Result<(), AllocError>
-    ensures { OnOk result (out.new.items ≡ out.old.items ++ label.now) }
-{
-    for c in label {
-        out.push(*c as u32)?;
-    }
+    decoded.extend_from_slice(&u_label)?;
     Ok(())
 }

@@ -1,14 +1,12 @@
 //! The test of a label for registration (RFC 5891 section 4.2), in one order of faults.
-ghost use Rattle.std.specs.Prelude.{◌≡◌, ◌≢◌, ◌≤◌, length, None, Some, Err, IfOk, IfErr, OnOk, false};
+ghost use Rattle.std.specs.Prelude.{◌≡◌, ◌≢◌, None, Some, Err, IfOk, IfErr, OnOk, false};
 ghost use Rattle.std.specs.List.{list_any};
 ghost use Rattle.idn_class.specs.Class.{is_left_open};
-ghost use Rattle.idn_class.specs.Facts.{has_fact};
+ghost use Rattle.idn_class.specs.Facts.{AreFactsOf};
 ghost use Rattle.idn_label.specs.ALabel.{a_label_of};
 ghost use Rattle.idn_label.specs.FirstFault.{code_point_fault, fault_of_class, first_fault, IsRegistrable};
+ghost use Rattle.idn_label.specs.Memory.{NeedsNoMemory};
 ghost use Rattle.idn_label.specs.Steps.{fault_but_length};
-ghost use Rattle.ucd_normal.specs.declared.forms.Form.TheVariants.{Nfc};
-ghost use Rattle.ucd_normal.specs.declared.forms.QuickCheck.TheVariants.{Maybe};
-ghost use Rattle.unicode_normalization.specs.QuickCheck.{quick_check_text};
 
 use crate::a_label::{ALabel, measured_a_label};
 use crate::rules::check_rules;
@@ -19,35 +17,48 @@ use std::alloc::Global;
 /// The A-label of a label that may be registered (RFC 5891 section 4.2), else its first fault: no code point; a code
 /// point that is disallowed or unassigned; not in NFC; a hyphen out of place; a leading mark; a context rule; the Bidi
 /// rule; more than 63 code points, or an A-label of more than 63 octets. `Memory` says nothing of the label. No memory
-/// is taken where look-ups tell each class, and either no code point may compose, or the label has at most 63 code
+/// is taken where look-ups say each class, and either no code point may compose, or the label has at most 63 code
 /// points and the quick check of NFC is not Maybe.
 pub fn test_label(alloc: Global, label: &[u32]) -> Result<ALabel, Refusal>
     ensures registrable { OnOk result (IsRegistrable label.now) }
     ensures a_label { IfOk result (λ answer. answer.bytes ≡ a_label_of label.now) }
     ensures fault { IfErr result (λ refusal. refusal ≢ Refusal.Memory → first_fault label.now ≡ Some refusal) }
-
-    ensures simple { list_any is_left_open label.now ≡ false → list_any (has_fact Fact.MayCompose) label.now ≡ false
-        → result ≢ Err Refusal.Memory }
-    ensures short { list_any is_left_open label.now ≡ false → length label.now ≤ 63 → quick_check_text Nfc label.now ≢ Maybe
-        → result ≢ Err Refusal.Memory }
+    ensures no_memory { NeedsNoMemory label.now → result ≢ Err Refusal.Memory }
 {
-    check_label(alloc, label)?;
+    test_label_of(alloc, label, Facts::of_label(label))
+}
+
+/// The same of a label of which the facts are known.
+pub fn test_label_of(alloc: Global, label: &[u32], facts: Facts) -> Result<ALabel, Refusal>
+    requires { AreFactsOf facts label.now }
+    ensures registrable { OnOk result (IsRegistrable label.now) }
+    ensures a_label { IfOk result (λ answer. answer.bytes ≡ a_label_of label.now) }
+    ensures fault { IfErr result (λ refusal. refusal ≢ Refusal.Memory → first_fault label.now ≡ Some refusal) }
+    ensures no_memory { NeedsNoMemory label.now → result ≢ Err Refusal.Memory }
+{
+    check_label_of(alloc, label, facts)?;
     measured_a_label(label)
 }
 
-/// Tells the first fault of a label, but for its length. Its facts tell which tests it needs.
+/// Returns the first fault of a label, but for its length. Its facts say which tests it needs.
 pub(crate) fn check_label(alloc: Global, label: &[u32]) -> Result<(), Refusal>
     ensures passes { OnOk result (fault_but_length label.now ≡ None) }
     ensures fault { IfErr result (λ refusal. refusal ≢ Refusal.Memory → fault_but_length label.now ≡ Some refusal) }
-    ensures simple { list_any is_left_open label.now ≡ false → list_any (has_fact Fact.MayCompose) label.now ≡ false
-        → result ≢ Err Refusal.Memory }
-    ensures short { list_any is_left_open label.now ≡ false → length label.now ≤ 63 → quick_check_text Nfc label.now ≢ Maybe
-        → result ≢ Err Refusal.Memory }
+    ensures no_memory { NeedsNoMemory label.now → result ≢ Err Refusal.Memory }
+{
+    check_label_of(alloc, label, Facts::of_label(label))
+}
+
+/// The same of a label of which the facts are known.
+fn check_label_of(alloc: Global, label: &[u32], facts: Facts) -> Result<(), Refusal>
+    requires { AreFactsOf facts label.now }
+    ensures passes { OnOk result (fault_but_length label.now ≡ None) }
+    ensures fault { IfErr result (λ refusal. refusal ≢ Refusal.Memory → fault_but_length label.now ≡ Some refusal) }
+    ensures no_memory { NeedsNoMemory label.now → result ≢ Err Refusal.Memory }
 {
     if label.is_empty() {
         return Err(Refusal::Empty);
     }
-    let facts = Facts::of_label(label);
     if facts.contains(Fact::MayBeBarred) {
         check_code_points(alloc, label)?;
     }

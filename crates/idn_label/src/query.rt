@@ -7,6 +7,8 @@ ghost use Rattle.idn_text.specs.Points.{AreScalarValues, utf8_of};
 ghost use Rattle.idn_label.specs.Answers.{Gives};
 ghost use Rattle.idn_label.specs.Lookup.{deny_list, utf8_answer, lookup_answer};
 
+mod bidi;
+mod character;
 mod full;
 mod ldh;
 mod lengths;
@@ -56,17 +58,12 @@ pub fn lookup_utf8<const N: usize>(
     ensures no_memory { IsPlain (deny_list std3) Allow name.now → result ≢ Err Refusal.Memory }
 {
     query.clear();
-    if let Some(()) = ldh_query(name, query) {
-        return verify(query);
+    if let Some(answer) = ldh_query(name, query) {
+        return answer;
     }
-    let Ok(text) = str::from_utf8(name) else {
-        return Err(Refusal::NotUtf8);
-    };
     query.clear();
-    if !name.is_ascii() {
-        if let Some(()) = simple_query(text, query) {
-            return verify(query);
-        }
+    if let Some(()) = simple_query(name, query) {
+        return Ok(());
     }
     full_lookup(alloc, name, std3, query)
 }

@@ -1,9 +1,10 @@
 //! Registration of a label.
-ghost use Rattle.std.specs.Prelude.{◌≡◌, ◌≤◌, ℕ, List, length, true, Ok};
+ghost use Rattle.std.specs.Prelude.{◌≡◌, ◌≢◌, ◌≤◌, ℕ, List, length, true, false, Ok, Err};
 ghost use Rattle.idna.specs.Validity.{has_ace_prefix};
 ghost use Rattle.idn_label.specs.ALabel.{a_label_of};
 ghost use Rattle.idn_label.specs.Answers.{Gives};
 ghost use Rattle.idn_label.specs.FirstFault.{IsRegistrable};
+ghost use Rattle.idn_label.specs.Memory.{NeedsNoMemory};
 ghost use Rattle.idn_label.specs.Register.{register_answer};
 
 use crate::a_label::{ALabel, ascii_text};
@@ -15,12 +16,14 @@ use arrayvec::ArrayVec;
 use idn_text::Refusal;
 use std::alloc::Global;
 
-/// The A-label of a label that may be registered (RFC 5891 section 4), else its first fault, as `test_label` tells it.
+/// The A-label of a label that may be registered (RFC 5891 section 4), else its first fault, as `test_label` reports it.
 /// A label that begins with `xn--` is decoded first, and is the answer if it is the A-label of what it stands for;
 /// else it is refused as `BadALabel`, or by the first fault of what it stands for. `Memory` says nothing of the label.
+/// Any other label takes no memory where `test_label` takes none.
 pub fn register(alloc: Global, label: &[u32]) -> Result<ALabel, Refusal>
     requires { length label.now ≤ MAX_LINE_LEN }
     ensures answer { Gives (λ answer. answer.bytes) result (register_answer label.now) }
+    ensures no_memory { has_ace_prefix label.now ≡ false → NeedsNoMemory label.now → result ≢ Err Refusal.Memory }
 
     // The A-label of a label that may be registered is its own answer.
     ensures again { (registered : List ℕ) → IsRegistrable registered → label.now ≡ a_label_of registered

@@ -5,9 +5,9 @@ ghost use Rattle.ucd_normal.specs.declared.forms.QuickCheck.TheVariants.{Maybe};
 ghost use Rattle.unicode_normalization.specs.Forms.{is_nfc};
 ghost use Rattle.unicode_normalization.specs.QuickCheck.{quick_check_text};
 ghost use Rattle.idn_text.specs.Points.{AreScalarValues};
-ghost use Rattle.idn_class.specs.Facts.{contains};
+ghost use Rattle.idn_class.specs.Facts.{AreFactsOf, contains};
 ghost use Rattle.idn_class.specs.Tests.{leading_mark, contextj_ok, contexto_ok, bidi_ok};
-ghost use Rattle.idn_label.specs.Steps.{AreFactsOf, rule_fault};
+ghost use Rattle.idn_label.specs.Steps.{rule_fault};
 
 use crate::a_label::MAX_LABEL_LEN;
 use crate::code_points::{chars_of, short_chars};
@@ -78,7 +78,7 @@ fn passes_bidi_rule(label: &[u32], facts: Facts) -> bool
 }
 
 /// Whether a label is in Normalization Form C. Where a code point may compose, it takes memory for a label of more than 63
-/// code points, and where the quick check cannot tell.
+/// code points, and where the quick check cannot decide.
 fn is_nfc(alloc: Global, label: &[u32], facts: Facts) -> Result<bool, AllocError>
     requires scalars { AreScalarValues label.now }
     requires facts { AreFactsOf facts label.now }

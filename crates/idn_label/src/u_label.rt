@@ -10,7 +10,7 @@ ghost use Rattle.idn_label.specs.FirstFault.{first_fault, IsRegistrable};
 ghost use Rattle.idn_label.specs.Register.{decoded_code, confirmed, u_label_answer};
 
 use crate::a_label::{ALabel, MAX_LABEL_LEN};
-use crate::code_points::{points_of, short_points};
+use crate::code_points::points_of;
 use crate::first_fault::{check_label, test_label};
 use crate::octets::lowercase_of;
 use crate::unit::is_all_ascii;
@@ -29,7 +29,7 @@ pub(crate) const MAX_LINE_LEN: usize = 1024;
 pub(crate) fn u_label_in_any_case(
     alloc: Global,
     given: &[u8],
-    label: &mut ArrayVec<char, 63>,
+    label: &mut ArrayVec<u32, 63>,
 ) -> Result<(), Refusal>
     requires prefix { has_ace_prefix (map to_ascii_lowercase given.now) ≡ true }
     requires ascii { is_all_ascii given.now ≡ true }
@@ -49,7 +49,7 @@ pub(crate) fn u_label_in_any_case(
 pub(crate) fn u_label(
     alloc: Global,
     given: &[u8],
-    label: &mut ArrayVec<char, 63>,
+    label: &mut ArrayVec<u32, 63>,
 ) -> Result<(), Refusal>
     requires prefix { has_ace_prefix given.now ≡ true }
     requires ascii { is_all_ascii given.now ≡ true }
@@ -79,7 +79,7 @@ pub(crate) fn has_no_capital(text: &[u8]) -> bool
 fn lowercase_u_label(
     alloc: Global,
     given: &[u8],
-    label: &mut ArrayVec<char, 63>,
+    label: &mut ArrayVec<u32, 63>,
 ) -> Result<(), Refusal>
     requires prefix { has_ace_prefix given.now ≡ true }
     requires ascii { is_all_ascii given.now ≡ true }
@@ -103,14 +103,14 @@ fn lowercase_u_label(
 }
 
 /// Tests a label that is not all ASCII, and whose A-label is short, for registration.
-fn check_u_label(alloc: Global, label: &[char]) -> Result<(), Refusal>
+fn check_u_label(alloc: Global, label: &[u32]) -> Result<(), Refusal>
     requires coded { is_all_ascii label.now ≡ false }
     requires short { length label.now ≤ 63 }
     requires short_a_label { length (codes "xn--" ++ encode label.now) ≤ 63 }
     ensures registrable { OnOk result (IsRegistrable label.now) }
     ensures fault { IfErr result (λ refusal. refusal ≢ Refusal.Memory → first_fault label.now ≡ Some refusal) }
 {
-    check_label(alloc, &short_points(label))
+    check_label(alloc, label)
 }
 
 /// Why an A-label is refused that no label which may be registered has.
@@ -132,7 +132,7 @@ fn refusal_of(alloc: Global, given: &[u8]) -> Refusal
     }
 }
 
-/// Decodes what stands behind the prefix, which may be long.
+/// Decodes what stands after the prefix, which may be long.
 fn decode_code(alloc: Global, code: &[u8]) -> Result<Vec<char>, Refusal>
     requires ascii { is_all_ascii code.now ≡ true }
     requires short { length code.now ≤ MAX_LINE_LEN }

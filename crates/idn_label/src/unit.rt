@@ -1,11 +1,15 @@
 //! What octets, numbers and characters share, as the code points of a label.
-ghost use Rattle.std.specs.Prelude.{◌≡◌, ℕ, List, map, slice_index};
+ghost use Rattle.std.specs.Prelude.{◌≡◌, ◌<◌, ◌≤◌, ℕ, List, [], ◌∷◌, ◌++◌, length, map, slice_index, IfSome};
+ghost use Rattle.std.specs.Option.{option_map_or};
 ghost use Rattle.std.specs.Char.{to_ascii_lowercase};
 ghost use Rattle.std.proofs.Common.{map-id, sym};
+ghost use Rattle.idna.specs.Labels.{labels_of};
 ghost use Rattle.idna.specs.Validity.{is_all_ascii, has_ace_prefix, has_hyphens_third_and_fourth};
 ghost use Rattle.idn_label.specs.FirstFault.{has_hyphen_out_of_place};
 
 const HYPHEN: u32 = 0x2D;
+
+pub(crate) const FULL_STOP: u32 = 0x2E;
 
 /// A code point of a label as it is held: an octet of ASCII, a number, or a character.
 pub(crate) trait Unit: Copy {
@@ -69,6 +73,24 @@ fn code_point_at<U: Unit>(label: &[U], place: usize) -> u32
     } else {
         0
     }
+}
+
+/// What stands before the first full stop, and what stands behind it if there is one.
+#[inline]
+pub(crate) fn split_first_label<U: Unit>(name: &[U]) -> (&[U], Option<&[U]>)
+    ensures labels { labels_of (U.codes name.now)
+        ≡ U.codes result.0.now ∷ option_map_or (λ others. labels_of (U.codes others.now)) result.1 [] }
+    ensures last { result.1 ≡ None → result.0.now ≡ name.now }
+    ensures others { IfSome result.1 (λ others. U.codes name.now ≡ U.codes result.0.now ++ 0x2E ∷ U.codes others.now) }
+    ensures label_length { length result.0.now ≤ length name.now }
+    ensures others_length { IfSome result.1 (λ others. length others.now < length name.now) }
+{
+    for at in 0..name.len() {
+        if code_point_at(name, at) == FULL_STOP {
+            return (&name[..at], Some(&name[at + 1..]));
+        }
+    }
+    (name, None)
 }
 
 /// Whether each code point is ASCII.

@@ -3,7 +3,7 @@ ghost use Rattle.std.specs.Prelude.{◌≡◌, ◌+◌, ◌<◌, ◌≤◌, [], 
 
 use arrayvec::{ArrayString, CapacityError};
 
-/// Appends a piece of text, or nothing where there is no room.
+/// Appends a piece of text, or nothing where there is no space.
 #[inline]
 pub(crate) fn push_text(piece: &str, text: &mut ArrayString<63>) -> Result<(), CapacityError>
     ensures ok { OnOk result (text.new.bytes ≡ text.old.bytes ++ piece.now) }
@@ -16,7 +16,7 @@ pub(crate) fn push_text(piece: &str, text: &mut ArrayString<63>) -> Result<(), C
     }
 }
 
-/// Appends a character of ASCII, or nothing where there is no room.
+/// Appends a character of ASCII, or nothing where there is no space.
 #[inline]
 pub(crate) fn push_ascii(c: char, text: &mut ArrayString<63>) -> Result<(), CapacityError>
     requires { c < 128 }

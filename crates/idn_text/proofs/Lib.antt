@@ -1,9 +1,18 @@
+-- How the code points of bytes are read one after another.
 pub mod DecodingLemmas
+-- The size of a number that hexadecimal digits write.
 mod HexLemmas
+-- What a whole history of reading says of a text that is known.
 pub mod HistoryLemmas
+-- How what is known of a reader or a writer goes on over several calls.
 pub mod Knowing
+-- What the laws rest on.
 pub mod LawLemmas
+-- How lines go on from those that were read.
 pub mod NumberingLemmas
+-- How the reading of lines goes on.
 pub mod ReadingLemmas
+-- Taking bytes from the front of what a reader gave.
 pub mod TakingLemmas
+-- The UTF-8 of a list of code points.
 pub mod Utf8Lemmas

@@ -3,7 +3,7 @@ use Rattle.std.specs.Prelude.{◌≡◌, ◌≢◌, ℕ, ◌+◌, ◌==◌, nat_
 use Rattle.std.specs.List.{onto_first}
 use Rattle.std.specs.Str.Lines.{strip_carriage_return}
 
--- what stands before each line feed, and behind the last one a rest that is not empty
+-- what stands before each line feed, and after the last one a rest that is not empty
 abbrev pub raw_lines : List ℕ → List (List ℕ)
 raw_lines [] = []
 raw_lines (c ∷ cs) = if c == 10 then [] ∷ raw_lines cs else onto_first c (raw_lines cs)
@@ -28,12 +28,12 @@ EndsInFeed [] = Unit {0}
 EndsInFeed (c ∷ []) = c ≡ 10
 EndsInFeed (c ∷ d ∷ ds) = EndsInFeed (d ∷ ds)
 
--- the lines one after another, a line feed behind each
+-- the lines one after another, a line feed after each
 abbrev pub joined_lines : List (List ℕ) → List ℕ
 joined_lines [] = []
 joined_lines (line ∷ lines) = line ++ 10 ∷ joined_lines lines
 
--- the text, with a line feed behind a rest that has none
+-- the text, with a line feed after a rest that has none
 abbrev pub with_last_feed : List ℕ → List ℕ
 with_last_feed [] = []
 with_last_feed (c ∷ []) = if c == 10 then c ∷ [] else c ∷ 10 ∷ []

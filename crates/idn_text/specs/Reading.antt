@@ -30,7 +30,7 @@ pub record IsUnread (reading : Reading) : Type 0 where
 -- these are the lines of the bytes that were given:
 --   while more may come, all of them, each ended by a line feed;
 --   at the end of the reader, all of them;
---   at a fault, those that a line feed ends, the first 4,294,967,296 of them, and either the reader failed or was asked
+--   at a fault, those that a line feed ends, the first 4,294,967,296 of them, and either the reader failed or was called
 --   as often as it may be, and gave no more than these bytes, or these bytes have more lines than may be
 abbrev pub AreLines : State → Input → List ℕ → List Numbered → Type 0
 AreLines Open input given lines = (lines ≡ lines_of given) × EndsInFeed given
@@ -69,7 +69,7 @@ answered (Ok (Some line)) = numbered_line line ∷ []
 answered (Ok None) = []
 answered (Err fault) = []
 
--- what a call that reads into a line answers: that line, where it tells that there was one
+-- what a call that reads into a line answers: that line, where it says that there was one
 abbrev pub read_into : Result Bool ReadFault → Line → Result (Option Line) ReadFault
 read_into (Ok true) line = Ok (Some line)
 read_into (Ok false) line = Ok None

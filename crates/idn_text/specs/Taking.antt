@@ -19,7 +19,7 @@ pub record HasEnded (input : Input) : Type 0 where
   pub held : input.held ≡ []
   pub coming : IsAtEnd input.reader.remaining
 
--- the reader failed or was asked as often as it may be, and all that it gave is taken
+-- the reader failed or was called as often as it may be, and all that it gave is taken
 pub record HasFailed (input : Input) : Type 0 where
   pub held : input.held ≡ []
   pub cause : (input.reader.has_failed ≡ true) ⊎ (input.reads ≡ 2 ^ 40)

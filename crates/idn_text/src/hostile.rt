@@ -4,7 +4,6 @@
 ghost use Rattle.std.specs.Prelude.{◌≡◌, ◌<◌, ◌≤◌, ◌+◌, ◌-◌, ◌↔◌, Some, length, min, take, IsTrue, IsErr, IfOk};
 ghost use Rattle.std.specs.Io.{ReadsAtMost, WritesAtMost};
 ghost use Rattle.std.specs.Io.KnownBytes.{ReadConsumes, WriteAppends};
-ghost use Rattle.idn_text.specs.Hostile.{fails_at};
 
 use std::io::{Error, ErrorKind, Read, Result, Write};
 
@@ -20,14 +19,16 @@ pub struct StopReader<'a> {
 }
 
 impl<'a> StopReader<'a> {
+    ghost use Rattle.idn_text.specs.Hostile.{rest_of, given_at_once, fail_at_of, fails_once, calls_of};
+
     /// Gives at most `piece` bytes a call. The call numbered `fail_at`, from 1, is an error, and so
     /// are all later ones unless `once`; 0 is for no call.
     pub fn new(bytes: &'a [u8], piece: usize, fail_at: u64, once: bool) -> Self
         requires { 0 < piece }
-        ensures rest { result.rest.now ≡ bytes.now }
-        ensures piece { result.piece ≡ piece }
-        ensures stop { (result.fail_at ≡ fail_at) × (result.once ≡ once) }
-        ensures calls { result.calls ≡ 0 }
+        ensures rest { rest_of result ≡ bytes.now }
+        ensures piece { given_at_once result ≡ piece }
+        ensures stop { (fail_at_of result ≡ fail_at) × (fails_once result ≡ once) }
+        ensures calls { calls_of result ≡ 0 }
     {
         StopReader {
             rest: bytes,
@@ -40,16 +41,18 @@ impl<'a> StopReader<'a> {
 }
 
 impl Read for StopReader<'_> {
-    ghost remaining = { λ s. Some s.rest.now };
+    ghost use Rattle.idn_text.specs.Hostile.{rest_of, given_at_once, fail_at_of, fails_once, calls_of, fails_at};
+
+    ghost remaining = { λ s. Some (rest_of s) };
 
     fn read(&mut self, buffer: &mut [u8]) -> Result<usize>
         ensures bound { ReadsAtMost result buffer.new }
-        ensures bytes { ReadConsumes (Some self.old.rest.now) (Some self.new.rest.now) result buffer.new }
+        ensures bytes { ReadConsumes (Some (rest_of self.old)) (Some (rest_of self.new)) result buffer.new }
 
-        ensures counted { self.new.calls ≡ min (self.old.calls + 1) u64.MAX }
-        ensures fails { IsErr result ↔ IsTrue (fails_at self.old.fail_at self.old.once self.new.calls) }
-        ensures piece { IfOk result (λ count. count ≡ min (min (length buffer.new) self.old.piece) (length self.old.rest.now)) }
-        ensures kept { (self.new.piece ≡ self.old.piece) × (self.new.fail_at ≡ self.old.fail_at) × (self.new.once ≡ self.old.once) }
+        ensures counted { calls_of self.new ≡ min (calls_of self.old + 1) u64.MAX }
+        ensures fails { IsErr result ↔ IsTrue (fails_at (fail_at_of self.old) (fails_once self.old) (calls_of self.new)) }
+        ensures piece { IfOk result (λ count. count ≡ min (min (length buffer.new) (given_at_once self.old)) (length (rest_of self.old))) }
+        ensures kept { (given_at_once self.new ≡ given_at_once self.old) × (fail_at_of self.new ≡ fail_at_of self.old) × (fails_once self.new ≡ fails_once self.old) }
     {
         self.calls = self.calls.saturating_add(1);
         let fails = if self.once {
@@ -78,12 +81,14 @@ pub struct StopWriter<'a> {
 }
 
 impl<'a> StopWriter<'a> {
+    ghost use Rattle.idn_text.specs.Hostile.{room_of, taken_of, taken_at_once};
+
     /// Takes at most `piece` bytes a call until the slice is full; then every call is an error.
     pub fn new(room: &'a mut [u8], piece: usize) -> Self
         requires { 0 < piece }
-        ensures taken { result.taken ≡ 0 }
-        ensures piece { result.piece ≡ piece }
-        ensures room { result.room.now ≡ room.old }
+        ensures taken { taken_of result ≡ 0 }
+        ensures piece { taken_at_once result ≡ piece }
+        ensures room { room_of result ≡ room.old }
     {
         StopWriter {
             room,
@@ -94,23 +99,25 @@ impl<'a> StopWriter<'a> {
 
     /// How many bytes the front of the slice has taken.
     pub fn taken(&self) -> usize
-        ensures { result ≡ self.now.taken }
+        ensures { result ≡ taken_of self.now }
     {
         self.taken
     }
 }
 
 impl Write for StopWriter<'_> {
-    ghost contents = { λ s. Some (take s.taken s.room.now) };
+    ghost use Rattle.idn_text.specs.Hostile.{room_of, taken_of, taken_at_once};
+
+    ghost contents = { λ s. Some (take (taken_of s) (room_of s)) };
 
     fn write(&mut self, text: &[u8]) -> Result<usize>
         ensures bound { WritesAtMost result text.now }
-        ensures bytes { WriteAppends (Some (take self.old.taken self.old.room.now)) (Some (take self.new.taken self.new.room.now)) result text.now }
+        ensures bytes { WriteAppends (Some (take (taken_of self.old) (room_of self.old))) (Some (take (taken_of self.new) (room_of self.new))) result text.now }
 
-        ensures fails { IsErr result ↔ (self.old.taken ≡ length self.old.room.now) }
-        ensures piece { IfOk result (λ count. count ≡ min (min (length text.now) self.old.piece) (length self.old.room.now - self.old.taken)) }
-        ensures room { length self.new.room.now ≡ length self.old.room.now }
-        ensures kept { self.new.piece ≡ self.old.piece }
+        ensures fails { IsErr result ↔ (taken_of self.old ≡ length (room_of self.old)) }
+        ensures piece { IfOk result (λ count. count ≡ min (min (length text.now) (taken_at_once self.old)) (length (room_of self.old) - taken_of self.old)) }
+        ensures room { length (room_of self.new) ≡ length (room_of self.old) }
+        ensures kept { taken_at_once self.new ≡ taken_at_once self.old }
     {
         let left = self.room.len() - self.taken;
         if left == 0 {

@@ -57,7 +57,7 @@ impl<R: Source> Input<R> {
     }
 
     /// Takes the bytes through the next line feed, or all that come, adds those before it to a body,
-    /// and tells whether a line feed came.
+    /// and returns whether a line feed came.
     pub fn take_line(&mut self, body: &mut Body) -> Result<bool, ReadFault>
         requires { bytes_of body.old ≡ seen.kept [] }
         ensures line { IfOk result (λ has_feed. (line : List ℕ) × (bytes_of body.new ≡ seen.kept line)
@@ -77,7 +77,7 @@ impl<R: Source> Input<R> {
     }
 
     /// Takes what is held through the first line feed, or all of it, adds the bytes before it to a
-    /// body, and tells whether a line feed was there.
+    /// body, and returns whether a line feed was there.
     fn take_held(&mut self, body: &mut Body) -> bool
         ensures same { self.new ≡ record self.old { held = self.new.held } }
         ensures rest { result ≡ false → self.new.held ≡ [] }
@@ -100,7 +100,10 @@ impl<R: Source> Input<R> {
         }
     }
 
-    /// Reads once, and tells whether bytes came.
+    /// Reads once, and returns whether bytes came.
+    // Most lines lie in the buffer already.
+    #[cold]
+    #[inline(never)]
     fn fill(&mut self) -> Result<bool, ReadFault>
         requires { self.old.held ≡ [] }
         ensures same { Keeps (seen.left self.old) (seen.left self.new) }

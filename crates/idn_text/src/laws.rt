@@ -7,8 +7,8 @@ ghost use Rattle.idn_text.specs.Reading.{Reading, IsUnread, HasRead, unread};
 ghost use Rattle.idn_text.specs.declared.lines.State.TheVariants.{Ended, Stopped};
 ghost use Rattle.idn_text.specs.Points.{IsUtf8Of, utf8_of, point_of_hex};
 
-/// The lines of a text hold no line feed, and each with a line feed behind it, joined, are the text,
-/// with a line feed behind a rest that has none.
+/// The lines of a text hold no line feed, and each with a line feed after it, joined, are the text,
+/// with a line feed after a rest that has none.
 pub fn lines_join_to_the_text()
     ensures plain { (text : List ℕ) → All IsPlain (raw_lines text) }
     ensures joined { (text : List ℕ) → joined_lines (raw_lines text) ≡ with_last_feed text }

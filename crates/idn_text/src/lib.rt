@@ -18,5 +18,5 @@ pub use device::{Device, DeviceFault, Sink, Source};
 pub use lines::{Line, Lines, ReadFault};
 pub use point::{hex_point, is_point};
 pub use refusal::Refusal;
-pub use utf8::{NotUtf8, decode_points, write_points};
+pub use utf8::{NotUtf8, decode_points, push_points, write_points};
 pub use write::{WriteFault, write_text};

@@ -12,7 +12,7 @@ use thiserror::Error;
 /// The most lines.
 const LINE_LIMIT: u64 = 1 << 32;
 
-/// A reader failed, or was asked too often, or has too many lines.
+/// A reader failed, or was called too often, or has too many lines.
 #[derive(Clone, Copy, Debug, PartialEq, Eq, Error)]
 #[error("read fault")]
 pub struct ReadFault;
@@ -47,7 +47,7 @@ pub enum State {
     Stopped,
 }
 
-/// The lines of a reader. A line is what stands before a line feed, and behind the last one a rest
+/// The lines of a reader. A line is what stands before a line feed, and after the last one a rest
 /// that is not empty.
 #[derive(Drop)]
 pub struct Lines<R: Source> {
@@ -72,7 +72,7 @@ impl<R: Source> Lines<R> {
     ghost use Rattle.idn_text.specs.Reading.{Reading, HasRead, HasStopped, IsLeftBy, answered, read_into, unread};
     ghost use Rattle.idn_text.specs.declared.lines.State.TheVariants.{Open, Ended, Stopped};
 
-    /// The lines of what a reader gives from here on. It is not asked yet.
+    /// The lines of what a reader gives from here on. This does not call the reader.
     pub fn new(reader: R) -> Self
         ensures { result ≡ unread (R.state reader) }
     {
@@ -110,9 +110,10 @@ impl<R: Source> Lines<R> {
         }
     }
 
-    /// Reads the next line in the place of one that is done with, and tells whether there was one. At
+    /// Reads the next line into one that is no longer needed, and returns whether there was one. At
     /// the end and at a fault, which are as `next_line` tells them, nothing is said of what then stands
     /// in `line`.
+    #[inline(always)]
     pub fn read_line(&mut self, line: &mut Line) -> Result<bool, ReadFault>
         ensures lines { (start : Reading) (given : List ℕ) (lines : List Numbered) → HasRead start self.old given lines →
             (more : List ℕ) × HasRead start self.new (given ++ more) (lines ++ answered (read_into result line.new)) }

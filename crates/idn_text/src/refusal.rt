@@ -52,7 +52,7 @@ pub enum Refusal {
     NotInTable,
     /// Words of the command line that are refused.
     Usage,
-    /// A reader that failed, that was asked too often, or that gave too many lines.
+    /// A reader that failed, that was called too often, or that gave too many lines.
     ReadFault,
     /// A writer that failed.
     WriteFault,

@@ -1,4 +1,4 @@
--- The shortest_hopeless hopeless beginning, and labels that begin alike.
+-- The shortest hopeless beginning, and labels that begin alike.
 use Rattle.std.proofs.Common.{◌≡◌, ◌==◌, ℕ, zero, suc, ◌<◌, ◌≤◌, Bool, true, false, cond, List, [], ◌∷◌, length, take, Option, Some, None, option_map, refl, sym, ap, ◌∙◌, subst, inl, inr, arith}
 use Rattle.std.proofs.lemmas.Bool.{and_parts, and_from, eqb-true, eq-eqb}
 use Rattle.variant_list.specs.Labels.{IsBelow}

@@ -1,4 +1,4 @@
--- The dead_ends of lists of labels: one for all that share a hopeless beginning.
+-- The dead ends of lists of labels: one for all that share a hopeless beginning.
 use Rattle.std.proofs.Common.{◌≡◌, ◌≤◌, ℕ, zero, suc, length, arith, Bool, true, false, not, cond, List, [], ◌∷◌, ◌++◌, Option, Some, None, refl, sym, ap, ◌∙◌, subst}
 use Rattle.std.specs.List.{AllByRecursion}
 use Rattle.std.proofs.lemmas.Bool.{false_from_ne_true, and_from, eq-eqb}

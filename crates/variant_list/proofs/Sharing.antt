@@ -1,4 +1,4 @@
--- Rising labels behind a label: first those that share its first code points, then the others.
+-- Rising labels after a label: first those that share its first code points, then the others.
 use Rattle.std.proofs.Common.{◌≡◌, ℕ, ◌<◌, Bool, true, false, not, cond, List, [], ◌∷◌, ◌++◌, length, refl, sym, ap, ◌∙◌, arith}
 use Rattle.std.specs.List.{AllByRecursion, filter}
 use Rattle.std.proofs.lemmas.Bool.{false_from_ne_true}

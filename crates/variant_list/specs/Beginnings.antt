@@ -1,4 +1,4 @@
--- Beginnings of labels: the shortest hopeless one, and the labels by which a listing learns of a new one.
+-- Beginnings of labels: the shortest hopeless one, and the labels at which a listing meets a new one.
 use Rattle.std.specs.Prelude.{◌≡◌, ◌==◌, ◌<◌, ◌≤◌, ◌&&◌, ℕ, zero, suc, Bool, true, false, not, List, [], ◌∷◌, length, take, Option, Some, None, if◌then◌else◌}
 use Rattle.std.specs.Option.{option_map, is_none}
 
@@ -7,7 +7,7 @@ abbrev pub shortest_hopeless : (List ℕ → Bool) → List ℕ → Option ℕ
 shortest_hopeless hopeless [] = None
 shortest_hopeless hopeless (c ∷ v) = if hopeless (c ∷ []) then Some 1 else option_map suc (shortest_hopeless (λ w. hopeless (c ∷ w)) v)
 
--- no beginning of the label is hopeless, nor the whole, as it computes
+-- neither a beginning of the label nor the whole is hopeless, as it computes
 abbrev pub has_hope : (List ℕ → Bool) → List ℕ → Bool
 has_hope hopeless v = is_none (shortest_hopeless hopeless v)
 
@@ -18,7 +18,7 @@ pub record IsShortest (hopeless : List ℕ → Bool) (v : List ℕ) (n : ℕ) : 
   pub holds : hopeless (take n v) ≡ true
   pub first : (k : ℕ) → 1 ≤ k → k < n → hopeless (take k v) ≡ false
 
--- no beginning of one code point or more is hopeless, nor is the whole
+-- neither a beginning of one code point or more nor the whole is hopeless
 abbrev pub HasHope : (List ℕ → Bool) → List ℕ → Type 0
 HasHope hopeless v = (k : ℕ) → 1 ≤ k → k ≤ length v → hopeless (take k v) ≡ false
 

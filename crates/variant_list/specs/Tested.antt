@@ -6,7 +6,8 @@ use Rattle.variant_list.specs.Beginnings.{has_hope, dead_ends}
 use Rattle.variant_list.specs.Labels.{label_cmp}
 use Rattle.variant_list.specs.Variants.{fits_label, variants, candidates}
 
--- the tested labels after the given text: the candidates of which no beginning is hopeless, nor the whole
+-- the tested labels after the given text: the candidates of which neither a beginning nor the whole is
+-- hopeless
 abbrev pub tested : (List ℕ → Bool) → List Entry → List ℕ → List ℕ → List (List ℕ)
 tested hopeless = variants (λ v. fits_label v && has_hope hopeless v)
 

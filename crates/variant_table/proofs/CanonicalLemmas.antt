@@ -1,18 +1,23 @@
 -- The canonical text of a well-formed table spells that table.
-use Rattle.std.proofs.Common.{◌≡◌, ℕ, zero, suc, ◌+◌, ◌*◌, ◌-◌, ◌<◌, ◌≤◌, true, false, cond, eqb, List, [], ◌∷◌, ◌++◌, length, map, get_or, take, inl, inr, refl, sym, ap, subst, ◌∙◌, append_assoc, arith, length-append}
+use Rattle.std.proofs.Common.{◌≡◌, ℕ, zero, suc, ◌+◌, ◌*◌, ◌-◌, ◌<◌, ◌≤◌, Bool, true, false, cond, eqb, List, [], ◌∷◌, ◌++◌, length, map, get_or, take, inl, inr, refl, sym, ap, subst, ◌∙◌, append_assoc, arith, length-append}
 use Rattle.std.specs.List.{AllByRecursion, onto_first, list_all, flat_map}
 use Rattle.std.specs.Str.Lines.{strip_carriage_return}
-use Rattle.std.proofs.lemmas.Bool.{and_parts}
+use Rattle.std.specs.Prelude.{bytes_eq}
+use Rattle.std.proofs.lemmas.Bool.{leb-true, and_parts, false_from_ne_true}
+use Rattle.std.proofs.lemmas.Slice.Eq.{bytes_eq-Decides}
 use Rattle.std.proofs.lemmas.List.Elements.{All-from_recursion, recursion_from_All}
 use Rattle.idn_text.specs.Lines.{raw_lines}
 use Rattle.idn_text.specs.Points.{is_hex_digit}
 use Rattle.variant_table.specs.declared.token.Token.{Token}
-use Rattle.variant_table.specs.declared.token.Token.TheVariants.{Point, Hyphen, Bar, Colon, Unknown}
-use Rattle.variant_table.specs.Entries.{Entry, replacements}
-use Rattle.variant_table.specs.Notation.{further_points, sequence_tokens, further_variants, variants_tokens, entry_tokens, IsTokenText, SpellsTokens, IsEntryLine}
-use Rattle.variant_table.specs.Canonical.{point_text, token_text, canonical_line, canonical_text}
-use Rattle.variant_table.specs.WellFormed.{IsSequence, IsEntry, IsWellFormed}
-use Rattle.variant_table.specs.Texts.{LinesSpell, size_of, AreLinesOf, IsTextOf}
+use Rattle.variant_table.specs.declared.token.Token.TheVariants.{Point, Hyphen, Bar, Colon, Mark, Range, Unknown}
+use Rattle.variant_table.specs.declared.version.Version.{Version}
+use Rattle.variant_table.specs.declared.version.Version.TheVariants.{One, Two}
+use Rattle.variant_table.specs.Entries.{Variant, Entry, IsOfVersion, TableValue, sequences_in, replacements}
+use Rattle.variant_table.specs.Notation.{mark_tokens, further_points, sequence_tokens, variant_tokens, further_variants, variants_tokens, entry_tokens, IsTokenText, SpellsTokens, IsEntryLine}
+use Rattle.variant_table.specs.Canonical.{point_text, token_text, canonical_line, canonical_text, version_line, head_text, table_text}
+use Rattle.variant_table.specs.WellFormed.{IsSequence, IsEntry, IsWellFormed, IsTable}
+use Rattle.variant_table.specs.Versions.{version_of, head_of, body_of, size_of, is_version_line}
+use Rattle.variant_table.specs.Texts.{LinesSpell, AreLinesOf, IsTextOf}
 use Rattle.variant_table.proofs.HexLemmas.{hex_facts, other_than, point_of_hex-text, length-point_text}
 use Rattle.variant_table.proofs.ConditionLemmas.{AreScalars, IsScalarToken, sequences_scalar, sequences_filled}
 use Rattle.variant_table.proofs.SizeLemmas.{size_of-cons}
@@ -25,6 +30,8 @@ token_text-is (Point c) h = inl (point_of_hex-text c h)
 token_text-is Hyphen h = refl
 token_text-is Bar h = refl
 token_text-is Colon h = refl
+token_text-is Mark h = refl
+token_text-is Range h = refl
 token_text-is Unknown h = absurd h
 
 texts_spell : (tokens : List Token) → AllByRecursion IsScalarToken tokens → SpellsTokens tokens (texts tokens)
@@ -41,13 +48,17 @@ scalar_sequence : (s : List ℕ) (tokens : List Token) → AreScalars s → AllB
 scalar_sequence [] tokens h g = g
 scalar_sequence (c ∷ points) tokens h g = (h.0, scalar_points points tokens h.1 g)
 
-scalar_further : (variants : List (List ℕ)) → AllByRecursion AreScalars variants → AllByRecursion IsScalarToken (further_variants variants)
-scalar_further [] h = tt
-scalar_further (v ∷ variants) h = (tt, scalar_sequence v (further_variants variants) h.0 (scalar_further variants h.1))
+scalar_marked : (blocked : Bool) (s : List ℕ) (tokens : List Token) → AreScalars s → AllByRecursion IsScalarToken tokens → AllByRecursion IsScalarToken ((mark_tokens blocked ++ sequence_tokens s) ++ tokens)
+scalar_marked true s tokens h g = (tt, scalar_sequence s tokens h g)
+scalar_marked false s tokens h g = scalar_sequence s tokens h g
 
-scalar_variants : (variants : List (List ℕ)) → AllByRecursion AreScalars variants → AllByRecursion IsScalarToken (variants_tokens variants)
+scalar_further : (variants : List Variant) → AllByRecursion AreScalars (sequences_in variants) → AllByRecursion IsScalarToken (further_variants variants)
+scalar_further [] h = tt
+scalar_further (v ∷ variants) h = (tt, scalar_marked v.blocked v.sequence (further_variants variants) h.0 (scalar_further variants h.1))
+
+scalar_variants : (variants : List Variant) → AllByRecursion AreScalars (sequences_in variants) → AllByRecursion IsScalarToken (variants_tokens variants)
 scalar_variants [] h = tt
-scalar_variants (v ∷ variants) h = (tt, scalar_sequence v (further_variants variants) h.0 (scalar_further variants h.1))
+scalar_variants (v ∷ variants) h = (tt, scalar_marked v.blocked v.sequence (further_variants variants) h.0 (scalar_further variants h.1))
 
 entry_scalar_tokens : (e : Entry) → IsEntry e → AllByRecursion IsScalarToken (entry_tokens e)
 entry_scalar_tokens e h =
@@ -76,6 +87,8 @@ texts_in_line (Point c ∷ tokens) h = digits_in_line (point_text c) (texts toke
 texts_in_line (Hyphen ∷ tokens) h = ((refl, refl), texts_in_line tokens h.1)
 texts_in_line (Bar ∷ tokens) h = ((refl, refl), texts_in_line tokens h.1)
 texts_in_line (Colon ∷ tokens) h = ((refl, refl), texts_in_line tokens h.1)
+texts_in_line (Mark ∷ tokens) h = ((refl, refl), texts_in_line tokens h.1)
+texts_in_line (Range ∷ tokens) h = ((refl, refl), ((refl, refl), texts_in_line tokens h.1))
 texts_in_line (Unknown ∷ tokens) h = absurd h.0
 
 raw_lines-line : (line rest : List ℕ) → AllByRecursion IsInLine line → raw_lines (line ++ 10 ∷ rest) ≡ line ∷ raw_lines rest
@@ -104,25 +117,58 @@ length-sequence (c ∷ points) tokens l k = omega (arith, length-append (point_t
 abbrev AreShort : List (List ℕ) → Type 0
 AreShort ss = AllByRecursion (λ s. length s ≤ 8) ss
 
-length-further : (variants : List (List ℕ)) → AllByRecursion (λ s. 0 < length s) variants → AreShort variants → length (texts (further_variants variants)) ≤ 56 * length variants
-length-further [] h g = omega arith
-length-further (v ∷ variants) h g = omega (arith, length-sequence v (further_variants variants) h.0 g.0, length-further variants h.1 g.1)
+-- how many variants are blocked
+marked : List Variant → ℕ
+marked [] = 0
+marked (v ∷ variants) = length (mark_tokens v.blocked) + marked variants
 
-length-variants : (variants : List (List ℕ)) → AllByRecursion (λ s. 0 < length s) variants → AreShort variants → length (texts (variants_tokens variants)) ≤ 56 * length variants
+length-marked : (blocked : Bool) (s : List ℕ) (tokens : List Token) → 0 < length s → length s ≤ 8 → length (texts ((mark_tokens blocked ++ sequence_tokens s) ++ tokens)) ≤ 55 + length (mark_tokens blocked) + length (texts tokens)
+length-marked true s tokens l k = omega (arith, length-sequence s tokens l k)
+length-marked false s tokens l k = omega (arith, length-sequence s tokens l k)
+
+length-further : (variants : List Variant) → AllByRecursion (λ s. 0 < length s) (sequences_in variants) → AreShort (sequences_in variants) → length (texts (further_variants variants)) ≤ 56 * length variants + marked variants
+unfolding marked
+length-further [] h g = omega arith
+length-further (v ∷ variants) h g = omega (arith, length-marked v.blocked v.sequence (further_variants variants) h.0 g.0, length-further variants h.1 g.1)
+
+length-variants : (variants : List Variant) → AllByRecursion (λ s. 0 < length s) (sequences_in variants) → AreShort (sequences_in variants) → length (texts (variants_tokens variants)) ≤ 56 * length variants + marked variants
+unfolding marked
 length-variants [] h g = omega arith
-length-variants (v ∷ variants) h g = omega (arith, length-sequence v (further_variants variants) h.0 g.0, length-further variants h.1 g.1)
+length-variants (v ∷ variants) h g = omega (arith, length-marked v.blocked v.sequence (further_variants variants) h.0 g.0, length-further variants h.1 g.1)
+
+marked-few : (variants : List Variant) → marked variants ≤ length variants
+unfolding marked
+marked-few [] = omega arith
+marked-few (v ∷ variants) = omega (arith, one_mark v.blocked, marked-few variants)
+  where
+    one_mark : (blocked : Bool) → length (mark_tokens blocked) ≤ 1
+    one_mark true = omega arith
+    one_mark false = omega arith
+
+marked-none : (variants : List Variant) → AllByRecursion (λ v. v.blocked ≡ false) variants → marked variants ≡ 0
+unfolding marked
+marked-none [] h = refl
+marked-none (v ∷ variants) h = omega (arith, ap (λ b. length (mark_tokens b)) h.0, marked-none variants h.1)
 
 short_sequences : (ss : List (List ℕ)) → AllByRecursion IsSequence ss → AreShort ss
 short_sequences [] h = tt
 short_sequences (s ∷ ss) h = (h.0.short, short_sequences ss h.1)
 
--- a canonical line has at most 951 bytes
-pub length-canonical_line : (e : Entry) → IsEntry e → length (canonical_line e) ≤ 951
-length-canonical_line e h =
+-- a canonical line has at most 951 bytes and one more for each mark
+length-by_marks : (e : Entry) → IsEntry e → length (canonical_line e) ≤ 951 + marked e.variants
+length-by_marks e h =
     let all = recursion_from_All IsSequence (replacements e) h.sequences in
     let filled = sequences_filled (replacements e) all in
     let short = short_sequences (replacements e) all in
     omega (arith, h.few, length-sequence e.source (variants_tokens e.variants) filled.0 short.0, length-variants e.variants filled.1 short.1)
+
+-- in version 2 it has at most 967 bytes
+pub length-marked_line : (e : Entry) → IsEntry e → length (canonical_line e) ≤ 967
+length-marked_line e h = omega (arith, h.few, length-by_marks e h, marked-few e.variants)
+
+-- in version 1 it has at most 951
+pub length-canonical_line : (e : Entry) → IsEntry e → IsOfVersion One e → length (canonical_line e) ≤ 951
+length-canonical_line e h of = omega (arith, length-by_marks e h, marked-none e.variants (recursion_from_All (λ v. v.blocked ≡ false) e.variants of))
 
 -- ---- the text
 
@@ -133,26 +179,109 @@ raw_lines-canonical : (table : List Entry) → AllByRecursion IsEntry table → 
 raw_lines-canonical [] h = refl
 raw_lines-canonical (e ∷ table) h = cut_entry e (canonical_text table) h.0 ∙ ap (λ ls. canonical_line e ∷ ls) (raw_lines-canonical table h.1)
 
-canonical_spells : (table : List Entry) → AllByRecursion IsEntry table → LinesSpell (map canonical_line table) table
-canonical_spells [] h = refl
-canonical_spells (e ∷ table) h =
-    (e ∷ [], table, inr (inr (e, subst (IsEntryLine e) (sym (strip_nothing (canonical_line e) (texts_in_line (entry_tokens e) (entry_scalar_tokens e h.0)))) (canonical_line_spells e h.0), refl)), canonical_spells table h.1, refl)
+canonical_spells : (v : Version) (table : List Entry) → AllByRecursion IsEntry table → AllByRecursion (IsOfVersion v) table → LinesSpell v (map canonical_line table) table
+canonical_spells v [] h of = refl
+canonical_spells v (e ∷ table) h of = (
+  e ∷ [],
+  table,
+  inr (inr (inl (e, subst (IsEntryLine e) (sym (strip_nothing (canonical_line e) (texts_in_line (entry_tokens e) (entry_scalar_tokens e h.0)))) (canonical_line_spells e h.0), of.0, refl))),
+  canonical_spells v table h.1 of.1,
+  refl,
+)
 
 canonical_short : (table : List Entry) → AllByRecursion IsEntry table → AllByRecursion (λ line. length line ≤ 1024) (map canonical_line table)
 canonical_short [] h = tt
-canonical_short (e ∷ table) h = (omega (arith, length-canonical_line e h.0), canonical_short table h.1)
+canonical_short (e ∷ table) h = (omega (arith, length-marked_line e h.0), canonical_short table h.1)
 
 size_of-canonical : (table : List Entry) → size_of (map canonical_line table) ≡ length (canonical_text table)
 size_of-canonical [] = refl
 size_of-canonical (e ∷ table) =
     omega (arith, size_of-cons (canonical_line e) (map canonical_line table), size_of-canonical table, length-append (canonical_line e ++ 10 ∷ []) (canonical_text table), length-append (canonical_line e) (10 ∷ []))
 
-pub canonical_spelled : (table : List Entry) → IsWellFormed table → IsTextOf (canonical_text table) table
-canonical_spelled table h =
-    let all = recursion_from_All IsEntry table h.entries in
-    subst (λ ls. AreLinesOf ls table) (sym (raw_lines-canonical table all)) (record {
-      spelled = canonical_spells table all;
-      short = All-from_recursion (λ line. length line ≤ 1024) (map canonical_line table) (canonical_short table all);
-      size = omega (arith, size_of-canonical table, h.short);
+-- the lines of the entries
+lines_of_entries : (head : List (List ℕ)) (table : TableValue) → IsTable table → size_of head + length (canonical_text table.entries) ≤ 1048576 → AreLinesOf head (map canonical_line table.entries) table
+lines_of_entries head table h size =
+    let all = recursion_from_All IsEntry table.entries h.well_formed.entries in
+    record {
+      spelled = canonical_spells table.version table.entries all (recursion_from_All (IsOfVersion table.version) table.entries h.of_version);
+      short = All-from_recursion (λ line. length line ≤ 1024) (map canonical_line table.entries) (canonical_short table.entries all);
+      size = omega (arith, size_of-canonical table.entries, size);
       well_formed = h;
-    })
+    }
+
+-- in version 1 no line of an entry is a version line: it begins with a digit
+
+no_percent : (digits rest : List ℕ) → list_all is_hex_digit digits ≡ true → 1 ≤ length digits → bytes_eq (digits ++ rest) version_line ≡ true → ⊥
+no_percent [] rest h l e = omega (arith, l)
+no_percent (c ∷ cs) rest h l e =
+    let same : c ∷ (cs ++ rest) ≡ version_line = (bytes_eq-Decides (c ∷ (cs ++ rest)) version_line).0 e in
+    let first : c ≡ 37 = ap (λ s. get_or s 0 0) same in
+    let digit : is_hex_digit 37 ≡ true = ap is_hex_digit (sym first) ∙ (and_parts (is_hex_digit c) (list_all is_hex_digit cs) h).0 in
+    let none : is_hex_digit 37 ≡ false = refl in
+    let x : true ≡ false = sym digit ∙ none in cc
+
+begins_by_digit : (source : List ℕ) (tokens : List Token) → 0 < length source → AreScalars source → bytes_eq (texts (sequence_tokens source ++ tokens)) version_line ≡ true → ⊥
+begins_by_digit [] tokens l h e = omega (arith, l)
+begins_by_digit (c ∷ points) tokens l h e =
+    let hex = hex_facts (point_text c) c (point_of_hex-text c h.0) in
+    let long : 4 ≤ length (point_text c) = leb-true 4 (length (point_text c)) hex.long in
+    no_percent (point_text c) (texts (further_points points ++ tokens)) hex.digit (omega (arith, long)) e
+
+no_version_line : (e : Entry) → IsEntry e → is_version_line (canonical_line e) ≡ false
+no_version_line e h =
+    let all = recursion_from_All IsSequence (replacements e) h.sequences in
+    ap (λ l. bytes_eq l version_line) (strip_nothing (canonical_line e) (texts_in_line (entry_tokens e) (entry_scalar_tokens e h)))
+    ∙ false_from_ne_true (bytes_eq (canonical_line e) version_line) (begins_by_digit e.source (variants_tokens e.variants) (sequences_filled (replacements e) all).0 (sequences_scalar (replacements e) all).0)
+
+-- lines that begin with no version line
+record AreBody (lines : List (List ℕ)) : Type 0 where
+  version : version_of lines ≡ One
+  head : head_of lines ≡ []
+  body : body_of lines ≡ lines
+
+body_alone : (table : List Entry) → AllByRecursion IsEntry table → AreBody (map canonical_line table)
+body_alone [] h = record { version = refl; head = refl; body = refl }
+body_alone (e ∷ table) h =
+    let none : is_version_line (canonical_line e) ≡ false = no_version_line e h.0 in
+    let line : List ℕ = canonical_line e in
+    let lines : List (List ℕ) = map canonical_line table in
+    record {
+      version = ap (λ b. cond b Two One) none;
+      head = ap (λ b. cond b (line ∷ []) []) none;
+      body = ap (λ b. cond b lines (line ∷ lines)) none;
+    }
+
+spelled_one : (entries : List Entry) → IsTable (record { version = One; entries = entries }) → IsTextOf (table_text One entries) (record { version = One; entries = entries })
+spelled_one entries h =
+    let table : TableValue = record { version = One; entries = entries } in
+    let all = recursion_from_All IsEntry entries h.well_formed.entries in
+    let cut : raw_lines (canonical_text entries) ≡ map canonical_line entries = raw_lines-canonical entries all in
+    let alone = body_alone entries all in
+    let lines = lines_of_entries [] table h (omega (arith, h.well_formed.short)) in
+    record {
+      version = ap version_of cut ∙ alone.version;
+      lines = subst (λ ls. AreLinesOf (head_of ls) (body_of ls) table) (sym cut)
+          (subst (λ b. AreLinesOf (head_of (map canonical_line entries)) b table) (sym alone.body) (subst (λ d. AreLinesOf d (map canonical_line entries) table) (sym alone.head) lines));
+    }
+
+-- in version 2 the first line is the version line
+cut_head : (rest : List ℕ) → raw_lines ((version_line ++ 10 ∷ []) ++ rest) ≡ version_line ∷ raw_lines rest
+cut_head rest = refl
+
+spelled_two : (entries : List Entry) → IsTable (record { version = Two; entries = entries }) → IsTextOf (table_text Two entries) (record { version = Two; entries = entries })
+spelled_two entries h =
+    let table : TableValue = record { version = Two; entries = entries } in
+    let all = recursion_from_All IsEntry entries h.well_formed.entries in
+    let cut : raw_lines (table_text Two entries) ≡ version_line ∷ map canonical_line entries = cut_head (canonical_text entries) ∙ ap (λ ls. version_line ∷ ls) (raw_lines-canonical entries all) in
+    record {
+      version = ap version_of cut;
+      lines = subst (λ ls. AreLinesOf (head_of ls) (body_of ls) table) (sym cut)
+          (lines_of_entries (version_line ∷ []) table h (omega (arith, h.short, length-append (head_text Two) (canonical_text entries), size_of-cons version_line [])));
+    }
+
+spelled_by : (version : Version) (entries : List Entry) → IsTable (record { version = version; entries = entries }) → IsTextOf (table_text version entries) (record { version = version; entries = entries })
+spelled_by One entries h = spelled_one entries h
+spelled_by Two entries h = spelled_two entries h
+
+pub canonical_spelled : (table : TableValue) → IsTable table → IsTextOf (table_text table.version table.entries) table
+canonical_spelled table h = spelled_by table.version table.entries h

@@ -1,7 +1,8 @@
 -- Entries without a fault are those of a well-formed table.
-use Rattle.std.proofs.Common.{◌≡◌, inl, inr, ℕ, suc, ◌+◌, ◌<◌, Bool, true, false, not, ◌||◌, List, [], ◌∷◌, ◌++◌, length, get_or, refl, sym, ap, subst, ◌∙◌, arith, append_assoc, length-append}
-use Rattle.std.specs.Prelude.{nat_lt, nat_le, bytes_eq, ◌≢◌}
-use Rattle.std.specs.List.{AllByRecursion, All, AllPairs, list_any}
+use Rattle.std.proofs.Common.{◌≡◌, inl, inr, ℕ, zero, suc, ◌+◌, ◌<◌, Bool, true, false, not, ◌||◌, ◌&&◌, cond, List, [], ◌∷◌, ◌++◌, length, map, get_or, Ok, Err, refl, sym, ap, subst, ◌∙◌, arith, append_assoc, length-append}
+use Rattle.std.specs.Prelude.{nat_lt, nat_le, bytes_eq, ◌≢◌, ◌≤◌}
+use Rattle.std.specs.List.{AllByRecursion, All, AllPairs, list_any, range_with_len}
+use Rattle.std.proofs.lemmas.Bool.Decides.{nat_tests}
 use Rattle.std.proofs.lemmas.Bool.{ltb-false, le-ltb, lt-ltb, leb-true, leb-false, or_parts, or_from, not-false, not_from_true, false_from_ne_true}
 use Rattle.std.proofs.lemmas.List.{append-nil}
 use Rattle.std.proofs.Math.ListN.{get_or-append}
@@ -11,17 +12,24 @@ use Rattle.std.proofs.lemmas.List.Folds.{list_any_none}
 use Rattle.std.proofs.lemmas.List.Kept.{AllPairs-cons}
 use Rattle.std.proofs.lemmas.List.Quantifiers.{all_pairs_push}
 use Rattle.std.proofs.lemmas.Slice.Eq.{bytes_eq-Decides}
-use Rattle.idn_class.specs.Class.{class_of}
 use Rattle.idn_text.specs.Points.{is_scalar_value}
 use Rattle.variant_table.specs.declared.token.Token.{Token}
-use Rattle.variant_table.specs.declared.token.Token.TheVariants.{Point, Hyphen, Bar, Colon, Unknown}
-use Rattle.variant_table.specs.Entries.{Entry, replacements}
-use Rattle.variant_table.specs.Notation.{further_points, sequence_tokens, further_variants, variants_tokens, entry_tokens, SpellsTokens, IsEntryLine, IsPointText}
 use Rattle.variant_table.specs.WellFormed.{is_table_class, IsTablePoint, IsSequence, IsEntry}
-use Rattle.variant_table.specs.Conditions.{is_too_large, is_over_limit, has_bad_point, has_bad_class, repeats, has_repeat, has_source_in}
-use Rattle.variant_table.proofs.HexLemmas.{hex_facts}
+use Rattle.idn_class.specs.Class.{class_of, is_scalar}
+use Rattle.idn_class.proofs.ClassNumbers.{class_of-no_scalar, is_scalar-out}
+use Rattle.variant_table.specs.declared.token.Token.TheVariants.{Point, Unknown}
+use Rattle.variant_table.specs.Faults.{Limit, BadClass, SameVariant, SameSource}
+use Rattle.variant_table.specs.declared.version.Version.{Version}
+use Rattle.variant_table.specs.declared.version.Version.TheVariants.{Two}
+use Rattle.variant_table.specs.Entries.{Entry, replacements, IsOfVersion}
+use Rattle.variant_table.specs.Notation.{HasNoEmptySequence}
+use Rattle.variant_table.specs.Ranges.{point_entry, range_size}
+use Rattle.variant_table.specs.Conditions.{is_too_large, is_text_too_long, is_over_limit, has_bad_point, has_bad_class, repeats, has_repeat, has_source_in}
+use Rattle.variant_table.specs.Reading.{with_entries}
+use Rattle.variant_table.proofs.ExampleLemmas.{with_entries-by}
+use Rattle.variant_table.proofs.FormLemmas.{Spells}
 
--- ---- the points of a line are scalar values
+-- ---- tokens of scalar values
 
 abbrev pub IsScalarToken : Token → Type 0
 IsScalarToken (Point c) = is_scalar_value c ≡ true
@@ -31,44 +39,25 @@ IsScalarToken token = Unit {0}
 abbrev pub AreScalars : List ℕ → Type 0
 AreScalars s = AllByRecursion (λ c. is_scalar_value c ≡ true) s
 
-point_scalar : (c : ℕ) (text : List ℕ) → IsPointText c text → is_scalar_value c ≡ true
-point_scalar c text (inl e) = (hex_facts text c e).scalar
-point_scalar c text (inr p) = (hex_facts p.0 c p.2).scalar
-
-tokens_scalar : (tokens : List Token) (line : List ℕ) → SpellsTokens tokens line → AllByRecursion IsScalarToken tokens
-tokens_scalar [] line s = tt
-tokens_scalar (Point c ∷ tokens) line s = (point_scalar c s.1 s.4, tokens_scalar tokens s.2 s.5)
-tokens_scalar (Hyphen ∷ tokens) line s = (tt, tokens_scalar tokens s.2 s.5)
-tokens_scalar (Bar ∷ tokens) line s = (tt, tokens_scalar tokens s.2 s.5)
-tokens_scalar (Colon ∷ tokens) line s = (tt, tokens_scalar tokens s.2 s.5)
-tokens_scalar (Unknown ∷ tokens) line s = absurd s.4
-
-points_scalar : (points : List ℕ) (tokens : List Token) → AllByRecursion IsScalarToken (further_points points ++ tokens) → AreScalars points × AllByRecursion IsScalarToken tokens
-points_scalar [] tokens h = (tt, h)
-points_scalar (c ∷ points) tokens h = let r = points_scalar points tokens h.1.1 in ((h.1.0, r.0), r.1)
-
-sequence_scalar : (s : List ℕ) (tokens : List Token) → AllByRecursion IsScalarToken (sequence_tokens s ++ tokens) → AreScalars s × AllByRecursion IsScalarToken tokens
-sequence_scalar [] tokens h = (tt, h)
-sequence_scalar (c ∷ points) tokens h = let r = points_scalar points tokens h.1 in ((h.0, r.0), r.1)
-
-further_scalar : (variants : List (List ℕ)) → AllByRecursion IsScalarToken (further_variants variants) → AllByRecursion AreScalars variants
-further_scalar [] h = tt
-further_scalar (v ∷ variants) h = let r = sequence_scalar v (further_variants variants) h.1 in (r.0, further_scalar variants r.1)
-
-variants_scalar : (variants : List (List ℕ)) → AllByRecursion IsScalarToken (variants_tokens variants) → AllByRecursion AreScalars variants
-variants_scalar [] h = tt
-variants_scalar (v ∷ variants) h = let r = sequence_scalar v (further_variants variants) h.1 in (r.0, further_scalar variants r.1)
-
-pub entry_scalar : (e : Entry) (line : List ℕ) → IsEntryLine e line → AllByRecursion AreScalars (replacements e)
-entry_scalar e line h = let r = sequence_scalar e.source (variants_tokens e.variants) (tokens_scalar (entry_tokens e) line h.1) in (r.0, variants_scalar e.variants r.1)
-
 -- ---- the classes
 
-points_table : (s : List ℕ) → AreScalars s → has_bad_point s ≡ false → AllByRecursion IsTablePoint s
-points_table [] h k = tt
-points_table (c ∷ s) h k =
+-- a code point of a class that a table holds is a scalar value
+no_scalar : (c : ℕ) → is_scalar_value c ≡ false → is_scalar c ≡ false
+no_scalar c h = is_scalar-out c (grind (arith, nat_tests))
+
+scalar_of_class : (c : ℕ) → is_table_class (class_of c) ≡ true → is_scalar_value c ≡ true
+scalar_of_class c h = by_cases (is_scalar_value c) refl
+  where
+    by_cases : (b : Bool) → is_scalar_value c ≡ b → is_scalar_value c ≡ true
+    by_cases true e = e
+    by_cases false e = (let f : true ≡ false = sym h ∙ ap is_table_class (class_of-no_scalar c (no_scalar c e)) in absurd cc)
+
+points_table : (s : List ℕ) → has_bad_point s ≡ false → AllByRecursion IsTablePoint s
+points_table [] k = tt
+points_table (c ∷ s) k =
     let p = or_parts (not (is_table_class (class_of c))) (has_bad_point s) k in
-    (record { scalar_value = h.0; class = not-false (is_table_class (class_of c)) p.0 }, points_table s h.1 p.1)
+    let class : is_table_class (class_of c) ≡ true = not-false (is_table_class (class_of c)) p.0 in
+    (record { scalar_value = scalar_of_class c class; class = class }, points_table s p.1)
 
 points_good : (s : List ℕ) → AllByRecursion IsTablePoint s → has_bad_point s ≡ false
 points_good [] h = refl
@@ -76,12 +65,12 @@ points_good (c ∷ s) h = or_from (not (is_table_class (class_of c))) (has_bad_p
 
 -- ---- one entry
 
-sequences_table : (ss : List (List ℕ)) → AllByRecursion (λ s. 0 < length s) ss → AllByRecursion AreScalars ss → list_any (λ s. nat_lt 8 (length s)) ss ≡ false → list_any has_bad_point ss ≡ false → AllByRecursion IsSequence ss
-sequences_table [] f h l k = tt
-sequences_table (s ∷ ss) f h l k =
+sequences_table : (ss : List (List ℕ)) → AllByRecursion (λ s. 0 < length s) ss → list_any (λ s. nat_lt 8 (length s)) ss ≡ false → list_any has_bad_point ss ≡ false → AllByRecursion IsSequence ss
+sequences_table [] f l k = tt
+sequences_table (s ∷ ss) f l k =
     let p = or_parts (nat_lt 8 (length s)) (list_any (λ s. nat_lt 8 (length s)) ss) l in
     let q = or_parts (has_bad_point s) (list_any has_bad_point ss) k in
-    (record { filled = omega (arith, f.0); short = ltb-false 8 (length s) p.0; points = All-from_recursion IsTablePoint s (points_table s h.0 q.0) }, sequences_table ss f.1 h.1 p.1 q.1)
+    (record { filled = omega (arith, f.0); short = ltb-false 8 (length s) p.0; points = All-from_recursion IsTablePoint s (points_table s q.0) }, sequences_table ss f.1 p.1 q.1)
 
 sequences_short : (ss : List (List ℕ)) → AllByRecursion IsSequence ss → list_any (λ s. nat_lt 8 (length s)) ss ≡ false
 sequences_short [] h = refl
@@ -113,7 +102,7 @@ none_equal : (s : List ℕ) (ss : List (List ℕ)) → AllByRecursion (λ r. s �
 none_equal s [] h = refl
 none_equal s (r ∷ ss) h = or_from (bytes_eq s r) (list_any (bytes_eq s) ss) (false_from_ne_true (bytes_eq s r) (λ t. h.0 ((bytes_eq-Decides s r).0 t))) (none_equal s ss h.1)
 
-distinct_from : (ss : List (List ℕ)) → repeats ss ≡ false → AllPairs (λ r s. r ≢ s) ss
+pub distinct_from : (ss : List (List ℕ)) → repeats ss ≡ false → AllPairs (λ r s. r ≢ s) ss
 distinct_from [] h = λ i j d l k. absurd (omega (arith, k))
 distinct_from (s ∷ ss) h =
     let p = or_parts (list_any (bytes_eq s) ss) (repeats ss) h in
@@ -125,17 +114,17 @@ pairs_head R x xs h = λ k d l. h 0 (suc k) d (omega arith) (omega (arith, l))
 pairs_tail : {X : Type 0} (R : X → X → Type 0) (x : X) (xs : List X) → AllPairs R (x ∷ xs) → AllPairs R xs
 pairs_tail R x xs h = λ i j d l k. h (suc i) (suc j) d (omega (arith, l)) (omega (arith, k))
 
-no_repeats : (ss : List (List ℕ)) → AllPairs (λ r s. r ≢ s) ss → repeats ss ≡ false
+pub no_repeats : (ss : List (List ℕ)) → AllPairs (λ r s. r ≢ s) ss → repeats ss ≡ false
 no_repeats [] h = refl
 no_repeats (s ∷ ss) h =
     or_from (list_any (bytes_eq s) ss) (repeats ss) (none_equal s ss (recursion_from_All (λ r. s ≢ r) ss (pairs_head (λ r s. r ≢ s) s ss h))) (no_repeats ss (pairs_tail (λ r s. r ≢ s) s ss h))
 
--- an entry line without a fault of its own
-pub entry_from_tests : (e : Entry) (line : List ℕ) → IsEntryLine e line → is_too_large e ≡ false → has_bad_class e ≡ false → has_repeat e ≡ false → IsEntry e
-entry_from_tests e line h a b d =
+-- an entry without a fault of its own
+pub entry_from_tests : (e : Entry) → HasNoEmptySequence e → is_too_large e ≡ false → has_bad_class e ≡ false → has_repeat e ≡ false → IsEntry e
+entry_from_tests e h a b d =
     let p = or_parts (nat_lt 16 (length e.variants)) (list_any (λ s. nat_lt 8 (length s)) (replacements e)) a in
     record {
-      sequences = All-from_recursion IsSequence (replacements e) (sequences_table (replacements e) h.0 (entry_scalar e line h) p.1 b);
+      sequences = All-from_recursion IsSequence (replacements e) (sequences_table (replacements e) h p.1 b);
       few = ltb-false 16 (length e.variants) p.0;
       distinct = distinct_from (replacements e) d;
     }
@@ -191,21 +180,96 @@ new_sources before (e ∷ table) h = (
   new_sources (before ++ e ∷ []) table (subst (AllPairs Apart) (sym (append_assoc before (e ∷ []) table)) h),
 )
 
--- ---- limits
+-- ---- the entries of a line
 
-or_false : (b : Bool) → (b || false) ≡ b
-or_false true = refl
-or_false false = refl
+filled_points : (cs : List ℕ) → AllByRecursion HasNoEmptySequence (map point_entry cs)
+filled_points [] = tt
+filled_points (c ∷ cs) = ((omega arith, tt), filled_points cs)
 
-pub any_one : (p : Entry → Bool) (e : Entry) → list_any p (e ∷ []) ≡ p e
-any_one p e = or_false (p e)
+pub filled_spelled : (v : Version) (line : List ℕ) (es : List Entry) → Spells v line es → AllByRecursion HasNoEmptySequence es
+filled_spelled v line es (inl h) = subst (AllByRecursion HasNoEmptySequence) (sym h.3) (h.1.0, tt)
+filled_spelled v line es (inr h) = subst (AllByRecursion HasNoEmptySequence) (sym h.4) (filled_points (range_with_len h.0 (range_size h.0 h.1)))
 
-more_than : (n : ℕ) → nat_lt 4096 (n + 1) ≡ nat_le 4096 n
-more_than n = by_cases (nat_le 4096 n) refl
+points_of_version : (cs : List ℕ) → AllByRecursion (IsOfVersion Two) (map point_entry cs)
+points_of_version [] = tt
+points_of_version (c ∷ cs) = (tt, points_of_version cs)
+
+pub version_spelled : (v : Version) (line : List ℕ) (es : List Entry) → Spells v line es → AllByRecursion (IsOfVersion v) es
+version_spelled v line es (inl h) = subst (AllByRecursion (IsOfVersion v)) (sym h.3) (h.2, tt)
+version_spelled v line es (inr h) =
+    subst (λ x. AllByRecursion (IsOfVersion x) es) (sym h.3) (subst (AllByRecursion (IsOfVersion Two)) (sym h.4) (points_of_version (range_with_len h.0 (range_size h.0 h.1))))
+
+pub entries_from_tests : (es : List Entry) → AllByRecursion HasNoEmptySequence es → list_any is_too_large es ≡ false → list_any has_bad_class es ≡ false → list_any has_repeat es ≡ false → AllByRecursion IsEntry es
+entries_from_tests [] h a b d = tt
+entries_from_tests (e ∷ es) h a b d =
+    let p = or_parts (is_too_large e) (list_any is_too_large es) a in
+    let q = or_parts (has_bad_class e) (list_any has_bad_class es) b in
+    let r = or_parts (has_repeat e) (list_any has_repeat es) d in
+    (entry_from_tests e h.0 p.0 q.0 r.0, entries_from_tests es h.1 p.1 q.1 r.1)
+
+-- the sources of a range are new to one another
+
+source_push : (t : List Entry) (e f : Entry) → has_source_in t f ≡ false → bytes_eq e.source f.source ≡ false → has_source_in (t ++ e ∷ []) f ≡ false
+source_push [] e f h k = or_from (bytes_eq e.source f.source) false k refl
+source_push (x ∷ t) e f h k =
+    let p = or_parts (bytes_eq x.source f.source) (has_source_in t f) h in
+    or_from (bytes_eq x.source f.source) (has_source_in (t ++ e ∷ []) f) p.0 (source_push t e f p.1 k)
+
+other_points : (a b : ℕ) → a < b → bytes_eq (a ∷ []) (b ∷ []) ≡ false
+other_points a b l = false_from_ne_true (bytes_eq (a ∷ []) (b ∷ [])) (λ t.
+    (let same : a ≡ b = ap (λ s. get_or s 0 0) ((bytes_eq-Decides (a ∷ []) (b ∷ [])).0 t) in omega (arith, same, l)))
+
+range_push : (t : List Entry) (a b n : ℕ) → a < b → list_any (has_source_in t) (map point_entry (range_with_len b n)) ≡ false → list_any (has_source_in (t ++ point_entry a ∷ [])) (map point_entry (range_with_len b n)) ≡ false
+range_push t a b zero l h = refl
+range_push t a b (suc n) l h =
+    let p = or_parts (has_source_in t (point_entry b)) (list_any (has_source_in t) (map point_entry (range_with_len (b + 1) n))) h in
+    or_from (has_source_in (t ++ point_entry a ∷ []) (point_entry b)) (list_any (has_source_in (t ++ point_entry a ∷ [])) (map point_entry (range_with_len (b + 1) n)))
+    (source_push t (point_entry a) (point_entry b) p.0 (other_points a b l)) (range_push t a (b + 1) n (omega (arith, l)) p.1)
+
+pub new_range : (t : List Entry) (a n : ℕ) → list_any (has_source_in t) (map point_entry (range_with_len a n)) ≡ false → AreNewSources t (map point_entry (range_with_len a n))
+new_range t a zero h = tt
+new_range t a (suc n) h =
+    let p = or_parts (has_source_in t (point_entry a)) (list_any (has_source_in t) (map point_entry (range_with_len (a + 1) n))) h in
+    (p.0, new_range (t ++ point_entry a ∷ []) (a + 1) n (range_push t a (a + 1) n (omega arith) p.1))
+
+pub new_spelled : (v : Version) (t : List Entry) (line : List ℕ) (es : List Entry) → Spells v line es → list_any (has_source_in t) es ≡ false → AreNewSources t es
+new_spelled v t line es (inl h) k =
+    let one : list_any (has_source_in t) (h.0 ∷ []) ≡ false = ap (list_any (has_source_in t)) (sym h.3) ∙ k in
+    subst (AreNewSources t) (sym h.3) ((or_parts (has_source_in t h.0) false one).0, tt)
+new_spelled v t line es (inr h) k =
+    subst (AreNewSources t) (sym h.4) (new_range t h.0 (range_size h.0 h.1) (ap (list_any (has_source_in t)) (sym h.4) ∙ k))
+
+-- ---- a line without a fault
+
+pub record Sound (v : Version) (t t' es : List Entry) : Type 0 where
+  pub is : t' ≡ t ++ es
+  pub sound : AllByRecursion IsEntry es
+  pub of_version : AllByRecursion (IsOfVersion v) es
+  pub new : AreNewSources t es
+  pub few : length t + length es ≤ 4096
+  pub fits : is_text_too_long v (t ++ es) ≡ false
+
+sound_by : (v : Version) (t t' es : List Entry) → AllByRecursion HasNoEmptySequence es → AllByRecursion (IsOfVersion v) es → (list_any (has_source_in t) es ≡ false → AreNewSources t es)
+    → with_entries v t es ≡ Ok t' → Sound v t t' es
+sound_by v t t' es filled of new e = by_cases _ _ _ _ refl refl refl refl (sym (with_entries-by v t es _ _ _ _ refl refl refl refl) ∙ e)
   where
-    by_cases : (b : Bool) → nat_le 4096 n ≡ b → nat_lt 4096 (n + 1) ≡ nat_le 4096 n
-    by_cases true e = lt-ltb 4096 (n + 1) (omega (arith, leb-true 4096 n e)) ∙ sym e
-    by_cases false e = le-ltb 4096 (n + 1) (omega (arith, leb-false 4096 n e)) ∙ sym e
+    by_cases : (o b r s : Bool) → is_over_limit v t es ≡ o → list_any has_bad_class es ≡ b → list_any has_repeat es ≡ r → list_any (has_source_in t) es ≡ s
+        → cond o (Err Limit) (cond b (Err BadClass) (cond r (Err SameVariant) (cond s (Err SameSource) (Ok (t ++ es))))) ≡ Ok t' → Sound v t t' es
+    by_cases true b r s f g i j k = absurd cc
+    by_cases false true r s f g i j k = absurd cc
+    by_cases false false true s f g i j k = absurd cc
+    by_cases false false false true f g i j k = absurd cc
+    by_cases false false false false f g i j k =
+        let p = or_parts (nat_lt 4096 (length t + length es) || list_any is_too_large es) (is_text_too_long v (t ++ es)) f in
+        let q = or_parts (nat_lt 4096 (length t + length es)) (list_any is_too_large es) p.0 in
+        record {
+          is = cc;
+          sound = entries_from_tests es filled q.1 g i;
+          of_version = of;
+          new = new j;
+          few = ltb-false 4096 (length t + length es) q.0;
+          fits = p.1;
+        }
 
-pub over_limit-one : (table : List Entry) (e : Entry) → is_over_limit table (e ∷ []) ≡ (nat_le 4096 (length table) || is_too_large e)
-over_limit-one table e = ap (λ b. b || list_any is_too_large (e ∷ [])) (more_than (length table)) ∙ ap (λ b. nat_le 4096 (length table) || b) (any_one is_too_large e)
+pub sound_spelled : (v : Version) (t t' : List Entry) (line : List ℕ) (es : List Entry) → Spells v line es → with_entries v t es ≡ Ok t' → Sound v t t' es
+sound_spelled v t t' line es h e = sound_by v t t' es (filled_spelled v line es h) (version_spelled v line es h) (new_spelled v t line es h) e

@@ -1,47 +1,70 @@
 -- Lines without a fault are read as what they spell, and other lines up to the first faulty one.
-use Rattle.std.proofs.Common.{◌≡◌, ◌⊎◌, inl, inr, ℕ, suc, ◌+◌, ◌≤◌, Bool, true, false, ◌||◌, cond, List, [], ◌∷◌, ◌++◌, length, Result, Ok, Err, refl, sym, ap, subst, ◌∙◌, arith, append_assoc, length-append}
-use Rattle.std.specs.Prelude.{nat_lt, nat_le}
-use Rattle.std.specs.List.{AllByRecursion}
+use Rattle.std.proofs.Common.{◌≡◌, ◌⊎◌, inl, inr, ℕ, suc, ◌+◌, ◌-◌, ◌≤◌, Bool, true, false, ◌||◌, cond, eqb, List, [], ◌∷◌, ◌++◌, length, take, Result, Ok, Err, refl, sym, ap, subst, ◌∙◌, arith, append_assoc, length-append, length-take}
+use Rattle.std.specs.Prelude.{nat_lt, bytes_eq, slice_index}
+use Rattle.std.specs.List.{AllByRecursion, list_any}
 use Rattle.std.specs.Str.Lines.{strip_carriage_return}
-use Rattle.std.proofs.lemmas.Bool.{ltb-false, le-ltb, leb-false, lt-leb, or_parts, or_from}
+use Rattle.std.proofs.lemmas.Bool.{ltb-false, le-ltb, or_parts, or_from}
 use Rattle.std.proofs.lemmas.List.{append-nil}
+use Rattle.std.proofs.lemmas.List.Concat.{flat_map-append}
 use Rattle.std.proofs.lemmas.List.Elements.{All-from_recursion, recursion_from_All}
+use Rattle.std.proofs.lemmas.Slice.Eq.{bytes_eq-Decides}
 use Rattle.idn_text.specs.Lines.{raw_lines}
-use Rattle.variant_table.specs.Faults.{LineFault, Limit, Syntax, BadClass, SameVariant, SameSource}
-use Rattle.variant_table.specs.Entries.{Entry}
-use Rattle.variant_table.specs.Notation.{IsEntryLine}
-use Rattle.variant_table.specs.WellFormed.{IsEntry}
-use Rattle.variant_table.specs.Conditions.{is_too_long, is_too_large, has_bad_class, has_repeat, has_source_in}
-use Rattle.variant_table.specs.Texts.{LineSpells, LinesSpell, size_of, AreLinesOf, IsTextOf}
-use Rattle.variant_table.specs.Reading.{◌>>=◌, in_line, with_entry, with_line, with_raw_line, with_lines, table_of_text}
-use Rattle.variant_table.proofs.FormLemmas.{skipped, of_entry, formless, form_of, with_line-skipped, with_line-entry, with_line-formless, LineSpells-skipped, none, one, spelling_of}
-use Rattle.variant_table.proofs.ConditionLemmas.{entry_from_tests, small_from_entry, good_from_entry, single_from_entry, AreNewSources, distinct_sources, new_sources, no_sources}
+use Rattle.variant_table.specs.Faults.{LineFault, Limit, Syntax}
+use Rattle.variant_table.specs.declared.version.Version.{Version}
+use Rattle.variant_table.specs.declared.version.Version.TheVariants.{One, Two}
+use Rattle.variant_table.specs.Entries.{Entry, IsOfVersion, TableValue}
+use Rattle.variant_table.specs.Canonical.{canonical_line, canonical_text, head_text, table_text, version_line}
+use Rattle.variant_table.specs.Versions.{version_of, head_of, body_of, size_of, is_version_line}
+use Rattle.variant_table.specs.WellFormed.{IsEntry, IsWellFormed, IsTable}
+use Rattle.variant_table.specs.Conditions.{is_too_long, is_too_large, is_text_too_long, has_bad_class, has_repeat, has_source_in}
+use Rattle.variant_table.specs.Texts.{LineSpells, LinesSpell, AreLinesOf, IsTextOf}
+use Rattle.variant_table.specs.Reading.{◌>>=◌, in_line, with_entries, with_line, with_raw_line, with_lines, table_from, table_of_lines, table_of_text}
+use Rattle.variant_table.proofs.FormLemmas.{Spells, skipped, of_entries, formless, form_of, with_line-skipped, with_line-entries, with_line-formless, LineSpells-skipped, none, some, spelling_of}
+use Rattle.variant_table.proofs.ConditionLemmas.{small_from_entry, good_from_entry, single_from_entry, AreNewSources, distinct_sources, new_sources, no_sources, sound_spelled}
+use Rattle.variant_table.proofs.ExampleLemmas.{with_entries-by}
 use Rattle.variant_table.proofs.SizeLemmas.{canonical_text_long, size_of-cons}
 
 abbrev pub Whole : Type 0
 Whole = Result (List Entry) (ℕ × LineFault)
 
--- ---- one entry, by its tests
+abbrev pub WholeTable : Type 0
+WholeTable = Result TableValue (ℕ × LineFault)
 
-pub with_entry-by : (t : List Entry) (e : Entry) (o b r s : Bool) → (nat_le 4096 (length t) || is_too_large e) ≡ o → has_bad_class e ≡ b → has_repeat e ≡ r → has_source_in t e ≡ s
-    → with_entry t e ≡ cond o (Err Limit) (cond b (Err BadClass) (cond r (Err SameVariant) (cond s (Err SameSource) (Ok (t ++ e ∷ [])))))
-unfolding with_entry
-with_entry-by t e o b r s f g h i =
-    ap (λ x. cond x (Err Limit) (cond (has_bad_class e) (Err BadClass) (cond (has_repeat e) (Err SameVariant) (cond (has_source_in t e) (Err SameSource) (Ok (t ++ e ∷ [])))))) f
-    ∙ ap (λ x. cond o (Err Limit) (cond x (Err BadClass) (cond (has_repeat e) (Err SameVariant) (cond (has_source_in t e) (Err SameSource) (Ok (t ++ e ∷ [])))))) g
-    ∙ ap (λ x. cond o (Err Limit) (cond b (Err BadClass) (cond x (Err SameVariant) (cond (has_source_in t e) (Err SameSource) (Ok (t ++ e ∷ [])))))) h
-    ∙ ap (λ x. cond o (Err Limit) (cond b (Err BadClass) (cond r (Err SameVariant) (cond x (Err SameSource) (Ok (t ++ e ∷ [])))))) i
+-- ---- the canonical text is within the limit
+
+length-text : (v : Version) (a b : List Entry) → length (table_text v (a ++ b)) ≡ length (table_text v a) + length (canonical_text b)
+length-text v a b =
+    let cut : canonical_text (a ++ b) ≡ canonical_text a ++ canonical_text b = flat_map-append (λ e. canonical_line e ++ 10 ∷ []) a b in
+    omega (arith, length-append (head_text v) (canonical_text (a ++ b)), length-append (head_text v) (canonical_text a), ap length cut, length-append (canonical_text a) (canonical_text b))
+
+-- what is within the limit is so without the last entries
+fits_front : (v : Version) (a b : List Entry) → is_text_too_long v (a ++ b) ≡ false → is_text_too_long v a ≡ false
+fits_front One a b h = refl
+fits_front Two a b h = le-ltb 1048576 (length (table_text Two a)) (omega (arith, ltb-false 1048576 (length (table_text Two (a ++ b))) h, length-text Two a b))
+
+fits_within : (v : Version) (es : List Entry) → length (table_text v es) ≤ 1048576 → is_text_too_long v es ≡ false
+fits_within One es l = refl
+fits_within Two es l = le-ltb 1048576 (length (table_text Two es)) l
+
+fits_none : (v : Version) → is_text_too_long v [] ≡ false
+fits_none One = refl
+fits_none Two = refl
+
+pub fits_table : (table : TableValue) → IsTable table → is_text_too_long table.version table.entries ≡ false
+fits_table table h = fits_within table.version table.entries h.short
 
 -- ---- one line, without a fault
 
 -- a faultless line, what it spells, and what it adds to the table
-pub record Added (bytes : ℕ) (t : List Entry) (line : List ℕ) (entries : List Entry) : Type 0 where
-  pub spelled : LineSpells (strip_carriage_return line) entries
+pub record Added (v : Version) (bytes : ℕ) (t : List Entry) (line : List ℕ) (entries : List Entry) : Type 0 where
+  pub spelled : LineSpells v (strip_carriage_return line) entries
   pub short : length line ≤ 1024
   pub within : bytes + length line + 1 ≤ 1048576
   pub sound : AllByRecursion IsEntry entries
+  pub of_version : AllByRecursion (IsOfVersion v) entries
   pub new : AreNewSources t entries
   pub few : length t ≤ 4096 → length t + length entries ≤ 4096
+  pub fits : is_text_too_long v t ≡ false → is_text_too_long v (t ++ entries) ≡ false
 
 ok_is : (a b : List Entry) (r : Result (List Entry) LineFault) → r ≡ Ok a → r ≡ Ok b → a ≡ b
 ok_is a b r e f = cc
@@ -49,73 +72,100 @@ ok_is a b r e f = cc
 pub no_ok : {X : Type 0} (f : LineFault) (b : List Entry) (r : Result (List Entry) LineFault) → r ≡ Err f → r ≡ Ok b → X
 no_ok f b r e g = absurd cc
 
-pub raw_line : (bytes : ℕ) (t : List Entry) (line : List ℕ) → is_too_long bytes line ≡ false → with_raw_line bytes t line ≡ with_line t (strip_carriage_return line)
+pub raw_line : (v : Version) (bytes : ℕ) (t : List Entry) (line : List ℕ) → is_too_long bytes line ≡ false → with_raw_line v bytes t line ≡ with_line v t (strip_carriage_return line)
 unfolding with_raw_line
-raw_line bytes t line h = ap (λ b. cond b (Err Limit) (with_line t (strip_carriage_return line))) h
+raw_line v bytes t line h = ap (λ b. cond b (Err Limit) (with_line v t (strip_carriage_return line))) h
 
-pub raw_line-long : (bytes : ℕ) (t : List Entry) (line : List ℕ) → is_too_long bytes line ≡ true → with_raw_line bytes t line ≡ Err Limit
+pub raw_line-long : (v : Version) (bytes : ℕ) (t : List Entry) (line : List ℕ) → is_too_long bytes line ≡ true → with_raw_line v bytes t line ≡ Err Limit
 unfolding with_raw_line
-raw_line-long bytes t line h = ap (λ b. cond b (Err Limit) (with_line t (strip_carriage_return line))) h
+raw_line-long v bytes t line h = ap (λ b. cond b (Err Limit) (with_line v t (strip_carriage_return line))) h
 
-entry_step : (bytes : ℕ) (t t' : List Entry) (line : List ℕ) (e : Entry) → length line ≤ 1024 → bytes + length line + 1 ≤ 1048576 → IsEntryLine e (strip_carriage_return line)
-    → (o b r s : Bool) → (nat_le 4096 (length t) || is_too_large e) ≡ o → has_bad_class e ≡ b → has_repeat e ≡ r → has_source_in t e ≡ s
-    → cond o (Err Limit) (cond b (Err BadClass) (cond r (Err SameVariant) (cond s (Err SameSource) (Ok (t ++ e ∷ []))))) ≡ Ok t' → Added bytes t line (e ∷ []) × (t' ≡ t ++ e ∷ [])
-entry_step bytes t t' line e l m h true b r s f g i j is = absurd cc
-entry_step bytes t t' line e l m h false true r s f g i j is = absurd cc
-entry_step bytes t t' line e l m h false false true s f g i j is = absurd cc
-entry_step bytes t t' line e l m h false false false true f g i j is = absurd cc
-entry_step bytes t t' line e l m h false false false false f g i j is =
-    let p = or_parts (nat_le 4096 (length t)) (is_too_large e) f in (
-      record {
-        spelled = inr (inr (e, h, refl));
-        short = l;
-        within = m;
-        sound = (entry_from_tests e (strip_carriage_return line) h p.1 g i, tt);
-        new = (j, tt);
-        few = λ k. omega (arith, leb-false 4096 (length t) p.0);
-      },
-      let same : t ++ e ∷ [] ≡ t' = cc in sym same,
-    )
-
-line_step : (bytes : ℕ) (t t' : List Entry) (line : List ℕ) → length line ≤ 1024 → bytes + length line + 1 ≤ 1048576 → with_line t (strip_carriage_return line) ≡ Ok t'
-    → (entries : List Entry) × Added bytes t line entries × (t' ≡ t ++ entries)
-line_step bytes t t' line l m e = elim (form_of (strip_carriage_return line)) [
+line_step : (v : Version) (bytes : ℕ) (t t' : List Entry) (line : List ℕ) → length line ≤ 1024 → bytes + length line + 1 ≤ 1048576 → with_line v t (strip_carriage_return line) ≡ Ok t'
+    → (entries : List Entry) × Added v bytes t line entries × (t' ≡ t ++ entries)
+line_step v bytes t t' line l m e = elim (form_of v (strip_carriage_return line)) [
   | skipped s ↦ (
     [],
-    record { spelled = LineSpells-skipped (strip_carriage_return line) s; short = l; within = m; sound = tt; new = tt; few = λ k. omega (arith, k) },
-    ok_is t' t (with_line t (strip_carriage_return line)) e (with_line-skipped t (strip_carriage_return line) s) ∙ sym (append-nil t),
+    record {
+      spelled = LineSpells-skipped v (strip_carriage_return line) s;
+      short = l;
+      within = m;
+      sound = tt;
+      of_version = tt;
+      new = tt;
+      few = λ k. omega (arith, k);
+      fits = λ k. ap (is_text_too_long v) (append-nil t) ∙ k;
+    },
+    ok_is t' t (with_line v t (strip_carriage_return line)) e (with_line-skipped v t (strip_carriage_return line) s) ∙ sym (append-nil t),
   )
-  | of_entry x h ↦
-      let r = entry_step bytes t t' line x l m h _ _ _ _ refl refl refl refl
-      (sym (with_entry-by t x _ _ _ _ refl refl refl refl) ∙ sym (with_line-entry t (strip_carriage_return line) x h) ∙ e) in
-      (x ∷ [], r.0, r.1)
-  | formless s never ↦ no_ok Syntax t' (with_line t (strip_carriage_return line)) (with_line-formless t (strip_carriage_return line) s never) e
+  | of_entries es h ↦
+      let r = sound_spelled v t t' (strip_carriage_return line) es h (sym (with_line-entries v t (strip_carriage_return line) es h) ∙ e) in (
+        es,
+        record {
+          spelled = inr (inr h);
+          short = l;
+          within = m;
+          sound = r.sound;
+          of_version = r.of_version;
+          new = r.new;
+          few = λ k. r.few;
+          fits = λ k. r.fits;
+        },
+        r.is,
+      )
+  | formless s never ↦ no_ok Syntax t' (with_line v t (strip_carriage_return line)) (with_line-formless v t (strip_carriage_return line) s never) e
 ]
 
-pub raw_line_step : (bytes : ℕ) (t t' : List Entry) (line : List ℕ) → with_raw_line bytes t line ≡ Ok t' → (entries : List Entry) × Added bytes t line entries × (t' ≡ t ++ entries)
-raw_line_step bytes t t' line e = by_cases (is_too_long bytes line) refl
+pub raw_line_step : (v : Version) (bytes : ℕ) (t t' : List Entry) (line : List ℕ) → with_raw_line v bytes t line ≡ Ok t' → (entries : List Entry) × Added v bytes t line entries × (t' ≡ t ++ entries)
+raw_line_step v bytes t t' line e = by_cases (is_too_long bytes line) refl
   where
-    by_cases : (b : Bool) → is_too_long bytes line ≡ b → (entries : List Entry) × Added bytes t line entries × (t' ≡ t ++ entries)
-    by_cases true h = no_ok Limit t' (with_raw_line bytes t line) (raw_line-long bytes t line h) e
+    by_cases : (b : Bool) → is_too_long bytes line ≡ b → (entries : List Entry) × Added v bytes t line entries × (t' ≡ t ++ entries)
+    by_cases true h = no_ok Limit t' (with_raw_line v bytes t line) (raw_line-long v bytes t line h) e
     by_cases false h =
         let p = or_parts (nat_lt 1024 (length line)) (nat_lt 1048576 (bytes + length line + 1)) h in
-        line_step bytes t t' line (ltb-false 1024 (length line) p.0) (ltb-false 1048576 (bytes + length line + 1) p.1) (sym (raw_line bytes t line h) ∙ e)
+        line_step v bytes t t' line (ltb-false 1024 (length line) p.0) (ltb-false 1048576 (bytes + length line + 1) p.1) (sym (raw_line v bytes t line h) ∙ e)
 
--- the other way
-pub raw_line_added : (bytes : ℕ) (t : List Entry) (line : List ℕ) (entries : List Entry) → LineSpells (strip_carriage_return line) entries → length line ≤ 1024 → bytes + length line + 1 ≤ 1048576
-    → AllByRecursion IsEntry entries → AreNewSources t entries → length t + length entries ≤ 4096 → with_raw_line bytes t line ≡ Ok (t ++ entries)
-raw_line_added bytes t line entries s l m sound new few =
+-- ---- the other way
+
+all_small : (es : List Entry) → AllByRecursion IsEntry es → list_any is_too_large es ≡ false
+all_small [] h = refl
+all_small (e ∷ es) h = or_from (is_too_large e) (list_any is_too_large es) (small_from_entry e h.0) (all_small es h.1)
+
+all_good : (es : List Entry) → AllByRecursion IsEntry es → list_any has_bad_class es ≡ false
+all_good [] h = refl
+all_good (e ∷ es) h = or_from (has_bad_class e) (list_any has_bad_class es) (good_from_entry e h.0) (all_good es h.1)
+
+all_single : (es : List Entry) → AllByRecursion IsEntry es → list_any has_repeat es ≡ false
+all_single [] h = refl
+all_single (e ∷ es) h = or_from (has_repeat e) (list_any has_repeat es) (single_from_entry e h.0) (all_single es h.1)
+
+-- a source that none of some entries has is not that of the first of them
+source_front : (t u : List Entry) (e : Entry) → has_source_in (t ++ u) e ≡ false → has_source_in t e ≡ false
+source_front [] u e h = refl
+source_front (x ∷ t) u e h =
+    let p = or_parts (bytes_eq x.source e.source) (has_source_in (t ++ u) e) h in
+    or_from (bytes_eq x.source e.source) (has_source_in t e) p.0 (source_front t u e p.1)
+
+new_any : (t u es : List Entry) → AreNewSources (t ++ u) es → list_any (has_source_in t) es ≡ false
+new_any t u [] h = refl
+new_any t u (e ∷ es) h =
+    or_from (has_source_in t e) (list_any (has_source_in t) es) (source_front t u e h.0)
+    (new_any t (u ++ e ∷ []) es (subst (λ x. AreNewSources x es) (append_assoc t u (e ∷ [])) h.1))
+
+entries_added : (v : Version) (t es : List Entry) → AllByRecursion IsEntry es → AreNewSources t es → length t + length es ≤ 4096 → is_text_too_long v (t ++ es) ≡ false → with_entries v t es ≡ Ok (t ++ es)
+entries_added v t es sound new few fits =
+    with_entries-by v t es false false false false
+    (or_from (nat_lt 4096 (length t + length es) || list_any is_too_large es) (is_text_too_long v (t ++ es))
+    (or_from (nat_lt 4096 (length t + length es)) (list_any is_too_large es) (le-ltb 4096 (length t + length es) few) (all_small es sound)) fits)
+    (all_good es sound) (all_single es sound) (new_any t [] es (subst (λ x. AreNewSources x es) (sym (append-nil t)) new))
+
+pub raw_line_added : (v : Version) (bytes : ℕ) (t : List Entry) (line : List ℕ) (entries : List Entry) → LineSpells v (strip_carriage_return line) entries → length line ≤ 1024 → bytes + length line + 1 ≤ 1048576
+    → AllByRecursion IsEntry entries → AreNewSources t entries → length t + length entries ≤ 4096 → is_text_too_long v (t ++ entries) ≡ false → with_raw_line v bytes t line ≡ Ok (t ++ entries)
+raw_line_added v bytes t line entries s l m sound new few fits =
     let body : List ℕ = strip_carriage_return line in
-    raw_line bytes t line (or_from (nat_lt 1024 (length line)) (nat_lt 1048576 (bytes + length line + 1)) (le-ltb 1024 (length line) l) (le-ltb 1048576 (bytes + length line + 1) m))
-    ∙ elim (spelling_of body entries s) [
-      | none k is ↦ with_line-skipped t body k ∙ ap (λ x. Ok x) (sym (append-nil t)) ∙ ap (λ es. Ok (t ++ es)) (sym is)
-      | one e h is ↦
-          let sound' = subst (AllByRecursion IsEntry) is sound in
-          let new' = subst (AreNewSources t) is new in
-          let few' : length t + 1 ≤ 4096 = omega (arith, few, ap length is) in
-          with_line-entry t body e h
-          ∙ with_entry-by t e false false false false (or_from (nat_le 4096 (length t)) (is_too_large e) (lt-leb 4096 (length t) (omega (arith, few'))) (small_from_entry e sound'.0)) (good_from_entry e sound'.0) (single_from_entry e sound'.0) new'.0
-          ∙ ap (λ es. Ok (t ++ es)) (sym is)
+    raw_line v bytes t line (or_from (nat_lt 1024 (length line)) (nat_lt 1048576 (bytes + length line + 1)) (le-ltb 1024 (length line) l) (le-ltb 1048576 (bytes + length line + 1) m))
+    ∙ elim (spelling_of v body entries s) [
+      | none k is ↦ with_line-skipped v t body k ∙ ap (λ x. Ok x) (sym (append-nil t)) ∙ ap (λ es. Ok (t ++ es)) (sym is)
+      | some h ↦ with_line-entries v t body entries h ∙ entries_added v t entries sound new few fits
     ]
 
 -- ---- lines without a fault
@@ -130,166 +180,225 @@ new-join : (t a b : List Entry) → AreNewSources t a → AreNewSources (t ++ a)
 new-join t [] b h k = subst (λ x. AreNewSources x b) (append-nil t) k
 new-join t (e ∷ a) b h k = (h.0, new-join (t ++ e ∷ []) a b h.1 (subst (λ x. AreNewSources x b) (sym (append_assoc t (e ∷ []) a)) k))
 
-sound-append : (a b : List Entry) → AllByRecursion IsEntry (a ++ b) → AllByRecursion IsEntry a × AllByRecursion IsEntry b
-sound-append [] b h = (tt, h)
-sound-append (e ∷ a) b h = let r = sound-append a b h.1 in ((h.0, r.0), r.1)
+all-append : (P : Entry → Type 0) (a b : List Entry) → AllByRecursion P (a ++ b) → AllByRecursion P a × AllByRecursion P b
+all-append P [] b h = (tt, h)
+all-append P (e ∷ a) b h = let r = all-append P a b h.1 in ((h.0, r.0), r.1)
 
-sound-join : (a b : List Entry) → AllByRecursion IsEntry a → AllByRecursion IsEntry b → AllByRecursion IsEntry (a ++ b)
-sound-join [] b h k = k
-sound-join (e ∷ a) b h k = (h.0, sound-join a b h.1 k)
+all-join : (P : Entry → Type 0) (a b : List Entry) → AllByRecursion P a → AllByRecursion P b → AllByRecursion P (a ++ b)
+all-join P [] b h k = k
+all-join P (e ∷ a) b h k = (h.0, all-join P a b h.1 k)
 
-pub step_of : (n bytes : ℕ) (t : List Entry) (line : List ℕ) (lines : List (List ℕ)) (r : Result (List Entry) LineFault) → with_raw_line bytes t line ≡ r
-    → with_lines n bytes t (line ∷ lines) ≡ (in_line n r >>= λ x. with_lines (n + 1) (bytes + length line + 1) x lines)
+pub step_of : (v : Version) (n bytes : ℕ) (t : List Entry) (line : List ℕ) (lines : List (List ℕ)) (r : Result (List Entry) LineFault) → with_raw_line v bytes t line ≡ r
+    → with_lines v n bytes t (line ∷ lines) ≡ (in_line n r >>= λ x. with_lines v (n + 1) (bytes + length line + 1) x lines)
 unfolding with_lines
-step_of n bytes t line lines r e = ap (λ x. in_line n x >>= λ x. with_lines (n + 1) (bytes + length line + 1) x lines) e
+step_of v n bytes t line lines r e = ap (λ x. in_line n x >>= λ x. with_lines v (n + 1) (bytes + length line + 1) x lines) e
 
-no_lines : (n bytes : ℕ) (t : List Entry) → with_lines n bytes t [] ≡ Ok t
+no_lines : (v : Version) (n bytes : ℕ) (t : List Entry) → with_lines v n bytes t [] ≡ Ok t
 unfolding with_lines
-no_lines n bytes t = refl
+no_lines v n bytes t = refl
 
 -- reading faultless lines, with others behind them
-pub lines_on : (n bytes : ℕ) (t : List Entry) (lines behind : List (List ℕ)) (entries : List Entry) → LinesSpell lines entries → AllByRecursion (λ line. length line ≤ 1024) lines → bytes + size_of lines ≤ 1048576
-    → AllByRecursion IsEntry entries → AreNewSources t entries → length t + length entries ≤ 4096
-    → with_lines n bytes t (lines ++ behind) ≡ with_lines (n + length lines) (bytes + size_of lines) (t ++ entries) behind
-lines_on n bytes t [] behind entries s short size sound new few =
-    ap (λ x. with_lines x bytes t behind) (let z : n ≡ n + 0 = omega arith in z) ∙ ap (λ x. with_lines (n + 0) x t behind) (let z : bytes ≡ bytes + 0 = omega arith in z)
-    ∙ ap (λ x. with_lines (n + 0) (bytes + 0) x behind) (sym (append-nil t) ∙ ap (λ es. t ++ es) (sym s))
-lines_on n bytes t (line ∷ lines) behind entries s short size sound new few =
+pub lines_on : (v : Version) (n bytes : ℕ) (t : List Entry) (lines behind : List (List ℕ)) (entries : List Entry) → LinesSpell v lines entries → AllByRecursion (λ line. length line ≤ 1024) lines → bytes + size_of lines ≤ 1048576
+    → AllByRecursion IsEntry entries → AreNewSources t entries → length t + length entries ≤ 4096 → is_text_too_long v (t ++ entries) ≡ false
+    → with_lines v n bytes t (lines ++ behind) ≡ with_lines v (n + length lines) (bytes + size_of lines) (t ++ entries) behind
+lines_on v n bytes t [] behind entries s short size sound new few fits =
+    ap (λ x. with_lines v x bytes t behind) (let z : n ≡ n + 0 = omega arith in z) ∙ ap (λ x. with_lines v (n + 0) x t behind) (let z : bytes ≡ bytes + 0 = omega arith in z)
+    ∙ ap (λ x. with_lines v (n + 0) (bytes + 0) x behind) (sym (append-nil t) ∙ ap (λ es. t ++ es) (sym s))
+lines_on v n bytes t (line ∷ lines) behind entries s short size sound new few fits =
     let a : List Entry = s.0 in
     let b : List Entry = s.1 in
-    let sounds = sound-append a b (subst (AllByRecursion IsEntry) s.4 sound) in
+    let sounds = all-append IsEntry a b (subst (AllByRecursion IsEntry) s.4 sound) in
     let news = new-append t a b (subst (AreNewSources t) s.4 new) in
     let count : length entries ≡ length a + length b = ap length s.4 ∙ length-append a b in
     let more : length (t ++ a) ≡ length t + length a = length-append t a in
-    step_of n bytes t line (lines ++ behind) (Ok (t ++ a)) (raw_line_added bytes t line a s.2 short.0 (omega (arith, size, size_of-cons line lines)) sounds.0 news.0 (omega (arith, few, count)))
-    ∙ lines_on (n + 1) (bytes + length line + 1) (t ++ a) lines behind b s.3 short.1 (omega (arith, size, size_of-cons line lines)) sounds.1 news.1 (omega (arith, few, count, more))
-    ∙ ap (λ x. with_lines x (bytes + length line + 1 + size_of lines) ((t ++ a) ++ b) behind) (let z : n + 1 + length lines ≡ n + suc (length lines) = omega arith in z)
-    ∙ ap (λ x. with_lines (n + suc (length lines)) x ((t ++ a) ++ b) behind) (let z : bytes + length line + 1 + size_of lines ≡ bytes + size_of (line ∷ lines) = omega (arith, size_of-cons line lines) in z)
-    ∙ ap (λ x. with_lines (n + suc (length lines)) (bytes + size_of (line ∷ lines)) x behind) (append_assoc t a b ∙ ap (λ es. t ++ es) (sym s.4))
+    let all : (t ++ a) ++ b ≡ t ++ entries = append_assoc t a b ∙ ap (λ es. t ++ es) (sym s.4) in
+    let later : is_text_too_long v ((t ++ a) ++ b) ≡ false = ap (is_text_too_long v) all ∙ fits in
+    step_of v n bytes t line (lines ++ behind) (Ok (t ++ a)) (raw_line_added v bytes t line a s.2 short.0 (omega (arith, size, size_of-cons line lines)) sounds.0 news.0 (omega (arith, few, count)) (fits_front v (t ++ a) b later))
+    ∙ lines_on v (n + 1) (bytes + length line + 1) (t ++ a) lines behind b s.3 short.1 (omega (arith, size, size_of-cons line lines)) sounds.1 news.1 (omega (arith, few, count, more)) later
+    ∙ ap (λ x. with_lines v x (bytes + length line + 1 + size_of lines) ((t ++ a) ++ b) behind) (let z : n + 1 + length lines ≡ n + suc (length lines) = omega arith in z)
+    ∙ ap (λ x. with_lines v (n + suc (length lines)) x ((t ++ a) ++ b) behind) (let z : bytes + length line + 1 + size_of lines ≡ bytes + size_of (line ∷ lines) = omega (arith, size_of-cons line lines) in z)
+    ∙ ap (λ x. with_lines v (n + suc (length lines)) (bytes + size_of (line ∷ lines)) x behind) all
 
 -- what faultless lines are, and add to the table
-pub record AddedLines (bytes : ℕ) (t : List Entry) (lines : List (List ℕ)) (entries : List Entry) : Type 0 where
-  pub spelled : LinesSpell lines entries
+pub record AddedLines (v : Version) (bytes : ℕ) (t : List Entry) (lines : List (List ℕ)) (entries : List Entry) : Type 0 where
+  pub spelled : LinesSpell v lines entries
   pub short : AllByRecursion (λ line. length line ≤ 1024) lines
   pub within : bytes ≤ 1048576 → bytes + size_of lines ≤ 1048576
   pub sound : AllByRecursion IsEntry entries
+  pub of_version : AllByRecursion (IsOfVersion v) entries
   pub new : AreNewSources t entries
   pub few : length t ≤ 4096 → length t + length entries ≤ 4096
+  pub fits : is_text_too_long v t ≡ false → is_text_too_long v (t ++ entries) ≡ false
 
-added_none : (bytes : ℕ) (t : List Entry) → AddedLines bytes t [] []
-added_none bytes t = record { spelled = refl; short = tt; within = λ h. omega (arith, h); sound = tt; new = tt; few = λ h. omega (arith, h) }
+added_none : (v : Version) (bytes : ℕ) (t : List Entry) → AddedLines v bytes t [] []
+added_none v bytes t = record {
+  spelled = refl;
+  short = tt;
+  within = λ h. omega (arith, h);
+  sound = tt;
+  of_version = tt;
+  new = tt;
+  few = λ h. omega (arith, h);
+  fits = λ h. ap (is_text_too_long v) (append-nil t) ∙ h;
+}
 
-added_more : (bytes : ℕ) (t : List Entry) (line : List ℕ) (lines : List (List ℕ)) (a b : List Entry) → Added bytes t line a → AddedLines (bytes + length line + 1) (t ++ a) lines b → AddedLines bytes t (line ∷ lines) (a ++ b)
-added_more bytes t line lines a b h k = record {
+added_more : (v : Version) (bytes : ℕ) (t : List Entry) (line : List ℕ) (lines : List (List ℕ)) (a b : List Entry) → Added v bytes t line a → AddedLines v (bytes + length line + 1) (t ++ a) lines b
+    → AddedLines v bytes t (line ∷ lines) (a ++ b)
+added_more v bytes t line lines a b h k = record {
   spelled = (a, b, h.spelled, k.spelled, refl);
   short = (h.short, k.short);
   within = λ l. (let m : bytes + length line + 1 + size_of lines ≤ 1048576 = k.within (omega (arith, h.within)) in omega (arith, m, size_of-cons line lines));
-  sound = sound-join a b h.sound k.sound;
+  sound = all-join IsEntry a b h.sound k.sound;
+  of_version = all-join (IsOfVersion v) a b h.of_version k.of_version;
   new = new-join t a b h.new k.new;
   few = λ l. (let m : length (t ++ a) + length b ≤ 4096 = k.few (omega (arith, h.few l, length-append t a)) in omega (arith, m, length-append t a, length-append a b));
+  fits = λ l. ap (is_text_too_long v) (sym (append_assoc t a b)) ∙ k.fits (h.fits l);
 }
 
 -- ---- the outcome of lines
 
-pub record Done (bytes : ℕ) (t : List Entry) (lines : List (List ℕ)) (r : Whole) : Type 0 where
+pub record Done (v : Version) (bytes : ℕ) (t : List Entry) (lines : List (List ℕ)) (r : Whole) : Type 0 where
   pub entries : List Entry
-  pub added : AddedLines bytes t lines entries
+  pub added : AddedLines v bytes t lines entries
   pub is : r ≡ Ok (t ++ entries)
 
 -- the first faulty line, with those before it
-pub record Faulted (n bytes : ℕ) (t : List Entry) (lines : List (List ℕ)) (r : Whole) : Type 0 where
+pub record Faulted (v : Version) (n bytes : ℕ) (t : List Entry) (lines : List (List ℕ)) (r : Whole) : Type 0 where
   pub before : List (List ℕ)
   pub line : List ℕ
   pub behind : List (List ℕ)
   pub entries : List Entry
   pub kind : LineFault
   pub cut : lines ≡ before ++ line ∷ behind
-  pub added : AddedLines bytes t before entries
-  pub faulty : with_raw_line (bytes + size_of before) (t ++ entries) line ≡ Err kind
+  pub added : AddedLines v bytes t before entries
+  pub faulty : with_raw_line v (bytes + size_of before) (t ++ entries) line ≡ Err kind
   pub is : r ≡ Err (n + length before, kind)
 
-outcome_step : (n bytes : ℕ) (t t' : List Entry) (line : List ℕ) (lines : List (List ℕ)) (a : List Entry) → with_raw_line bytes t line ≡ Ok t' → Added bytes t line a → t' ≡ t ++ a
-    → Done (bytes + length line + 1) (t ++ a) lines (with_lines (n + 1) (bytes + length line + 1) (t ++ a) lines) ⊎ Faulted (n + 1) (bytes + length line + 1) (t ++ a) lines (with_lines (n + 1) (bytes + length line + 1) (t ++ a) lines)
-    → Done bytes t (line ∷ lines) (with_lines n bytes t (line ∷ lines)) ⊎ Faulted n bytes t (line ∷ lines) (with_lines n bytes t (line ∷ lines))
-outcome_step n bytes t t' line lines a e h same (inl d) = inl (record {
+outcome_step : (v : Version) (n bytes : ℕ) (t t' : List Entry) (line : List ℕ) (lines : List (List ℕ)) (a : List Entry) → with_raw_line v bytes t line ≡ Ok t' → Added v bytes t line a → t' ≡ t ++ a
+    → Done v (bytes + length line + 1) (t ++ a) lines (with_lines v (n + 1) (bytes + length line + 1) (t ++ a) lines) ⊎ Faulted v (n + 1) (bytes + length line + 1) (t ++ a) lines (with_lines v (n + 1) (bytes + length line + 1) (t ++ a) lines)
+    → Done v bytes t (line ∷ lines) (with_lines v n bytes t (line ∷ lines)) ⊎ Faulted v n bytes t (line ∷ lines) (with_lines v n bytes t (line ∷ lines))
+outcome_step v n bytes t t' line lines a e h same (inl d) = inl (record {
   entries = a ++ d.entries;
-  added = added_more bytes t line lines a d.entries h d.added;
-  is = step_of n bytes t line lines (Ok t') e ∙ ap (λ x. with_lines (n + 1) (bytes + length line + 1) x lines) same ∙ d.is ∙ ap (λ x. Ok x) (append_assoc t a d.entries);
+  added = added_more v bytes t line lines a d.entries h d.added;
+  is = step_of v n bytes t line lines (Ok t') e ∙ ap (λ x. with_lines v (n + 1) (bytes + length line + 1) x lines) same ∙ d.is ∙ ap (λ x. Ok x) (append_assoc t a d.entries);
 })
-outcome_step n bytes t t' line lines a e h same (inr f) = inr (record {
+outcome_step v n bytes t t' line lines a e h same (inr f) = inr (record {
   before = line ∷ f.before;
   line = f.line;
   behind = f.behind;
   entries = a ++ f.entries;
   kind = f.kind;
   cut = ap (λ ls. line ∷ ls) f.cut;
-  added = added_more bytes t line f.before a f.entries h f.added;
-  faulty = ap (λ x. with_raw_line x (t ++ (a ++ f.entries)) f.line) (let z : bytes + size_of (line ∷ f.before) ≡ bytes + length line + 1 + size_of f.before = omega (arith, size_of-cons line f.before) in z)
-      ∙ ap (λ x. with_raw_line (bytes + length line + 1 + size_of f.before) x f.line) (sym (append_assoc t a f.entries)) ∙ f.faulty;
-  is = step_of n bytes t line lines (Ok t') e ∙ ap (λ x. with_lines (n + 1) (bytes + length line + 1) x lines) same ∙ f.is ∙ ap (λ k. Err (k, f.kind)) (let z : n + 1 + length f.before ≡ n + suc (length f.before) = omega arith in z);
+  added = added_more v bytes t line f.before a f.entries h f.added;
+  faulty = ap (λ x. with_raw_line v x (t ++ (a ++ f.entries)) f.line) (let z : bytes + size_of (line ∷ f.before) ≡ bytes + length line + 1 + size_of f.before = omega (arith, size_of-cons line f.before) in z)
+      ∙ ap (λ x. with_raw_line v (bytes + length line + 1 + size_of f.before) x f.line) (sym (append_assoc t a f.entries)) ∙ f.faulty;
+  is = step_of v n bytes t line lines (Ok t') e ∙ ap (λ x. with_lines v (n + 1) (bytes + length line + 1) x lines) same ∙ f.is ∙ ap (λ k. Err (k, f.kind)) (let z : n + 1 + length f.before ≡ n + suc (length f.before) = omega arith in z);
 })
 
-outcome_fault : (n bytes : ℕ) (t : List Entry) (line : List ℕ) (lines : List (List ℕ)) (kind : LineFault) → with_raw_line bytes t line ≡ Err kind → Faulted n bytes t (line ∷ lines) (with_lines n bytes t (line ∷ lines))
-outcome_fault n bytes t line lines kind e = record {
+outcome_fault : (v : Version) (n bytes : ℕ) (t : List Entry) (line : List ℕ) (lines : List (List ℕ)) (kind : LineFault) → with_raw_line v bytes t line ≡ Err kind → Faulted v n bytes t (line ∷ lines) (with_lines v n bytes t (line ∷ lines))
+outcome_fault v n bytes t line lines kind e = record {
   before = [];
   line = line;
   behind = lines;
   entries = [];
   kind = kind;
   cut = refl;
-  added = added_none bytes t;
-  faulty = ap (λ x. with_raw_line x (t ++ []) line) (let z : bytes + 0 ≡ bytes = omega arith in z) ∙ ap (λ x. with_raw_line bytes x line) (append-nil t) ∙ e;
-  is = step_of n bytes t line lines (Err kind) e ∙ ap (λ k. Err (k, kind)) (let z : n ≡ n + 0 = omega arith in z);
+  added = added_none v bytes t;
+  faulty = ap (λ x. with_raw_line v x (t ++ []) line) (let z : bytes + 0 ≡ bytes = omega arith in z) ∙ ap (λ x. with_raw_line v bytes x line) (append-nil t) ∙ e;
+  is = step_of v n bytes t line lines (Err kind) e ∙ ap (λ k. Err (k, kind)) (let z : n ≡ n + 0 = omega arith in z);
 }
 
-outcome_at : (n bytes : ℕ) (t : List Entry) (line : List ℕ) (lines : List (List ℕ)) (r : Result (List Entry) LineFault) → with_raw_line bytes t line ≡ r
-    → ((m b : ℕ) (x : List Entry) → Done b x lines (with_lines m b x lines) ⊎ Faulted m b x lines (with_lines m b x lines))
-    → Done bytes t (line ∷ lines) (with_lines n bytes t (line ∷ lines)) ⊎ Faulted n bytes t (line ∷ lines) (with_lines n bytes t (line ∷ lines))
-outcome_at n bytes t line lines (Err kind) e rest = inr (outcome_fault n bytes t line lines kind e)
-outcome_at n bytes t line lines (Ok t') e rest =
-    let s = raw_line_step bytes t t' line e in
-    outcome_step n bytes t t' line lines s.0 e s.1 s.2 (rest (n + 1) (bytes + length line + 1) (t ++ s.0))
+outcome_at : (v : Version) (n bytes : ℕ) (t : List Entry) (line : List ℕ) (lines : List (List ℕ)) (r : Result (List Entry) LineFault) → with_raw_line v bytes t line ≡ r
+    → ((m b : ℕ) (x : List Entry) → Done v b x lines (with_lines v m b x lines) ⊎ Faulted v m b x lines (with_lines v m b x lines))
+    → Done v bytes t (line ∷ lines) (with_lines v n bytes t (line ∷ lines)) ⊎ Faulted v n bytes t (line ∷ lines) (with_lines v n bytes t (line ∷ lines))
+outcome_at v n bytes t line lines (Err kind) e rest = inr (outcome_fault v n bytes t line lines kind e)
+outcome_at v n bytes t line lines (Ok t') e rest =
+    let s = raw_line_step v bytes t t' line e in
+    outcome_step v n bytes t t' line lines s.0 e s.1 s.2 (rest (n + 1) (bytes + length line + 1) (t ++ s.0))
 
-pub outcome : (lines : List (List ℕ)) (n bytes : ℕ) (t : List Entry) → Done bytes t lines (with_lines n bytes t lines) ⊎ Faulted n bytes t lines (with_lines n bytes t lines)
-outcome [] n bytes t = inl (record { entries = []; added = added_none bytes t; is = no_lines n bytes t ∙ ap (λ x. Ok x) (sym (append-nil t)) })
-outcome (line ∷ lines) n bytes t = outcome_at n bytes t line lines (with_raw_line bytes t line) refl (λ m b x. outcome lines m b x)
+pub outcome : (v : Version) (lines : List (List ℕ)) (n bytes : ℕ) (t : List Entry) → Done v bytes t lines (with_lines v n bytes t lines) ⊎ Faulted v n bytes t lines (with_lines v n bytes t lines)
+outcome v [] n bytes t = inl (record { entries = []; added = added_none v bytes t; is = no_lines v n bytes t ∙ ap (λ x. Ok x) (sym (append-nil t)) })
+outcome v (line ∷ lines) n bytes t = outcome_at v n bytes t line lines (with_raw_line v bytes t line) refl (λ m b x. outcome v lines m b x)
+
+-- ---- the version line
+
+stripped_short : (line : List ℕ) → length line ≤ length (strip_carriage_return line) + 1
+stripped_short line = by_cases (eqb (slice_index line (length line - 1)) 13)
+  where
+    by_cases : (b : Bool) → length line ≤ length (cond b (take (length line - 1) line) line) + 1
+    by_cases true = omega (arith, length-take (length line - 1) line)
+    by_cases false = omega arith
+
+head_by : (line : List ℕ) (b : Bool) → is_version_line line ≡ b → size_of (cond b (line ∷ []) []) ≤ 12
+head_by line false e = omega arith
+head_by line true e =
+    let same : strip_carriage_return line ≡ version_line = (bytes_eq-Decides (strip_carriage_return line) version_line).0 e in
+    omega (arith, size_of-cons line [], stripped_short line, ap length same)
+
+-- the version line with its line feed has at most 12 bytes
+pub head_small : (lines : List (List ℕ)) → size_of (head_of lines) ≤ 12
+head_small [] = omega arith
+head_small (line ∷ lines) = head_by line (is_version_line line) refl
 
 -- ---- the whole text
 
-pub well_formed_lines : (lines : List (List ℕ)) (entries : List Entry) → AddedLines 0 [] lines entries → AreLinesOf lines entries
-well_formed_lines lines entries h =
-    let within : 0 + size_of lines ≤ 1048576 = h.within (omega arith) in
-    let size : size_of lines ≤ 1048576 = omega (arith, within) in
+short_text : (v : Version) (lines : List (List ℕ)) (entries : List Entry) → LinesSpell v lines entries → size_of lines ≤ 1048576 → is_text_too_long v entries ≡ false → length (table_text v entries) ≤ 1048576
+short_text One lines entries s size fits = omega (arith, size, canonical_text_long lines entries s)
+short_text Two lines entries s size fits = ltb-false 1048576 (length (table_text Two entries)) fits
+
+pub well_formed_lines : (v : Version) (head lines : List (List ℕ)) (entries : List Entry) → size_of head ≤ 1048576 → AddedLines v (size_of head) [] lines entries
+    → AreLinesOf head lines (record { version = v; entries = entries })
+well_formed_lines v head lines entries small h =
+    let size : size_of head + size_of lines ≤ 1048576 = h.within small in
     let few : 0 + length entries ≤ 4096 = h.few (omega arith) in
+    let short : length (table_text v entries) ≤ 1048576 = short_text v lines entries h.spelled (omega (arith, size)) (h.fits (fits_none v)) in
     record {
       spelled = h.spelled;
       short = All-from_recursion (λ line. length line ≤ 1024) lines h.short;
       size = size;
       well_formed = record {
-        entries = All-from_recursion IsEntry entries h.sound;
-        sources = distinct_sources [] entries no_sources h.new;
-        few = omega (arith, few);
-        short = omega (arith, size, canonical_text_long lines entries h.spelled);
+        well_formed = record {
+          entries = All-from_recursion IsEntry entries h.sound;
+          sources = distinct_sources [] entries no_sources h.new;
+          few = omega (arith, few);
+          short = omega (arith, short, length-append (head_text v) (canonical_text entries));
+        };
+        of_version = All-from_recursion (IsOfVersion v) entries h.of_version;
+        short = short;
       };
     }
 
 -- faultless lines are read
-pub lines_read : (lines behind : List (List ℕ)) (entries : List Entry) → AreLinesOf lines entries → with_lines 1 0 [] (lines ++ behind) ≡ with_lines (1 + length lines) (0 + size_of lines) entries behind
-lines_read lines behind entries h =
-    lines_on 1 0 [] lines behind entries h.spelled (recursion_from_All (λ line. length line ≤ 1024) lines h.short) (omega (arith, h.size))
-    (recursion_from_All IsEntry entries h.well_formed.entries) (new_sources [] entries h.well_formed.sources) (omega (arith, h.well_formed.few))
+pub lines_read : (n : ℕ) (head lines behind : List (List ℕ)) (table : TableValue) → AreLinesOf head lines table
+    → with_lines table.version n (size_of head) [] (lines ++ behind) ≡ with_lines table.version (n + length lines) (size_of head + size_of lines) table.entries behind
+lines_read n head lines behind table h =
+    let well : IsWellFormed table.entries = h.well_formed.well_formed in
+    lines_on table.version n (size_of head) [] lines behind table.entries h.spelled (recursion_from_All (λ line. length line ≤ 1024) lines h.short) h.size
+    (recursion_from_All IsEntry table.entries well.entries) (new_sources [] table.entries well.sources) (omega (arith, well.few)) (fits_table table h.well_formed)
 
-pub text_read : (text : List ℕ) (table : List Entry) → IsTextOf text table → table_of_text text ≡ Ok table
-unfolding table_of_text
-text_read text table h = ap (with_lines 1 0 []) (sym (append-nil (raw_lines text))) ∙ lines_read (raw_lines text) [] table h ∙ no_lines (1 + length (raw_lines text)) (0 + size_of (raw_lines text)) table
+abbrev pub read_as : Version → List (List ℕ) → WholeTable
+read_as v lines = with_lines v (length (head_of lines) + 1) (size_of (head_of lines)) [] (body_of lines) >>= table_from v
 
-pub whole_ok : (a b : List Entry) (r : Whole) → r ≡ Ok a → r ≡ Ok b → a ≡ b
+pub read_as-is : (lines : List (List ℕ)) → table_of_lines lines ≡ read_as (version_of lines) lines
+unfolding table_of_lines
+read_as-is lines = refl
+
+pub text_read : (text : List ℕ) (table : TableValue) → IsTextOf text table → table_of_text text ≡ Ok table
+text_read text table h =
+    let lines : List (List ℕ) = raw_lines text in
+    let n : ℕ = length (head_of lines) + 1 in
+    read_as-is lines ∙ ap (λ v. read_as v lines) h.version
+    ∙ ap (λ r. r >>= table_from table.version) (
+    ap (with_lines table.version n (size_of (head_of lines)) []) (sym (append-nil (body_of lines)))
+    ∙ lines_read n (head_of lines) (body_of lines) [] table h.lines ∙ no_lines table.version (n + length (body_of lines)) (size_of (head_of lines) + size_of (body_of lines)) table.entries)
+
+pub whole_ok : (a b : TableValue) (r : WholeTable) → r ≡ Ok a → r ≡ Ok b → a ≡ b
 whole_ok a b r e f = cc
 
-pub whole_no : {X : Type 0} (a : List Entry) (f : ℕ × LineFault) (r : Whole) → r ≡ Ok a → r ≡ Err f → X
+pub whole_no : {X : Type 0} (a : TableValue) (f : ℕ × LineFault) (r : WholeTable) → r ≡ Ok a → r ≡ Err f → X
 whole_no a f r e g = absurd cc
 
-pub whole_err : (n m : ℕ) (f g : LineFault) (r : Whole) → r ≡ Err (n, f) → r ≡ Err (m, g) → (n ≡ m) × (f ≡ g)
+pub whole_err : (n m : ℕ) (f g : LineFault) (r : WholeTable) → r ≡ Err (n, f) → r ≡ Err (m, g) → (n ≡ m) × (f ≡ g)
 whole_err n m f g r e h =
     let a : ℕ × LineFault = (n, f) in
     let b : ℕ × LineFault = (m, g) in
@@ -298,9 +407,21 @@ whole_err n m f g r e h =
     let p : a ≡ b = cc in
     (ap (λ (x : ℕ × LineFault). x.0) p, ap (λ (x : ℕ × LineFault). x.1) p)
 
-pub read_text : (text : List ℕ) (table : List Entry) → table_of_text text ≡ Ok table → IsTextOf text table
-unfolding table_of_text
-read_text text table e = elim (outcome (raw_lines text) 1 0 []) [
-  | inl d ↦ subst (λ t. AreLinesOf (raw_lines text) t) (whole_ok d.entries table (with_lines 1 0 [] (raw_lines text)) d.is e) (well_formed_lines (raw_lines text) d.entries d.added)
-  | inr f ↦ whole_no table (1 + length f.before, f.kind) (with_lines 1 0 [] (raw_lines text)) e f.is
-]
+-- what reading the lines of the entries gives is what reading the text gives
+pub read_ok : (lines : List (List ℕ)) (entries : List Entry) → with_lines (version_of lines) (length (head_of lines) + 1) (size_of (head_of lines)) [] (body_of lines) ≡ Ok entries
+    → table_of_lines lines ≡ Ok (record { version = version_of lines; entries = entries })
+read_ok lines entries e = read_as-is lines ∙ ap (λ r. r >>= table_from (version_of lines)) e
+
+pub read_err : (lines : List (List ℕ)) (f : ℕ × LineFault) → with_lines (version_of lines) (length (head_of lines) + 1) (size_of (head_of lines)) [] (body_of lines) ≡ Err f → table_of_lines lines ≡ Err f
+read_err lines f e = read_as-is lines ∙ ap (λ r. r >>= table_from (version_of lines)) e
+
+pub read_text : (text : List ℕ) (table : TableValue) → table_of_text text ≡ Ok table → IsTextOf text table
+read_text text table e =
+    let lines : List (List ℕ) = raw_lines text in
+    elim (outcome (version_of lines) (body_of lines) (length (head_of lines) + 1) (size_of (head_of lines)) []) [
+      | inl d ↦ subst (λ t. IsTextOf text t) (whole_ok (record { version = version_of lines; entries = d.entries }) table (table_of_text text) (read_ok lines d.entries d.is) e) (record {
+        version = refl;
+        lines = well_formed_lines (version_of lines) (head_of lines) (body_of lines) d.entries (omega (arith, head_small lines)) d.added;
+      })
+      | inr f ↦ whole_no table (length (head_of lines) + 1 + length f.before, f.kind) (table_of_text text) e (read_err lines (length (head_of lines) + 1 + length f.before, f.kind) f.is)
+    ]

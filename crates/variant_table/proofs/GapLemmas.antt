@@ -17,7 +17,7 @@ use Rattle.variant_table.proofs.ListLemmas.{take_next}
 use Rattle.std.proofs.lemmas.Map.Lookups.{CmpEqualImpliesEq, exact_bytes}
 use Rattle.std.proofs.lemmas.List.Elements.{All-contains, Contains-append_left, Contains-append_right, Contains-append_cases}
 use Rattle.std.proofs.lemmas.Slice.Eq.{bytes_eq-Decides}
-use Rattle.variant_table.specs.Entries.{Entry}
+use Rattle.variant_table.specs.Entries.{Entry, sequences_in}
 use Rattle.variant_table.specs.WellFormed.{IsEntry, IsWellFormed}
 use Rattle.variant_table.specs.Places.{entry_with}
 use Rattle.variant_table.specs.Gaps.{IsPair, IsGap, pair_cmp, AreGapsOf, has_variant, reverse_gaps, wanted_gap, further_gaps, gaps_by, gaps_through, gaps_of_entry, inserted, gaps_of, pair_of, pairs_of}
@@ -115,14 +115,14 @@ contradicts b e f = absurd (let g : true ≡ false = sym e ∙ f in cc)
 
 module _ (table : List Entry) (well : IsWellFormed table) where
   -- a variant is unlike its source
-  unlike : (e : Entry) (v : List ℕ) → Contains table e → Contains e.variants v → v ≡ e.source → ⊥
+  unlike : (e : Entry) (v : List ℕ) → Contains table e → Contains (sequences_in e.variants) v → v ≡ e.source → ⊥
   unlike e v h m same =
       let d = (All-contains IsEntry table e well.entries h).distinct in
       d 0 (suc m.0) v (omega arith) (omega (arith, m.1)) (sym (m.2 ∙ same))
 
   -- the variants of a source are those of its one entry
-  of_source : (e : Entry) (s v : List ℕ) → Contains table e → e.source ≡ s → IsPair table s v → Contains e.variants v
-  of_source e s v h is p = subst (λ x. Contains x.variants v) (same_entry table p.0 e well.sources p.1 h (p.2 ∙ sym is)) p.3
+  of_source : (e : Entry) (s v : List ℕ) → Contains table e → e.source ≡ s → IsPair table s v → Contains (sequences_in e.variants) v
+  of_source e s v h is p = subst (λ x. Contains (sequences_in x.variants) v) (same_entry table p.0 e well.sources p.1 h (p.2 ∙ sym is)) p.3
 
   -- two pairs that are equal
   left : (a b x y : List ℕ) → Contains (pair a b ∷ []) (pair x y) → a ≡ x
@@ -132,17 +132,17 @@ module _ (table : List Entry) (well : IsWellFormed table) where
   right a b x y c = ap (λ (p : Pair). p.1) (Contains-one (pair a b) (pair x y) c)
 
   -- a variant without an entry of its own lacks the reverse pair
-  alone_gap : (e : Entry) (v a b : List ℕ) → Contains table e → Contains e.variants v → entry_with table v ≡ None → Contains (pair v e.source ∷ []) (pair a b) → IsGap table a b
+  alone_gap : (e : Entry) (v a b : List ℕ) → Contains table e → Contains (sequences_in e.variants) v → entry_with table v ≡ None → Contains (pair v e.source ∷ []) (pair a b) → IsGap table a b
   alone_gap e v a b h m is c =
       let l : v ≡ a = left v e.source a b c in
       let r : e.source ≡ b = right v e.source a b c in
       record {
         unlike = λ eq. unlike e v h m (l ∙ eq ∙ sym r);
         lacking = λ p. contradicts (bytes_eq p.0.source v) ((bytes_eq-Decides p.0.source v).1 (p.2 ∙ sym l)) (find_none (λ f. bytes_eq f.source v) table p.0 is p.1);
-        wanted = inl (e, h, r, subst (Contains e.variants) l m);
+        wanted = inl (e, h, r, subst (Contains (sequences_in e.variants)) l m);
       }
 
-  reverse_gap : (e f : Entry) (v a b : List ℕ) → Contains table e → Contains e.variants v → Contains table f → f.source ≡ v → (t : Bool) → has_variant f e.source ≡ t
+  reverse_gap : (e f : Entry) (v a b : List ℕ) → Contains table e → Contains (sequences_in e.variants) v → Contains table f → f.source ≡ v → (t : Bool) → has_variant f e.source ≡ t
       → Contains (cond t [] (pair v e.source ∷ [])) (pair a b) → IsGap table a b
   reverse_gap e f v a b h m k s true t c = absurd (Contains-none (pair a b) c)
   reverse_gap e f v a b h m k s false t c =
@@ -150,11 +150,11 @@ module _ (table : List Entry) (well : IsWellFormed table) where
       let r : e.source ≡ b = right v e.source a b c in
       record {
         unlike = λ eq. unlike e v h m (l ∙ eq ∙ sym r);
-        lacking = λ p. contradicts (has_variant f e.source) (any-member e.source f.variants (subst (Contains f.variants) (sym r) (of_source f a b k (s ∙ l) p))) t;
-        wanted = inl (e, h, r, subst (Contains e.variants) l m);
+        lacking = λ p. contradicts (has_variant f e.source) (any-member e.source (sequences_in f.variants) (subst (Contains (sequences_in f.variants)) (sym r) (of_source f a b k (s ∙ l) p))) t;
+        wanted = inl (e, h, r, subst (Contains (sequences_in e.variants)) l m);
       }
 
-  further_gap : (e f : Entry) (v w a b : List ℕ) → Contains table e → Contains e.variants v → Contains table f → f.source ≡ v → Contains f.variants w → (t : Bool) → (bytes_eq w e.source || has_variant e w) ≡ t
+  further_gap : (e f : Entry) (v w a b : List ℕ) → Contains table e → Contains (sequences_in e.variants) v → Contains table f → f.source ≡ v → Contains (sequences_in f.variants) w → (t : Bool) → (bytes_eq w e.source || has_variant e w) ≡ t
       → Contains (cond t [] (pair e.source w ∷ [])) (pair a b) → IsGap table a b
   further_gap e f v w a b h m k s n true t c = absurd (Contains-none (pair a b) c)
   further_gap e f v w a b h m k s n false t c =
@@ -163,18 +163,18 @@ module _ (table : List Entry) (well : IsWellFormed table) where
       let none = or_parts (bytes_eq w e.source) (has_variant e w) t in
       record {
         unlike = λ eq. contradicts (bytes_eq w e.source) ((bytes_eq-Decides w e.source).1 (r ∙ sym eq ∙ sym l)) none.0;
-        lacking = λ p. contradicts (has_variant e w) (any-member w e.variants (subst (Contains e.variants) (sym r) (of_source e a b h l p))) none.1;
-        wanted = inr (v, (e, h, l, m), (f, k, s, subst (Contains f.variants) r n));
+        lacking = λ p. contradicts (has_variant e w) (any-member w (sequences_in e.variants) (subst (Contains (sequences_in e.variants)) (sym r) (of_source e a b h l p))) none.1;
+        wanted = inr (v, (e, h, l, m), (f, k, s, subst (Contains (sequences_in f.variants)) r n));
       }
 
   -- what a pair asks for is a gap
-  by_gap : (e : Entry) (v a b : List ℕ) (o : Option Entry) → Contains table e → Contains e.variants v → entry_with table v ≡ o → Contains (gaps_by e v o) (pair a b) → IsGap table a b
+  by_gap : (e : Entry) (v a b : List ℕ) (o : Option Entry) → Contains table e → Contains (sequences_in e.variants) v → entry_with table v ≡ o → Contains (gaps_by e v o) (pair a b) → IsGap table a b
   by_gap e v a b None h m is c = alone_gap e v a b h m is c
   by_gap e v a b (Some f) h m is c =
       let s = entry_with-found table v f is in
       elim (Contains-append_cases (reverse_gaps e v f) (further_gaps e f) (pair a b) c) [
         | inl k ↦ reverse_gap e f v a b h m s.0 s.1 (has_variant f e.source) refl k
-        | inr k ↦ let w = flat_map-cases (wanted_gap e) f.variants (pair a b) k in further_gap e f v w.0 a b h m s.0 s.1 w.1 (bytes_eq w.0 e.source || has_variant e w.0) refl w.2
+        | inr k ↦ let w = flat_map-cases (wanted_gap e) (sequences_in f.variants) (pair a b) k in further_gap e f v w.0 a b h m s.0 s.1 w.1 (bytes_eq w.0 e.source || has_variant e w.0) refl w.2
       ]
 
   -- each gap is asked for
@@ -182,19 +182,19 @@ module _ (table : List Entry) (well : IsWellFormed table) where
   found_reverse e v None h is lacking = Contains-head (pair v e.source) []
   found_reverse e v (Some f) h is lacking =
       let of_v = entry_with-found table v f is in
-      let no_variant : has_variant f e.source ≡ false = false_from_ne_true (has_variant f e.source) (λ t. lacking (f, of_v.0, of_v.1, any-cases e.source f.variants t)) in
+      let no_variant : has_variant f e.source ≡ false = false_from_ne_true (has_variant f e.source) (λ t. lacking (f, of_v.0, of_v.1, any-cases e.source (sequences_in f.variants) t)) in
       Contains-append_left (reverse_gaps e v f) (further_gaps e f) (pair v e.source) (subst (λ t. Contains (cond t [] (pair v e.source ∷ [])) (pair v e.source)) (sym no_variant) (Contains-head (pair v e.source) []))
 
-  found_further : (e f : Entry) (v w : List ℕ) → entry_with table v ≡ Some f → Contains f.variants w → (w ≡ e.source → ⊥) → (Contains e.variants w → ⊥) → Contains (gaps_through table e v) (pair e.source w)
+  found_further : (e f : Entry) (v w : List ℕ) → entry_with table v ≡ Some f → Contains (sequences_in f.variants) w → (w ≡ e.source → ⊥) → (Contains (sequences_in e.variants) w → ⊥) → Contains (gaps_through table e v) (pair e.source w)
   found_further e f v w is m unlike_source lacking =
       let test : (bytes_eq w e.source || has_variant e w) ≡ false =
-      or_from (bytes_eq w e.source) (has_variant e w) (false_from_ne_true (bytes_eq w e.source) (λ t. unlike_source ((bytes_eq-Decides w e.source).0 t))) (false_from_ne_true (has_variant e w) (λ t. lacking (any-cases w e.variants t))) in
+      or_from (bytes_eq w e.source) (has_variant e w) (false_from_ne_true (bytes_eq w e.source) (λ t. unlike_source ((bytes_eq-Decides w e.source).0 t))) (false_from_ne_true (has_variant e w) (λ t. lacking (any-cases w (sequences_in e.variants) t))) in
       subst (λ o. Contains (gaps_by e v o) (pair e.source w)) (sym is)
       (Contains-append_right (reverse_gaps e v f) (further_gaps e f) (pair e.source w)
-      (flat_map-member (wanted_gap e) f.variants w (pair e.source w) m (subst (λ t. Contains (cond t [] (pair e.source w ∷ [])) (pair e.source w)) (sym test) (Contains-head (pair e.source w) []))))
+      (flat_map-member (wanted_gap e) (sequences_in f.variants) w (pair e.source w) m (subst (λ t. Contains (cond t [] (pair e.source w ∷ [])) (pair e.source w)) (sym test) (Contains-head (pair e.source w) []))))
 
-  all_pairs : (e : Entry) (v a b : List ℕ) → Contains table e → Contains e.variants v → Contains (gaps_through table e v) (pair a b) → Contains (flat_map (gaps_of_entry table) table) (pair a b)
-  all_pairs e v a b h m k = flat_map-member (gaps_of_entry table) table e (pair a b) h (flat_map-member (gaps_through table e) e.variants v (pair a b) m k)
+  all_pairs : (e : Entry) (v a b : List ℕ) → Contains table e → Contains (sequences_in e.variants) v → Contains (gaps_through table e v) (pair a b) → Contains (flat_map (gaps_of_entry table) table) (pair a b)
+  all_pairs e v a b h m k = flat_map-member (gaps_of_entry table) table e (pair a b) h (flat_map-member (gaps_through table e) (sequences_in e.variants) v (pair a b) m k)
 
   found : (a b : List ℕ) → IsGap table a b → Contains (flat_map (gaps_of_entry table) table) (pair a b)
   found a b g = elim g.wanted [
@@ -210,7 +210,7 @@ module _ (table : List Entry) (well : IsWellFormed table) where
   is_gap : (a b : List ℕ) → Contains (flat_map (gaps_of_entry table) table) (pair a b) → IsGap table a b
   is_gap a b c =
       let r = flat_map-cases (gaps_of_entry table) table (pair a b) c in
-      let q = flat_map-cases (gaps_through table r.0) r.0.variants (pair a b) r.2 in
+      let q = flat_map-cases (gaps_through table r.0) (sequences_in r.0.variants) (pair a b) r.2 in
       by_gap r.0 q.0 a b (entry_with table q.0) r.1 q.1 refl q.2
 
   pub gaps_members : (a b : List ℕ) → Contains (gaps_of table) (pair a b) ↔ IsGap table a b
@@ -265,10 +265,6 @@ inserted_more f xs i x old e =
     ∙ fold-append (insert_key pair_cmp) old (flat_map f (take i xs)) (f x))
 
 -- ---- what a call gives
-
-pub rising_result : {E : Type 0} (r : Result (Vec Held Global) E) (keys : List Held) → IfOk r (λ v. v.items ≡ keys) → IsStrictlySortedBy held_cmp keys → IfOk r (λ v. IsStrictlySortedBy pair_cmp (pairs_of v.items))
-rising_result (Ok v) keys e h = subst (λ ks. IsStrictlySortedBy pair_cmp (pairs_of ks)) (sym e) (rising_pairs keys h)
-rising_result (Err f) keys e h = tt
 
 pub gaps_result : {E : Type 0} (table : List Entry) (well : IsWellFormed table) (r : Result (Vec Held Global) E) → IfOk r (λ v. pairs_of v.items ≡ gaps_of table) → IfOk r (λ v. IsStrictlySortedBy pair_cmp (pairs_of v.items)) → IfOk r (λ v. AreGapsOf table (pairs_of v.items))
 gaps_result table well (Ok v) e h = record { rising = h; members = λ a b. subst (λ l. Contains l (pair a b) ↔ IsGap table a b) (sym e) (gaps_members table well a b) }

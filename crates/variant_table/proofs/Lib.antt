@@ -24,3 +24,7 @@ pub mod WritingLemmas
 pub mod GapLemmas
 pub mod RisingLemmas
 pub mod ExampleLemmas
+pub mod RangeLemmas
+pub mod LengthLemmas
+pub mod UnblockedLemmas
+pub mod AddingLemmas

@@ -1,4 +1,4 @@
--- Canonical text is never longer than what was read.
+-- In version 1 canonical text is never longer than what was read.
 use Rattle.std.proofs.Common.{◌≡◌, inl, inr, ℕ, ◌+◌, ◌/◌, ◌%◌, ◌-◌, ◌<◌, ◌≤◌, Bool, true, false, cond, eqb, List, [], ◌∷◌, ◌++◌, length, take, refl, sym, ap, subst, ◌∙◌, arith, length-append, length-take}
 use Rattle.std.specs.Prelude.{nat_lt, slice_index}
 use Rattle.std.specs.Char.{digit_value}
@@ -11,14 +11,17 @@ use Rattle.std.proofs.lemmas.List.Concat.{flat_map-append}
 use Rattle.std.proofs.lemmas.List.Sums.{sum_by-cons}
 use Rattle.idn_text.proofs.LawLemmas.{joined-raw_lines}
 use Rattle.variant_table.specs.declared.token.Token.{Token}
-use Rattle.variant_table.specs.declared.token.Token.TheVariants.{Point, Hyphen, Bar, Colon, Unknown}
+use Rattle.variant_table.specs.declared.token.Token.TheVariants.{Point, Hyphen, Bar, Colon, Mark, Range, Unknown}
+use Rattle.variant_table.specs.declared.version.Version.{Version}
+use Rattle.variant_table.specs.declared.version.Version.TheVariants.{One, Two}
 use Rattle.idn_text.specs.Points.{is_hex_digit}
 use Rattle.variant_table.specs.Entries.{Entry}
 use Rattle.variant_table.specs.Notation.{entry_tokens, IsPointText, IsTokenText, SpellsTokens, IsEntryLine}
-use Rattle.variant_table.specs.Canonical.{four_digits, hex_digit, point_text, token_text, tokens_text, canonical_line, canonical_text}
-use Rattle.variant_table.specs.Texts.{LineSpells, LinesSpell, size_of}
+use Rattle.variant_table.specs.Canonical.{four_digits, hex_digit, point_text, token_text, tokens_text, canonical_line, canonical_text, table_text}
+use Rattle.variant_table.specs.Versions.{size_of, body_of, is_version_line}
+use Rattle.variant_table.specs.Texts.{LineSpells, LinesSpell}
 use Rattle.variant_table.proofs.HexLemmas.{IsHex, hex_facts, length-point_text}
-use Rattle.variant_table.proofs.FormLemmas.{none, one, spelling_of}
+use Rattle.variant_table.proofs.FormLemmas.{Spells, none, some, spelling_of}
 
 -- ---- a point
 
@@ -78,6 +81,8 @@ token_long (Point c) text t = point_long c text t
 token_long Hyphen text t = omega (arith, ap length t)
 token_long Bar text t = omega (arith, ap length t)
 token_long Colon text t = omega (arith, ap length t)
+token_long Mark text t = omega (arith, ap length t)
+token_long Range text t = omega (arith, ap length t)
 token_long Unknown text t = absurd t
 
 tokens_long : (tokens : List Token) (line : List ℕ) → SpellsTokens tokens line → length (tokens_text tokens) ≤ length line
@@ -95,23 +100,42 @@ stripped_long line = by_cases (eqb (slice_index line (length line - 1)) 13)
 pub canonical_line_long : (e : Entry) (line : List ℕ) → IsEntryLine e line → length (canonical_line e) ≤ length line
 canonical_line_long e line h = tokens_long (entry_tokens e) line h.1
 
-line_long : (line : List ℕ) (entries : List Entry) → LineSpells (strip_carriage_return line) entries → length (canonical_text entries) ≤ length line + 1
-line_long line entries s = elim (spelling_of (strip_carriage_return line) entries s) [
-  | none k is ↦ omega (arith, ap (λ es. length (canonical_text es)) is)
-  | one e h is ↦ omega (arith, ap (λ es. length (canonical_text es)) is, canonical_line_long e (strip_carriage_return line) h, stripped_long line, length-append (canonical_line e ++ 10 ∷ []) [], length-append (canonical_line e) (10 ∷ []))
-]
+-- in version 1 no line spells a range
+spelled_long : (line : List ℕ) (entries : List Entry) → Spells One (strip_carriage_return line) entries → length (canonical_text entries) ≤ length line + 1
+spelled_long line entries (inl h) =
+    omega (arith, ap (λ es. length (canonical_text es)) h.3, canonical_line_long h.0 (strip_carriage_return line) h.1, stripped_long line, length-append (canonical_line h.0 ++ 10 ∷ []) [], length-append (canonical_line h.0) (10 ∷ []))
+spelled_long line entries (inr h) = absurd (let other : One ≡ Two = h.3 in cc)
+
+line_long : (line : List ℕ) (entries : List Entry) → LineSpells One (strip_carriage_return line) entries → length (canonical_text entries) ≤ length line + 1
+line_long line entries s = elim (spelling_of One (strip_carriage_return line) entries s) [ none k is ↦ omega (arith, ap (λ es. length (canonical_text es)) is) | some h ↦ spelled_long line entries h ]
 
 -- ---- a text
 
 pub size_of-cons : (line : List ℕ) (lines : List (List ℕ)) → size_of (line ∷ lines) ≡ length line + 1 + size_of lines
 size_of-cons line lines = sum_by-cons (λ line. length line + 1) line lines
 
--- canonical text is at most as long as the lines that spelled it
-pub canonical_text_long : (lines : List (List ℕ)) (table : List Entry) → LinesSpell lines table → length (canonical_text table) ≤ size_of lines
+-- in version 1 canonical text is at most as long as the lines that spelled it
+pub canonical_text_long : (lines : List (List ℕ)) (table : List Entry) → LinesSpell One lines table → length (canonical_text table) ≤ size_of lines
 canonical_text_long [] table s = omega (arith, ap (λ t. length (canonical_text t)) s)
 canonical_text_long (line ∷ lines) table s =
     let cut : canonical_text (s.0 ++ s.1) ≡ canonical_text s.0 ++ canonical_text s.1 = flat_map-append (λ e. canonical_line e ++ 10 ∷ []) s.0 s.1 in
     omega (arith, ap (λ t. length (canonical_text t)) s.4, ap length cut, length-append (canonical_text s.0) (canonical_text s.1), line_long line s.0 s.2, canonical_text_long lines s.1 s.3, size_of-cons line lines)
+
+table_text_long : (v : Version) (lines : List (List ℕ)) (table : List Entry) → v ≡ One → LinesSpell v lines table → length (table_text v table) ≤ size_of lines
+table_text_long One lines table e s = canonical_text_long lines table s
+table_text_long Two lines table e s = absurd cc
+
+body_shorter : (lines : List (List ℕ)) → size_of (body_of lines) ≤ size_of lines
+body_shorter [] = omega arith
+body_shorter (line ∷ lines) = by_cases (is_version_line line)
+  where
+    by_cases : (b : Bool) → size_of (cond b lines (line ∷ lines)) ≤ size_of (line ∷ lines)
+    by_cases true = omega (arith, size_of-cons line lines)
+    by_cases false = omega arith
+
+-- in version 1 canonical text is at most as long as the text that was read
+pub never_longer : (v : Version) (lines : List (List ℕ)) (table : List Entry) → v ≡ One → LinesSpell v (body_of lines) table → length (table_text v table) ≤ size_of lines
+never_longer v lines table e s = omega (arith, table_text_long v (body_of lines) table e s, body_shorter lines)
 
 -- the lines joined, with a line feed behind each
 length-joined_lines : (lines : List (List ℕ)) → size_of lines ≡ length (joined_lines lines)

@@ -6,8 +6,8 @@ use Rattle.std.proofs.lemmas.List.Elements.{All-head, All-tail}
 use Rattle.std.proofs.lemmas.Bool.{ne_eqb}
 use Rattle.std.proofs.lemmas.List.{append-nil, take_more, take_rest, length-take-le}
 use Rattle.std.proofs.lemmas.List.Concat.{flat_map-append}
-use Rattle.variant_table.specs.Entries.{Entry}
-use Rattle.variant_table.specs.Notation.{further_points, sequence_tokens, further_variants, variants_tokens}
+use Rattle.variant_table.specs.Entries.{Variant, Entry}
+use Rattle.variant_table.specs.Notation.{mark_tokens, variant_tokens, further_points, sequence_tokens, further_variants, variants_tokens}
 use Rattle.variant_table.specs.Canonical.{point_text, token_text, tokens_text, sequence_text, separator, canonical_line, canonical_text}
 use Rattle.variant_table.proofs.HexLemmas.{length-point_text}
 use Rattle.variant_table.proofs.ListLemmas.{take_next}
@@ -37,33 +37,39 @@ length-further_text (c ∷ points) = omega (arith, length-append (point_text c) 
 
 -- ---- an entry
 
-abbrev pub variants_text : List (List ℕ) → List ℕ
+abbrev pub variant_text : Variant → List ℕ
+variant_text v = tokens_text (variant_tokens v)
+
+abbrev pub variants_text : List Variant → List ℕ
 variants_text variants = tokens_text (variants_tokens variants)
 
-further_variant : (variants : List (List ℕ)) (v : List ℕ) → tokens_text (further_variants (variants ++ v ∷ [])) ≡ tokens_text (further_variants variants) ++ 58 ∷ sequence_text v
-further_variant [] v = ap (λ t. 58 ∷ t) (flat_map-append token_text (sequence_tokens v) [] ∙ append-nil (sequence_text v))
+further_variant : (variants : List Variant) (v : Variant) → tokens_text (further_variants (variants ++ v ∷ [])) ≡ tokens_text (further_variants variants) ++ 58 ∷ variant_text v
+further_variant [] v = ap (λ t. 58 ∷ t) (flat_map-append token_text (variant_tokens v) [] ∙ append-nil (variant_text v))
 further_variant (u ∷ variants) v =
-    let front : List ℕ = sequence_text u in
+    let front : List ℕ = variant_text u in
     let rest : List ℕ = tokens_text (further_variants variants) in
-    ap (λ t. 58 ∷ t) (flat_map-append token_text (sequence_tokens u) (further_variants (variants ++ v ∷ [])) ∙ ap (λ t. front ++ t) (further_variant variants v)
-    ∙ sym (append_assoc front rest (58 ∷ sequence_text v)) ∙ ap (λ t. t ++ 58 ∷ sequence_text v) (sym (flat_map-append token_text (sequence_tokens u) (further_variants variants))))
+    ap (λ t. 58 ∷ t) (flat_map-append token_text (variant_tokens u) (further_variants (variants ++ v ∷ [])) ∙ ap (λ t. front ++ t) (further_variant variants v)
+    ∙ sym (append_assoc front rest (58 ∷ variant_text v)) ∙ ap (λ t. t ++ 58 ∷ variant_text v) (sym (flat_map-append token_text (variant_tokens u) (further_variants variants))))
 
 separator-later : (n : ℕ) → separator (suc n) ≡ 58
 separator-later n = ap (λ b. cond b 124 58) (ne_eqb (suc n) 0 (λ e. omega (arith, e)))
 
-variants_push : (variants : List (List ℕ)) (v : List ℕ) → variants_text (variants ++ v ∷ []) ≡ variants_text variants ++ separator (length variants) ∷ sequence_text v
-variants_push [] v = ap (λ t. 124 ∷ t) (flat_map-append token_text (sequence_tokens v) [] ∙ append-nil (sequence_text v))
+variants_push : (variants : List Variant) (v : Variant) → variants_text (variants ++ v ∷ []) ≡ variants_text variants ++ separator (length variants) ∷ variant_text v
+variants_push [] v = ap (λ t. 124 ∷ t) (flat_map-append token_text (variant_tokens v) [] ∙ append-nil (variant_text v))
 variants_push (u ∷ variants) v =
-    let front : List ℕ = sequence_text u in
+    let front : List ℕ = variant_text u in
     let rest : List ℕ = tokens_text (further_variants variants) in
-    ap (λ t. 124 ∷ t) (flat_map-append token_text (sequence_tokens u) (further_variants (variants ++ v ∷ [])) ∙ ap (λ t. front ++ t) (further_variant variants v)
-    ∙ sym (append_assoc front rest (58 ∷ sequence_text v)) ∙ ap (λ t. t ++ 58 ∷ sequence_text v) (sym (flat_map-append token_text (sequence_tokens u) (further_variants variants))))
-    ∙ ap (λ s. variants_text (u ∷ variants) ++ s ∷ sequence_text v) (sym (separator-later (length variants)))
+    ap (λ t. 124 ∷ t) (flat_map-append token_text (variant_tokens u) (further_variants (variants ++ v ∷ [])) ∙ ap (λ t. front ++ t) (further_variant variants v)
+    ∙ sym (append_assoc front rest (58 ∷ variant_text v)) ∙ ap (λ t. t ++ 58 ∷ variant_text v) (sym (flat_map-append token_text (variant_tokens u) (further_variants variants))))
+    ∙ ap (λ s. variants_text (u ∷ variants) ++ s ∷ variant_text v) (sym (separator-later (length variants)))
 
-pub variants_more : (variants : List (List ℕ)) (i : ℕ) (v : List ℕ) → slice_get variants i ≡ Some v → i < length variants → variants_text (take (i + 1) variants) ≡ variants_text (take i variants) ++ separator i ∷ sequence_text v
+pub variants_more : (variants : List Variant) (i : ℕ) (v : Variant) → slice_get variants i ≡ Some v → i < length variants → variants_text (take (i + 1) variants) ≡ variants_text (take i variants) ++ separator i ∷ variant_text v
 variants_more variants i v e l =
     ap variants_text (take_next variants i v e) ∙ variants_push (take i variants) v
-    ∙ ap (λ n. variants_text (take i variants) ++ separator n ∷ sequence_text v) (length-take-le i variants (omega (arith, l)))
+    ∙ ap (λ n. variants_text (take i variants) ++ separator n ∷ variant_text v) (length-take-le i variants (omega (arith, l)))
+
+pub variant_text-is : (v : Variant) → variant_text v ≡ tokens_text (mark_tokens v.blocked) ++ sequence_text v.sequence
+variant_text-is v = flat_map-append token_text (mark_tokens v.blocked) (sequence_tokens v.sequence)
 
 pub canonical_line-is : (e : Entry) → canonical_line e ≡ sequence_text e.source ++ variants_text e.variants
 canonical_line-is e = flat_map-append token_text (sequence_tokens e.source) (variants_tokens e.variants)

@@ -1,8 +1,10 @@
--- The canonical text of a table: its tokens with nothing between them, an entry a line.
-use Rattle.std.specs.Prelude.{ℕ, ◌+◌, ◌/◌, ◌%◌, nat_lt, ◌==◌, List, [], ◌∷◌, ◌++◌, if◌then◌else◌}
+-- The canonical text of a table: its tokens with nothing between them, an entry a line; in version 2 behind the version line.
+use Rattle.std.specs.Prelude.{ℕ, ◌+◌, ◌/◌, ◌%◌, nat_lt, ◌==◌, List, [], ◌∷◌, ◌++◌, codes, if◌then◌else◌}
 use Rattle.std.specs.List.{flat_map}
 use Rattle.variant_table.specs.declared.token.Token.{Token}
-use Rattle.variant_table.specs.declared.token.Token.TheVariants.{Point, Hyphen, Bar, Colon, Unknown}
+use Rattle.variant_table.specs.declared.token.Token.TheVariants.{Point, Hyphen, Bar, Colon, Mark, Range, Unknown}
+use Rattle.variant_table.specs.declared.version.Version.{Version}
+use Rattle.variant_table.specs.declared.version.Version.TheVariants.{One, Two}
 use Rattle.variant_table.specs.Entries.{Entry}
 use Rattle.variant_table.specs.Notation.{sequence_tokens, entry_tokens}
 
@@ -27,6 +29,8 @@ token_text (Point c) = point_text c
 token_text Hyphen = 45 ∷ []
 token_text Bar = 124 ∷ []
 token_text Colon = 58 ∷ []
+token_text Mark = 33 ∷ []
+token_text Range = 46 ∷ 46 ∷ []
 token_text Unknown = []
 
 -- tokens with nothing between them
@@ -45,6 +49,19 @@ separator variant = if variant == 0 then 124 else 58
 abbrev pub canonical_line : Entry → List ℕ
 canonical_line e = tokens_text (entry_tokens e)
 
--- the canonical text of a table: for each entry its line and a line feed
+-- the canonical text of entries: for each its line and a line feed
 abbrev pub canonical_text : List Entry → List ℕ
 canonical_text table = flat_map (λ e. canonical_line e ++ 10 ∷ []) table
+
+-- the line that begins a text of version 2
+abbrev pub version_line : List ℕ
+version_line = codes "%version 2"
+
+-- what stands before the entries: in version 1 nothing, in version 2 the version line and its line feed
+abbrev pub head_text : Version → List ℕ
+head_text One = []
+head_text Two = version_line ++ 10 ∷ []
+
+-- the canonical text of a table of this version
+abbrev pub table_text : Version → List Entry → List ℕ
+table_text version table = head_text version ++ canonical_text table

@@ -1,8 +1,11 @@
 -- What may be wrong with a line and its entries.
-use Rattle.std.specs.Prelude.{ℕ, ◌+◌, Bool, false, ◌||◌, not, nat_lt, List, [], ◌∷◌, length, bytes_eq}
+use Rattle.std.specs.Prelude.{ℕ, ◌+◌, ◌++◌, Bool, false, ◌||◌, not, nat_lt, List, [], ◌∷◌, length, bytes_eq}
 use Rattle.std.specs.List.{list_any}
 use Rattle.idn_class.specs.Class.{class_of}
+use Rattle.variant_table.specs.declared.version.Version.{Version}
+use Rattle.variant_table.specs.declared.version.Version.TheVariants.{One, Two}
 use Rattle.variant_table.specs.Entries.{Entry, replacements}
+use Rattle.variant_table.specs.Canonical.{table_text}
 use Rattle.variant_table.specs.WellFormed.{is_table_class}
 
 -- more than 1,024 bytes, or past byte 1,048,576 of the text with its line feed, where so many bytes stand before it
@@ -13,9 +16,15 @@ is_too_long bytes line = nat_lt 1024 (length line) || nat_lt 1048576 (bytes + le
 abbrev pub is_too_large : Entry → Bool
 is_too_large e = nat_lt 16 (length e.variants) || list_any (λ s. nat_lt 8 (length s)) (replacements e)
 
--- an entry that is too large, or more than 4,096 entries with those of the table
-abbrev pub is_over_limit : List Entry → List Entry → Bool
-is_over_limit table entries = nat_lt 4096 (length table + length entries) || list_any is_too_large entries
+-- in version 2, a table whose canonical text has more than 1,048,576 bytes; in version 1 it is no longer than what was read
+abbrev pub is_text_too_long : Version → List Entry → Bool
+is_text_too_long One entries = false
+is_text_too_long Two entries = nat_lt 1048576 (length (table_text Two entries))
+
+-- an entry that is too large; or, with those of the table, more than 4,096 entries or too long a canonical text
+abbrev pub is_over_limit : Version → List Entry → List Entry → Bool
+is_over_limit version table entries =
+    nat_lt 4096 (length table + length entries) || list_any is_too_large entries || is_text_too_long version (table ++ entries)
 
 -- a code point of another class than PVALID, CONTEXTJ and CONTEXTO
 abbrev pub has_bad_point : List ℕ → Bool

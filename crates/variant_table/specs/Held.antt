@@ -1,21 +1,29 @@
 -- How a table lies in memory: sequences are parts of one vector of code points, entries are parts of the sequences.
-use Rattle.std.specs.Prelude.{ℕ, ◌<◌, ◌≤◌, List, map, All}
+use Rattle.std.specs.Prelude.{◌≡◌, ℕ, ◌<◌, ◌≤◌, List, length, map, All}
 use Rattle.std.specs.List.{slice_range}
 use Rattle.variant_table.specs.declared.sequences.Span.{Span}
-use Rattle.variant_table.specs.Entries.{Entry}
+use Rattle.variant_table.specs.declared.sequences.Part.{Part}
+use Rattle.variant_table.specs.Entries.{Variant, Entry}
+use Rattle.variant_table.specs.declared.version.Version.{Version}
+use Rattle.variant_table.specs.declared.version.Version.TheVariants.{One, Two}
+use Rattle.variant_table.specs.Canonical.{table_text}
 use Rattle.variant_table.specs.Reading.{entry_from}
 
--- the parts of a list that the spans name
-abbrev pub parts_of : {X : Type 0} → List X → List Span → List (List X)
-parts_of xs spans = map (λ s. slice_range xs s.start s.end) spans
+-- the part of a list that a span names
+abbrev pub part_at : {X : Type 0} → List X → Span → List X
+part_at xs s = slice_range xs s.start s.end
+
+-- the sequences that the parts of a list of code points name, with their marks
+abbrev pub parts_of : List ℕ → List Part → List Variant
+parts_of points parts = map (λ p. record { sequence = part_at points p.span; blocked = p.blocked }) parts
 
 -- a span within the limit
 abbrev pub IsSpanBelow : ℕ → Span → Type 0
 IsSpanBelow limit s = (s.start ≤ s.end) × (s.end ≤ limit)
 
--- spans within the limit
-abbrev pub AreSpansBelow : ℕ → List Span → Type 0
-AreSpansBelow limit spans = All (IsSpanBelow limit) spans
+-- parts within the limit
+abbrev pub AreSpansBelow : ℕ → List Part → Type 0
+AreSpansBelow limit parts = All (λ p. IsSpanBelow limit p.span) parts
 
 -- a span within the limit that is not empty
 abbrev pub IsEntryBelow : ℕ → Span → Type 0
@@ -26,9 +34,19 @@ abbrev pub AreEntriesBelow : ℕ → List Span → Type 0
 AreEntriesBelow limit spans = All (IsEntryBelow limit) spans
 
 -- the entry whose sequences the span names
-abbrev pub entry_at : List (List ℕ) → Span → Entry
-entry_at sequences s = entry_from (slice_range sequences s.start s.end)
+abbrev pub entry_at : List Variant → Span → Entry
+entry_at sequences s = entry_from (part_at sequences s)
 
 -- the entries whose sequences the spans name
-abbrev pub entries_of : List (List ℕ) → List Span → List Entry
+abbrev pub entries_of : List Variant → List Span → List Entry
 entries_of sequences spans = map (entry_at sequences) spans
+
+-- the bytes of a canonical text, of which version 1, which doesn't limit them, counts none
+abbrev pub counted : Version → List ℕ → ℕ
+counted One text = 0
+counted Two text = length text
+
+-- so many bytes are counted of the canonical text of a table, which is within the limit
+pub record IsCounted (version : Version) (written : ℕ) (table : List Entry) : Type 0 where
+  pub count : written ≡ counted version (table_text version table)
+  pub within : written ≤ 1048576

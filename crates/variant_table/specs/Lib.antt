@@ -2,6 +2,8 @@ pub mod Entries
 pub mod Notation
 pub mod Canonical
 pub mod WellFormed
+pub mod Versions
+pub mod Ranges
 pub mod Conditions
 pub mod Texts
 pub mod Places

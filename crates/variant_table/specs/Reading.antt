@@ -1,15 +1,21 @@
 -- Reading as a function, line by line over the table so far.
-use Rattle.std.specs.Prelude.{◌≡◌, ◌⊎◌, ℕ, ◌+◌, Bool, true, false, ◌||◌, ◌==◌, nat_le, List, [], ◌∷◌, ◌++◌, length, Result, Ok, Err, if◌then◌else◌}
+use Rattle.std.specs.Prelude.{◌≡◌, ◌⊎◌, ℕ, ◌+◌, Bool, true, false, not, ◌||◌, ◌==◌, nat_le, Option, Some, None, List, [], ◌∷◌, ◌++◌, length, Result, Ok, Err, if◌then◌else◌}
+use Rattle.std.specs.List.{list_any}
 use Rattle.std.specs.Str.Lines.{strip_carriage_return}
 use Rattle.idn_text.specs.Lines.{raw_lines}
 use Rattle.variant_table.specs.declared.token.Token.{Token}
-use Rattle.variant_table.specs.declared.token.Token.TheVariants.{Point, Hyphen, Bar, Colon}
+use Rattle.variant_table.specs.declared.token.Token.TheVariants.{Point, Hyphen, Bar, Colon, Mark, Range}
 use Rattle.variant_table.specs.declared.fault.TableFault.{TableFault}
 use Rattle.variant_table.specs.declared.fault.TableFault.TheVariants as tables
 use Rattle.variant_table.specs.Faults.{LineFault, Limit, Syntax, BadClass, SameVariant, SameSource, table_fault}
 use Rattle.variant_table.specs.Tokens.{is_blank, tokens_of}
-use Rattle.variant_table.specs.Entries.{Entry}
-use Rattle.variant_table.specs.Conditions.{is_too_long, is_too_large, has_bad_class, has_repeat, has_source_in}
+use Rattle.variant_table.specs.declared.version.Version.{Version}
+use Rattle.variant_table.specs.declared.version.Version.TheVariants.{One, Two}
+use Rattle.variant_table.specs.Entries.{Variant, Entry, TableValue}
+use Rattle.variant_table.specs.Notation.{mark_tokens}
+use Rattle.variant_table.specs.Ranges.{range_entries}
+use Rattle.variant_table.specs.Versions.{version_of, head_of, body_of, size_of}
+use Rattle.variant_table.specs.Conditions.{is_too_long, is_over_limit, has_bad_class, has_repeat, has_source_in}
 
 -- ---- answers
 
@@ -41,22 +47,62 @@ is_skipped [] = true
 is_skipped (c ∷ cs) = if is_blank c then is_skipped cs else c == 35
 
 -- the entry that a list of sequences is, the source first
-abbrev pub entry_from : List (List ℕ) → Entry
+abbrev pub entry_from : List Variant → Entry
 entry_from [] = record { source = []; variants = [] }
-entry_from (source ∷ variants) = record { source = source; variants = variants }
+entry_from (first ∷ variants) = record { source = first.sequence; variants = variants }
+
+-- the sequences of an entry, the source first
+abbrev pub whole : Entry → List Variant
+whole e = record { sequence = e.source; blocked = false } ∷ e.variants
+
+-- a sequence of one code point, and one with a further code point
+abbrev pub begun : Bool → ℕ → Variant
+begun blocked c = record { sequence = c ∷ []; blocked = blocked }
+
+abbrev pub longer : Variant → ℕ → Variant
+longer v c = record { sequence = v.sequence ++ c ∷ []; blocked = v.blocked }
 
 -- behind a point: the sequences that are ended, and the one that this point may end
-unfoldable pub sequences_after : Bool → List (List ℕ) → List ℕ → List Token → Result (List (List ℕ)) LineFault
+unfoldable pub sequences_after : Bool → List Variant → Variant → List Token → Result (List Variant) LineFault
 sequences_after in_variants ended current [] = Ok (ended ++ current ∷ [])
-sequences_after in_variants ended current (Hyphen ∷ Point c ∷ tokens) = sequences_after in_variants ended (current ++ c ∷ []) tokens
-sequences_after false ended current (Bar ∷ Point c ∷ tokens) = sequences_after true (ended ++ current ∷ []) (c ∷ []) tokens
-sequences_after true ended current (Colon ∷ Point c ∷ tokens) = sequences_after true (ended ++ current ∷ []) (c ∷ []) tokens
+sequences_after in_variants ended current (Hyphen ∷ Point c ∷ tokens) = sequences_after in_variants ended (longer current c) tokens
+sequences_after false ended current (Bar ∷ Point c ∷ tokens) = sequences_after true (ended ++ current ∷ []) (begun false c) tokens
+sequences_after false ended current (Bar ∷ Mark ∷ Point c ∷ tokens) = sequences_after true (ended ++ current ∷ []) (begun true c) tokens
+sequences_after true ended current (Colon ∷ Point c ∷ tokens) = sequences_after true (ended ++ current ∷ []) (begun false c) tokens
+sequences_after true ended current (Colon ∷ Mark ∷ Point c ∷ tokens) = sequences_after true (ended ++ current ∷ []) (begun true c) tokens
 sequences_after in_variants ended current (token ∷ tokens) = Err Syntax
 
 -- the sequences of an entry's tokens, the source first
-unfoldable pub sequences_of : List Token → Result (List (List ℕ)) LineFault
-sequences_of (Point c ∷ tokens) = sequences_after false [] (c ∷ []) tokens
+unfoldable pub sequences_of : List Token → Result (List Variant) LineFault
+sequences_of (Point c ∷ tokens) = sequences_after false [] (begun false c) tokens
 sequences_of tokens = Err Syntax
+
+-- some sequence is blocked, and the version has no blocked ones
+abbrev pub has_mark_out_of_place : Version → List Variant → Bool
+has_mark_out_of_place One sequences = list_any (λ v. v.blocked) sequences
+has_mark_out_of_place Two sequences = false
+
+-- the entry of these sequences alone, where the version has it
+abbrev pub entry_alone : Version → List Variant → Result (List Entry) LineFault
+entry_alone version sequences = if has_mark_out_of_place version sequences then Err Syntax else Ok (entry_from sequences ∷ [])
+
+-- the entry of tokens, where the version has it
+abbrev pub entry_of_tokens : Version → List Token → Result (List Entry) LineFault
+entry_of_tokens version tokens = sequences_of tokens >>= entry_alone version
+
+-- the ends of the range that tokens are, where the version has ranges
+abbrev pub range_ends : Version → List Token → Option (ℕ × ℕ)
+range_ends Two (Point first ∷ Range ∷ Point last ∷ []) = Some (first, last)
+range_ends version tokens = None
+
+-- the entries of tokens, given the ends of their range or none
+abbrev pub entries_by : Version → List Token → Option (ℕ × ℕ) → Result (List Entry) LineFault
+entries_by version tokens None = entry_of_tokens version tokens
+entries_by version tokens (Some (first, last)) = if nat_le first last then Ok (range_entries first last) else Err Syntax
+
+-- the entries of a line's tokens
+unfoldable pub entries_of_tokens : Version → List Token → Result (List Entry) LineFault
+entries_of_tokens version tokens = entries_by version tokens (range_ends version tokens)
 
 -- ---- the table so far
 
@@ -64,23 +110,29 @@ sequences_of tokens = Err Syntax
 abbrev pub with_new_source : List Entry → Entry → Result (List Entry) LineFault
 with_new_source table e = if has_source_in table e then Err SameSource else Ok (table ++ e ∷ [])
 
--- the table with an entry
-unfoldable pub with_entry : List Entry → Entry → Result (List Entry) LineFault
-with_entry table e =
-    if nat_le 4096 (length table) || is_too_large e then Err Limit else
-    if has_bad_class e then Err BadClass else
-    if has_repeat e then Err SameVariant else
-    with_new_source table e
+-- the table with entries, one after another, whose sources are to be new
+abbrev pub with_new_sources : List Entry → List Entry → Result (List Entry) LineFault
+with_new_sources table [] = Ok table
+with_new_sources table (e ∷ entries) = with_new_source table e >>= λ t. with_new_sources t entries
+
+-- the table with the entries of a line
+unfoldable pub with_entries : Version → List Entry → List Entry → Result (List Entry) LineFault
+with_entries version table entries =
+    if is_over_limit version table entries then Err Limit else
+    if list_any has_bad_class entries then Err BadClass else
+    if list_any has_repeat entries then Err SameVariant else
+    if list_any (has_source_in table) entries then Err SameSource else
+    Ok (table ++ entries)
 
 -- the table with what a line adds
-unfoldable pub with_line : List Entry → List ℕ → Result (List Entry) LineFault
-with_line table line =
+unfoldable pub with_line : Version → List Entry → List ℕ → Result (List Entry) LineFault
+with_line version table line =
     if is_skipped line then Ok table else
-    (sequences_of (tokens_of line) >>= λ sequences. with_entry table (entry_from sequences))
+    (entries_of_tokens version (tokens_of line) >>= with_entries version table)
 
 -- the same, of a line as it stands in the text, behind so many bytes
-unfoldable pub with_raw_line : ℕ → List Entry → List ℕ → Result (List Entry) LineFault
-with_raw_line bytes table line = if is_too_long bytes line then Err Limit else with_line table (strip_carriage_return line)
+unfoldable pub with_raw_line : Version → ℕ → List Entry → List ℕ → Result (List Entry) LineFault
+with_raw_line version bytes table line = if is_too_long bytes line then Err Limit else with_line version table (strip_carriage_return line)
 
 -- a fault with the number of its line
 abbrev pub in_line : {A : Type 0} → ℕ → Result A LineFault → Result A (ℕ × LineFault)
@@ -88,14 +140,23 @@ in_line number (Ok x) = Ok x
 in_line number (Err fault) = Err (number, fault)
 
 -- the table with what lines add, the first of which has this number and stands behind so many bytes
-unfoldable pub with_lines : ℕ → ℕ → List Entry → List (List ℕ) → Result (List Entry) (ℕ × LineFault)
-with_lines number bytes table [] = Ok table
-with_lines number bytes table (line ∷ lines) =
-    in_line number (with_raw_line bytes table line) >>= λ t. with_lines (number + 1) (bytes + length line + 1) t lines
+unfoldable pub with_lines : Version → ℕ → ℕ → List Entry → List (List ℕ) → Result (List Entry) (ℕ × LineFault)
+with_lines version number bytes table [] = Ok table
+with_lines version number bytes table (line ∷ lines) =
+    in_line number (with_raw_line version bytes table line) >>= λ t. with_lines version (number + 1) (bytes + length line + 1) t lines
+
+-- the table of entries that were read
+abbrev pub table_from : Version → List Entry → Result TableValue (ℕ × LineFault)
+table_from version entries = Ok (record { version = version; entries = entries })
+
+-- the table that lines spell, the first of which may be a version line
+unfoldable pub table_of_lines : List (List ℕ) → Result TableValue (ℕ × LineFault)
+table_of_lines lines =
+    with_lines (version_of lines) (length (head_of lines) + 1) (size_of (head_of lines)) [] (body_of lines) >>= table_from (version_of lines)
 
 -- the table that a text spells, or the line and the kind of its first fault
-unfoldable pub table_of_text : List ℕ → Result (List Entry) (ℕ × LineFault)
-table_of_text text = with_lines 1 0 [] (raw_lines text)
+abbrev pub table_of_text : List ℕ → Result TableValue (ℕ × LineFault)
+table_of_text text = table_of_lines (raw_lines text)
 
 -- ---- a point that is to come next
 
@@ -109,6 +170,17 @@ abbrev pub IsPoint : ℕ → Result ℕ TableFault → List Token → List Token
 IsPoint number (Ok c) old new = old ≡ Point c ∷ new
 IsPoint number (Err fault) old new = (fault ≡ tables.Syntax number) × (BeginsWithPoint old → ⊥)
 
+-- the first token is a point, or a mark with a point behind it
+abbrev pub BeginsVariant : List Token → Type 0
+BeginsVariant (Point c ∷ tokens) = Unit {0}
+BeginsVariant (Mark ∷ Point c ∷ tokens) = Unit {0}
+BeginsVariant tokens = ⊥
+
+-- the point and the mark before it, if there is one, were taken off the tokens, or they don't begin so
+abbrev pub IsMarkedPoint : ℕ → Result (Bool × ℕ) TableFault → List Token → List Token → Type 0
+IsMarkedPoint number (Ok (blocked, c)) old new = old ≡ mark_tokens blocked ++ Point c ∷ new
+IsMarkedPoint number (Err fault) old new = (fault ≡ tables.Syntax number) × (BeginsVariant old → ⊥)
+
 -- ---- the whole text
 
 -- the fault that reading gives, unless memory was refused
@@ -116,6 +188,6 @@ abbrev pub FailsIn : {Y : Type 0} → TableFault → Result Y (ℕ × LineFault)
 FailsIn {Y} fault read = (fault ≡ tables.Memory) ⊎ ((line : ℕ) × (kind : LineFault) × (fault ≡ table_fault line kind) × (read ≡ Err (line, kind)))
 
 -- the answer is that of the function, unless memory was refused
-abbrev pub Reads : Result (List Entry) TableFault → Result (List Entry) (ℕ × LineFault) → Type 0
-Reads (Ok table) read = read ≡ Ok table
+abbrev pub Reads : Result (Version × List Entry) TableFault → Result TableValue (ℕ × LineFault) → Type 0
+Reads (Ok table) read = read ≡ table_from table.0 table.1
 Reads (Err fault) read = FailsIn fault read

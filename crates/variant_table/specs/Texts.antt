@@ -1,14 +1,18 @@
 -- What a text spells: one table, or one first fault.
-use Rattle.std.specs.Prelude.{◌≡◌, ◌⊎◌, ℕ, ◌+◌, ◌≤◌, ◌<◌, Bool, IsTrue, List, [], ◌∷◌, ◌++◌, length, sum_by, All}
+use Rattle.std.specs.Prelude.{◌≡◌, ◌⊎◌, ℕ, ◌+◌, ◌≤◌, ◌<◌, Bool, IsTrue, List, [], ◌∷◌, ◌++◌, length, All}
 use Rattle.std.specs.List.{list_any}
 use Rattle.std.specs.Str.Lines.{strip_carriage_return}
 use Rattle.idn_text.specs.Lines.{raw_lines}
 use Rattle.variant_table.specs.Faults.{LineFault, Limit, Syntax, BadClass, SameVariant, SameSource, table_fault}
 use Rattle.variant_table.specs.declared.fault.TableFault.{TableFault}
 use Rattle.variant_table.specs.declared.fault.TableFault.TheVariants.{Memory}
-use Rattle.variant_table.specs.Entries.{Entry}
-use Rattle.variant_table.specs.Notation.{AreBlanks, IsEntryLine}
-use Rattle.variant_table.specs.WellFormed.{IsWellFormed}
+use Rattle.variant_table.specs.declared.version.Version.{Version}
+use Rattle.variant_table.specs.declared.version.Version.TheVariants.{Two}
+use Rattle.variant_table.specs.Entries.{Entry, IsOfVersion, TableValue}
+use Rattle.variant_table.specs.Ranges.{range_entries}
+use Rattle.variant_table.specs.Versions.{version_of, head_of, body_of, size_of}
+use Rattle.variant_table.specs.Notation.{AreBlanks, IsEntryLine, IsRangeLine}
+use Rattle.variant_table.specs.WellFormed.{IsTable}
 use Rattle.variant_table.specs.Conditions.{is_too_long, is_over_limit, has_bad_class, has_repeat, has_source_in}
 
 -- ---- a line, less one carriage return at its end
@@ -17,34 +21,37 @@ use Rattle.variant_table.specs.Conditions.{is_too_long, is_over_limit, has_bad_c
 abbrev pub IsComment : List ℕ → Type 0
 IsComment line = (blanks : List ℕ) × (rest : List ℕ) × AreBlanks blanks × (line ≡ blanks ++ 35 ∷ rest)
 
--- the entries that a line spells: none by a blank line or a comment, one by the line of an entry
-abbrev pub LineSpells : List ℕ → List Entry → Type 0
-LineSpells line entries =
-    (AreBlanks line × (entries ≡ [])) ⊎ (IsComment line × (entries ≡ [])) ⊎ ((e : Entry) × IsEntryLine e line × (entries ≡ e ∷ []))
+-- the line spells the entries of a range, as it may in version 2
+abbrev pub SpellsRange : Version → List ℕ → List Entry → Type 0
+SpellsRange version line entries = (first : ℕ) × (last : ℕ) × IsRangeLine first last line × (version ≡ Two) × (entries ≡ range_entries first last)
+
+-- the entries that a line spells: none by a blank line or a comment, one by the line of an entry, and those of a range
+abbrev pub LineSpells : Version → List ℕ → List Entry → Type 0
+LineSpells version line entries =
+    (AreBlanks line × (entries ≡ [])) ⊎ (IsComment line × (entries ≡ []))
+    ⊎ ((e : Entry) × IsEntryLine e line × IsOfVersion version e × (entries ≡ e ∷ []))
+    ⊎ SpellsRange version line entries
 
 -- ---- a text without a fault
 
 -- the lines spell the entries, in the order of the lines
-abbrev pub LinesSpell : List (List ℕ) → List Entry → Type 0
-LinesSpell [] table = table ≡ []
-LinesSpell (line ∷ lines) table =
+abbrev pub LinesSpell : Version → List (List ℕ) → List Entry → Type 0
+LinesSpell version [] table = table ≡ []
+LinesSpell version (line ∷ lines) table =
     (entries : List Entry) × (others : List Entry)
-    × LineSpells (strip_carriage_return line) entries × LinesSpell lines others × (table ≡ entries ++ others)
+    × LineSpells version (strip_carriage_return line) entries × LinesSpell version lines others × (table ≡ entries ++ others)
 
--- the bytes of the lines, with a line feed for each
-abbrev pub size_of : List (List ℕ) → ℕ
-size_of lines = sum_by (λ line. length line + 1) lines
-
--- lines without a fault, and the table that they spell
-pub record AreLinesOf (lines : List (List ℕ)) (table : List Entry) : Type 0 where
-  pub spelled : LinesSpell lines table
+-- lines without a fault behind a version line or none, and the table that they spell
+pub record AreLinesOf (head lines : List (List ℕ)) (table : TableValue) : Type 0 where
+  pub spelled : LinesSpell table.version lines table.entries
   pub short : All (λ line. length line ≤ 1024) lines
-  pub size : size_of lines ≤ 1048576
-  pub well_formed : IsWellFormed table
+  pub size : size_of head + size_of lines ≤ 1048576
+  pub well_formed : IsTable table
 
 -- the text spells the table
-abbrev pub IsTextOf : List ℕ → List Entry → Type 0
-IsTextOf text table = AreLinesOf (raw_lines text) table
+pub record IsTextOf (text : List ℕ) (table : TableValue) : Type 0 where
+  pub version : version_of (raw_lines text) ≡ table.version
+  pub lines : AreLinesOf (head_of (raw_lines text)) (body_of (raw_lines text)) table
 
 -- ---- the first fault of a text
 
@@ -76,20 +83,20 @@ fault_of same_variant = SameVariant
 fault_of same_source = SameSource
 
 -- the line spells entries of which the test is true
-abbrev pub SpellsSuch : List ℕ → (List Entry → Bool) → Type 0
-SpellsSuch line test = (entries : List Entry) × LineSpells (strip_carriage_return line) entries × IsTrue (test entries)
+abbrev pub SpellsSuch : Version → List ℕ → (List Entry → Bool) → Type 0
+SpellsSuch version line test = (entries : List Entry) × LineSpells version (strip_carriage_return line) entries × IsTrue (test entries)
 
 -- the condition holds of a line, behind so many bytes of lines that spell the table
-abbrev pub Holds : ℕ → List Entry → List ℕ → Condition → Type 0
+abbrev pub Holds : ℕ → TableValue → List ℕ → Condition → Type 0
 Holds bytes table line too_long = IsTrue (is_too_long bytes line)
-Holds bytes table line no_form = (entries : List Entry) → LineSpells (strip_carriage_return line) entries → ⊥
-Holds bytes table line over_limit = SpellsSuch line (is_over_limit table)
-Holds bytes table line bad_class = SpellsSuch line (list_any has_bad_class)
-Holds bytes table line same_variant = SpellsSuch line (list_any has_repeat)
-Holds bytes table line same_source = SpellsSuch line (list_any (has_source_in table))
+Holds bytes table line no_form = (entries : List Entry) → LineSpells table.version (strip_carriage_return line) entries → ⊥
+Holds bytes table line over_limit = SpellsSuch table.version line (is_over_limit table.version table.entries)
+Holds bytes table line bad_class = SpellsSuch table.version line (list_any has_bad_class)
+Holds bytes table line same_variant = SpellsSuch table.version line (list_any has_repeat)
+Holds bytes table line same_source = SpellsSuch table.version line (list_any (has_source_in table.entries))
 
 -- the fault of such a line: that of the first condition that holds
-abbrev pub IsLineFault : ℕ → List Entry → List ℕ → LineFault → Type 0
+abbrev pub IsLineFault : ℕ → TableValue → List ℕ → LineFault → Type 0
 IsLineFault bytes table line fault =
     (c : Condition) × (fault_of c ≡ fault) × Holds bytes table line c
     × ((d : Condition) → order_of d < order_of c → Holds bytes table line d → ⊥)
@@ -99,11 +106,12 @@ pub record IsFaultOf (text : List ℕ) (number : ℕ) (fault : LineFault) : Type
   pub before : List (List ℕ)
   pub line : List ℕ
   pub behind : List (List ℕ)
-  pub table : List Entry
-  pub cut : raw_lines text ≡ before ++ line ∷ behind
-  pub numbered : number ≡ length before + 1
-  pub read : AreLinesOf before table
-  pub faulty : IsLineFault (size_of before) table line fault
+  pub table : TableValue
+  pub version : version_of (raw_lines text) ≡ table.version
+  pub cut : body_of (raw_lines text) ≡ before ++ line ∷ behind
+  pub numbered : number ≡ length (head_of (raw_lines text)) + length before + 1
+  pub read : AreLinesOf (head_of (raw_lines text)) before table
+  pub faulty : IsLineFault (size_of (head_of (raw_lines text)) + size_of before) table line fault
 
 -- the fault is the text's, or memory was refused
 abbrev pub IsToldOf : List ℕ → TableFault → Type 0

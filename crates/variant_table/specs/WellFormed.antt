@@ -4,8 +4,8 @@ use Rattle.idn_text.specs.Points.{IsScalarValue}
 use Rattle.idn_class.specs.declared.class.Class.{Class}
 use Rattle.idn_class.specs.declared.class.Class.TheVariants.{Pvalid, Contextj, Contexto}
 use Rattle.idn_class.specs.Class.{class_of}
-use Rattle.variant_table.specs.Entries.{Entry, replacements}
-use Rattle.variant_table.specs.Canonical.{canonical_text}
+use Rattle.variant_table.specs.Entries.{Entry, replacements, IsOfVersion, TableValue}
+use Rattle.variant_table.specs.Canonical.{canonical_text, table_text}
 
 -- PVALID, CONTEXTJ or CONTEXTO (RFC 5892, section 3)
 abbrev pub is_table_class : Class → Bool
@@ -37,3 +37,9 @@ pub record IsWellFormed (table : List Entry) : Type 0 where
   pub sources : AllPairs (λ e f. e.source ≢ f.source) table
   pub few : length table ≤ 4096
   pub short : length (canonical_text table) ≤ 1048576
+
+-- well-formed entries as the version has them, whose canonical text has at most 1,048,576 bytes with the version line
+pub record IsTable (table : TableValue) : Type 0 where
+  pub well_formed : IsWellFormed table.entries
+  pub of_version : All (IsOfVersion table.version) table.entries
+  pub short : length (table_text table.version table.entries) ≤ 1048576

@@ -3,9 +3,11 @@ ghost use Rattle.std.specs.Prelude.{◌≡◌, ◌+◌, ◌<◌, ◌≤◌, [], 
 ghost use Rattle.arrayvec.specs.ArrayVec.{array_vec_len};
 ghost use Rattle.idn_text.specs.Points.{AreScalarValues, IsScalarValue};
 ghost use Rattle.variant_table.specs.Canonical as text;
+ghost use Rattle.variant_table.specs.Notation.{mark_tokens};
 ghost use Rattle.variant_table.specs.WellFormed.{IsEntry};
 
 use crate::entry::Entry;
+use crate::version::{VERSION_LINE, Version};
 use arrayvec::ArrayVec;
 use std::alloc::AllocError;
 
@@ -81,6 +83,17 @@ fn push_byte(out: &mut ArrayVec<u8, 64>, byte: u8)
     out.push(byte);
 }
 
+/// Writes at the end what stands before the entries of a table of this version.
+pub fn push_head(out: &mut Vec<u8>, version: Version) -> Result<(), AllocError>
+    ensures { OnOk result (out.new.items ≡ out.old.items ++ text.head_text version) }
+{
+    if version == Version::Two {
+        out.extend_from_slice(VERSION_LINE)?;
+        out.push(b'\n')?;
+    }
+    Ok(())
+}
+
 /// Writes the canonical line of an entry and its line feed at the end.
 pub fn push_entry(out: &mut Vec<u8>, entry: &Entry) -> Result<(), AllocError>
     requires { IsEntry entry.now }
@@ -91,10 +104,21 @@ pub fn push_entry(out: &mut Vec<u8>, entry: &Entry) -> Result<(), AllocError>
     out.extend_from_slice(&sequence)?;
     for number in 1..entry.replacements() {
         out.push(separator_before(number - 1))?;
+        push_mark(out, entry.blocked(number))?;
         write_sequence(entry.replacement(number), &mut sequence);
         out.extend_from_slice(&sequence)?;
     }
     out.push(b'\n')?;
+    Ok(())
+}
+
+/// Writes the mark of a variant at the end, where it is blocked.
+fn push_mark(out: &mut Vec<u8>, blocked: bool) -> Result<(), AllocError>
+    ensures { OnOk result (out.new.items ≡ out.old.items ++ text.tokens_text (mark_tokens blocked)) }
+{
+    if blocked {
+        out.push(b'!')?;
+    }
     Ok(())
 }
 

@@ -1,7 +1,9 @@
 //! What may be wrong with an entry by itself.
-ghost use Rattle.std.specs.Prelude.{◌≡◌, ◌<◌, length, bytes_eq, drop, IfOk};
-ghost use Rattle.std.specs.List.{list_any};
+ghost use Rattle.std.specs.Prelude.{◌≡◌, ◌+◌, ◌<◌, ◌≤◌, ◌^◌, length, map, bytes_eq, drop, IfOk};
+ghost use Rattle.std.specs.List.{list_any, range_with_len};
 ghost use Rattle.variant_table.specs.Conditions as conditions;
+ghost use Rattle.variant_table.specs.Entries.{sequences_in};
+ghost use Rattle.variant_table.specs.Ranges.{point_entry};
 ghost use Rattle.variant_table.specs.Reading.{entry_from};
 ghost use Rattle.variant_table.specs.WellFormed.{is_table_class};
 
@@ -30,6 +32,19 @@ pub fn has_bad_class(alloc: Global, sequences: &Sequences) -> Result<bool, Alloc
 {
     for index in 0..sequences.len() {
         if has_bad_point(alloc, sequences.get(index))? {
+            return Ok(true);
+        }
+    }
+    Ok(false)
+}
+
+/// The same, of the entries of so many code points from this one on.
+pub fn has_bad_class_in(alloc: Global, first: u32, count: usize) -> Result<bool, AllocError>
+    requires { first + count ≤ 2 ^ 32 }
+    ensures { IfOk result (λ bad. bad ≡ list_any conditions.has_bad_class (map point_entry (range_with_len first count))) }
+{
+    for offset in 0..count {
+        if has_bad_point(alloc, &[first + offset as u32])? {
             return Ok(true);
         }
     }
@@ -69,7 +84,7 @@ pub fn has_repeat(sequences: &Sequences) -> bool
 
 /// Whether a sequence stands at this number or behind it.
 fn occurs_from(sequences: &Sequences, start: usize, wanted: &[u32]) -> bool
-    ensures { result ≡ list_any (bytes_eq wanted.now) (drop start sequences.now) }
+    ensures { result ≡ list_any (bytes_eq wanted.now) (drop start (sequences_in sequences.now)) }
 {
     sequences.from_index(start).any(|s| wanted == s)
 }

@@ -21,8 +21,8 @@ pub enum TableFault {
     /// A code point whose class is none of PVALID, CONTEXTJ and CONTEXTO.
     #[error("code point not allowed in a table")]
     BadClass { line: u64 },
-    /// A line of more than 1,024 bytes, a text of more than 1,048,576, a sequence of more than 8
-    /// code points, more than 16 variants, or more than 4,096 entries.
+    /// A line of more than 1,024 bytes, a text or a canonical text of more than 1,048,576, a sequence
+    /// of more than 8 code points, more than 16 variants, or more than 4,096 entries.
     #[error("table limit")]
     Limit { line: u64 },
     /// Memory was refused.

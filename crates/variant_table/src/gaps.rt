@@ -28,7 +28,10 @@ fn in_vector(alloc: Global, gaps: BTreeSet<Gap>) -> Result<Vec<Gap>, AllocError>
     ensures gaps { IfOk result (λ list. list.items ≡ gaps.keys) }
     ensures rising { IfOk result (λ list. IsStrictlySortedBy pair_cmp (pairs_of list.items)) }
 {
-    gaps.into_iter().collect(alloc)
+    // Not by `collect`, which goes on where the room that it takes ahead is refused.
+    let mut list = Vec::with_capacity(alloc, gaps.len())?;
+    list.extend(gaps.into_iter())?;
+    Ok(list)
 }
 
 /// Adds the gaps that the variants of an entry ask for.

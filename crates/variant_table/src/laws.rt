@@ -1,26 +1,29 @@
 //! Laws of the definitions, each the contract of a function that does nothing.
-ghost use Rattle.std.specs.Prelude.{◌≡◌, ◌↔◌, ◌⊎◌, ◌≤◌, ℕ, List, [], ◌∷◌, ◌++◌, length, Ok, Err, codes};
+ghost use Rattle.std.specs.Prelude.{◌≡◌, ◌↔◌, ◌⊎◌, ◌≤◌, ℕ, true, false, List, [], ◌∷◌, ◌++◌, length, Ok, Err, codes};
 ghost use Rattle.idn_text.specs.Lines.{raw_lines, with_last_feed};
 ghost use Rattle.variant_table.specs.Faults.{LineFault};
-ghost use Rattle.variant_table.specs.Canonical.{canonical_line, canonical_text};
-ghost use Rattle.variant_table.specs.Entries.{Entry, replacements};
+ghost use Rattle.variant_table.specs.Canonical.{canonical_line, table_text};
+ghost use Rattle.variant_table.specs.Entries.{Variant, Entry, TableValue, IsOfVersion, unblocked};
 ghost use Rattle.variant_table.specs.Notation.{IsEntryLine};
-ghost use Rattle.variant_table.specs.Reading.{sequences_of, entry_from, table_of_text};
-ghost use Rattle.variant_table.specs.Texts.{IsTextOf, IsFaultOf, size_of};
+ghost use Rattle.variant_table.specs.Reading.{sequences_of, entry_from, begun, whole, table_of_text};
+ghost use Rattle.variant_table.specs.Texts.{IsTextOf, IsFaultOf};
 ghost use Rattle.variant_table.specs.Tokens.{tokens_of};
+ghost use Rattle.variant_table.specs.Versions.{size_of};
+ghost use Rattle.variant_table.specs.Ranges.{point_entry};
+ghost use Rattle.variant_table.specs.declared.version.Version.TheVariants as versions;
 ghost use Rattle.variant_table.specs.Gaps.{AreGapsOf, gaps_of};
 ghost use Rattle.variant_table.specs.Places.{entries_at};
 ghost use Rattle.variant_table.specs.Faults as faults;
-ghost use Rattle.variant_table.specs.WellFormed.{IsEntry, IsWellFormed};
+ghost use Rattle.variant_table.specs.WellFormed.{IsEntry, IsWellFormed, IsTable};
 
 /// The line of an entry is read as that entry.
 pub fn entry_line_is_read()
-    ensures { (e : Entry) (line : List ℕ) → IsEntryLine e line → sequences_of (tokens_of line) ≡ Ok (replacements e) }
+    ensures { (e : Entry) (line : List ℕ) → IsEntryLine e line → sequences_of (tokens_of line) ≡ Ok (whole e) }
 {}
 
 /// What is read as an entry is a line of that entry.
 pub fn what_is_read_is_an_entry_line()
-    ensures { (line : List ℕ) (sequences : List (List ℕ)) → sequences_of (tokens_of line) ≡ Ok sequences → IsEntryLine (entry_from sequences) line }
+    ensures { (line : List ℕ) (sequences : List Variant) → sequences_of (tokens_of line) ≡ Ok sequences → IsEntryLine (entry_from sequences) line }
 {}
 
 /// A line is a line of one entry at most.
@@ -30,32 +33,34 @@ pub fn a_line_has_one_entry()
 
 /// The function that reads a text tells exactly what the definitions say of it.
 pub fn reading_is_exact()
-    ensures table { (text : List ℕ) (table : List Entry) → (table_of_text text ≡ Ok table) ↔ IsTextOf text table }
+    ensures table { (text : List ℕ) (table : TableValue) → (table_of_text text ≡ Ok table) ↔ IsTextOf text table }
     ensures fault { (text : List ℕ) (line : ℕ) (kind : LineFault) → (table_of_text text ≡ Err (line, kind)) ↔ IsFaultOf text line kind }
 {}
 
 /// Each text has exactly one table, or exactly one fault: a line and what is told of it.
 pub fn a_text_has_one_table_or_one_fault()
-    ensures some { (text : List ℕ) → ((table : List Entry) × IsTextOf text table)
+    ensures some { (text : List ℕ) → ((table : TableValue) × IsTextOf text table)
         ⊎ ((line : ℕ) × (kind : LineFault) × IsFaultOf text line kind) }
-    ensures not_both { (text : List ℕ) (table : List Entry) (line : ℕ) (kind : LineFault) →
+    ensures not_both { (text : List ℕ) (table : TableValue) (line : ℕ) (kind : LineFault) →
         IsTextOf text table → IsFaultOf text line kind → ⊥ }
-    ensures one_table { (text : List ℕ) (a b : List Entry) → IsTextOf text a → IsTextOf text b → a ≡ b }
+    ensures one_table { (text : List ℕ) (a b : TableValue) → IsTextOf text a → IsTextOf text b → a ≡ b }
     ensures one_fault { (text : List ℕ) (m n : ℕ) (f g : LineFault) →
         IsFaultOf text m f → IsFaultOf text n g → (m ≡ n) × (f ≡ g) }
 {}
 
 /// The canonical text of a well-formed table spells that table.
 pub fn canonical_text_is_read_back()
-    ensures { (table : List Entry) → IsWellFormed table → IsTextOf (canonical_text table) table }
+    ensures { (table : TableValue) → IsTable table → IsTextOf (table_text table.version table.entries) table }
 {}
 
-/// The canonical text of a table is at most as long as any text that spells it, with a line feed
-/// behind a rest that has none; and a line of it has at most 951 bytes.
+/// The canonical text of a table of version 1 is at most as long as any text that spells it, with a
+/// line feed behind a rest that has none; and a line of it has at most 951 bytes, of a table of version 2
+/// at most 967.
 pub fn canonical_text_is_never_longer()
-    ensures text { (text : List ℕ) (table : List Entry) → IsTextOf text table →
-        length (canonical_text table) ≤ size_of (raw_lines text) }
-    ensures line { (e : Entry) → IsEntry e → length (canonical_line e) ≤ 951 }
+    ensures text { (text : List ℕ) (table : TableValue) → IsTextOf text table → table.version ≡ versions.One →
+        length (table_text table.version table.entries) ≤ size_of (raw_lines text) }
+    ensures line { (e : Entry) → IsEntry e → IsOfVersion versions.One e → length (canonical_line e) ≤ 951 }
+    ensures marked { (e : Entry) → IsEntry e → length (canonical_line e) ≤ 967 }
     ensures feeds { (text : List ℕ) → size_of (raw_lines text) ≡ length (with_last_feed text) }
 {}
 
@@ -64,19 +69,45 @@ pub fn gaps_of_are_the_gaps()
     ensures { (table : List Entry) → IsWellFormed table → AreGapsOf table (gaps_of table) }
 {}
 
-/// Examples, which the definitions compute.
+/// Examples of version 1, which the definitions compute.
 pub fn definitions_compute_the_examples()
-    ensures read { sequences_of (tokens_of (codes "u+0061 | 0062 : 0063-0064")) ≡ Ok ((97 ∷ []) ∷ (98 ∷ []) ∷ (99 ∷ 100 ∷ []) ∷ []) }
-    ensures written { canonical_text (record { source = 97 ∷ []; variants = (98 ∷ []) ∷ (99 ∷ 100 ∷ []) ∷ [] } ∷ []) ≡ codes "0061|0062:0063-0064" ++ 10 ∷ [] }
+    ensures read { sequences_of (tokens_of (codes "u+0061 | 0062 : 0063-0064")) ≡ Ok (begun false 97 ∷ begun false 98 ∷ record { sequence = 99 ∷ 100 ∷ []; blocked = false } ∷ []) }
+    ensures written { table_text versions.One (record { source = 97 ∷ []; variants = begun false 98 ∷ record { sequence = 99 ∷ 100 ∷ []; blocked = false } ∷ [] } ∷ []) ≡ codes "0061|0062:0063-0064" ++ 10 ∷ [] }
     ensures six { canonical_line (record { source = 0x10FFFF ∷ 0x4E2D ∷ []; variants = [] }) ≡ codes "10FFFF-4E2D" }
     ensures syntax { table_of_text (codes "0061|") ≡ Err (1, faults.Syntax) }
+    ensures range { table_of_text (codes "0061..0063") ≡ Err (1, faults.Syntax) }
+    ensures blocked { table_of_text (codes "0061|!0062") ≡ Err (1, faults.Syntax) }
+    ensures version { table_of_text (codes "%version 3") ≡ Err (1, faults.Syntax) }
+    ensures later { table_of_text (10 ∷ codes "%version 2") ≡ Err (2, faults.Syntax) }
     ensures limit { table_of_text (codes "0041-0041-0041-0041-0041-0041-0041-0041-0041") ≡ Err (1, faults.Limit) }
     ensures bad_class { table_of_text (codes "0041") ≡ Err (1, faults.BadClass) }
     ensures same_variant { table_of_text (codes "0061|0061") ≡ Err (1, faults.SameVariant) }
     ensures same_source { table_of_text (codes "0061" ++ 10 ∷ codes "0061") ≡ Err (2, faults.SameSource) }
-    ensures gaps { gaps_of (record { source = 97 ∷ []; variants = (97 ∷ 97 ∷ []) ∷ [] } ∷ []) ≡ (97 ∷ 97 ∷ [], 97 ∷ []) ∷ [] }
-    ensures chain { gaps_of (record { source = 97 ∷ []; variants = (98 ∷ []) ∷ [] } ∷ record { source = 98 ∷ []; variants = (97 ∷ []) ∷ (99 ∷ []) ∷ [] } ∷ record { source = 99 ∷ []; variants = (98 ∷ []) ∷ [] } ∷ [])
+    ensures gaps { gaps_of (record { source = 97 ∷ []; variants = record { sequence = 97 ∷ 97 ∷ []; blocked = false } ∷ [] } ∷ []) ≡ (97 ∷ 97 ∷ [], 97 ∷ []) ∷ [] }
+    ensures chain { gaps_of (record { source = 97 ∷ []; variants = begun false 98 ∷ [] } ∷ record { source = 98 ∷ []; variants = begun true 97 ∷ begun false 99 ∷ [] } ∷ record { source = 99 ∷ []; variants = begun false 98 ∷ [] } ∷ [])
         ≡ (97 ∷ [], 99 ∷ []) ∷ (99 ∷ [], 97 ∷ []) ∷ [] }
-    ensures places { entries_at (record { source = 115 ∷ []; variants = [] } ∷ record { source = 115 ∷ 115 ∷ []; variants = (0xDF ∷ []) ∷ [] } ∷ []) (115 ∷ 115 ∷ 115 ∷ []) 2
-        ≡ record { source = 115 ∷ []; variants = [] } ∷ [] }
+    ensures places { entries_at (point_entry 115 ∷ record { source = 115 ∷ 115 ∷ []; variants = begun false 0xDF ∷ [] } ∷ []) (115 ∷ 115 ∷ 115 ∷ []) 2
+        ≡ point_entry 115 ∷ [] }
+{}
+
+/// Examples of version 2.
+pub fn definitions_compute_the_examples_of_version_2()
+    ensures table { table_of_text (codes "%version 2" ++ 10 ∷ codes "0061..0063" ++ 10 ∷ codes "0078|!0079:007A") ≡ Ok (record {
+      version = versions.Two;
+      entries = point_entry 0x61 ∷ point_entry 0x62 ∷ point_entry 0x63 ∷ record { source = 0x78 ∷ []; variants = begun true 0x79 ∷ begun false 0x7A ∷ [] } ∷ [];
+    }) }
+    ensures written { table_text versions.Two (point_entry 0x61 ∷ point_entry 0x62 ∷ point_entry 0x63 ∷ record { source = 0x78 ∷ []; variants = begun true 0x79 ∷ begun false 0x7A ∷ [] } ∷ [])
+        ≡ codes "%version 2" ++ 10 ∷ codes "0061" ++ 10 ∷ codes "0062" ++ 10 ∷ codes "0063" ++ 10 ∷ codes "0078|!0079:007A" ++ 10 ∷ [] }
+    ensures unblocked { unblocked (record { source = 0x78 ∷ []; variants = begun true 0x79 ∷ begun false 0x7A ∷ [] } ∷ []) ≡ record { source = 0x78 ∷ []; variants = begun false 0x7A ∷ [] } ∷ [] }
+    ensures empty { table_of_text (codes "%version 2" ++ 13 ∷ []) ≡ Ok (record { version = versions.Two; entries = [] }) }
+    ensures falling { table_of_text (codes "%version 2" ++ 10 ∷ codes "0063..0061") ≡ Err (2, faults.Syntax) }
+    ensures marked_source { table_of_text (codes "%version 2" ++ 10 ∷ codes "!0061|0062") ≡ Err (2, faults.Syntax) }
+    ensures variant_range { table_of_text (codes "%version 2" ++ 10 ∷ codes "0061|0062..0063") ≡ Err (2, faults.Syntax) }
+    ensures again { table_of_text (codes "%version 2" ++ 10 ∷ codes "%version 2") ≡ Err (2, faults.Syntax) }
+    ensures stops { table_of_text (codes "%version 2" ++ 10 ∷ codes "0061...0063") ≡ Err (2, faults.Syntax) }
+    ensures stops_apart { table_of_text (codes "%version 2" ++ 10 ∷ codes "0061. .0063") ≡ Err (2, faults.Syntax) }
+    ensures same_variant { table_of_text (codes "%version 2" ++ 10 ∷ codes "0061|0062:!0062") ≡ Err (2, faults.SameVariant) }
+    ensures bad_class { table_of_text (codes "%version 2" ++ 10 ∷ codes "005A..0061") ≡ Err (2, faults.BadClass) }
+    ensures same_source { table_of_text (codes "%version 2" ++ 10 ∷ codes "0062" ++ 10 ∷ codes "0061..0063") ≡ Err (3, faults.SameSource) }
+    ensures limit { table_of_text (codes "%version 2" ++ 10 ∷ codes "4E00..5E00") ≡ Err (2, faults.Limit) }
 {}

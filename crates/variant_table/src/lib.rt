@@ -10,6 +10,7 @@ mod entry;
 mod fault;
 mod gaps;
 pub mod laws;
+mod lengths;
 mod line;
 mod places;
 mod reading;
@@ -17,6 +18,7 @@ mod rows;
 mod sequences;
 mod table;
 mod token;
+mod version;
 
 pub use canonical::write_sequence;
 pub use entry::Entry;

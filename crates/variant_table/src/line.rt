@@ -41,7 +41,7 @@ impl<'a> Iterator for RawLines<'a> {
 }
 
 /// The first line of a text, and what follows its line feed.
-fn first_line(text: &[u8]) -> (&[u8], &[u8])
+pub fn first_line(text: &[u8]) -> (&[u8], &[u8])
     requires { 0 < length text.now }
     ensures { raw_lines text.now ≡ result.0.now ∷ raw_lines result.1.now }
 {

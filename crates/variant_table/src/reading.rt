@@ -1,14 +1,20 @@
 //! Reading the entries of a text, line by line.
-ghost use Rattle.std.specs.Prelude.{◌≡◌, ◌+◌, ◌<◌, ◌≤◌, length, OnOk};
-ghost use Rattle.variant_table.specs.Reading.{Leaves, Reads, entry_from, with_entry, with_line, with_raw_line, table_of_text, is_skipped as is_skipped_line};
+ghost use Rattle.std.specs.Prelude.{◌≡◌, ◌+◌, ◌<◌, ◌≤◌, ◌^◌, [], ◌∷◌, length, map, OnOk};
+ghost use Rattle.std.specs.List.{range_with_len};
+ghost use Rattle.variant_table.specs.Held.{IsCounted};
+ghost use Rattle.variant_table.specs.Notation.{HasNoEmptySequence};
+ghost use Rattle.variant_table.specs.Ranges.{point_entry};
+ghost use Rattle.variant_table.specs.Reading.{Leaves, Reads, entry_from, with_new_sources, with_entries, with_line, with_raw_line, table_of_text, is_skipped as is_skipped_line};
 
-use crate::checks::{has_bad_class, has_repeat, is_too_large};
-use crate::draft::Draft;
+use crate::checks::{has_bad_class, has_bad_class_in, has_repeat, is_too_large};
+use crate::draft::{Draft, range_ends};
 use crate::fault::TableFault;
+use crate::lengths::{entry_len, range_len};
 use crate::line::{RawLines, without_return};
 use crate::rows::Rows;
 use crate::sequences::Sequences;
 use crate::token::without_blanks;
+use crate::version::{VERSION_LINE, Version, head_of};
 use std::alloc::Global;
 
 /// The most entries of a table.
@@ -17,85 +23,166 @@ const ENTRY_LIMIT: usize = 4096;
 /// The most bytes of a line, a carriage return counted.
 const LINE_LIMIT: usize = 1024;
 
-/// The most bytes of a text, a missing last line feed counted.
+/// The most bytes of a text, a missing last line feed counted, and of a canonical text.
 const TEXT_LIMIT: usize = 1_048_576;
 
-/// The entries that a text spells.
-#[tactic(auto, unfolding(crate::specs::Reading::table_of_text))]
-pub fn read_rows(alloc: Global, text: &[u8]) -> Result<Rows, TableFault>
+/// The version of a text, and the entries that it spells.
+#[tactic(auto, unfolding(crate::specs::Reading::table_of_lines))]
+pub fn read_rows(alloc: Global, text: &[u8]) -> Result<(Version, Rows), TableFault>
     ensures { Reads result (table_of_text text.now) }
 {
-    let mut rows = Rows::new(alloc);
-    let mut draft = Draft::new(alloc);
-    let mut number: u64 = 0;
-    let mut bytes = 0;
-    for line in RawLines::new(text) {
+    let head = head_of(text);
+    let mut reader = Reader::new(alloc, head.version);
+    let mut number = head.lines;
+    let mut bytes = head.bytes;
+    for line in RawLines::new(head.body) {
         number += 1;
-        add_raw_line(alloc, &mut rows, &mut draft, number, bytes, line)?;
+        reader.add_raw_line(number, bytes, line)?;
         bytes += line.len() + 1;
     }
-    Ok(rows)
+    Ok((reader.version, reader.rows))
 }
 
-/// Adds what the line of this number says, as it stands in a text behind so many bytes.
-#[tactic(auto, unfolding(crate::specs::Reading::with_raw_line))]
-fn add_raw_line(
+/// What was read of a text so far.
+#[derive(Drop)]
+struct Reader {
     alloc: Global,
-    rows: &mut Rows,
-    draft: &mut Draft,
-    number: u64,
-    bytes: usize,
-    line: &[u8],
-) -> Result<(), TableFault>
-    requires { bytes ≤ 1048576 }
-    ensures read { Leaves number result rows.new (with_raw_line bytes rows.old line.now) }
-    ensures within { OnOk result (bytes + length line.now + 1 ≤ 1048576) }
-{
-    if line.len() > LINE_LIMIT || bytes + line.len() + 1 > TEXT_LIMIT {
-        return Err(TableFault::Limit { line: number });
-    }
-    add_line(alloc, rows, draft, number, without_return(line))
+    version: Version,
+    draft: Draft,
+    rows: Rows,
+    /// The bytes of the canonical text so far, where the version limits them.
+    written: usize,
 }
 
-/// Adds what the line of this number says.
-#[tactic(auto, unfolding(crate::specs::Reading::with_line))]
-fn add_line(
-    alloc: Global,
-    rows: &mut Rows,
-    draft: &mut Draft,
-    number: u64,
-    line: &[u8],
-) -> Result<(), TableFault>
-    ensures { Leaves number result rows.new (with_line rows.old line.now) }
-{
-    if is_skipped(line) {
-        return Ok(());
+impl Reader {
+    /// Nothing of a text of this version.
+    fn new(alloc: Global, version: Version) -> Self
+        ensures version { result.version ≡ version }
+        ensures rows { result.rows ≡ [] }
+        ensures counted { IsCounted result.version result.written result.rows }
+    {
+        Reader {
+            alloc,
+            version,
+            draft: Draft::new(alloc),
+            rows: Rows::new(alloc),
+            written: match version {
+                Version::One => 0,
+                Version::Two => VERSION_LINE.len() + 1,
+            },
+        }
     }
-    draft.read(number, line)?;
-    add_entry(alloc, rows, number, &draft.sequences)
+
+    /// Adds what the line of this number says, as it stands in a text behind so many bytes.
+    #[tactic(auto, unfolding(crate::specs::Reading::with_raw_line))]
+    fn add_raw_line(&mut self, number: u64, bytes: usize, line: &[u8]) -> Result<(), TableFault>
+        requires bytes { bytes ≤ 1048576 }
+        requires counted { IsCounted self.old.version self.old.written self.old.rows }
+        ensures read { Leaves number result self.new.rows (with_raw_line self.old.version bytes self.old.rows line.now) }
+        ensures within { OnOk result (bytes + length line.now + 1 ≤ 1048576) }
+        ensures counted { OnOk result (IsCounted self.old.version self.new.written self.new.rows) }
+        ensures version { self.new.version ≡ self.old.version }
+    {
+        if line.len() > LINE_LIMIT || bytes + line.len() + 1 > TEXT_LIMIT {
+            return Err(TableFault::Limit { line: number });
+        }
+        self.add_line(number, without_return(line))
+    }
+
+    /// Adds what the line of this number says.
+    #[tactic(auto, unfolding(crate::specs::Reading::with_line, crate::specs::Reading::entries_of_tokens))]
+    fn add_line(&mut self, number: u64, line: &[u8]) -> Result<(), TableFault>
+        requires { IsCounted self.old.version self.old.written self.old.rows }
+        ensures read { Leaves number result self.new.rows (with_line self.old.version self.old.rows line.now) }
+        ensures counted { OnOk result (IsCounted self.old.version self.new.written self.new.rows) }
+        ensures version { self.new.version ≡ self.old.version }
+    {
+        if is_skipped(line) {
+            return Ok(());
+        }
+        if let Some((first, last)) = range_ends(self.version, line) {
+            if first > last {
+                return Err(TableFault::Syntax { line: number });
+            }
+            return self.add_range(number, first, (last - first) as usize + 1);
+        }
+        self.draft.read(self.version, number, line)?;
+        self.add_entry(number)
+    }
+
+    /// Adds the entry of the draft, unless it has a fault.
+    #[tactic(auto, unfolding(crate::specs::Reading::with_entries))]
+    fn add_entry(&mut self, number: u64) -> Result<(), TableFault>
+        requires some { 0 < length self.old.draft.sequences }
+        requires filled { HasNoEmptySequence (entry_from self.old.draft.sequences) }
+        requires counted { IsCounted self.old.version self.old.written self.old.rows }
+        ensures read { Leaves number result self.new.rows (with_entries self.old.version self.old.rows (entry_from self.old.draft.sequences ∷ [])) }
+        ensures counted { OnOk result (IsCounted self.old.version self.new.written self.new.rows) }
+        ensures version { self.new.version ≡ self.old.version }
+    {
+        let sequences = &self.draft.sequences;
+        if self.rows.len() >= ENTRY_LIMIT || is_too_large(sequences) {
+            return Err(TableFault::Limit { line: number });
+        }
+        let written = self.written + entry_len(self.version, sequences);
+        if written > TEXT_LIMIT {
+            return Err(TableFault::Limit { line: number });
+        }
+        if has_bad_class(self.alloc, sequences)? {
+            return Err(TableFault::BadClass { line: number });
+        }
+        if has_repeat(sequences) {
+            return Err(TableFault::SameVariant { line: number });
+        }
+        self.rows.push(number, sequences)?;
+        self.written = written;
+        Ok(())
+    }
+
+    /// Adds the entries of so many code points from this one on, unless one has a fault.
+    #[tactic(auto, unfolding(crate::specs::Reading::with_entries))]
+    fn add_range(&mut self, number: u64, first: u32, count: usize) -> Result<(), TableFault>
+        requires last { first + count ≤ 2 ^ 32 }
+        requires counted { IsCounted self.old.version self.old.written self.old.rows }
+        ensures read { Leaves number result self.new.rows (with_entries self.old.version self.old.rows (map point_entry (range_with_len first count))) }
+        ensures counted { OnOk result (IsCounted self.old.version self.new.written self.new.rows) }
+        ensures version { self.new.version ≡ self.old.version }
+    {
+        if count > ENTRY_LIMIT || self.rows.len() > ENTRY_LIMIT - count {
+            return Err(TableFault::Limit { line: number });
+        }
+        let written = self.written + range_len(self.version, first, count);
+        if written > TEXT_LIMIT {
+            return Err(TableFault::Limit { line: number });
+        }
+        if has_bad_class_in(self.alloc, first, count)? {
+            return Err(TableFault::BadClass { line: number });
+        }
+        add_points(self.alloc, &mut self.rows, number, first, count)?;
+        self.written = written;
+        Ok(())
+    }
 }
 
-/// Adds the entry of these sequences, the source first, unless it has a fault.
-#[tactic(auto, unfolding(crate::specs::Reading::with_entry))]
-fn add_entry(
+/// Adds the entries of so many code points from this one on, if their sources are new.
+fn add_points(
     alloc: Global,
     rows: &mut Rows,
     number: u64,
-    sequences: &Sequences,
+    first: u32,
+    count: usize,
 ) -> Result<(), TableFault>
-    requires { 0 < length sequences.now }
-    ensures { Leaves number result rows.new (with_entry rows.old (entry_from sequences.now)) }
+    requires last { first + count ≤ 2 ^ 32 }
+    requires room { length rows.old + count ≤ 4096 }
+    ensures { Leaves number result rows.new (with_new_sources rows.old (map point_entry (range_with_len first count))) }
 {
-    if rows.len() >= ENTRY_LIMIT || is_too_large(sequences) {
-        return Err(TableFault::Limit { line: number });
+    let mut sequences = Sequences::new(alloc);
+    for offset in 0..count {
+        sequences.clear();
+        sequences.push(&[first + offset as u32], false)?;
+        rows.push(number, &sequences)?;
     }
-    if has_bad_class(alloc, sequences)? {
-        return Err(TableFault::BadClass { line: number });
-    }
-    if has_repeat(sequences) {
-        return Err(TableFault::SameVariant { line: number });
-    }
-    rows.push(number, sequences)
+    Ok(())
 }
 
 /// Whether a line has nothing but blanks, or a comment.

@@ -1,5 +1,6 @@
 //! Entries with different sources, and the order of their sources.
-ghost use Rattle.std.specs.Prelude.{◌≡◌, ◌<◌, ◌^◌, [], length, slice_get, Some, OnErr, false};
+ghost use Rattle.std.specs.Prelude.{◌≡◌, ◌<◌, ◌^◌, [], length, slice_get, Some, IfOk, OnErr, false};
+ghost use Rattle.variant_table.specs.Entries.{unblocked};
 ghost use Rattle.variant_table.specs.Order.{IsOrderOf, IsPlaceFor, begins_at as begins_at_place, HasNoLonger};
 ghost use Rattle.variant_table.specs.Places.{entry_with};
 ghost use Rattle.variant_table.specs.Reading.{Leaves, entry_from, with_new_source};
@@ -8,7 +9,7 @@ use crate::entries::Entries;
 use crate::entry::Entry;
 use crate::fault::TableFault;
 use crate::sequences::Sequences;
-use std::alloc::Global;
+use std::alloc::{AllocError, Global};
 use std::cmp::Ordering;
 use std::marker::Model;
 
@@ -95,6 +96,16 @@ impl Rows {
         self.entries.push(sequences)?;
         self.order.insert(place, entry).unwrap();
         Ok(())
+    }
+
+    /// The entries without their blocked variants. Their sources keep their order.
+    pub fn unblocked(&self, alloc: Global) -> Result<Rows, AllocError>
+        ensures { IfOk result (λ rows. rows ≡ unblocked self.now) }
+    {
+        Ok(Rows {
+            entries: self.entries.unblocked(alloc)?,
+            order: Vec::from_slice(alloc, &self.order)?,
+        })
     }
 }
 

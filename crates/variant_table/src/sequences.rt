@@ -1,5 +1,7 @@
 //! Sequences of code points, as parts of one vector.
-ghost use Rattle.std.specs.Prelude.{◌≡◌, ◌<◌, [], ◌∷◌, ◌++◌, length, OnOk, OnErr, slice_get, Some, drop, take};
+ghost use Rattle.std.specs.Prelude.{◌≡◌, ◌<◌, [], ◌∷◌, ◌++◌, length, OnOk, OnErr, slice_get, Some, drop, map, take};
+ghost use Rattle.std.specs.List.{list_any};
+ghost use Rattle.variant_table.specs.Entries.{sequences_in};
 ghost use Rattle.std.specs.Iterator.{YieldsFirstRef, item_count};
 
 use std::alloc::{AllocError, Global};
@@ -12,22 +14,30 @@ pub struct Span {
     pub end: usize,
 }
 
-/// Sequences of code points.
+/// A sequence as a part of a vector of code points, and whether it is blocked.
+#[derive(Clone, Copy, Debug, PartialEq, Eq)]
+pub struct Part {
+    pub span: Span,
+    pub blocked: bool,
+}
+
+/// Sequences of code points, each of which may be blocked.
 #[derive(Drop)]
 pub struct Sequences {
     points: Vec<u32>,
-    spans: Vec<Span>,
+    parts: Vec<Part>,
 }
 
 impl Model for Sequences {
-    ghost use Rattle.std.specs.Prelude.{ℕ, List, length};
+    ghost use Rattle.std.specs.Prelude.{List, length};
+    ghost use Rattle.variant_table.specs.Entries.{Variant as VariantValue};
     ghost use Rattle.variant_table.specs.Held.{parts_of, AreSpansBelow};
 
-    ghost Value = { List (List ℕ) };
+    ghost Value = { List VariantValue };
 
-    ghost view = { λ s. parts_of s.points.items s.spans.items };
+    ghost view = { λ s. parts_of s.points.items s.parts.items };
 
-    ghost invariant = { λ s. AreSpansBelow (length s.points.items) s.spans.items };
+    ghost invariant = { λ s. AreSpansBelow (length s.points.items) s.parts.items };
 }
 
 impl Sequences {
@@ -36,33 +46,53 @@ impl Sequences {
     {
         Sequences {
             points: Vec::new(alloc),
-            spans: Vec::new(alloc),
+            parts: Vec::new(alloc),
         }
     }
 
     pub fn len(&self) -> usize
         ensures { result ≡ length self.now }
     {
-        self.spans.len()
+        self.parts.len()
     }
 
     pub fn get(&self, index: usize) -> &[u32]
         requires { index < length self.now }
-        ensures { slice_get self.now index ≡ Some result.now }
+        ensures { slice_get (sequences_in self.now) index ≡ Some result.now }
     {
-        let span = self.spans[index];
+        let span = self.parts[index].span;
         &self.points[span.start..span.end]
     }
 
+    /// Whether the sequence of this number is blocked.
+    pub fn is_blocked(&self, index: usize) -> bool
+        requires { index < length self.now }
+        ensures { slice_get (map (λ v. v.blocked) self.now) index ≡ Some result }
+    {
+        self.parts[index].blocked
+    }
+
+    /// Whether some sequence is blocked.
+    pub fn has_blocked(&self) -> bool
+        ensures { result ≡ list_any (λ v. v.blocked) self.now }
+    {
+        for index in 0..self.len() {
+            if self.is_blocked(index) {
+                return true;
+            }
+        }
+        false
+    }
+
     pub fn iter(&self) -> Iter<'_>
-        ensures { drop result.next result.sequences.now ≡ self.now }
+        ensures { drop result.next (sequences_in result.sequences.now) ≡ sequences_in self.now }
     {
         self.from_index(0)
     }
 
     /// The sequences from this number on.
     pub fn from_index(&self, next: usize) -> Iter<'_>
-        ensures { drop result.next result.sequences.now ≡ drop next self.now }
+        ensures { drop result.next (sequences_in result.sequences.now) ≡ drop next (sequences_in self.now) }
     {
         Iter {
             sequences: self,
@@ -74,18 +104,21 @@ impl Sequences {
         ensures { self.new ≡ [] }
     {
         self.points.clear();
-        self.spans.clear();
+        self.parts.clear();
     }
 
     /// Adds a sequence. An `Err` changes nothing.
-    pub fn push(&mut self, sequence: &[u32]) -> Result<(), AllocError>
-        ensures ok { OnOk result (self.new ≡ self.old ++ sequence.now ∷ []) }
+    pub fn push(&mut self, sequence: &[u32], blocked: bool) -> Result<(), AllocError>
+        ensures ok { OnOk result (self.new ≡ self.old ++ record { sequence = sequence.now; blocked = blocked } ∷ []) }
         ensures err { OnErr result (self.new ≡ self.old) }
     {
         let start = self.points.len();
         self.points.extend_from_slice(sequence)?;
         let end = self.points.len();
-        self.spans.push(Span { start, end })?;
+        self.parts.push(Part {
+            span: Span { start, end },
+            blocked,
+        })?;
         Ok(())
     }
 
@@ -95,7 +128,7 @@ impl Sequences {
         ensures kept { take (length self.old) self.new ≡ self.old }
     {
         for index in 0..others.len() {
-            self.push(others.get(index))?;
+            self.push(others.get(index), others.is_blocked(index))?;
         }
         Ok(())
     }
@@ -111,9 +144,9 @@ pub struct Iter<'a> {
 impl<'a> Iterator for Iter<'a> {
     type Item = &'a [u32];
 
-    ghost next_gives = { YieldsFirstRef (λ s. drop s.next s.sequences.now) };
+    ghost next_gives = { YieldsFirstRef (λ s. drop s.next (sequences_in s.sequences.now)) };
 
-    ghost remaining = { item_count (λ s. drop s.next s.sequences.now) };
+    ghost remaining = { item_count (λ s. drop s.next (sequences_in s.sequences.now)) };
 
     fn next(&mut self) -> Option<&'a [u32]> {
         if self.next >= self.sequences.len() {

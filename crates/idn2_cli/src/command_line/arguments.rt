@@ -5,7 +5,7 @@ ghost use Rattle.idn2_cli.specs.Words.{has_flag, has_strings, has_value, value_o
 
 use clap::ArgMatches;
 
-// The names of the options, as they stand behind two dashes, and of the words that belong to none.
+// The names of the options, as they stand after two dashes, and of the words that belong to none.
 pub(crate) const LOOKUP: &str = "lookup";
 
 pub(crate) const REGISTER: &str = "register";

@@ -9,6 +9,6 @@ pub enum Mode {
     Decode,
     /// Each line is a label, answered by its variants under a table.
     Variants,
-    /// A table is asked for the pairs that it lacks.
+    /// A table is checked for the pairs that it lacks.
     CheckTable,
 }

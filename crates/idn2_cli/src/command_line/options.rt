@@ -1,7 +1,7 @@
 use crate::command_line::mode::Mode;
 use std::marker::Model;
 
-/// What the words of the command line ask for. `read_options` keeps the ranges below, and a run
+/// What the words of the command line request. `read_options` keeps the ranges below, and a run
 /// requires them.
 #[derive(Debug, Drop)]
 pub struct Options {

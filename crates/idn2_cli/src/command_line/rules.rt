@@ -1,4 +1,4 @@
-//! The program's own rules on its options, which `clap` isn't told of.
+//! The program's own rules on its options, which `clap` does not know.
 ghost use Rattle.std.specs.Prelude.{◌≡◌, count_by};
 ghost use Rattle.clap.specs.Words.{found_of, rows_of};
 ghost use Rattle.idn2_cli.specs.Words.{bounds_variants, checks_alone, has_counts, has_short_start, is_allowed, is_count_if_given, names_one_mode, start_of};

@@ -8,7 +8,7 @@ use std::alloc::AllocError;
 pub enum Usage {
     /// The words can't be read: refusal 50.
     Bad,
-    /// Help or the version was asked for; this is its text.
+    /// Help or the version was requested; this is its text.
     Show(String),
     /// Memory ran out: refusal 70.
     Memory,

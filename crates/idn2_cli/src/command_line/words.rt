@@ -1,4 +1,4 @@
-//! The options that the words of the command line ask for.
+//! The options that the words of the command line request.
 ghost use Rattle.std.specs.Prelude.{◌≡◌, IfOk, IsUtf8, OnOk, IfErr, List, [], codes, is_some, length, map, option_and_then, string_bytes, true};
 ghost use Rattle.std.specs.Str.{chars};
 ghost use Rattle.clap.specs.Words.{FailsBy, found_of, kind_of, rows_of};
@@ -22,7 +22,7 @@ use std::alloc::{AllocError, Global};
 /// `--tries` where it is left out.
 const DEFAULT_TRIES: u64 = 1_000_000;
 
-/// The options that the words ask for; the first word is the program's name. `clap`'s refusal comes
+/// The options that the words request; the first word is the program's name. `clap`'s refusal comes
 /// first, the program's own rules after it, so that `--limit 0 -h` shows the help and `--bogus -h`
 /// is refused.
 pub fn read_options(alloc: Global, words: &[String]) -> Result<Options, Usage>
@@ -119,7 +119,12 @@ fn copies(alloc: Global, texts: &[&str]) -> Result<Vec<String>, AllocError>
 fn points_of(alloc: Global, text: &str) -> Result<Vec<u32>, AllocError>
     ensures { IfOk result (λ points. points.items ≡ chars text.now) }
 {
-    text.chars().map(u32::from).collect(alloc)
+    // Not by `collect`, which goes on where the room that it takes ahead is refused.
+    let mut points = Vec::with_capacity(alloc, text.len())?;
+    for c in text.chars() {
+        points.push(u32::from(c))?;
+    }
+    Ok(points)
 }
 
 fn count_at(matches: &ArgMatches<'_>, name: &str) -> Option<u64>

@@ -22,7 +22,7 @@ pub(crate) trait Answering {
     // What the mode needs to answer.
     ghost is_ready: { Self → Type 0 } = { λ _. Unit {0} };
 
-    /// Writes the answer to the bytes of a line of this number, and tells whether it is a refusal.
+    /// Writes the answer to the bytes of a line of this number, and returns whether it is a refusal.
     fn answer<W: Sink, E: Sink>(
         &self,
         alloc: Global,
@@ -39,6 +39,7 @@ pub(crate) trait Answering {
 }
 
 /// Answers a line by one line, which ends in a line feed. It takes no memory.
+#[inline(always)]
 pub(crate) fn reply<W: Sink, E: Sink>(
     line: &[u8],
     console: &mut Console<'_, '_, W, E>,
@@ -51,8 +52,11 @@ pub(crate) fn reply<W: Sink, E: Sink>(
     Ok(false)
 }
 
-/// Tells why a line is refused. Want of memory is no refusal of the line: nothing is told, and the
+/// Reports why a line is refused. Refused memory is no refusal of the line: nothing is reported, and the
 /// run stops.
+// Most lines are not refused.
+#[cold]
+#[inline(never)]
 pub(crate) fn refuse<W: Sink, E: Sink>(
     number: u64,
     refusal: Refusal,

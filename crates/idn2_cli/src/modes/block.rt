@@ -1,11 +1,15 @@
 //! The block of a label: a line for each of its variants, and a trailer.
 
-ghost use Rattle.std.specs.Prelude.{◌≡◌, ◌≤◌, ◌∷◌, [], ◌++◌, ℕ, Bool, List, length, codes, decimal, None, Some, IfErr};
+ghost use Rattle.std.specs.Prelude.{◌≡◌, ◌≤◌, ◌∷◌, [], ◌++◌, ℕ, Bool, List, length, codes, decimal, None, Some, IfOk, IfErr, IsOk, OnErr};
 ghost use Rattle.idn_text.specs.Points.{AreScalarValues};
 ghost use Rattle.idn_class.specs.Hopeless.{hopeless};
+ghost use Rattle.idn_label.specs.ALabel.{a_label_of};
 ghost use Rattle.idn_label.specs.FirstFault.{IsRegistrable};
+ghost use Rattle.idn_label.specs.Memory.{NeedsNoMemory};
 ghost use Rattle.idn_label.proofs.HopeLemmas.{none_hopeless};
 ghost use Rattle.variant_table.specs.WellFormed.{IsWellFormed};
+ghost use Rattle.variant_list.specs.Beginnings.{shortest_hopeless};
+ghost use Rattle.variant_list.specs.Verdicts.{IsVerdict};
 ghost use Rattle.idn2_cli.specs.Settings.{IsWithinLimits};
 ghost use Rattle.idn2_cli.specs.Transcript.{output_lines, Output};
 ghost use Rattle.idn2_cli.specs.Answers.{block, is_registrable, variant_line, trailer};
@@ -18,12 +22,12 @@ use crate::session::buffers::append;
 use crate::session::console::Console;
 use crate::session::stop::Stop;
 use arrayvec::{ArrayString, ArrayVec};
-use idn_class::{hopeless, shortest_hopeless};
-use idn_label::test_label;
+use idn_class::KeptBeginnings;
+use idn_label::{ALabel, test_label_of};
 use idn_text::{Refusal, Sink, write_points};
 use itoa::Buffer;
 use std::alloc::{AllocError, Global};
-use variant_list::{Cursor, Filter, Net, Step};
+use variant_list::{Cursor, Judge, Net, Outcome, Verdict};
 
 /// Writes the block of a net's label.
 pub(crate) fn write_block<W: Sink, E: Sink>(
@@ -38,16 +42,19 @@ pub(crate) fn write_block<W: Sink, E: Sink>(
         (output_lines (block options.now net.now.table net.now.label)) result }
 {
     let mut cursor = Cursor::new(alloc, net, &options.after)?;
+    let mut judge = Registrable {
+        beginnings: KeptBeginnings::new(),
+    };
     let mut tries = options.tries;
     let mut count = 0;
     let mut text = ArrayVec::new();
     'variants: loop {
-        let label = match cursor.next_variant(alloc, &Registrable, &mut tries)? {
-            Step::Found(label) => label,
-            Step::Spent => return write_stop(count, cursor.last(), &mut text, console),
-            Step::Ended => return write_end(count, console),
+        let a_label = match cursor.seek(alloc, &mut judge, &mut tries)? {
+            Outcome::Found(a_label) => a_label,
+            Outcome::Spent => return write_stop(count, cursor.last(), &mut text, console),
+            Outcome::Ended => return write_end(count, console),
         };
-        write_variant(alloc, label, &mut text, console)?;
+        write_variant(cursor.last(), &a_label, &mut text, console)?;
         count += 1;
         if is_reached(options.limit, count) {
             return write_stop(count, cursor.last(), &mut text, console);
@@ -55,30 +62,39 @@ pub(crate) fn write_block<W: Sink, E: Sink>(
     }
 }
 
-/// Only labels that may be registered are listed (RFC 5891 section 4.2).
-struct Registrable;
+/// Only labels that may be registered are listed (RFC 5891 section 4.2). What a label shares at its start with the one
+/// before is not tested again.
+#[derive(Drop)]
+struct Registrable {
+    beginnings: KeptBeginnings,
+}
 
-impl Filter for Registrable {
+impl Judge for Registrable {
+    type Told = ALabel;
+
     ghost accepted = { λ _ label. is_registrable label };
 
     ghost lost = { λ _ label. hopeless label };
 
+    ghost fits = { λ label a_label. a_label.bytes ≡ a_label_of label };
+
     ghost lost_for_good = { λ _ w z lost. none_hopeless w z lost };
 
-    fn accepts(&self, alloc: Global, label: &[u32]) -> Result<bool, AllocError> {
-        match test_label(alloc, label) {
-            Ok(_) => Ok(true),
-            Err(Refusal::Memory) => Err(AllocError),
-            Err(_) => Ok(false),
+    /// It takes no memory for a label of which the test needs none.
+    fn judge(&mut self, alloc: Global, label: &[u32]) -> Result<Verdict<ALabel>, AllocError>
+        requires { length label.now ≤ 63 }
+        ensures verdict { IfOk result (IsVerdict is_registrable hopeless (λ v a_label. a_label.bytes ≡ a_label_of v) label.now) }
+        ensures memory { OnErr result (shortest_hopeless hopeless label.now ≡ None) }
+        ensures no_memory { NeedsNoMemory label.now → IsOk result }
+    {
+        if let Some(count) = self.beginnings.shortest_hopeless(label) {
+            return Ok(Verdict::Hopeless(count));
         }
-    }
-
-    fn hopeless(&self, label: &[u32]) -> bool {
-        hopeless(label)
-    }
-
-    fn shortest_hopeless(&self, label: &[u32]) -> Option<usize> {
-        shortest_hopeless(label)
+        match test_label_of(alloc, label, self.beginnings.facts()) {
+            Ok(a_label) => Ok(Verdict::Tested(Some(a_label))),
+            Err(Refusal::Memory) => Err(AllocError),
+            Err(_) => Ok(Verdict::Tested(None)),
+        }
     }
 }
 
@@ -92,21 +108,17 @@ fn is_reached(limit: Option<u64>, count: u64) -> bool
     }
 }
 
-/// Writes a variant and its A-label. `text` is room for the line.
+/// Writes a variant and its A-label. `text` is a buffer for the line.
 fn write_variant<W: Sink, E: Sink>(
-    alloc: Global,
     label: &[u32],
+    a_label: &ALabel,
     text: &mut ArrayVec<u8, 4096>,
     console: &mut Console<'_, '_, W, E>,
 ) -> Result<(), Stop>
-    requires { IsRegistrable label.now }
+    requires registrable { IsRegistrable label.now }
+    requires a_label { a_label.now.bytes ≡ a_label_of label.now }
     ensures { Emits console.old console.new (Output (variant_line label.now ++ 10 ∷ []) ∷ []) result }
 {
-    let a_label = match test_label(alloc, label) {
-        Ok(a_label) => a_label,
-        Err(Refusal::Memory) => return Err(Stop::Memory),
-        Err(_) => unreachable!(),
-    };
     write_points(label, text);
     text.push(b'\t');
     append(text, a_label.as_str().as_bytes());

@@ -24,8 +24,8 @@ pub(crate) fn check_table<W: Sink, E: Sink>(
     table: &Table,
     console: &mut Console<'_, '_, W, E>,
 ) -> Result<Status, Stop>
-    ensures written { Emits console.old console.new (output_lines (check_lines table.now)) result }
-    ensures status { IfOk result (λ status. status ≡ status_if (not (length (gaps_of table.now) == 0))) }
+    ensures written { Emits console.old console.new (output_lines (check_lines table.now.entries)) result }
+    ensures status { IfOk result (λ status. status ≡ status_if (not (length (gaps_of table.now.entries) == 0))) }
 {
     let gaps = table.gaps(alloc)?;
     let entries = table.len();

@@ -22,7 +22,7 @@ pub(crate) trait PointAnswering {
     // What the mode needs to answer.
     ghost is_ready: { Self → Type 0 } = { λ _. Unit {0} };
 
-    /// Writes the answer to a line of this number, and tells whether it is a refusal.
+    /// Writes the answer to a line of this number, and returns whether it is a refusal.
     fn answer_points<W: Sink, E: Sink>(
         &self,
         alloc: Global,

@@ -1,10 +1,11 @@
-//! Decoding: a name is answered with U-labels in the place of its A-labels.
+//! Decoding: a name is answered with U-labels in place of its A-labels.
 
 ghost use Rattle.std.specs.Prelude.{◌≡◌, ◌≤◌, ◌++◌, [], length, string_bytes, OnOk, IsAscii};
 ghost use Rattle.idn_text.specs.Points.{AreScalarValues, utf8_of};
 ghost use Rattle.idn_label.specs.Answers.{Gives};
 ghost use Rattle.idn_label.specs.Decode.{decode_answer};
-ghost use Rattle.idn2_cli.specs.Answers.{as_utf8, one_line};
+ghost use Rattle.idn2_cli.specs.Answers.{one_line};
+ghost use Rattle.idn_label.specs.Steps.{in_utf8};
 ghost use Rattle.idn2_cli.specs.Inner.{with_feed};
 
 use crate::modes::answering::{Answering, refuse, reply};
@@ -22,7 +23,7 @@ use std::alloc::{AllocError, Global};
 pub(crate) struct Decode;
 
 impl Answering for Decode {
-    ghost answer_of = { λ _ name. one_line (as_utf8 (decode_answer name)) };
+    ghost answer_of = { λ _ name. one_line (in_utf8 (decode_answer name)) };
 
     fn answer<W: Sink, E: Sink>(
         &self,
@@ -43,7 +44,7 @@ impl Answering for Decode {
     }
 }
 
-/// Leaves in `line` a name in ASCII with U-labels in the place of its A-labels and a line feed, in place of what stood
+/// Leaves in `line` a name in ASCII with U-labels in place of its A-labels and a line feed, in place of what stood
 /// there. Where the name is refused, what is left says nothing.
 fn fill_line(
     alloc: Global,
@@ -52,7 +53,7 @@ fn fill_line(
 ) -> Result<(), Refusal>
     requires ascii { IsAscii name.now }
     requires short { length name.now ≤ 1024 }
-    ensures { Gives (λ _. line.new.items) result (with_feed (as_utf8 (decode_answer name.now))) }
+    ensures { Gives (λ _. line.new.items) result (with_feed (in_utf8 (decode_answer name.now))) }
 {
     line.clear();
     decode_ascii(alloc, name, line)?;
@@ -61,7 +62,7 @@ fn fill_line(
 }
 
 impl PointAnswering for Decode {
-    ghost answer_of = { λ _ name. one_line (as_utf8 (decode_answer name)) };
+    ghost answer_of = { λ _ name. one_line (in_utf8 (decode_answer name)) };
 
     fn answer_points<W: Sink, E: Sink>(
         &self,
@@ -77,11 +78,11 @@ impl PointAnswering for Decode {
     }
 }
 
-/// The line of a name with U-labels in the place of its A-labels.
+/// The line of a name with U-labels in place of its A-labels.
 fn line_of(alloc: Global, name: &[u32]) -> Result<String, Refusal>
     requires few { length name.now ≤ 1024 }
     requires scalar_values { AreScalarValues name.now }
-    ensures { Gives string_bytes result (with_feed (as_utf8 (decode_answer name.now))) }
+    ensures { Gives string_bytes result (with_feed (in_utf8 (decode_answer name.now))) }
 {
     let decoded = decode_name(alloc, name)?;
     let mut line = String::with_capacity(alloc, 4 * name.len() + 1)?;

@@ -21,7 +21,7 @@ use std::alloc::Global;
 use variant_list::{Net, NetFault};
 use variant_table::Table;
 
-/// The listing of variants by a table (RFC 7940 section 8). The options say behind which text it
+/// The listing of variants by a table (RFC 7940 section 8). The options say after which text it
 /// begins and where it stops.
 #[derive(Drop)]
 pub(crate) struct Variants<'t> {
@@ -30,9 +30,9 @@ pub(crate) struct Variants<'t> {
 }
 
 impl<'t> PointAnswering for Variants<'t> {
-    ghost answer_of = { λ mode label. variants_answer mode.options.now mode.table.now label };
+    ghost answer_of = { λ mode label. variants_answer mode.options.now mode.table.now.entries label };
 
-    ghost is_ready = { λ mode. IsWithinLimits mode.options.now × IsWellFormed mode.table.now };
+    ghost is_ready = { λ mode. IsWithinLimits mode.options.now × IsWellFormed mode.table.now.entries };
 
     fn answer_points<W: Sink, E: Sink>(
         &self,
@@ -58,11 +58,11 @@ fn list<W: Sink, E: Sink>(
     console: &mut Console<'_, '_, W, E>,
 ) -> Result<bool, Stop>
     requires limits { IsWithinLimits options.now }
-    requires table { IsWellFormed table.now }
+    requires table { IsWellFormed table.now.entries }
     requires registrable { IsRegistrable label.now }
     ensures written { Emits console.old console.new
-        (pieces_for number (listing_answer options.now table.now label.now)) result }
-    ensures refused { IfOk result (λ refused. refused ≡ is_err (listing_answer options.now table.now label.now)) }
+        (pieces_for number (listing_answer options.now table.now.entries label.now)) result }
+    ensures refused { IfOk result (λ refused. refused ≡ is_err (listing_answer options.now table.now.entries label.now)) }
 {
     match Net::build(alloc, table, label) {
         Ok(net) => {

@@ -29,7 +29,7 @@ impl Buffers {
     }
 }
 
-/// Appends a text for which there is room.
+/// Appends a text for which there is space.
 pub(crate) fn append<const N: usize>(line: &mut ArrayVec<u8, N>, text: &[u8])
     requires { array_vec_len line.old + length text.now ≤ N }
     ensures { line.new.items ≡ line.old.items ++ text.now }

@@ -11,7 +11,7 @@ use std::marker::Model;
 pub(crate) struct Console<'o, 'm, W: Sink, E: Sink> {
     /// Takes the answers.
     pub output: &'o mut W,
-    /// Takes what is told of refusals and faults.
+    /// Takes what is reported of refusals and faults.
     pub messages: &'m mut E,
 }
 
@@ -34,6 +34,7 @@ impl<'o, 'm, W: Sink, E: Sink> Console<'o, 'm, W, E> {
     ghost use Rattle.idn2_cli.specs.declared.session.stop.Stop.TheVariants as stop;
 
     /// Writes a piece to the output. It takes no memory.
+    #[inline]
     pub fn output(&mut self, text: &[u8]) -> Result<(), Stop>
         ensures written { Emits self.old self.new (pieces.Output text.now ∷ []) result }
         ensures why { IfErr result (λ why. why ≡ stop.Output) }

@@ -42,7 +42,8 @@ pub(crate) fn serve_lines<M: Answering, R: Source, W: Sink, E: Sink>(
     })
 }
 
-/// Answers a line, and tells whether it was refused.
+/// Answers a line, and returns whether it was refused.
+#[inline(always)]
 fn serve_line<M: Answering, W: Sink, E: Sink>(
     alloc: Global,
     mode: &M,

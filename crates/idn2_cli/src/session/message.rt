@@ -9,7 +9,7 @@ use idn_text::Refusal;
 use itoa::Buffer;
 use variant_table::TableFault;
 
-/// A message, for whose bytes there is room.
+/// A message, for whose bytes there is space.
 pub type Message = ArrayString<80>;
 
 /// The message of a refused line.

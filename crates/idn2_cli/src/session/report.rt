@@ -13,7 +13,7 @@ pub fn report<E: Sink>(refusal: &Refusal, err: &mut E) -> Status
     ensures status { result ≡ closing_status refusal.now }
     ensures message { TakesText (closing_message refusal.now) (E.state err.old) (E.state err.new) }
 {
-    // Nobody is left to be told of a fault here.
+    // There is nowhere left to report a fault here.
     let _ = write_text(err, message_of(refusal).as_bytes());
     status_of(refusal)
 }

@@ -1,10 +1,13 @@
 //! A whole run.
 
-ghost use Rattle.std.specs.Prelude.{◌≡◌, IfOk};
+ghost use Rattle.std.specs.Prelude.{◌≡◌, ℕ, List, IfOk};
 ghost use Rattle.idn_text.specs.Reading.{IsUnread};
+ghost use Rattle.idn_label.specs.FirstFault.{IsRegistrable};
+ghost use Rattle.variant_table.specs.Entries.{Entry};
 ghost use Rattle.idn2_cli.specs.Settings.{IsWithinLimits};
+ghost use Rattle.idn2_cli.specs.Answers.{variants_answer, IsListing};
 ghost use Rattle.idn2_cli.specs.Ends.{held, closing_status, Does, Ends, Closes, mode_job, refusal_of};
-ghost use Rattle.idn2_cli.specs.Transcript.{TableGiven, IsReadAs, IsTableOf, check_pieces, check_status};
+ghost use Rattle.idn2_cli.specs.Transcript.{TableGiven, IsCheck, IsReadAs, IsTableOf, check_lines, check_pieces, check_status};
 ghost use Rattle.idn2_cli.specs.Emitting.{Emits};
 ghost use Rattle.idn2_cli.specs.declared.command_line.mode.Mode.TheVariants as modes;
 
@@ -17,13 +20,12 @@ use crate::session::lines::serve_lines;
 use crate::session::report::report;
 use crate::session::status::Status;
 use crate::session::stop::Stop;
-use crate::session::table::refuse_table;
+use crate::session::table::{read_table, refuse_table};
 use idn_text::{Lines, Sink, Source};
 use std::alloc::Global;
-use variant_table::Table;
 
 /// Runs a mode over its input, of which no line was read yet. Where nothing fails, the pieces of the
-/// transcript are written, and the status tells whether something was refused. A fault of a reader,
+/// transcript are written, and the status says whether something was refused. A fault of a reader,
 /// of a writer or of memory ends the run at once with a last message.
 pub fn run<R: Source, W: Sink, E: Sink>(
     alloc: Global,
@@ -35,9 +37,13 @@ pub fn run<R: Source, W: Sink, E: Sink>(
 ) -> Status
     requires limits { IsWithinLimits options.now }
     requires unread { IsUnread input.old }
-    ensures { (given : TableGiven) × IsTableOf options.now.mode table.now given
+    ensures ends { (given : TableGiven) × IsTableOf options.now.mode table.now given
         × Ends (mode_job options.now given) input.old input.new
         (held (W.state out.old) (E.state err.old)) (held (W.state out.new) (E.state err.new)) result }
+    // What the transcript has for a label that may be registered, and for the check of a table.
+    ensures listing { (entries : List Entry) (label : List ℕ) → IsReadAs table.now (Ok entries) → IsRegistrable label →
+        IsListing options.now entries label (variants_answer options.now entries label) }
+    ensures check { (entries : List Entry) → IsReadAs table.now (Ok entries) → IsCheck entries (check_lines entries) }
 {
     let mut console = Console {
         output: out,
@@ -93,7 +99,7 @@ fn serve_mode<R: Source, W: Sink, E: Sink>(
     }
 }
 
-/// Lists the variants of each line by the table that a text spells, or tells the fault of the text.
+/// Lists the variants of each line by the table that a text spells, or reports the fault of the text.
 fn serve_variants<R: Source, W: Sink, E: Sink>(
     alloc: Global,
     options: &Options,
@@ -107,7 +113,7 @@ fn serve_variants<R: Source, W: Sink, E: Sink>(
     ensures { (given : TableGiven) × IsTableOf options.now.mode text.now given
         × Does (mode_job options.now given) input.old input.new console.old console.new result }
 {
-    let table = match Table::read(alloc, text) {
+    let table = match read_table(alloc, text) {
         Ok(table) => table,
         Err(fault) => return refuse_table(fault, console),
     };
@@ -118,7 +124,7 @@ fn serve_variants<R: Source, W: Sink, E: Sink>(
     serve_lines(alloc, &ByPoints { mode: &mode }, input, console)
 }
 
-/// Checks the table that a text spells, or tells the fault of the text.
+/// Checks the table that a text spells, or reports the fault of the text.
 fn serve_check<W: Sink, E: Sink>(
     alloc: Global,
     text: &[u8],
@@ -128,7 +134,7 @@ fn serve_check<W: Sink, E: Sink>(
         × Emits console.old console.new (check_pieces given) result
         × IfOk result (λ status. status ≡ check_status given) }
 {
-    match Table::read(alloc, text) {
+    match read_table(alloc, text) {
         Ok(table) => check_table(alloc, &table, console),
         Err(fault) => refuse_table(fault, console),
     }

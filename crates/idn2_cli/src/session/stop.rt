@@ -46,7 +46,7 @@ impl From<ReadFault> for Stop {
 impl Stop {
     ghost use Rattle.idn2_cli.specs.Ends.{refusal_of};
 
-    /// What is told where a run stops so.
+    /// What is reported where a run stops so.
     pub fn refusal(self) -> Refusal
         ensures { result ≡ refusal_of self }
     {

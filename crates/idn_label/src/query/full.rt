@@ -1,16 +1,17 @@
 //! Lookup of any name, by all of UTS 46.
-ghost use Rattle.std.specs.Prelude.{◌≡◌, ◌≢◌, ◌≤◌, length, Some, Err, OnOk};
+ghost use Rattle.std.specs.Prelude.{◌≡◌, ◌≢◌, ◌≤◌, length, Some, Err, OnOk, IsUtf8};
 ghost use Rattle.arrayvec.specs.ArrayVec.{array_vec_len};
 ghost use Rattle.idna.specs.Display.{IsPlain};
 ghost use Rattle.idna.specs.declared.options.Hyphens.TheVariants.{Allow};
 ghost use Rattle.idn_label.specs.Answers.{Gives};
-ghost use Rattle.idn_label.specs.Lookup.{deny_list, query_name};
+ghost use Rattle.idn_label.specs.Lookup.{deny_list, utf8_answer};
 
 use crate::query::lengths::verify;
 use arrayvec::ArrayVec;
 use idn_text::Refusal;
 use idna::{AsciiDenyList, Errors, domain_to_ascii_cow};
 use std::alloc::Global;
+use std::str;
 
 /// Leaves in `query` what `lookup_utf8` answers.
 // It is long, and most names do not come here.
@@ -22,13 +23,13 @@ pub(crate) fn full_lookup<const N: usize>(
     query: &mut ArrayVec<u8, N>,
 ) -> Result<(), Refusal>
     requires { 254 ≤ N }
-    ensures answer { Gives (λ _. query.new.items) result (query_name name.now std3) }
+    ensures answer { Gives (λ _. query.new.items) result (utf8_answer name.now std3) }
     ensures short { OnOk result (array_vec_len query.new ≤ 254) }
     ensures no_memory { IsPlain (deny_list std3) Allow name.now → result ≢ Err Refusal.Memory }
 {
     let ascii = match domain_to_ascii_cow(alloc, name, deny_list(std3)) {
         Ok(ascii) => ascii,
-        Err(Errors::Invalid) => return Err(Refusal::LookupInvalid),
+        Err(Errors::Invalid) => return Err(refusal_of(name)),
         Err(Errors::OutOfMemory) => return Err(Refusal::Memory),
     };
     let octets = ascii.as_str().as_bytes();
@@ -38,6 +39,18 @@ pub(crate) fn full_lookup<const N: usize>(
         unreachable!()
     };
     Ok(())
+}
+
+/// Why ToASCII gives nothing of a name.
+fn refusal_of(name: &[u8]) -> Refusal
+    ensures utf8 { IsUtf8 name.now → result ≡ Refusal.LookupInvalid }
+    ensures other { ¬ (IsUtf8 name.now) → result ≡ Refusal.NotUtf8 }
+    ensures no_memory { result ≢ Refusal.Memory }
+{
+    match str::from_utf8(name) {
+        Ok(_) => Refusal::LookupInvalid,
+        Err(_) => Refusal::NotUtf8,
+    }
 }
 
 fn deny_list(std3: bool) -> AsciiDenyList

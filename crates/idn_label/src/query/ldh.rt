@@ -1,18 +1,17 @@
 //! Names of letters, digits and hyphens of ASCII (LDH, RFC 5890 section 2.3.1). Most names are such, and their lookup
-//! takes no memory.
-ghost use Rattle.std.specs.Prelude.{◌≡◌, ◌≤◌, Bool, [], length, map, false, true, Some, IfSome, IfNone, OnSome, All};
+//! takes no memory and one pass.
+ghost use Rattle.std.specs.Prelude.{◌≡◌, ◌≢◌, ◌≤◌, ◌-◌, Bool, [], length, Err, IfSome, if◌then◌else◌};
 ghost use Rattle.std.specs.Char.{to_ascii_lowercase};
-ghost use Rattle.std.specs.List.{list_any};
-ghost use Rattle.idna.specs.Labels.{labels_of};
-ghost use Rattle.idna.specs.declared.options.Hyphens.TheVariants.{Allow};
-ghost use Rattle.idna.specs.declared.options.DnsLength.TheVariants.{Ignore};
-ghost use Rattle.idna.specs.Uts46.{to_ascii};
-ghost use Rattle.idna.specs.Validity.{has_ace_prefix};
-ghost use Rattle.idn_label.specs.Lookup.{deny_list};
-ghost use Rattle.idn_label.specs.LdhNames.{is_name_point};
+ghost use Rattle.std.specs.Int.{is_in_range};
+ghost use Rattle.idn_label.specs.Answers.{Gives};
+ghost use Rattle.idn_label.specs.Lookup.{utf8_answer};
+ghost use Rattle.idn_label.specs.LdhNames.{is_name_point, may_end};
 
-use crate::ascii_name::split_first_label;
+use crate::a_label::MAX_LABEL_LEN;
+use crate::query::lengths::MAX_NAME_LEN;
+use crate::unit::has_ace_prefix;
 use arrayvec::ArrayVec;
+use idn_text::Refusal;
 
 /// The most octets of a name in the DNS, with a full stop at its end (RFC 1035 section 2.3.4).
 pub(crate) const MAX_QUERY_LEN: usize = 254;
@@ -38,53 +37,77 @@ static LOWERCASE: [u8; 256] = [
     0, 0, 0, 0, 0, 0, 0, 0, 0, 0, 0, 0, 0, 0, 0, 0,
 ];
 
-/// Leaves in `query` what ToASCII (UTS 46 section 4.2) gives of a name, its lengths not verified: the name in lower case.
-/// `None` says nothing of the name, and another way then gives the answer: an octet is no ASCII letter, digit, hyphen or
-/// full stop, a label begins with `xn--`, or the name is too long for any query.
-pub(crate) fn ldh_query<const N: usize>(name: &[u8], query: &mut ArrayVec<u8, N>) -> Option<()>
+/// Leaves in `query` what `lookup_utf8` answers of such a name: the name in lower case, or `LookupLength`. `None` says
+/// nothing of the name, and another way then gives the answer: an octet is no ASCII letter, digit, hyphen or full stop, a
+/// label begins with `xn--`, or the name is too long for any query.
+pub(crate) fn ldh_query<const N: usize>(
+    name: &[u8],
+    query: &mut ArrayVec<u8, N>,
+) -> Option<Result<(), Refusal>>
     requires empty { query.old.items ≡ [] }
     requires room { MAX_QUERY_LEN ≤ N }
-    ensures answer { OnSome result ((std3 : Bool) → to_ascii (deny_list std3) Allow Ignore name.now ≡ Some query.new.items) }
-    ensures short { OnSome result (length query.new.items ≤ 254) }
+    ensures answer { IfSome result (λ answer. (std3 : Bool) → Gives (λ _. query.new.items) answer (utf8_answer name.now std3)) }
+    ensures short { length query.new.items ≤ 254 }
+    ensures no_memory { IfSome result (λ answer. answer ≢ Err Refusal.Memory) }
 {
     if name.len() > MAX_QUERY_LEN {
         return None;
     }
-    let mut has_hyphen = false;
+    // Where the label begins to which the next octet belongs, and whether all labels before it have 1 to 63 octets.
+    let mut start = 0;
+    let mut have_lengths = true;
     for octet in name {
-        let lower = lowercase_octet(*octet)?;
-        has_hyphen |= lower == b'-';
+        let lower = lowercase_octet(*octet);
         query.push(lower);
-    }
-    if has_hyphen && has_a_label(query) {
-        return None;
-    }
-    Some(())
-}
-
-/// The lower case of an ASCII letter, a digit, the hyphen or the full stop.
-#[inline]
-fn lowercase_octet(octet: u8) -> Option<u8>
-    ensures some { IfSome result (λ lower. (lower ≡ to_ascii_lowercase octet) × (is_name_point lower ≡ true)) }
-    ensures none { IfNone result (is_name_point (to_ascii_lowercase octet) ≡ false) }
-{
-    let lower = LOWERCASE[octet as usize];
-    if lower == 0 { None } else { Some(lower) }
-}
-
-/// Whether some label begins with `xn--`.
-fn has_a_label(name: &[u8]) -> bool
-    ensures { result ≡ list_any has_ace_prefix (labels_of name.now) }
-{
-    let mut rest = name;
-    'labels: loop {
-        let (label, others) = split_first_label(rest);
-        if label.starts_with(b"xn--") {
-            return true;
+        // Letters and digits stand behind the full stop in ASCII.
+        if lower <= b'.' {
+            match lower {
+                b'.' => {
+                    have_lengths &= has_label_length(start, query.len() - 1);
+                    start = query.len();
+                }
+                b'-' if !has_ace_prefix(&query.as_slice()[start..]) => {}
+                _ => return None,
+            }
         }
-        let Some(others) = others else {
-            return false;
-        };
-        rest = others;
+    }
+    if have_lengths && may_end(start, query.len()) {
+        Some(Ok(()))
+    } else {
+        Some(Err(Refusal::LookupLength))
+    }
+}
+
+/// The lower case of an ASCII letter, a digit, the hyphen or the full stop, and 0 for other octets.
+#[inline]
+fn lowercase_octet(octet: u8) -> u8
+    ensures { result ≡ (let lower = to_ascii_lowercase octet in if is_name_point lower then lower else 0) }
+{
+    LOWERCASE[octet as usize]
+}
+
+/// Whether a label that begins at `start` and ends before `end` has 1 to 63 octets.
+// By comparisons alone: for a difference the loop above would carry one more counter.
+#[inline]
+fn has_label_length(start: usize, end: usize) -> bool
+    requires order { start ≤ end }
+    requires short { end ≤ MAX_QUERY_LEN }
+    ensures { result ≡ is_in_range 1 63 (end - start) }
+{
+    start < end && end <= start + MAX_LABEL_LEN
+}
+
+/// Whether a name of `len` octets may end in the label that begins at `start`: in 1 to 63 octets, or after the full stop
+/// of another label, which is put aside.
+#[inline]
+fn may_end(start: usize, len: usize) -> bool
+    requires order { start ≤ len }
+    requires short { len ≤ MAX_QUERY_LEN }
+    ensures { result ≡ may_end start len }
+{
+    if start == len {
+        start != 0
+    } else {
+        has_label_length(start, len) && len <= MAX_NAME_LEN
     }
 }

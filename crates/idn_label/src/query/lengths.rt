@@ -9,7 +9,7 @@ use crate::a_label::MAX_LABEL_LEN;
 use idn_text::Refusal;
 
 /// The most octets of a name, a full stop at its end put aside.
-const MAX_NAME_LEN: usize = 253;
+pub(crate) const MAX_NAME_LEN: usize = 253;
 
 /// Refuses what ToASCII gives of a name where it has not the lengths that the DNS allows.
 pub(crate) fn verify(query: &[u8]) -> Result<(), Refusal>

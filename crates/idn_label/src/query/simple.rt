@@ -1,115 +1,173 @@
-//! Names of which each code point, as UTS 46 maps it, asks for no test of its label, by its facts. Most names past ASCII
-//! are such, and their lookup takes neither memory for the steps nor a normalization.
-ghost use Rattle.std.specs.Prelude.{◌≡◌, ◌<◌, ◌≤◌, ◌++◌, Bool, [], ◌∷◌, length, false, true, Some, OnSome, All};
+//! Names of which UTS 46 keeps or maps each code point, and of which NFC changes nothing, by the facts of each. Most names
+//! past ASCII are such: they are read once, and their lookup takes neither memory nor a normalization.
+ghost use Rattle.std.specs.Prelude.{◌≡◌, ◌≢◌, ◌<◌, ◌≤◌, ◌++◌, Bool, [], ◌∷◌, length, drop, false, true, Some, OnSome, IfSome, IsTrue, All};
+ghost use Rattle.std.specs.Int.{is_in_range};
 ghost use Rattle.idna.specs.declared.options.Hyphens.TheVariants.{Allow};
 ghost use Rattle.idna.specs.declared.options.DnsLength.TheVariants.{Ignore};
-ghost use Rattle.idna.specs.Uts46.{map_char, to_ascii};
+ghost use Rattle.idna.specs.Uts46.{map_char, to_ascii, verify_dns_length};
 ghost use Rattle.idna.specs.Validity.{begins_with_mark, has_ace_prefix, is_all_ascii};
+ghost use Rattle.unicode_normalization.specs.Forms.{nfc};
 ghost use Rattle.idn_class.specs.Facts.{contains, has_fact, IsSimple};
 ghost use Rattle.idn_class.specs.LeadingMark.{is_mark};
 ghost use Rattle.idn_label.specs.ALabel.{a_label_of};
-ghost use Rattle.idn_label.specs.SimpleNames.{PassesInLabel};
+ghost use Rattle.idn_label.specs.SimpleNames.{PassesInLabel, TellsRightToLeft, TellsComposing};
 ghost use Rattle.idn_label.specs.Lookup.{deny_list};
 
 use crate::a_label::{MAX_LABEL_LEN, encoded_label};
+use crate::query::bidi::pass_bidi_rule;
+use crate::query::character::character_at;
+use crate::query::ldh::MAX_QUERY_LEN;
 use crate::unit::{has_ace_prefix, is_all_ascii};
 use arrayvec::ArrayVec;
 use idn_class::{Fact, Facts};
 use ucd_idna_map::{IdnaStatus, idna_mapping};
+use unicode_normalization::IsNormalized;
+use unicode_normalization::slice::is_nfc_quick;
 
-/// A label, as it is mapped.
-type Label = ArrayVec<char, MAX_LABEL_LEN>;
+/// A name, as it is mapped. It is not longer than its query.
+type Mapped = ArrayVec<char, MAX_QUERY_LEN>;
 
-/// Leaves in `query` what ToASCII (UTS 46 section 4.2) gives of a name in UTF-8, its lengths not verified. `None`
-/// says nothing of the name, and all of UTS 46 then gives the answer: a code point needs more tests, a label begins with
-/// `xn--`, or a label or the answer has no room.
-// Its rooms are not to be made ready for each name that another way answers.
+/// Leaves in `query` what ToASCII (UTS 46 section 4.2) gives of a name in UTF-8, where that has the lengths that the DNS
+/// allows. `None` says nothing of the name, and all of UTS 46 then gives the answer: the name is no UTF-8, a code point
+/// needs more tests, a label begins with `xn--`, or the Bidi rule or a length is not met.
+// Its buffers are not to be made ready for each name that another way answers.
 #[inline(never)]
-pub(crate) fn simple_query<const N: usize>(name: &str, query: &mut ArrayVec<u8, N>) -> Option<()>
+pub(crate) fn simple_query<const N: usize>(name: &[u8], query: &mut ArrayVec<u8, N>) -> Option<()>
     requires { query.old.items ≡ [] }
-    ensures { OnSome result ((std3 : Bool) → to_ascii (deny_list std3) Allow Ignore name.now ≡ Some query.new.items) }
+    ensures answer { OnSome result ((std3 : Bool) → to_ascii (deny_list std3) Allow Ignore name.now ≡ Some query.new.items) }
+    ensures lengths { OnSome result (verify_dns_length query.new.items true ≡ true) }
 {
-    let mut label = Label::new();
-    for c in name.chars() {
+    let mut mapped = Mapped::new();
+    let mut facts = Facts::of_label(&[]);
+    // Where the label begins that is read, as it is mapped.
+    let mut start = 0;
+    let mut at = 0;
+    while at < name.len() {
+        let (c, next) = character_at(name, at)?;
+        at = next;
         if c == '.' {
-            push_a_label(&label, query)?;
+            push_a_label(&mapped[start..], facts, query)?;
             query.try_push(b'.').ok()?;
-            label.clear();
+            mapped.try_push('.').ok()?;
+            start = mapped.len();
         } else {
-            push_mapped(c, &mut label)?;
+            facts = facts.joined(push_mapped(c, start, &mut mapped)?);
         }
     }
-    push_a_label(&label, query)?;
+    push_last_a_label(&mapped[start..], facts, query)?;
+    if facts.contains(Fact::RightToLeft) && !pass_bidi_rule(&mapped) {
+        return None;
+    }
     Some(())
 }
 
-/// Appends what UTS 46 maps a code point to, if all of that passes there and there is room.
-fn push_mapped(c: char, label: &mut Label) -> Option<()>
-    ensures mapped { OnSome result (label.new.items ≡ label.old.items ++ map_char c) }
+/// Appends what UTS 46 maps a code point to, if all of that passes in the label that begins at `start` and there is space.
+/// Returns the facts of what is appended.
+#[inline]
+fn push_mapped(c: char, start: usize, mapped: &mut Mapped) -> Option<Facts>
+    ensures mapped { OnSome result (mapped.new.items ≡ mapped.old.items ++ map_char c) }
     ensures passes { OnSome result (All PassesInLabel (map_char c)) }
-    ensures first { OnSome result (label.old.items ≡ [] → begins_with_mark (map_char c) ≡ false) }
+    ensures first { OnSome result (length mapped.old.items ≤ start → begins_with_mark (map_char c) ≡ false) }
+    ensures right_to_left { IfSome result (λ facts. TellsRightToLeft facts (map_char c)) }
+    ensures composing { IfSome result (λ facts. TellsComposing facts (map_char c)) }
 {
     // Most code points are mapped to themselves, and most others are capitals of ASCII.
     let lower = c.to_ascii_lowercase();
     let facts = Facts::of(lower as u32);
     if facts.is_empty() {
-        label.try_push(lower).ok()?;
-        return Some(());
+        mapped.try_push(lower).ok()?;
+        return Some(facts);
     }
     if !facts.contains(Fact::NotKept) {
-        return push_behind(lower, facts, label);
+        push_kept(lower, facts, start, mapped)?;
+        return Some(facts);
     }
     match IdnaStatus::for_char(c) {
-        IdnaStatus::Mapped => push_simple(idna_mapping(c), label),
+        IdnaStatus::Mapped => push_simple(idna_mapping(c), mapped),
         _ => None,
     }
 }
 
-/// Appends code points, if each is simple and there is room.
-fn push_simple(points: &[char], label: &mut Label) -> Option<()>
-    ensures items { OnSome result (label.new.items ≡ label.old.items ++ points.now) }
+/// Appends code points, if each is simple and there is space. Returns their facts, of which there are none.
+fn push_simple(points: &[char], mapped: &mut Mapped) -> Option<Facts>
+    ensures items { OnSome result (mapped.new.items ≡ mapped.old.items ++ points.now) }
     ensures simple { OnSome result (All IsSimple points.now) }
 {
     for c in points {
         if !Facts::of(*c as u32).is_empty() {
             return None;
         }
-        label.try_push(*c).ok()?;
+        mapped.try_push(*c).ok()?;
     }
-    Some(())
+    Some(Facts::of_label(&[]))
 }
 
 /// Appends a code point past ASCII that UTS 46 keeps, if it passes in any label, or behind another as marks do, and there
 /// is room.
-fn push_behind(c: char, facts: Facts, label: &mut Label) -> Option<()>
+fn push_kept(c: char, facts: Facts, start: usize, mapped: &mut Mapped) -> Option<()>
     requires facts { (fact : Fact) → contains facts fact ≡ has_fact fact c }
     requires kept { contains facts Fact.NotKept ≡ false }
-    ensures items { OnSome result (label.new.items ≡ label.old.items ++ c ∷ []) }
+    ensures items { OnSome result (mapped.new.items ≡ mapped.old.items ++ c ∷ []) }
     ensures passes { OnSome result (PassesInLabel c) }
-    ensures first { OnSome result (label.old.items ≡ [] → is_mark c ≡ false) }
+    ensures first { OnSome result (length mapped.old.items ≤ start → is_mark c ≡ false) }
 {
-    if c.is_ascii()
-        || facts.contains(Fact::MayCompose)
-        || facts.contains(Fact::RightToLeft)
-        || facts.contains(Fact::Contextj)
-    {
+    if c.is_ascii() || facts.contains(Fact::Contextj) {
         return None;
     }
-    if facts.contains(Fact::Mark) && label.is_empty() {
+    if facts.contains(Fact::Mark) && mapped.len() <= start {
         return None;
     }
-    label.try_push(c).ok()
+    mapped.try_push(c).ok()
 }
 
-/// Appends the A-label of a label, if there is room. A label that begins with `xn--`, in ASCII or not, would have to be
-/// decoded first.
-fn push_a_label<const N: usize>(label: &[char], query: &mut ArrayVec<u8, N>) -> Option<()>
-    requires { length label.now ≤ MAX_LABEL_LEN }
+/// Appends the A-label of the last label, if it and the name then have the lengths that the DNS allows. No label is behind
+/// a full stop at the end of a name.
+fn push_last_a_label<const N: usize>(
+    label: &[char],
+    facts: Facts,
+    query: &mut ArrayVec<u8, N>,
+) -> Option<()>
+    requires { TellsComposing facts label.now }
     ensures written { OnSome result (query.new.items ≡ query.old.items ++ a_label_of label.now) }
     ensures no_prefix { OnSome result (has_ace_prefix label.now ≡ false) }
-    ensures short { OnSome result (length (a_label_of label.now) ≤ MAX_LABEL_LEN) }
+    ensures few { OnSome result (length label.now ≤ MAX_LABEL_LEN) }
+    ensures normalized { OnSome result (nfc label.now ≡ label.now) }
+    ensures none { OnSome result (label.now ≡ [] → is_in_range 1 MAX_QUERY_LEN (length query.old.items) ≡ true) }
+    ensures some { OnSome result (label.now ≢ [] → is_in_range 1 MAX_LABEL_LEN (length (a_label_of label.now)) ≡ true) }
+    ensures short { OnSome result (label.now ≢ [] → length query.new.items < MAX_QUERY_LEN) }
 {
-    if has_ace_prefix(label) {
+    if label.is_empty() {
+        if query.is_empty() || query.len() > MAX_QUERY_LEN {
+            return None;
+        }
+        return Some(());
+    }
+    push_a_label(label, facts, query)?;
+    if query.len() < MAX_QUERY_LEN {
+        Some(())
+    } else {
+        None
+    }
+}
+
+/// Appends the A-label of a label, if that has 1 to 63 octets and there is room, and the label is in NFC. A label that begins
+/// with `xn--`, in ASCII or not, would have to be decoded first. `facts` are those of the name so far.
+fn push_a_label<const N: usize>(
+    label: &[char],
+    facts: Facts,
+    query: &mut ArrayVec<u8, N>,
+) -> Option<()>
+    requires { TellsComposing facts label.now }
+    ensures written { OnSome result (query.new.items ≡ query.old.items ++ a_label_of label.now) }
+    ensures no_prefix { OnSome result (has_ace_prefix label.now ≡ false) }
+    ensures few { OnSome result (length label.now ≤ MAX_LABEL_LEN) }
+    ensures normalized { OnSome result (nfc label.now ≡ label.now) }
+    ensures length { OnSome result (is_in_range 1 MAX_LABEL_LEN (length (a_label_of label.now)) ≡ true) }
+{
+    if label.is_empty() || label.len() > MAX_LABEL_LEN || has_ace_prefix(label) {
+        return None;
+    }
+    if !is_normalized(label, facts) {
         return None;
     }
     if is_all_ascii(label) {
@@ -121,7 +179,22 @@ fn push_a_label<const N: usize>(label: &[char], query: &mut ArrayVec<u8, N>) -> 
     Some(())
 }
 
-/// Appends a label in ASCII, if there is room.
+/// Whether a look at each code point tells that a label is in NFC.
+#[inline]
+fn is_normalized(label: &[char], facts: Facts) -> bool
+    requires { TellsComposing facts label.now }
+    ensures { IsTrue result → nfc label.now ≡ label.now }
+{
+    if !facts.contains(Fact::MayCompose) {
+        return true;
+    }
+    match is_nfc_quick(label) {
+        IsNormalized::Yes => true,
+        _ => false,
+    }
+}
+
+/// Appends a label in ASCII, if there is space.
 fn push_ascii<const N: usize>(label: &[char], query: &mut ArrayVec<u8, N>) -> Option<()>
     requires { is_all_ascii label.now ≡ true }
     ensures { OnSome result (query.new.items ≡ query.old.items ++ label.now) }

@@ -1,7 +1,10 @@
-use Rattle.std.proofs.Common.{◌++◌, Ok, sym, ap, ◌∙◌}
+use Rattle.std.proofs.Common.{◌++◌, length, Ok, sym, ap, subst, ◌∙◌, arith, rules}
 use Rattle.std.proofs.lemmas.Result.{err_from_is_err_and}
 use Rattle.idn_label.specs.Answers.{Answer}
 use Rattle.idn_label.specs.Steps.{appended, in_utf8}
+use Rattle.idn_text.specs.Points.{AreScalarValues}
+use Rattle.idn_label.proofs.AnswerLemmas.{u_label_answer-from}
+use Rattle.idn_label.proofs.RoundTrips.{registrable_scalars}
 use Rattle.idn_label.proofs.DecodeLemmas.{decoded_label-other, decoded_label-coded}
 use Rattle.idn_label.proofs.OtherLabels.{is_all_ascii-bytes}
 use Rattle.idn_label.proofs.Utf8Decoding.{utf8_of-ascii_text}
@@ -9,6 +12,17 @@ use Rattle.idn_label.proofs.ascii_name.decode_label.Goals as goal
 
 pub u_label_in_any_case-requires-clause-ascii : goal.u_label_in_any_case-requires-clause-ascii
 u_label_in_any_case-requires-clause-ascii g c = is_all_ascii-bytes c.args.label.now c.requires.ascii
+
+pub push_points-requires : goal.push_points-requires
+push_points-requires g c =
+    let same = c.deref.ensures.0 in
+    let registrable = (u_label_answer-from _ _ c.in_ok-u_label_in_any_case.ensures.answer).0 in (
+      search rules,
+      (
+        subst AreScalarValues (sym same) (registrable_scalars _ registrable),
+        omega (arith, ap length same, c.in_ok-u_label_in_any_case.ensures.shorter, c.requires.room),
+      ),
+    )
 
 pub returns-in_err-u_label_in_any_case-clause-answer : goal.returns-in_err-u_label_in_any_case-clause-answer
 returns-in_err-u_label_in_any_case-clause-answer g c =
@@ -21,7 +35,7 @@ pub returns-then-has_ace_prefix_in_any_case-clause-answer : goal.returns-then-ha
 returns-then-has_ace_prefix_in_any_case-clause-answer g c =
     let label = c.args.label.now in
     let coded = decoded_label-coded label (sym c.if-has_ace_prefix_in_any_case.ensures) in
-    rw (c.push_utf8.ensures.written, c.deref.ensures.0) (ap (λ (a : Answer). appended c.args.text.now.items (in_utf8 a)) (coded ∙ c.in_ok-u_label_in_any_case.ensures.answer))
+    rw (c.push_points.ensures.written, c.deref.ensures.0) (ap (λ (a : Answer). appended c.args.text.now.items (in_utf8 a)) (coded ∙ c.in_ok-u_label_in_any_case.ensures.answer))
 
 pub returns-clause-answer : goal.returns-clause-answer
 returns-clause-answer g c =

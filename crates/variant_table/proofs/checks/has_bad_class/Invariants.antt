@@ -1,8 +1,9 @@
 use Rattle.std.proofs.Common.{◌≡◌, drop}
 use Rattle.std.specs.List.{list_any}
 use Rattle.variant_table.specs.Conditions.{has_bad_point}
+use Rattle.variant_table.specs.Entries.{sequences_in}
 use Rattle.variant_table.proofs.checks.has_bad_class.Given as goal
 
 -- a bad code point is still to be found
 abbrev pub invariant-loop-index : goal.invariant-loop-index
-invariant-loop-index l = list_any has_bad_point (drop l.index l.sequences) ≡ list_any has_bad_point l.sequences
+invariant-loop-index l = list_any has_bad_point (drop l.index (sequences_in l.sequences)) ≡ list_any has_bad_point (sequences_in l.sequences)

@@ -1,7 +1,7 @@
 use Rattle.std.proofs.Common.{arith, ◌≡◌, ◌-◌, ◌+◌, take, ap, sym, ◌∙◌, List, ℕ, Some}
 use Rattle.std.specs.Prelude.{slice_get}
 use Rattle.std.specs.List.{flat_map}
-use Rattle.variant_table.specs.Entries.{Entry}
+use Rattle.variant_table.specs.Entries.{Entry, sequences_in}
 use Rattle.variant_table.specs.Gaps.{pairs_of, inserted, gaps_through}
 use Rattle.variant_table.proofs.GapLemmas.{inserted_more}
 use Rattle.variant_table.proofs.WritingLemmas.{slice_get-later}
@@ -14,7 +14,7 @@ loop-number-preserved c =
     let n : ℕ = c.loop-number.number in
     let v : List ℕ = c.replacement.result.now in
     let old : List (List ℕ × List ℕ) = pairs_of c.args.gaps.now.keys in
-    let here : slice_get e.variants (n - 1) ≡ Some v = sym (slice_get-later e.source e.variants n (omega arith)) ∙ c.replacement.ensures in
+    let here : slice_get (sequences_in e.variants) (n - 1) ≡ Some v = sym (slice_get-later e.source (sequences_in e.variants) n (omega arith)) ∙ c.replacement.ensures in
     let count : n - 1 + 1 ≡ n + 1 - 1 = omega arith in
     c.in_ok-add_gaps_through.ensures ∙ ap (λ ps. inserted ps (gaps_through t e v)) c.loop-number.invariant
-    ∙ inserted_more (gaps_through t e) e.variants (n - 1) v old here ∙ ap (λ k. inserted old (flat_map (gaps_through t e) (take k e.variants))) count
+    ∙ inserted_more (gaps_through t e) (sequences_in e.variants) (n - 1) v old here ∙ ap (λ k. inserted old (flat_map (gaps_through t e) (take k (sequences_in e.variants)))) count

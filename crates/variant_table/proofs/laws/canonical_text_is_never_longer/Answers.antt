@@ -1,13 +1,16 @@
 use Rattle.idn_text.specs.Lines.{raw_lines}
-use Rattle.variant_table.proofs.CanonicalLemmas.{length-canonical_line}
-use Rattle.variant_table.proofs.SizeLemmas.{canonical_text_long, size_of-raw_lines}
+use Rattle.variant_table.proofs.CanonicalLemmas.{length-canonical_line, length-marked_line}
+use Rattle.variant_table.proofs.SizeLemmas.{never_longer, size_of-raw_lines}
 use Rattle.variant_table.proofs.laws.canonical_text_is_never_longer.Goals as goal
 
 pub returns-clause-text : goal.returns-clause-text
-returns-clause-text c = λ text table h. canonical_text_long (raw_lines text) table h.spelled
+returns-clause-text c = λ text table h one. never_longer table.version (raw_lines text) table.entries one h.lines.spelled
 
 pub returns-clause-line : goal.returns-clause-line
 returns-clause-line c = length-canonical_line
+
+pub returns-clause-marked : goal.returns-clause-marked
+returns-clause-marked c = length-marked_line
 
 pub returns-clause-feeds : goal.returns-clause-feeds
 returns-clause-feeds c = size_of-raw_lines

@@ -17,50 +17,45 @@ variants-init g c = record {
       (c.deref.ensures.value ∙ ap (λ (o : Settings). o.after) c.options.view_is) (ap (λ (o : Settings). o.tries) c.options.view_is) c.in_ok-cursor.ensures;
 }
 
-pub write_stop-requires-clause-short : goal.write_stop-requires-clause-short
-write_stop-requires-clause-short g c =
-    (listing-plain _ _ _ _ c.variants.cursor c.next_variant.follows.lender-at-none _ _ (c.variants.tries - c.next_variant.new.tries) c.last.result.now c.requires.table c.variants.invariant.listing c.next_variant.follows.holds-at-none.last c.last.ensures).short
-
 pub write_stop-requires-clause-scalar_values : goal.write_stop-requires-clause-scalar_values
 write_stop-requires-clause-scalar_values g c =
-    (listing-plain _ _ _ _ c.variants.cursor c.next_variant.follows.lender-at-none _ _ (c.variants.tries - c.next_variant.new.tries) c.last.result.now c.requires.table c.variants.invariant.listing c.next_variant.follows.holds-at-none.last c.last.ensures).scalar_values
+    (listing-plain _ _ _ _ c.variants.cursor c.seek.new.self _ _ (c.variants.tries - c.seek.new.tries) c.last.result.now c.requires.table c.variants.invariant.listing c.seek.ensures.moves.last c.last.ensures.value).scalar_values
 
 pub returns-in-Spent : goal.returns-in-Spent
 returns-in-Spent g c =
-    let spent = spent-from c.variants.cursor _ c.variants.tries c.next_variant.new.tries c.next_variant.result c.in_ok-label.field-0 c.in_ok-label.was c.in-Spent.is c.next_variant.follows.claims in
-    listing-spent _ _ _ _ _ c.variants.cursor c.next_variant.follows.lender-at-none _ _ _ _ c.last.result.now c.write_stop.result c.variants.invariant.listing spent c.next_variant.follows.holds-at-none.last c.last.ensures c.write_stop.ensures.written
+    let spent = spent-from c.variants.cursor _ c.variants.tries c.seek.new.tries c.seek.result c.in_ok-a_label.field-0 c.in_ok-a_label.was c.seek.ensures.decided c.in-Spent.is in
+    listing-spent _ _ _ _ _ c.variants.cursor c.seek.new.self _ _ _ _ c.last.result.now c.write_stop.result c.variants.invariant.listing spent c.seek.ensures.moves.last c.last.ensures.value c.write_stop.ensures.written
 
 pub returns-in-Ended : goal.returns-in-Ended
 returns-in-Ended g c =
-    let ended = ended-from c.variants.cursor _ c.variants.tries c.next_variant.new.tries c.next_variant.result c.in_ok-label.field-0 c.in_ok-label.was c.in-Ended.is c.next_variant.follows.claims in
+    let ended = ended-from c.variants.cursor _ c.variants.tries c.seek.new.tries c.seek.result c.in_ok-a_label.field-0 c.in_ok-a_label.was c.seek.ensures.decided c.in-Ended.is in
     listing-ended _ _ _ _ _ c.variants.cursor _ _ _ _ c.write_end.result c.variants.invariant.listing ended c.write_end.ensures.written
 
 pub returns-in_err-write_variant : goal.returns-in_err-write_variant
 returns-in_err-write_variant g c =
     let p = err_from_is_err_and c.from_residual-in_err-write_variant.result c.from_residual-in_err-write_variant.ensures.1 in
-    let found = found-from c.variants.cursor _ c.variants.tries c.next_variant.new.tries c.next_variant.result c.in_ok-label.field-0 c.in-Found.label c.in_ok-label.was c.in-Found.is c.next_variant.follows.claims in
-    rw p.1 (listing-broken _ _ _ _ _ c.variants.cursor _ c.variants.tries c.next_variant.new.tries c.in-Found.label.now c.write_variant.result p.0 c.variants.invariant.listing found c.write_variant.ensures (c.in_err-write_variant.was ∙ ap Err (sym p.2)))
-
-pub write_stop-requires-then-is_reached-clause-short : goal.write_stop-requires-then-is_reached-clause-short
-write_stop-requires-then-is_reached-clause-short g c =
-    (listing-plain _ _ _ _ c.variants.cursor c.next_variant.follows.lender-at-none _ _ (c.variants.tries - c.next_variant.new.tries) c.last-then-is_reached.result.now c.requires.table c.variants.invariant.listing c.next_variant.follows.holds-at-none.last c.last-then-is_reached.ensures).short
+    let found = found-from c.variants.cursor _ c.variants.tries c.seek.new.tries c.seek.result c.in_ok-a_label.field-0 c.in_ok-a_label.was c.seek.ensures.decided
+    c.in-Found.a_label c.last-in-variants.result.now c.in-Found.is (c.last-in-variants.ensures.value ∙ c.seek.ensures.moves.last) in
+    rw p.1 (listing-broken _ _ _ _ _ c.variants.cursor _ c.variants.tries c.seek.new.tries c.last-in-variants.result.now c.write_variant.result p.0 c.variants.invariant.listing found c.write_variant.ensures (c.in_err-write_variant.was ∙ ap Err (sym p.2)))
 
 pub write_stop-requires-then-is_reached-clause-scalar_values : goal.write_stop-requires-then-is_reached-clause-scalar_values
 write_stop-requires-then-is_reached-clause-scalar_values g c =
-    (listing-plain _ _ _ _ c.variants.cursor c.next_variant.follows.lender-at-none _ _ (c.variants.tries - c.next_variant.new.tries) c.last-then-is_reached.result.now c.requires.table c.variants.invariant.listing c.next_variant.follows.holds-at-none.last c.last-then-is_reached.ensures).scalar_values
+    (listing-plain _ _ _ _ c.variants.cursor c.seek.new.self _ _ (c.variants.tries - c.seek.new.tries) c.last-then-is_reached.result.now c.requires.table c.variants.invariant.listing c.seek.ensures.moves.last c.last-then-is_reached.ensures.value).scalar_values
 
 pub returns-then-is_reached : goal.returns-then-is_reached
 returns-then-is_reached g c =
-    let found = found-from c.variants.cursor _ c.variants.tries c.next_variant.new.tries c.next_variant.result c.in_ok-label.field-0 c.in-Found.label c.in_ok-label.was c.in-Found.is c.next_variant.follows.claims in
+    let found = found-from c.variants.cursor _ c.variants.tries c.seek.new.tries c.seek.result c.in_ok-a_label.field-0 c.in_ok-a_label.was c.seek.ensures.decided
+    c.in-Found.a_label c.last-in-variants.result.now c.in-Found.is (c.last-in-variants.ensures.value ∙ c.seek.ensures.moves.last) in
     let reached = sym (ap (λ (o : Settings). reaches o.limit (c.variants.count + 1)) c.options.view_is) ∙ sym c.is_reached.ensures ∙ c.if-is_reached.true in
-    listing-reached _ _ _ _ _ _ c.variants.cursor c.next_variant.follows.lender-at-none _ c.variants.tries c.next_variant.new.tries c.in-Found.label.now c.last-then-is_reached.result.now c.write_stop-then-is_reached.result c.variants.invariant.listing
-    c.next_variant.follows.holds-at-none.net c.next_variant.follows.holds-at-none.last found c.in_ok-write_variant.ensures reached c.last-then-is_reached.ensures c.write_stop-then-is_reached.ensures.written
+    listing-reached _ _ _ _ _ _ c.variants.cursor c.seek.new.self _ c.variants.tries c.seek.new.tries c.last-in-variants.result.now c.last-then-is_reached.result.now c.write_stop-then-is_reached.result c.variants.invariant.listing
+    c.seek.ensures.moves.net c.seek.ensures.moves.last found c.in_ok-write_variant.ensures reached c.last-then-is_reached.ensures.value c.write_stop-then-is_reached.ensures.written
 
 pub variants-preserved : goal.variants-preserved
 variants-preserved g c =
-    let found = found-from c.variants.cursor _ c.variants.tries c.next_variant.new.tries c.next_variant.result c.in_ok-label.field-0 c.in-Found.label c.in_ok-label.was c.in-Found.is c.next_variant.follows.claims in
+    let found = found-from c.variants.cursor _ c.variants.tries c.seek.new.tries c.seek.result c.in_ok-a_label.field-0 c.in_ok-a_label.was c.seek.ensures.decided
+    c.in-Found.a_label c.last-in-variants.result.now c.in-Found.is (c.last-in-variants.ensures.value ∙ c.seek.ensures.moves.last) in
     let going = sym (ap (λ (o : Settings). reaches o.limit (c.variants.count + 1)) c.options.view_is) ∙ sym c.is_reached.ensures ∙ c.if-is_reached.false in
     record {
-      listing = listing-found _ _ _ _ _ c.variants.cursor c.next_variant.follows.lender-at-none _ c.variants.tries c.next_variant.new.tries c.in-Found.label.now c.requires.table c.variants.invariant.listing
-          c.next_variant.follows.holds-at-none.net c.next_variant.follows.holds-at-none.last found c.in_ok-write_variant.ensures going;
+      listing = listing-found _ _ _ _ _ c.variants.cursor c.seek.new.self _ c.variants.tries c.seek.new.tries c.last-in-variants.result.now c.requires.table c.variants.invariant.listing
+          c.seek.ensures.moves.net c.seek.ensures.moves.last found c.in_ok-write_variant.ensures going;
     }

@@ -5,21 +5,21 @@ use Rattle.idn2_cli.proofs.DecodedLemmas.{registrable-scalar}
 use Rattle.idn2_cli.proofs.modes.block.write_variant.Goals as goal
 
 pub write_points-requires-clause-few : goal.write_points-requires-clause-few
-write_points-requires-clause-few g c = let short = (MeetsRequirements-registrable c.args.label.now c.requires).points in omega (arith, short)
+write_points-requires-clause-few g c = let short = (MeetsRequirements-registrable c.args.label.now c.requires.registrable).points in omega (arith, short)
 
 pub write_points-requires-clause-scalar_values : goal.write_points-requires-clause-scalar_values
-write_points-requires-clause-scalar_values g c = registrable-scalar c.args.label.now c.requires
+write_points-requires-clause-scalar_values g c = registrable-scalar c.args.label.now c.requires.registrable
 
 pub push-requires : goal.push-requires
 push-requires g c =
-    let short = (MeetsRequirements-registrable c.args.label.now c.requires).points in
+    let short = (MeetsRequirements-registrable c.args.label.now c.requires.registrable).points in
     let most = length-utf8_of-le c.args.label.now in
     let count = ap length c.write_points.ensures in
     omega (arith, short, most, count)
 
 pub append-requires : goal.append-requires
 append-requires g c =
-    let short = (MeetsRequirements-registrable c.args.label.now c.requires).points in
+    let short = (MeetsRequirements-registrable c.args.label.now c.requires.registrable).points in
     let most = length-utf8_of-le c.args.label.now in
     let count = ap length c.write_points.ensures in
     let pushed = c.push.ensures.len in
@@ -29,7 +29,7 @@ append-requires g c =
 
 pub push-requires-2 : goal.push-requires-2
 push-requires-2 g c =
-    let short = (MeetsRequirements-registrable c.args.label.now c.requires).points in
+    let short = (MeetsRequirements-registrable c.args.label.now c.requires.registrable).points in
     let most = length-utf8_of-le c.args.label.now in
     let count = ap length c.write_points.ensures in
     let pushed = c.push.ensures.len in

@@ -12,7 +12,7 @@ use Rattle.idn2_cli.proofs.modes.check_table.check_table.Goals as goal
 pub write_gaps-requires : goal.write_gaps-requires
 write_gaps-requires g c =
     subst HoldSequences (sym c.as_slice-pairs.ensures.value)
-    (λ i gap lt is. gap_at c.args.table.now c.in_ok-gaps.gaps.items i gap c.len-entries.ensures.well_formed c.in_ok-gaps.ensures.gaps lt is)
+    (λ i gap lt is. gap_at c.args.table.now.entries c.in_ok-gaps.gaps.items i gap c.len-entries.ensures.well_formed c.in_ok-gaps.ensures.gaps lt is)
 
 pub returns-in_err-gaps-clause-written : goal.returns-in_err-gaps-clause-written
 returns-in_err-gaps-clause-written g c =
@@ -22,7 +22,7 @@ returns-in_err-gaps-clause-written g c =
 pub returns-in_err-write_gaps-clause-written : goal.returns-in_err-write_gaps-clause-written
 returns-in_err-write_gaps-clause-written g c =
     let p = err_from_is_err_and c.from_residual-in_err-write_gaps.result c.from_residual-in_err-write_gaps.ensures.1 in
-    let table = c.args.table.now in
+    let table = c.args.table.now.entries in
     let pairs = pairs_of c.in_ok-gaps.gaps.items in
     let last = Output (table_line (length table) (length pairs) ++ 10 ∷ []) ∷ [] in
     rw p.1 (stops_between _ _ _ (output_lines (check_lines table)) [] (output_lines (map gap_line pairs)) last c.write_gaps.result p.0
@@ -31,7 +31,7 @@ returns-in_err-write_gaps-clause-written g c =
 pub returns-in_err-output-clause-written : goal.returns-in_err-output-clause-written
 returns-in_err-output-clause-written g c =
     let p = err_from_is_err_and c.from_residual-in_err-output.result c.from_residual-in_err-output.ensures.1 in
-    let table = c.args.table.now in
+    let table = c.args.table.now.entries in
     let pairs = pairs_of c.in_ok-gaps.gaps.items in
     let pieces = output_lines (map gap_line pairs) in
     let last = Output (table_line (length table) (length pairs) ++ 10 ∷ []) ∷ [] in
@@ -44,7 +44,7 @@ returns-in_err-output-clause-written g c =
 
 pub returns-clause-written : goal.returns-clause-written
 returns-clause-written g c =
-    let table = c.args.table.now in
+    let table = c.args.table.now.entries in
     let pairs = pairs_of c.in_ok-gaps.gaps.items in
     let pieces = output_lines (map gap_line pairs) in
     let last = Output (table_line (length table) (length pairs) ++ 10 ∷ []) ∷ [] in

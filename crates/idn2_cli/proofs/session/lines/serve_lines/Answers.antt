@@ -19,13 +19,13 @@ returns-in_err-is_refused g c =
     let so_far = c.lines.invariant.so_far in
     let next = c.in_ok-read_line.ensures.lines _ so_far.given so_far.lines so_far.read in
     let read = subst (λ (b : Bool). HasRead c.args.input.now c.read_line.new.self (so_far.given ++ next.0) (so_far.lines ++ answered (read_into (Ok b) c.read_line.new.line))) c.if-branch.true next.1 in
-    let at = stops_in_line _ _ _ c.read_line.new.self _ _ _ _ (numbered_line c.read_line.new.line) so_far c.serve_line.result p.0 c.serve_line.ensures.written (c.in_err-is_refused.was ∙ ap Err (sym p.2)) in
+    let going = subst (λ (b : Bool). IsLeftBy (read_into (Ok b) c.read_line.new.line) c.read_line.new.self) c.if-branch.true c.in_ok-read_line.ensures.state in
     rw p.1 (record {
       given = so_far.given ++ next.0;
       lines = so_far.lines ++ answered (Ok (Some c.read_line.new.line));
       read = read;
       unread = λ e. cc;
-      ending = record { written = at.0; pieces = at.1; stands = at.2 };
+      ending = stops_in_line _ _ _ c.read_line.new.self _ _ _ _ (numbered_line c.read_line.new.line) so_far c.serve_line.result p.0 going c.serve_line.ensures.written (c.in_err-is_refused.was ∙ ap Err (sym p.2));
     })
 
 pub lines-preserved-then-has_refused : goal.lines-preserved-then-has_refused

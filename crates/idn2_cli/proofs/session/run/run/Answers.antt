@@ -1,10 +1,11 @@
 use Rattle.std.proofs.Common.{ap, sym, ◌∙◌, rules}
 use Rattle.idn2_cli.specs.Ends.{Held}
 use Rattle.idn2_cli.proofs.Lending.{same_loans, given_back}
+use Rattle.idn2_cli.proofs.ListedLemmas.{variants_answer-IsListing, check_lines-IsCheck}
 use Rattle.idn2_cli.proofs.session.run.run.Goals as goal
 
-pub returns : goal.returns
-returns g c =
+pub returns-clause-ends : goal.returns-clause-ends
+returns-clause-ends g c =
     let ended = c.serve-status.ensures in
     let same = same_loans _ _ _ _ _ _ ended.2 in
     let output = sym (ap (λ (h : Held). h.output_loan) c.console.view_is ∙ same.0) in
@@ -14,3 +15,9 @@ returns g c =
       given_back _ _ _ _ _ _ _ _ (ap g.W.Sink.state (search (rules, output)) ∙ ap (λ (h : Held). h.output) c.console.view_is)
           (ap g.E.Sink.state (search (rules, messages)) ∙ ap (λ (h : Held). h.messages) c.console.view_is) ended.2,
     )
+
+pub returns-clause-listing : goal.returns-clause-listing
+returns-clause-listing g c = λ table label text registrable. variants_answer-IsListing c.args.options.now table label text.lines.well_formed.well_formed registrable
+
+pub returns-clause-check : goal.returns-clause-check
+returns-clause-check g c = λ table text. check_lines-IsCheck table text.lines.well_formed.well_formed

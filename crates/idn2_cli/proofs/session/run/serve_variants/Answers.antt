@@ -9,4 +9,4 @@ returns-in-Err g c =
 
 pub returns : goal.returns
 returns g c =
-    as_mode c.args.options.now Variants c.args.text.now (Ok c.in-Ok.table) _ _ _ _ _ c.serve_lines.result c.requires.mode c.in-Ok.ensures.table refl c.serve_lines.ensures
+    as_mode c.args.options.now Variants c.args.text.now (Ok c.in-Ok.table.entries) _ _ _ _ _ c.serve_lines.result c.requires.mode c.in-Ok.ensures.table refl c.serve_lines.ensures

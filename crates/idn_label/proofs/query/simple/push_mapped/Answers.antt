@@ -1,25 +1,26 @@
-use Rattle.std.proofs.Common.{◌≡◌, ◌++◌, ◌∷◌, [], All, Option, Some, None, OnSome, refl, sym, ap, subst, ◌∙◌, rules}
+use Rattle.std.proofs.Common.{◌≡◌, ℕ, ◌++◌, List, ◌∷◌, [], All, Option, Some, None, OnSome, IfSome, refl, sym, ap, subst, ◌∙◌, rules}
 use Rattle.idna.specs.Validity.{begins_with_mark}
+use Rattle.idn_class.specs.declared.facts.Fact.TheVariants.{MayCompose, RightToLeft}
 use Rattle.idn_class.specs.Facts.{IsSimple}
-use Rattle.idn_label.specs.SimpleNames.{PassesInLabel}
-use Rattle.idn_label.proofs.SimplePoints.{PassesInLabel-simple, no_mark-simple, map_char-lower, map_char-mapped, all_pass, one_passes, begins_with_mark-one, begins_with_mark-simple}
+use Rattle.idn_label.specs.SimpleNames.{PassesInLabel, TellsRightToLeft, TellsComposing}
+use Rattle.idn_label.proofs.SimplePoints.{PassesInLabel-simple, TellsRightToLeft-simple, TellsRightToLeft-one, TellsComposing-simple, TellsComposing-one, no_mark-simple, map_char-lower, map_char-mapped, all_pass, one_passes, begins_with_mark-one, begins_with_mark-simple}
 use Rattle.idn_label.proofs.query.simple.push_mapped.Goals as goal
 
-under : {P Q : Type 0} (o : Option (Unit {0})) → (P → Q) → OnSome o P → OnSome o Q
+under : {A P Q : Type 0} (o : Option A) → (P → Q) → OnSome o P → OnSome o Q
 under None f h = tt
 under (Some x) f h = f h
 
-both : {P Q R : Type 0} (o : Option (Unit {0})) → (P → Q → R) → OnSome o P → OnSome o Q → OnSome o R
-both None f p q = tt
-both (Some x) f p q = f p q
+told : {A P : Type 0} {Q : A → Type 0} (o : Option A) → ((x : A) → P → Q x) → OnSome o P → IfSome o Q
+told None f h = tt
+told (Some x) f h = f x h
 
 pub returns-then-is_empty-clause-mapped : goal.returns-then-is_empty-clause-mapped
 returns-then-is_empty-clause-mapped c =
     let lower = c.to_ascii_lowercase-lower.result in
     let simple : IsSimple lower = λ fact. sym (c.of-facts.ensures fact) ∙ c.if-is_empty.ensures.0 refl fact in
     let maps = map_char-lower c.args.c lower c.to_ascii_lowercase-lower.ensures.value (PassesInLabel-simple lower simple) in
-    let pushed : c.try_push.new.self.items ≡ c.args.label.now.items ++ lower ∷ [] = search rules in
-    pushed ∙ ap (λ x. c.args.label.now.items ++ x) (sym maps)
+    let pushed : c.try_push.new.self.items ≡ c.args.mapped.now.items ++ lower ∷ [] = search rules in
+    pushed ∙ ap (λ x. c.args.mapped.now.items ++ x) (sym maps)
 
 pub returns-then-is_empty-clause-passes : goal.returns-then-is_empty-clause-passes
 returns-then-is_empty-clause-passes c =
@@ -35,28 +36,57 @@ returns-then-is_empty-clause-first c = λ _.
     let maps = map_char-lower c.args.c lower c.to_ascii_lowercase-lower.ensures.value (PassesInLabel-simple lower simple) in
     ap begins_with_mark maps ∙ begins_with_mark-one lower (no_mark-simple lower simple)
 
+pub returns-then-is_empty-clause-right_to_left : goal.returns-then-is_empty-clause-right_to_left
+returns-then-is_empty-clause-right_to_left c =
+    let lower = c.to_ascii_lowercase-lower.result in
+    let facts = c.of-facts.result in
+    let simple : IsSimple lower = λ fact. sym (c.of-facts.ensures fact) ∙ c.if-is_empty.ensures.0 refl fact in
+    let maps = map_char-lower c.args.c lower c.to_ascii_lowercase-lower.ensures.value (PassesInLabel-simple lower simple) in
+    subst (λ (points : List ℕ). TellsRightToLeft facts points) (sym maps) (TellsRightToLeft-one facts lower (c.of-facts.ensures RightToLeft))
+
+pub returns-then-is_empty-clause-composing : goal.returns-then-is_empty-clause-composing
+returns-then-is_empty-clause-composing c =
+    let lower = c.to_ascii_lowercase-lower.result in
+    let facts = c.of-facts.result in
+    let simple : IsSimple lower = λ fact. sym (c.of-facts.ensures fact) ∙ c.if-is_empty.ensures.0 refl fact in
+    let maps = map_char-lower c.args.c lower c.to_ascii_lowercase-lower.ensures.value (PassesInLabel-simple lower simple) in
+    subst (λ (points : List ℕ). TellsComposing facts points) (sym maps) (TellsComposing-one facts lower (c.of-facts.ensures MayCompose))
+
 pub returns-then-not-contains-clause-mapped : goal.returns-then-not-contains-clause-mapped
 returns-then-not-contains-clause-mapped c =
-    let lower = c.to_ascii_lowercase-lower.result in
-    let maps = λ (passes : PassesInLabel lower). map_char-lower c.args.c lower c.to_ascii_lowercase-lower.ensures.value passes in
-    both c.push_behind.result (λ items passes. items ∙ ap (λ x. c.args.label.now.items ++ x) (sym (maps passes))) c.push_behind.ensures.items c.push_behind.ensures.passes
+    let maps = map_char-lower c.args.c c.to_ascii_lowercase-lower.result c.to_ascii_lowercase-lower.ensures.value c.in_ok-push_kept.ensures.passes in
+    c.in_ok-push_kept.ensures.items ∙ ap (λ x. c.args.mapped.now.items ++ x) (sym maps)
 
 pub returns-then-not-contains-clause-passes : goal.returns-then-not-contains-clause-passes
 returns-then-not-contains-clause-passes c =
     let lower = c.to_ascii_lowercase-lower.result in
-    let maps = λ (passes : PassesInLabel lower). map_char-lower c.args.c lower c.to_ascii_lowercase-lower.ensures.value passes in
-    under c.push_behind.result (λ passes. subst (All PassesInLabel) (sym (maps passes)) (one_passes lower passes)) c.push_behind.ensures.passes
+    let passes = c.in_ok-push_kept.ensures.passes in
+    subst (All PassesInLabel) (sym (map_char-lower c.args.c lower c.to_ascii_lowercase-lower.ensures.value passes)) (one_passes lower passes)
 
 pub returns-then-not-contains-clause-first : goal.returns-then-not-contains-clause-first
-returns-then-not-contains-clause-first c =
+returns-then-not-contains-clause-first c = λ begun.
     let lower = c.to_ascii_lowercase-lower.result in
-    let maps = λ (passes : PassesInLabel lower). map_char-lower c.args.c lower c.to_ascii_lowercase-lower.ensures.value passes in
-    both c.push_behind.result (λ passes first empty. ap begins_with_mark (maps passes) ∙ begins_with_mark-one lower (first empty)) c.push_behind.ensures.passes c.push_behind.ensures.first
+    let maps = map_char-lower c.args.c lower c.to_ascii_lowercase-lower.ensures.value c.in_ok-push_kept.ensures.passes in
+    ap begins_with_mark maps ∙ begins_with_mark-one lower (c.in_ok-push_kept.ensures.first begun)
+
+pub returns-then-not-contains-clause-right_to_left : goal.returns-then-not-contains-clause-right_to_left
+returns-then-not-contains-clause-right_to_left c =
+    let lower = c.to_ascii_lowercase-lower.result in
+    let facts = c.of-facts.result in
+    let maps = map_char-lower c.args.c lower c.to_ascii_lowercase-lower.ensures.value c.in_ok-push_kept.ensures.passes in
+    subst (λ (points : List ℕ). TellsRightToLeft facts points) (sym maps) (TellsRightToLeft-one facts lower (c.of-facts.ensures RightToLeft))
+
+pub returns-then-not-contains-clause-composing : goal.returns-then-not-contains-clause-composing
+returns-then-not-contains-clause-composing c =
+    let lower = c.to_ascii_lowercase-lower.result in
+    let facts = c.of-facts.result in
+    let maps = map_char-lower c.args.c lower c.to_ascii_lowercase-lower.ensures.value c.in_ok-push_kept.ensures.passes in
+    subst (λ (points : List ℕ). TellsComposing facts points) (sym maps) (TellsComposing-one facts lower (c.of-facts.ensures MayCompose))
 
 pub returns-in-Mapped-clause-mapped : goal.returns-in-Mapped-clause-mapped
 returns-in-Mapped-clause-mapped c =
     let maps = map_char-mapped c.args.c (sym c.for_char.ensures ∙ c.in-Mapped.is) in
-    under c.push_simple.result (λ items. items ∙ ap (λ x. c.args.label.now.items ++ x) (c.idna_mapping.ensures ∙ sym maps)) c.push_simple.ensures.items
+    under c.push_simple.result (λ items. items ∙ ap (λ x. c.args.mapped.now.items ++ x) (c.idna_mapping.ensures ∙ sym maps)) c.push_simple.ensures.items
 
 pub returns-in-Mapped-clause-passes : goal.returns-in-Mapped-clause-passes
 returns-in-Mapped-clause-passes c =
@@ -68,4 +98,18 @@ returns-in-Mapped-clause-first c =
     let maps = map_char-mapped c.args.c (sym c.for_char.ensures ∙ c.in-Mapped.is) in
     under c.push_simple.result
     (λ simple _. ap begins_with_mark (maps ∙ sym c.idna_mapping.ensures) ∙ begins_with_mark-simple c.idna_mapping.result.now simple)
+    c.push_simple.ensures.simple
+
+pub returns-in-Mapped-clause-right_to_left : goal.returns-in-Mapped-clause-right_to_left
+returns-in-Mapped-clause-right_to_left c =
+    let maps = map_char-mapped c.args.c (sym c.for_char.ensures ∙ c.in-Mapped.is) in
+    told c.push_simple.result
+    (λ facts simple. subst (λ (points : List ℕ). TellsRightToLeft facts points) (c.idna_mapping.ensures ∙ sym maps) (TellsRightToLeft-simple facts c.idna_mapping.result.now simple))
+    c.push_simple.ensures.simple
+
+pub returns-in-Mapped-clause-composing : goal.returns-in-Mapped-clause-composing
+returns-in-Mapped-clause-composing c =
+    let maps = map_char-mapped c.args.c (sym c.for_char.ensures ∙ c.in-Mapped.is) in
+    told c.push_simple.result
+    (λ facts simple. subst (λ (points : List ℕ). TellsComposing facts points) (c.idna_mapping.ensures ∙ sym maps) (TellsComposing-simple facts c.idna_mapping.result.now simple))
     c.push_simple.ensures.simple

@@ -4,6 +4,6 @@ use Rattle.idn_label.proofs.query.simple.push_simple.Given as goal
 
 abbrev pub invariant-loop-c : goal.invariant-loop-c
 invariant-loop-c l = record {
-  items : l.label.items ≡ l.initial.label.items ++ take l.c-index l.points;
+  items : l.mapped.items ≡ l.initial.mapped.items ++ take l.c-index l.points;
   simple : All IsSimple (take l.c-index l.points);
 }

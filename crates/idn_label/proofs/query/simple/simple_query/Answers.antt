@@ -1,36 +1,135 @@
-use Rattle.std.proofs.Common.{◌≡◌, ◌≤◌, ◌++◌, ◌∷◌, [], length, Some, map-id, refl, sym, ap, subst, ◌∙◌, rules}
-use Rattle.std.proofs.lemmas.Iterator.{YieldsList-from_chars}
-use Rattle.std.proofs.lemmas.Iterator.Consumers.{YieldsList-end}
-use Rattle.std.specs.declared.str.Chars.{Chars}
+use Rattle.std.proofs.Common.{◌≡◌, ◌≢◌, ◌-◌, ◌<◌, ◌++◌, ◌∷◌, List, ℕ, [], true, length, length-append, length-drop, take, drop, flat_map, Some, refl, sym, ap, subst, ◌∙◌, rules, arith}
+use Rattle.std.specs.Int.{is_in_range}
+use Rattle.std.specs.List.{list_all}
+use Rattle.std.proofs.Math.ListN.{drop_of_length-le}
+use Rattle.std.proofs.lemmas.Bool.{false≢true}
+use Rattle.std.proofs.lemmas.List.{take_rest, drop-append-le}
+use Rattle.idna.specs.BidiRule.{passes_bidi_rule}
+use Rattle.idna.specs.Labels.{labels_of}
+use Rattle.idna.specs.Uts46.{map_char, verify_dns_length}
+use Rattle.idna.specs.Validity.{passes_bidi}
+use Rattle.idn_class.specs.declared.facts.Fact.TheVariants.{MayCompose, RightToLeft}
+use Rattle.idn_class.specs.Facts.{contains}
+use Rattle.idn_text.specs.Points.{IsUtf8Of}
+use Rattle.idn_text.proofs.Utf8Lemmas.{IsUtf8-from_points, points_from_utf8}
 use Rattle.idn_label.specs.ALabel.{a_label_of}
 use Rattle.idn_label.specs.Lookup.{deny_list}
-use Rattle.idn_label.proofs.SimpleReads.{IsEnded, read_nothing, same_read, read_char, read_full_stop, read_all}
+use Rattle.idn_label.specs.SimpleNames.{TellsRightToLeft, TellsComposing}
+use Rattle.idn_label.proofs.SimpleNames.{passes_bidi-tested}
+use Rattle.idn_label.proofs.SimpleReads.{IsEnded, read_nothing, same_read, read_char, read_full_stop, read_all, ended, ended_last, lengths_all, utf8_nothing, utf8_character, utf8_all, mapped_character, mapped_full_stop, tells_nothing, tells_full_stop, tells_more, composing_nothing, composing_more}
 use Rattle.idn_label.proofs.query.simple.simple_query.Goals as goal
+use Rattle.idn_label.proofs.query.simple.simple_query.Goals.{else-contains-via-then-contains+else-not-pass_bidi_rule, else-contains-via-else-contains}
 
-pub loop-c-init : goal.loop-c-init
-loop-c-init g c = same_read refl (sym c.new-label.ensures) (sym c.requires) read_nothing
+-- the label that is read, as a slice of what is mapped
+slice_is : (slice mapped : List ℕ) (start : ℕ) → slice ≡ mapped → take (length slice - start) (drop start slice) ≡ drop start mapped
+slice_is slice mapped start is = take_rest slice start ∙ ap (drop start) is
 
-pub loop-c-preserved-then-c-eq46 : goal.loop-c-preserved-then-c-eq46
-loop-c-preserved-then-c-eq46 g c =
-    let few : length c.deref.result.now ≤ 63 = c.deref.ensures.1 in
-    let ended : IsEnded c.deref.result.now = record { no_prefix = c.in_ok-push_a_label.ensures.no_prefix; few = few; short = c.in_ok-push_a_label.ensures.short } in
-    let pushed : c.try_push.new.self.items ≡ c.push_a_label.new.query.items ++ 0x2E ∷ [] = search rules in
-    same_read
-    (ap (λ x. c.loop-c.yielded ++ x ∷ []) (sym c.if-c-eq46.true))
-    (sym c.clear.ensures)
-    (ap (λ x. (c.loop-c.query.items ++ a_label_of x) ++ 0x2E ∷ []) (sym c.deref.ensures.0) ∙ ap (λ x. x ++ 0x2E ∷ []) (sym c.in_ok-push_a_label.ensures.written) ∙ sym pushed)
-    (read_full_stop c.loop-c.invariant (subst IsEnded c.deref.ensures.0 ended))
+pub loop-at-init : goal.loop-at-init
+loop-at-init g c = record {
+  within = omega arith;
+  points = [];
+  utf8 = utf8_nothing;
+  mapped = c.new-mapped.ensures;
+  begun = omega arith;
+  read = same_read refl (sym c.new-mapped.ensures) (sym c.requires) read_nothing;
+  tells = subst (λ (points : List ℕ). TellsRightToLeft c.of_label-facts.result points) (sym c.new-mapped.ensures) (tells_nothing c.of_label-facts.result);
+  composing = subst (λ (points : List ℕ). TellsComposing c.of_label-facts.result points) (sym c.new-mapped.ensures) (composing_nothing c.of_label-facts.result);
+}
 
-pub loop-c-preserved : goal.loop-c-preserved
-loop-c-preserved g c =
-    same_read refl (sym c.in_ok-push_mapped.ensures.mapped) refl (read_char c.loop-c.invariant c.in-Some.c c.in_ok-push_mapped.ensures.passes c.in_ok-push_mapped.ensures.first)
+pub loop-at-preserved-then-c-eq46 : goal.loop-at-preserved-then-c-eq46
+loop-at-preserved-then-c-eq46 g c =
+    let i = c.loop-at.invariant in
+    let stop = c.if-c-eq46.true in
+    let step = c.in_ok-c.ensures in
+    let label = c.in_ok-push_a_label.ensures in
+    let query = c.loop-at.query.items in
+    let same = slice_is c.deref.result.now c.loop-at.mapped.items c.loop-at.start c.deref.ensures.0 in
+    let mapped : c.try_push-then-c-eq46.new.self.items ≡ c.loop-at.mapped.items ++ 0x2E ∷ [] = search rules in
+    let written : c.try_push.new.self.items ≡ c.push_a_label.new.query.items ++ 0x2E ∷ [] = search rules in
+    let is_ended = ended _ label.normalized label.no_prefix label.few label.length in
+    let none : drop c.len-start.result c.try_push-then-c-eq46.new.self.items ≡ [] = drop_of_length-le c.try_push-then-c-eq46.new.self.items (omega (arith, c.len-start.ensures.value)) in
+    record {
+      within = step.within;
+      points = i.points ++ 0x2E ∷ [];
+      utf8 = subst (λ (points : List ℕ). IsUtf8Of (take c.in_ok-c.next c.args.name.now) points) (ap (λ x. i.points ++ x ∷ []) stop) (utf8_character c.args.name.now i.points c.loop-at.at c.in_ok-c.next c.in_ok-c.c i.utf8 step.read step.scalar_value);
+      mapped = mapped ∙ mapped_full_stop i.points c.loop-at.mapped.items i.mapped;
+      begun = omega (arith, c.len-start.ensures.value);
+      read =
+          same_read refl
+          (sym none)
+          (ap (λ x. (query ++ a_label_of x) ++ 0x2E ∷ []) (sym same) ∙ ap (λ x. x ++ 0x2E ∷ []) (sym label.written) ∙ sym written)
+          (read_full_stop i.read (subst IsEnded same is_ended) (subst (λ (l : List ℕ). is_in_range 1 63 (length (a_label_of l)) ≡ true) same label.length));
+      tells = subst (λ (points : List ℕ). TellsRightToLeft c.loop-at.facts points) (sym mapped) (tells_full_stop c.loop-at.facts c.loop-at.mapped.items i.tells);
+      composing = subst (λ (points : List ℕ). TellsComposing c.loop-at.facts points) (sym none) (composing_nothing c.loop-at.facts);
+    }
 
-pub returns : goal.returns
-returns g c std3 =
-    let utf8 = c.utf8.name in
-    let coming = ap (λ (chars : Chars). chars.rest.now) c.into_iter-c-iterator.ensures.into_iter_gives ∙ c.chars-c-items.ensures.rest in
-    let end = YieldsList-end (YieldsList-from_chars c.args.name.now utf8 coming) c.loop-c.yielded _ c.loop-c.yielded_by _ _ c.in-None.is c.next.ensures.steps in
-    let few : length c.deref-2.result.now ≤ 63 = c.deref-2.ensures.1 in
-    let ended : IsEnded c.deref-2.result.now = record { no_prefix = c.in_ok-push_a_label-2.ensures.no_prefix; few = few; short = c.in_ok-push_a_label-2.ensures.short } in
-    read_all (deny_list std3) c.args.name.now utf8 (sym end.0 ∙ map-id c.loop-c.yielded) c.loop-c.invariant (subst IsEnded c.deref-2.ensures.0 ended)
-    ∙ ap Some (ap (λ x. c.loop-c.query.items ++ a_label_of x) (sym c.deref-2.ensures.0) ∙ sym c.in_ok-push_a_label-2.ensures.written)
+pub loop-at-preserved : goal.loop-at-preserved
+loop-at-preserved g c =
+    let i = c.loop-at.invariant in
+    let step = c.in_ok-c.ensures in
+    let more = c.in_ok-push_mapped.ensures in
+    let before = c.loop-at.mapped.items in
+    let point = c.in_ok-c.c in
+    let label : drop c.loop-at.start before ++ map_char point ≡ drop c.loop-at.start c.push_mapped.new.mapped.items =
+    sym (ap (drop c.loop-at.start) more.mapped ∙ drop-append-le c.loop-at.start before (map_char point) i.begun) in
+    record {
+      within = step.within;
+      points = i.points ++ point ∷ [];
+      utf8 = utf8_character c.args.name.now i.points c.loop-at.at c.in_ok-c.next point i.utf8 step.read step.scalar_value;
+      mapped = more.mapped ∙ mapped_character i.points point before i.mapped;
+      begun = omega (arith, ap length more.mapped, length-append before (map_char point), i.begun);
+      read =
+          same_read refl label refl
+          (read_char i.read point more.passes (λ empty. more.first (omega (arith, ap length empty, length-drop c.loop-at.start before))));
+      tells =
+          subst (λ (points : List ℕ). TellsRightToLeft c.joined-facts.result points) (sym more.mapped)
+          (tells_more c.loop-at.facts c.in_ok-push_mapped.field-0 c.joined-facts.result before (map_char point) (c.joined-facts.ensures RightToLeft) i.tells more.right_to_left);
+      composing =
+          subst (λ (points : List ℕ). TellsComposing c.joined-facts.result points) label
+          (composing_more c.loop-at.facts c.in_ok-push_mapped.field-0 c.joined-facts.result (drop c.loop-at.start before) (map_char point) (c.joined-facts.ensures MayCompose) i.composing more.composing);
+    }
+
+pub returns-clause-answer : goal.returns-clause-answer
+returns-clause-answer g c std3 =
+    let i = c.loop-at.invariant in
+    let name = c.args.name.now in
+    let mapped = c.loop-at.mapped.items in
+    let facts = c.loop-at.facts in
+    let label = c.in_ok-push_last_a_label.ensures in
+    let utf8 = utf8_all name i.points c.loop-at.at c.loop-at-test.false i.utf8 in
+    let same = slice_is c.deref-2.result.now mapped c.loop-at.start c.deref-2.ensures.0 in
+    let is_ended = ended_last _ label.normalized label.no_prefix label.few label.some in
+    let tested : contains facts RightToLeft ≡ true → list_all passes_bidi_rule (labels_of mapped) ≡ true =
+    elim c.else-contains.branch as (λ _. contains facts RightToLeft ≡ true → list_all passes_bidi_rule (labels_of mapped) ≡ true) [
+      | else-contains-via-then-contains+else-not-pass_bidi_rule w ↦ λ _.
+          ap (λ m. list_all passes_bidi_rule (labels_of m)) (sym w.deref-then-contains.ensures.0) ∙ sym w.pass_bidi_rule.ensures ∙ w.if-not-pass_bidi_rule.false
+      | else-contains-via-else-contains w ↦ λ some. absurd (false≢true (w.if-contains.ensures ∙ some))
+    ] in
+    let bidi : passes_bidi (labels_of (flat_map map_char i.points)) ≡ true =
+    ap (λ m. passes_bidi (labels_of m)) (sym i.mapped) ∙ passes_bidi-tested facts mapped i.tells tested in
+    read_all (deny_list std3) name (IsUtf8-from_points name i.points utf8) (points_from_utf8 name i.points utf8) i.read (subst IsEnded same is_ended) bidi
+    ∙ ap Some (ap (λ x. c.loop-at.query.items ++ a_label_of x) (sym same) ∙ sym label.written)
+
+pub returns-clause-lengths : goal.returns-clause-lengths
+returns-clause-lengths g c =
+    let i = c.loop-at.invariant in
+    let label = c.in_ok-push_last_a_label.ensures in
+    let query = c.loop-at.query.items in
+    let last = drop c.loop-at.start c.loop-at.mapped.items in
+    let same = slice_is c.deref-2.result.now c.loop-at.mapped.items c.loop-at.start c.deref-2.ensures.0 in
+    let is_ended = ended_last _ label.normalized label.no_prefix label.few label.some in
+    let written : c.push_last_a_label.new.query.items ≡ query ++ a_label_of last = label.written ∙ ap (λ x. query ++ a_label_of x) same in
+    ap (λ x. verify_dns_length x true) written
+    ∙ lengths_all last i.read (subst IsEnded same is_ended) (λ empty. label.none (same ∙ empty))
+    (λ (some : last ≢ []). subst (λ (l : List ℕ). is_in_range 1 63 (length (a_label_of l)) ≡ true) same (label.some (λ empty. some (sym same ∙ empty))))
+    (λ (some : last ≢ []). subst (λ (q : List ℕ). length q < 254) written (label.short (λ empty. some (sym same ∙ empty))))
+
+pub push_a_label-requires : goal.push_a_label-requires
+push_a_label-requires g c =
+    let label = slice_is c.deref.result.now c.loop-at.mapped.items c.loop-at.start c.deref.ensures.0 in
+    (omega arith, subst (λ (points : List ℕ). TellsComposing c.loop-at.facts points) (sym label) c.loop-at.invariant.composing)
+
+pub push_last_a_label-requires : goal.push_last_a_label-requires
+push_last_a_label-requires g c =
+    let label = slice_is c.deref-2.result.now c.loop-at.mapped.items c.loop-at.start c.deref-2.ensures.0 in
+    (omega arith, subst (λ (points : List ℕ). TellsComposing c.loop-at.facts points) (sym label) c.loop-at.invariant.composing)

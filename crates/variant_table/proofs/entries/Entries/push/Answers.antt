@@ -1,4 +1,5 @@
 use Rattle.std.proofs.Common.{length-append, ◌≡◌, ◌+◌, ◌++◌, ◌∷◌, [], List, ℕ, length, ap, ◌∙◌}
+use Rattle.variant_table.specs.Entries.{Variant}
 use Rattle.variant_table.specs.Held.{entries_of}
 use Rattle.variant_table.specs.Reading.{entry_from}
 use Rattle.variant_table.proofs.DraftLemmas.{on_err}
@@ -16,8 +17,8 @@ returns-in_err-push-clause-err c =
 
 pub returns-clause-ok : goal.returns-clause-ok
 returns-clause-ok c =
-    let ss : List (List ℕ) = c.self.inside.sequences in
-    let more : List (List ℕ) = c.args.sequences.now in
+    let ss : List Variant = c.self.inside.sequences in
+    let more : List Variant = c.args.sequences.now in
     let ends : c.len-end.result ≡ length ss + length more = c.len-end.ensures ∙ ap length c.in_ok-append.ensures.ok ∙ length-append ss more in
     ap (λ x. entries_of x c.push.new.self.items) c.in_ok-append.ensures.ok ∙ ap (entries_of (ss ++ more)) c.in_ok-push.ensures.items
     ∙ entries_of-push ss more c.self.inside.spans.items c.len-start.result c.len-end.result c.self.invariant c.len-start.ensures ends

@@ -1,6 +1,7 @@
 use Rattle.std.proofs.Common.{Ok, IsAscii, sym, ap, ◌∙◌, rules}
 use Rattle.idn_label.specs.Decode.{decode_answer}
-use Rattle.idn2_cli.specs.Answers.{as_utf8, one_line}
+use Rattle.idn2_cli.specs.Answers.{one_line}
+use Rattle.idn_label.specs.Steps.{in_utf8}
 use Rattle.idn2_cli.proofs.TextAnswers.{text_answer-ascii, pieces_for-line, one_line-answered, one_line-refused}
 use Rattle.idn2_cli.proofs.Refusing.{emits_refusal, refused_is}
 use Rattle.idn2_cli.proofs.modes.decode.DecodeAnswering.answer.Goals as goal
@@ -8,32 +9,32 @@ use Rattle.idn2_cli.proofs.modes.decode.DecodeAnswering.answer.Goals as goal
 pub returns-in-Ok-clause-written : goal.returns-in-Ok-clause-written
 returns-in-Ok-clause-written g c =
     let text = c.args.text.now in
-    let answer = as_utf8 (decode_answer text) in
+    let answer = in_utf8 (decode_answer text) in
     let some = sym c.is_empty.ensures ∙ c.if-is_empty.false in
     let ascii : IsAscii text = search rules in
-    rw (text_answer-ascii (λ name. one_line (as_utf8 (decode_answer name))) text ascii some, pieces_for-line c.args.number answer c.as_slice.result.now (c.in-Ok.ensures ∙ ap Ok (sym c.as_slice.ensures.value)))
+    rw (text_answer-ascii (λ name. one_line (in_utf8 (decode_answer name))) text ascii some, pieces_for-line c.args.number answer c.as_slice.result.now (c.in-Ok.ensures ∙ ap Ok (sym c.as_slice.ensures.value)))
     c.reply.ensures.written
 
 pub returns-in-Ok-clause-refused : goal.returns-in-Ok-clause-refused
 returns-in-Ok-clause-refused g c =
     let text = c.args.text.now in
-    let answer = as_utf8 (decode_answer text) in
+    let answer = in_utf8 (decode_answer text) in
     let some = sym c.is_empty.ensures ∙ c.if-is_empty.false in
     let ascii : IsAscii text = search rules in
-    rw (text_answer-ascii (λ name. one_line (as_utf8 (decode_answer name))) text ascii some, one_line-answered answer _ c.in-Ok.ensures) c.reply.ensures.refused
+    rw (text_answer-ascii (λ name. one_line (in_utf8 (decode_answer name))) text ascii some, one_line-answered answer _ c.in-Ok.ensures) c.reply.ensures.refused
 
 pub returns-in-Err-clause-written : goal.returns-in-Err-clause-written
 returns-in-Err-clause-written g c =
     let text = c.args.text.now in
-    let answer = as_utf8 (decode_answer text) in
+    let answer = in_utf8 (decode_answer text) in
     let some = sym c.is_empty.ensures ∙ c.if-is_empty.false in
     let ascii : IsAscii text = search rules in
-    emits_refusal _ _ _ c.in-Err.refusal _ c.refuse.result (λ other. text_answer-ascii (λ name. one_line (as_utf8 (decode_answer name))) text ascii some ∙ one_line-refused answer c.in-Err.refusal (c.in-Err.ensures other)) c.refuse.ensures.told c.refuse.ensures.memory
+    emits_refusal _ _ _ c.in-Err.refusal _ c.refuse.result (λ other. text_answer-ascii (λ name. one_line (in_utf8 (decode_answer name))) text ascii some ∙ one_line-refused answer c.in-Err.refusal (c.in-Err.ensures other)) c.refuse.ensures.told c.refuse.ensures.memory
 
 pub returns-in-Err-clause-refused : goal.returns-in-Err-clause-refused
 returns-in-Err-clause-refused g c =
     let text = c.args.text.now in
-    let answer = as_utf8 (decode_answer text) in
+    let answer = in_utf8 (decode_answer text) in
     let some = sym c.is_empty.ensures ∙ c.if-is_empty.false in
     let ascii : IsAscii text = search rules in
-    refused_is c.in-Err.refusal _ c.refuse.result (λ other. text_answer-ascii (λ name. one_line (as_utf8 (decode_answer name))) text ascii some ∙ one_line-refused answer c.in-Err.refusal (c.in-Err.ensures other)) c.refuse.ensures.memory c.refuse.ensures.refused
+    refused_is c.in-Err.refusal _ c.refuse.result (λ other. text_answer-ascii (λ name. one_line (in_utf8 (decode_answer name))) text ascii some ∙ one_line-refused answer c.in-Err.refusal (c.in-Err.ensures other)) c.refuse.ensures.memory c.refuse.ensures.refused

@@ -1,10 +1,10 @@
 use Rattle.idn_label.specs.Decode.{decode_answer}
-use Rattle.idn2_cli.specs.Answers.{as_utf8}
+use Rattle.idn_label.specs.Steps.{in_utf8}
 use Rattle.idn2_cli.proofs.TextAnswers.{one_line-refused}
 use Rattle.idn2_cli.proofs.Refusing.{emits_refusal}
 use Rattle.idn2_cli.proofs.modes.decode.DecodePointAnswering.answer_points.Goals as goal
 
 pub returns-in-Err-clause-written : goal.returns-in-Err-clause-written
 returns-in-Err-clause-written g c =
-    emits_refusal _ _ _ c.in-Err.refusal _ c.refuse.result (λ other. one_line-refused (as_utf8 (decode_answer c.args.points.now)) c.in-Err.refusal (c.in-Err.ensures other))
+    emits_refusal _ _ _ c.in-Err.refusal _ c.refuse.result (λ other. one_line-refused (in_utf8 (decode_answer c.args.points.now)) c.in-Err.refusal (c.in-Err.ensures other))
     c.refuse.ensures.told c.refuse.ensures.memory

@@ -1,0 +1,41 @@
+# Completes the words of idn2 in bash. To use it in this shell alone: source completions/idn2.bash
+
+_idn2() {
+    local word=${COMP_WORDS[COMP_CWORD]} before=${COMP_WORDS[COMP_CWORD - 1]}
+    COMPREPLY=()
+    # Bash makes the '=' of --option=value a word of its own.
+    if [ "$word" = "=" ]; then
+        word=
+    elif [ "$before" = "=" ]; then
+        before=${COMP_WORDS[COMP_CWORD - 2]}
+    fi
+    case $before in
+        --variants | --check-table)
+            mapfile -t COMPREPLY < <(compgen -f -- "$word")
+            return
+            ;;
+        --after | --limit | --tries) return ;;
+    esac
+    case $word in
+        -*) mapfile -t COMPREPLY < <(compgen -W "$(_idn2_options)" -- "$word") ;;
+    esac
+}
+
+# The options that may still be given: one mode at most, each option once, none behind '--'.
+_idn2_options() {
+    local given=" ${COMP_WORDS[*]:1:COMP_CWORD-1} "
+    local modes="-l --lookup -r --register -d --decode --variants --check-table"
+    local options="-N --tr46nt --usestd3asciirules --quiet -h --help -V --version" option
+    case $given in
+        *" -- "*) return ;;
+        *" --variants "*) modes= options="--after --limit --tries $options" ;;
+    esac
+    for option in $modes; do
+        [[ $given = *" $option "* ]] && modes=
+    done
+    for option in $modes $options; do
+        [[ $given = *" $option "* ]] || echo "$option"
+    done
+}
+
+complete -o filenames -F _idn2 idn2

@@ -1,0 +1,94 @@
+-- The block and the check that compute are those that are listed.
+use Rattle.std.proofs.Common.{◌≡◌, ◌≤◌, ◌⊎◌, inl, inr, ℕ, zero, suc, Bool, true, false, List, [], ◌∷◌, length, take, Option, Some, None, refl, sym, ap, subst, ◌∙◌, arith}
+use Rattle.std.specs.Prelude.{nat_le}
+use Rattle.std.specs.Option.{is_none}
+use Rattle.std.proofs.lemmas.Bool.Decides.{nat_tests}
+use Rattle.std.proofs.lemmas.List.{take_all}
+use Rattle.idn_text.specs.declared.refusal.Refusal.{Refusal}
+use Rattle.idn_class.specs.Hopeless.{hopeless, IsHopeless, HasHope}
+use Rattle.idn_class.proofs.HopelessSteps.{hopeless-nil}
+use Rattle.idn_class.proofs.HopelessTests.{hopeless-from}
+use Rattle.idn_label.specs.FirstFault.{first_fault, IsRegistrable}
+use Rattle.variant_table.specs.Entries.{Entry}
+use Rattle.variant_table.specs.Gaps.{gaps_of}
+use Rattle.variant_table.specs.WellFormed.{IsWellFormed}
+use Rattle.variant_table.proofs.RisingLemmas.{gaps_of_are_gaps}
+use Rattle.variant_list.specs.Beginnings as beginnings
+use Rattle.variant_list.specs.Laws.{IsTested}
+use Rattle.variant_list.specs.Segmentations.{HasSegmentation}
+use Rattle.variant_list.specs.Variants.{IsVariant}
+use Rattle.variant_list.proofs.ListedLemmas.{IsListOf-same}
+use Rattle.variant_list.proofs.TestedLaws.{tested_are_listed}
+use Rattle.variant_list.proofs.VariantLists.{variants-AreVariants}
+use Rattle.idn2_cli.specs.Settings.{Settings}
+use Rattle.idn_label.specs.Answers.{unless_fault}
+use Rattle.idn2_cli.specs.Answers.{is_registrable, variants_after, tested_after, stop_of, block, listing_answer, variants_answer}
+use Rattle.idn2_cli.specs.Answers.{IsListed, IsTried, IsBlock, IsListing}
+use Rattle.idn2_cli.specs.Transcript.{IsCheck}
+use Rattle.idn2_cli.specs.Transcript.{check_lines}
+use Rattle.idn2_cli.proofs.HopeLemmas.{clear}
+use Rattle.idn2_cli.proofs.Segmented.{listing_answer-segmented, listing_answer-unsegmented, segmented_or_not}
+
+none_if_none : (fault : Option Refusal) → is_none fault ≡ true → fault ≡ None
+none_if_none None h = refl
+none_if_none (Some refusal) h = cc
+
+same_listed : (o : Settings) (table : List Entry) (label v : List ℕ) → (IsVariant is_registrable table label o.after v → IsListed o table label v) × (IsListed o table label v → IsVariant is_registrable table label o.after v)
+same_listed o table label v = (
+  λ i. record { registrable = none_if_none (first_fault v) i.accepted; greater = i.greater; spelled = i.spelled },
+  λ l. record { accepted = ap is_none l.registrable; spelled = l.spelled; greater = l.greater },
+)
+
+empty_has_hope : IsHopeless [] → ⊥
+empty_has_hope h = let clash : false ≡ true = sym hopeless-nil ∙ hopeless-from [] h in cc
+
+hope-rule : (v : List ℕ) → beginnings.HasHope hopeless v → HasHope v
+hope-rule v h zero bad = empty_has_hope bad
+hope-rule [] h (suc k) bad = empty_has_hope bad
+hope-rule (c ∷ v) h (suc k) bad = by_length (nat_le (suc k) (length (c ∷ v))) refl
+  where
+    clash : (n : ℕ) → 1 ≤ n → n ≤ length (c ∷ v) → IsHopeless (take n (c ∷ v)) → ⊥
+    clash n low high at = let both : false ≡ true = sym (h n low high) ∙ hopeless-from (take n (c ∷ v)) at in cc
+
+    all : (n : ℕ) → length (c ∷ v) ≤ n → take n (c ∷ v) ≡ take (length (c ∷ v)) (c ∷ v)
+    all n long = take_all n (c ∷ v) long ∙ sym (take_all (length (c ∷ v)) (c ∷ v) (omega arith))
+
+    by_length : (b : Bool) → nat_le (suc k) (length (c ∷ v)) ≡ b → ⊥
+    by_length true is = clash (suc k) (omega arith) (grind (arith, nat_tests)) bad
+    by_length false is =
+        let long : length (c ∷ v) ≤ suc k = grind (arith, nat_tests) in
+        clash (length (c ∷ v)) (omega arith) (omega arith) (subst IsHopeless (all (suc k) long) bad)
+
+same_tried : (o : Settings) (table : List Entry) (label v : List ℕ) → (IsTested hopeless table label o.after v → IsTried o table label v) × (IsTried o table label v → IsTested hopeless table label o.after v)
+same_tried o table label v = (
+  λ t. record { short = t.short; hope = hope-rule v t.hope; greater = t.greater; spelled = t.spelled },
+  λ t. record { spelled = t.spelled; short = t.short; greater = t.greater; hope = λ k low high. clear (take k v) (t.hope k) },
+)
+
+block-IsBlock : (o : Settings) (table : List Entry) (label : List ℕ) → IsWellFormed table → IsBlock o table label (block o table label)
+block-IsBlock o table label formed = record {
+  listed = variants_after o table label;
+  exactly = IsListOf-same (IsVariant is_registrable table label o.after) (IsListed o table label) (variants_after o table label) (same_listed o table label)
+      (variants-AreVariants is_registrable table label o.after formed.entries);
+  tried = tested_after o table label;
+  exactly_tried = IsListOf-same (IsTested hopeless table label o.after) (IsTried o table label) (tested_after o table label) (same_tried o table label)
+      (tested_are_listed hopeless table label o.after formed);
+  stop = stop_of o table label;
+  stops = refl;
+  printed = refl;
+}
+
+listing : (o : Settings) (table : List Entry) (label : List ℕ) → IsWellFormed table → IsListing o table label (listing_answer o table label)
+listing o table label formed = by_cases (segmented_or_not table label formed)
+  where
+    by_cases : HasSegmentation table label ⊎ (HasSegmentation table label → ⊥) → IsListing o table label (listing_answer o table label)
+    by_cases (inl has) = subst (IsListing o table label) (sym (listing_answer-segmented o table label formed has)) (has, block-IsBlock o table label formed)
+    by_cases (inr none) = subst (IsListing o table label) (sym (listing_answer-unsegmented o table label formed none)) (none, refl)
+
+-- the answer to a label that may be registered
+pub variants_answer-IsListing : (o : Settings) (table : List Entry) (label : List ℕ) → IsWellFormed table → IsRegistrable label → IsListing o table label (variants_answer o table label)
+variants_answer-IsListing o table label formed registrable =
+    subst (IsListing o table label) (sym (ap (λ (f : Option Refusal). unless_fault f (listing_answer o table label)) registrable)) (listing o table label formed)
+
+pub check_lines-IsCheck : (table : List Entry) → IsWellFormed table → IsCheck table (check_lines table)
+check_lines-IsCheck table formed = record { gaps = gaps_of table; exactly = gaps_of_are_gaps table formed; printed = refl }

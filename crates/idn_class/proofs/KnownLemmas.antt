@@ -1,0 +1,96 @@
+-- What is known of a beginning, and of one that is longer by a code point.
+use Rattle.std.proofs.Common.{◌≡◌, ℕ, zero, suc, ◌+◌, ◌<◌, ◌≤◌, Bool, true, false, ◌||◌, List, [], ◌∷◌, ◌++◌, length, take, set, get_or, Option, Some, None, refl, sym, ap, ap₂, ◌∙◌, subst, inl, inr, append_assoc, append-nil, length-append, length-take, arith}
+use Rattle.std.proofs.lemmas.Bool.{cases_lt, cases_order}
+use Rattle.std.proofs.lemmas.Grind.{get_or-set_at}
+use Rattle.std.proofs.lemmas.List.{take_all, take-take, take_more, take-append-le, get_or-set_other}
+use Rattle.std.proofs.lemmas.List.Folds.{list_any-append}
+use Rattle.std.specs.List.{list_any}
+use Rattle.idn_class.specs.declared.direction.Direction.{Direction}
+use Rattle.idn_class.specs.declared.facts.Fact.{Fact}
+use Rattle.idn_class.specs.declared.facts.Facts.{Facts}
+use Rattle.idn_class.specs.declared.known.Known.{Known}
+use Rattle.idn_class.specs.Directions.{HasNone, IsShortest, breaks_at_first, breaks_behind, begun, lengthened}
+use Rattle.idn_class.specs.Facts.{AreFactsOf, contains, has_fact}
+use Rattle.idn_class.specs.Known.{IsKnown, AreKnown}
+use Rattle.idn_class.proofs.HopelessSteps.{breaks_after, breaks_at_first-cons, breaks_behind-cons, breaks_behind-nil}
+use Rattle.idn_class.proofs.HopelessShortest.{HasNone-nil, HasNone-behind}
+
+or_false : (b : Bool) → (b || false) ≡ b
+or_false true = refl
+or_false false = refl
+
+-- ---- a first code point
+
+pub breaks-first : (c : ℕ) → begun c ≡ None → breaks_at_first (c ∷ []) ≡ true
+breaks-first c is = breaks_at_first-cons c [] ∙ ap (λ o. breaks_after o []) is
+
+pub IsKnown-first : (c : ℕ) (facts : Facts) (d : Direction) → ((fact : Fact) → contains facts fact ≡ has_fact fact c) → begun c ≡ Some d → IsKnown (c ∷ []) (record { facts = facts; direction = d })
+IsKnown-first c facts d of is = record {
+  facts = λ fact. of fact ∙ sym (or_false (has_fact fact c));
+  direction = λ z. breaks_at_first-cons c z ∙ ap (λ o. breaks_after o z) is;
+  unbroken = HasNone-behind c [] d is (elim [ zero ↦ breaks_behind-nil d | suc k ↦ breaks_behind-nil d ]);
+}
+
+-- ---- one code point more
+
+pub breaks-longer : (w : List ℕ) (known : Known) (c : ℕ) → IsKnown w known → lengthened known.direction c ≡ None → breaks_at_first (w ++ c ∷ []) ≡ true
+breaks-longer w known c h is = h.direction (c ∷ []) ∙ breaks_behind-cons known.direction c [] ∙ ap (λ o. breaks_after o []) is
+
+pub IsKnown-longer : (w : List ℕ) (known : Known) (c : ℕ) (more joined : Facts) (e : Direction) → IsKnown w known
+    → ((fact : Fact) → contains more fact ≡ has_fact fact c) → ((fact : Fact) → contains joined fact ≡ (contains known.facts fact || contains more fact))
+    → lengthened known.direction c ≡ Some e → IsKnown (w ++ c ∷ []) (record { facts = joined; direction = e })
+IsKnown-longer w known c more joined e h of both is =
+    let told : (z : List ℕ) → breaks_at_first ((w ++ c ∷ []) ++ z) ≡ breaks_behind e z =
+    λ z. ap breaks_at_first (append_assoc w (c ∷ []) z) ∙ h.direction (c ∷ z) ∙ breaks_behind-cons known.direction c z ∙ ap (λ o. breaks_after o z) is in
+    let whole : breaks_at_first (w ++ c ∷ []) ≡ false = ap breaks_at_first (sym (append-nil (w ++ c ∷ []))) ∙ told [] ∙ breaks_behind-nil e in
+    record {
+      facts = λ fact. both fact ∙ ap₂ (λ a b. a || b) (h.facts fact) (of fact ∙ sym (or_false (has_fact fact c))) ∙ sym (list_any-append (has_fact fact) w (c ∷ []));
+      direction = told;
+      unbroken = λ k. elim (cases_lt k (length w + 1)) [
+        | inl few ↦ ap breaks_at_first (take-append-le k w (c ∷ []) (omega arith)) ∙ h.unbroken k
+        | inr many ↦ ap breaks_at_first (take_all k (w ++ c ∷ []) (omega (arith, length-append w (c ∷ [])))) ∙ whole
+      ];
+    }
+
+-- ---- what is kept for each place
+
+pub AreKnown-nil : (known : List Known) → AreKnown [] known
+AreKnown-nil known i d within = absurd (omega (arith, within))
+
+pub AreKnown-push : (label : List ℕ) (known : List Known) (c : ℕ) (k : Known) → AreKnown label known → length label < length known → IsKnown (label ++ c ∷ []) k → AreKnown (label ++ c ∷ []) (set known (length label) k)
+AreKnown-push label known c k h room is i d within =
+    let n = length label in
+    let longer = length-append label (c ∷ []) in
+    elim (cases_order i n) [
+      | inl last ↦
+          subst (λ v. IsKnown v (get_or (set known n k) i d)) (sym (take_all (i + 1) (label ++ c ∷ []) (omega (arith, longer, last))))
+          (subst (IsKnown (label ++ c ∷ [])) (sym (get_or-set_at known n i k d last room)) is)
+      | inr other ↦ elim other [
+        | inl less ↦
+            subst (λ v. IsKnown v (get_or (set known n k) i d)) (sym (take-append-le (i + 1) label (c ∷ []) (omega (arith, less))))
+            (subst (IsKnown (take (i + 1) label)) (sym (get_or-set_other known n i k d (λ same. omega (arith, same, less)))) (h i d less))
+        | inr more ↦ absurd (omega (arith, within, longer, more))
+      ]
+    ]
+
+pub AreKnown-take : (label : List ℕ) (known : List Known) (n : ℕ) → AreKnown label known → AreKnown (take n label) known
+AreKnown-take label known n h i d within =
+    let short = length-take n label in
+    subst (λ v. IsKnown v (get_or known i d)) (sym (take-take (i + 1) n label (omega (arith, within, short)))) (h i d (omega (arith, within, short)))
+
+pub IsKnown-whole : (label : List ℕ) (known : List Known) (n : ℕ) (d : Known) → AreKnown label known → length label ≡ n + 1 → IsKnown label (get_or known n d)
+IsKnown-whole label known n d h long =
+    subst (λ v. IsKnown v (get_or known n d)) (take_all (n + 1) label (omega (arith, long))) (h n d (omega (arith, long)))
+
+pub AreKnown-unbroken : (label : List ℕ) (known : List Known) (d : Known) → AreKnown label known → HasNone breaks_at_first label
+AreKnown-unbroken [] known d h = HasNone-nil
+AreKnown-unbroken (c ∷ w) known d h = (IsKnown-whole (c ∷ w) known (length w) d h (omega arith)).unbroken
+
+-- ---- going on to the end of a label
+
+pub IsShortest-next : (label : List ℕ) (i : ℕ) → i < length label → HasNone breaks_at_first (take i label) → breaks_at_first (take i label ++ get_or label i 0 ∷ []) ≡ true → IsShortest breaks_at_first label (i + 1)
+IsShortest-next label i within none breaks = record {
+  within = omega arith;
+  holds = ap breaks_at_first (take_more label i 0 within) ∙ breaks;
+  first = λ k less. ap breaks_at_first (sym (take-take k i label (omega (arith, less)))) ∙ none k;
+}

@@ -1,0 +1,198 @@
+-- The labels of a name of letters, digits and hyphens, as they are read octet by octet.
+use Rattle.std.proofs.Common.{◌≡◌, ◌≢◌, ℕ, ◌+◌, ◌-◌, ◌<◌, ◌≤◌, ◌==◌, ◌&&◌, nat_le, Bool, true, false, List, [], ◌∷◌, ◌++◌, length, drop, take, get_or, All, refl, sym, ap, ◌∙◌, ap₂, append_assoc, append-nil, length-append, arith, eq-eqb}
+use Rattle.std.specs.Int.{is_in_range}
+use Rattle.std.specs.List.{list_all, list_any}
+use Rattle.std.proofs.Math.Bool.{and_comm, and-false, and-true}
+use Rattle.std.proofs.Math.Seq.{get_or-append_seam, drop-append_seam, take-append_seam}
+use Rattle.std.proofs.lemmas.Bool.{false≢true}
+use Rattle.std.proofs.lemmas.Bool.Decides.{nat_tests}
+use Rattle.std.proofs.lemmas.List.{get_or-append-add}
+use Rattle.std.proofs.lemmas.List.Elements.{All-nil, All-push, All-head, All-tail}
+use Rattle.std.proofs.lemmas.List.Folds.{list_all-append}
+use Rattle.std.proofs.lemmas.List.Splits.{slice_split_at, slice_split_none}
+use Rattle.idna.specs.Labels.{full_stop, is_full_stop, labels_of, join_labels}
+use Rattle.idna.specs.Uts46.{has_dns_lengths, verify_dns_length}
+use Rattle.idna.specs.Validity.{hyphen, has_ace_prefix}
+use Rattle.idna.proofs.LabelsLemmas.{HasNoFullStop, labels_of-join_labels, terminated, terminated-cons, terminated-push}
+use Rattle.idna.proofs.ValidityLemmas.{has_ace_prefix_by_index, list_any_push}
+use Rattle.idn_label.specs.LdhNames.{may_end}
+use Rattle.idn_label.proofs.LabelLengths.{has_length}
+use Rattle.idn_label.proofs.LookupLemmas.{verify_dns_length-stop, verify_dns_length-no_stop, verify_dns_length-empty}
+
+-- the labels of the octets so far: whole ones with a full stop behind each, and one that begins at `start`; no label begins with the prefix; and whether the whole ones have lengths that the DNS allows
+pub record IsSplit (query : List ℕ) (start : ℕ) (fit : Bool) : Type 0 where
+  pub whole : List (List ℕ)
+  pub last : List ℕ
+  pub parts : query ≡ terminated whole ++ last
+  pub begins : start ≡ length (terminated whole)
+  pub plain : All HasNoFullStop whole
+  pub last_plain : HasNoFullStop last
+  pub free : list_any has_ace_prefix whole ≡ false
+  pub last_free : has_ace_prefix last ≡ false
+  pub lengths : fit ≡ list_all has_length whole
+
+pub split_nothing : IsSplit [] 0 true
+unfolding has_ace_prefix
+split_nothing = record {
+  whole = [];
+  last = [];
+  parts = refl;
+  begins = refl;
+  plain = All-nil HasNoFullStop;
+  last_plain = All-nil (λ c. is_full_stop c ≡ false);
+  free = refl;
+  last_free = refl;
+  lengths = refl;
+}
+
+pub same_split : {query query' : List ℕ} {start start' : ℕ} {fit fit' : Bool} → query ≡ query' → start ≡ start' → fit ≡ fit' → IsSplit query start fit → IsSplit query' start' fit'
+same_split q s f r = record {
+  whole = r.whole;
+  last = r.last;
+  parts = sym q ∙ r.parts;
+  begins = sym s ∙ r.begins;
+  plain = r.plain;
+  last_plain = r.last_plain;
+  free = r.free;
+  last_free = r.last_free;
+  lengths = sym f ∙ r.lengths;
+}
+
+-- ---- one more octet
+
+pub split_within : {query : List ℕ} {start : ℕ} {fit : Bool} → IsSplit query start fit → start ≤ length query
+split_within r = let parts = ap length r.parts ∙ length-append (terminated r.whole) r.last in omega (arith, parts, r.begins)
+
+more_parts : {query : List ℕ} {start : ℕ} {fit : Bool} → (r : IsSplit query start fit) → (c : ℕ) → query ++ c ∷ [] ≡ terminated r.whole ++ (r.last ++ c ∷ [])
+more_parts r c = ap (λ x. x ++ c ∷ []) r.parts ∙ append_assoc (terminated r.whole) r.last (c ∷ [])
+
+split_more : {query : List ℕ} {start : ℕ} {fit : Bool} → (r : IsSplit query start fit) → (c : ℕ) → is_full_stop c ≡ false → has_ace_prefix (r.last ++ c ∷ []) ≡ false → IsSplit (query ++ c ∷ []) start fit
+split_more r c other free = record {
+  whole = r.whole;
+  last = r.last ++ c ∷ [];
+  parts = more_parts r c;
+  begins = r.begins;
+  plain = r.plain;
+  last_plain = All-push (λ c. is_full_stop c ≡ false) r.last c r.last_plain other;
+  free = r.free;
+  last_free = free;
+  lengths = r.lengths;
+}
+
+prefix_ends_in_hyphen : (label : List ℕ) (c : ℕ) → has_ace_prefix label ≡ false → (c == hyphen) ≡ false → has_ace_prefix (label ++ c ∷ []) ≡ false
+prefix_ends_in_hyphen [] c free other = has_ace_prefix_by_index (c ∷ [])
+prefix_ends_in_hyphen (a ∷ []) c free other = has_ace_prefix_by_index (a ∷ c ∷ [])
+prefix_ends_in_hyphen (a ∷ b ∷ []) c free other = has_ace_prefix_by_index (a ∷ b ∷ c ∷ []) ∙ ap (λ x. (x && (a == 120)) && (b == 110)) (and-false (c == hyphen))
+prefix_ends_in_hyphen (a ∷ b ∷ d ∷ []) c free other =
+    has_ace_prefix_by_index (a ∷ b ∷ d ∷ c ∷ []) ∙ ap (λ x. ((d == hyphen) && x) && (a == 120) && (b == 110)) other ∙ ap (λ x. x && (a == 120) && (b == 110)) (and-false (d == hyphen))
+prefix_ends_in_hyphen (a ∷ b ∷ d ∷ e ∷ label) c free other =
+    has_ace_prefix_by_index (a ∷ b ∷ d ∷ e ∷ label ++ c ∷ []) ∙ sym (has_ace_prefix_by_index (a ∷ b ∷ d ∷ e ∷ label)) ∙ free
+
+-- a letter or a digit
+pub split_letter : {query : List ℕ} {start : ℕ} {fit : Bool} → IsSplit query start fit → (c : ℕ) → is_full_stop c ≡ false → (c == hyphen) ≡ false → IsSplit (query ++ c ∷ []) start fit
+split_letter r c other no_hyphen = split_more r c other (prefix_ends_in_hyphen r.last c r.last_free no_hyphen)
+
+-- a hyphen that does not end the prefix
+pub split_hyphen : {query : List ℕ} {start : ℕ} {fit : Bool} → IsSplit query start fit → has_ace_prefix (drop start (query ++ hyphen ∷ [])) ≡ false → IsSplit (query ++ hyphen ∷ []) start fit
+split_hyphen {query} {start} r free =
+    let last : drop start (query ++ hyphen ∷ []) ≡ r.last ++ hyphen ∷ [] =
+    ap (λ n. drop n (query ++ hyphen ∷ [])) r.begins ∙ ap (drop (length (terminated r.whole))) (more_parts r hyphen) ∙ drop-append_seam (terminated r.whole) (r.last ++ hyphen ∷ []) in
+    split_more r hyphen refl (ap has_ace_prefix (sym last) ∙ free)
+
+last_length : {query : List ℕ} {start : ℕ} {fit : Bool} → (r : IsSplit query start fit) → length query ≡ start + length r.last
+last_length r = ap length r.parts ∙ length-append (terminated r.whole) r.last ∙ ap (λ n. n + length r.last) (sym r.begins)
+
+-- a full stop
+pub split_stop : {query : List ℕ} {start : ℕ} {fit : Bool} → IsSplit query start fit → (allowed : Bool) → allowed ≡ is_in_range 1 63 (length query - start) → IsSplit (query ++ full_stop ∷ []) (length query + 1) (fit && allowed)
+unfolding has_ace_prefix
+split_stop {query} {start} {fit} r allowed is =
+    let ended : query ++ full_stop ∷ [] ≡ terminated (r.whole ++ r.last ∷ []) = ap (λ x. x ++ full_stop ∷ []) r.parts ∙ terminated-push r.whole r.last in
+    let count = last_length r in
+    let same : length query - start ≡ length r.last = omega (arith, count) in
+    record {
+      whole = r.whole ++ r.last ∷ [];
+      last = [];
+      parts = ended ∙ sym (append-nil (terminated (r.whole ++ r.last ∷ [])));
+      begins = sym (length-append query (full_stop ∷ [])) ∙ ap length ended;
+      plain = All-push HasNoFullStop r.whole r.last r.plain r.last_plain;
+      last_plain = All-nil (λ c. is_full_stop c ≡ false);
+      free = list_any_push has_ace_prefix r.whole r.last ∙ rw (r.free, r.last_free) refl;
+      last_free = refl;
+      lengths =
+          ap₂ (λ a b. a && b) r.lengths (is ∙ ap (is_in_range 1 63) same ∙ sym (and-true (has_length r.last)))
+          ∙ sym (list_all-append has_length r.whole (r.last ∷ []));
+    }
+
+-- ---- the whole name
+
+terminated_then : (label : List ℕ) (labels : List (List ℕ)) (last : List ℕ) → terminated (label ∷ labels) ++ last ≡ label ++ full_stop ∷ (terminated labels ++ last)
+terminated_then label labels last = append_assoc (label ++ full_stop ∷ []) (terminated labels) last ∙ append_assoc label (full_stop ∷ []) (terminated labels ++ last)
+
+labels_of-terminated : (whole : List (List ℕ)) (last : List ℕ) → All HasNoFullStop whole → HasNoFullStop last → labels_of (terminated whole ++ last) ≡ whole ++ last ∷ []
+labels_of-terminated [] last plain last_plain = slice_split_none is_full_stop last last_plain
+labels_of-terminated (label ∷ labels) last plain last_plain =
+    ap labels_of (terminated_then label labels last)
+    ∙ slice_split_at is_full_stop label full_stop (terminated labels ++ last) (All-head HasNoFullStop label labels plain) refl
+    ∙ ap (λ x. label ∷ x) (labels_of-terminated labels last (All-tail HasNoFullStop label labels plain) last_plain)
+
+labels_of-split : {query : List ℕ} {start : ℕ} {fit : Bool} → (r : IsSplit query start fit) → labels_of query ≡ r.whole ++ r.last ∷ []
+labels_of-split r = ap labels_of r.parts ∙ labels_of-terminated r.whole r.last r.plain r.last_plain
+
+-- no label begins with the prefix
+pub split_free : {query : List ℕ} {start : ℕ} {fit : Bool} → IsSplit query start fit → list_any has_ace_prefix (labels_of query) ≡ false
+split_free r = ap (list_any has_ace_prefix) (labels_of-split r) ∙ list_any_push has_ace_prefix r.whole r.last ∙ rw (r.free, r.last_free) refl
+
+may_end-stop : (n m : ℕ) → n ≡ m + 1 → may_end n n ≡ nat_le m 253
+may_end-stop n m is = grind (arith, nat_tests)
+
+may_end-label : (s n k : ℕ) → n ≡ s + k → 0 < k → may_end s n ≡ (is_in_range 1 63 k && nat_le n 253)
+may_end-label s n k is some = grind (arith, nat_tests)
+
+regroup : (n a b : Bool) → (n && (a && (b && true))) ≡ (a && (b && n))
+regroup true a true = refl
+regroup true a false = refl
+regroup false true true = refl
+regroup false true false = refl
+regroup false false b = refl
+
+-- a name that ends in a label
+measured_label : (query : List ℕ) (start : ℕ) (fit : Bool) (r : IsSplit query start fit) → 0 < length r.last → verify_dns_length query true ≡ (fit && may_end start (length query))
+measured_label query start fit r some =
+    let count = last_length r in
+    let at : length query - 1 ≡ length (terminated r.whole) + (length r.last - 1) = omega (arith, count, r.begins) in
+    let read : get_or query (length query - 1) 0 ≡ get_or r.last (length r.last - 1) 0 =
+    ap (λ x. get_or x (length query - 1) 0) r.parts ∙ ap (λ n. get_or (terminated r.whole ++ r.last) n 0) at ∙ get_or-append-add (terminated r.whole) r.last (length r.last - 1) 0 in
+    let within : length r.last - 1 < length r.last = omega (arith, some) in
+    let other : get_or query (length query - 1) 0 ≢ 0x2E = λ stop. false≢true (sym (r.last_plain (length r.last - 1) 0 within) ∙ eq-eqb (get_or r.last (length r.last - 1) 0) 0x2E (sym read ∙ stop)) in
+    verify_dns_length-no_stop query (length query - 1) refl other
+    ∙ ap (λ labels. nat_le (length query) 253 && list_all has_length labels) (labels_of-split r)
+    ∙ ap (λ b. nat_le (length query) 253 && b) (list_all-append has_length r.whole (r.last ∷ []) ∙ ap (λ b. b && (has_length r.last && true)) (sym r.lengths))
+    ∙ regroup (nat_le (length query) 253) fit (has_length r.last)
+    ∙ ap (λ b. fit && b) (sym (may_end-label start (length query) (length r.last) count some))
+
+-- a name that ends in a full stop behind labels, or is empty
+measured_stop : (query : List ℕ) (start : ℕ) (fit : Bool) (whole : List (List ℕ)) → query ≡ terminated whole → start ≡ length query → All HasNoFullStop whole → fit ≡ list_all has_length whole → verify_dns_length query true ≡ (fit && may_end start (length query))
+measured_stop query start fit [] parts begins plain lengths = rw (begins, parts) (verify_dns_length-empty [] refl ∙ sym (and-false fit))
+measured_stop query start fit (label ∷ labels) parts begins plain lengths =
+    let name = join_labels (label ∷ labels) in
+    let whole : query ≡ name ++ full_stop ∷ [] = parts ∙ terminated-cons label labels in
+    let count : length query ≡ length name + 1 = ap length whole ∙ length-append name (full_stop ∷ []) in
+    let at : length name ≡ length query - 1 = omega (arith, count) in
+    verify_dns_length-stop query (length name) at (ap (λ x. get_or x (length name) 0) whole ∙ get_or-append_seam name full_stop [] 0)
+    ∙ ap has_dns_lengths (ap (take (length name)) whole ∙ take-append_seam name (full_stop ∷ []))
+    ∙ ap (λ labels. nat_le (length name) 253 && list_all has_length labels) (labels_of-join_labels label labels plain)
+    ∙ ap (λ b. nat_le (length name) 253 && b) (sym lengths)
+    ∙ and_comm (nat_le (length name) 253) fit
+    ∙ ap (λ b. fit && b) (sym (may_end-stop (length query) (length name) count) ∙ ap (λ n. may_end n (length query)) (sym begins))
+
+measured_by : (query : List ℕ) (start : ℕ) (fit : Bool) (r : IsSplit query start fit) (last : List ℕ) → r.last ≡ last → verify_dns_length query true ≡ (fit && may_end start (length query))
+measured_by query start fit r [] is =
+    let count = last_length r in
+    let none : length r.last ≡ 0 = ap length is in
+    let all : start ≡ length query = omega (arith, count, none) in
+    measured_stop query start fit r.whole (r.parts ∙ ap (λ x. terminated r.whole ++ x) is ∙ append-nil (terminated r.whole)) all r.plain r.lengths
+measured_by query start fit r (c ∷ last) is = measured_label query start fit r (let some = ap length is in omega (arith, some))
+
+-- the lengths of the name, a full stop at its end put aside
+pub split_measured : {query : List ℕ} {start : ℕ} {fit : Bool} → IsSplit query start fit → verify_dns_length query true ≡ (fit && may_end start (length query))
+split_measured {query} {start} {fit} r = measured_by query start fit r r.last refl

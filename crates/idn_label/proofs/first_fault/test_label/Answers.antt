@@ -1,8 +1,0 @@
-use Rattle.std.proofs.lemmas.Result.{err_from_is_err_and}
-use Rattle.idn_label.proofs.FaultLemmas.{first_fault-but_length}
-use Rattle.idn_label.proofs.first_fault.test_label.Goals as goal
-
-pub returns-in_err-check_label-clause-fault : goal.returns-in_err-check_label-clause-fault
-returns-in_err-check_label-clause-fault c =
-    let p = err_from_is_err_and c.from_residual.result c.from_residual.ensures.1 in
-    rw (p.1, p.2) (λ other. first_fault-but_length c.args.label.now _ (c.in_err-check_label.ensures.fault other))

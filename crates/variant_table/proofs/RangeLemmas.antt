@@ -1,0 +1,104 @@
+-- The entries of a range, one by one.
+use Rattle.std.proofs.Common.{◌≡◌, ℕ, zero, suc, ◌+◌, ◌-◌, ◌<◌, ◌≤◌, Bool, true, false, ◌||◌, cond, List, [], ◌∷◌, ◌++◌, length, map, Result, Ok, Err, refl, sym, ap, ◌∙◌, arith, append_assoc, length-append}
+use Rattle.std.specs.Prelude.{bytes_eq}
+use Rattle.std.specs.List.{range_with_len, list_any}
+use Rattle.std.proofs.lemmas.List.{append-nil}
+use Rattle.variant_table.specs.Faults.{LineFault, SameSource}
+use Rattle.variant_table.specs.Entries.{Entry}
+use Rattle.variant_table.specs.Canonical.{point_text, canonical_line, canonical_text}
+use Rattle.variant_table.specs.Conditions.{is_too_large, has_bad_class, has_repeat, has_source_in}
+use Rattle.variant_table.specs.Ranges.{point_entry}
+use Rattle.variant_table.specs.Reading.{◌>>=◌, with_new_source, with_new_sources}
+use Rattle.variant_table.proofs.ConditionLemmas.{AreNewSources, new_range}
+
+-- so many entries from a code point on
+abbrev pub points_from : ℕ → ℕ → List Entry
+points_from first count = map point_entry (range_with_len first count)
+
+same_points : (a b m n : ℕ) → a ≡ b → m ≡ n → points_from a m ≡ points_from b n
+same_points a b m n e f = ap (λ x. points_from x m) e ∙ ap (points_from b) f
+
+-- the entries from a place on are that of its code point and those behind it
+pub points_next : (first count i : ℕ) → i < count → points_from (first + i) (count - i) ≡ point_entry (first + i) ∷ points_from (first + (i + 1)) (count - (i + 1))
+points_next first count i l =
+    same_points (first + i) (first + i) (count - i) (suc (count - (i + 1))) refl (omega arith)
+    ∙ ap (λ es. point_entry (first + i) ∷ es) (same_points (first + i + 1) (first + (i + 1)) (count - (i + 1)) (count - (i + 1)) (omega arith) refl)
+
+pub points_start : (first count : ℕ) → points_from (first + 0) (count - 0) ≡ points_from first count
+points_start first count = same_points (first + 0) first (count - 0) count (omega arith) (omega arith)
+
+pub points_end : (first count i : ℕ) → count ≤ i → points_from (first + i) (count - i) ≡ []
+points_end first count i l = same_points (first + i) (first + i) (count - i) 0 refl (omega (arith, l))
+
+pub length-points_text : (c : ℕ) (es : List Entry) → length (canonical_text (point_entry c ∷ es)) ≡ length (point_text c) + 1 + length (canonical_text es)
+length-points_text c es =
+    omega (arith, length-append (canonical_line (point_entry c) ++ 10 ∷ []) (canonical_text es), length-append (canonical_line (point_entry c)) (10 ∷ []), length-append (point_text c) [])
+
+-- ---- such entries have no fault of their own but a bad class
+
+points_small : (cs : List ℕ) → list_any is_too_large (map point_entry cs) ≡ false
+points_small [] = refl
+points_small (c ∷ cs) = points_small cs
+
+points_single : (cs : List ℕ) → list_any has_repeat (map point_entry cs) ≡ false
+points_single [] = refl
+points_single (c ∷ cs) = points_single cs
+
+pub range_small : (first count : ℕ) → list_any is_too_large (points_from first count) ≡ false
+range_small first count = points_small (range_with_len first count)
+
+pub range_single : (first count : ℕ) → list_any has_repeat (points_from first count) ≡ false
+range_single first count = points_single (range_with_len first count)
+
+-- ---- new sources, one after another
+
+pub added_new : (t : List Entry) (e : Entry) (b : Bool) → has_source_in t e ≡ b → (t' : List Entry) → with_new_source t e ≡ Ok t' → t' ≡ t ++ e ∷ []
+added_new t e true h t' is = absurd (let x : with_new_source t e ≡ Err SameSource = ap (λ b. cond b (Err SameSource) (Ok (t ++ e ∷ []))) h in cc)
+added_new t e false h t' is = (let x : with_new_source t e ≡ Ok (t ++ e ∷ []) = ap (λ b. cond b (Err SameSource) (Ok (t ++ e ∷ []))) h in cc)
+
+pub all_new : (t es : List Entry) → AreNewSources t es → with_new_sources t es ≡ Ok (t ++ es)
+all_new t [] h = ap (λ x. Ok x) (sym (append-nil t))
+all_new t (e ∷ es) h =
+    ap (λ r. r >>= λ x. with_new_sources x es) (ap (λ b. cond b (Err SameSource) (Ok (t ++ e ∷ []))) h.0)
+    ∙ all_new (t ++ e ∷ []) es h.1 ∙ ap (λ x. Ok x) (append_assoc t (e ∷ []) es)
+
+-- a source that some entries have, more entries have too
+or_right : (a b : Bool) → b ≡ true → (a || b) ≡ true
+or_right true b h = refl
+or_right false b h = h
+
+known_step : (t : List Entry) (x e f : Entry) (b : Bool) → bytes_eq x.source f.source ≡ b → has_source_in (x ∷ t) f ≡ true → (has_source_in t f ≡ true → has_source_in (t ++ e ∷ []) f ≡ true) → has_source_in (x ∷ (t ++ e ∷ [])) f ≡ true
+known_step t x e f true k h rest = ap (λ b. b || has_source_in (t ++ e ∷ []) f) k
+known_step t x e f false k h rest = or_right (bytes_eq x.source f.source) (has_source_in (t ++ e ∷ []) f) (rest (sym (ap (λ b. b || has_source_in t f) k) ∙ h))
+
+known_more : (t : List Entry) (e f : Entry) → has_source_in t f ≡ true → has_source_in (t ++ e ∷ []) f ≡ true
+known_more [] e f h = absurd cc
+known_more (x ∷ t) e f h = known_step t x e f (bytes_eq x.source f.source) refl h (λ k. known_more t e f k)
+
+any_step : (t : List Entry) (e f : Entry) (es : List Entry) (b : Bool) → has_source_in t f ≡ b → list_any (has_source_in t) (f ∷ es) ≡ true → (list_any (has_source_in t) es ≡ true → list_any (has_source_in (t ++ e ∷ [])) es ≡ true)
+    → list_any (has_source_in (t ++ e ∷ [])) (f ∷ es) ≡ true
+any_step t e f es true k h rest = ap (λ b. b || list_any (has_source_in (t ++ e ∷ [])) es) (known_more t e f k)
+any_step t e f es false k h rest = or_right (has_source_in (t ++ e ∷ []) f) (list_any (has_source_in (t ++ e ∷ [])) es) (rest (sym (ap (λ b. b || list_any (has_source_in t) es) k) ∙ h))
+
+any_known : (t : List Entry) (e : Entry) (es : List Entry) → list_any (has_source_in t) es ≡ true → list_any (has_source_in (t ++ e ∷ [])) es ≡ true
+any_known t e [] h = absurd cc
+any_known t e (f ∷ es) h = any_step t e f es (has_source_in t f) refl h (λ k. any_known t e es k)
+
+some_step : (t : List Entry) (e : Entry) (es : List Entry) (b : Bool) → has_source_in t e ≡ b → list_any (has_source_in t) (e ∷ es) ≡ true
+    → (list_any (has_source_in (t ++ e ∷ [])) es ≡ true → with_new_sources (t ++ e ∷ []) es ≡ Err SameSource) → with_new_sources t (e ∷ es) ≡ Err SameSource
+some_step t e es true k h rest = ap (λ r. r >>= λ x. with_new_sources x es) (ap (λ b. cond b (Err SameSource) (Ok (t ++ e ∷ []))) k)
+some_step t e es false k h rest =
+    ap (λ r. r >>= λ x. with_new_sources x es) (ap (λ b. cond b (Err SameSource) (Ok (t ++ e ∷ []))) k)
+    ∙ rest (any_known t e es (sym (ap (λ b. b || list_any (has_source_in t) es) k) ∙ h))
+
+pub some_known : (t es : List Entry) → list_any (has_source_in t) es ≡ true → with_new_sources t es ≡ Err SameSource
+some_known t [] h = absurd cc
+some_known t (e ∷ es) h = some_step t e es (has_source_in t e) refl h (λ k. some_known (t ++ e ∷ []) es k)
+
+-- the table with the entries of a range, by whether it has one of their sources
+pub with_range : (t : List Entry) (first count : ℕ) → with_new_sources t (points_from first count) ≡ cond (list_any (has_source_in t) (points_from first count)) (Err SameSource) (Ok (t ++ points_from first count))
+with_range t first count = by_cases (list_any (has_source_in t) (points_from first count)) refl
+  where
+    by_cases : (b : Bool) → list_any (has_source_in t) (points_from first count) ≡ b → with_new_sources t (points_from first count) ≡ cond b (Err SameSource) (Ok (t ++ points_from first count))
+    by_cases true h = some_known t (points_from first count) h
+    by_cases false h = all_new t (points_from first count) (new_range t first count h)

@@ -1,0 +1,203 @@
+-- The table without its blocked variants.
+use Rattle.std.proofs.Common.{◌≡◌, ℕ, zero, suc, ◌+◌, ◌≤◌, Bool, true, false, ◌||◌, cond, List, [], ◌∷◌, ◌++◌, length, map, take, get_or, Some, refl, sym, ap, subst, ◌∙◌, arith, length-append}
+use Rattle.std.specs.Prelude.{slice_get, bytes_eq, filter, not, IsPermutation}
+use Rattle.std.specs.Ordering.{nat_cmp}
+use Rattle.std.specs.declared.cmp.Ordering.TheVariants.{Less}
+use Rattle.std.specs.Cmp.Lexicographic.{slice_cmp}
+use Rattle.std.specs.List.{AllByRecursion, list_any, range_with_len}
+use Rattle.std.proofs.lemmas.Bool.{or_parts, or_from}
+use Rattle.std.proofs.lemmas.List.{append-nil, map-append, length-map}
+use Rattle.std.proofs.lemmas.List.Elements.{All-from_recursion, recursion_from_All}
+use Rattle.variant_table.specs.declared.version.Version.{Version}
+use Rattle.variant_table.specs.declared.version.Version.TheVariants.{One, Two}
+use Rattle.variant_table.specs.Canonical.{sequence_text, canonical_line, canonical_text, head_text, table_text}
+use Rattle.variant_table.specs.Conditions.{repeats, has_source_in}
+use Rattle.variant_table.specs.Entries.{Variant, Entry, TableValue, IsOfVersion, sequences_in, replacements, unblocked_entry, unblocked}
+use Rattle.variant_table.specs.Notation.{variant_tokens, further_variants}
+use Rattle.variant_table.specs.Canonical.{token_text, tokens_text}
+use Rattle.variant_table.specs.Order.{IsOrderOf}
+use Rattle.variant_table.specs.Reading.{entry_from}
+use Rattle.variant_table.specs.WellFormed.{IsSequence, IsEntry, IsTable}
+use Rattle.std.proofs.lemmas.List.Concat.{flat_map-append}
+use Rattle.variant_table.proofs.ConditionLemmas.{AreNewSources, distinct_from, no_repeats, distinct_sources, new_sources, no_sources}
+use Rattle.variant_table.proofs.ListLemmas.{take_next}
+use Rattle.variant_table.proofs.EntryLemmas.{variant_marked}
+use Rattle.variant_table.proofs.WritingLemmas.{variant_text, variants_text, canonical_line-is}
+
+-- the variants that are not blocked
+abbrev pub free : List Variant → List Variant
+free variants = filter (λ v. not v.blocked) variants
+
+-- ---- one variant after another
+
+free_step : (v w : Variant) (variants : List Variant) (b : Bool) → free (variants ++ w ∷ []) ≡ free variants ++ free (w ∷ [])
+    → cond (not b) (v ∷ free (variants ++ w ∷ [])) (free (variants ++ w ∷ [])) ≡ cond (not b) (v ∷ free variants) (free variants) ++ free (w ∷ [])
+free_step v w variants true h = h
+free_step v w variants false h = ap (λ x. v ∷ x) h
+
+free_push : (variants : List Variant) (w : Variant) → free (variants ++ w ∷ []) ≡ free variants ++ free (w ∷ [])
+free_push [] w = refl
+free_push (v ∷ variants) w = free_step v w variants v.blocked (free_push variants w)
+
+pub free_kept : (variants : List Variant) (i : ℕ) (v : Variant) → slice_get variants i ≡ Some v → v.blocked ≡ false → free (take (i + 1) variants) ≡ free (take i variants) ++ v ∷ []
+free_kept variants i v e h = ap free (take_next variants i v e) ∙ free_push (take i variants) v ∙ ap (λ b. free (take i variants) ++ cond (not b) (v ∷ []) []) h
+
+pub free_left : (variants : List Variant) (i : ℕ) → slice_get (map (λ v. v.blocked) variants) i ≡ Some true → free (take (i + 1) variants) ≡ free (take i variants)
+free_left variants i e =
+    let at = variant_marked variants i true e in
+    ap free (take_next variants i at.0 at.1) ∙ free_push (take i variants) at.0 ∙ ap (λ b. free (take i variants) ++ cond (not b) (at.0 ∷ []) []) at.2 ∙ append-nil (free (take i variants))
+
+pub unblocked_next : (t : List Entry) (i : ℕ) (e : Entry) → slice_get t i ≡ Some e → unblocked (take (i + 1) t) ≡ unblocked (take i t) ++ unblocked_entry e ∷ []
+unblocked_next t i e at = ap unblocked (take_next t i e at) ∙ map-append unblocked_entry (take i t) (e ∷ [])
+
+-- ---- the order of the sources stays
+
+source_kept : (t : List Entry) (n : ℕ) → (get_or (unblocked t) n (entry_from [])).source ≡ (get_or t n (entry_from [])).source
+source_kept [] n = refl
+source_kept (e ∷ t) zero = refl
+source_kept (e ∷ t) (suc n) = source_kept t n
+
+pub order_kept : (t : List Entry) (order : List ℕ) → IsOrderOf t order → IsOrderOf (unblocked t) order
+order_kept t order h = record {
+  numbers = subst (λ n. IsPermutation (range_with_len 0 n) order) (sym (length-map t unblocked_entry)) h.numbers;
+  rising = λ i j l m. (let r = h.rising i j l m in
+      subst (λ s. slice_cmp nat_cmp s (get_or (unblocked t) (get_or order j 0) (entry_from [])).source ≡ Less) (sym (source_kept t (get_or order i 0)))
+      (subst (λ s. slice_cmp nat_cmp (get_or t (get_or order i 0) (entry_from [])).source s ≡ Less) (sym (source_kept t (get_or order j 0))) r));
+}
+
+-- ---- the entries are well-formed
+
+all_free : (P : List ℕ → Type 0) (variants : List Variant) → AllByRecursion P (sequences_in variants) → AllByRecursion P (sequences_in (free variants))
+all_free P [] h = tt
+all_free P (v ∷ variants) h = by_mark v.blocked (all_free P variants h.1)
+  where
+    by_mark : (b : Bool) → AllByRecursion P (sequences_in (free variants)) → AllByRecursion P (sequences_in (cond (not b) (v ∷ free variants) (free variants)))
+    by_mark true rest = rest
+    by_mark false rest = (h.0, rest)
+
+any_free : (p : List ℕ → Bool) (variants : List Variant) → list_any p (sequences_in variants) ≡ false → list_any p (sequences_in (free variants)) ≡ false
+any_free p [] h = refl
+any_free p (v ∷ variants) h = by_mark v.blocked (any_free p variants (or_parts (p v.sequence) (list_any p (sequences_in variants)) h).1)
+  where
+    by_mark : (b : Bool) → list_any p (sequences_in (free variants)) ≡ false → list_any p (sequences_in (cond (not b) (v ∷ free variants) (free variants))) ≡ false
+    by_mark true rest = rest
+    by_mark false rest = or_from (p v.sequence) (list_any p (sequences_in (free variants))) (or_parts (p v.sequence) (list_any p (sequences_in variants)) h).0 rest
+
+repeats_free : (variants : List Variant) → repeats (sequences_in variants) ≡ false → repeats (sequences_in (free variants)) ≡ false
+repeats_free [] h = refl
+repeats_free (v ∷ variants) h = by_mark v.blocked (repeats_free variants (or_parts (list_any (bytes_eq v.sequence) (sequences_in variants)) (repeats (sequences_in variants)) h).1)
+  where
+    by_mark : (b : Bool) → repeats (sequences_in (free variants)) ≡ false → repeats (sequences_in (cond (not b) (v ∷ free variants) (free variants))) ≡ false
+    by_mark true rest = rest
+    by_mark false rest =
+        or_from (list_any (bytes_eq v.sequence) (sequences_in (free variants))) (repeats (sequences_in (free variants)))
+        (any_free (bytes_eq v.sequence) variants (or_parts (list_any (bytes_eq v.sequence) (sequences_in variants)) (repeats (sequences_in variants)) h).0) rest
+
+few_free : (variants : List Variant) → length (free variants) ≤ length variants
+few_free [] = omega arith
+few_free (v ∷ variants) = by_mark v.blocked (few_free variants)
+  where
+    by_mark : (b : Bool) → length (free variants) ≤ length variants → length (cond (not b) (v ∷ free variants) (free variants)) ≤ length (v ∷ variants)
+    by_mark true rest = omega (arith, rest)
+    by_mark false rest = omega (arith, rest)
+
+entry_kept : (e : Entry) → IsEntry e → IsEntry (unblocked_entry e)
+entry_kept e h =
+    let all = recursion_from_All IsSequence (replacements e) h.sequences in
+    let single : repeats (replacements e) ≡ false = no_repeats (replacements e) h.distinct in
+    let p = or_parts (list_any (bytes_eq e.source) (sequences_in e.variants)) (repeats (sequences_in e.variants)) single in
+    record {
+      sequences = All-from_recursion IsSequence (replacements (unblocked_entry e)) (all.0, all_free IsSequence e.variants all.1);
+      few = omega (arith, h.few, few_free e.variants);
+      distinct = distinct_from (replacements (unblocked_entry e))
+          (or_from (list_any (bytes_eq e.source) (sequences_in (free e.variants))) (repeats (sequences_in (free e.variants))) (any_free (bytes_eq e.source) e.variants p.0) (repeats_free e.variants p.1));
+    }
+
+entries_kept : (t : List Entry) → AllByRecursion IsEntry t → AllByRecursion IsEntry (unblocked t)
+entries_kept [] h = tt
+entries_kept (e ∷ t) h = (entry_kept e h.0, entries_kept t h.1)
+
+unmarked_free : (variants : List Variant) → AllByRecursion (λ v. v.blocked ≡ false) variants → AllByRecursion (λ v. v.blocked ≡ false) (free variants)
+unmarked_free [] h = tt
+unmarked_free (v ∷ variants) h = by_mark v.blocked (unmarked_free variants h.1)
+  where
+    by_mark : (b : Bool) → AllByRecursion (λ v. v.blocked ≡ false) (free variants) → AllByRecursion (λ v. v.blocked ≡ false) (cond (not b) (v ∷ free variants) (free variants))
+    by_mark true rest = rest
+    by_mark false rest = (h.0, rest)
+
+version_kept : (v : Version) (t : List Entry) → AllByRecursion (IsOfVersion v) t → AllByRecursion (IsOfVersion v) (unblocked t)
+version_kept v [] h = tt
+version_kept One (e ∷ t) h =
+    (All-from_recursion (λ x. x.blocked ≡ false) (free e.variants) (unmarked_free e.variants (recursion_from_All (λ x. x.blocked ≡ false) e.variants h.0)), version_kept One t h.1)
+version_kept Two (e ∷ t) h = (tt, version_kept Two t h.1)
+
+-- ---- sources
+
+has_kept : (t : List Entry) (e : Entry) → has_source_in (unblocked t) (unblocked_entry e) ≡ has_source_in t e
+has_kept [] e = refl
+has_kept (x ∷ t) e = ap (λ b. bytes_eq x.source e.source || b) (has_kept t e)
+
+new_kept : (before t : List Entry) → AreNewSources before t → AreNewSources (unblocked before) (unblocked t)
+new_kept before [] h = tt
+new_kept before (e ∷ t) h = (has_kept before e ∙ h.0, subst (λ x. AreNewSources x (unblocked t)) (map-append unblocked_entry before (e ∷ [])) (new_kept (before ++ e ∷ []) t h.1))
+
+-- ---- the canonical text is no longer
+
+length-further_variants : (v : Variant) (variants : List Variant) → length (tokens_text (further_variants (v ∷ variants))) ≡ length (variant_text v) + 1 + length (tokens_text (further_variants variants))
+length-further_variants v variants = omega (arith, ap length (flat_map-append token_text (variant_tokens v) (further_variants variants)), length-append (variant_text v) (tokens_text (further_variants variants)))
+
+further_free : (variants : List Variant) → length (tokens_text (further_variants (free variants))) ≤ length (tokens_text (further_variants variants))
+further_free [] = omega arith
+further_free (v ∷ variants) = by_mark v.blocked (further_free variants)
+  where
+    by_mark : (b : Bool) → length (tokens_text (further_variants (free variants))) ≤ length (tokens_text (further_variants variants))
+        → length (tokens_text (further_variants (cond (not b) (v ∷ free variants) (free variants)))) ≤ length (tokens_text (further_variants (v ∷ variants)))
+    by_mark true rest = omega (arith, rest, length-further_variants v variants)
+    by_mark false rest = omega (arith, rest, length-further_variants v variants, length-further_variants v (free variants))
+
+-- '|' and ':' have one byte each
+length-variants_text : (variants : List Variant) → length (variants_text variants) ≡ length (tokens_text (further_variants variants))
+length-variants_text [] = refl
+length-variants_text (v ∷ variants) = refl
+
+line_kept : (e : Entry) → length (canonical_line (unblocked_entry e)) ≤ length (canonical_line e)
+line_kept e =
+    omega (
+      arith,
+      ap length (canonical_line-is (unblocked_entry e)),
+      ap length (canonical_line-is e),
+      length-append (sequence_text e.source) (variants_text (free e.variants)),
+      length-append (sequence_text e.source) (variants_text e.variants),
+      length-variants_text (free e.variants),
+      length-variants_text e.variants,
+      further_free e.variants,
+    )
+
+text_kept : (t : List Entry) → length (canonical_text (unblocked t)) ≤ length (canonical_text t)
+text_kept [] = omega arith
+text_kept (e ∷ t) =
+    omega (
+      arith,
+      line_kept e,
+      text_kept t,
+      length-append (canonical_line (unblocked_entry e) ++ 10 ∷ []) (canonical_text (unblocked t)),
+      length-append (canonical_line (unblocked_entry e)) (10 ∷ []),
+      length-append (canonical_line e ++ 10 ∷ []) (canonical_text t),
+      length-append (canonical_line e) (10 ∷ []),
+    )
+
+-- ---- the table
+
+pub table_kept : (version : Version) (t : List Entry) → IsTable (record { version = version; entries = t }) → IsTable (record { version = version; entries = unblocked t })
+table_kept version t h =
+    let well = h.well_formed in
+    record {
+      well_formed = record {
+        entries = All-from_recursion IsEntry (unblocked t) (entries_kept t (recursion_from_All IsEntry t well.entries));
+        sources = distinct_sources [] (unblocked t) no_sources (new_kept [] t (new_sources [] t well.sources));
+        few = omega (arith, well.few, length-map t unblocked_entry);
+        short = omega (arith, well.short, text_kept t);
+      };
+      of_version = All-from_recursion (IsOfVersion version) (unblocked t) (version_kept version t (recursion_from_All (IsOfVersion version) t h.of_version));
+      short = omega (arith, h.short, text_kept t, length-append (head_text version) (canonical_text t), length-append (head_text version) (canonical_text (unblocked t)));
+    }

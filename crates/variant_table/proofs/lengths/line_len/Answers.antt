@@ -1,0 +1,24 @@
+use Rattle.std.proofs.Common.{◌≡◌, ◌+◌, ◌-◌, ◌≤◌, ℕ, List, length, take, ap, sym, ◌∙◌, arith}
+use Rattle.std.proofs.lemmas.List.{take_all}
+use Rattle.variant_table.specs.Entries.{Variant}
+use Rattle.variant_table.specs.Canonical.{sequence_text}
+use Rattle.variant_table.specs.Reading.{entry_from}
+use Rattle.variant_table.proofs.EntryLemmas.{source-first, variant_from, length-variants}
+use Rattle.variant_table.proofs.WritingLemmas.{variants_text}
+use Rattle.variant_table.proofs.LengthLemmas.{one_mark, sequence_filled, sequence_short, few_variants, length-variants_next, length-one_line}
+use Rattle.variant_table.proofs.lengths.line_len.Goals as goal
+
+pub sequence_len-requires-clause-some : goal.sequence_len-requires-clause-some
+sequence_len-requires-clause-some c = sequence_filled c.args.sequences.now c.requires.some c.loop-number.number c.get-in-loop-number.result.now c.get-in-loop-number.ensures c.requires.filled
+
+pub sequence_len-requires-clause-short : goal.sequence_len-requires-clause-short
+sequence_len-requires-clause-short c = sequence_short c.args.sequences.now c.requires.some c.loop-number.number c.get-in-loop-number.result.now c.get-in-loop-number.ensures c.requires.small
+
+pub loop-number-preserved : goal.loop-number-preserved
+loop-number-preserved c =
+    let v : Variant = record { sequence = c.get-in-loop-number.result.now; blocked = c.is_blocked.result } in
+    let at = variant_from c.args.sequences.now c.loop-number.number c.get-in-loop-number.result.now c.is_blocked.result c.get-in-loop-number.ensures c.is_blocked.ensures in
+    let next = length-variants_next c.args.sequences.now c.loop-number.number v (omega arith) at in (
+      omega (arith, c.loop-number.invariant.0, next, c.sequence_len.ensures.count, c.mark_len.ensures),
+      omega (arith, c.loop-number.invariant.1, c.sequence_len.ensures.few, one_mark c.is_blocked.result, c.mark_len.ensures),
+    )

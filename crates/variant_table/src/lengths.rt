@@ -1,0 +1,106 @@
+//! How long canonical lines are, each with its line feed, where the version limits the canonical text.
+ghost use Rattle.std.specs.Prelude.{◌≡◌, ◌+◌, ◌<◌, ◌≤◌, ◌^◌, [], ◌∷◌, false, length, map};
+ghost use Rattle.std.specs.List.{range_with_len};
+ghost use Rattle.variant_table.specs.Canonical.{point_text, tokens_text, sequence_text, canonical_text};
+ghost use Rattle.variant_table.specs.Conditions.{is_too_large};
+ghost use Rattle.variant_table.specs.Held.{counted};
+ghost use Rattle.variant_table.specs.Notation.{mark_tokens, HasNoEmptySequence};
+ghost use Rattle.variant_table.specs.Ranges.{point_entry};
+ghost use Rattle.variant_table.specs.Reading.{entry_from};
+
+use crate::sequences::Sequences;
+use crate::version::Version;
+
+/// The bytes that the entry of these sequences, the source first, adds to the canonical text; 0 in version 1,
+/// which doesn't limit it.
+pub fn entry_len(version: Version, sequences: &Sequences) -> usize
+    requires some { 0 < length sequences.now }
+    requires filled { HasNoEmptySequence (entry_from sequences.now) }
+    requires small { is_too_large (entry_from sequences.now) ≡ false }
+    ensures count { result ≡ counted version (canonical_text (entry_from sequences.now ∷ [])) }
+    ensures few { result ≤ 1024 }
+{
+    match version {
+        Version::One => 0,
+        Version::Two => line_len(sequences),
+    }
+}
+
+/// The bytes of the canonical line of the entry of these sequences, its line feed counted.
+fn line_len(sequences: &Sequences) -> usize
+    requires some { 0 < length sequences.now }
+    requires filled { HasNoEmptySequence (entry_from sequences.now) }
+    requires small { is_too_large (entry_from sequences.now) ≡ false }
+    ensures count { result ≡ length (canonical_text (entry_from sequences.now ∷ [])) }
+    ensures few { result ≤ 1024 }
+{
+    let mut len = sequence_len(sequences.get(0));
+    for number in 1..sequences.len() {
+        len += sequence_len(sequences.get(number)) + mark_len(sequences.is_blocked(number));
+    }
+    len
+}
+
+/// The bytes of the mark of a variant.
+fn mark_len(blocked: bool) -> usize
+    ensures { result ≡ length (tokens_text (mark_tokens blocked)) }
+{
+    if blocked { 1 } else { 0 }
+}
+
+/// The bytes of a sequence, and one more for what stands behind it.
+fn sequence_len(sequence: &[u32]) -> usize
+    requires some { 0 < length sequence.now }
+    requires short { length sequence.now ≤ 8 }
+    ensures count { result ≡ length (sequence_text sequence.now) + 1 }
+    ensures few { result ≤ 56 }
+{
+    let mut len = 0;
+    for point in sequence {
+        len += point_len(*point) + 1;
+    }
+    len
+}
+
+/// The bytes that the entries of so many code points from this one on add to the canonical text; 0 in
+/// version 1, which doesn't limit it.
+pub fn range_len(version: Version, first: u32, count: usize) -> usize
+    requires few { count ≤ 4096 }
+    requires last { first + count ≤ 2 ^ 32 }
+    ensures count { result ≡ counted version (canonical_text (map point_entry (range_with_len first count))) }
+    ensures few { result ≤ 28672 }
+{
+    match version {
+        Version::One => 0,
+        Version::Two => lines_len(first, count),
+    }
+}
+
+/// The bytes of the canonical lines of these entries, their line feeds counted.
+fn lines_len(first: u32, count: usize) -> usize
+    requires few { count ≤ 4096 }
+    requires last { first + count ≤ 2 ^ 32 }
+    ensures count { result ≡ length (canonical_text (map point_entry (range_with_len first count))) }
+    ensures few { result ≤ 28672 }
+{
+    let mut len = 0;
+    for offset in 0..count {
+        len += point_len(first + offset as u32) + 1;
+    }
+    len
+}
+
+/// The bytes of a code point.
+#[tactic(auto, unfolding(crate::specs::Canonical::point_text))]
+fn point_len(point: u32) -> usize
+    ensures count { result ≡ length (point_text point) }
+    ensures few { result ≤ 6 }
+{
+    if point < 0x1_0000 {
+        4
+    } else if point < 0x10_0000 {
+        5
+    } else {
+        6
+    }
+}

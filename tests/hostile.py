@@ -1,0 +1,397 @@
+#!/usr/bin/env python3
+"""Hostile use of the built program: its memory, reads and writes refused one after the other, little memory, tables
+and lines at each limit, and listings that are stopped and resumed. The last line is 'N passed, M failed', and the exit
+status is 0 where nothing failed."""
+
+import concurrent.futures
+import os
+import resource
+import subprocess
+import sys
+import tempfile
+from typing import NamedTuple
+
+from program import LIMIT, PROGRAM, expect, run, run_tests, run_within, table_file
+
+MEMORY, READ_FAULT, WRITE_FAULT = b"idn2: 70 out of memory\n", b"idn2: 60 read fault\n", b"idn2: 61 write fault\n"
+DOUBLED = b"0061|0061-0061\n"
+HYPHENS = b"0061|002D\n"
+SHARP_S = b"0061\n0065\n0072\n0073\n0074\n0073-0073|00DF\n00DF|0073-0073\n"
+BLOCK = "aa\taa\naaa\taaa\naaaa\taaaa\n#end 3\n"
+STRASSE = "strasse\tstrasse\nstraße\txn--strae-oqa\n#end 2\n"
+
+
+class Case(NamedTuple):
+    """A run where nothing fails: its words, its table, and each line with its answer and its message."""
+
+    words: list
+    table: bytes
+    lines: list
+    status: int
+
+    def whole(self):
+        """What stands on the output and on the messages, and the status."""
+        return *written(self.pieces()), self.status
+
+    def given(self):
+        return "".join(line for line, _, _ in self.lines).encode()
+
+    def pieces(self):
+        """What is written, in order: lines for the output, at True, and messages."""
+        for _, answer, message in self.lines:
+            yield from ((True, line.encode()) for line in answer.splitlines(keepends=True))
+            yield from ((False, line.encode()) for line in message.splitlines(keepends=True))
+
+
+def written(pieces):
+    """What stands on the output and on the messages."""
+    pieces = list(pieces)
+    return tuple(b"".join(text for is_answer, text in pieces if is_answer == wanted) for wanted in (True, False))
+
+
+CASES = [
+    Case(["-r"], b"", [("faß\n", "xn--fa-hia\n", ""), ("Faß\n", "", "idn2: line 2: 10 disallowed code point\n"),
+                       ("abc\n", "abc\n", "")], 1),
+    Case([], b"", [("Faß.de\n", "xn--fa-hia.de\n", "")], 0),
+    Case(["-d"], b"", [("xn--fiqs8s.example\n", "中国.example\n", ""), ("XN--FA-HIA.de\n", "faß.de\n", ""),
+                       ("xn--a\n", "", "idn2: line 3: 10 disallowed code point\n"),
+                       ("xn--abc-\n", "", "idn2: line 4: 19 not an A-label\n"),
+                       ("xn--\n", "", "idn2: line 5: 19 not an A-label\n")], 1),
+    Case(["--variants", "table"], SHARP_S, [("strasse\n", STRASSE, ""), ("straße\n", STRASSE, "")], 0),
+    Case(["--variants", "table"], SHARP_S, [("sss\n", "sss\tsss\nsß\txn--s-qfa\nßs\txn--s-pfa\n#end 3\n", "")], 0),
+    Case(["--variants", "table", "--limit", "2", "--tries", "2"], SHARP_S,
+         [("sss\n", "sss\tsss\nsß\txn--s-qfa\n#stop 2 sß\n", "")], 0),
+    Case(["--variants", "table", "--after", "ßs"], SHARP_S, [("sss\n", "#end 0\n", "")], 0),
+    Case(["--variants", "table"], DOUBLED, [("aa\n", BLOCK, ""), ("ab\n", "", "idn2: line 2: 40 not made of table entries\n"),
+                                            ("aa\n", BLOCK, "")], 1),
+    # Each line takes memory: the test of a mark that may compose, and the class of a code point that is left open.
+    Case(["-r"], b"", [("q\u0301\n", "xn--q-xbb\n", ""), ("a\u0301\n", "", "idn2: line 2: 12 not in NFC\n"),
+                       ("\u1e9e\n", "", "idn2: line 3: 10 disallowed code point\n")], 1),
+    Case(["--variants", "table"], b"0071|0061\n0301\n", [("q\u0301\n", "q\u0301\txn--q-xbb\n#end 1\n", "")], 0),
+    Case(["--variants", "table"], b"05D0|0061\n05D1\n", [("אב\n", "אב\txn--4dbc\n#end 1\n", "")], 0),
+    Case(["--variants", "table"], b"0627\n0660|06F0\n",
+         [("\u0627\u0660\u0660\n", "\u0627\u0660\u0660\txn--mgb8ia\n\u0627\u06f0\u06f0\txn--mgb61ba\n#end 2\n", "")], 0),
+    Case(["--variants", "table"], b"0061|\n", [("", "", "idn2: table line 1: 30 table syntax\n")], 2),
+    Case(["--variants", "table"], b"0061\n0061\n", [("", "", "idn2: table line 2: 31 source given twice\n")], 2),
+    Case(["--variants", "table"], b"", [("a\n", "", "idn2: line 1: 40 not made of table entries\n")], 1),
+    Case(["--check-table", "table"], SHARP_S, [("", "#table 7 0\n", "")], 0),
+    Case(["--check-table", "table"], DOUBLED, [("", "missing 0061-0061|0061\n#table 1 1\n", "")], 1),
+    Case(["--check-table", "table"], b"0061|0062\n0062|0061:0063\n0063|0062\n",
+         [("", "missing 0061|0063\nmissing 0063|0061\n#table 3 2\n", "")], 1),
+]
+
+
+class Refusing:
+    """Runs the program with calls of the C library refused, by the library of refusing.c."""
+
+    def __init__(self, folder):
+        self.folder, self.library = folder, os.path.join(folder, "refusing.so")
+        kit = os.path.dirname(subprocess.run([os.environ.get("RT", "rt"), "doc"], capture_output=True, check=True,
+                                             text=True).stdout.strip())
+        tools = os.path.join(kit, "toolchain", "bin")
+        source = os.path.join(os.path.dirname(os.path.abspath(__file__)), "refusing.c")
+        subprocess.run([os.path.join(tools, "clang"), "--ld-path=" + os.path.join(tools, "ld.lld"), "-O1", "-shared",
+                        "-fPIC", "-nostdlib", "-o", self.library, source], check=True)
+
+    def run(self, case, **refused):
+        """What is answered, and whether anything was refused."""
+        told, teller = os.pipe()
+        with tempfile.TemporaryDirectory(dir=self.folder) as here:
+            table_file(here, case.table, "table")
+            env = {name: str(value) for name, value in refused.items()}
+            done = subprocess.run([PROGRAM, *case.words], input=case.given(), capture_output=True, timeout=LIMIT, cwd=here,
+                                  env={**env, "LD_PRELOAD": self.library, "TOLD": str(teller)}, pass_fds=[teller])
+        os.close(teller)
+        was_refused = os.read(told, 1) != b""
+        os.close(told)
+        return (done.stdout, done.stderr, done.returncode), was_refused
+
+    def each(self, call, wanted, **more):
+        """Refuses each call of a kind in turn, until a run makes too few. Each run's answer must be among those that
+        `wanted` gives for a case and the number of the call."""
+        def sweep(case):
+            number, was_refused = 0, True
+            while was_refused:
+                number += 1
+                found, was_refused = self.run(case, **{call: number, **more})
+                answers = wanted(case, number) if was_refused else [case.whole()]
+                assert found in answers, f"{call} {number}, {more}, {case}: found {found}, wanted {answers}"
+            return number - 1
+        with concurrent.futures.ThreadPoolExecutor(os.cpu_count()) as pool:
+            return sum(pool.map(sweep, CASES))
+
+
+def each_growth_is_refused(folder):
+    """What stands is what was written before some piece, and then the one message."""
+    def wanted(case, _):
+        pieces = list(case.pieces())
+        stops = [written(pieces[:count]) for count in range(len(pieces) + 1)]
+        return [(output, messages + MEMORY, 4) for output, messages in stops]
+    for once in (0, 1):
+        Refusing(folder).each("GROWTH", wanted, ONCE=once)
+
+
+def each_read_of_the_input_is_refused(folder):
+    """Byte by byte: the lines that a line feed ended before are served, and no other."""
+    def wanted(case, number):
+        before = case.given()[:number - 1].count(b"\n")
+        output, messages = written(Case(case.words, b"", case.lines[:before], 0).pieces())
+        return [(output, messages + READ_FAULT, 3)]
+    for once in (0, 1):
+        Refusing(folder).each("READ", wanted, FROM=0, PIECE=1, ONCE=once)
+
+
+def each_read_of_the_table_is_refused(folder):
+    for once in (0, 1):
+        Refusing(folder).each("READ", lambda case, _: [(b"", READ_FAULT, 3)], FROM=3, PIECE=1, ONCE=once)
+
+
+def stopped_at(case, is_of_output, number):
+    """What stands before a byte of the output, or of the messages, from 1: of both, in the order of writing."""
+    pieces, count = [], 0
+    for is_answer, text in case.pieces():
+        count += len(text) * (is_answer == is_of_output)
+        if count >= number:
+            return written([*pieces, (is_answer, text[:len(text) - (count - number) - 1])])
+        pieces.append((is_answer, text))
+
+
+def each_byte_of_the_output_is_refused(folder):
+    """The bytes before it stand, with the messages of the lines before its own; and nothing is written behind it."""
+    def wanted(case, number):
+        output, messages = stopped_at(case, True, number)
+        return [(output, messages + WRITE_FAULT, 3)]
+    for once in (0, 1):
+        Refusing(folder).each("WRITE", wanted, TO=1, PIECE=1, ONCE=once)
+
+
+def each_byte_of_the_messages_is_refused(folder):
+    """The bytes before it stand, with the answers before its message, and no further line is served."""
+    for once in (0, 1):
+        Refusing(folder).each("WRITE", lambda case, number: [(*stopped_at(case, False, number), 3)], TO=2, PIECE=1, ONCE=once)
+
+
+def within_a_second(words, given=b""):
+    """Runs the program in one second of processor time."""
+    done = run(words, given, preexec_fn=lambda: resource.setrlimit(resource.RLIMIT_CPU, (1, 1)))
+    assert done.returncode in (0, 1, 2), f"{words}: status {done.returncode}, {done.stderr[:200]}"
+    return done
+
+
+def points(text):
+    return "-".join(f"{ord(letter):04X}" for letter in text)
+
+
+def a_label(label):
+    """RFC 5890, section 2.3.2.1, by Python's Punycode."""
+    return label if label.isascii() else "xn--" + label.encode("punycode").decode()
+
+
+def answers_labels_of_every_length(folder):
+    """Of 1 to 64 code points: such as are told by look-ups, and such as need memory, for a mark that may compose; each as
+    a label, as what an A-label stands for, and as the one label of its listing."""
+    table = table_file(folder, "\n".join(map(points, "aqß中א\u0301")).encode())
+    makers = (lambda n: "a" * n, lambda n: "ß" * n, lambda n: "a" * (n - 1) + "ß", lambda n: "中" * n, lambda n: "א" * n,
+              lambda n: "q" * (n - 1) + "\u0301", lambda n: "q\u0301" * (n // 2))
+    labels = [label for make in makers for label in map(make, range(2, 65))] + ["a", "ß", "中", "א"]
+    is_short = lambda label: len(label) <= 63 and len(a_label(label)) <= 63
+    told = "".join(f"idn2: line {line}: 18 label too long\n" for line, label in enumerate(labels, 1) if not is_short(label))
+    given = "\n".join(labels).encode()
+    short = list(filter(is_short, labels))
+    coded = "".join(a_label(label) + "\n" for label in short)
+    expect(["-r"], given, coded.encode(), told.encode(), 1)
+    expect(["-r"], coded.encode(), coded.encode(), b"", 0)
+    expect(["-d"], coded.encode(), "".join(label + "\n" for label in short).encode(), b"", 0)
+    blocks = "".join(f"{label}\t{a_label(label)}\n#end 1\n" for label in short)
+    expect(["--variants", table], given, blocks.encode(), told.encode(), 1)
+
+
+def passes_over_candidates_that_are_too_long(folder):
+    """The other candidate has 63 code points, and an A-label of 67 octets."""
+    label = "a" * 62 + "b"
+    table = table_file(folder, b"0061\n0062|00DF\n")
+    expect(["--variants", table, label], b"", f"{label}\t{label}\n#end 1\n".encode(), b"", 0)
+
+
+def sets_of_seventeen(count, length):
+    """A table of sets of 17 sequences of so many code points, which are all variants of each other."""
+    lines = []
+    for start in range(0, count - 16, 17):
+        sequences = [points(chr(0x4E00 + number) * length) for number in range(start, start + 17)]
+        lines += [source + "|" + ":".join(each for each in sequences if each != source) for source in sequences]
+    return "\n".join(lines).encode()
+
+
+def serves_the_largest_tables(folder):
+    """Tables of as many entries as there may be, and of as many sequences of eight code points as a text has room for."""
+    for count, length in ((4096, 1), (1541, 8)):
+        text = sets_of_seventeen(count, length)
+        entries = text.count(b"\n") + 1
+        table = table_file(folder, text)
+        assert within_a_second(["--check-table", table]).stdout == b"#table %d 0\n" % entries
+        for label in ("\u4e11" * 8, "\u4e11" * 56):
+            *variants, stop = within_a_second(["--variants", table, "--limit", "3"], label.encode()).stdout.decode().splitlines()
+            listed = [line.split("\t")[0] for line in variants]
+            assert variants == [f"{each}\t{a_label(each)}" for each in listed], variants
+            assert len(listed) == 3 and listed == sorted(set(listed)) and stop == "#stop 3 " + listed[-1], (listed, stop)
+
+
+def refuses_tables_over_a_limit(folder):
+    entries = b"".join(b"%04X\n" % point for point in range(0x4E00, 0x5E00))
+    expect(["--check-table", table_file(folder, entries)], b"", b"#table 4096 0\n", b"", 0)
+    over = "idn2: table line {}: 34 table limit\n".format
+    for text, line in ((entries + b"5E00\n", 4097), (b"#" * 1025 + b"\n", 1), (b"#" * 1024 + b"\r\n", 1)):
+        expect(["--check-table", table_file(folder, text)], b"", b"", over(line).encode(), 2)
+    expect(["--check-table", table_file(folder, b"#" * 1024 + b"\n")], b"", b"#table 0 0\n", b"", 0)
+
+
+def serves_a_table_cut_in_its_last_line(folder):
+    start = SHARP_S[:SHARP_S.rindex(b"00DF")]
+    for end in (b"00D", b"00DF|", b"00DF|0073-"):
+        expect(["--check-table", table_file(folder, start + end)], b"", b"", b"idn2: table line 7: 30 table syntax\n", 2)
+    table = table_file(folder, start + b"00DF")
+    expect(["--check-table", table], b"", b"missing 00DF|0073-0073\n#table 7 1\n", b"", 1)
+    expect(["--variants", table, "sss"], b"", "sss\tsss\nsß\txn--s-qfa\nßs\txn--s-pfa\n#end 3\n".encode(), b"", 0)
+
+
+def lists_where_eight_sources_begin_at_each_place(folder):
+    """A net of 63 places, at most of which eight sources begin, each with sixteen variants of eight code points."""
+    letters = "bcdefghijklmnopqr"
+    lines = []
+    for length in range(1, 9):
+        variants = [(letter * 7 + str(length))[:8] for letter in letters[:16]]
+        lines.append(points("a" * length) + "|" + ":".join(map(points, variants)))
+    done = within_a_second(["--variants", table_file(folder, "\n".join(lines).encode()), "--limit", "1000"], b"a" * 63)
+    variants = done.stdout.splitlines()
+    assert (len(variants), variants[-1].split()[:2]) == (1001, [b"#stop", b"1000"]), variants[-1]
+    assert variants[0] == b"\t".join([b"a" * 63] * 2) and variants[:-1] == sorted(set(variants[:-1]))
+
+
+def refuses_input_without_a_line_feed(folder):
+    for words in (["-l"], ["-r"], ["-d"], ["--variants", table_file(folder, DOUBLED)]):
+        done = within_a_second(words, b"a" * 1_048_576)
+        assert (done.stdout, done.stderr, done.returncode) == (b"", b"idn2: line 1: 2 line too long\n", 1), done
+        expect(words, b"a" * 1024 + b"\r\n", b"", b"idn2: line 1: 2 line too long\n", 1)
+
+
+def told_of(line, disallowed):
+    """The number that tells of a line, or None. A carriage return at its end is dropped."""
+    try:
+        text = line.removesuffix(b"\r").decode()
+    except UnicodeDecodeError:
+        return 1
+    return 10 if set(text) & disallowed else None
+
+
+def serves_lines_with_bytes_out_of_place(folder):
+    """NUL, carriage returns and what is no UTF-8, in every place of a label."""
+    label, table = "faß".encode(), table_file(folder, b"0066\n0061\n00DF\n")
+    damages = (b"\0", b"\r", b"\r\r", b"\xff", b"\xc3", b"\xc0\x80", b"\xed\xa0\x80", b"\xf4\x90\x80\x80", b"\x9f", b"\0\xff")
+    lines = [label[:place] + damage + label[place:] for damage in damages for place in range(len(label) + 1)]
+    barred = set("\0\r")
+    for words, disallowed, answer in (
+        (["-r"], barred, lambda line: b"xn--fa-hia\n"),
+        (["-d"], set(), lambda line: line.removesuffix(b"\r") + b"\n"),
+        (["--variants", table], barred, lambda line: b"fa\xc3\x9f\txn--fa-hia\n#end 1\n"),
+    ):
+        told = [told_of(line, disallowed) for line in lines]
+        output = b"".join(answer(line) for line, number in zip(lines, told) if number is None)
+        texts = {1: "not UTF-8", 10: "disallowed code point"}
+        messages = "".join(f"idn2: line {line}: {number} {texts[number]}\n" for line, number in enumerate(told, 1) if number)
+        expect(words, b"\n".join(lines), output, messages.encode(), 1)
+    refused = run(["-l"], b"\n".join(lines)).stderr.decode().splitlines()
+    wanted = [line for line, text in enumerate(lines, 1) if told_of(text, set()) == 1]
+    assert [int(each.split()[2][:-1]) for each in refused if each.endswith(": 1 not UTF-8")] == wanted, refused
+
+
+def tells_of_memory_within_any_address_space(folder):
+    """In each mode the whole answer, or what stands of it in whole lines before refusal 70."""
+    table = table_file(folder, sets_of_seventeen(4096, 1))
+    lines = "faß\nq\u0301\nFaß\nxn--fa-hia\nxn--abc-\na\u0301\n".encode() * 40
+    listing = ["--variants", table, "--limit", "5"]
+    for words, given in ((["-l"], lines), (["-r"], lines), (["-d"], lines), (["--check-table", table], b""),
+                         (listing, ("\u4e10" * 9 + "\n").encode() * 3)):
+        whole, refused = run(words, given), 0
+        assert whole.returncode in (0, 1), whole
+        for space in range(2 << 20, 14 << 20, 128 << 10):
+            done = run_within(space, words, given)
+            # The loader, which needs some room before the program begins, ends with 127.
+            if done.returncode == 4:
+                told = done.stderr.removesuffix(MEMORY)
+                assert done.stderr == told + MEMORY and whole.stderr.startswith(told), (space, words, done)
+                assert whole.stdout.startswith(done.stdout), (space, words, done)
+                assert done.stdout[-1:] in (b"", b"\n") and told[-1:] in (b"", b"\n"), (space, words, done)
+                refused += 1
+            elif done.returncode != 127:
+                assert (done.stdout, done.stderr, done.returncode) == (whole.stdout, whole.stderr, whole.returncode), done
+        assert refused > 0, words
+
+
+def pages(words, label):
+    """The lines of a listing that is stopped again and again, and its trailers: each run begins behind the last stop."""
+    lines, trailers = [], [b"#stop 0 "]
+    while trailers[-1].startswith(b"#stop "):
+        start = trailers[-1].split(b" ", 2)[2].decode()
+        *variants, trailer = run([*words, "--after=" + start], label.encode()).stdout.splitlines()
+        assert trailer.split()[1] == b"%d" % len(variants), trailer
+        lines += variants
+        trailers.append(trailer)
+    return lines, trailers[1:]
+
+
+def lists_in_pages_what_it_lists_at_once(folder):
+    rows = [(DOUBLED, "a" * 5), (HYPHENS, "a" * 6), (SHARP_S, "ssssss"), (b"0061-0062|0063\n0061|0062\n", "ababab"),
+            ("4E2D|4E2A\n56FD|570B\n570B|56FD\n4E2A|4E2D\n".encode(), "中国中国"), (b"0071|0061\n0301\n", "qqq\u0301")]
+    for text, label in rows:
+        words = ["--variants", table_file(folder, text)]
+        *whole, end = run(words, label.encode()).stdout.splitlines()
+        assert end == b"#end %d" % len(whole) and whole == sorted(set(whole)), (label, end)
+        for stop in (["--limit", "1"], ["--limit", "3"], ["--tries", "1"], ["--tries", "4"], ["--limit", "2", "--tries", "3"]):
+            lines, trailers = pages([*words, *stop], label)
+            assert lines == whole, (text, label, stop, lines, whole)
+            assert all(trailer.startswith(b"#stop ") for trailer in trailers[:-1]), trailers
+
+
+def ends_where_the_reader_of_a_listing_left(folder):
+    """At once, though the labels that are left are 2^62."""
+    words = ["--variants", table_file(folder, b"0061|0062\n"), "--tries", "1000000000", "a" * 62]
+    with subprocess.Popen([PROGRAM, *words], stdout=subprocess.PIPE, stderr=subprocess.PIPE) as source:
+        assert source.stdout.readline() == b"\t".join([b"a" * 62] * 2) + b"\n"
+        source.stdout.close()
+        assert (source.stderr.read(), source.wait(LIMIT)) == (WRITE_FAULT, 3)
+
+
+def tells_of_an_input_that_cannot_be_read(folder):
+    table = table_file(folder, DOUBLED)
+    for words in (["-l"], ["-r"], ["-d"], ["--variants", table]):
+        folder_itself = os.open(folder, os.O_RDONLY)
+        done = subprocess.run([PROGRAM, *words], stdin=folder_itself, capture_output=True, timeout=LIMIT)
+        os.close(folder_itself)
+        assert (done.stdout, done.stderr, done.returncode) == (b"", READ_FAULT, 3), (words, done)
+        done = subprocess.run([PROGRAM, *words], capture_output=True, timeout=LIMIT, preexec_fn=lambda: os.close(0))
+        assert (done.stdout, done.stderr, done.returncode) == (b"", READ_FAULT, 3), (words, done)
+    expect(["--check-table", table], b"", b"missing 0061-0061|0061\n#table 1 1\n", b"", 1)
+
+
+TESTS = [
+    each_growth_is_refused,
+    each_read_of_the_input_is_refused,
+    each_read_of_the_table_is_refused,
+    each_byte_of_the_output_is_refused,
+    each_byte_of_the_messages_is_refused,
+    answers_labels_of_every_length,
+    passes_over_candidates_that_are_too_long,
+    serves_the_largest_tables,
+    refuses_tables_over_a_limit,
+    serves_a_table_cut_in_its_last_line,
+    lists_where_eight_sources_begin_at_each_place,
+    refuses_input_without_a_line_feed,
+    serves_lines_with_bytes_out_of_place,
+    tells_of_memory_within_any_address_space,
+    lists_in_pages_what_it_lists_at_once,
+    ends_where_the_reader_of_a_listing_left,
+    tells_of_an_input_that_cannot_be_read,
+]
+
+if __name__ == "__main__":
+    sys.exit(run_tests("hostile", TESTS))
