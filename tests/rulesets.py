@@ -165,9 +165,11 @@ def limits(folder):
         (f'<char cp="{sequence(8)}"/>', "#table 1 0\n"),
         ('<range first-cp="4E00" last-cp="5DFF"/>', "#table 4096 0\n"),
     ):
-        assert check(folder, make(ruleset(folder, data), "--version", "1")[0]) == summary, data
-    text = make(ruleset(folder, f'<char cp="0062">{variants(16)}</char>'), "--version", "1")[0]
-    assert check(folder, text).endswith("#table 1 16\n"), text
+        for version in "12":
+            assert check(folder, make(ruleset(folder, data), "--version", version)[0]) == summary, (version, data)
+    for version in "12":
+        text = make(ruleset(folder, f'<char cp="0062">{variants(16)}</char>'), "--version", version)[0]
+        assert check(folder, text).endswith("#table 1 16\n"), text
 
 
 def faults_of_the_file(folder):
