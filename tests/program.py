@@ -191,26 +191,27 @@ def block_of(table, blocked, label, is_version_2):
 
 
 def lists_what_sets_of_all_labels_list(folder):
-    """Blocks of 4,000 labels under 500 random tables of both versions, from a fixed seed, beside blocks made from whole
-    sets."""
-    chance = random.Random(5891)
+    """Blocks of 2,000 labels under 250 random tables, from a fixed seed, beside blocks made from whole sets; and under the
+    same tables in version 2, with random variants blocked."""
+    chance, marks = random.Random(5891), random.Random(7940)
     sequence = lambda: "".join(chance.choices("ab-", weights=(4, 4, 1), k=chance.choice((1, 1, 2, 3))))
-    for is_version_2 in (False, True) * 250:
+    points = lambda text: "-".join(f"{ord(letter):04X}" for letter in text)
+    for _ in range(250):
         table = {sequence(): {sequence() for _ in range(chance.randrange(3))} for _ in range(chance.randint(1, 5))}
         table = {source: sorted(variants - {source}) for source, variants in table.items()}
-        pairs = [(source, variant) for source, variants in table.items() for variant in variants]
-        blocked = {pair for pair in pairs if is_version_2 and chance.random() < 0.5}
-        points = lambda text: "-".join(f"{ord(letter):04X}" for letter in text)
-        marked = lambda source, variant: "!" * ((source, variant) in blocked) + points(variant)
-        lines = ["%version 2"] if is_version_2 else []
-        lines += [points(source) + ("|" if variants else "") + ":".join(marked(source, each) for each in variants)
-                  for source, variants in table.items()]
         labels = ["".join(chance.choices([*table, "ab"], k=chance.randint(1, 6))) for _ in range(8)]
-        blocks = [block_of(table, blocked, label, is_version_2) for label in labels]
-        done = run(["--variants", table_file(folder, "\n".join(lines).encode())], "\n".join(labels).encode())
-        assert done.stdout.decode() == "".join(block for block, _ in blocks), (lines, labels, done.stdout)
-        told = [int(message.split()[3]) for message in done.stderr.decode().splitlines()]
-        assert told == [number for _, number in blocks if number], (lines, labels, done.stderr)
+        pairs = [(source, variant) for source, variants in table.items() for variant in variants]
+        for is_version_2 in (False, True):
+            blocked = {pair for pair in pairs if is_version_2 and marks.random() < 0.5}
+            marked = lambda source, variant: "!" * ((source, variant) in blocked) + points(variant)
+            lines = ["%version 2"] if is_version_2 else []
+            lines += [points(source) + ("|" if variants else "") + ":".join(marked(source, each) for each in variants)
+                      for source, variants in table.items()]
+            blocks = [block_of(table, blocked, label, is_version_2) for label in labels]
+            done = run(["--variants", table_file(folder, "\n".join(lines).encode())], "\n".join(labels).encode())
+            assert done.stdout.decode() == "".join(block for block, _ in blocks), (lines, labels, done.stdout)
+            told = [int(message.split()[3]) for message in done.stderr.decode().splitlines()]
+            assert told == [number for _, number in blocks if number], (lines, labels, done.stderr)
 
 
 def checks_a_table(folder):
