@@ -16,19 +16,19 @@ use Rattle.idn_label.specs.Register.{register_answer}
 use Rattle.idn_label.specs.Steps.{is_ldh_point}
 use Rattle.idn_label.proofs.AnswerLemmas.{register_answer-other, tested_answer-ok, tested_answer-fault}
 use Rattle.idn_label.proofs.LdhLemmas.{first_fault-ldh}
-use Rattle.variant_table.specs.Entries.{Entry}
+use Rattle.variant_table.specs.Entries.{TableValue}
 use Rattle.variant_list.specs.Labels.{label_cmp}
 use Rattle.variant_list.specs.Spelled.{spelled}
 use Rattle.variant_list.specs.Variants.{variants, in_order}
 use Rattle.variant_list.specs.Examples.{a_or_two, letter_or_hyphen}
 use Rattle.idn2_cli.specs.Settings.{Settings}
-use Rattle.idn2_cli.specs.Answers.{block, block_to, is_registrable, lesser, nth, nth_if_given, one_line, tested_after}
+use Rattle.idn2_cli.specs.Answers.{block, block_to, disposition, is_registrable, lesser, nth, nth_if_given, one_line, tested_after}
 use Rattle.std.specs.Char.{encode_utf8}
 use Rattle.std.specs.Str.{is_utf8, chars}
 use Rattle.idn_text.specs.Lines.{lines_of}
 use Rattle.idn2_cli.specs.Transcript.{Output, Message, lines_pieces, has_refused, status_if}
 use Rattle.idn2_cli.specs.declared.session.status.Status.TheVariants.{Refused}
-use Rattle.idn2_cli.specs.Examples.{ExamplesOfBlocks, ExamplesOfTranscripts, listing, three_lines}
+use Rattle.idn2_cli.specs.Examples.{ExamplesOfBlocks, ExamplesOfTranscripts, listing, three_lines, version_one, y_or_z, one_or_both}
 
 -- ---- labels of lower-case letters, digits and hyphens
 
@@ -50,22 +50,24 @@ filter-passes after (v ∷ vs) ldh =
     ∙ ap (λ (rest : List (List ℕ)). if passes v && is_gt (label_cmp v after) then v ∷ rest else rest) (filter-passes after vs ldh.1)
 
 -- the block of a label that spells such labels alone
-abbrev ldh_block : Settings → List Entry → List ℕ → List (List ℕ)
+abbrev ldh_block : Settings → TableValue → List ℕ → List (List ℕ)
 ldh_block o table label =
-    let vs = variants passes table label o.after in
-    block_to (lesser (nth_if_given vs o.limit) (nth (tested_after o table label) o.tries)) vs
+    let vs = variants passes table.entries label o.after in
+    block_to (disposition table label) (lesser (nth_if_given vs o.limit) (nth (tested_after o table.entries label) o.tries)) vs
 
-block-ldh : (o : Settings) (table : List Entry) (label : List ℕ) → AllLdh (in_order (spelled table label)) → block o table label ≡ ldh_block o table label
+block-ldh : (o : Settings) (table : TableValue) (label : List ℕ) → AllLdh (in_order (spelled table.entries label)) → block o table label ≡ ldh_block o table label
 block-ldh o table label ldh =
-    ap (λ (vs : List (List ℕ)). block_to (lesser (nth_if_given vs o.limit) (nth (tested_after o table label) o.tries)) vs)
-    (filter-passes o.after (in_order (spelled table label)) ldh)
+    ap (λ (vs : List (List ℕ)). block_to (disposition table label) (lesser (nth_if_given vs o.limit) (nth (tested_after o table.entries label) o.tries)) vs)
+    (filter-passes o.after (in_order (spelled table.entries label)) ldh)
 
 pub blocks : ExamplesOfBlocks
 unfolding digits a_label_of idna hopeless rules
 blocks = record {
-  doubled = block-ldh (listing None 1000000) a_or_two (codes "aa") (refl, (refl, (refl, tt))) ∙ refl;
-  limited = block-ldh (listing (Some 2) 1000000) a_or_two (codes "aa") (refl, (refl, (refl, tt))) ∙ refl;
-  spent = block-ldh (listing None 4) letter_or_hyphen (codes "aaa") (refl, (refl, (refl, (refl, (refl, (refl, (refl, (refl, tt)))))))) ∙ refl;
+  doubled = block-ldh (listing None 1000000) (version_one a_or_two) (codes "aa") (refl, (refl, (refl, tt))) ∙ refl;
+  limited = block-ldh (listing (Some 2) 1000000) (version_one a_or_two) (codes "aa") (refl, (refl, (refl, tt))) ∙ refl;
+  spent = block-ldh (listing None 4) (version_one letter_or_hyphen) (codes "aaa") (refl, (refl, (refl, (refl, (refl, (refl, (refl, (refl, tt)))))))) ∙ refl;
+  y_blocked = block-ldh (listing None 1000000) y_or_z (codes "ax") (refl, (refl, (refl, tt))) ∙ refl;
+  allocatable_by_one_cutting = block-ldh (listing None 1000000) one_or_both (codes "aa") (refl, (refl, (refl, (refl, tt)))) ∙ refl;
 }
 
 -- ---- a run

@@ -17,8 +17,9 @@ use Rattle.idn2_cli.proofs.Writing.{stops_first}
 use Rattle.idn2_cli.proofs.Sessions.{stands_at}
 use Rattle.idn2_cli.proofs.TableLemmas.{some_table, refused_table}
 use Rattle.std.specs.Prelude.{MatchOption}
+use Rattle.variant_table.specs.Texts.{IsToldOf}
 use Rattle.variant_table.specs.declared.fault.TableFault.{TableFault}
-use Rattle.idn2_cli.specs.Inner.{IsRefusedAs, told_of}
+use Rattle.idn2_cli.specs.Inner.{told_of}
 use Rattle.idn2_cli.specs.declared.session.status.Status.TheVariants.{Unusable}
 
 -- ---- a mode that answers lines
@@ -94,7 +95,7 @@ faulty o text line refusal start old new r e read unread writes answered =
 
 -- a table that is not read, in the listing of variants
 pub refused_variants : (o : Settings) (text : List ℕ) (fault : TableFault) (start : Reading) (old new : Held) (r : Result Status Stop)
-    → o.mode ≡ Variants → IsUnread start → IsRefusedAs text fault
+    → o.mode ≡ Variants → IsUnread start → IsToldOf text fault
     → MatchOption (told_of fault) ((r ≡ Err stop.Memory) × (new ≡ old)) (λ told. Emits old new (check_pieces (Err told)) r)
     → IfOk r (λ status. status ≡ Unusable)
     → (table : TableGiven) × IsTableOf o.mode text table × Does (mode_job o table) start start old new r
@@ -108,7 +109,7 @@ refused_variants o text fault start old new r e unread is told answered = by (re
     by (inr t) = faulty o text t.0.0 t.0.1 start old new r e t.1 unread t.2 answered
 
 -- a table that is not read, in the check of a table
-pub refused_check : (text : List ℕ) (fault : TableFault) (old new : Held) (r : Result Status Stop) → IsRefusedAs text fault
+pub refused_check : (text : List ℕ) (fault : TableFault) (old new : Held) (r : Result Status Stop) → IsToldOf text fault
     → MatchOption (told_of fault) ((r ≡ Err stop.Memory) × (new ≡ old)) (λ told. Emits old new (check_pieces (Err told)) r)
     → IfOk r (λ status. status ≡ Unusable)
     → (given : TableGiven) × IsReadAs text given × Emits old new (check_pieces given) r × IfOk r (λ status. status ≡ check_status given)

@@ -34,6 +34,8 @@ pub mod DecodedLemmas
 pub mod ListingLemmas
 -- Labels that can be cut into sources of a table, and others.
 pub mod Segmented
+-- The third field of a variant's line: which variants the table without its blocked variants spells.
+pub mod DispositionLemmas
 -- The block and the check that compute are those that are listed.
 pub mod ListedLemmas
 -- The answer to a line that a call refused.

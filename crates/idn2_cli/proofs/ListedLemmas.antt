@@ -9,7 +9,7 @@ use Rattle.idn_class.specs.Hopeless.{hopeless, IsHopeless, HasHope}
 use Rattle.idn_class.proofs.HopelessSteps.{hopeless-nil}
 use Rattle.idn_class.proofs.HopelessTests.{hopeless-from}
 use Rattle.idn_label.specs.FirstFault.{first_fault, IsRegistrable}
-use Rattle.variant_table.specs.Entries.{Entry}
+use Rattle.variant_table.specs.Entries.{Entry, TableValue}
 use Rattle.variant_table.specs.Gaps.{gaps_of}
 use Rattle.variant_table.specs.WellFormed.{IsWellFormed}
 use Rattle.variant_table.proofs.RisingLemmas.{gaps_of_are_gaps}
@@ -22,10 +22,11 @@ use Rattle.variant_list.proofs.TestedLaws.{tested_are_listed}
 use Rattle.variant_list.proofs.VariantLists.{variants-AreVariants}
 use Rattle.idn2_cli.specs.Settings.{Settings}
 use Rattle.idn_label.specs.Answers.{unless_fault}
-use Rattle.idn2_cli.specs.Answers.{is_registrable, variants_after, tested_after, stop_of, block, listing_answer, variants_answer}
+use Rattle.idn2_cli.specs.Answers.{is_registrable, variants_after, tested_after, stop_of, disposition, block, listing_answer, variants_answer}
 use Rattle.idn2_cli.specs.Answers.{IsListed, IsTried, IsBlock, IsListing}
 use Rattle.idn2_cli.specs.Transcript.{IsCheck}
 use Rattle.idn2_cli.specs.Transcript.{check_lines}
+use Rattle.idn2_cli.proofs.DispositionLemmas.{disposition-IsDisposition}
 use Rattle.idn2_cli.proofs.HopeLemmas.{clear}
 use Rattle.idn2_cli.proofs.Segmented.{listing_answer-segmented, listing_answer-unsegmented, segmented_or_not}
 
@@ -65,28 +66,30 @@ same_tried o table label v = (
   λ t. record { spelled = t.spelled; short = t.short; greater = t.greater; hope = λ k low high. clear (take k v) (t.hope k) },
 )
 
-block-IsBlock : (o : Settings) (table : List Entry) (label : List ℕ) → IsWellFormed table → IsBlock o table label (block o table label)
+block-IsBlock : (o : Settings) (table : TableValue) (label : List ℕ) → IsWellFormed table.entries → IsBlock o table label (block o table label)
 block-IsBlock o table label formed = record {
-  listed = variants_after o table label;
-  exactly = IsListOf-same (IsVariant is_registrable table label o.after) (IsListed o table label) (variants_after o table label) (same_listed o table label)
-      (variants-AreVariants is_registrable table label o.after formed.entries);
-  tried = tested_after o table label;
-  exactly_tried = IsListOf-same (IsTested hopeless table label o.after) (IsTried o table label) (tested_after o table label) (same_tried o table label)
-      (tested_are_listed hopeless table label o.after formed);
-  stop = stop_of o table label;
+  listed = variants_after o table.entries label;
+  exactly = IsListOf-same (IsVariant is_registrable table.entries label o.after) (IsListed o table.entries label) (variants_after o table.entries label) (same_listed o table.entries label)
+      (variants-AreVariants is_registrable table.entries label o.after formed.entries);
+  tried = tested_after o table.entries label;
+  exactly_tried = IsListOf-same (IsTested hopeless table.entries label o.after) (IsTried o table.entries label) (tested_after o table.entries label) (same_tried o table.entries label)
+      (tested_are_listed hopeless table.entries label o.after formed);
+  stop = stop_of o table.entries label;
   stops = refl;
+  field = disposition table label;
+  disposed = λ v. disposition-IsDisposition table label v formed.entries;
   printed = refl;
 }
 
-listing : (o : Settings) (table : List Entry) (label : List ℕ) → IsWellFormed table → IsListing o table label (listing_answer o table label)
-listing o table label formed = by_cases (segmented_or_not table label formed)
+listing : (o : Settings) (table : TableValue) (label : List ℕ) → IsWellFormed table.entries → IsListing o table label (listing_answer o table label)
+listing o table label formed = by_cases (segmented_or_not table.entries label formed)
   where
-    by_cases : HasSegmentation table label ⊎ (HasSegmentation table label → ⊥) → IsListing o table label (listing_answer o table label)
+    by_cases : HasSegmentation table.entries label ⊎ (HasSegmentation table.entries label → ⊥) → IsListing o table label (listing_answer o table label)
     by_cases (inl has) = subst (IsListing o table label) (sym (listing_answer-segmented o table label formed has)) (has, block-IsBlock o table label formed)
     by_cases (inr none) = subst (IsListing o table label) (sym (listing_answer-unsegmented o table label formed none)) (none, refl)
 
 -- the answer to a label that may be registered
-pub variants_answer-IsListing : (o : Settings) (table : List Entry) (label : List ℕ) → IsWellFormed table → IsRegistrable label → IsListing o table label (variants_answer o table label)
+pub variants_answer-IsListing : (o : Settings) (table : TableValue) (label : List ℕ) → IsWellFormed table.entries → IsRegistrable label → IsListing o table label (variants_answer o table label)
 variants_answer-IsListing o table label formed registrable =
     subst (IsListing o table label) (sym (ap (λ (f : Option Refusal). unless_fault f (listing_answer o table label)) registrable)) (listing o table label formed)
 

@@ -1,7 +1,7 @@
 -- What a line of input is answered: lines for the output, or a refusal.
-use Rattle.std.specs.Prelude.{◌≡◌, ℕ, ◌≤◌, ◌==◌, Bool, List, [], ◌∷◌, ◌++◌, length, chars, Option, Some, None, Result, Ok, Err, if◌then◌else◌, ◌-◌, map, filter, codes}
+use Rattle.std.specs.Prelude.{◌≡◌, ◌⊎◌, ℕ, ◌≤◌, ◌==◌, Bool, bytes_eq, List, [], ◌∷◌, ◌++◌, length, chars, Option, Some, None, Result, Ok, Err, if◌then◌else◌, ◌-◌, map, filter, codes}
 use Rattle.std.specs.Str.{is_utf8}
-use Rattle.std.specs.List.{slice_get}
+use Rattle.std.specs.List.{list_any, slice_get}
 use Rattle.std.specs.Option.{is_none}
 use Rattle.std.specs.Ordering.{is_le}
 use Rattle.std.specs.Fmt.{decimal}
@@ -15,7 +15,9 @@ use Rattle.idn_label.specs.Steps.{in_utf8}
 use Rattle.idn_label.specs.Register.{register_answer}
 use Rattle.idn_label.specs.Decode.{decode_answer}
 use Rattle.idn_label.specs.Lookup.{lookup_answer}
-use Rattle.variant_table.specs.Entries.{Entry}
+use Rattle.variant_table.specs.declared.version.Version.{Version}
+use Rattle.variant_table.specs.declared.version.Version.TheVariants.{One, Two}
+use Rattle.variant_table.specs.Entries.{Entry, TableValue, unblocked}
 use Rattle.variant_list.specs.Spelled.{spelled}
 use Rattle.idn2_cli.specs.Settings.{Settings}
 use Rattle.idn2_cli.specs.declared.command_line.mode.Mode.{Mode}
@@ -67,22 +69,37 @@ abbrev pub up_to : Option (List ℕ) → List (List ℕ) → List (List ℕ)
 up_to None labels = labels
 up_to (Some b) labels = filter (λ v. is_le (label_cmp v b)) labels
 
--- a variant, a tab, its A-label
-abbrev pub variant_line : List ℕ → List ℕ
-variant_line v = utf8_of v ++ 9 ∷ a_label_of v
+-- whether the table without its blocked variants spells v too, and v may so be allocated
+abbrev pub is_allocatable : List Entry → List ℕ → List ℕ → Bool
+is_allocatable entries label v = list_any (bytes_eq v) (spelled (unblocked entries) label)
+
+-- the third field of a variant's line (RFC 7940, section 7.3), which version 1 doesn't have
+abbrev pub disposition_field : Version → Bool → List ℕ
+disposition_field One allocatable = []
+disposition_field Two allocatable = if allocatable then codes "\tallocatable" else codes "\tblocked"
+
+-- this field of each variant of a label
+abbrev pub disposition : TableValue → List ℕ → List ℕ → List ℕ
+disposition table label v = disposition_field table.version (is_allocatable table.entries label v)
+
+-- a variant, a tab, its A-label, and its third field
+abbrev pub variant_line : List ℕ → List ℕ → List ℕ
+variant_line field v = utf8_of v ++ 9 ∷ (a_label_of v ++ field)
 
 -- the last line of a block: how many variants it lists, and where it stops if there may be more
 abbrev pub trailer : ℕ → Option (List ℕ) → List ℕ
 trailer count None = codes "#end " ++ decimal count
 trailer count (Some b) = codes "#stop " ++ (decimal count ++ 32 ∷ utf8_of b)
 
--- a line for each of these variants up to the stop, then the trailer
-abbrev pub block_to : Option (List ℕ) → List (List ℕ) → List (List ℕ)
-block_to stop labels = map variant_line (up_to stop labels) ++ trailer (length (up_to stop labels)) stop ∷ []
+-- a line for each of these variants up to the stop, with the field that it has, then the trailer
+abbrev pub block_to : (List ℕ → List ℕ) → Option (List ℕ) → List (List ℕ) → List (List ℕ)
+block_to field stop labels =
+    map (λ v. variant_line (field v) v) (up_to stop labels) ++ trailer (length (up_to stop labels)) stop ∷ []
 
 -- the block of a label
-abbrev pub block : Settings → List Entry → List ℕ → List (List ℕ)
-block o table label = block_to (stop_of o table label) (variants_after o table label)
+abbrev pub block : Settings → TableValue → List ℕ → List (List ℕ)
+block o table label =
+    block_to (disposition table label) (stop_of o table.entries label) (variants_after o table.entries label)
 
 -- ---- the answer to a line
 
@@ -96,15 +113,16 @@ one_line (Ok line) = Ok (line ∷ [])
 one_line (Err refusal) = Err refusal
 
 -- the block of a label, if it can be cut into sources of the table
-abbrev pub listing_answer : Settings → List Entry → List ℕ → LineAnswer
-listing_answer o table label = if length (spelled table label) == 0 then Err NotInTable else Ok (block o table label)
+abbrev pub listing_answer : Settings → TableValue → List ℕ → LineAnswer
+listing_answer o table label =
+    if length (spelled table.entries label) == 0 then Err NotInTable else Ok (block o table label)
 
 -- the same, where the label may be registered; its first fault is reported before that
-abbrev pub variants_answer : Settings → List Entry → List ℕ → LineAnswer
+abbrev pub variants_answer : Settings → TableValue → List ℕ → LineAnswer
 variants_answer o table label = unless_fault (first_fault label) (listing_answer o table label)
 
 -- the answer of a mode to the code points of a line. The check of a table reads no line
-abbrev pub mode_answer : Mode → Settings → List Entry → List ℕ → LineAnswer
+abbrev pub mode_answer : Mode → Settings → TableValue → List ℕ → LineAnswer
 mode_answer Lookup o table name = one_line (lookup_answer name o.std3)
 mode_answer Register o table label = one_line (register_answer label)
 mode_answer Decode o table name = one_line (in_utf8 (decode_answer name))
@@ -137,18 +155,31 @@ pub record IsTried (o : Settings) (table : List Entry) (label v : List ℕ) : Ty
   pub greater : IsBelow o.after v
   pub spelled : Spells table label v
 
+-- a field that says whether this holds, in the words of version 2; version 1 has none
+abbrev pub IsFieldOf : Version → Type 0 → List ℕ → Type 0
+IsFieldOf One allocatable field = field ≡ []
+IsFieldOf Two allocatable field =
+    (allocatable × (field ≡ codes "\tallocatable")) ⊎ ((¬ allocatable) × (field ≡ codes "\tblocked"))
+
+-- the third field of the line of v: none in version 1; in version 2 it says that v may be allocated exactly where the label
+-- spells v by the table without its blocked variants
+abbrev pub IsDisposition : TableValue → List ℕ → List ℕ → List ℕ → Type 0
+IsDisposition table label v field = IsFieldOf table.version (Spells (unblocked table.entries) label v) field
+
 -- the stop is the lesser of the limit-th label that is listed and the tries-th that is tried, as far as they exist; up to it
--- there is a line for each label that is listed, with its A-label, and then the trailer
-pub record IsBlock (o : Settings) (table : List Entry) (label : List ℕ) (lines : List (List ℕ)) : Type 0 where
+-- there is a line for each label that is listed, with its A-label and its third field, and then the trailer
+pub record IsBlock (o : Settings) (table : TableValue) (label : List ℕ) (lines : List (List ℕ)) : Type 0 where
   pub listed : List (List ℕ)
-  pub exactly : IsListOf (IsListed o table label) listed
+  pub exactly : IsListOf (IsListed o table.entries label) listed
   pub tried : List (List ℕ)
-  pub exactly_tried : IsListOf (IsTried o table label) tried
+  pub exactly_tried : IsListOf (IsTried o table.entries label) tried
   pub stop : Option (List ℕ)
   pub stops : stop ≡ lesser (nth_if_given listed o.limit) (nth tried o.tries)
-  pub printed : lines ≡ map variant_line (up_to stop listed) ++ trailer (length (up_to stop listed)) stop ∷ []
+  pub field : List ℕ → List ℕ
+  pub disposed : (v : List ℕ) → IsDisposition table label v (field v)
+  pub printed : lines ≡ map (λ v. variant_line (field v) v) (up_to stop listed) ++ trailer (length (up_to stop listed)) stop ∷ []
 
 -- a label that can be cut into sources of the table is answered by its block, and any other is refused
-abbrev pub IsListing : Settings → List Entry → List ℕ → LineAnswer → Type 0
-IsListing o table label (Ok lines) = HasSegmentation table label × IsBlock o table label lines
-IsListing o table label (Err refusal) = (¬ HasSegmentation table label) × (refusal ≡ NotInTable)
+abbrev pub IsListing : Settings → TableValue → List ℕ → LineAnswer → Type 0
+IsListing o table label (Ok lines) = HasSegmentation table.entries label × IsBlock o table label lines
+IsListing o table label (Err refusal) = (¬ HasSegmentation table.entries label) × (refusal ≡ NotInTable)

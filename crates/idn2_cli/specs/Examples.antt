@@ -1,11 +1,14 @@
 -- Worked examples of the definitions, by computation.
-use Rattle.std.specs.Prelude.{◌≡◌, ℕ, List, [], ◌∷◌, ◌++◌, false, Some, None, Option, Ok, Err, codes}
+use Rattle.std.specs.Prelude.{◌≡◌, ℕ, List, [], ◌∷◌, ◌++◌, true, false, Some, None, Option, Ok, Err, codes}
 use Rattle.idn_text.specs.Points.{utf8_of}
 use Rattle.idn_text.specs.Lines.{lines_of}
 use Rattle.idn_text.specs.declared.refusal.Refusal.TheVariants.{Disallowed, Empty, LineTooLong, NotUtf8, Syntax, WriteFault}
-use Rattle.variant_list.specs.Examples.{a_or_two, letter_or_hyphen}
+use Rattle.variant_table.specs.declared.version.Version.TheVariants.{One, Two}
+use Rattle.variant_table.specs.Entries.{Variant, Entry, TableValue}
+use Rattle.variant_table.specs.Ranges.{range_entries}
+use Rattle.variant_list.specs.Examples.{allocatable, a_or_two, letter_or_hyphen}
 use Rattle.idn2_cli.specs.Settings.{Settings}
-use Rattle.idn2_cli.specs.Transcript.{Output, Message, line_message, table_message, table_line, transcript, status_of}
+use Rattle.idn2_cli.specs.Transcript.{Output, Message, line_message, table_message, table_line, transcript, status_of, no_table}
 use Rattle.idn2_cli.specs.Ends.{closing_message}
 use Rattle.idn2_cli.specs.Answers.{block, nth, nth_if_given, lesser, up_to, trailer, LineAnswer, line_answer}
 use Rattle.idn2_cli.specs.Words.{Answer, options_of, chosen, bad}
@@ -47,11 +50,41 @@ plain_run mode strings =
 abbrev pub listing : Option ℕ → ℕ → Settings
 listing limit tries = record (plain_run Variants []) { file = codes "t"; limit = limit; tries = tries }
 
--- aa spells aa, aaa and aaaa; of the labels that aaa spells, the four that have a hyphen first are not tested
+-- a table of version 1
+abbrev pub version_one : List Entry → TableValue
+version_one entries = record { version = One; entries = entries }
+
+-- a variant that is blocked
+abbrev pub blocked : List ℕ → Variant
+blocked s = record { sequence = s; blocked = true }
+
+-- an entry
+abbrev pub entry : List ℕ → List Variant → Entry
+entry source variants = record { source = source; variants = variants }
+
+-- the table 0061..0063, 0078|!0079:007A of version 2
+abbrev pub y_or_z : TableValue
+y_or_z = record {
+  version = Two;
+  entries = range_entries 0x61 0x63 ++ entry (codes "x") (blocked (codes "y") ∷ allocatable (codes "z") ∷ []) ∷ [];
+}
+
+-- the table 0061|!0062, 0061-0061|0062-0062 of version 2
+abbrev pub one_or_both : TableValue
+one_or_both = record {
+  version = Two;
+  entries = entry (codes "a") (blocked (codes "b") ∷ []) ∷ entry (codes "aa") (allocatable (codes "bb") ∷ []) ∷ [];
+}
+
+-- aa spells aa, aaa and aaaa; of the labels that aaa spells, the four that have a hyphen first are not tested; ay is blocked; and
+-- bb, which is blocked as two letters, is allocatable as one pair
 pub record ExamplesOfBlocks : Type 0 where
-  pub doubled : block (listing None 1000000) a_or_two (codes "aa") ≡ codes "aa\taa" ∷ codes "aaa\taaa" ∷ codes "aaaa\taaaa" ∷ codes "#end 3" ∷ []
-  pub limited : block (listing (Some 2) 1000000) a_or_two (codes "aa") ≡ codes "aa\taa" ∷ codes "aaa\taaa" ∷ codes "#stop 2 aaa" ∷ []
-  pub spent : block (listing None 4) letter_or_hyphen (codes "aaa") ≡ codes "a-a\ta-a" ∷ codes "aaa\taaa" ∷ codes "#stop 2 aaa" ∷ []
+  pub doubled : block (listing None 1000000) (version_one a_or_two) (codes "aa") ≡ codes "aa\taa" ∷ codes "aaa\taaa" ∷ codes "aaaa\taaaa" ∷ codes "#end 3" ∷ []
+  pub limited : block (listing (Some 2) 1000000) (version_one a_or_two) (codes "aa") ≡ codes "aa\taa" ∷ codes "aaa\taaa" ∷ codes "#stop 2 aaa" ∷ []
+  pub spent : block (listing None 4) (version_one letter_or_hyphen) (codes "aaa") ≡ codes "a-a\ta-a" ∷ codes "aaa\taaa" ∷ codes "#stop 2 aaa" ∷ []
+  pub y_blocked : block (listing None 1000000) y_or_z (codes "ax") ≡ codes "ax\tax\tallocatable" ∷ codes "ay\tay\tblocked" ∷ codes "az\taz\tallocatable" ∷ codes "#end 3" ∷ []
+  pub allocatable_by_one_cutting : block (listing None 1000000) one_or_both (codes "aa")
+      ≡ codes "aa\taa\tallocatable" ∷ codes "ab\tab\tblocked" ∷ codes "ba\tba\tblocked" ∷ codes "bb\tbb\tallocatable" ∷ codes "#end 4" ∷ []
 
 -- three lines, of which the second is refused
 abbrev pub three_lines : List ℕ
@@ -59,8 +92,8 @@ three_lines = codes "abc\na-\nb\n"
 
 -- a refused line changes nothing of the others
 pub record ExamplesOfTranscripts : Type 0 where
-  pub between : transcript (plain_run Register []) (Ok []) (lines_of three_lines) ≡ Output (codes "abc\n") ∷ Message (codes "idn2: line 2: 13 hyphen out of place\n") ∷ Output (codes "b\n") ∷ []
-  pub status : status_of (plain_run Register []) (Ok []) (lines_of three_lines) ≡ Refused
+  pub between : transcript (plain_run Register []) (Ok no_table) (lines_of three_lines) ≡ Output (codes "abc\n") ∷ Message (codes "idn2: line 2: 13 hyphen out of place\n") ∷ Output (codes "b\n") ∷ []
+  pub status : status_of (plain_run Register []) (Ok no_table) (lines_of three_lines) ≡ Refused
 
 -- what the words after the program's name request
 abbrev pub asked : List (List ℕ) → Answer

@@ -1,6 +1,12 @@
 -- Laws of the definitions.
-use Rattle.std.specs.Prelude.{◌≡◌, ◌≢◌, Bool, true, false, List, codes}
+use Rattle.std.specs.Prelude.{◌≡◌, ◌≢◌, ℕ, Bool, true, false, List, [], codes}
 use Rattle.clap.specs.Words.{Row}
+use Rattle.variant_table.specs.declared.version.Version.TheVariants.{One, Two}
+use Rattle.variant_table.specs.Entries.{Entry, TableValue, has_blocked, unblocked}
+use Rattle.variant_table.specs.WellFormed.{IsWellFormed}
+use Rattle.variant_list.specs.Segmentations.{HasSegmentation}
+use Rattle.variant_list.specs.Spelling.{Spells}
+use Rattle.idn2_cli.specs.Answers.{disposition}
 use Rattle.idn2_cli.specs.Words.{has_flag, has_value, is_allowed, mode_of}
 use Rattle.idn2_cli.specs.declared.command_line.mode.Mode.{Mode}
 use Rattle.idn2_cli.specs.declared.command_line.mode.Mode.TheVariants.{Lookup, Register, Decode, Variants, CheckTable}
@@ -18,3 +24,13 @@ pub record ModeIsTheOneNamed : Type 0 where
   pub named : (rows : List Row) (mode : Mode) → is_allowed rows ≡ true → is_named mode rows ≡ true → mode_of rows ≡ mode
   pub none_named : (rows : List Row) → ((mode : Mode) → is_named mode rows ≡ false) → mode_of rows ≡ Lookup
   pub two_named : (rows : List Row) (mode other : Mode) → mode ≢ other → is_named mode rows ≡ true → is_named other rows ≡ true → is_allowed rows ≡ false
+
+-- the third field of a variant's line. Version 1 has none; a label may itself be allocated, whatever is blocked; where no variant is
+-- blocked, each of a label's variants may be; and what may be allocated is a variant of the label
+pub record DispositionsAreTold : Type 0 where
+  pub unstated : (table : TableValue) (label v : List ℕ) → table.version ≡ One → disposition table label v ≡ []
+  pub itself : (table : TableValue) (label : List ℕ) → table.version ≡ Two → IsWellFormed table.entries → HasSegmentation table.entries label →
+      disposition table label label ≡ codes "\tallocatable"
+  pub none_blocked : (table : TableValue) (label v : List ℕ) → table.version ≡ Two → IsWellFormed table.entries → has_blocked table.entries ≡ false →
+      Spells table.entries label v → disposition table label v ≡ codes "\tallocatable"
+  pub variants : (entries : List Entry) (label v : List ℕ) → Spells (unblocked entries) label v → Spells entries label v

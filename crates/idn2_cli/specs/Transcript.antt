@@ -1,10 +1,10 @@
 -- The transcript of a run: all that it writes where nothing fails, piece by piece.
-use Rattle.std.specs.Prelude.{ℕ, List, [], ◌∷◌, ◌++◌, ◌≡◌, ◌⊎◌, Result, Ok, Err, ◌==◌, Bool, not, length, map, codes, if◌then◌else◌}
+use Rattle.std.specs.Prelude.{ℕ, List, [], ◌∷◌, ◌++◌, ◌≡◌, Result, Ok, Err, ◌==◌, Bool, not, length, map, codes, if◌then◌else◌}
 use Rattle.std.specs.List.{flat_map, list_any}
 use Rattle.std.specs.Result.{is_err}
 use Rattle.std.specs.Fmt.{decimal}
 use Rattle.idn_text.specs.declared.refusal.Refusal.{Refusal}
-use Rattle.variant_table.specs.declared.version.Version.TheVariants.{One, Two}
+use Rattle.variant_table.specs.declared.version.Version.TheVariants.{One}
 use Rattle.variant_table.specs.Entries.{Entry, TableValue}
 use Rattle.variant_table.specs.Texts.{IsTextOf, IsFaultOf}
 use Rattle.variant_table.specs.Faults.{LineFault}
@@ -42,9 +42,13 @@ messages_of (Message text ∷ pieces) = text ++ messages_of pieces
 
 -- ---- the table of a run
 
--- the entries of a table, or the line of its first fault, from 1, and the fault
+-- a table, or the line of its first fault, from 1, and the fault
 abbrev pub TableGiven : Type 0
-TableGiven = Result (List Entry) (ℕ × Refusal)
+TableGiven = Result TableValue (ℕ × Refusal)
+
+-- the table of a mode that names none
+abbrev pub no_table : TableValue
+no_table = record { version = One; entries = [] }
 
 -- the fault of a line of a table as a refusal
 abbrev pub table_refusal : LineFault → Refusal
@@ -58,21 +62,16 @@ table_refusal faults.SameSource = refusals.SameSource
 abbrev pub HasFault : List ℕ → ℕ × Refusal → Type 0
 HasFault text fault = (kind : LineFault) × (table_refusal kind ≡ fault.1) × IsFaultOf text fault.0 kind
 
--- the text spells a table of version 2
-abbrev pub SpellsVersionTwo : List ℕ → Type 0
-SpellsVersionTwo text = (table : TableValue) × IsTextOf text table × (table.version ≡ Two)
-
--- the text spells these entries in version 1, or has this first fault. No mode works by a table of version 2 yet: its version line
--- is told as syntax
+-- the text spells this table, or has this first fault
 abbrev pub IsReadAs : List ℕ → TableGiven → Type 0
-IsReadAs text (Ok table) = IsTextOf text (record { version = One; entries = table })
-IsReadAs text (Err fault) = HasFault text fault ⊎ (SpellsVersionTwo text × (fault ≡ (1, refusals.Syntax)))
+IsReadAs text (Ok table) = IsTextOf text table
+IsReadAs text (Err fault) = HasFault text fault
 
--- the table by which a mode works, as its text says; a mode that names no table has no entries
+-- the table by which a mode works, as its text says; a mode that names no table has the empty one
 abbrev pub IsTableOf : Mode → List ℕ → TableGiven → Type 0
 IsTableOf Variants text table = IsReadAs text table
 IsTableOf CheckTable text table = IsReadAs text table
-IsTableOf mode text table = table ≡ Ok []
+IsTableOf mode text table = table ≡ Ok no_table
 
 -- ---- messages
 
@@ -140,22 +139,22 @@ pub record IsCheck (table : List Entry) (lines : List (List ℕ)) : Type 0 where
 -- what a check writes; the one message of a faulty table
 abbrev pub check_pieces : TableGiven → List Piece
 check_pieces (Err fault) = Message (table_message fault.0 fault.1) ∷ []
-check_pieces (Ok table) = output_lines (check_lines table)
+check_pieces (Ok table) = output_lines (check_lines table.entries)
 
 -- 2 for a faulty table, 1 for one with a gap, else 0
 abbrev pub check_status : TableGiven → Status
 check_status (Err fault) = Unusable
-check_status (Ok table) = status_if (not (length (gaps_of table) == 0))
+check_status (Ok table) = status_if (not (length (gaps_of table.entries) == 0))
 
 -- ---- the whole run
 
 -- the pieces of a mode over these lines; the check of a table reads none
-abbrev pub mode_pieces : Mode → Settings → List Entry → List Numbered → List Piece
+abbrev pub mode_pieces : Mode → Settings → TableValue → List Numbered → List Piece
 mode_pieces CheckTable o table lines = check_pieces (Ok table)
 mode_pieces mode o table lines = lines_pieces (mode_answer mode o table) lines
 
 -- 1 where a line is refused, else 0
-abbrev pub mode_status : Mode → Settings → List Entry → List Numbered → Status
+abbrev pub mode_status : Mode → Settings → TableValue → List Numbered → Status
 mode_status CheckTable o table lines = check_status (Ok table)
 mode_status mode o table lines = status_if (has_refused (mode_answer mode o table) lines)
 

@@ -1,12 +1,17 @@
 //! Laws of the definitions that the contract of `run` speaks of. Each holds by its proof alone.
 ghost use Rattle.std.specs.Prelude.{ℕ, List};
 ghost use Rattle.idn2_cli.specs.Answers.{LineAnswer};
-ghost use Rattle.idn2_cli.specs.Laws.{ModeIsTheOneNamed};
+ghost use Rattle.idn2_cli.specs.Laws.{DispositionsAreTold, ModeIsTheOneNamed};
 ghost use Rattle.idn2_cli.specs.Examples.{ExamplesOfARun, ExamplesOfLines, ExamplesOfBlocks, ExamplesOfTranscripts, ExamplesOfWords};
 
 /// The mode of a run is the one that its words name.
 pub fn mode_is_the_one_named()
     ensures { ModeIsTheOneNamed }
+{}
+
+/// The third field of a variant's line, by what the table blocks.
+pub fn dispositions_are_told()
+    ensures { DispositionsAreTold }
 {}
 
 /// Worked examples hold of the definitions themselves.

@@ -5,12 +5,14 @@ mod block;
 mod check_table;
 pub(crate) mod code_points;
 mod decode;
+mod dispositions;
 mod lookup;
 mod register;
 mod variants;
 
 pub(crate) use check_table::check_table;
 pub(crate) use decode::Decode;
+pub(crate) use dispositions::Dispositions;
 pub(crate) use lookup::Lookup;
 pub(crate) use register::Register;
 pub(crate) use variants::Variants;

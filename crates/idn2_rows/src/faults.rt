@@ -55,7 +55,7 @@ impl Line {
     }
 }
 
-const CASES: [Case; 13] = [
+const CASES: [Case; 14] = [
     Case {
         words: REGISTER,
         table: b"",
@@ -125,6 +125,15 @@ const CASES: [Case; 13] = [
         lines: &[Line(
             b"\xD7\x90\xD7\x91\n",
             b"\xD7\x90\xD7\x91\txn--4dbc\n#end 1\n",
+            b"",
+        )],
+    },
+    Case {
+        words: VARIANTS,
+        table: b"%version 2\n0061|!0062:00DF\n",
+        lines: &[Line(
+            b"a\n",
+            b"a\ta\tallocatable\nb\tb\tblocked\n\xC3\x9F\txn--zca\tallocatable\n#end 3\n",
             b"",
         )],
     },

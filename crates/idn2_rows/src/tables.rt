@@ -138,7 +138,7 @@ const FAULTY: [Row; 12] = [
     },
     Row {
         words: &["--check-table", "t"],
-        table: b"%version 2\n",
+        table: b"%version 3\n",
         input: "not read\n",
         output: "",
         messages: "idn2: table line 1: 30 table syntax\n",

@@ -1,4 +1,5 @@
-//! Tables of version 2: ranges and blocked variants.
+//! Tables of version 2: ranges and blocked variants, and runs by such tables.
+use crate::row::{Row, hold};
 use std::test::Fail;
 use variant_table::{Table, TableFault};
 
@@ -114,4 +115,58 @@ fn gaps(rt: HostRuntime) -> Result<(), Fail> {
     let table = Table::read(alloc, b"%version 2\n0061|!0062\n0062")?;
     assert_eq!(&rt; table.gaps(alloc)?.len(), 1);
     Ok(())
+}
+
+/// Runs by tables of version 2.
+const SERVED: [Row; 5] = [
+    // A label of two entries, and one that has none.
+    Row {
+        words: &["--variants", "t"],
+        table: b"%version 2\n0061..0063\n0078|!0079:007A\n",
+        input: "ax\nay\n",
+        output: "ax\tax\tallocatable\nay\tay\tblocked\naz\taz\tallocatable\n#end 3\n",
+        messages: "idn2: line 2: 40 not made of table entries\n",
+        status: 1,
+    },
+    // The label bb is blocked by one segmentation, and allocatable by the other.
+    Row {
+        words: &["--variants", "t"],
+        table: b"%version 2\n0061|!0062\n0061-0061|0062-0062\n",
+        input: "aa\n",
+        output: "aa\taa\tallocatable\nab\tab\tblocked\nba\tba\tblocked\nbb\tbb\tallocatable\n#end 4\n",
+        messages: "",
+        status: 0,
+    },
+    // The listing begins behind a label, and ends at a blocked one.
+    Row {
+        words: &["--variants", "t", "--after", "aa", "--limit", "2"],
+        table: b"%version 2\r\n0061|!0062\n0061-0061|0062-0062\n",
+        input: "aa\n",
+        output: "ab\tab\tblocked\nba\tba\tblocked\n#stop 2 ba\n",
+        messages: "",
+        status: 0,
+    },
+    // No variant of the table is blocked.
+    Row {
+        words: &["--variants", "t"],
+        table: b"%version 2\n0061|0062\n",
+        input: "a\n",
+        output: "a\ta\tallocatable\nb\tb\tallocatable\n#end 2\n",
+        messages: "",
+        status: 0,
+    },
+    // A blocked variant counts for gaps as any other.
+    Row {
+        words: &["--check-table", "t"],
+        table: b"%version 2\n0061|!0062\n0062..0063\n",
+        input: "not read\n",
+        output: "missing 0062|0061\n#table 3 1\n",
+        messages: "",
+        status: 1,
+    },
+];
+
+#[test]
+fn served(rt: HostRuntime) -> Result<(), Fail> {
+    hold(&rt, rt.alloc(), &SERVED)
 }

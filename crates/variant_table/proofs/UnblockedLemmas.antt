@@ -4,15 +4,15 @@ use Rattle.std.specs.Prelude.{slice_get, bytes_eq, filter, not, IsPermutation}
 use Rattle.std.specs.Ordering.{nat_cmp}
 use Rattle.std.specs.declared.cmp.Ordering.TheVariants.{Less}
 use Rattle.std.specs.Cmp.Lexicographic.{slice_cmp}
-use Rattle.std.specs.List.{AllByRecursion, list_any, range_with_len}
+use Rattle.std.specs.List.{All, AllByRecursion, list_any, range_with_len}
 use Rattle.std.proofs.lemmas.Bool.{or_parts, or_from}
 use Rattle.std.proofs.lemmas.List.{append-nil, map-append, length-map}
 use Rattle.std.proofs.lemmas.List.Elements.{All-from_recursion, recursion_from_All}
 use Rattle.variant_table.specs.declared.version.Version.{Version}
 use Rattle.variant_table.specs.declared.version.Version.TheVariants.{One, Two}
-use Rattle.variant_table.specs.Canonical.{sequence_text, canonical_line, canonical_text, head_text, table_text}
+use Rattle.variant_table.specs.Canonical.{sequence_text, canonical_line, canonical_text, head_text}
 use Rattle.variant_table.specs.Conditions.{repeats, has_source_in}
-use Rattle.variant_table.specs.Entries.{Variant, Entry, TableValue, IsOfVersion, sequences_in, replacements, unblocked_entry, unblocked}
+use Rattle.variant_table.specs.Entries.{Variant, Entry, IsOfVersion, sequences_in, replacements, unblocked_entry, unblocked, has_blocked}
 use Rattle.variant_table.specs.Notation.{variant_tokens, further_variants}
 use Rattle.variant_table.specs.Canonical.{token_text, tokens_text}
 use Rattle.variant_table.specs.Order.{IsOrderOf}
@@ -49,6 +49,21 @@ free_left variants i e =
 
 pub unblocked_next : (t : List Entry) (i : ℕ) (e : Entry) → slice_get t i ≡ Some e → unblocked (take (i + 1) t) ≡ unblocked (take i t) ++ unblocked_entry e ∷ []
 unblocked_next t i e at = ap unblocked (take_next t i e at) ∙ map-append unblocked_entry (take i t) (e ∷ [])
+
+-- ---- where no variant is blocked
+
+none_left : (variants : List Variant) → list_any (λ v. v.blocked) variants ≡ false → free variants ≡ variants
+none_left [] h = refl
+none_left (v ∷ variants) h =
+    let p = or_parts v.blocked (list_any (λ v. v.blocked) variants) h in
+    ap (λ b. cond (not b) (v ∷ free variants) (free variants)) p.0 ∙ ap (λ x. v ∷ x) (none_left variants p.1)
+
+-- the entries stay
+pub unblocked_none : (t : List Entry) → has_blocked t ≡ false → unblocked t ≡ t
+unblocked_none [] h = refl
+unblocked_none (e ∷ t) h =
+    let p = or_parts (list_any (λ v. v.blocked) e.variants) (has_blocked t) h in
+    ap (λ vs. record { source = e.source; variants = vs } ∷ unblocked t) (none_left e.variants p.0) ∙ ap (λ x. e ∷ x) (unblocked_none t p.1)
 
 -- ---- the order of the sources stays
 
@@ -116,6 +131,9 @@ entry_kept e h =
 entries_kept : (t : List Entry) → AllByRecursion IsEntry t → AllByRecursion IsEntry (unblocked t)
 entries_kept [] h = tt
 entries_kept (e ∷ t) h = (entry_kept e h.0, entries_kept t h.1)
+
+pub well_formed_kept : (t : List Entry) → All IsEntry t → All IsEntry (unblocked t)
+well_formed_kept t h = All-from_recursion IsEntry (unblocked t) (entries_kept t (recursion_from_All IsEntry t h))
 
 unmarked_free : (variants : List Variant) → AllByRecursion (λ v. v.blocked ≡ false) variants → AllByRecursion (λ v. v.blocked ≡ false) (free variants)
 unmarked_free [] h = tt
@@ -193,7 +211,7 @@ table_kept version t h =
     let well = h.well_formed in
     record {
       well_formed = record {
-        entries = All-from_recursion IsEntry (unblocked t) (entries_kept t (recursion_from_All IsEntry t well.entries));
+        entries = well_formed_kept t well.entries;
         sources = distinct_sources [] (unblocked t) no_sources (new_kept [] t (new_sources [] t well.sources));
         few = omega (arith, well.few, length-map t unblocked_entry);
         short = omega (arith, well.short, text_kept t);

@@ -12,12 +12,13 @@ ghost use Rattle.variant_list.specs.Beginnings.{shortest_hopeless};
 ghost use Rattle.variant_list.specs.Verdicts.{IsVerdict};
 ghost use Rattle.idn2_cli.specs.Settings.{IsWithinLimits};
 ghost use Rattle.idn2_cli.specs.Transcript.{output_lines, Output};
-ghost use Rattle.idn2_cli.specs.Answers.{block, is_registrable, variant_line, trailer};
-ghost use Rattle.idn2_cli.specs.Inner.{reaches};
+ghost use Rattle.idn2_cli.specs.Answers.{is_registrable, variant_line, trailer};
+ghost use Rattle.idn2_cli.specs.Inner.{reaches, block_by, field_by, TellsWell};
 ghost use Rattle.idn2_cli.specs.Emitting.{Emits};
 ghost use Rattle.idn2_cli.specs.declared.session.stop.Stop.TheVariants as stop;
 
 use crate::command_line::options::Options;
+use crate::modes::dispositions::Dispositions;
 use crate::session::buffers::append;
 use crate::session::console::Console;
 use crate::session::stop::Stop;
@@ -34,12 +35,14 @@ pub(crate) fn write_block<W: Sink, E: Sink>(
     alloc: Global,
     options: &Options,
     net: &Net,
+    dispositions: &Dispositions<Net>,
     console: &mut Console<'_, '_, W, E>,
 ) -> Result<(), Stop>
     requires limits { IsWithinLimits options.now }
     requires table { IsWellFormed net.now.table }
+    requires dispositions { TellsWell dispositions.now }
     ensures { Emits console.old console.new
-        (output_lines (block options.now net.now.table net.now.label)) result }
+        (output_lines (block_by (field_by dispositions.now) options.now net.now.table net.now.label)) result }
 {
     let mut cursor = Cursor::new(alloc, net, &options.after)?;
     let mut judge = Registrable {
@@ -54,7 +57,9 @@ pub(crate) fn write_block<W: Sink, E: Sink>(
             Outcome::Spent => return write_stop(count, cursor.last(), &mut text, console),
             Outcome::Ended => return write_end(count, console),
         };
-        write_variant(cursor.last(), &a_label, &mut text, console)?;
+        let variant = cursor.last();
+        let field = dispositions.field(alloc, variant)?;
+        write_variant(variant, &a_label, field, &mut text, console)?;
         count += 1;
         if is_reached(options.limit, count) {
             return write_stop(count, cursor.last(), &mut text, console);
@@ -108,20 +113,23 @@ fn is_reached(limit: Option<u64>, count: u64) -> bool
     }
 }
 
-/// Writes a variant and its A-label. `text` is a buffer for the line.
+/// Writes a variant, its A-label and its third field. `text` is a buffer for the line.
 fn write_variant<W: Sink, E: Sink>(
     label: &[u32],
     a_label: &ALabel,
+    field: &str,
     text: &mut ArrayVec<u8, 4096>,
     console: &mut Console<'_, '_, W, E>,
 ) -> Result<(), Stop>
     requires registrable { IsRegistrable label.now }
     requires a_label { a_label.now.bytes ≡ a_label_of label.now }
-    ensures { Emits console.old console.new (Output (variant_line label.now ++ 10 ∷ []) ∷ []) result }
+    requires short { length field.now ≤ 16 }
+    ensures { Emits console.old console.new (Output (variant_line field.now label.now ++ 10 ∷ []) ∷ []) result }
 {
     write_points(label, text);
     text.push(b'\t');
     append(text, a_label.as_str().as_bytes());
+    append(text, field.as_bytes());
     text.push(b'\n');
     console.output(text.as_slice())
 }

@@ -5,14 +5,16 @@ ghost use Rattle.std.specs.Result.{is_err};
 ghost use Rattle.idn_label.specs.FirstFault.{IsRegistrable};
 ghost use Rattle.variant_table.specs.WellFormed.{IsWellFormed};
 ghost use Rattle.idn2_cli.specs.Settings.{IsWithinLimits};
-ghost use Rattle.idn2_cli.specs.Answers.{block, variants_answer, listing_answer};
-ghost use Rattle.idn2_cli.specs.Transcript.{output_lines, pieces_for};
+ghost use Rattle.idn2_cli.specs.Answers.{variants_answer, listing_answer};
+ghost use Rattle.idn2_cli.specs.Inner.{AreOfTable};
+ghost use Rattle.idn2_cli.specs.Transcript.{pieces_for};
 ghost use Rattle.idn2_cli.specs.Emitting.{Emits};
 
 use crate::command_line::options::Options;
 use crate::modes::answering::refuse;
 use crate::modes::block::write_block;
 use crate::modes::code_points::PointAnswering;
+use crate::modes::dispositions::Dispositions;
 use crate::session::console::Console;
 use crate::session::stop::Stop;
 use idn_label::test_label;
@@ -26,13 +28,15 @@ use variant_table::Table;
 #[derive(Drop)]
 pub(crate) struct Variants<'t> {
     pub table: &'t Table,
+    pub dispositions: &'t Dispositions<Table>,
     pub options: &'t Options,
 }
 
 impl<'t> PointAnswering for Variants<'t> {
-    ghost answer_of = { λ mode label. variants_answer mode.options.now mode.table.now.entries label };
+    ghost answer_of = { λ mode label. variants_answer mode.options.now mode.table.now label };
 
-    ghost is_ready = { λ mode. IsWithinLimits mode.options.now × IsWellFormed mode.table.now.entries };
+    ghost is_ready = { λ mode. IsWithinLimits mode.options.now × IsWellFormed mode.table.now.entries
+        × AreOfTable mode.table.now mode.dispositions.now };
 
     fn answer_points<W: Sink, E: Sink>(
         &self,
@@ -42,7 +46,7 @@ impl<'t> PointAnswering for Variants<'t> {
         console: &mut Console<'_, '_, W, E>,
     ) -> Result<bool, Stop> {
         match test_label(alloc, points) {
-            Ok(_) => list(alloc, self.options, self.table, number, points, console),
+            Ok(_) => list(alloc, self, number, points, console),
             Err(refusal) => refuse(number, refusal, console),
         }
     }
@@ -51,22 +55,24 @@ impl<'t> PointAnswering for Variants<'t> {
 /// Lists the variants of a label that may be registered.
 fn list<W: Sink, E: Sink>(
     alloc: Global,
-    options: &Options,
-    table: &Table,
+    mode: &Variants<'_>,
     number: u64,
     label: &[u32],
     console: &mut Console<'_, '_, W, E>,
 ) -> Result<bool, Stop>
-    requires limits { IsWithinLimits options.now }
-    requires table { IsWellFormed table.now.entries }
+    requires limits { IsWithinLimits mode.now.options.now }
+    requires table { IsWellFormed mode.now.table.now.entries }
+    requires dispositions { AreOfTable mode.now.table.now mode.now.dispositions.now }
     requires registrable { IsRegistrable label.now }
     ensures written { Emits console.old console.new
-        (pieces_for number (listing_answer options.now table.now.entries label.now)) result }
-    ensures refused { IfOk result (λ refused. refused ≡ is_err (listing_answer options.now table.now.entries label.now)) }
+        (pieces_for number (listing_answer mode.now.options.now mode.now.table.now label.now)) result }
+    ensures refused { IfOk result
+        (λ refused. refused ≡ is_err (listing_answer mode.now.options.now mode.now.table.now label.now)) }
 {
-    match Net::build(alloc, table, label) {
+    match Net::build(alloc, mode.table, label) {
         Ok(net) => {
-            write_block(alloc, options, &net, console)?;
+            let dispositions = mode.dispositions.of_label(alloc, label)?;
+            write_block(alloc, mode.options, &net, &dispositions, console)?;
             Ok(false)
         }
         Err(NetFault::NotInTable) => refuse(number, Refusal::NotInTable, console),

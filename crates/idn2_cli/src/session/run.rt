@@ -3,7 +3,7 @@
 ghost use Rattle.std.specs.Prelude.{◌≡◌, ℕ, List, IfOk};
 ghost use Rattle.idn_text.specs.Reading.{IsUnread};
 ghost use Rattle.idn_label.specs.FirstFault.{IsRegistrable};
-ghost use Rattle.variant_table.specs.Entries.{Entry};
+ghost use Rattle.variant_table.specs.Entries.{TableValue};
 ghost use Rattle.idn2_cli.specs.Settings.{IsWithinLimits};
 ghost use Rattle.idn2_cli.specs.Answers.{variants_answer, IsListing};
 ghost use Rattle.idn2_cli.specs.Ends.{held, closing_status, Does, Ends, Closes, mode_job, refusal_of};
@@ -14,15 +14,16 @@ ghost use Rattle.idn2_cli.specs.declared.command_line.mode.Mode.TheVariants as m
 use crate::command_line::mode::Mode;
 use crate::command_line::options::Options;
 use crate::modes::code_points::ByPoints;
-use crate::modes::{Decode, Lookup, Register, Variants, check_table};
+use crate::modes::{Decode, Dispositions, Lookup, Register, Variants, check_table};
 use crate::session::console::Console;
 use crate::session::lines::serve_lines;
 use crate::session::report::report;
 use crate::session::status::Status;
 use crate::session::stop::Stop;
-use crate::session::table::{read_table, refuse_table};
+use crate::session::table::refuse_table;
 use idn_text::{Lines, Sink, Source};
 use std::alloc::Global;
+use variant_table::Table;
 
 /// Runs a mode over its input, of which no line was read yet. Where nothing fails, the pieces of the
 /// transcript are written, and the status says whether something was refused. A fault of a reader,
@@ -41,9 +42,9 @@ pub fn run<R: Source, W: Sink, E: Sink>(
         × Ends (mode_job options.now given) input.old input.new
         (held (W.state out.old) (E.state err.old)) (held (W.state out.new) (E.state err.new)) result }
     // What the transcript has for a label that may be registered, and for the check of a table.
-    ensures listing { (entries : List Entry) (label : List ℕ) → IsReadAs table.now (Ok entries) → IsRegistrable label →
-        IsListing options.now entries label (variants_answer options.now entries label) }
-    ensures check { (entries : List Entry) → IsReadAs table.now (Ok entries) → IsCheck entries (check_lines entries) }
+    ensures listing { (given : TableValue) (label : List ℕ) → IsReadAs table.now (Ok given) → IsRegistrable label →
+        IsListing options.now given label (variants_answer options.now given label) }
+    ensures check { (given : TableValue) → IsReadAs table.now (Ok given) → IsCheck given.entries (check_lines given.entries) }
 {
     let mut console = Console {
         output: out,
@@ -113,12 +114,14 @@ fn serve_variants<R: Source, W: Sink, E: Sink>(
     ensures { (given : TableGiven) × IsTableOf options.now.mode text.now given
         × Does (mode_job options.now given) input.old input.new console.old console.new result }
 {
-    let table = match read_table(alloc, text) {
+    let table = match Table::read(alloc, text) {
         Ok(table) => table,
         Err(fault) => return refuse_table(fault, console),
     };
+    let dispositions = Dispositions::of_table(alloc, &table)?;
     let mode = Variants {
         table: &table,
+        dispositions: &dispositions,
         options,
     };
     serve_lines(alloc, &ByPoints { mode: &mode }, input, console)
@@ -134,7 +137,7 @@ fn serve_check<W: Sink, E: Sink>(
         × Emits console.old console.new (check_pieces given) result
         × IfOk result (λ status. status ≡ check_status given) }
 {
-    match read_table(alloc, text) {
+    match Table::read(alloc, text) {
         Ok(table) => check_table(alloc, &table, console),
         Err(fault) => refuse_table(fault, console),
     }

@@ -1,3 +1,4 @@
+use Rattle.idn2_cli.specs.Inner.{field_by}
 use Rattle.idn2_cli.proofs.Listings.{IsListing}
 use Rattle.idn2_cli.proofs.modes.block.write_block.Given as goal
 
@@ -5,7 +6,7 @@ use Rattle.idn2_cli.proofs.modes.block.write_block.Given as goal
 abbrev pub invariant-variants : goal.invariant-variants
 invariant-variants g l =
     record {
-      listing : IsListing l.options l.net
+      listing : IsListing (field_by l.dispositions) l.options l.net
           l.fn.console
           l.console
           l.cursor l.count l.tries;

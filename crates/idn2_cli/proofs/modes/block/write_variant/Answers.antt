@@ -27,6 +27,18 @@ append-requires g c =
     let fits = c.as_str.ensures.fits in
     omega (arith, short, most, count, pushed, text, fits)
 
+pub append-requires-2 : goal.append-requires-2
+append-requires-2 g c =
+    let short = (MeetsRequirements-registrable c.args.label.now c.requires.registrable).points in
+    let most = length-utf8_of-le c.args.label.now in
+    let count = ap length c.write_points.ensures in
+    let pushed = c.push.ensures.len in
+    let text = ap length c.as_bytes.ensures.value in
+    let fits = c.as_str.ensures.fits in
+    let added = ap length c.append.ensures ∙ length-append c.push.new.self.items c.as_bytes.result.now in
+    let told = ap length c.as_bytes-2.ensures.value in
+    omega (arith, short, most, count, pushed, text, fits, added, told)
+
 pub push-requires-2 : goal.push-requires-2
 push-requires-2 g c =
     let short = (MeetsRequirements-registrable c.args.label.now c.requires.registrable).points in
@@ -36,4 +48,6 @@ push-requires-2 g c =
     let text = ap length c.as_bytes.ensures.value in
     let fits = c.as_str.ensures.fits in
     let added = ap length c.append.ensures ∙ length-append c.push.new.self.items c.as_bytes.result.now in
-    omega (arith, short, most, count, pushed, text, fits, added)
+    let told = ap length c.as_bytes-2.ensures.value in
+    let more = ap length c.append-2.ensures ∙ length-append c.append.new.line.items c.as_bytes-2.result.now in
+    omega (arith, short, most, count, pushed, text, fits, added, told, more)

@@ -20,4 +20,4 @@ pub returns-clause-listing : goal.returns-clause-listing
 returns-clause-listing g c = λ table label text registrable. variants_answer-IsListing c.args.options.now table label text.lines.well_formed.well_formed registrable
 
 pub returns-clause-check : goal.returns-clause-check
-returns-clause-check g c = λ table text. check_lines-IsCheck table text.lines.well_formed.well_formed
+returns-clause-check g c = λ table text. check_lines-IsCheck table.entries text.lines.well_formed.well_formed

@@ -1,7 +1,8 @@
-use Rattle.std.proofs.Common.{refl, ap, sym, ◌∙◌, Ok, [], ℕ, List, Bool}
+use Rattle.std.proofs.Common.{refl, ap, sym, ◌∙◌, Ok, ℕ, List, Bool}
 use Rattle.idn_label.specs.Lookup.{lookup_answer}
 use Rattle.idn2_cli.specs.Settings.{Settings}
 use Rattle.idn2_cli.specs.Answers.{LineAnswer, one_line}
+use Rattle.idn2_cli.specs.Transcript.{no_table}
 use Rattle.idn2_cli.specs.Ends.{lines_job}
 use Rattle.idn2_cli.specs.declared.command_line.mode.Mode.TheVariants.{Lookup, Register, Decode}
 use Rattle.idn2_cli.proofs.Finishing.{as_mode, checked}
@@ -13,17 +14,17 @@ returns-in-Lookup g c =
     let mode = sym (ap (λ (v : Settings). v.mode) c.options.view_is) ∙ c.in-Lookup.is in
     let std3 = ap (λ (v : Settings). v.std3) c.options.view_is in
     let by : Bool → List ℕ → LineAnswer = λ b name. one_line (lookup_answer name b) in
-    as_mode o Lookup c.args.table.now (Ok []) _ _ _ _ _ c.serve_lines.result mode refl (ap (λ b. lines_job (by b)) std3) c.serve_lines.ensures
+    as_mode o Lookup c.args.table.now (Ok no_table) _ _ _ _ _ c.serve_lines.result mode refl (ap (λ b. lines_job (by b)) std3) c.serve_lines.ensures
 
 pub returns-in-Register : goal.returns-in-Register
 returns-in-Register g c =
     let mode = sym (ap (λ (v : Settings). v.mode) c.options.view_is) ∙ c.in-Register.is in
-    as_mode c.args.options.now Register c.args.table.now (Ok []) _ _ _ _ _ c.serve_lines-in-Register.result mode refl refl c.serve_lines-in-Register.ensures
+    as_mode c.args.options.now Register c.args.table.now (Ok no_table) _ _ _ _ _ c.serve_lines-in-Register.result mode refl refl c.serve_lines-in-Register.ensures
 
 pub returns-in-Decode : goal.returns-in-Decode
 returns-in-Decode g c =
     let mode = sym (ap (λ (v : Settings). v.mode) c.options.view_is) ∙ c.in-Decode.is in
-    as_mode c.args.options.now Decode c.args.table.now (Ok []) _ _ _ _ _ c.serve_lines-in-Decode.result mode refl refl c.serve_lines-in-Decode.ensures
+    as_mode c.args.options.now Decode c.args.table.now (Ok no_table) _ _ _ _ _ c.serve_lines-in-Decode.result mode refl refl c.serve_lines-in-Decode.ensures
 
 pub returns-in-CheckTable : goal.returns-in-CheckTable
 returns-in-CheckTable g c =

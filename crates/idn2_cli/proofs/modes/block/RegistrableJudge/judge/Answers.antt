@@ -1,4 +1,4 @@
-use Rattle.std.proofs.Common.{rules, ◌≡◌, true, false, None, Some, ap, sym, ◌∙◌, subst}
+use Rattle.std.proofs.Common.{rules, ap, sym, ◌∙◌, subst}
 use Rattle.std.specs.Option.{is_none}
 use Rattle.idn_class.specs.Facts.{AreFactsOf}
 use Rattle.idn2_cli.proofs.HopeLemmas.{shortest_hopeless-same}

@@ -1,0 +1,216 @@
+-- The third field of a variant's line: which variants the table without its blocked variants spells.
+use Rattle.std.proofs.Common.{◌≡◌, ◌⊎◌, inl, inr, ℕ, Bool, true, false, ◌||◌, ◌↔◌, IsTrue, List, [], ◌∷◌, ◌++◌, Option, Some, None, map, length, refl, sym, ap, subst, ◌∙◌, if◌then◌else◌}
+use Rattle.std.specs.Prelude.{bytes_eq, codes, not}
+use Rattle.std.specs.Ordering.{is_le}
+use Rattle.std.specs.List.{AllByRecursion, All, Contains, filter, flat_map, list_any}
+use Rattle.std.proofs.lemmas.Slice.Eq.{bytes_eq-Decides}
+use Rattle.variant_table.specs.declared.version.Version.{Version}
+use Rattle.variant_table.specs.declared.version.Version.TheVariants.{One, Two}
+use Rattle.variant_table.specs.Entries.{Variant, Entry, TableValue, has_blocked, replacements, sequences_in, unblocked, unblocked_entry}
+use Rattle.variant_table.specs.WellFormed.{IsEntry, IsWellFormed}
+use Rattle.variant_table.proofs.UnblockedLemmas.{unblocked_none, well_formed_kept}
+use Rattle.variant_list.specs.Labels.{label_cmp}
+use Rattle.variant_list.specs.Positions.{Built}
+use Rattle.variant_list.specs.Segmentations.{HasSegmentation}
+use Rattle.variant_list.specs.Spelled.{spelled}
+use Rattle.variant_list.specs.Spelling.{JoinsReplacements, Spells}
+use Rattle.variant_list.proofs.ListedLemmas.{variants-IsListed}
+use Rattle.variant_list.proofs.Members.{Contains-head, Contains-later, Contains-none, Contains-cases}
+use Rattle.variant_list.proofs.RecursionLemmas.{spelled-Spells}
+use Rattle.variant_list.proofs.SpellingLemmas.{Spells-itself, Spells-nothing, Spells-piece}
+use Rattle.idn2_cli.specs.Settings.{Settings}
+use Rattle.idn2_cli.specs.Answers.{block, is_registrable, is_allocatable, disposition_field, disposition, IsFieldOf, IsDisposition, stop_of, trailer, up_to, variant_line, variants_after}
+use Rattle.idn2_cli.specs.Inner.{AreOfTable, AreOfLabel, CanBeCut, block_by, field_by}
+use Rattle.idn2_cli.specs.Transcript.{output_lines}
+use Rattle.idn2_cli.specs.declared.modes.dispositions.Dispositions.{Dispositions}
+use Rattle.idn2_cli.specs.declared.modes.dispositions.Dispositions.TheVariants.{Unstated, AllAllocatable, BySpelling}
+
+-- ---- a list has a label where the test finds it
+
+member-found : (v : List ℕ) (vs : List (List ℕ)) → Contains vs v → list_any (bytes_eq v) vs ≡ true
+member-found v [] h = absurd (Contains-none v h)
+member-found v (w ∷ vs) h = by_place (bytes_eq v w) refl (Contains-cases w vs v h) (member-found v vs)
+  where
+    by_place : (b : Bool) → bytes_eq v w ≡ b → (w ≡ v) ⊎ Contains vs v → (Contains vs v → list_any (bytes_eq v) vs ≡ true) → (b || list_any (bytes_eq v) vs) ≡ true
+    by_place true e at go = refl
+    by_place false e (inl same) go = absurd (let bad : false ≡ true = sym e ∙ (bytes_eq-Decides v w).1 (sym same) in cc)
+    by_place false e (inr later) go = go later
+
+found-member : (v : List ℕ) (vs : List (List ℕ)) → list_any (bytes_eq v) vs ≡ true → Contains vs v
+found-member v [] h = absurd cc
+found-member v (w ∷ vs) h = by_test (bytes_eq v w) refl h (found-member v vs)
+  where
+    by_test : (b : Bool) → bytes_eq v w ≡ b → (b || list_any (bytes_eq v) vs) ≡ true → (list_any (bytes_eq v) vs ≡ true → Contains vs v) → Contains (w ∷ vs) v
+    by_test true e found go = subst (Contains (w ∷ vs)) (sym ((bytes_eq-Decides v w).0 e)) (Contains-head w vs)
+    by_test false e found go = Contains-later w vs v (go found)
+
+spells-test : (entries : List Entry) (label v : List ℕ) → All IsEntry entries → (list_any (bytes_eq v) (spelled entries label) ≡ true) ↔ Spells entries label v
+spells-test entries label v well = (
+  λ found. (spelled-Spells entries label v well).0 (found-member v (spelled entries label) found),
+  λ spells. member-found v (spelled entries label) ((spelled-Spells entries label v well).1 spells),
+)
+
+-- two tests of one fact
+same-test : {P : Type 0} (a b : Bool) → (a ≡ true → P) × (P → a ≡ true) → (b ≡ true → P) × (P → b ≡ true) → a ≡ b
+same-test true b h g = sym (g.1 (h.0 refl))
+same-test false true h g = h.1 (g.0 refl)
+same-test false false h g = refl
+
+-- what a walk over a net tells
+pub spelled-told : (net : Built) (v : List ℕ) (told : Bool) → All IsEntry net.table → IsTrue told ↔ Spells net.table net.label v → disposition_field Two told ≡ field_by (BySpelling net) v
+spelled-told net v told well h = ap (disposition_field Two) (same-test told (list_any (bytes_eq v) (spelled net.table net.label)) h (spells-test net.table net.label v well))
+
+-- ---- the sources stay
+
+Contains-map : (f : Entry → Entry) (entries : List Entry) (e : Entry) → Contains entries e → Contains (map f entries) (f e)
+Contains-map f [] e h = absurd (Contains-none e h)
+Contains-map f (x ∷ entries) e h = elim (Contains-cases x entries e h) [
+  | inl same ↦ subst (λ (y : Entry). Contains (f x ∷ map f entries) (f y)) same (Contains-head (f x) (map f entries))
+  | inr later ↦ Contains-later (f x) (map f entries) (f e) (Contains-map f entries e later)
+]
+
+kept_pieces : (entries segmentation : List Entry) → AllByRecursion (Contains entries) segmentation → AllByRecursion (Contains (unblocked entries)) (unblocked segmentation)
+kept_pieces entries [] h = tt
+kept_pieces entries (e ∷ segmentation) h = (Contains-map unblocked_entry entries e h.0, kept_pieces entries segmentation h.1)
+
+kept_sources : (segmentation : List Entry) → flat_map (λ e. e.source) (unblocked segmentation) ≡ flat_map (λ e. e.source) segmentation
+kept_sources [] = refl
+kept_sources (e ∷ segmentation) = ap (λ xs. e.source ++ xs) (kept_sources segmentation)
+
+-- a label that can be cut into sources of a table can be cut into those of the table without its blocked variants
+pub still_cut : (entries : List Entry) (label : List ℕ) → HasSegmentation entries label → HasSegmentation (unblocked entries) label
+still_cut entries label h = (unblocked h.0, record { of_table = kept_pieces entries h.0 h.1.of_table; joined = kept_sources h.0 ∙ h.1.joined })
+
+-- a label may itself be allocated
+pub spells_itself : (entries : List Entry) (label : List ℕ) → HasSegmentation entries label → Spells (unblocked entries) label label
+spells_itself entries label h = let kept = still_cut entries label h in Spells-itself (unblocked entries) kept.0 label kept.1
+
+pub label-allocatable : (entries : List Entry) (label : List ℕ) → All IsEntry entries → HasSegmentation entries label → is_allocatable entries label label ≡ true
+label-allocatable entries label well h = (spells-test (unblocked entries) label label (well_formed_kept entries well)).1 (spells_itself entries label h)
+
+pub can_be_cut : (table : TableValue) (told : Dispositions TableValue) (label : List ℕ) → AreOfTable table told → HasSegmentation table.entries label → CanBeCut told label
+can_be_cut table Unstated label is h = tt
+can_be_cut table AllAllocatable label is h = tt
+can_be_cut table (BySpelling other) label is h = subst (λ (t : List Entry). HasSegmentation t label) (sym is.1) (still_cut table.entries label h)
+
+-- ---- the field that is told is that of the table
+
+field-is : (table : TableValue) (label v : List ℕ) (told : Dispositions Built) → AreOfLabel table label told → Contains (spelled table.entries label) v → field_by told v ≡ disposition table label v
+field-is table label v Unstated is h = ap (λ (n : Version). disposition_field n (is_allocatable table.entries label v)) (sym is)
+field-is table label v AllAllocatable is h =
+    ap (disposition_field Two) (sym (ap (λ (t : List Entry). list_any (bytes_eq v) (spelled t label)) is.1 ∙ member-found v (spelled table.entries label) h))
+    ∙ ap (λ (n : Version). disposition_field n (is_allocatable table.entries label v)) (sym is.0)
+field-is table label v (BySpelling net) is h =
+    ap (λ (n : Built). field_by (BySpelling n) v) is.1
+    ∙ ap (λ (n : Version). disposition_field n (is_allocatable table.entries label v)) (sym is.0)
+
+map-same : (f g : List ℕ → List ℕ) (vs : List (List ℕ)) → AllByRecursion (λ v. f v ≡ g v) vs → map f vs ≡ map g vs
+map-same f g [] same = refl
+map-same f g (v ∷ vs) same = ap (λ w. w ∷ map f vs) same.0 ∙ ap (λ ws. g v ∷ ws) (map-same f g vs same.1)
+
+all_members : (P : List ℕ → Type 0) (vs : List (List ℕ)) → ((v : List ℕ) → Contains vs v → P v) → AllByRecursion P vs
+all_members P [] h = tt
+all_members P (v ∷ vs) h = (h v (Contains-head v vs), all_members P vs (λ w c. h w (Contains-later v vs w c)))
+
+kept_all : (P : List ℕ → Type 0) (test : List ℕ → Bool) (vs : List (List ℕ)) → AllByRecursion P vs → AllByRecursion P (filter test vs)
+kept_all P test [] all = tt
+kept_all P test (v ∷ vs) all = by_test (test v) (kept_all P test vs all.1)
+  where
+    by_test : (b : Bool) → AllByRecursion P (filter test vs) → AllByRecursion P (if b then v ∷ filter test vs else filter test vs)
+    by_test true rest = (all.0, rest)
+    by_test false rest = rest
+
+up_to-all : (P : List ℕ → Type 0) (stop : Option (List ℕ)) (vs : List (List ℕ)) → AllByRecursion P vs → AllByRecursion P (up_to stop vs)
+up_to-all P None vs all = all
+up_to-all P (Some b) vs all = kept_all P (λ v. is_le (label_cmp v b)) vs all
+
+-- the block by the fields that are told is the block
+told-block : (o : Settings) (table : TableValue) (label : List ℕ) (told : Dispositions Built) → AreOfLabel table label told
+    → block_by (field_by told) o table.entries label ≡ block_by (disposition table label) o table.entries label
+told-block o table label told is =
+    let vs = variants_after o table.entries label in
+    let stop = stop_of o table.entries label in
+    let same : AllByRecursion (λ v. variant_line (field_by told v) v ≡ variant_line (disposition table label v) v) vs =
+    all_members (λ v. variant_line (field_by told v) v ≡ variant_line (disposition table label v) v) vs
+    (λ v at. ap (λ field. variant_line field v) (field-is table label v told is (((variants-IsListed is_registrable table.entries label o.after).members v).0 at).spelled)) in
+    ap (λ lines. lines ++ trailer (length (up_to stop vs)) stop ∷ [])
+    (map-same (λ v. variant_line (field_by told v) v) (λ v. variant_line (disposition table label v) v) (up_to stop vs) (up_to-all _ stop vs same))
+
+-- what is written of a net is the block
+pub written_block : (o : Settings) (table : TableValue) (label : List ℕ) (net : Built) (told : Dispositions Built) → net ≡ record { table = table.entries; label = label } → AreOfLabel table label told
+    → output_lines (block_by (field_by told) o net.table net.label) ≡ output_lines (block o table label)
+written_block o table label net told same is = ap (λ (n : Built). output_lines (block_by (field_by told) o n.table n.label)) same ∙ ap output_lines (told-block o table label told is)
+
+-- ---- the field that computes is the field
+
+pub disposition-IsDisposition : (table : TableValue) (label v : List ℕ) → All IsEntry table.entries → IsDisposition table label v (disposition table label v)
+disposition-IsDisposition table label v well = by_version table.version
+  where
+    tests : (is_allocatable table.entries label v ≡ true) ↔ Spells (unblocked table.entries) label v
+    tests = spells-test (unblocked table.entries) label v (well_formed_kept table.entries well)
+
+    by_test : (b : Bool) → is_allocatable table.entries label v ≡ b → IsFieldOf Two (Spells (unblocked table.entries) label v) (disposition_field Two b)
+    by_test true e = inl (tests.0 e, refl)
+    by_test false e = inr (λ spells. (let bad : false ≡ true = sym e ∙ tests.1 spells in cc), refl)
+
+    by_version : (n : Version) → IsFieldOf n (Spells (unblocked table.entries) label v) (disposition_field n (is_allocatable table.entries label v))
+    by_version One = refl
+    by_version Two = by_test (is_allocatable table.entries label v) refl
+
+-- ---- laws
+
+pub disposition-one : (table : TableValue) (label v : List ℕ) → table.version ≡ One → disposition table label v ≡ []
+disposition-one table label v is = ap (λ (n : Version). disposition_field n (is_allocatable table.entries label v)) is
+
+allocatable-field : (table : TableValue) (label v : List ℕ) → table.version ≡ Two → is_allocatable table.entries label v ≡ true → disposition table label v ≡ codes "\tallocatable"
+allocatable-field table label v is told = ap (λ (n : Version). disposition_field n (is_allocatable table.entries label v)) is ∙ ap (disposition_field Two) told
+
+pub disposition-itself : (table : TableValue) (label : List ℕ) → table.version ≡ Two → IsWellFormed table.entries → HasSegmentation table.entries label → disposition table label label ≡ codes "\tallocatable"
+disposition-itself table label is formed has = allocatable-field table label label is (label-allocatable table.entries label formed.entries has)
+
+pub disposition-none_blocked : (table : TableValue) (label v : List ℕ) → table.version ≡ Two → IsWellFormed table.entries → has_blocked table.entries ≡ false → Spells table.entries label v
+    → disposition table label v ≡ codes "\tallocatable"
+disposition-none_blocked table label v is formed none spells =
+    allocatable-field table label v is
+    (ap (λ (t : List Entry). list_any (bytes_eq v) (spelled t label)) (unblocked_none table.entries none) ∙ (spells-test table.entries label v formed.entries).1 spells)
+
+-- what a sequence that is not blocked replaces, it replaces with the blocked ones there
+kept-variant : (variants : List Variant) (s : List ℕ) → Contains (sequences_in (filter (λ v. not v.blocked) variants)) s → Contains (sequences_in variants) s
+kept-variant [] s h = h
+kept-variant (v ∷ variants) s h = by_mark v.blocked h (kept-variant variants s)
+  where
+    by_mark : (b : Bool) → Contains (sequences_in (if not b then v ∷ filter (λ v. not v.blocked) variants else filter (λ v. not v.blocked) variants)) s
+        → (Contains (sequences_in (filter (λ v. not v.blocked) variants)) s → Contains (sequences_in variants) s) → Contains (sequences_in (v ∷ variants)) s
+    by_mark true at go = Contains-later v.sequence (sequences_in variants) s (go at)
+    by_mark false at go = elim (Contains-cases v.sequence (sequences_in (filter (λ v. not v.blocked) variants)) s at) [
+      | inl same ↦ subst (Contains (v.sequence ∷ sequences_in variants)) same (Contains-head v.sequence (sequences_in variants))
+      | inr later ↦ Contains-later v.sequence (sequences_in variants) s (go later)
+    ]
+
+kept-replacement : (e : Entry) (s : List ℕ) → Contains (replacements (unblocked_entry e)) s → Contains (replacements e) s
+kept-replacement e s h = elim (Contains-cases e.source (sequences_in (unblocked_entry e).variants) s h) [
+  | inl same ↦ subst (Contains (replacements e)) same (Contains-head e.source (sequences_in e.variants))
+  | inr later ↦ Contains-later e.source (sequences_in e.variants) s (kept-variant e.variants s later)
+]
+
+-- the entry that an entry without its blocked variants comes from
+whole-entry : (entries : List Entry) (x : Entry) → Contains (unblocked entries) x → (e : Entry) × Contains entries e × (unblocked_entry e ≡ x)
+whole-entry [] x h = absurd (Contains-none x h)
+whole-entry (e ∷ entries) x h = elim (Contains-cases (unblocked_entry e) (unblocked entries) x h) [
+  | inl same ↦ (e, Contains-head e entries, same)
+  | inr later ↦ let rest = whole-entry entries x later in (rest.0, Contains-later e entries rest.0 rest.1, rest.2)
+]
+
+still_joined : (entries segmentation : List Entry) (v : List ℕ) → AllByRecursion (Contains (unblocked entries)) segmentation → JoinsReplacements segmentation v
+    → Spells entries (flat_map (λ e. e.source) segmentation) v
+still_joined entries [] v of_table joins = subst (Spells entries []) (sym joins) (Spells-nothing entries)
+still_joined entries (x ∷ segmentation) v of_table joins =
+    let whole = whole-entry entries x of_table.0 in
+    let later : List ℕ = flat_map (λ e. e.source) segmentation in
+    let rest = still_joined entries segmentation joins.1 of_table.1 joins.3 in
+    let replaces : Contains (replacements whole.0) joins.0 = kept-replacement whole.0 joins.0 (subst (λ (y : Entry). Contains (replacements y) joins.0) (sym whole.2) joins.2) in
+    subst (λ (y : Entry). Spells entries (y.source ++ later) v) whole.2
+    (subst (Spells entries (whole.0.source ++ later)) (sym joins.4) (Spells-piece entries whole.0 later joins.0 joins.1 whole.1 replaces rest))
+
+pub spelled_still : (entries : List Entry) (label v : List ℕ) → Spells (unblocked entries) label v → Spells entries label v
+spelled_still entries label v s = subst (λ l. Spells entries l v) s.1.joined (still_joined entries s.0 v s.1.of_table s.2)

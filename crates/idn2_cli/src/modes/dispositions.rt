@@ -1,0 +1,85 @@
+//! The dispositions of variants: which may be allocated, and which are blocked (RFC 7940 section 7.3).
+
+ghost use Rattle.std.specs.Prelude.{◌≡◌, ◌≤◌, length, IfOk};
+ghost use Rattle.variant_table.specs.Entries.{TableValue};
+ghost use Rattle.variant_table.specs.declared.version.Version.TheVariants.{Two};
+ghost use Rattle.idn2_cli.specs.Answers.{disposition_field};
+ghost use Rattle.idn2_cli.specs.Inner.{AreOfTable, AreOfLabel, CanBeCut, TellsWell, field_by};
+
+use std::alloc::{AllocError, Global};
+use variant_list::{Net, NetFault};
+use variant_table::Table;
+
+/// What tells the dispositions of variants, where need be by a table without its blocked variants, or by
+/// the net of such a table.
+#[derive(Drop)]
+pub(crate) enum Dispositions<T> {
+    /// None is told: the table is of version 1.
+    Unstated,
+    /// Each variant may be allocated: the table has no blocked one.
+    AllAllocatable,
+    /// What is spelled by this may be allocated, and nothing else.
+    BySpelling(T),
+}
+
+impl Dispositions<Table> {
+    /// What tells the dispositions of a table's variants.
+    pub fn of_table(alloc: Global, table: &Table) -> Result<Self, AllocError>
+        ensures { IfOk result (AreOfTable table.now) }
+    {
+        if table.version() == 1 {
+            return Ok(Dispositions::Unstated);
+        }
+        if !table.has_blocked() {
+            return Ok(Dispositions::AllAllocatable);
+        }
+        Ok(Dispositions::BySpelling(table.unblocked(alloc)?))
+    }
+
+    /// What tells those of a label's variants.
+    pub fn of_label(&self, alloc: Global, label: &[u32]) -> Result<Dispositions<Net>, AllocError>
+        requires some { 1 ≤ length label.now }
+        requires short { length label.now ≤ 63 }
+        requires cut { CanBeCut self.now label.now }
+        ensures label { (table : TableValue) → AreOfTable table self.now → IfOk result (AreOfLabel table label.now) }
+        ensures net { IfOk result TellsWell }
+    {
+        match self {
+            Dispositions::Unstated => Ok(Dispositions::Unstated),
+            Dispositions::AllAllocatable => Ok(Dispositions::AllAllocatable),
+            Dispositions::BySpelling(table) => match Net::build(alloc, table, label) {
+                Ok(net) => Ok(Dispositions::BySpelling(net)),
+                Err(NetFault::Memory) => Err(AllocError),
+                // Blocked variants are left out, and no source.
+                Err(NetFault::NotInTable) => unreachable!(),
+            },
+        }
+    }
+}
+
+impl Dispositions<Net> {
+    /// The third field of a variant's line, with the tab before it; nothing where none is told.
+    pub fn field(&self, alloc: Global, variant: &[u32]) -> Result<&'static str, AllocError>
+        requires { TellsWell self.now }
+        ensures field { IfOk result (λ field. field.now ≡ field_by self.now variant.now) }
+        ensures short { IfOk result (λ field. length field.now ≤ 16) }
+    {
+        match self {
+            Dispositions::Unstated => Ok(""),
+            Dispositions::AllAllocatable => Ok(field_of(true)),
+            Dispositions::BySpelling(net) => Ok(field_of(net.spells(alloc, variant)?)),
+        }
+    }
+}
+
+/// The third field in version 2, with the tab before it.
+fn field_of(is_allocatable: bool) -> &'static str
+    ensures field { result.now ≡ disposition_field Two is_allocatable }
+    ensures short { length result.now ≤ 16 }
+{
+    if is_allocatable {
+        "\tallocatable"
+    } else {
+        "\tblocked"
+    }
+}
