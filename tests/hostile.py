@@ -74,8 +74,6 @@ CASES = [
     Case(["--variants", "table"], b"05D0|0061\n05D1\n", [("אב\n", "אב\txn--4dbc\n#end 1\n", "")], 0),
     Case(["--variants", "table"], b"0627\n0660|06F0\n",
          [("\u0627\u0660\u0660\n", "\u0627\u0660\u0660\txn--mgb8ia\n\u0627\u06f0\u06f0\txn--mgb61ba\n#end 2\n", "")], 0),
-    Case(["--variants", "table"], b"%version 2\n0061|!0062:00DF\n",
-         [("a\n", "a\ta\tallocatable\nb\tb\tblocked\nß\txn--zca\tallocatable\n#end 3\n", "")], 0),
     Case(["--variants", "table"], b"0061|\n", [("", "", "idn2: table line 1: 30 table syntax\n")], 2),
     Case(["--variants", "table"], b"0061\n0061\n", [("", "", "idn2: table line 2: 31 source given twice\n")], 2),
     Case(["--variants", "table"], b"", [("a\n", "", "idn2: line 1: 40 not made of table entries\n")], 1),
