@@ -65,6 +65,7 @@ bench: all
 # IDNA test file where IDNA_TEST_FILE names it.
 conformance: all
 	python3 conformance/compare.py
+	python3 conformance/worked_rows.py
 	python3 conformance/check_tables.py
 	python3 conformance/idna_test.py
 

@@ -49,19 +49,44 @@ EDGES = [
     b"0061|0061-0061\n", b"0061|0062:0063\n", b"0061|0062\n0062|0061:0063\n0063|0062\n", b"0061|0062\n0062|0061\n",
 ]
 
+VERSION_LINES = [b"%version 2\n", b"%version 2\r\n"]
+# Behind a version line, where each text of EDGES is tried, too.
+EDGES_OF_VERSION_2 = [
+    b"0061..0063\n", b"0061..0061\n", b" U+0061 .. 0063 \r\n", b"0061 . . 0063\n", b"0061...0063\n", b"0061.0063\n",
+    b"0061..\n", b"..0061\n", b"0063..0061\n", b"0061..0062..0063\n", b"0061-0062..0063\n", b"0061..0062-0063\n",
+    b"0061..0062|0063\n", b"0061..0062:0063\n", b"0061|0062..0063\n", b"!0061..0062\n", b"0061..!0062\n",
+    b"0061..0063 #\n", b"0061..00063\n", b"0061..D7FF\n", b"D7FF..E000\n", b"D800..DFFF\n", b"0061..D800\n",
+    b"DFFF..E000\n", b"10FFFF..10FFFF\n", b"0061..110000\n", b"005A..0061\n", b"0061..007B\n", b"002D..002D\n",
+    b"0061..0063\n0062\n", b"0062\n0061..0063\n", b"0061..0063\n0063..0065\n", b"0061..0063\n0064..0066\n",
+    b"0061-0062\n0061..0063\n", b"0041..1041\n", b"0041..1040\n", b"4E00..5DFF\n", b"4E00..5E00\n",
+    b"0061\n4E00..5DFF\n", b"0061\n4E00..5DFE\n", b"4E00..5DFF\n0061|\n", b"4E00..5DFF\n0041\n", b"0061|!0062\n",
+    b"0061|! 0062\n", b"0061|!\t0062 : !0063\n", b"0061|!!0062\n", b"0061|!\n", b"0061|0062!\n", b"0061!0062\n",
+    b"0061!|0062\n", b"!0061|0062\n", b"!0061\n", b"!\n", b"0061|0062-!0063\n", b"0061|!0062-0063\n",
+    b"0061|0062:!0062\n", b"0061|!0062:!0062\n", b"0061|!0061\n", b"0061|!0041\n", b"0061|!0062\n0062|0061\n",
+    b"0061|!0062\n0062\n", b"0061|!0062\n0062|!0061:!0063\n0063|0062\n",
+    b"0061|" + b":".join(b"!" + point for point in MANY[:16]),
+    b"0061|" + b":".join(b"!" + point for point in MANY[:17]), b"0061|!" + b"-".join([b"0062"] * 8),
+    b"0061|!" + b"-".join([b"0062"] * 9), b"%version 2\n", b"%\n", b" %version 2\n", b"\n\n%version 2\n",
+    b"# %version 2\n",
+]
+
 
 def random_text(chance):
-    """A table of few sequences, so that they meet; at times with a damaged byte."""
-    lines = []
+    """A table of few sequences, so that they meet; at times with a damaged byte. Half of them are of version 2."""
+    is_marked, lines = chance.random() < 0.5, []
+    mark = lambda sequence: chance.choice((b"", b"!", b"! ")) + sequence if is_marked else sequence
     for _ in range(chance.randint(1, 5)):
         sequences = [b"-".join(chance.choices([b"0061", b"0062", b"U+0063", b"00df"], k=chance.choice((1, 1, 1, 2))))
                      for _ in range(chance.choice((1, 2, 2, 3)))]
-        line = sequences[0] + (b"|" if sequences[1:] else b"") + b":".join(sequences[1:])
+        line = sequences[0] + (b"|" if sequences[1:] else b"") + b":".join(map(mark, sequences[1:]))
+        if is_marked and chance.random() < 0.3:
+            line = b"%04X..%04X" % (chance.randint(0x5F, 0x64), chance.randint(0x61, 0x68))
         lines.append(line + chance.choice((b"\n", b"\n", b" \n", b"\r\n")))
-    text = b"".join(lines)
+    text = (chance.choice(VERSION_LINES) if is_marked else b"") + b"".join(lines)
     if chance.random() < 0.3:
         place = chance.randrange(len(text))
-        text = text[:place] + chance.choice((b"", b"|", b"-", b":", b" ", b"#", b"\n", b"G", b"0")) + text[place + 1:]
+        damage = chance.choice((b"", b"|", b"-", b":", b" ", b"#", b"\n", b"G", b"0", b"!", b".", b".."))
+        text = text[:place] + damage + text[place + 1:]
     return text
 
 
@@ -91,7 +116,10 @@ def main():
 
     classes, chance = Classes(), random.Random(SEED)
     examples = {path.name: path.read_bytes() for path in sorted(TABLES.glob("*.txt"))}
-    texts = [*examples.values(), *EDGES, *(random_text(chance) for _ in range(options.random))]
+    version_2 = [VERSION_LINES[0] + text for text in (*EDGES, *EDGES_OF_VERSION_2)]
+    version_2 += [VERSION_LINES[1] + text for text in EDGES_OF_VERSION_2]
+    texts = [*examples.values(), *EDGES, *EDGES_OF_VERSION_2, *version_2]
+    texts += [random_text(chance) for _ in range(options.random)]
     wrong = 0
     for text in texts:
         given, wanted = answer_of(options.program, text), expected(text, classes)

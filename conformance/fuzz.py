@@ -43,6 +43,15 @@ WORDS = ["-l", "--lookup", "-r", "--register", "-d", "--decode", "-N", "--tr46nt
          "", "a", "aß", "1", "2", "1000000000", "1000000001", "--variants=table", "--check-table=table", "a\nb"]
 
 
+# Where ranges begin: the three code points behind each are letters or digits, too.
+RANGES = (0x30, 0x61, 0x62, 0x6B, 0xDF, 0x0430, 0x05D0, 0x0627, 0x0660, 0x06F0, 0x4E2D, 0x56FD)
+VERSION_LINE = "%version 2"
+FAULTY_LINES = ("0061|", "0041", "0061-0061-0061|0061-0061-0061", VERSION_LINE, "%version 3", "%", "0063..0061", "!0061|0062",
+                "0061..0063|0064", "0061|0062..0063", "0061-0062..0063", "0061...0063", "0061. .0063", "0061..D800",
+                "005A..0061", "D7FF..E000", "4E00..5E00", "4E00..5DFF", "0061|!!0062", "0061|!", "0061|0062:!0062",
+                "0061|!0061", "0061|!0041", "0061..0063", "0061|!0062")
+
+
 class Fuzz:
     def __init__(self, program, chance, folder):
         self.program, self.chance, self.folder = program, chance, pathlib.Path(folder)
@@ -116,18 +125,35 @@ class Fuzz:
         return "".join(self.chance.choices(letters, k=self.chance.choice((1, 1, 1, 2, longest))))
 
     def table(self, letters):
-        """The text of a table, and its sources. Now and then it has a fault."""
+        """The text of a table of either version, and its sources. Now and then it has a fault."""
         entries = {}
         for _ in range(self.chance.randint(1, 6)):
             source = self.sequence(letters)
             variants = {self.sequence(letters) for _ in range(self.chance.choice((0, 1, 1, 2, 3)))} - {source}
             if source not in entries:
                 entries[source] = sorted(variants, key=lambda _: self.chance.random())
-        lines = [spelled(source) + ("|" if variants else "") + ":".join(map(spelled, variants))
-                 for source, variants in entries.items()]
+        is_marked = self.chance.random() < 0.5
+        lines = [VERSION_LINE] if is_marked else []
+        marks = ("", "!", "! ") if is_marked else ("",)
+        for source, variants in entries.items():
+            marked = ":".join(self.chance.choice(marks) + spelled(variant) for variant in variants)
+            lines.append(spelled(source) + ("|" if variants else "") + marked)
+        if is_marked and self.chance.random() < 0.5:
+            entries.update(dict.fromkeys(self.range(entries, lines)))
         if self.chance.random() < 0.05:
-            lines.append(self.chance.choice(("0061|", "0041", "%version 2", "0061-0061-0061|0061-0061-0061", lines[0])))
-        return "\n".join(lines).encode(), list(entries)
+            lines.insert(self.chance.randint(0, len(lines)), self.chance.choice((*FAULTY_LINES, lines[-1])))
+        return self.chance.choice(("\n", "\n", "\r\n")).join(lines).encode(), list(entries)
+
+    def range(self, entries, lines):
+        """Puts a range without any of the sources into the lines, and answers its sources."""
+        first = self.chance.choice(RANGES)
+        last = first + self.chance.randint(0, 3)
+        sources = [chr(point) for point in range(first, last + 1)]
+        if any(source in entries for source in sources):
+            return []
+        space = self.chance.choice(("", "", " ", "\t"))
+        lines.insert(self.chance.randint(1, len(lines)), f"{first:04X}{space}..{space}{last:04X}")
+        return sources
 
     def variants(self):
         letters = self.chance.choice(ALPHABETS)
@@ -145,7 +171,8 @@ class Fuzz:
         table, _ = self.table(self.chance.choice(ALPHABETS))
         if self.chance.random() < 0.5:
             place = self.chance.randrange(len(table) + 1)
-            damage = self.chance.choice((b"|", b"-", b":", b" ", b"\t", b"#", b"\n", b"\r\n", b"U+", b"0", b"\0", b"\xff", b"."))
+            damage = self.chance.choice((b"|", b"-", b":", b" ", b"\t", b"#", b"\n", b"\r\n", b"U+", b"0", b"\0", b"\xff", b".",
+                                         b"..", b"!", b"%"))
             table = table[:place] + damage + table[place + self.chance.randint(0, 1):]
         return self.compare(["--check-table", "table"], b"", table)
 

@@ -173,9 +173,10 @@ class Run:
         fault = self.registration.first_fault(self.known(label))
         if fault is not None:
             return [], fault
-        spelled = self.spelled(table, label, {})
+        spelled = self.spelled(table.entries, label, {})
         if not spelled:
             return [], 40
+        fields = self.fields(table, label)
         after = sorted(each for each in spelled if each > options.after)
         candidates = [each for each in after if len(each) <= LABEL_LIMIT]
         variants = [each for each in candidates if self.registration.first_fault(self.known(each)) is None]
@@ -186,18 +187,26 @@ class Run:
         if stops:
             variants = [each for each in variants if each <= min(stops)]
         trailer = f"#stop {len(variants)} {min(stops)}" if stops else f"#end {len(variants)}"
-        return [f"{each}\t{a_label(each)}" for each in variants] + [trailer], None
+        return [f"{each}\t{a_label(each)}{fields(each)}" for each in variants] + [trailer], None
 
-    def spelled(self, table, label, known):
+    def fields(self, table, label):
+        """What stands behind the A-label of a variant: in version 2 whether it is allocatable, thus spelled without the
+        blocked variants of the table, or blocked."""
+        if table.version == 1:
+            return lambda variant: ""
+        allocatable = self.spelled(table.unblocked().entries, label, {})
+        return lambda variant: "\tallocatable" if variant in allocatable else "\tblocked"
+
+    def spelled(self, entries, label, known):
         """All labels that arise by cutting the label into sources and replacing each by itself or a variant."""
         if not label:
             return {""}
         if label not in known:
             found = set()
-            for source, variants in table.items():
+            for source, variants in entries.items():
                 begin = "".join(map(chr, source))
                 if label.startswith(begin):
-                    ends = self.spelled(table, label[len(begin):], known)
+                    ends = self.spelled(entries, label[len(begin):], known)
                     found |= {"".join(map(chr, first)) + end for first in (source, *variants) for end in ends}
             if len(found) > SPELLED_LIMIT:
                 raise Unknown

@@ -6,6 +6,7 @@ can be compared with it. For each table it prints what `idn2 --check-table` prin
 the message of the first faulty line. Status 0 if no table has a fault or a gap, else 1.
 """
 
+import dataclasses
 import re
 import sys
 
@@ -17,6 +18,8 @@ MOST_ENTRIES = 4096
 MOST_VARIANTS = 16
 MOST_POINTS = 8
 
+VERSION_LINE = b"%version 2"
+
 TEXTS = {
     30: "table syntax",
     31: "source given twice",
@@ -27,7 +30,13 @@ TEXTS = {
 
 POINT = rb"(?:[Uu]\+)?([0-9A-Fa-f]{4,6})"
 SEQUENCE = rb"%s(?:[ \t]*-[ \t]*%s)*" % (POINT, POINT)
-ENTRY = re.compile(rb"[ \t]*(%s)[ \t]*(?:\|[ \t]*(%s(?:[ \t]*:[ \t]*%s)*)[ \t]*)?" % (SEQUENCE, SEQUENCE, SEQUENCE))
+ENTRY = rb"[ \t]*(%s)[ \t]*(?:\|[ \t]*(%s(?:[ \t]*:[ \t]*%s)*)[ \t]*)?"
+BLOCKED = rb"(?:![ \t]*)?"
+ENTRIES = {
+    1: re.compile(ENTRY % (SEQUENCE, SEQUENCE, SEQUENCE)),
+    2: re.compile(ENTRY % (SEQUENCE, BLOCKED + SEQUENCE, BLOCKED + SEQUENCE)),
+}
+RANGE = re.compile(rb"[ \t]*%s[ \t]*\.\.[ \t]*%s[ \t]*" % (POINT, POINT))
 BLANK_OR_COMMENT = re.compile(rb"[ \t]*(#.*)?", re.DOTALL)
 
 
@@ -36,10 +45,33 @@ class TableFault(Exception):
         super().__init__(f"idn2: table line {line}: {number} {TEXTS[number]}")
 
 
+@dataclasses.dataclass
+class Table:
+    """Its entries in order: for each source its variants in order, each with whether it is blocked."""
+
+    version: int
+    entries: dict
+
+    def unblocked(self):
+        """The same sources without the blocked variants."""
+        kept = {source: {variant: False for variant, is_blocked in variants.items() if not is_blocked}
+                for source, variants in self.entries.items()}
+        return Table(self.version, kept)
+
+
 def raw_lines(text):
     """The bytes before each LF, and a rest that is not empty."""
     lines = text.split(b"\n")
     return lines if lines[-1] else lines[:-1]
+
+
+def without_return(raw):
+    """The line less one CR at its end."""
+    return raw[:-1] if raw.endswith(b"\r") else raw
+
+
+def version_of(text):
+    return 2 if without_return(text.split(b"\n")[0]) == VERSION_LINE else 1
 
 
 def sequence_of(text):
@@ -50,51 +82,75 @@ def is_scalar_value(point):
     return point <= 0x10FFFF and not 0xD800 <= point <= 0xDFFF
 
 
-def entry_of(line):
-    """The source and the variants of an entry line; None of any other line."""
-    match = ENTRY.fullmatch(line)
+def entries_of(line, version):
+    """The entries of a line, of which a range may have many: a source each, and (variant, is_blocked) in order. None of a
+    line that is no entry and no range."""
+    if version == 2 and (match := RANGE.fullmatch(line)):
+        first, last = (int(digits, 16) for digits in match.groups())
+        if first > last or not is_scalar_value(first) or not is_scalar_value(last):
+            return None
+        return [((point,), []) for point in range(first, last + 1)]
+    match = ENTRIES[version].fullmatch(line)
     if not match:
         return None
     # Groups 1 and 4 are the source and the variants; the others stand within them.
     source, variants = sequence_of(match.group(1)), match.group(4) or b""
-    entry = source, [sequence_of(part) for part in variants.split(b":") if part]
-    points = [point for sequence in (source, *entry[1]) for point in sequence]
-    return entry if all(map(is_scalar_value, points)) else None
+    variants = [(sequence_of(part), b"!" in part) for part in variants.split(b":") if part]
+    points = [point for sequence in (source, *(variant for variant, _ in variants)) for point in sequence]
+    return [(source, variants)] if all(map(is_scalar_value, points)) else None
 
 
 def read(text, classes):
-    """The table that the text spells, its entries in order; or a TableFault."""
-    table, end = {}, 0
+    """The table that the text spells; or a TableFault."""
+    version = version_of(text)
+    entries, end, size = {}, 0, len(VERSION_LINE) + 1
     for number, raw in enumerate(raw_lines(text), 1):
         end += len(raw) + 1
         if len(raw) > MOST_LINE_BYTES or end > MOST_TEXT_BYTES:
             raise TableFault(number, 34)
-        line = raw[:-1] if raw.endswith(b"\r") else raw
-        if BLANK_OR_COMMENT.fullmatch(line):
+        line = without_return(raw)
+        if BLANK_OR_COMMENT.fullmatch(line) or (number == 1 and version == 2):
             continue
-        entry = entry_of(line)
-        if entry is None:
+        more = entries_of(line, version)
+        if more is None:
             raise TableFault(number, 30)
-        source, variants = entry
-        sequences = [source, *variants]
-        too_long = any(len(sequence) > MOST_POINTS for sequence in sequences)
-        if too_long or len(variants) > MOST_VARIANTS or len(table) == MOST_ENTRIES:
+        size += sum(len(canonical_line(*entry)) + 1 for entry in more)
+        if len(entries) + len(more) > MOST_ENTRIES or (version == 2 and size > MOST_TEXT_BYTES):
             raise TableFault(number, 34)
-        if any(classes.of(point) not in MAY_STAND_IN_A_TABLE for sequence in sequences for point in sequence):
-            raise TableFault(number, 33)
-        if len(set(sequences)) < len(sequences):
-            raise TableFault(number, 32)
-        if source in table:
+        if fault := next(filter(None, (fault_of(source, variants, classes) for source, variants in more)), None):
+            raise TableFault(number, fault)
+        if any(source in entries for source, _ in more):
             raise TableFault(number, 31)
-        table[source] = variants
-    return table
+        entries.update((source, dict(variants)) for source, variants in more)
+    return Table(version, entries)
+
+
+def fault_of(source, variants, classes):
+    """The first fault of one entry by itself, or None. Where it is one of a range, there are no variants, so only a class
+    can be at fault."""
+    sequences = [source, *(variant for variant, _ in variants)]
+    if any(len(sequence) > MOST_POINTS for sequence in sequences) or len(variants) > MOST_VARIANTS:
+        return 34
+    if any(classes.of(point) not in MAY_STAND_IN_A_TABLE for sequence in sequences for point in sequence):
+        return 33
+    return 32 if len(set(sequences)) < len(sequences) else None
+
+
+def canonical_line(source, variants):
+    marked = ":".join("!" * is_blocked + spelled(variant) for variant, is_blocked in variants)
+    return spelled(source) + ("|" if variants else "") + marked
+
+
+def canonical_text(table):
+    head = VERSION_LINE.decode() + "\n" if table.version == 2 else ""
+    return head + "".join(canonical_line(source, variants.items()) + "\n" for source, variants in table.entries.items())
 
 
 def gaps(table):
-    """The pairs that symmetry or transitivity asks for and that the table lacks, in order."""
-    pairs = {(source, variant) for source, variants in table.items() for variant in variants}
+    """The pairs that symmetry or transitivity asks for and that the table lacks, in order. Marks count for nothing."""
+    pairs = {(source, variant) for source, variants in table.entries.items() for variant in variants}
     asked = {(variant, source) for source, variant in pairs}
-    asked |= {(a, b) for a, c in pairs for b in table.get(c, ())}
+    asked |= {(a, b) for a, c in pairs for b in table.entries.get(c, ())}
     return sorted((a, b) for a, b in asked - pairs if a != b)
 
 
@@ -110,7 +166,7 @@ def check(text, classes):
         return [str(fault)], False
     missing = gaps(table)
     lines = [f"missing {spelled(a)}|{spelled(b)}" for a, b in missing]
-    return lines + [f"#table {len(table)} {len(missing)}"], not missing
+    return lines + [f"#table {len(table.entries)} {len(missing)}"], not missing
 
 
 def main(paths):

@@ -30,7 +30,7 @@ MOST_VARIANTS = 16
 MOST_POINTS = 8
 
 # The version of the tables that are made if no option says which.
-DEFAULT_VERSION = 1
+DEFAULT_VERSION = 2
 VERSION_LINE = "%version 2\n"
 
 BLOCKED, ALLOCATABLE = "blocked", "allocatable"
@@ -379,7 +379,8 @@ def table_of(data, options):
 def options_of(words):
     parser = argparse.ArgumentParser(description="Makes a variant table from a ruleset of RFC 7940 or RFC 4290.")
     parser.add_argument("file", metavar="FILE")
-    parser.add_argument("--version", type=int, choices=(1, 2), default=DEFAULT_VERSION, help="of the table's notation")
+    parser.add_argument("--version", type=int, choices=(1, 2), default=DEFAULT_VERSION,
+                        help=f"of the table's notation [default: {DEFAULT_VERSION}]")
     parser.add_argument("--untyped", choices=(BLOCKED, ALLOCATABLE), default=BLOCKED,
                         help="what variants without a type are in version 2 [default: blocked]")
     parser.add_argument("--leave-out", action="store_true", help="leave out what a table can't say, and tell of it")

@@ -31,21 +31,26 @@ UMLAUTS = (0x00E4, 0x00F6, 0x00FC)
 MOST_VARIANTS = 16
 MOST_ENTRIES = 4096
 
+# A range stands for at least so many entries.
+LEAST_RANGE = 3
+
 GERMAN = """\
-# German: the sharp s and the double s as each other's variants.
+# German: the sharp s and the double s as each other's variants, both allocatable.
 #
 # Made by tables/make.py from CaseFolding.txt of Unicode {version}, whose full case folding of the sharp s,
 # 'LATIN SMALL LETTER SHARP S', is the double s. The letters are those of the German alphabet.
 # Every code point that a label may have is an entry: the hyphen, the digits, a to z, three umlauts, the sharp s.
+# The holder of a label may have it in the other spelling, too, since some write it with the sharp s, some without.
 """
 
 ARABIC = """\
-# Arabic script: the Arabic-Indic and the extended Arabic-Indic digits as each other's variants.
+# Arabic script: the Arabic-Indic and the extended Arabic-Indic digits as each other's variants, all blocked.
 #
 # Made by tables/make.py from Unicode {version}: the digits of equal value in UnicodeData.txt; the letters that
 # NamesList.txt has under 'Based on ISO 8859-6', for Arabic, and those that it marks as used for Persian or Urdu.
 # A label never mixes the two kinds of digits (RFC 5892, appendices A.8 and A.9). So a label of letters and then
-# digits has two variants, however many digits it has.
+# digits has two variants, however many digits it has. The one in the other digits is for nobody: most of the digits of
+# equal value look the same.
 """
 
 HAN = """\
@@ -64,10 +69,10 @@ def spelled(sequence):
 
 
 class Table:
-    """Entries in the order in which they were added."""
+    """Entries in the order in which they were added. Version 2 has ranges, and marks variants that are blocked."""
 
-    def __init__(self):
-        self.variants = {}
+    def __init__(self, version, is_blocking=False):
+        self.version, self.mark, self.variants = version, "!" if is_blocking else "", {}
 
     def add(self, source, variants=()):
         if source in self.variants:
@@ -91,16 +96,34 @@ class Table:
         if len(self.variants) > MOST_ENTRIES or max(map(len, self.variants.values())) > MOST_VARIANTS:
             raise SystemExit("a table limit is passed")
 
-    def text(self):
-        lines = []
-        for source, variants in self.variants.items():
-            bar = "|" if variants else ""
-            lines.append(f"{spelled(source)}{bar}{':'.join(map(spelled, variants))}\n")
+    def text(self, head):
+        lines = ["%version 2\n"] if self.version == 2 else []
+        lines.append(head)
+        for run in self.runs():
+            if self.version == 2 and len(run) >= LEAST_RANGE:
+                lines.append(f"{spelled(run[0])}..{spelled(run[-1])}\n")
+            else:
+                lines += map(self.line, run)
         return "".join(lines)
+
+    def runs(self):
+        """The sources, those that may be one range together."""
+        runs, after = [], None
+        for source, variants in self.variants.items():
+            if source == after and not variants:
+                runs[-1].append(source)
+            else:
+                runs.append([source])
+            after = (source[0] + 1,) if len(source) == 1 and not variants else None
+        return runs
+
+    def line(self, source):
+        variants = ":".join(self.mark + spelled(variant) for variant in self.variants[source])
+        return spelled(source) + ("|" if variants else "") + variants + "\n"
 
 
 def german():
-    table = Table()
+    table = Table(version=2)
     table.add_points([HYPHEN, *ASCII_DIGITS, *ASCII_LETTERS, *UMLAUTS])
     table.add_set([(SHARP_S,), full_case_folding(SHARP_S)])
     return table, {}
@@ -115,7 +138,7 @@ def full_case_folding(point):
 
 
 def arabic_digits(classes):
-    table = Table()
+    table = Table(version=2, is_blocking=True)
     table.add_points([HYPHEN, *arabic_letters(classes)])
     for _, digits in sorted(digits_by_value((0x0660, 0x0669), (0x06F0, 0x06F9)).items()):
         table.add_set([(digit,) for digit in digits])
@@ -153,7 +176,7 @@ def han():
     pairs = set(simplified_and_traditional())
     taught = {point for point, _ in unicode_data.han_field("Unihan_DictionaryLikeData.txt", "kGradeLevel")}
     sets = [members for members in joined(pairs) if members & taught]
-    table = Table()
+    table = Table(version=1)
     in_a_set = {member: members for members in sets for member in members}
     for point in sorted(taught | in_a_set.keys()):
         table.add((point,), {(other,) for other in in_a_set.get(point, {point}) if other != point})
@@ -190,7 +213,7 @@ def main():
     }
     for name, (head, (table, numbers)) in tables.items():
         table.refuse_faults(classes)
-        text = head.format(version=unicode_data.version(), **numbers) + table.text()
+        text = table.text(head.format(version=unicode_data.version(), **numbers))
         (HERE / name).write_text(text, encoding="ascii", newline="\n")
         variants = sum(map(len, table.variants.values()))
         print(f"{name}: {len(table.variants)} entries, {variants} variants")

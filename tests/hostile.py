@@ -19,6 +19,9 @@ HYPHENS = b"0061|002D\n"
 SHARP_S = b"0061\n0065\n0072\n0073\n0074\n0073-0073|00DF\n00DF|0073-0073\n"
 BLOCK = "aa\taa\naaa\taaa\naaaa\taaaa\n#end 3\n"
 STRASSE = "strasse\tstrasse\nstraße\txn--strae-oqa\n#end 2\n"
+# Of version 2: in the first ß is blocked where ss stands, in the second nothing is blocked.
+BLOCKING = b"%version 2\n0061..0063\n0073-0073|!00DF:0078\n00DF|0073-0073\n"
+ALLOCATING = b"%version 2\n0061..0063\n0073-0073|00DF\n00DF|0073-0073\n"
 
 
 class Case(NamedTuple):
@@ -71,11 +74,16 @@ CASES = [
     Case(["--variants", "table"], b"05D0|0061\n05D1\n", [("אב\n", "אב\txn--4dbc\n#end 1\n", "")], 0),
     Case(["--variants", "table"], b"0627\n0660|06F0\n",
          [("\u0627\u0660\u0660\n", "\u0627\u0660\u0660\txn--mgb8ia\n\u0627\u06f0\u06f0\txn--mgb61ba\n#end 2\n", "")], 0),
-    Case(["--variants", "table"], b"%version 2\n0061|!0062:00DF\n",
-         [("a\n", "a\ta\tallocatable\nb\tb\tblocked\nß\txn--zca\tallocatable\n#end 3\n", "")], 0),
     Case(["--variants", "table"], b"0061|\n", [("", "", "idn2: table line 1: 30 table syntax\n")], 2),
     Case(["--variants", "table"], b"0061\n0061\n", [("", "", "idn2: table line 2: 31 source given twice\n")], 2),
     Case(["--variants", "table"], b"", [("a\n", "", "idn2: line 1: 40 not made of table entries\n")], 1),
+    Case(["--variants", "table"], BLOCKING,
+         [("ass\n", "ass\tass\tallocatable\nax\tax\tallocatable\naß\txn--a-qfa\tblocked\n#end 3\n", ""),
+          ("as\n", "", "idn2: line 2: 40 not made of table entries\n"),
+          ("aß\n", "ass\tass\tallocatable\naß\txn--a-qfa\tallocatable\n#end 2\n", "")], 1),
+    Case(["--variants", "table", "--limit", "1"], ALLOCATING, [("ass\n", "ass\tass\tallocatable\n#stop 1 ass\n", "")], 0),
+    Case(["--variants", "table"], b"%version 2\n0063..0061\n", [("", "", "idn2: table line 2: 30 table syntax\n")], 2),
+    Case(["--check-table", "table"], BLOCKING, [("", "missing 0078|0073-0073\nmissing 00DF|0078\n#table 5 2\n", "")], 1),
     Case(["--check-table", "table"], SHARP_S, [("", "#table 7 0\n", "")], 0),
     Case(["--check-table", "table"], DOUBLED, [("", "missing 0061-0061|0061\n#table 1 1\n", "")], 1),
     Case(["--check-table", "table"], b"0061|0062\n0062|0061:0063\n0063|0062\n",
@@ -215,26 +223,29 @@ def passes_over_candidates_that_are_too_long(folder):
     expect(["--variants", table, label], b"", f"{label}\t{label}\n#end 1\n".encode(), b"", 0)
 
 
-def sets_of_seventeen(count, length):
-    """A table of sets of 17 sequences of so many code points, which are all variants of each other."""
+def sets_of_seventeen(count, length, mark=""):
+    """A table of sets of 17 sequences of so many code points, which are all variants of each other. The mark stands before
+    the first variant of each entry."""
     lines = []
     for start in range(0, count - 16, 17):
         sequences = [points(chr(0x4E00 + number) * length) for number in range(start, start + 17)]
-        lines += [source + "|" + ":".join(each for each in sequences if each != source) for source in sequences]
+        lines += [source + "|" + mark + ":".join(each for each in sequences if each != source) for source in sequences]
     return "\n".join(lines).encode()
 
 
 def serves_the_largest_tables(folder):
-    """Tables of as many entries as there may be, and of as many sequences of eight code points as a text has room for."""
-    for count, length in ((4096, 1), (1541, 8)):
-        text = sets_of_seventeen(count, length)
+    """Tables of as many entries as there may be, and of as many sequences of eight code points as a text has room for. In
+    version 2 the first variant of each entry is blocked: here U+4E12."""
+    field = lambda label: "\tblocked" if "\u4e12" in label else "\tallocatable"
+    for count, length, is_version_2 in ((4096, 1, False), (1541, 8, False), (4096, 1, True), (1541, 8, True)):
+        text = sets_of_seventeen(count, length, "!" * is_version_2)
         entries = text.count(b"\n") + 1
-        table = table_file(folder, text)
+        table = table_file(folder, b"%version 2\n" * is_version_2 + text)
         assert within_a_second(["--check-table", table]).stdout == b"#table %d 0\n" % entries
         for label in ("\u4e11" * 8, "\u4e11" * 56):
             *variants, stop = within_a_second(["--variants", table, "--limit", "3"], label.encode()).stdout.decode().splitlines()
             listed = [line.split("\t")[0] for line in variants]
-            assert variants == [f"{each}\t{a_label(each)}" for each in listed], variants
+            assert variants == [f"{each}\t{a_label(each)}" + field(each) * is_version_2 for each in listed], variants
             assert len(listed) == 3 and listed == sorted(set(listed)) and stop == "#stop 3 " + listed[-1], (listed, stop)
 
 
@@ -245,6 +256,13 @@ def refuses_tables_over_a_limit(folder):
     for text, line in ((entries + b"5E00\n", 4097), (b"#" * 1025 + b"\n", 1), (b"#" * 1024 + b"\r\n", 1)):
         expect(["--check-table", table_file(folder, text)], b"", b"", over(line).encode(), 2)
     expect(["--check-table", table_file(folder, b"#" * 1024 + b"\n")], b"", b"#table 0 0\n", b"", 0)
+    # 1,530 entries of 680 bytes, and a range: with 1,633 code points its canonical text just keeps its limit.
+    full = b"%version 2\n" + sets_of_seventeen(1541, 8) + b"\n4E00.."
+    expect(["--check-table", table_file(folder, full + b"5460")], b"", b"#table 3163 0\n", b"", 0)
+    expect(["--check-table", table_file(folder, full + b"5461")], b"", b"", over(1532).encode(), 2)
+    for text, line in ((b"4E00..5E00", 2), (b"0061\n4E00..5DFF", 3), (b"0000..10FFFF", 2), (b"#" * 1025, 2)):
+        expect(["--check-table", table_file(folder, b"%version 2\n" + text)], b"", b"", over(line).encode(), 2)
+    expect(["--check-table", table_file(folder, b"%version 2\n4E00..5DFF")], b"", b"#table 4096 0\n", b"", 0)
 
 
 def serves_a_table_cut_in_its_last_line(folder):
@@ -309,10 +327,12 @@ def serves_lines_with_bytes_out_of_place(folder):
 def tells_of_memory_within_any_address_space(folder):
     """In each mode the whole answer, or what stands of it in whole lines before refusal 70."""
     table = table_file(folder, sets_of_seventeen(4096, 1))
+    blocking = table_file(folder, b"%version 2\n" + sets_of_seventeen(4096, 1, "!"), "blocking.txt")
     lines = "faß\nq\u0301\nFaß\nxn--fa-hia\nxn--abc-\na\u0301\n".encode() * 40
-    listing = ["--variants", table, "--limit", "5"]
+    labels = ("\u4e10" * 9 + "\n").encode() * 3
+    listing = lambda table: ["--variants", table, "--limit", "5"]
     for words, given in ((["-l"], lines), (["-r"], lines), (["-d"], lines), (["--check-table", table], b""),
-                         (listing, ("\u4e10" * 9 + "\n").encode() * 3)):
+                         (listing(table), labels), (listing(blocking), labels)):
         whole, refused = run(words, given), 0
         assert whole.returncode in (0, 1), whole
         for space in range(2 << 20, 14 << 20, 128 << 10):
@@ -343,7 +363,8 @@ def pages(words, label):
 
 def lists_in_pages_what_it_lists_at_once(folder):
     rows = [(DOUBLED, "a" * 5), (HYPHENS, "a" * 6), (SHARP_S, "ssssss"), (b"0061-0062|0063\n0061|0062\n", "ababab"),
-            ("4E2D|4E2A\n56FD|570B\n570B|56FD\n4E2A|4E2D\n".encode(), "中国中国"), (b"0071|0061\n0301\n", "qqq\u0301")]
+            ("4E2D|4E2A\n56FD|570B\n570B|56FD\n4E2A|4E2D\n".encode(), "中国中国"), (b"0071|0061\n0301\n", "qqq\u0301"),
+            (BLOCKING, "ssaß")]
     for text, label in rows:
         words = ["--variants", table_file(folder, text)]
         *whole, end = run(words, label.encode()).stdout.splitlines()

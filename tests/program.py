@@ -109,6 +109,22 @@ def lists_variants(folder):
     expect(["--variants", table, "ab"], b"", b"", b"idn2: line 1: 40 not made of table entries\n", 1)
 
 
+def says_which_variants_are_blocked(folder):
+    """Under a table of version 2, where one segmentation without blocked variants is enough."""
+    table = table_file(folder, b"%version 2\n0061..0063\n0078|!0079:007A\n")
+    block = b"ax\tax\tallocatable\nay\tay\tblocked\naz\taz\tallocatable\n#end 3\n"
+    expect(["--variants", table, "ax"], b"", block, b"", 0)
+    expect(["--variants", table], b"ax\nay\nax\n", block * 2, b"idn2: line 2: 40 not made of table entries\n", 1)
+    expect(["--variants", table, "--limit", "2", "ax"], b"", block[:block.index(b"az")] + b"#stop 2 ay\n", b"", 0)
+    expect(["--variants", table, "--after", "ax", "ax"], b"", block[block.index(b"ay"):-2] + b"2\n", b"", 0)
+    table = table_file(folder, b"%version 2\r\n0061|!0062\r\n0061-0061|0062-0062\r\n")
+    block = b"aa\taa\tallocatable\nab\tab\tblocked\nba\tba\tblocked\nbb\tbb\tallocatable\n#end 4\n"
+    expect(["--variants", table, "aa"], b"", block, b"", 0)
+    # Without a blocked variant each line is allocatable; a label that is not in ASCII has its field behind its A-label.
+    table = table_file(folder, b"%version 2\n0073-0073|00DF")
+    expect(["--variants", table, "ss"], b"", "ss\tss\tallocatable\nß\txn--zca\tallocatable\n#end 2\n".encode(), b"", 0)
+
+
 def resumes_where_it_stopped(folder):
     """Runs of five tries each, every one from the stop of the one before, list what one run lists."""
     words = ["--variants", table_file(folder, b"0061|002D\n")]
@@ -160,32 +176,42 @@ def is_registrable(label):
     return 1 <= len(label) <= 63 and label[0] != "-" and label[-1] != "-" and label[2:4] != "--"
 
 
-def block_of(table, label):
-    """What is printed for a label, and the message for one that is refused, as a number."""
+def block_of(table, blocked, label, is_version_2):
+    """What is printed for a label, and the message for one that is refused, as a number. The pairs that are blocked are
+    left out of the table that tells what is allocatable."""
     if not is_registrable(label):
         return "", 18 if len(label) > 63 else 13
     variants = sorted(filter(is_registrable, spelled(table, label)))
     if not spelled(table, label):
         return "", 40
-    return "".join(f"{each}\t{each}\n" for each in variants) + f"#end {len(variants)}\n", None
+    free = {source: [each for each in variants if (source, each) not in blocked] for source, variants in table.items()}
+    allocatable = spelled(free, label)
+    field = lambda each: ("\tallocatable" if each in allocatable else "\tblocked") if is_version_2 else ""
+    return "".join(f"{each}\t{each}{field(each)}\n" for each in variants) + f"#end {len(variants)}\n", None
 
 
 def lists_what_sets_of_all_labels_list(folder):
-    """Blocks of 2,000 labels under 250 random tables, from a fixed seed, beside blocks made from whole sets."""
-    chance = random.Random(5891)
+    """Blocks of 2,000 labels under 250 random tables, from a fixed seed, beside blocks made from whole sets; and under the
+    same tables in version 2, with random variants blocked."""
+    chance, marks = random.Random(5891), random.Random(7940)
     sequence = lambda: "".join(chance.choices("ab-", weights=(4, 4, 1), k=chance.choice((1, 1, 2, 3))))
+    points = lambda text: "-".join(f"{ord(letter):04X}" for letter in text)
     for _ in range(250):
         table = {sequence(): {sequence() for _ in range(chance.randrange(3))} for _ in range(chance.randint(1, 5))}
         table = {source: sorted(variants - {source}) for source, variants in table.items()}
-        points = lambda text: "-".join(f"{ord(letter):04X}" for letter in text)
-        lines = [points(source) + ("|" if variants else "") + ":".join(map(points, variants))
-                 for source, variants in table.items()]
         labels = ["".join(chance.choices([*table, "ab"], k=chance.randint(1, 6))) for _ in range(8)]
-        blocks = [block_of(table, label) for label in labels]
-        done = run(["--variants", table_file(folder, "\n".join(lines).encode())], "\n".join(labels).encode())
-        assert done.stdout.decode() == "".join(block for block, _ in blocks), (lines, labels, done.stdout)
-        told = [int(message.split()[3]) for message in done.stderr.decode().splitlines()]
-        assert told == [number for _, number in blocks if number], (lines, labels, done.stderr)
+        pairs = [(source, variant) for source, variants in table.items() for variant in variants]
+        for is_version_2 in (False, True):
+            blocked = {pair for pair in pairs if is_version_2 and marks.random() < 0.5}
+            marked = lambda source, variant: "!" * ((source, variant) in blocked) + points(variant)
+            lines = ["%version 2"] if is_version_2 else []
+            lines += [points(source) + ("|" if variants else "") + ":".join(marked(source, each) for each in variants)
+                      for source, variants in table.items()]
+            blocks = [block_of(table, blocked, label, is_version_2) for label in labels]
+            done = run(["--variants", table_file(folder, "\n".join(lines).encode())], "\n".join(labels).encode())
+            assert done.stdout.decode() == "".join(block for block, _ in blocks), (lines, labels, done.stdout)
+            told = [int(message.split()[3]) for message in done.stderr.decode().splitlines()]
+            assert told == [number for _, number in blocks if number], (lines, labels, done.stderr)
 
 
 def checks_a_table(folder):
@@ -193,6 +219,32 @@ def checks_a_table(folder):
     expect(["--check-table", lacks_a_pair], b"", b"missing 0061-0061|0061\n#table 1 1\n", b"", 1)
     expect(["--check-table", table_file(folder, b"0061\n")], b"", b"#table 1 0\n", b"", 0)
     expect(["--check-table", table_file(folder, b"0061|\n")], b"", b"", b"idn2: table line 1: 30 table syntax\n", 2)
+
+
+def checks_a_table_of_version_2(folder):
+    for body, summary in ((b"", b"#table 0 0\n"), (b"0061..0063\n", b"#table 3 0\n"), (b"4E00..5DFF", b"#table 4096 0\n"),
+                          (b"0061|!0062\n0062|0061\n", b"#table 2 0\n")):
+        expect(["--check-table", table_file(folder, b"%version 2\n" + body)], b"", summary, b"", 0)
+    table = table_file(folder, b"%version 2\n0061|!0062\n0062\n")
+    expect(["--check-table", table], b"", b"missing 0062|0061\n#table 2 1\n", b"", 1)
+    texts = {30: "table syntax", 31: "source given twice", 32: "variant given twice",
+             33: "code point not allowed in a table", 34: "table limit"}
+    for text, line, number in (
+        (b"%version 3\n", 1, 30),
+        (b"0061\n%version 2\n", 2, 30),
+        (b"0061..0063\n", 1, 30),
+        (b"0061|!0062\n", 1, 30),
+        (b"%version 2\n0063..0061\n", 2, 30),
+        (b"%version 2\n!0061|0062\n", 2, 30),
+        (b"%version 2\n0061|0062..0063\n", 2, 30),
+        (b"%version 2\n0061|0062:!0062\n", 2, 32),
+        (b"%version 2\n005A..0061\n", 2, 33),
+        (b"%version 2\n0062\n0061..0063\n", 3, 31),
+        (b"%version 2\n4E00..5E00\n", 2, 34),
+    ):
+        message = f"idn2: table line {line}: {number} {texts[number]}\n".encode()
+        for words in (["--check-table", table_file(folder, text)], ["--variants", table_file(folder, text), "a"]):
+            expect(words, b"", b"", message, 2)
 
 
 def finds_no_gap_in_the_example_tables(folder):
@@ -364,7 +416,7 @@ def packs_what_a_server_needs(folder):
                  "tables/from_lgr.py", "docs/GUIDE.md", "CHANGELOG.md"):
         assert name in files, (name, files)
     words = [os.path.join(packed, "bin", "idn2"), "--variants", os.path.join(packed, "tables", "german.txt"), "aß"]
-    assert subprocess.run(words, capture_output=True, timeout=LIMIT).stdout.startswith(b"ass\tass\n")
+    assert subprocess.run(words, capture_output=True, timeout=LIMIT).stdout.startswith(b"ass\tass\tallocatable\n")
 
 
 def sessions_of(lines):
@@ -402,8 +454,9 @@ def prints_what_the_documents_show(folder):
     os.symlink(PROGRAM, os.path.join(folder, "idn2"))
     os.symlink(TABLES, os.path.join(folder, "tables"))
     path = folder + os.pathsep + os.environ["PATH"]
-    documents = {"README.md": markdown_blocks, "docs/GUIDE.md": markdown_blocks, "docs/idn2.1": manual_blocks}
-    for (name, blocks), least in zip(documents.items(), (8, 45, 6)):
+    documents = {"README.md": markdown_blocks, "docs/GUIDE.md": markdown_blocks, "docs/NOTATION.md": markdown_blocks,
+                 "docs/idn2.1": manual_blocks}
+    for (name, blocks), least in zip(documents.items(), (8, 45, 7, 6)):
         with open(os.path.join(ROOT, name), encoding="utf-8") as file:
             text = file.read()
         sessions = [session for block in blocks(text) for session in sessions_of(block)]
@@ -436,10 +489,12 @@ TESTS = [
     has_the_version_that_the_changes_name,
     needs_only_the_c_library,
     lists_variants,
+    says_which_variants_are_blocked,
     resumes_where_it_stopped,
     lists_any_number_of_lines_in_the_memory_of_ten,
     lists_what_sets_of_all_labels_list,
     checks_a_table,
+    checks_a_table_of_version_2,
     finds_no_gap_in_the_example_tables,
     reads_a_table_up_to_its_limit,
     refuses_files_that_cannot_be_read,

@@ -53,18 +53,17 @@ def check(folder, text):
     return done.stdout.decode() + done.stderr.decode()
 
 
-def program_reads_version_2(folder):
-    return run(["--check-table", table_file(folder, b"%version 2\n0061\n")]).returncode == 0
-
-
 def letters_digits_and_hyphen(folder):
     """RFC 7940, appendix A: a ruleset of a hyphen and two ranges."""
     path = os.path.join(RULESETS, "letters-digits-hyphen.xml")
     expect_entries(path, ["--version", "1"], "002D\n" + DIGITS + LETTERS)
-    expect_entries(path, ["--version", "2"], "%version 2\n002D\n0030..0039\n0061..007A\n")
-    text = make(path, "--version", "1")[0]
-    assert check(folder, text) == "#table 37 0\n", text
-    assert run(["--variants", table_file(folder, text.encode()), "a-1"]).stdout == b"a-1\ta-1\n#end 1\n"
+    for options in (["--version", "2"], []):
+        expect_entries(path, options, "%version 2\n002D\n0030..0039\n0061..007A\n")
+    for version, field in (("1", b""), ("2", b"\tallocatable")):
+        text = make(path, "--version", version)[0]
+        assert check(folder, text) == "#table 37 0\n", text
+        listed = run(["--variants", table_file(folder, text.encode()), "a-1"]).stdout
+        assert listed == b"a-1\ta-1" + field + b"\n#end 1\n", listed
 
 
 def rule_of_the_hyphen(folder):
@@ -99,12 +98,11 @@ def types_rules_and_conditions(folder):
     facts = "version 1; date 2010-01-01; language sv; scope example.com; unicode-version 6.3.0"
     assert f"# It says of itself: {facts}.\n" in text, text
     assert check(folder, text) == "#table 41 0\n"
-    if program_reads_version_2(folder):
-        text = make(path, "--version", "2", "--leave-out")[0]
-        assert check(folder, text) == "#table 41 0\n"
-        listed = run(["--variants", table_file(folder, text.encode()), "世"]).stdout.decode()
-        marks = [["世", "allocatable"], ["丗", "blocked"], ["卋", "allocatable"], ["#end 3"]]
-        assert [line.split("\t")[::2] for line in listed.splitlines()] == marks, listed
+    text = make(path, "--version", "2", "--leave-out")[0]
+    assert check(folder, text) == "#table 41 0\n"
+    listed = run(["--variants", table_file(folder, text.encode()), "世"]).stdout.decode()
+    marks = [["世", "allocatable"], ["丗", "blocked"], ["卋", "allocatable"], ["#end 3"]]
+    assert [line.split("\t")[::2] for line in listed.splitlines()] == marks, listed
 
 
 def variants_of_sequences(folder):
@@ -167,9 +165,11 @@ def limits(folder):
         (f'<char cp="{sequence(8)}"/>', "#table 1 0\n"),
         ('<range first-cp="4E00" last-cp="5DFF"/>', "#table 4096 0\n"),
     ):
-        assert check(folder, make(ruleset(folder, data), "--version", "1")[0]) == summary, data
-    text = make(ruleset(folder, f'<char cp="0062">{variants(16)}</char>'), "--version", "1")[0]
-    assert check(folder, text).endswith("#table 1 16\n"), text
+        for version in "12":
+            assert check(folder, make(ruleset(folder, data), "--version", version)[0]) == summary, (version, data)
+    for version in "12":
+        text = make(ruleset(folder, f'<char cp="0062">{variants(16)}</char>'), "--version", version)[0]
+        assert check(folder, text).endswith("#table 1 16\n"), text
 
 
 def faults_of_the_file(folder):
