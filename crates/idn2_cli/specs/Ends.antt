@@ -121,7 +121,7 @@ pub record StopsUnread (job : Job) (why : Stop) (lines : List Numbered) (start n
 -- where a read stops a job, all pieces of the lines that it read stand, which are those that a line feed ends; where a write or
 -- memory does, it stops at once, and no line is read after that
 abbrev pub Stands : Job → Stop → List Numbered → Reading → Reading → List Piece → Type 0
-Stands job stop.Reading lines start now written = HasStopped now × (now.state ≡ Stopped) × (written ≡ job.pieces lines)
+Stands job stop.Reading lines start now written = HasStopped start now × (now.state ≡ Stopped) × (written ≡ job.pieces lines)
 Stands job why lines start now written = StopsAtLine job why lines now written ⊎ StopsUnread job why lines start now written
 
 -- to a stop: of the pieces stands what it left
