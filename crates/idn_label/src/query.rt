@@ -1,12 +1,10 @@
 //! Lookup of a name.
-ghost use Rattle.std.specs.Prelude.{◌≡◌, ◌≢◌, ◌≤◌, ◌⊎◌, string_bytes, Err, IfOk, OnOk};
+ghost use Rattle.std.specs.Prelude.{◌≡◌, ◌≢◌, ◌≤◌, string_bytes, Err, IfOk, OnOk};
 ghost use Rattle.arrayvec.specs.ArrayVec.{array_vec_len};
-ghost use Rattle.idna.specs.Display.{IsPlain};
-ghost use Rattle.idna.specs.declared.options.Hyphens.TheVariants.{Allow};
 ghost use Rattle.idn_text.specs.Points.{AreScalarValues, utf8_of};
 ghost use Rattle.idn_label.specs.Answers.{Gives};
-ghost use Rattle.idn_label.specs.LdhNames.{IsLdhName};
-ghost use Rattle.idn_label.specs.Lookup.{deny_list, utf8_answer, lookup_answer};
+ghost use Rattle.idn_label.specs.Lookup.{utf8_answer, lookup_answer};
+ghost use Rattle.idn_label.specs.Memory.{LooksUpWithoutMemory};
 
 mod bidi;
 mod character;
@@ -56,7 +54,7 @@ pub fn lookup_utf8<const N: usize>(
     requires { 254 ≤ N }
     ensures answer { Gives (λ _. query.new.items) result (utf8_answer name.now std3) }
     ensures short { OnOk result (array_vec_len query.new ≤ 254) }
-    ensures no_memory { IsPlain (deny_list std3) Allow name.now ⊎ IsLdhName name.now → result ≢ Err Refusal.Memory }
+    ensures no_memory { LooksUpWithoutMemory std3 name.now → result ≢ Err Refusal.Memory }
 {
     query.clear();
     if let Some(answer) = ldh_query(name, query) {
