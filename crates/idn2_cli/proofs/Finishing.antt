@@ -38,20 +38,20 @@ as_mode o mode text given job start now old new r e table same done = (
 
 -- its pieces are written, or some of them to a stop
 does_unread : (job : Job) (start : Reading) (old new : Held) (r : Result Status Stop) → IsUnread start → Emits old new (job.pieces []) r
-    → IfOk r (λ status. (job.reads ≡ false) × (status ≡ job.status [])) → Does job start start old new r
-does_unread job start old new (Ok status) unread writes answered = record {
+    → IfOk r (λ status. (job.reads ≡ false) × (status ≡ job.status [])) → ((line : List ℕ) → ¬ job.needs_none line) → Does job start start old new r
+does_unread job start old new (Ok status) unread writes answered each = record {
   given = [];
   lines = [];
   read = has_read_nothing start unread;
   unread = λ _. refl;
   ending = record { ended = λ reads. absurd (false≢true (sym answered.0 ∙ reads)); pieces = writes; answered = answered.1 };
 }
-does_unread job start old new (Err why) unread writes answered = record {
+does_unread job start old new (Err why) unread writes answered each = record {
   given = [];
   lines = [];
   read = has_read_nothing start unread;
   unread = λ _. refl;
-  ending = record { written = writes.0; pieces = writes.1; stands = stands_at job why [] start start (job.pieces []) writes.0 writes.0 writes.2 (inr (record { no_line = refl; unread = refl; cut = writes.2 })) };
+  ending = record { written = writes.0; pieces = writes.1; stands = stands_at job why [] start start (job.pieces []) writes.0 writes.0 writes.2 (inr (record { no_line = refl; unread = refl; cut = writes.2; memory = λ _. each })) };
 }
 
 with_false : (r : Result Status Stop) (status : Status) → IfOk r (λ s. s ≡ status) → IfOk r (λ s. (false ≡ false) × (s ≡ status))
@@ -64,10 +64,10 @@ pub checked : (o : Settings) (text : List ℕ) (given : TableGiven) (start : Rea
     → (table : TableGiven) × IsTableOf o.mode text table × Does (mode_job o table) start start old new r
 checked o text (Ok table) start old new r e read unread writes answered =
     let job = mode_job (record o { mode = CheckTable }) (Ok table) in
-    as_mode o CheckTable text (Ok table) job start start old new r e read refl (does_unread job start old new r unread writes (with_false r _ answered))
+    as_mode o CheckTable text (Ok table) job start start old new r e read refl (does_unread job start old new r unread writes (with_false r _ answered) (λ _ none. none))
 checked o text (Err fault) start old new r e read unread writes answered =
     let job = mode_job (record o { mode = CheckTable }) (Err fault) in
-    as_mode o CheckTable text (Err fault) job start start old new r e read refl (does_unread job start old new r unread writes (with_false r _ answered))
+    as_mode o CheckTable text (Err fault) job start start old new r e read refl (does_unread job start old new r unread writes (with_false r _ answered) (λ _ none. none))
 
 -- want of memory before any piece
 pub emits_memory : {A : Type 0} (old : Held) (pieces : List Piece) (r : Result A Stop) (why : Stop) → r ≡ Err why → why ≡ stop.Memory → Emits old old pieces r
@@ -83,7 +83,7 @@ unread_stopped o text start old r why e unread is memory =
     let job = mode_job (record o { mode = Variants }) t.0 in
     as_mode o Variants text t.0 job start start old old r e t.1 refl
     (does_unread job start old old r unread (emits_memory old (job.pieces []) r why is memory)
-    (subst (λ (s : Result Status Stop). IfOk s (λ status. (job.reads ≡ false) × (status ≡ job.status []))) (sym is) tt))
+    (subst (λ (s : Result Status Stop). IfOk s (λ status. (job.reads ≡ false) × (status ≡ job.status []))) (sym is) tt) (λ _ none. none))
 
 -- the fault of a table is told
 pub faulty : (o : Settings) (text : List ℕ) (line : ℕ) (refusal : Refusal) (start : Reading) (old new : Held) (r : Result Status Stop)
@@ -91,7 +91,7 @@ pub faulty : (o : Settings) (text : List ℕ) (line : ℕ) (refusal : Refusal) (
     → (table : TableGiven) × IsTableOf o.mode text table × Does (mode_job o table) start start old new r
 faulty o text line refusal start old new r e read unread writes answered =
     let job = mode_job (record o { mode = Variants }) (Err (line, refusal)) in
-    as_mode o Variants text (Err (line, refusal)) job start start old new r e read refl (does_unread job start old new r unread writes (with_false r _ answered))
+    as_mode o Variants text (Err (line, refusal)) job start start old new r e read refl (does_unread job start old new r unread writes (with_false r _ answered) (λ _ none. none))
 
 -- a table that is not read, in the listing of variants
 pub refused_variants : (o : Settings) (text : List ℕ) (fault : TableFault) (start : Reading) (old new : Held) (r : Result Status Stop)

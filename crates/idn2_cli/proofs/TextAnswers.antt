@@ -1,5 +1,5 @@
 -- What the bytes of a line are answered, by the code points that they spell.
-use Rattle.std.proofs.Common.{◌≡◌, ◌==◌, ℕ, List, [], ◌∷◌, Bool, true, false, ◌&&◌, ◌++◌, length, chars, Result, Ok, Err, if◌then◌else◌, refl, sym, ap, ◌∙◌, inl, inr, arith}
+use Rattle.std.proofs.Common.{◌≡◌, ◌==◌, ℕ, suc, List, [], ◌∷◌, Bool, true, false, ◌&&◌, ◌++◌, length, chars, Result, Ok, Err, if◌then◌else◌, refl, sym, ap, ◌∙◌, inl, inr, lit<, eqb-true, arith}
 use Rattle.std.specs.Result.{is_err}
 use Rattle.std.proofs.lemmas.Bool.{cases_Bool}
 use Rattle.std.proofs.lemmas.Bool.Decides.{nat_tests}
@@ -43,6 +43,10 @@ text_answer-empty answer bytes points is empty =
     let utf8 = is_utf8-from_IsUtf8 bytes (IsUtf8-from_points bytes points is) in
     ap (λ (b : Bool). if b then (if length bytes == 0 then Err Empty else answer (chars bytes)) else Err NotUtf8) utf8
     ∙ ap (λ (b : Bool). let r : LineAnswer = if b then Err Empty else answer (chars bytes) in r) empty
+
+pub text_answer-none : (answer : List ℕ → LineAnswer) (bytes : List ℕ) → (length bytes == 0) ≡ true → text_answer answer bytes ≡ Err Empty
+text_answer-none answer [] none = text_answer-empty answer [] [] (ascii_points [] (λ i. lit< tt)) refl
+text_answer-none answer (byte ∷ bytes) none = absurd (let is : suc (length bytes) ≡ 0 = eqb-true (suc (length bytes)) 0 none in omega arith)
 
 -- other bytes
 pub text_answer-points : (answer : List ℕ → LineAnswer) (bytes points : List ℕ) → IsUtf8Of bytes points → (length bytes == 0) ≡ false → text_answer answer bytes ≡ answer points

@@ -13,6 +13,7 @@ use Rattle.idn_text.specs.Reading.{Reading, HasRead, HasStopped}
 use Rattle.idn_text.specs.declared.lines.State.TheVariants.{Ended, Stopped}
 use Rattle.idn2_cli.specs.Settings.{Settings}
 use Rattle.idn2_cli.specs.Answers.{LineAnswer}
+use Rattle.idn2_cli.specs.Memory.{NeedsNoMemory, BodyNeedsNone}
 use Rattle.idn2_cli.specs.declared.command_line.mode.Mode.{Mode}
 use Rattle.idn2_cli.specs.declared.command_line.mode.Mode.TheVariants.{CheckTable}
 use Rattle.idn2_cli.specs.declared.session.stop.Stop.TheVariants as stop
@@ -72,15 +73,17 @@ pub record WritesUntil (why : Stop) (old new : Held) (pieces : List Piece) : Typ
 
 -- ---- what is to be done
 
--- whether lines are read, and what is written for them, with which status
-pub record Job : Type 0 where
+-- whether lines are read, and what is written for them, with which status; and which lines are answered without memory
+pub record Job : Type 1 where
   pub reads : Bool
   pub pieces : List Numbered → List Piece
   pub status : List Numbered → Status
+  pub needs_none : List ℕ → Type 0
 
 -- to answer each line by itself
-abbrev pub lines_job : (List ℕ → LineAnswer) → Job
-lines_job answer = record { reads = true; pieces = lines_pieces answer; status = λ lines. status_if (has_refused answer lines) }
+abbrev pub lines_job : (List ℕ → LineAnswer) → (List ℕ → Type 0) → Job
+lines_job answer needs_none =
+    record { reads = true; pieces = lines_pieces answer; status = λ lines. status_if (has_refused answer lines); needs_none = needs_none }
 
 -- the input is read in every mode but the check of a table, where no table has a fault
 abbrev pub reads_lines : Mode → TableGiven → Bool
@@ -90,7 +93,8 @@ reads_lines mode (Ok table) = true
 
 -- to serve a mode
 abbrev pub mode_job : Settings → TableGiven → Job
-mode_job o table = record { reads = reads_lines o.mode table; pieces = transcript o table; status = status_of o table }
+mode_job o table =
+    record { reads = reads_lines o.mode table; pieces = transcript o table; status = status_of o table; needs_none = NeedsNoMemory o.mode o }
 
 -- ---- to the end or to a stop
 
@@ -101,7 +105,7 @@ pub record EndsWell (job : Job) (lines : List Numbered) (now : Reading) (old new
   pub answered : status ≡ job.status lines
 
 -- a write or memory stopped the job at the last line that was read: all pieces of the lines before it are written, and then
--- those of its own pieces that the stop let through
+-- those of its own pieces that the stop let through; memory does so only where the answer to that line may take some
 pub record StopsAtLine (job : Job) (why : Stop) (lines : List Numbered) (now : Reading) (written : List Piece) : Type 0 where
   pub before : List Numbered
   pub line : Numbered
@@ -109,19 +113,21 @@ pub record StopsAtLine (job : Job) (why : Stop) (lines : List Numbered) (now : R
   pub last : lines ≡ before ++ line ∷ []
   pub going : now.state ≢ Stopped
   pub cut : IsCutBy why (job.pieces (line ∷ [])) part
+  pub memory : why ≡ stop.Memory → ¬ BodyNeedsNone job.needs_none line.body
   pub stand : written ≡ job.pieces before ++ part
 
 -- a write or memory stopped the job before a line was read, and the reader was not called: while the table was read, at the
--- message of its fault, or in its check
+-- message of its fault, or in its check; memory does so only where the answer to each line may take some
 pub record StopsUnread (job : Job) (why : Stop) (lines : List Numbered) (start now : Reading) (written : List Piece) : Type 0 where
   pub no_line : lines ≡ []
   pub unread : now ≡ start
   pub cut : IsCutBy why (job.pieces []) written
+  pub memory : why ≡ stop.Memory → (line : List ℕ) → ¬ job.needs_none line
 
 -- where a read stops a job, all pieces of the lines that it read stand, which are those that a line feed ends; where a write or
 -- memory does, it stops at once, and no line is read after that
 abbrev pub Stands : Job → Stop → List Numbered → Reading → Reading → List Piece → Type 0
-Stands job stop.Reading lines start now written = HasStopped now × (now.state ≡ Stopped) × (written ≡ job.pieces lines)
+Stands job stop.Reading lines start now written = HasStopped start now × (now.state ≡ Stopped) × (written ≡ job.pieces lines)
 Stands job why lines start now written = StopsAtLine job why lines now written ⊎ StopsUnread job why lines start now written
 
 -- to a stop: of the pieces stands what it left

@@ -159,6 +159,21 @@ fn whether_the_last_call_failed(rt: HostRuntime) {
     );
 }
 
+/// A read that failed before the lines were begun is no fault of theirs.
+#[test]
+fn lines_after_an_earlier_fault(rt: HostRuntime) -> Result<(), Fail> {
+    let mut reader = Device::new(StopReader::new(b"aa\nb", 1, 1, true));
+    assert_eq!(rt; reader.get(&mut [0; 4]), Err(DeviceFault));
+    let mut lines = Lines::new(reader);
+    let mut spelled = String::new(rt.alloc());
+    while let Ok(Some(line)) = lines.next_line() {
+        spell_line(rt.alloc(), &mut spelled, &line)?;
+    }
+    assert_eq!(rt; spelled.as_str(), ":aa:b");
+    assert_eq!(rt; lines.next_line().is_ok(), true, "at the end");
+    Ok(())
+}
+
 /// The end of input is no fault, and each call is one call of what the device stands on.
 #[test]
 fn gets_of_a_device(rt: HostRuntime) {

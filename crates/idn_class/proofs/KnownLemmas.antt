@@ -1,16 +1,15 @@
 -- What is known of a beginning, and of one that is longer by a code point.
-use Rattle.std.proofs.Common.{◌≡◌, ℕ, zero, suc, ◌+◌, ◌<◌, ◌≤◌, Bool, true, false, ◌||◌, List, [], ◌∷◌, ◌++◌, length, take, set, get_or, Option, Some, None, refl, sym, ap, ap₂, ◌∙◌, subst, inl, inr, append_assoc, append-nil, length-append, length-take, arith}
+use Rattle.std.proofs.Common.{◌≡◌, ℕ, zero, suc, ◌+◌, ◌<◌, Bool, true, false, ◌||◌, List, [], ◌∷◌, ◌++◌, length, take, set, get_or, Some, None, refl, sym, ap, ap₂, ◌∙◌, subst, inl, inr, append_assoc, append-nil, length-append, length-take, arith}
 use Rattle.std.proofs.lemmas.Bool.{cases_lt, cases_order}
 use Rattle.std.proofs.lemmas.Grind.{get_or-set_at}
 use Rattle.std.proofs.lemmas.List.{take_all, take-take, take_more, take-append-le, get_or-set_other}
 use Rattle.std.proofs.lemmas.List.Folds.{list_any-append}
-use Rattle.std.specs.List.{list_any}
 use Rattle.idn_class.specs.declared.direction.Direction.{Direction}
 use Rattle.idn_class.specs.declared.facts.Fact.{Fact}
 use Rattle.idn_class.specs.declared.facts.Facts.{Facts}
 use Rattle.idn_class.specs.declared.known.Known.{Known}
 use Rattle.idn_class.specs.Directions.{HasNone, IsShortest, breaks_at_first, breaks_behind, begun, lengthened}
-use Rattle.idn_class.specs.Facts.{AreFactsOf, contains, has_fact}
+use Rattle.idn_class.specs.Facts.{contains, has_fact}
 use Rattle.idn_class.specs.Known.{IsKnown, AreKnown}
 use Rattle.idn_class.proofs.HopelessSteps.{breaks_after, breaks_at_first-cons, breaks_behind-cons, breaks_behind-nil}
 use Rattle.idn_class.proofs.HopelessShortest.{HasNone-nil, HasNone-behind}

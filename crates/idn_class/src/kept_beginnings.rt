@@ -1,4 +1,5 @@
 ghost use Rattle.std.specs.Prelude.{◌≡◌, ◌≤◌, length, take};
+ghost use Rattle.idn_class.specs.Known.{IsLongestShared};
 
 use crate::beginning::with_hyphens;
 use crate::facts::Facts;
@@ -34,7 +35,7 @@ impl KeptBeginnings {
     ghost use Rattle.idn_class.specs.Hopeless.{IsShortestHopeless, HasHope};
     ghost use Rattle.idn_class.specs.Facts.{AreFactsOf};
     ghost use Rattle.idn_class.specs.Directions.{IsShortest, HasNone, breaks_at_first};
-    ghost use Rattle.idn_class.specs.Known.{IsKnown};
+    ghost use Rattle.idn_class.specs.Known.{IsKnown, IsLongestShared};
 
     /// Of the empty label.
     pub fn new() -> KeptBeginnings
@@ -90,9 +91,10 @@ impl KeptBeginnings {
         self.label.len()
     }
 
-    /// Keeps what the label shares at its start with the one before.
+    /// Keeps all that the label shares at its start with the one before.
     fn keep_shared(&mut self, label: &[u32])
-        ensures { self.new ≡ take (length self.new) label.now }
+        ensures shared { self.new ≡ take (length self.new) label.now }
+        ensures longest { IsLongestShared self.old label.now (length self.new) }
     {
         let count = shared_len(self.label.as_slice(), label);
         self.label.truncate(count);
@@ -140,6 +142,7 @@ fn shared_len(a: &[u32], b: &[u32]) -> usize
     ensures same { take result a.now ≡ take result b.now }
     ensures within_a { result ≤ length a.now }
     ensures within_b { result ≤ length b.now }
+    ensures longest { IsLongestShared a.now b.now result }
 {
     let len = a.len().min(b.len());
     for index in 0..len {

@@ -1,7 +1,7 @@
 -- The labels of a name of letters, digits and hyphens, as they are read octet by octet.
-use Rattle.std.proofs.Common.{◌≡◌, ◌≢◌, ℕ, ◌+◌, ◌-◌, ◌<◌, ◌≤◌, ◌==◌, ◌&&◌, nat_le, Bool, true, false, List, [], ◌∷◌, ◌++◌, length, drop, take, get_or, All, refl, sym, ap, ◌∙◌, ap₂, append_assoc, append-nil, length-append, arith, eq-eqb}
+use Rattle.std.proofs.Common.{◌≡◌, ◌≢◌, ℕ, ◌+◌, ◌-◌, ◌<◌, ◌≤◌, ◌==◌, ◌&&◌, ◌||◌, nat_le, Bool, true, false, List, [], ◌∷◌, ◌++◌, length, drop, take, get_or, All, refl, sym, ap, ◌∙◌, ap₂, append_assoc, append-nil, length-append, arith, eq-eqb}
 use Rattle.std.specs.Int.{is_in_range}
-use Rattle.std.specs.List.{list_all, list_any}
+use Rattle.std.specs.List.{list_all, list_any, onto_first}
 use Rattle.std.proofs.Math.Bool.{and_comm, and-false, and-true}
 use Rattle.std.proofs.Math.Seq.{get_or-append_seam, drop-append_seam, take-append_seam}
 use Rattle.std.proofs.lemmas.Bool.{false≢true}
@@ -13,7 +13,7 @@ use Rattle.std.proofs.lemmas.List.Splits.{slice_split_at, slice_split_none}
 use Rattle.idna.specs.Labels.{full_stop, is_full_stop, labels_of, join_labels}
 use Rattle.idna.specs.Uts46.{has_dns_lengths, verify_dns_length}
 use Rattle.idna.specs.Validity.{hyphen, has_ace_prefix}
-use Rattle.idna.proofs.LabelsLemmas.{HasNoFullStop, labels_of-join_labels, terminated, terminated-cons, terminated-push}
+use Rattle.idna.proofs.LabelsLemmas.{HasNoFullStop, labels_of_cons, slice_split-no, labels_of-join_labels, terminated, terminated-cons, terminated-push}
 use Rattle.idna.proofs.ValidityLemmas.{has_ace_prefix_by_index, list_any_push}
 use Rattle.idn_label.specs.LdhNames.{may_end}
 use Rattle.idn_label.proofs.LabelLengths.{has_length}
@@ -123,10 +123,50 @@ split_stop {query} {start} {fit} r allowed is =
           ∙ sym (list_all-append has_length r.whole (r.last ∷ []));
     }
 
--- ---- the whole name
+-- ---- a label that begins with the prefix
+
+-- what stands before a first full stop begins the first label
+first_label : (front rest : List ℕ) → HasNoFullStop front → (more : List ℕ) × (others : List (List ℕ)) × (labels_of (front ++ rest) ≡ (front ++ more) ∷ others)
+first_label [] rest plain = labels_of_cons rest
+first_label (c ∷ front) rest plain =
+    let below = first_label front rest (All-tail (λ c. is_full_stop c ≡ false) c front plain) in
+    (below.0, below.1, slice_split-no is_full_stop c (front ++ rest) (All-head (λ c. is_full_stop c ≡ false) c front plain) ∙ ap (onto_first c) below.2)
+
+prefix_stays : (label more : List ℕ) → has_ace_prefix label ≡ true → has_ace_prefix (label ++ more) ≡ true
+prefix_stays [] more is = absurd (false≢true (sym (has_ace_prefix_by_index []) ∙ is))
+prefix_stays (a ∷ []) more is = absurd (false≢true (sym (has_ace_prefix_by_index (a ∷ [])) ∙ is))
+prefix_stays (a ∷ b ∷ []) more is = absurd (false≢true (sym (has_ace_prefix_by_index (a ∷ b ∷ [])) ∙ is))
+prefix_stays (a ∷ b ∷ d ∷ []) more is =
+    absurd (false≢true (sym (has_ace_prefix_by_index (a ∷ b ∷ d ∷ []) ∙ ap (λ x. x && (a == 120) && (b == 110)) (and-false (d == hyphen))) ∙ is))
+prefix_stays (a ∷ b ∷ d ∷ e ∷ label) more is =
+    has_ace_prefix_by_index (a ∷ b ∷ d ∷ e ∷ label ++ more) ∙ sym (has_ace_prefix_by_index (a ∷ b ∷ d ∷ e ∷ label)) ∙ is
 
 terminated_then : (label : List ℕ) (labels : List (List ℕ)) (last : List ℕ) → terminated (label ∷ labels) ++ last ≡ label ++ full_stop ∷ (terminated labels ++ last)
 terminated_then label labels last = append_assoc (label ++ full_stop ∷ []) (terminated labels) last ∙ append_assoc label (full_stop ∷ []) (terminated labels ++ last)
+
+or_true : (b : Bool) → (b || true) ≡ true
+or_true true = refl
+or_true false = refl
+
+prefixed : (whole : List (List ℕ)) (last rest : List ℕ) → All HasNoFullStop whole → HasNoFullStop last → has_ace_prefix last ≡ true → list_any has_ace_prefix (labels_of (terminated whole ++ (last ++ rest))) ≡ true
+prefixed [] last rest plain last_plain is =
+    let first = first_label last rest last_plain in
+    ap (list_any has_ace_prefix) first.2 ∙ ap (λ b. b || list_any has_ace_prefix first.1) (prefix_stays last first.0 is)
+prefixed (label ∷ labels) last rest plain last_plain is =
+    ap (λ name. list_any has_ace_prefix (labels_of name)) (terminated_then label labels (last ++ rest))
+    ∙ ap (list_any has_ace_prefix) (slice_split_at is_full_stop label full_stop (terminated labels ++ (last ++ rest)) (All-head HasNoFullStop label labels plain) refl)
+    ∙ ap (λ b. has_ace_prefix label || b) (prefixed labels last rest (All-tail HasNoFullStop label labels plain) last_plain is)
+    ∙ or_true (has_ace_prefix label)
+
+-- a hyphen that ends the prefix, whatever follows
+pub split_prefix : {query : List ℕ} {start : ℕ} {fit : Bool} → IsSplit query start fit → (rest : List ℕ) → has_ace_prefix (drop start (query ++ hyphen ∷ [])) ≡ true → list_any has_ace_prefix (labels_of ((query ++ hyphen ∷ []) ++ rest)) ≡ true
+split_prefix {query} {start} r rest is =
+    let last : drop start (query ++ hyphen ∷ []) ≡ r.last ++ hyphen ∷ [] =
+    ap (λ n. drop n (query ++ hyphen ∷ [])) r.begins ∙ ap (drop (length (terminated r.whole))) (more_parts r hyphen) ∙ drop-append_seam (terminated r.whole) (r.last ++ hyphen ∷ []) in
+    ap (λ name. list_any has_ace_prefix (labels_of name)) (ap (λ x. x ++ rest) (more_parts r hyphen) ∙ append_assoc (terminated r.whole) (r.last ++ hyphen ∷ []) rest)
+    ∙ prefixed r.whole (r.last ++ hyphen ∷ []) rest r.plain (All-push (λ c. is_full_stop c ≡ false) r.last hyphen r.last_plain refl) (ap has_ace_prefix (sym last) ∙ is)
+
+-- ---- the whole name
 
 labels_of-terminated : (whole : List (List ℕ)) (last : List ℕ) → All HasNoFullStop whole → HasNoFullStop last → labels_of (terminated whole ++ last) ≡ whole ++ last ∷ []
 labels_of-terminated [] last plain last_plain = slice_split_none is_full_stop last last_plain

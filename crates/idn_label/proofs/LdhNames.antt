@@ -6,7 +6,7 @@ use Rattle.std.proofs.lemmas.Bool.{eqb-true, cases_Bool, cond-true, cond-false}
 use Rattle.std.proofs.lemmas.Bool.Decides.{nat_tests}
 use Rattle.std.proofs.lemmas.List.{take_more, map-append}
 use Rattle.std.proofs.lemmas.List.Sums.{list_all-from_AllPass}
-use Rattle.std.proofs.lemmas.List.Elements.{All-nil, All-cons, All-weaker, All-map}
+use Rattle.std.proofs.lemmas.List.Elements.{All-nil, All-cons, All-weaker, All-map, recursion_from_All, All-from_recursion}
 use Rattle.std.proofs.lemmas.Str.Ascii.{IsAscii-from_all}
 use Rattle.idna.specs.Display.{IsPlain}
 use Rattle.idna.specs.declared.deny_list.AsciiDenyList.{AsciiDenyList}
@@ -83,8 +83,10 @@ to_ascii-lowercase_name deny name query points is none =
 
 -- ---- the labels one by one
 
-pub any_label-none : (p : List ℕ → Bool) (name first : List ℕ) (others : List (List ℕ)) → labels_of name ≡ first ∷ others → list_any p (labels_of name) ≡ false → (p first ≡ false) × (list_any p others ≡ false)
-any_label-none p name first others parts none = or_false (p first) (list_any p others) (sym (ap (list_any p) parts) ∙ none)
+-- what holds of all labels holds of the first and of the others
+pub all_labels : (P : List ℕ → Type 0) (name first : List ℕ) (others : List (List ℕ)) → labels_of name ≡ first ∷ others → All P (labels_of name) → P first × All P others
+all_labels P name first others parts all =
+    let both = recursion_from_All P (first ∷ others) (subst (All P) parts all) in (both.0, All-from_recursion P others both.1)
 
 -- ---- the table
 

@@ -1,5 +1,5 @@
 -- Parts of the definitions, by which the steps of the tests are said.
-use Rattle.std.specs.Prelude.{◌≡◌, ℕ, Bool, not, ◌||◌, ◌==◌, List, [], ◌∷◌, ◌++◌, length, map, Option, Ok}
+use Rattle.std.specs.Prelude.{ℕ, Bool, not, ◌||◌, ◌==◌, List, [], ◌∷◌, ◌++◌, length, map, Option, Ok}
 use Rattle.std.specs.Char.{is_ascii_lowercase, is_ascii_digit, to_ascii_lowercase}
 use Rattle.idna.specs.Validity.{has_ace_prefix}
 use Rattle.unicode_normalization.specs.Forms.{is_nfc}

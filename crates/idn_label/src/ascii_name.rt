@@ -1,7 +1,6 @@
 //! Decoding of a name in ASCII, as most are, to UTF-8.
 ghost use Rattle.std.specs.Prelude.{◌≡◌, ◌≢◌, ◌≤◌, ◌<◌, ◌+◌, ◌*◌, ◌∷◌, ◌++◌, [], length, map, true, false, Err, IfOk, IfSome, All, IsAscii};
 ghost use Rattle.std.specs.Char.{to_ascii_lowercase};
-ghost use Rattle.std.specs.List.{list_any};
 ghost use Rattle.std.specs.Option.{option_map_or};
 ghost use Rattle.arrayvec.specs.ArrayVec.{array_vec_len};
 ghost use Rattle.idna.specs.Labels.{labels_of};
@@ -9,7 +8,8 @@ ghost use Rattle.idna.specs.Validity.{has_ace_prefix};
 ghost use Rattle.idn_text.specs.Points.{utf8_of};
 ghost use Rattle.idn_label.specs.Answers.{Gives};
 ghost use Rattle.idn_label.specs.Decode.{decoded_label, decode_answer};
-ghost use Rattle.idn_label.specs.Steps.{appended, begins_with_prefix, in_utf8};
+ghost use Rattle.idn_label.specs.Memory.{DecodesWithoutMemory};
+ghost use Rattle.idn_label.specs.Steps.{appended, in_utf8};
 
 use crate::u_label::u_label_in_any_case;
 use crate::unit::{has_ace_prefix_in_any_case, split_first_label};
@@ -31,7 +31,7 @@ pub fn decode_ascii<const N: usize>(
     requires room { array_vec_len text.old + 4 * length name.now ≤ N }
     ensures answer { Gives (λ _. text.new.items) result (appended text.old.items (in_utf8 (decode_answer name.now))) }
     ensures grown { array_vec_len text.new ≤ array_vec_len text.old + 4 * length name.now }
-    ensures no_a_label { list_any begins_with_prefix (labels_of name.now) ≡ false → result ≢ Err Refusal.Memory }
+    ensures no_memory { All DecodesWithoutMemory (labels_of name.now) → result ≢ Err Refusal.Memory }
 {
     let mut u_label = ArrayVec::new();
     let mut rest = name;
@@ -58,7 +58,7 @@ fn decode_label<const N: usize>(
     requires room { array_vec_len text.old + 4 * length label.now ≤ N }
     ensures answer { Gives (λ _. text.new.items) result (appended text.old.items (in_utf8 (decoded_label label.now))) }
     ensures grown { array_vec_len text.new ≤ array_vec_len text.old + 4 * length label.now }
-    ensures no_a_label { begins_with_prefix label.now ≡ false → result ≢ Err Refusal.Memory }
+    ensures no_memory { DecodesWithoutMemory label.now → result ≢ Err Refusal.Memory }
 {
     if has_ace_prefix_in_any_case(label) {
         u_label_in_any_case(alloc, label, u_label)?;

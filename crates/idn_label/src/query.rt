@@ -1,11 +1,10 @@
 //! Lookup of a name.
 ghost use Rattle.std.specs.Prelude.{◌≡◌, ◌≢◌, ◌≤◌, string_bytes, Err, IfOk, OnOk};
 ghost use Rattle.arrayvec.specs.ArrayVec.{array_vec_len};
-ghost use Rattle.idna.specs.Display.{IsPlain};
-ghost use Rattle.idna.specs.declared.options.Hyphens.TheVariants.{Allow};
 ghost use Rattle.idn_text.specs.Points.{AreScalarValues, utf8_of};
 ghost use Rattle.idn_label.specs.Answers.{Gives};
-ghost use Rattle.idn_label.specs.Lookup.{deny_list, utf8_answer, lookup_answer};
+ghost use Rattle.idn_label.specs.Lookup.{utf8_answer, lookup_answer};
+ghost use Rattle.idn_label.specs.Memory.{LooksUpWithoutMemory};
 
 mod bidi;
 mod character;
@@ -45,7 +44,7 @@ pub fn lookup(alloc: Global, name: &[u32], std3: bool) -> Result<String, Refusal
 /// Leaves in `query` the octets that `lookup` answers of a name in UTF-8 (RFC 3629), in place of what stood there: at most
 /// 254. Other bytes are refused as `NotUtf8`; where the name is refused, what is left in `query` says nothing. A
 /// name in ASCII without capitals takes no memory where none of its labels begins with `xn--` and, with `std3`, it has
-/// only letters, digits, hyphens and full stops.
+/// only letters, digits, hyphens and full stops. Nor does one of at most 254 octets that has only these, capitals too.
 pub fn lookup_utf8<const N: usize>(
     alloc: Global,
     name: &[u8],
@@ -55,7 +54,7 @@ pub fn lookup_utf8<const N: usize>(
     requires { 254 ≤ N }
     ensures answer { Gives (λ _. query.new.items) result (utf8_answer name.now std3) }
     ensures short { OnOk result (array_vec_len query.new ≤ 254) }
-    ensures no_memory { IsPlain (deny_list std3) Allow name.now → result ≢ Err Refusal.Memory }
+    ensures no_memory { LooksUpWithoutMemory std3 name.now → result ≢ Err Refusal.Memory }
 {
     query.clear();
     if let Some(answer) = ldh_query(name, query) {

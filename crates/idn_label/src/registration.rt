@@ -1,10 +1,12 @@
 //! Registration of a label.
-ghost use Rattle.std.specs.Prelude.{◌≡◌, ◌≢◌, ◌≤◌, ℕ, List, length, true, false, Ok, Err};
+ghost use Rattle.std.specs.Prelude.{◌≡◌, ◌≢◌, ◌≤◌, ℕ, List, length, not, true, Ok, Err};
+ghost use Rattle.std.specs.Char.{is_ascii_uppercase};
+ghost use Rattle.std.specs.List.{list_all};
 ghost use Rattle.idna.specs.Validity.{has_ace_prefix};
 ghost use Rattle.idn_label.specs.ALabel.{a_label_of};
 ghost use Rattle.idn_label.specs.Answers.{Gives};
 ghost use Rattle.idn_label.specs.FirstFault.{IsRegistrable};
-ghost use Rattle.idn_label.specs.Memory.{NeedsNoMemory};
+ghost use Rattle.idn_label.specs.Memory.{NeedsNoMemoryDecoded, RegistersWithoutMemory};
 ghost use Rattle.idn_label.specs.Register.{register_answer};
 
 use crate::a_label::{ALabel, ascii_text};
@@ -19,11 +21,12 @@ use std::alloc::Global;
 /// The A-label of a label that may be registered (RFC 5891 section 4), else its first fault, as `test_label` reports it.
 /// A label that begins with `xn--` is decoded first, and is the answer if it is the A-label of what it stands for;
 /// else it is refused as `BadALabel`, or by the first fault of what it stands for. `Memory` says nothing of the label.
-/// Any other label takes no memory where `test_label` takes none.
+/// Any other label takes no memory where `test_label` takes none. Nor does one that begins with `xn--` and has at most 63
+/// code points and no capital, where what it stands for is not all ASCII and `test_label` takes none for that.
 pub fn register(alloc: Global, label: &[u32]) -> Result<ALabel, Refusal>
     requires { length label.now ≤ MAX_LINE_LEN }
     ensures answer { Gives (λ answer. answer.bytes) result (register_answer label.now) }
-    ensures no_memory { has_ace_prefix label.now ≡ false → NeedsNoMemory label.now → result ≢ Err Refusal.Memory }
+    ensures no_memory { RegistersWithoutMemory label.now → result ≢ Err Refusal.Memory }
 
     // The A-label of a label that may be registered is its own answer.
     ensures again { (registered : List ℕ) → IsRegistrable registered → label.now ≡ a_label_of registered
@@ -40,7 +43,8 @@ pub fn register(alloc: Global, label: &[u32]) -> Result<ALabel, Refusal>
 fn register_a_label(alloc: Global, label: &[u32]) -> Result<ALabel, Refusal>
     requires prefix { has_ace_prefix label.now ≡ true }
     requires short { length label.now ≤ MAX_LINE_LEN }
-    ensures { Gives (λ answer. answer.bytes) result (register_answer label.now) }
+    ensures answer { Gives (λ answer. answer.bytes) result (register_answer label.now) }
+    ensures no_memory { list_all (λ c. not (is_ascii_uppercase c)) label.now ≡ true → NeedsNoMemoryDecoded label.now → result ≢ Err Refusal.Memory }
 {
     let Some(octets) = ascii_octets(label) else {
         return Err(Refusal::BadALabel);

@@ -7,6 +7,7 @@ ghost use Rattle.idna.specs.Validity.{is_all_ascii, has_ace_prefix};
 ghost use Rattle.idn_label.specs.ALabel.{a_label_of};
 ghost use Rattle.idn_label.specs.Answers.{Gives};
 ghost use Rattle.idn_label.specs.FirstFault.{first_fault, IsRegistrable};
+ghost use Rattle.idn_label.specs.Memory.{NeedsNoMemory, NeedsNoMemoryDecoded};
 ghost use Rattle.idn_label.specs.Register.{decoded_code, confirmed, u_label_answer};
 
 use crate::a_label::{ALabel, MAX_LABEL_LEN};
@@ -36,6 +37,7 @@ pub(crate) fn u_label_in_any_case(
     requires short { length given.now ≤ MAX_LINE_LEN }
     ensures answer { Gives (λ _. label.new.items) result (u_label_answer (map to_ascii_lowercase given.now)) }
     ensures shorter { OnOk result (length label.new.items < length given.now) }
+    ensures no_memory { NeedsNoMemoryDecoded (map to_ascii_lowercase given.now) → result ≢ Err Refusal.Memory }
 {
     if has_no_capital(given) {
         return lowercase_u_label(alloc, given, label);
@@ -54,7 +56,8 @@ pub(crate) fn u_label(
     requires prefix { has_ace_prefix given.now ≡ true }
     requires ascii { is_all_ascii given.now ≡ true }
     requires short { length given.now ≤ MAX_LINE_LEN }
-    ensures { Gives (λ _. label.new.items) result (u_label_answer given.now) }
+    ensures answer { Gives (λ _. label.new.items) result (u_label_answer given.now) }
+    ensures no_memory { list_all (λ c. not (is_ascii_uppercase c)) given.now ≡ true → NeedsNoMemoryDecoded given.now → result ≢ Err Refusal.Memory }
 {
     if has_no_capital(given) {
         return lowercase_u_label(alloc, given, label);
@@ -87,6 +90,7 @@ fn lowercase_u_label(
     requires lowercase { list_all (λ c. not (is_ascii_uppercase c)) given.now ≡ true }
     ensures answer { Gives (λ _. label.new.items) result (u_label_answer given.now) }
     ensures shorter { OnOk result (length label.new.items < length given.now) }
+    ensures no_memory { NeedsNoMemoryDecoded given.now → result ≢ Err Refusal.Memory }
 {
     // The A-label of a label that may be registered is short.
     if given.len() > MAX_LABEL_LEN {
@@ -109,6 +113,7 @@ fn check_u_label(alloc: Global, label: &[u32]) -> Result<(), Refusal>
     requires short_a_label { length (codes "xn--" ++ encode label.now) ≤ 63 }
     ensures registrable { OnOk result (IsRegistrable label.now) }
     ensures fault { IfErr result (λ refusal. refusal ≢ Refusal.Memory → first_fault label.now ≡ Some refusal) }
+    ensures no_memory { NeedsNoMemory label.now → result ≢ Err Refusal.Memory }
 {
     check_label(alloc, label)
 }

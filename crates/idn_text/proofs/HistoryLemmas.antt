@@ -6,7 +6,7 @@ use Rattle.std.specs.Io.KnownBytes.{Consumes, IsAtEnd, prepend_known}
 use Rattle.idn_text.specs.Lines.{Numbered, raw_lines, lines_of}
 use Rattle.idn_text.specs.declared.lines.State.{State}
 use Rattle.idn_text.specs.declared.lines.State.TheVariants.{Ended, Stopped}
-use Rattle.idn_text.specs.Readers.{Reader}
+use Rattle.idn_text.specs.Readers.{Reader, Fails}
 use Rattle.idn_text.specs.Reading.{Reading, AreLines, HasRead, unread, idle_reads}
 
 -- what is taken to the end is the text
@@ -25,7 +25,7 @@ taken_within text held (Some rest) given taken =
 -- the lines at the end are those of the text
 pub lines-ended : (text : List ℕ) (reader : Reader) (now : Reading) (given : List ℕ) (lines : List Numbered) → HasRead (unread (record reader { remaining = Some text })) now given lines → now.state ≡ Ended → lines ≡ lines_of text
 lines-ended text reader now given lines has is_ended =
-    let read = subst (λ (s : State). AreLines s now.input given lines) is_ended has.read in
+    let read = subst (λ (s : State). AreLines s (unread (record reader { remaining = Some text })).input now.input given lines) is_ended has.read in
     read.0 ∙ ap lines_of (taken_whole text now.input.held now.input.reader.remaining given has.taken read.1.held read.1.coming)
 
 onto_first-count : (c : ℕ) (lines : List (List ℕ)) → length (onto_first c lines) ≤ length lines + 1
@@ -41,13 +41,13 @@ length-raw_lines-le : (text : List ℕ) → length (raw_lines text) ≤ length t
 length-raw_lines-le [] = omega arith
 length-raw_lines-le (c ∷ cs) = let step = count_step c cs (eqb c 10) (length-raw_lines-le cs) in omega (arith, step)
 
--- a reader that does not fail is not stopped in a text of fewer bytes than lines may be
-pub never_stopped : (text : List ℕ) (reader : Reader) (now : Reading) (given : List ℕ) (lines : List Numbered) → HasRead (unread (record reader { remaining = Some text })) now given lines → length text < 2 ^ 32 → now.state ≡ Stopped → now.input.reader.has_failed ≡ true
+-- where no read fails, the reading is not stopped in a text of fewer bytes than lines may be
+pub never_stopped : (text : List ℕ) (reader : Reader) (now : Reading) (given : List ℕ) (lines : List Numbered) → HasRead (unread (record reader { remaining = Some text })) now given lines → length text < 2 ^ 32 → now.state ≡ Stopped → Fails reader now.input.reader
 never_stopped text reader now given lines has few is_stopped =
-    let read = subst (λ (s : State). AreLines s now.input given lines) is_stopped has.read in
+    let read = subst (λ (s : State). AreLines s (unread (record reader { remaining = Some text })).input now.input given lines) is_stopped has.read in
     let asked : now.input.reads + 0 ≤ 0 + length given + length now.input.held + 1 = subst (λ (s : State). now.input.reads + 0 ≤ 0 + length given + length now.input.held + idle_reads s) is_stopped has.asked in
     let within : length given ≤ length text = taken_within text now.input.held now.input.reader.remaining given has.taken in
     elim read.1 [
-      | inl stop ↦ (let none : length now.input.held ≡ 0 = ap length stop.held in elim stop.cause [ inl is ↦ is | inr bound ↦ absurd (omega (arith, bound, none, asked, within, few)) ])
-      | inr many ↦ absurd (omega (arith, many, within, few, length-raw_lines-le given))
+      | inl stop ↦ (let none : length now.input.held ≡ 0 = ap length stop.held in elim stop.cause [ inl fault ↦ record { last = fault.last; one = fault.one } | inr bound ↦ absurd (omega (arith, bound.0, none, asked, within, few)) ])
+      | inr many ↦ absurd (omega (arith, many.0, within, few, length-raw_lines-le given))
     ]

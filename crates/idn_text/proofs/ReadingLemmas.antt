@@ -7,6 +7,7 @@ use Rattle.idn_text.specs.declared.lines.State.{State}
 use Rattle.idn_text.specs.declared.lines.State.TheVariants.{Open, Ended, Stopped}
 use Rattle.idn_text.specs.Reading.{Reading, IsUnread, AreLines, HasRead, idle_reads}
 use Rattle.idn_text.proofs.Knowing.{consumes_join, consumes_nothing}
+use Rattle.idn_text.proofs.TakingLemmas.{fails_from}
 use Rattle.idn_text.proofs.NumberingLemmas.{raw_lines-line, raw_lines-rest, ended_lines-rest, EndsInFeed-line, lines_of_more, ended_lines_of_more, too_many_lines}
 
 -- nothing was read yet
@@ -22,7 +23,7 @@ has_read_nothing start unread =
       no_fault = λ _. refl;
       counted = number;
       few = omega arith;
-      read = subst (λ (s : State). AreLines s start.input [] []) (sym unread.state) (refl, tt);
+      read = subst (λ (s : State). AreLines s start.input start.input [] []) (sym unread.state) (refl, tt);
     }
 
 -- the read calls of a line, behind those before
@@ -38,7 +39,7 @@ not_stopped is_open stopped = let bad : Open ≡ Stopped = sym is_open ∙ stopp
 -- a line that a line feed ends
 pub has_line : (start old new : Reading) (given line : List ℕ) (lines : List Numbered) → HasRead start old given lines → old.state ≡ Open → Takes old.input new.input line (10 ∷ []) 0 → new.input.reader.faults ≡ old.input.reader.faults → old.number < 2 ^ 32 → new.number ≡ old.number + 1 → new.state ≡ Open → HasRead start new (given ++ (line ++ 10 ∷ [])) (lines ++ record { number = old.number + 1; body = body_of line } ∷ [])
 has_line start old new given line lines has is_open takes no_fault few number still =
-    let read = subst (λ (s : State). AreLines s old.input given lines) is_open has.read in
+    let read = subst (λ (s : State). AreLines s start.input old.input given lines) is_open has.read in
     let asked = subst (λ (s : State). old.input.reads + length start.input.held ≤ start.input.reads + length given + length old.input.held + idle_reads s) is_open has.asked in
     let counted = has.counted in
     let after = given ++ (line ++ 10 ∷ []) in
@@ -50,14 +51,14 @@ has_line start old new given line lines has is_open takes no_fault few number st
       no_fault = λ _. no_fault ∙ has.no_fault (not_stopped is_open);
       counted = omega (arith, length-append lines (record { number = old.number + 1; body = body_of line } ∷ []));
       few = omega arith;
-      read = subst (λ (s : State). AreLines s new.input after now) (sym still)
+      read = subst (λ (s : State). AreLines s start.input new.input after now) (sym still)
           (lines_of_more given line (10 ∷ []) lines old.number read.1 read.0 counted (raw_lines-line line takes.plain), EndsInFeed-line given line);
     }
 
 -- the last line, which no line feed ends
 pub has_last : (start old new : Reading) (given line : List ℕ) (lines : List Numbered) → HasRead start old given lines → old.state ≡ Open → Takes old.input new.input line [] 1 → line ≢ [] → HasEnded new.input → new.input.reader.faults ≡ old.input.reader.faults → old.number < 2 ^ 32 → new.number ≡ old.number + 1 → new.state ≡ Ended → HasRead start new (given ++ (line ++ [])) (lines ++ record { number = old.number + 1; body = body_of line } ∷ [])
 has_last start old new given line lines has is_open takes some at_end no_fault few number still =
-    let read = subst (λ (s : State). AreLines s old.input given lines) is_open has.read in
+    let read = subst (λ (s : State). AreLines s start.input old.input given lines) is_open has.read in
     let asked = subst (λ (s : State). old.input.reads + length start.input.held ≤ start.input.reads + length given + length old.input.held + idle_reads s) is_open has.asked in
     let counted = has.counted in
     let after = given ++ (line ++ []) in
@@ -69,14 +70,14 @@ has_last start old new given line lines has is_open takes some at_end no_fault f
       no_fault = λ _. no_fault ∙ has.no_fault (not_stopped is_open);
       counted = omega (arith, length-append lines (record { number = old.number + 1; body = body_of line } ∷ []));
       few = omega arith;
-      read = subst (λ (s : State). AreLines s new.input after now) (sym still)
+      read = subst (λ (s : State). AreLines s start.input new.input after now) (sym still)
           (lines_of_more given line [] lines old.number read.1 read.0 counted (raw_lines-rest line some takes.plain), at_end);
     }
 
 -- a reader that failed
-pub has_failed : (start old new : Reading) (given line : List ℕ) (lines : List Numbered) → HasRead start old given lines → old.state ≡ Open → Takes old.input new.input line [] 1 → HasFailed new.input → new.number ≡ old.number → new.state ≡ Stopped → HasRead start new (given ++ (line ++ [])) (lines ++ [])
+pub has_failed : (start old new : Reading) (given line : List ℕ) (lines : List Numbered) → HasRead start old given lines → old.state ≡ Open → Takes old.input new.input line [] 1 → HasFailed old.input new.input → new.number ≡ old.number → new.state ≡ Stopped → HasRead start new (given ++ (line ++ [])) (lines ++ [])
 has_failed start old new given line lines has is_open takes failed number still =
-    let read = subst (λ (s : State). AreLines s old.input given lines) is_open has.read in
+    let read = subst (λ (s : State). AreLines s start.input old.input given lines) is_open has.read in
     let asked = subst (λ (s : State). old.input.reads + length start.input.held ≤ start.input.reads + length given + length old.input.held + idle_reads s) is_open has.asked in
     let counted = has.counted in
     let few = has.few in
@@ -88,16 +89,16 @@ has_failed start old new given line lines has is_open takes failed number still 
       no_fault = λ other. absurd (other still);
       counted = rw (append-nil lines) (number ∙ counted);
       few = omega arith;
-      read = subst (λ (s : State). AreLines s new.input after (lines ++ [])) (sym still)
-          (rw (append-nil lines) (ended_lines_of_more given (line ++ []) lines read.1 read.0 (omega arith) (inr (ended_lines-rest line takes.plain))), inl failed);
+      read = subst (λ (s : State). AreLines s start.input new.input after (lines ++ [])) (sym still)
+          (rw (append-nil lines) (ended_lines_of_more given (line ++ []) lines read.1 read.0 (omega arith) (inr (ended_lines-rest line takes.plain))), inl (fails_from start.input old.input new.input (has.no_fault (not_stopped is_open)) failed));
     }
 
 -- a line more than may be
-pub has_too_many : (start old new : Reading) (given line : List ℕ) (lines : List Numbered) (has_feed : Bool) → HasRead start old given lines → old.state ≡ Open → Takes old.input new.input line (cond has_feed (10 ∷ []) []) (cond has_feed 0 1) → (has_feed ≡ false → line ≢ []) → old.number ≡ 2 ^ 32 → new.number ≡ old.number → new.state ≡ Stopped → HasRead start new (given ++ (line ++ cond has_feed (10 ∷ []) [])) (lines ++ [])
-has_too_many start old new given line lines has_feed has is_open takes some full number still =
+pub has_too_many : (start old new : Reading) (given line : List ℕ) (lines : List Numbered) (has_feed : Bool) → HasRead start old given lines → old.state ≡ Open → Takes old.input new.input line (cond has_feed (10 ∷ []) []) (cond has_feed 0 1) → new.input.reader.faults ≡ old.input.reader.faults → (has_feed ≡ false → line ≢ []) → old.number ≡ 2 ^ 32 → new.number ≡ old.number → new.state ≡ Stopped → HasRead start new (given ++ (line ++ cond has_feed (10 ∷ []) [])) (lines ++ [])
+has_too_many start old new given line lines has_feed has is_open takes no_fault some full number still =
     let feed : List ℕ = cond has_feed (10 ∷ []) [] in
     let one = one_line line has_feed takes.plain some in
-    let read = subst (λ (s : State). AreLines s old.input given lines) is_open has.read in
+    let read = subst (λ (s : State). AreLines s start.input old.input given lines) is_open has.read in
     let asked = subst (λ (s : State). old.input.reads + length start.input.held ≤ start.input.reads + length given + length old.input.held + idle_reads s) is_open has.asked in
     let counted = has.counted in
     let few = has.few in
@@ -113,8 +114,8 @@ has_too_many start old new given line lines has_feed has is_open takes some full
       no_fault = λ other. absurd (other still);
       counted = rw (append-nil lines) (number ∙ counted);
       few = omega arith;
-      read = subst (λ (s : State). AreLines s new.input after (lines ++ [])) (sym still)
-          (rw (append-nil lines) (ended_lines_of_more given (line ++ feed) lines read.1 read.0 (omega arith) (inl count)), inr (too_many_lines given line feed lines read.1 read.0 count one));
+      read = subst (λ (s : State). AreLines s start.input new.input after (lines ++ [])) (sym still)
+          (rw (append-nil lines) (ended_lines_of_more given (line ++ feed) lines read.1 read.0 (omega arith) (inl count)), inr (too_many_lines given line feed lines read.1 read.0 count one, no_fault ∙ has.no_fault (not_stopped is_open)));
     }
   where
     one_line : (line : List ℕ) (has_feed : Bool) → All (λ byte. byte ≢ 10) line → (has_feed ≡ false → line ≢ []) → raw_lines (line ++ cond has_feed (10 ∷ []) []) ≡ line ∷ []

@@ -1,10 +1,11 @@
 -- Taking bytes from the front of what a reader gave.
-use Rattle.std.proofs.Common.{◌≡◌, ◌≢◌, ℕ, ◌+◌, ◌-◌, ◌≤◌, ◌<◌, List, [], ◌∷◌, ◌++◌, All, take, drop, length, slice_range, get_or, sym, ap, subst, ◌∙◌, append_assoc, drop-drop, zero-le, eq-eqb, eqb-true, length-take, length-drop, length-append, arith}
+use Rattle.std.proofs.Common.{◌≡◌, ◌≢◌, ℕ, suc, inl, inr, ◌+◌, ◌-◌, ◌≤◌, ◌<◌, List, [], ◌∷◌, ◌++◌, All, take, drop, length, slice_range, get_or, sym, ap, subst, ◌∙◌, append_assoc, drop-drop, zero-le, eq-eqb, eqb-true, length-take, length-drop, length-append, arith}
 use Rattle.std.proofs.lemmas.List.{take_all, append-nil, drop-take, take_more, get_or_default, get_or-take}
 use Rattle.std.proofs.lemmas.List.Elements.{All-append}
 use Rattle.memchr.specs.Find.{Nowhere, NoneBefore, Passes, is_byte}
 use Rattle.std.specs.Io.KnownBytes.{Consumes, Keeps}
-use Rattle.idn_text.specs.Taking.{Input, left, Takes}
+use Rattle.std.specs.Option.{option_map}
+use Rattle.idn_text.specs.Taking.{Input, left, Takes, HasFailed}
 use Rattle.idn_text.proofs.Knowing.{consumes_front, consumes_join, consumes_kept, consumes_nothing}
 
 -- a range that begins n later
@@ -77,3 +78,13 @@ pub takes_read : (a b c : Input) (f feed : List ℕ) (idle : ℕ) → Takes a b 
 takes_read a b c f feed idle first same asked called =
     let first_asked = first.asked in
     record { plain = first.plain; taken = consumes_kept (left a) (left b) (left c) (f ++ feed) first.taken same; asked = omega arith; called = omega (arith, first.called, called) }
+
+-- a failure behind reads that did not fail
+pub fails_from : (a b c : Input) → b.reader.faults ≡ a.reader.faults → HasFailed b c → HasFailed a c
+fails_from a b c same failed = record {
+  held = failed.held;
+  cause = elim failed.cause [
+    | inl fault ↦ inl (record { last = fault.last; one = fault.one ∙ ap (option_map suc) same })
+    | inr bound ↦ inr (bound.0, bound.1 ∙ same)
+  ];
+}

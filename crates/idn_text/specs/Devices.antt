@@ -1,5 +1,6 @@
 -- What a device stands on, and when a call of a reader or a writer failed.
-use Rattle.std.specs.Prelude.{ℕ, zero, suc, Bool, true, false, List, [], ◌∷◌, Result, Ok, Err}
+use Rattle.std.specs.Prelude.{ℕ, zero, suc, Bool, true, false, List, [], ◌∷◌, Option, Result, Ok, Err}
+use Rattle.std.specs.Option.{option_map}
 use Rattle.idn_text.specs.declared.device.Device.{Device}
 
 -- what the device stands on
@@ -21,3 +22,8 @@ put_fails (Err error) text = true
 put_fails (Ok count) [] = false
 put_fails (Ok zero) (byte ∷ bytes) = true
 put_fails (Ok (suc count)) (byte ∷ bytes) = false
+
+-- how many calls have failed after one more, which failed or did not
+abbrev pub faults_after : Bool → Option ℕ → Option ℕ
+faults_after true faults = option_map suc faults
+faults_after false faults = faults

@@ -7,7 +7,7 @@ use Rattle.idn_text.specs.declared.lines.State.{State}
 use Rattle.idn_text.specs.declared.lines.State.TheVariants.{Open, Ended, Stopped}
 use Rattle.idn_text.specs.Bodies.{bytes_of}
 use Rattle.idn_text.specs.Lines.{Numbered, EndsInFeed, raw_lines, lines_of, ended_lines_of}
-use Rattle.idn_text.specs.Readers.{Reader}
+use Rattle.idn_text.specs.Readers.{Reader, Fails}
 use Rattle.idn_text.specs.Taking.{Input, left, HasEnded, HasFailed}
 
 -- where the reading of lines has come to: its input, the number of the last line, and whether more may come
@@ -30,13 +30,15 @@ pub record IsUnread (reading : Reading) : Type 0 where
 -- these are the lines of the bytes that were given:
 --   while more may come, all of them, each ended by a line feed;
 --   at the end of the reader, all of them;
---   at a fault, those that a line feed ends, the first 4,294,967,296 of them, and either the reader failed or was called
---   as often as it may be, and gave no more than these bytes, or these bytes have more lines than may be
-abbrev pub AreLines : State → Input → List ℕ → List Numbered → Type 0
-AreLines Open input given lines = (lines ≡ lines_of given) × EndsInFeed given
-AreLines Ended input given lines = (lines ≡ lines_of given) × HasEnded input
-AreLines Stopped input given lines =
-    (lines ≡ take (2 ^ 32) (ended_lines_of given)) × (HasFailed input ⊎ (2 ^ 32 < length (raw_lines given)))
+--   at a fault, those that a line feed ends, the first 4,294,967,296 of them, and either a read failed or the reader was
+--   called as often as it may be, and it gave no more than these bytes, or no read failed and these bytes have more lines
+--   than may be
+abbrev pub AreLines : State → Input → Input → List ℕ → List Numbered → Type 0
+AreLines Open start now given lines = (lines ≡ lines_of given) × EndsInFeed given
+AreLines Ended start now given lines = (lines ≡ lines_of given) × HasEnded now
+AreLines Stopped start now given lines =
+    (lines ≡ take (2 ^ 32) (ended_lines_of given))
+    × (HasFailed start now ⊎ ((2 ^ 32 < length (raw_lines given)) × (now.reader.faults ≡ start.reader.faults)))
 
 -- how many read calls gave no byte, at most: the one that met the end or the fault
 abbrev pub idle_reads : State → ℕ
@@ -53,11 +55,13 @@ pub record HasRead (start now : Reading) (given : List ℕ) (lines : List Number
   pub no_fault : now.state ≢ Stopped → now.input.reader.faults ≡ start.input.reader.faults
   pub counted : now.number ≡ length lines
   pub few : now.number ≤ 2 ^ 32
-  pub read : AreLines now.state now.input given lines
+  pub read : AreLines now.state start.input now.input given lines
 
--- the reader failed, or a bound was met
-abbrev pub HasStopped : Reading → Type 0
-HasStopped reading = (reading.input.reader.has_failed ≡ true) ⊎ ((reading.input.reads ≡ 2 ^ 40) ⊎ (reading.number ≡ 2 ^ 32))
+-- between these two a read failed, the last, or none did and a bound was met
+abbrev pub HasStopped : Reading → Reading → Type 0
+HasStopped old new =
+    Fails old.input.reader new.input.reader
+    ⊎ (((new.input.reads ≡ 2 ^ 40) ⊎ (new.number ≡ 2 ^ 32)) × (new.input.reader.faults ≡ old.input.reader.faults))
 
 -- a line as its number and its body
 abbrev pub numbered_line : Line → Numbered

@@ -1,8 +1,8 @@
 -- Lines taken from what a reader gave.
-use Rattle.std.specs.Prelude.{◌≡◌, ℕ, ◌+◌, ◌^◌, ◌≤◌, ◌⊎◌, nat_lt, List, [], ◌++◌, length, Option, Some, None, true, if◌then◌else◌}
+use Rattle.std.specs.Prelude.{◌≡◌, ℕ, ◌+◌, ◌^◌, ◌≤◌, ◌⊎◌, nat_lt, List, [], ◌++◌, length, Option, Some, None, if◌then◌else◌}
 use Rattle.std.specs.Io.KnownBytes.{Consumes, IsAtEnd, prepend_known}
 use Rattle.idn_text.specs.Lines.{IsPlain}
-use Rattle.idn_text.specs.Readers.{Reader}
+use Rattle.idn_text.specs.Readers.{Reader, Fails}
 
 -- a reader, with the bytes that it gave and that no line has taken yet
 pub record Input : Type 0 where
@@ -19,10 +19,11 @@ pub record HasEnded (input : Input) : Type 0 where
   pub held : input.held ≡ []
   pub coming : IsAtEnd input.reader.remaining
 
--- the reader failed or was called as often as it may be, and all that it gave is taken
-pub record HasFailed (input : Input) : Type 0 where
-  pub held : input.held ≡ []
-  pub cause : (input.reader.has_failed ≡ true) ⊎ (input.reads ≡ 2 ^ 40)
+-- between these two a read failed, the last, or none did and the reader was called as often as it may be; and all that it gave
+-- is taken
+pub record HasFailed (old new : Input) : Type 0 where
+  pub held : new.held ≡ []
+  pub cause : Fails old.reader new.reader ⊎ ((new.reads ≡ 2 ^ 40) × (new.reader.faults ≡ old.reader.faults))
 
 -- these bytes without a line feed, and then these, were taken; of the read calls between, none uncounted, all but so many gave a byte
 pub record Takes (old new : Input) (line feed : List ℕ) (idle : ℕ) : Type 0 where

@@ -64,7 +64,7 @@ impl<R: Source> Input<R> {
             × seen.Takes self.old self.new line (if has_feed then 10 ∷ [] else []) (if has_feed then 0 else 1)) }
         ensures no_fault { OnOk result (self.new.reader.faults ≡ self.old.reader.faults) }
         ensures ended { result ≡ Ok false → seen.HasEnded self.new }
-        ensures failed { OnErr result ((line : List ℕ) × seen.Takes self.old self.new line [] 1 × seen.HasFailed self.new) }
+        ensures failed { OnErr result ((line : List ℕ) × seen.Takes self.old self.new line [] 1 × seen.HasFailed self.old self.new) }
     {
         'reads: loop {
             if self.take_held(body) {
@@ -114,7 +114,7 @@ impl<R: Source> Input<R> {
         ensures limit { self.new.reads ≤ 2 ^ 40 }
         ensures came { result ≡ Ok true → 0 < length self.new.held }
         ensures ended { result ≡ Ok false → seen.HasEnded self.new }
-        ensures failed { OnErr result (seen.HasFailed self.new) }
+        ensures failed { OnErr result (seen.HasFailed self.old self.new) }
     {
         if self.reads == READ_LIMIT {
             return Err(ReadFault);

@@ -1,8 +1,8 @@
 //! Laws of the definitions, each the contract of a function that does nothing.
 
-ghost use Rattle.std.specs.Prelude.{◌≡◌, ◌≢◌, ◌<◌, ◌^◌, ℕ, List, [], ◌∷◌, ◌++◌, length, Bool, true, All, Some, None, codes};
+ghost use Rattle.std.specs.Prelude.{◌≡◌, ◌≢◌, ◌<◌, ◌^◌, ℕ, List, [], ◌∷◌, ◌++◌, length, All, Some, None, codes};
 ghost use Rattle.idn_text.specs.Lines.{raw_lines, ended_lines, lines_of, Numbered, body_of, IsPlain, joined_lines, with_last_feed, EndsInFeed};
-ghost use Rattle.idn_text.specs.Readers.{Reader};
+ghost use Rattle.idn_text.specs.Readers.{Reader, Fails};
 ghost use Rattle.idn_text.specs.Reading.{Reading, IsUnread, HasRead, unread};
 ghost use Rattle.idn_text.specs.declared.lines.State.TheVariants.{Ended, Stopped};
 ghost use Rattle.idn_text.specs.Points.{IsUtf8Of, utf8_of, point_of_hex};
@@ -47,10 +47,10 @@ pub fn ended_reading_has_all_lines()
         HasRead (unread (record reader { remaining = Some text })) now given lines → now.state ≡ Ended → lines ≡ lines_of text }
 {}
 
-/// In a text of fewer than 2^32 bytes only a reader that fails stops the reading.
+/// In a text of fewer than 2^32 bytes only a read that fails stops the reading.
 pub fn only_a_failed_reader_stops_a_short_text()
     ensures { (text : List ℕ) (reader : Reader) (now : Reading) (given : List ℕ) (lines : List Numbered) →
-        HasRead (unread (record reader { remaining = Some text })) now given lines → length text < 2 ^ 32 → now.state ≡ Stopped → now.input.reader.has_failed ≡ true }
+        HasRead (unread (record reader { remaining = Some text })) now given lines → length text < 2 ^ 32 → now.state ≡ Stopped → Fails reader now.input.reader }
 {}
 
 /// Examples, which the definitions compute: `aa`, an empty line and `b`, ended by CR LF, LF and

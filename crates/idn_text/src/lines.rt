@@ -98,7 +98,7 @@ impl<R: Source> Lines<R> {
             (more : List ℕ) × HasRead start self.new (given ++ more) (lines ++ answered result) }
         ensures state { IsLeftBy result self.new }
 
-        ensures cause { OnErr result ((self.old.state ≡ Stopped) ⊎ HasStopped self.new) }
+        ensures cause { OnErr result ((self.old.state ≡ Stopped) ⊎ HasStopped self.old self.new) }
         ensures ended { self.old.state ≡ Ended → (result ≡ Ok None) × (self.new ≡ self.old) }
         ensures stopped { self.old.state ≡ Stopped → IsErr result × (self.new ≡ self.old) }
     {
@@ -119,7 +119,7 @@ impl<R: Source> Lines<R> {
             (more : List ℕ) × HasRead start self.new (given ++ more) (lines ++ answered (read_into result line.new)) }
         ensures state { IsLeftBy (read_into result line.new) self.new }
 
-        ensures cause { OnErr result ((self.old.state ≡ Stopped) ⊎ HasStopped self.new) }
+        ensures cause { OnErr result ((self.old.state ≡ Stopped) ⊎ HasStopped self.old self.new) }
         ensures ended { self.old.state ≡ Ended → (result ≡ Ok false) × (self.new ≡ self.old) }
         ensures stopped { self.old.state ≡ Stopped → IsErr result × (self.new ≡ self.old) }
     {
@@ -136,7 +136,7 @@ impl<R: Source> Lines<R> {
         ensures lines { (start : Reading) (given : List ℕ) (lines : List Numbered) → HasRead start self.old given lines →
             (more : List ℕ) × HasRead start self.new (given ++ more) (lines ++ answered (read_into result line.new)) }
         ensures state { IsLeftBy (read_into result line.new) self.new }
-        ensures cause { OnErr result (HasStopped self.new) }
+        ensures cause { OnErr result (HasStopped self.old self.new) }
     {
         // What leaves early below is a fault.
         self.state = State::Stopped;

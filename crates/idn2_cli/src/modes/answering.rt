@@ -22,6 +22,9 @@ pub(crate) trait Answering {
     // What the mode needs to answer.
     ghost is_ready: { Self → Type 0 } = { λ _. Unit {0} };
 
+    // The bytes of lines that it answers without memory.
+    ghost needs_none: { Self → List ℕ → Type 0 } = { λ _ _. ⊥ };
+
     /// Writes the answer to the bytes of a line of this number, and returns whether it is a refusal.
     fn answer<W: Sink, E: Sink>(
         &self,
@@ -35,7 +38,8 @@ pub(crate) trait Answering {
         requires few { length text.now ≤ 1024 }
         ensures written { Emits console.old console.new
             (pieces_for number (text_answer (answer_of self.now) text.now)) result }
-        ensures refused { IfOk result (λ refused. refused ≡ is_err (text_answer (answer_of self.now) text.now)) };
+        ensures refused { IfOk result (λ refused. refused ≡ is_err (text_answer (answer_of self.now) text.now)) }
+        ensures no_memory { needs_none self.now text.now → result ≢ Err stop.Memory };
 }
 
 /// Answers a line by one line, which ends in a line feed. It takes no memory.

@@ -1,11 +1,12 @@
 //! Modes that answer a line by its code points.
 
-ghost use Rattle.std.specs.Prelude.{◌≡◌, ◌≤◌, ℕ, List, length, IfOk};
+ghost use Rattle.std.specs.Prelude.{◌≡◌, ◌≢◌, ◌≤◌, ℕ, List, length, chars, IfOk, Err};
 ghost use Rattle.std.specs.Result.{is_err};
 ghost use Rattle.idn_text.specs.Points.{AreScalarValues};
 ghost use Rattle.idn2_cli.specs.Answers.{LineAnswer};
 ghost use Rattle.idn2_cli.specs.Transcript.{pieces_for};
 ghost use Rattle.idn2_cli.specs.Emitting.{Emits};
+ghost use Rattle.idn2_cli.specs.declared.session.stop.Stop.TheVariants as stop;
 
 use crate::modes::answering::{Answering, refuse};
 use crate::session::buffers::Buffers;
@@ -22,6 +23,9 @@ pub(crate) trait PointAnswering {
     // What the mode needs to answer.
     ghost is_ready: { Self → Type 0 } = { λ _. Unit {0} };
 
+    // The code points of lines that it answers without memory.
+    ghost needs_none: { Self → List ℕ → Type 0 } = { λ _ _. ⊥ };
+
     /// Writes the answer to a line of this number, and returns whether it is a refusal.
     fn answer_points<W: Sink, E: Sink>(
         &self,
@@ -35,7 +39,8 @@ pub(crate) trait PointAnswering {
         requires scalar_values { AreScalarValues points.now }
         ensures written { Emits console.old console.new
             (pieces_for number (answer_of self.now points.now)) result }
-        ensures refused { IfOk result (λ refused. refused ≡ is_err (answer_of self.now points.now)) };
+        ensures refused { IfOk result (λ refused. refused ≡ is_err (answer_of self.now points.now)) }
+        ensures no_memory { needs_none self.now points.now → result ≢ Err stop.Memory };
 }
 
 /// A mode that is handed them, as one that is handed bytes.
@@ -48,6 +53,8 @@ impl<'m, M: PointAnswering> Answering for ByPoints<'m, M> {
     ghost answer_of = { λ by. M.answer_of by.mode.now };
 
     ghost is_ready = { λ by. M.is_ready by.mode.now };
+
+    ghost needs_none = { λ by line. M.needs_none by.mode.now (chars line) };
 
     fn answer<W: Sink, E: Sink>(
         &self,

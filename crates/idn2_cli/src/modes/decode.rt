@@ -1,12 +1,15 @@
 //! Decoding: a name is answered with U-labels in place of its A-labels.
 
-ghost use Rattle.std.specs.Prelude.{◌≡◌, ◌≤◌, ◌++◌, [], length, string_bytes, OnOk, IsAscii};
+ghost use Rattle.std.specs.Prelude.{◌≡◌, ◌≢◌, ◌≤◌, ◌++◌, [], length, string_bytes, Err, OnOk, All, IsAscii};
 ghost use Rattle.idn_text.specs.Points.{AreScalarValues, utf8_of};
 ghost use Rattle.idn_label.specs.Answers.{Gives};
 ghost use Rattle.idn_label.specs.Decode.{decode_answer};
+ghost use Rattle.idn_label.specs.Memory.{DecodesWithoutMemory};
+ghost use Rattle.idna.specs.Labels.{labels_of};
 ghost use Rattle.idn2_cli.specs.Answers.{one_line};
 ghost use Rattle.idn_label.specs.Steps.{in_utf8};
 ghost use Rattle.idn2_cli.specs.Inner.{with_feed};
+ghost use Rattle.idn2_cli.specs.Memory.{DecodesLineWithoutMemory};
 
 use crate::modes::answering::{Answering, refuse, reply};
 use crate::modes::code_points::{ByPoints, PointAnswering};
@@ -25,6 +28,8 @@ pub(crate) struct Decode;
 impl Answering for Decode {
     ghost answer_of = { λ _ name. one_line (in_utf8 (decode_answer name)) };
 
+    ghost needs_none = { λ _ name. DecodesLineWithoutMemory name };
+
     fn answer<W: Sink, E: Sink>(
         &self,
         alloc: Global,
@@ -33,8 +38,11 @@ impl Answering for Decode {
         buffers: &mut Buffers,
         console: &mut Console<'_, '_, W, E>,
     ) -> Result<bool, Stop> {
-        // A line past ASCII, and an empty one, which is refused, are answered by their code points.
-        if text.is_empty() || !text.is_ascii() {
+        if text.is_empty() {
+            return refuse(number, Refusal::Empty, console);
+        }
+        // A line past ASCII is answered by its code points.
+        if !text.is_ascii() {
             return ByPoints { mode: self }.answer(alloc, number, text, buffers, console);
         }
         match fill_line(alloc, text, &mut buffers.answer) {
@@ -53,7 +61,8 @@ fn fill_line(
 ) -> Result<(), Refusal>
     requires ascii { IsAscii name.now }
     requires short { length name.now ≤ 1024 }
-    ensures { Gives (λ _. line.new.items) result (with_feed (in_utf8 (decode_answer name.now))) }
+    ensures answer { Gives (λ _. line.new.items) result (with_feed (in_utf8 (decode_answer name.now))) }
+    ensures no_memory { All DecodesWithoutMemory (labels_of name.now) → result ≢ Err Refusal.Memory }
 {
     line.clear();
     decode_ascii(alloc, name, line)?;

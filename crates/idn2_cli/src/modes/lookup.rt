@@ -1,8 +1,9 @@
 //! Lookup: a name is answered by the name that a query has.
 
-ghost use Rattle.std.specs.Prelude.{◌≡◌, []};
+ghost use Rattle.std.specs.Prelude.{◌≡◌, ◌≢◌, [], Err};
 ghost use Rattle.idn_label.specs.Answers.{Gives};
 ghost use Rattle.idn_label.specs.Lookup.{lookup_answer};
+ghost use Rattle.idn_label.specs.Memory.{LooksUpWithoutMemory};
 ghost use Rattle.idn2_cli.specs.Answers.{one_line};
 ghost use Rattle.idn2_cli.specs.Inner.{with_feed, query_answer};
 
@@ -24,6 +25,8 @@ pub(crate) struct Lookup {
 
 impl Answering for Lookup {
     ghost answer_of = { λ mode name. one_line (lookup_answer name mode.std3) };
+
+    ghost needs_none = { λ mode name. LooksUpWithoutMemory mode.std3 name };
 
     fn answer<W: Sink, E: Sink>(
         &self,
@@ -48,7 +51,8 @@ fn fill_line(
     std3: bool,
     line: &mut ArrayVec<u8, MAX_ANSWER_LEN>,
 ) -> Result<(), Refusal>
-    ensures { Gives (λ _. line.new.items) result (with_feed (query_answer name.now std3)) }
+    ensures answer { Gives (λ _. line.new.items) result (with_feed (query_answer name.now std3)) }
+    ensures no_memory { LooksUpWithoutMemory std3 name.now → result ≢ Err Refusal.Memory }
 {
     if name.is_empty() {
         return Err(Refusal::Empty);

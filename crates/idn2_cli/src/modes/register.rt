@@ -1,7 +1,8 @@
 //! Registration: a label is answered by its A-label.
 
-ghost use Rattle.std.specs.Prelude.{◌≡◌, ◌≤◌, length};
+ghost use Rattle.std.specs.Prelude.{◌≡◌, ◌≢◌, ◌≤◌, length, Err};
 ghost use Rattle.idn_label.specs.Answers.{Gives};
+ghost use Rattle.idn_label.specs.Memory.{RegistersWithoutMemory};
 ghost use Rattle.idn_label.specs.Register.{register_answer};
 ghost use Rattle.idn2_cli.specs.Answers.{one_line};
 ghost use Rattle.idn2_cli.specs.Inner.{with_feed};
@@ -22,6 +23,8 @@ pub(crate) struct Register;
 impl PointAnswering for Register {
     ghost answer_of = { λ _ label. one_line (register_answer label) };
 
+    ghost needs_none = { λ _ label. RegistersWithoutMemory label };
+
     fn answer_points<W: Sink, E: Sink>(
         &self,
         alloc: Global,
@@ -39,7 +42,8 @@ impl PointAnswering for Register {
 /// The line of a label's A-label.
 fn line_of(alloc: Global, label: &[u32]) -> Result<ArrayVec<u8, 64>, Refusal>
     requires { length label.now ≤ 1024 }
-    ensures { Gives (λ line. line.items) result (with_feed (register_answer label.now)) }
+    ensures answer { Gives (λ line. line.items) result (with_feed (register_answer label.now)) }
+    ensures no_memory { RegistersWithoutMemory label.now → result ≢ Err Refusal.Memory }
 {
     let label = register(alloc, label)?;
     let mut line = ArrayVec::new();

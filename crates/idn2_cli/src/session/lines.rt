@@ -1,6 +1,6 @@
 //! The lines of the input, one after another.
 
-ghost use Rattle.std.specs.Prelude.{◌≡◌, ℕ, List, IfOk};
+ghost use Rattle.std.specs.Prelude.{◌≡◌, ◌≢◌, ℕ, List, IfOk, Err};
 ghost use Rattle.std.specs.Result.{is_err};
 ghost use Rattle.idn_text.specs.Bodies.{bytes_of};
 ghost use Rattle.idn_text.specs.Reading.{IsUnread, numbered_line};
@@ -8,6 +8,8 @@ ghost use Rattle.idn2_cli.specs.Emitting.{Emits};
 ghost use Rattle.idn2_cli.specs.Answers.{line_answer};
 ghost use Rattle.idn2_cli.specs.Transcript.{line_pieces};
 ghost use Rattle.idn2_cli.specs.Ends.{Does, lines_job};
+ghost use Rattle.idn2_cli.specs.Memory.{BodyNeedsNone};
+ghost use Rattle.idn2_cli.specs.declared.session.stop.Stop.TheVariants as stop;
 
 use crate::modes::answering::{Answering, refuse};
 use crate::session::buffers::Buffers;
@@ -26,7 +28,7 @@ pub(crate) fn serve_lines<M: Answering, R: Source, W: Sink, E: Sink>(
 ) -> Result<Status, Stop>
     requires ready { M.is_ready mode.now }
     requires unread { IsUnread input.old }
-    ensures { Does (lines_job (M.answer_of mode.now)) input.old input.new console.old console.new result }
+    ensures { Does (lines_job (M.answer_of mode.now) (M.needs_none mode.now)) input.old input.new console.old console.new result }
 {
     let mut line = Line::new();
     let mut buffers = Buffers::new();
@@ -55,6 +57,7 @@ fn serve_line<M: Answering, W: Sink, E: Sink>(
     ensures written { Emits console.old console.new
         (line_pieces (M.answer_of mode.now) (numbered_line line.now)) result }
     ensures refused { IfOk result (λ refused. refused ≡ is_err (line_answer (M.answer_of mode.now) (bytes_of line.now.body))) }
+    ensures no_memory { BodyNeedsNone (M.needs_none mode.now) (bytes_of line.now.body) → result ≢ Err stop.Memory }
 {
     match &line.body {
         Body::TooLong => refuse(line.number, Refusal::LineTooLong, console),

@@ -1,11 +1,11 @@
 //! Names of letters, digits and hyphens of ASCII (LDH, RFC 5890 section 2.3.1). Most names are such, and their lookup
 //! takes no memory and one pass.
-ghost use Rattle.std.specs.Prelude.{◌≡◌, ◌≢◌, ◌≤◌, ◌-◌, Bool, [], length, Err, IfSome, if◌then◌else◌};
+ghost use Rattle.std.specs.Prelude.{◌≡◌, ◌≢◌, ◌≤◌, ◌-◌, Bool, [], length, Err, IfSome, IsSome, if◌then◌else◌};
 ghost use Rattle.std.specs.Char.{to_ascii_lowercase};
 ghost use Rattle.std.specs.Int.{is_in_range};
 ghost use Rattle.idn_label.specs.Answers.{Gives};
 ghost use Rattle.idn_label.specs.Lookup.{utf8_answer};
-ghost use Rattle.idn_label.specs.LdhNames.{is_name_point, may_end};
+ghost use Rattle.idn_label.specs.LdhNames.{IsLdhName, is_name_point, may_end};
 
 use crate::a_label::MAX_LABEL_LEN;
 use crate::query::lengths::MAX_NAME_LEN;
@@ -49,6 +49,7 @@ pub(crate) fn ldh_query<const N: usize>(
     ensures answer { IfSome result (λ answer. (std3 : Bool) → Gives (λ _. query.new.items) answer (utf8_answer name.now std3)) }
     ensures short { length query.new.items ≤ 254 }
     ensures no_memory { IfSome result (λ answer. answer ≢ Err Refusal.Memory) }
+    ensures told { IsLdhName name.now → IsSome result }
 {
     if name.len() > MAX_QUERY_LEN {
         return None;

@@ -2,8 +2,9 @@ use Rattle.std.proofs.Common.{◌∷◌, length, IsAscii, sym, ap, subst, ◌∙
 use Rattle.std.proofs.lemmas.Result.{err_from_is_err_and}
 use Rattle.idn_label.specs.Decode.{decode_answer}
 use Rattle.idna.specs.Labels.{labels_of}
-use Rattle.idn_label.specs.Steps.{appended, begins_with_prefix, in_utf8}
-use Rattle.idn_label.proofs.LdhNames.{any_label-none}
+use Rattle.idn_label.specs.Memory.{DecodesWithoutMemory}
+use Rattle.idn_label.specs.Steps.{appended, in_utf8}
+use Rattle.idn_label.proofs.LdhNames.{all_labels}
 use Rattle.idn_label.proofs.DecodeLemmas.{labels_of-none, labels_of-some}
 use Rattle.idn_label.proofs.Utf8Decoding.{utf8_turn_err, utf8_turn_last, utf8_turn_more, rest_parts, rest_ascii, label_ascii}
 use Rattle.idn_label.proofs.ascii_name.decode_ascii.Goals as goal
@@ -48,7 +49,7 @@ labels-preserved g c =
       rest_ascii first 0x2E others.now (subst IsAscii parts c.labels.invariant.1),
       omega (arith, count, both, c.labels.invariant.2),
       omega (arith, count, both, c.labels.invariant.3, c.push.ensures.len, c.in_ok-decode_label.ensures.grown),
-      (λ none.
-          (any_label-none begins_with_prefix rest first (labels_of others.now)
-          (labels_of-some rest first c.split_first_label.result.1 others c.split_first_label.ensures.labels c.in-Some.is) (c.labels.invariant.4 none)).1),
+      (λ all.
+          (all_labels DecodesWithoutMemory rest first (labels_of others.now)
+          (labels_of-some rest first c.split_first_label.result.1 others c.split_first_label.ensures.labels c.in-Some.is) (c.labels.invariant.4 all)).1),
     )

@@ -7,7 +7,7 @@ use Rattle.idn_label.proofs.registration.register.Goals as goal
 
 pub returns-then-has_ace_prefix-clause-again : goal.returns-then-has_ace_prefix-clause-again
 returns-then-has_ace_prefix-clause-again c =
-    λ registered ok is. Gives-same (λ (a : ArrayString). a.bytes) c.register_a_label.result _ _ (ap register_answer is ∙ register_answer-a_label registered ok) c.register_a_label.ensures
+    λ registered ok is. Gives-same (λ (a : ArrayString). a.bytes) c.register_a_label.result _ _ (ap register_answer is ∙ register_answer-a_label registered ok) c.register_a_label.ensures.answer
 
 pub returns-else-has_ace_prefix-clause-answer : goal.returns-else-has_ace_prefix-clause-answer
 returns-else-has_ace_prefix-clause-answer c =

@@ -1,16 +1,18 @@
-use Rattle.std.proofs.Common.{◌≡◌, ◌≢◌, ◌+◌, ◌-◌, true, false, [], ◌∷◌, ◌++◌, map, length, take, drop, take_all, get_or, All, Ok, Err, refl, sym, ap, subst, ◌∙◌, ne_eqb, length-take, length-drop, arith}
+use Rattle.std.proofs.Common.{◌≡◌, ◌≢◌, ◌+◌, ◌-◌, true, false, [], ◌∷◌, ◌++◌, map, length, take, drop, take_all, get_or, All, Ok, Err, refl, sym, ap, subst, ◌∙◌, ne_eqb, length-take, length-drop, take-append-drop, arith}
 use Rattle.std.specs.Char.{to_ascii_lowercase}
 use Rattle.std.specs.Int.{is_in_range}
+use Rattle.std.specs.List.{list_any}
+use Rattle.idna.specs.Labels.{labels_of}
 use Rattle.std.proofs.Math.Bool.{and-false}
 use Rattle.std.proofs.lemmas.Bool.{cond-true, cond-false}
-use Rattle.std.proofs.lemmas.List.{length-map}
+use Rattle.std.proofs.lemmas.List.{length-map, map-append}
 use Rattle.std.proofs.lemmas.List.Elements.{All-nil, All-more}
 use Rattle.idna.specs.Validity.{hyphen, has_ace_prefix}
 use Rattle.idna.specs.Uts46.{verify_dns_length}
 use Rattle.idn_text.specs.declared.refusal.Refusal.TheVariants.{LookupLength}
 use Rattle.idn_label.specs.Lookup.{deny_list}
 use Rattle.idn_label.specs.LdhNames.{is_name_point, may_end}
-use Rattle.idn_label.proofs.LdhLabels.{split_nothing, same_split, split_letter, split_hyphen, split_stop, split_free, split_measured}
+use Rattle.idn_label.proofs.LdhLabels.{split_nothing, same_split, split_letter, split_hyphen, split_stop, split_free, split_measured, split_prefix}
 use Rattle.idn_label.proofs.LdhNames.{lower_some, lowercase_push, to_ascii-lowercase_name}
 use Rattle.idn_label.proofs.LookupLemmas.{Gives-measured}
 use Rattle.idn_label.proofs.query.ldh.ldh_query.Goals as goal
@@ -101,3 +103,23 @@ returns-else-have_lengths-clause-answer g c std3 =
       | else-have_lengths-via-else-have_lengths w ↦ split_measured c.loop-octet.invariant.labels ∙ rw w.if-have_lengths.false refl
     ] in
     Gives-measured (Err LookupLength) name query query std3 refl given (λ _. cond-false _ _ _ fits)
+
+-- A hyphen that ends the prefix stands in a label of the name.
+pub returns-in_default-clause-told : goal.returns-in_default-clause-told
+returns-in_default-clause-told g c ldh =
+    let name = c.args.name.now in
+    let query = c.loop-octet.query.items in
+    let i = c.loop-octet.octet-index in
+    let start = c.loop-octet.start in
+    let lower = c.lowercase_octet-lower.result in
+    let rest = map to_ascii_lowercase (drop (i + 1) name) in
+    let some = lower_some (get_or name i 0) lower c.lowercase_octet-lower.ensures (omega (arith, c.in-45.is)) in
+    let more = lowercase_push name query c.push.new.self.items i lower c.loop-octet-test.true some.0 c.push.ensures.items c.loop-octet.invariant.lower in
+    let hyphens : query ++ hyphen ∷ [] ≡ c.push.new.self.items = ap (λ x. query ++ x ∷ []) (sym c.in-45.is) ∙ sym c.push.ensures.items in
+    let parts : map to_ascii_lowercase name ≡ (query ++ hyphen ∷ []) ++ rest =
+    sym (ap (map to_ascii_lowercase) (take-append-drop (i + 1) name)) ∙ map-append to_ascii_lowercase (take (i + 1) name) (drop (i + 1) name) ∙ ap (λ x. x ++ rest) (sym (hyphens ∙ more)) in
+    let slice = c.as_slice.result.now in
+    let whole : take (length slice - start) (drop start slice) ≡ drop start (query ++ hyphen ∷ []) =
+    take_all _ (drop start slice) (omega (arith, length-drop start slice)) ∙ ap (drop start) (c.as_slice.ensures.value ∙ sym hyphens) in
+    let prefix = ap has_ace_prefix (sym whole) ∙ sym c.has_ace_prefix.ensures ∙ c.if-not-has_ace_prefix.false in
+    sym ldh.no_a_label ∙ ap (λ x. list_any has_ace_prefix (labels_of x)) parts ∙ split_prefix c.loop-octet.invariant.labels rest prefix

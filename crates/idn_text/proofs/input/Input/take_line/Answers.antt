@@ -1,7 +1,7 @@
 use Rattle.std.proofs.lemmas.Result.{err_from_is_err_and}
 use Rattle.std.proofs.Common.{◌++◌, ◌∙◌, length, Ok, refl, ap, arith}
 use Rattle.idn_text.specs.Taking.{Input}
-use Rattle.idn_text.proofs.TakingLemmas.{takes_then, takes_read}
+use Rattle.idn_text.proofs.TakingLemmas.{takes_then, takes_read, fails_from}
 use Rattle.idn_text.proofs.input.Input.take_line.Goals as goal
 
 pub returns-then-take_held-clause-line : goal.returns-then-take_held-clause-line
@@ -17,7 +17,7 @@ returns-in_err-fill-clause-failed g c =
     let more = c.if-take_held.ensures.taken in
     let emptied = ap length (c.if-take_held.ensures.rest refl) in
     let counted = c.in_err-fill.ensures.counted in
-    rw p.1 (before.0 ++ more.0, takes_read _ _ _ (before.0 ++ more.0) _ 1 (takes_then _ _ _ before.0 more.0 _ 0 before.2 more.1) c.in_err-fill.ensures.same (omega (arith, emptied, counted)) c.in_err-fill.ensures.called, c.in_err-fill.ensures.failed)
+    rw p.1 (before.0 ++ more.0, takes_read _ _ _ (before.0 ++ more.0) _ 1 (takes_then _ _ _ before.0 more.0 _ 0 before.2 more.1) c.in_err-fill.ensures.same (omega (arith, emptied, counted)) c.in_err-fill.ensures.called, fails_from _ _ _ (ap (λ (v : Input). v.reader.faults) c.if-take_held.ensures.same ∙ before.3) c.in_err-fill.ensures.failed)
 
 pub returns-then-not-branch-clause-line : goal.returns-then-not-branch-clause-line
 returns-then-not-branch-clause-line g c =

@@ -25,7 +25,7 @@ returns-then-self-eq-LINE_LIMIT-clause-lines g c start given lines has =
       | else-not-has_feed-via-then-not-has_feed+else-is_empty w ↦ cc ((w.is_empty.ensures taken.0 taken.1).1 e, w.if-is_empty.false)
       | else-not-has_feed-via-else-not-has_feed w ↦ cc (h, w.if-not-has_feed.false)
     ] in
-    (taken.0 ++ cond c.in_ok-has_feed.has_feed (10 ∷ []) [], has_too_many start _ _ given taken.0 lines c.in_ok-has_feed.has_feed before is_open taken.2 some c.if-self-eq-LINE_LIMIT.true refl refl)
+    (taken.0 ++ cond c.in_ok-has_feed.has_feed (10 ∷ []) [], has_too_many start _ _ given taken.0 lines c.in_ok-has_feed.has_feed before is_open taken.2 c.in_ok-has_feed.ensures.no_fault some c.if-self-eq-LINE_LIMIT.true refl refl)
 
 pub returns-clause-lines : goal.returns-clause-lines
 returns-clause-lines g c start given lines has =

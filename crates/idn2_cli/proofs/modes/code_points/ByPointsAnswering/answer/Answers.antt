@@ -1,4 +1,5 @@
-use Rattle.std.proofs.Common.{◌∙◌, sym}
+use Rattle.std.proofs.Common.{◌∙◌, sym, subst}
+use Rattle.idn_text.proofs.Utf8Lemmas.{points_from_utf8}
 use Rattle.idn2_cli.proofs.TextAnswers.{text_answer-not_utf8, text_answer-empty, text_answer-points}
 use Rattle.idn2_cli.proofs.modes.code_points.ByPointsAnswering.answer.Goals as goal
 
@@ -27,3 +28,9 @@ pub returns-in-Ok-2-clause-refused : goal.returns-in-Ok-2-clause-refused
 returns-in-Ok-2-clause-refused g c =
     let some = sym c.is_empty.ensures ∙ c.if-is_empty.false in
     rw (text_answer-points (g.M.PointAnswering.answer_of c.args.self.now.mode.now) _ _ c.in-Ok-2.ensures.decoded some) (rw c.as_slice.ensures.value at c.answer_points.ensures.refused)
+
+pub returns-in-Ok-2-clause-no_memory : goal.returns-in-Ok-2-clause-no_memory
+returns-in-Ok-2-clause-no_memory g c =
+    λ none.
+    let points = points_from_utf8 _ _ c.in-Ok-2.ensures.decoded ∙ sym c.as_slice.ensures.value in
+    c.answer_points.ensures.no_memory (subst (g.M.PointAnswering.needs_none c.args.self.now.mode.now) points none)

@@ -2,9 +2,19 @@ use Rattle.std.proofs.Common.{Ok, IsAscii, sym, ap, ◌∙◌, rules}
 use Rattle.idn_label.specs.Decode.{decode_answer}
 use Rattle.idn2_cli.specs.Answers.{one_line}
 use Rattle.idn_label.specs.Steps.{in_utf8}
-use Rattle.idn2_cli.proofs.TextAnswers.{text_answer-ascii, pieces_for-line, one_line-answered, one_line-refused}
+use Rattle.idn2_cli.proofs.TextAnswers.{text_answer-none, text_answer-ascii, pieces_for-line, one_line-answered, one_line-refused}
 use Rattle.idn2_cli.proofs.Refusing.{emits_refusal, refused_is}
 use Rattle.idn2_cli.proofs.modes.decode.DecodeAnswering.answer.Goals as goal
+
+pub returns-then-is_empty-clause-written : goal.returns-then-is_empty-clause-written
+returns-then-is_empty-clause-written g c =
+    let none = sym c.is_empty.ensures ∙ c.if-is_empty.true in
+    rw (text_answer-none (λ name. one_line (in_utf8 (decode_answer name))) c.args.text.now none) (c.refuse.ensures.told (λ e. cc))
+
+pub returns-then-is_empty-clause-refused : goal.returns-then-is_empty-clause-refused
+returns-then-is_empty-clause-refused g c =
+    let none = sym c.is_empty.ensures ∙ c.if-is_empty.true in
+    rw (text_answer-none (λ name. one_line (in_utf8 (decode_answer name))) c.args.text.now none) c.refuse.ensures.refused
 
 pub returns-in-Ok-clause-written : goal.returns-in-Ok-clause-written
 returns-in-Ok-clause-written g c =
@@ -12,7 +22,7 @@ returns-in-Ok-clause-written g c =
     let answer = in_utf8 (decode_answer text) in
     let some = sym c.is_empty.ensures ∙ c.if-is_empty.false in
     let ascii : IsAscii text = search rules in
-    rw (text_answer-ascii (λ name. one_line (in_utf8 (decode_answer name))) text ascii some, pieces_for-line c.args.number answer c.as_slice.result.now (c.in-Ok.ensures ∙ ap Ok (sym c.as_slice.ensures.value)))
+    rw (text_answer-ascii (λ name. one_line (in_utf8 (decode_answer name))) text ascii some, pieces_for-line c.args.number answer c.as_slice.result.now (c.in-Ok.ensures.answer ∙ ap Ok (sym c.as_slice.ensures.value)))
     c.reply.ensures.written
 
 pub returns-in-Ok-clause-refused : goal.returns-in-Ok-clause-refused
@@ -21,7 +31,7 @@ returns-in-Ok-clause-refused g c =
     let answer = in_utf8 (decode_answer text) in
     let some = sym c.is_empty.ensures ∙ c.if-is_empty.false in
     let ascii : IsAscii text = search rules in
-    rw (text_answer-ascii (λ name. one_line (in_utf8 (decode_answer name))) text ascii some, one_line-answered answer _ c.in-Ok.ensures) c.reply.ensures.refused
+    rw (text_answer-ascii (λ name. one_line (in_utf8 (decode_answer name))) text ascii some, one_line-answered answer _ c.in-Ok.ensures.answer) c.reply.ensures.refused
 
 pub returns-in-Err-clause-written : goal.returns-in-Err-clause-written
 returns-in-Err-clause-written g c =
@@ -29,7 +39,7 @@ returns-in-Err-clause-written g c =
     let answer = in_utf8 (decode_answer text) in
     let some = sym c.is_empty.ensures ∙ c.if-is_empty.false in
     let ascii : IsAscii text = search rules in
-    emits_refusal _ _ _ c.in-Err.refusal _ c.refuse.result (λ other. text_answer-ascii (λ name. one_line (in_utf8 (decode_answer name))) text ascii some ∙ one_line-refused answer c.in-Err.refusal (c.in-Err.ensures other)) c.refuse.ensures.told c.refuse.ensures.memory
+    emits_refusal _ _ _ c.in-Err.refusal _ c.refuse-in-Err.result (λ other. text_answer-ascii (λ name. one_line (in_utf8 (decode_answer name))) text ascii some ∙ one_line-refused answer c.in-Err.refusal (c.in-Err.ensures.answer other)) c.refuse-in-Err.ensures.told c.refuse-in-Err.ensures.memory
 
 pub returns-in-Err-clause-refused : goal.returns-in-Err-clause-refused
 returns-in-Err-clause-refused g c =
@@ -37,4 +47,4 @@ returns-in-Err-clause-refused g c =
     let answer = in_utf8 (decode_answer text) in
     let some = sym c.is_empty.ensures ∙ c.if-is_empty.false in
     let ascii : IsAscii text = search rules in
-    refused_is c.in-Err.refusal _ c.refuse.result (λ other. text_answer-ascii (λ name. one_line (in_utf8 (decode_answer name))) text ascii some ∙ one_line-refused answer c.in-Err.refusal (c.in-Err.ensures other)) c.refuse.ensures.memory c.refuse.ensures.refused
+    refused_is c.in-Err.refusal _ c.refuse-in-Err.result (λ other. text_answer-ascii (λ name. one_line (in_utf8 (decode_answer name))) text ascii some ∙ one_line-refused answer c.in-Err.refusal (c.in-Err.ensures.answer other)) c.refuse-in-Err.ensures.memory c.refuse-in-Err.ensures.refused

@@ -5,5 +5,5 @@ use Rattle.idn2_cli.proofs.modes.register.RegisterPointAnswering.answer_points.G
 
 pub returns-in-Err-clause-written : goal.returns-in-Err-clause-written
 returns-in-Err-clause-written g c =
-    emits_refusal _ _ _ c.in-Err.refusal _ c.refuse.result (λ other. one_line-refused (register_answer c.args.points.now) c.in-Err.refusal (c.in-Err.ensures other))
+    emits_refusal _ _ _ c.in-Err.refusal _ c.refuse.result (λ other. one_line-refused (register_answer c.args.points.now) c.in-Err.refusal (c.in-Err.ensures.answer other))
     c.refuse.ensures.told c.refuse.ensures.memory
