@@ -8,7 +8,7 @@ abbrev pub begins_with : ℕ → List ℕ → Bool
 begins_with point [] = false
 begins_with point (c ∷ label) = c == point
 
--- the list begins with another one
+-- the list begins with another code point
 abbrev pub begins_otherwise : ℕ → List ℕ → Bool
 begins_otherwise point [] = false
 begins_otherwise point (c ∷ label) = not (c == point)

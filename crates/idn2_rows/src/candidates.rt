@@ -1,4 +1,4 @@
-//! The candidates of a net, step by step: which come, from where on, and what a step costs.
+//! The candidates of a net, step by step: which ones come, after which text, and what a step costs.
 use crate::nets::{BLIND, DOUBLED, HYPHENS, SHARP_S, net, net_of, points};
 use std::alloc::Global;
 use std::test::Fail;
@@ -45,7 +45,7 @@ fn each_candidate_once_from_any_text_on(rt: HostRuntime) -> Result<(), Fail> {
     Ok(())
 }
 
-/// The lengths of the candidates of so many times a.
+/// The lengths of the candidates of a label of `count` letters a.
 fn lengths(alloc: Global, count: usize) -> Result<Vec<usize>, Fail> {
     let label: Vec<u32> = vec![in alloc; 97; count]?;
     let net = net_of(alloc, &Table::read(alloc, DOUBLED)?, &label)?;
@@ -109,7 +109,7 @@ fn an_ended_listing_stays_ended(rt: HostRuntime) -> Result<(), Fail> {
     Ok(())
 }
 
-/// At each candidate some edges are looked at, and at most 256 times as many as there are. The bits of the rows stay.
+/// For each candidate some edges are tested, and at most 256 times as many as there are. The rows keep their size.
 #[test]
 fn looks_at_edges_are_counted(rt: HostRuntime) -> Result<(), Fail> {
     let alloc = rt.alloc();
@@ -146,7 +146,7 @@ fn looks_at_edges_are_counted(rt: HostRuntime) -> Result<(), Fail> {
     Ok(())
 }
 
-/// Each look is counted: of each step so many, and of the one that finds no label.
+/// How many edges each step tests, also the one that finds no label.
 #[test]
 fn looks_of_each_step(rt: HostRuntime) -> Result<(), Fail> {
     let net = net(rt.alloc(), SHARP_S, "sss")?;

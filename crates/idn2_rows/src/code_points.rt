@@ -34,7 +34,7 @@ fn classes(rt: HostRuntime) {
     }
 }
 
-/// Letters of some scripts, a digit and the hyphen cause no fault in a label of such alone.
+/// Letters of some scripts, a digit and the hyphen need none of the tests.
 #[test]
 fn simple_code_points_have_no_fact(rt: HostRuntime) {
     for c in [0x61, 0x39, 0x2D, 0xDF, 0x3B1, 0x430, 0x4E2D, 0xAC00] {

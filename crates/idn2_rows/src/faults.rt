@@ -1,4 +1,4 @@
-//! Runs in which one read, or one byte of a writer, is refused: each in turn. What then stands on both writers, and the
+//! Runs in which one read, or the write of one byte, fails, each in turn: what then stands on both writers, and the
 //! status.
 use crate::row::{Given, ROOM, answers, options_of};
 use idn_text::hostile::{StopReader, StopWriter};
@@ -29,7 +29,7 @@ const WRITE_FAULT: &[u8] = b"idn2: 61 write fault\n";
 /// A line of the input with its line feed, its answer, and its message; the first is empty where no line is read.
 struct Line(&'static [u8], &'static [u8], &'static [u8]);
 
-/// A run in which nothing is refused.
+/// A run in which nothing fails.
 struct Case {
     words: &'static [&'static str],
     table: &'static [u8],
@@ -45,7 +45,7 @@ enum Stream {
 }
 
 impl Line {
-    /// What the line has of a stream.
+    /// The part of a stream that belongs to the line.
     fn part(&self, stream: Stream) -> &'static [u8] {
         match stream {
             Stream::Input => self.0,
@@ -173,7 +173,7 @@ const CASES: [Case; 14] = [
     },
 ];
 
-/// What some lines have of a stream.
+/// The part of a stream that belongs to some lines.
 fn joined(alloc: Global, lines: &[Line], stream: Stream) -> Result<Vec<u8>, AllocError> {
     let mut joined = Vec::new(alloc);
     for line in lines {
@@ -194,8 +194,8 @@ fn lines_before(lines: &[Line], stream: Stream, place: usize) -> &[Line] {
     lines
 }
 
-/// Runs a case whose stream fails at a place: those lines stand that ended before it, of a writer also the bytes before
-/// it, and then the message of the fault.
+/// Runs a case whose stream fails at a place. What then stands are the lines that ended before it, on a writer also the
+/// bytes before it, and the message of the fault.
 fn assert_stops(
     rt: &impl Abort,
     alloc: Global,
@@ -245,7 +245,8 @@ fn assert_stops(
     Ok(())
 }
 
-/// Each read of each input, its end too, and each byte of each writer. Where no line is read, no read can fail.
+/// Each read of each input, also the one at its end, and each byte of each writer. Where no line is read, no read can
+/// fail.
 #[test]
 fn each_place_of_each_stream_fails(rt: HostRuntime) -> Result<(), Fail> {
     let alloc = rt.alloc();
@@ -282,7 +283,7 @@ fn read_fault_stays(rt: HostRuntime) -> Result<(), Fail> {
     Ok(())
 }
 
-/// A rest of the input without a line feed is not served where a read fails after it.
+/// The last bytes of the input, without a line feed, are not answered where a read fails after them.
 #[test]
 fn read_fails_behind_half_a_line(rt: HostRuntime) -> Result<(), Fail> {
     for (piece, fail_at) in [(1, 6), (ROOM, 2)] {

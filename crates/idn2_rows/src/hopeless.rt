@@ -1,7 +1,7 @@
 //! Beginnings after which no label can be registered, whatever follows.
 use idn_class::{hopeless, shortest_hopeless};
 
-/// What a list shows, its code points, and how many of them are hopeless as soon as they stand.
+/// What a list shows, its code points, and how long its shortest hopeless beginning is, if it has one.
 type Case = (&'static str, &'static [u32], Option<usize>);
 
 /// RFC 5891, sections 4.2.3.1 and 4.2.3.2.

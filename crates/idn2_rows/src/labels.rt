@@ -22,7 +22,7 @@ const REGISTERED: [Row; 8] = [
         messages: "",
         status: 0,
     },
-    // A capital is not mapped, but refused (RFC 5891, section 4.2.2); the line after it is served.
+    // A capital is not mapped, but refused (RFC 5891, section 4.2.2); the line after it is answered.
     Row {
         words: &["-r"],
         table: b"",
@@ -90,7 +90,8 @@ const DECODED: [Row; 3] = [
         messages: "",
         status: 0,
     },
-    // No A-labels: one of a DISALLOWED code point, one of ASCII alone, and one of nothing (RFC 5890, section 2.3.2.1).
+    // Not A-labels: the prefix and the Punycode of a DISALLOWED code point, of ASCII alone, and of nothing (RFC 5890,
+    // section 2.3.2.1).
     Row {
         words: &["-d"],
         table: b"",

@@ -2,7 +2,7 @@
 use crate::row::{Given, ROOM, Row, answers, hold};
 use std::test::Fail;
 
-/// What is told of a line, and that the next one is served.
+/// What is reported of a line, and that the next one is answered.
 const LINES: [Row; 16] = [
     // An empty line, in register.
     Row {
@@ -139,7 +139,8 @@ const LINES: [Row; 16] = [
         messages: "",
         status: 0,
     },
-    // A line of 1,024 bytes is read, one whose carriage return is the 1,025th is not, and a carriage return is empty.
+    // A line of 1,024 bytes is read; one whose carriage return is its 1,025th byte is not; a carriage return alone is an
+    // empty line.
     Row {
         words: &["-r"],
         table: b"",
@@ -166,7 +167,7 @@ fn lines(rt: HostRuntime) -> Result<(), Fail> {
     hold(&rt, rt.alloc(), &LINES)
 }
 
-/// A line that is no UTF-8 is refused, and the next one is served.
+/// A line that is not UTF-8 is refused, and the next one is answered.
 #[test]
 fn bytes_that_are_no_utf8(rt: HostRuntime) -> Result<(), Fail> {
     for (words, output) in MODES {

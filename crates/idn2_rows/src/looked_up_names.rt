@@ -1,5 +1,5 @@
-//! Lookup of names, whichever way it goes. But for the capital sharp s, which UTS 46 has mapped otherwise since Unicode
-//! 15.1, and for what libidn2 does not ask of a name or asks besides, the answers are those of its `idn2`.
+//! Lookup of names, on each way through the code. The answers are those of libidn2's `idn2`, except for the capital
+//! sharp s, which UTS 46 has mapped differently since Unicode 15.1, and for what only one of the programs requires.
 use crate::label_calls::{letters, points_of};
 use arrayvec::ArrayVec;
 use idn_label::{lookup, lookup_utf8};
@@ -8,7 +8,7 @@ use std::alloc::Global;
 use std::process::Abort;
 use std::test::Fail;
 
-/// Names that the ASCII rules change nothing of, and their queries.
+/// Names for which the ASCII rules make no difference, and their queries.
 const TAKEN: [(&str, &str); 31] = [
     ("Faß.de", "xn--fa-hia.de"),
     ("Example.COM", "example.com"),
@@ -43,7 +43,7 @@ const TAKEN: [(&str, &str); 31] = [
     ("ක\u{DCA}\u{200D}ෂ", "xn--3zc4fxa418p"),
 ];
 
-/// Names that are refused, whichever the ASCII rules are.
+/// Names that are refused, with and without the ASCII rules.
 const REFUSED: [(&str, Refusal); 19] = [
     // The Bidi rule over a name, a joiner, and an A-label of a DISALLOWED code point (UTS #46, section 4.1).
     ("0a.\u{5D0}", Refusal::LookupInvalid),
@@ -97,7 +97,7 @@ const LONG: [(usize, &str, Result<(usize, &str), Refusal>); 8] = [
     (64, ".ü", Err(Refusal::LookupLength)),
 ];
 
-/// By code points, and by UTF-8 into a room where something stood before.
+/// By code points, and by UTF-8 into a buffer that holds something from before.
 fn looks_up(
     rt: &impl Abort,
     alloc: Global,

@@ -9,7 +9,7 @@ use std::alloc::Global;
 use std::process::Abort;
 use std::test::Fail;
 
-/// Reports a fault to a writer with this room, and asserts what it took, and the status.
+/// Reports a fault to a writer that has room for so many bytes, and asserts what it took and the status.
 fn reports(
     rt: &impl Abort,
     alloc: Global,

@@ -101,7 +101,7 @@ fn labels_that_are_spelled(rt: HostRuntime) -> Result<(), Fail> {
     Ok(())
 }
 
-/// So many times a for 63 of them, each of which may be doubled: from 63 to 126.
+/// A label of 63 letters a, each of which may be doubled, spells from 63 to 126 of them.
 #[test]
 fn spelled_labels_of_more_than_63_code_points(rt: HostRuntime) -> Result<(), Fail> {
     let alloc = rt.alloc();
@@ -128,7 +128,7 @@ fn spelled_labels_of_more_than_63_code_points(rt: HostRuntime) -> Result<(), Fai
     Ok(())
 }
 
-/// Labels that are stuck at their beginning, in their midst and at their end.
+/// Labels that no source fits at the beginning, in the middle and at the end.
 const STUCK: [(&[u8], &str); 4] = [
     (DOUBLED, "ba"),
     (DOUBLED, "aba"),

@@ -84,7 +84,7 @@ fn summary_of(alloc: Global, line: &str) -> Result<String, AllocError> {
     }
 }
 
-/// Words, parted by bars, and what they are read as.
+/// Words, separated by bars, and what they are read as.
 const READ: [(&str, &str); 13] = [
     ("idn2", "Lookup false \"\" [] None 1000000 \"none\""),
     (

@@ -1,4 +1,4 @@
-//! Calls over the whole range of sizes: where memory is there, none gives up for want of it.
+//! Calls over the whole range of sizes: while there is memory, none fails for want of it.
 use crate::label_calls::{letters, points_of};
 use crate::row::{Given, ROOM, answers, options_of};
 use idn_label::test_label;
@@ -7,8 +7,8 @@ use std::alloc::Global;
 use std::test::Fail;
 use variant_table::Table;
 
-/// What stands after some letters a, and how many letters there may be. Look-ups tell all of the first two; of the others
-/// the class or the normalization is asked.
+/// What follows some letters a, and how many letters there may be. Look-ups tell all that is needed for the first two;
+/// for the others the class or the normalization is computed.
 const ENDS: [(&str, usize); 4] = [
     ("", 63),
     ("ß", 55),
@@ -120,7 +120,7 @@ fn the_largest_table(rt: HostRuntime) -> Result<(), Fail> {
     answers(&rt, alloc, &given, block.as_bytes(), b"", 0)
 }
 
-/// Words in every number.
+/// From no STRINGS to 99.
 #[test]
 fn strings_in_every_number(rt: HostRuntime) -> Result<(), Fail> {
     let mut words = Vec::new(rt.alloc());

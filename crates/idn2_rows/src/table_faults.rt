@@ -135,7 +135,8 @@ fn long_texts(rt: HostRuntime) -> Result<(), Fail> {
     Ok(())
 }
 
-/// Behind 4,096 entries another one is too many, whatever else is wrong with it; a line that is none is told first.
+/// After 4,096 entries another one is too many, whatever else is wrong with it; a line that is no entry is reported as
+/// such.
 #[test]
 fn many_entries(rt: HostRuntime) -> Result<(), Fail> {
     let alloc = rt.alloc();

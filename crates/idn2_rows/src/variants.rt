@@ -9,7 +9,7 @@ use std::process::Abort;
 use std::test::Fail;
 use variant_list::{Cursor, Filter, Step};
 
-/// Accepts the labels that begin with this code point, and tells of no list that it is hopeless.
+/// Accepts the labels that begin with this code point, and calls no list hopeless.
 struct BeginsWith(u32);
 
 impl Filter for BeginsWith {
@@ -28,7 +28,7 @@ impl Filter for BeginsWith {
     }
 }
 
-/// Accepts the same labels, and tells that all lists that begin otherwise are hopeless.
+/// Accepts the same labels, and calls all lists hopeless that begin differently.
 struct OnlyBehind(u32);
 
 impl Filter for OnlyBehind {

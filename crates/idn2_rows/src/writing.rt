@@ -64,7 +64,7 @@ fn no_call_follows_a_fault(rt: HostRuntime) {
     );
 }
 
-/// A fault from before a call is no cause to give up: the writer is asked again.
+/// A fault of an earlier call does not stop a later one: the writer is asked again.
 #[test]
 fn a_writer_that_failed_before_is_asked(rt: HostRuntime) {
     let mut writer = Device::new(LateWriter { calls: 0 });

@@ -233,7 +233,7 @@ no_version_line e h =
     ap (λ l. bytes_eq l version_line) (strip_nothing (canonical_line e) (texts_in_line (entry_tokens e) (entry_scalar_tokens e h)))
     ∙ false_from_ne_true (bytes_eq (canonical_line e) version_line) (begins_by_digit e.source (variants_tokens e.variants) (sequences_filled (replacements e) all).0 (sequences_scalar (replacements e) all).0)
 
--- lines that begin with no version line
+-- lines of which the first is no version line
 record AreBody (lines : List (List ℕ)) : Type 0 where
   version : version_of lines ≡ One
   head : head_of lines ≡ []

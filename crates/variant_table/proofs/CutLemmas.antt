@@ -15,7 +15,7 @@ use Rattle.variant_table.proofs.TokenLemmas.{blank_no_stop}
 use Rattle.variant_table.proofs.SpelledLemmas.{AreFilled}
 use Rattle.variant_table.specs.Notation.{further_points, sequence_tokens, mark_tokens, variant_tokens, further_variants, variants_tokens, entry_tokens, IsPointText, IsTokenText, AreBlanks, SpellsTokens, IsEntryLine}
 
--- a separator stands alone, and behind a full stop stands another
+-- a byte alone, or bytes of a word, or full stops: a separator stands alone, and a full stop is followed by another
 abbrev IsLexeme : List ℕ → Type 0
 IsLexeme [] = ⊥
 IsLexeme (c ∷ []) = Unit {0}

@@ -144,7 +144,7 @@ module _ (bytes : ℕ) (table : TableValue) (line : List ℕ) where
     | formless k none_here ↦ with_line-formless table.version table.entries (strip_carriage_return line) k none_here
   ]
 
-  -- no entry more is no fault of a table that is within the limits
+  -- a table within the limits stays so when no entry is added
   no_room : length table.entries ≤ 4096 → is_text_too_long table.version table.entries ≡ false → is_over_limit table.version table.entries [] ≡ false
   no_room few fits =
       or_from (nat_lt 4096 (length table.entries + 0) || false) (is_text_too_long table.version (table.entries ++ []))

@@ -1,4 +1,4 @@
--- A line that says nothing.
+-- A blank line or a comment.
 use Rattle.std.proofs.Common.{◌≡◌, ℕ, suc, ◌+◌, Bool, true, false, not, cond, eqb, List, [], ◌∷◌, drop, refl, ap, ◌∙◌, arith}
 use Rattle.variant_table.specs.Tokens.{is_blank}
 use Rattle.variant_table.specs.Reading.{is_skipped}

@@ -1,4 +1,4 @@
--- The canonical text of a table: its tokens with nothing between them, an entry a line; in version 2 behind the version line.
+-- The canonical text of a table: its tokens with nothing between them, one entry on each line, in version 2 after the version line.
 use Rattle.std.specs.Prelude.{ℕ, ◌+◌, ◌/◌, ◌%◌, nat_lt, ◌==◌, List, [], ◌∷◌, ◌++◌, codes, if◌then◌else◌}
 use Rattle.std.specs.List.{flat_map}
 use Rattle.variant_table.specs.declared.token.Token.{Token}
@@ -12,7 +12,7 @@ use Rattle.variant_table.specs.Notation.{sequence_tokens, entry_tokens}
 abbrev pub hex_digit : ℕ → ℕ
 hex_digit d = if nat_lt d 10 then 48 + d else 55 + d
 
--- the four last digits
+-- the last four digits
 abbrev pub four_digits : ℕ → List ℕ
 four_digits c = hex_digit (c / 4096 % 16) ∷ hex_digit (c / 256 % 16) ∷ hex_digit (c / 16 % 16) ∷ hex_digit (c % 16) ∷ []
 
@@ -41,7 +41,7 @@ tokens_text tokens = flat_map token_text tokens
 abbrev pub sequence_text : List ℕ → List ℕ
 sequence_text s = tokens_text (sequence_tokens s)
 
--- '|' before the first variant, ':' before each other one, of these numbers from 0
+-- what stands before the variant of this number, from 0: '|' before the first, ':' before each other one
 abbrev pub separator : ℕ → ℕ
 separator variant = if variant == 0 then 124 else 58
 

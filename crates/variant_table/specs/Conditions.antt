@@ -8,7 +8,7 @@ use Rattle.variant_table.specs.Entries.{Entry, replacements}
 use Rattle.variant_table.specs.Canonical.{table_text}
 use Rattle.variant_table.specs.WellFormed.{is_table_class}
 
--- more than 1,024 bytes, or past byte 1,048,576 of the text with its line feed, where so many bytes stand before it
+-- a line of more than 1,024 bytes, or one that ends, with its line feed, past byte 1,048,576 of the text, where it comes after so many bytes
 abbrev pub is_too_long : ℕ → List ℕ → Bool
 is_too_long bytes line = nat_lt 1024 (length line) || nat_lt 1048576 (bytes + length line + 1)
 

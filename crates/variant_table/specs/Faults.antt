@@ -11,7 +11,7 @@ pub data LineFault : Type 0 where
   SameVariant : LineFault
   SameSource : LineFault
 
--- the fault of the table of whose line of this number it is told
+-- the fault of a table, by the number of its line and what is told of that line
 abbrev pub table_fault : ℕ → LineFault → TableFault
 table_fault line Limit = tables.Limit line
 table_fault line Syntax = tables.Syntax line

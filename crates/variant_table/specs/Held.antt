@@ -41,12 +41,12 @@ entry_at sequences s = entry_from (part_at sequences s)
 abbrev pub entries_of : List Variant → List Span → List Entry
 entries_of sequences spans = map (entry_at sequences) spans
 
--- the bytes of a canonical text, of which version 1, which doesn't limit them, counts none
+-- how many bytes of a canonical text are counted: none in version 1, which doesn't limit them
 abbrev pub counted : Version → List ℕ → ℕ
 counted One text = 0
 counted Two text = length text
 
--- so many bytes are counted of the canonical text of a table, which is within the limit
+-- so many bytes are counted of the canonical text of a table, and they are within the limit
 pub record IsCounted (version : Version) (written : ℕ) (table : List Entry) : Type 0 where
   pub count : written ≡ counted version (table_text version table)
   pub within : written ≤ 1048576

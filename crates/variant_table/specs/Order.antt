@@ -24,7 +24,7 @@ pub record IsGapFor (table : List Entry) (order : List ℕ) (source : List ℕ) 
   pub before : (i : ℕ) → i < place → slice_cmp nat_cmp (source_at table order i) source ≡ Less
   pub behind : (i : ℕ) → place ≤ i → i < length order → slice_cmp nat_cmp (source_at table order i) source ≡ Greater
 
--- the source stands at the place that is found, or nowhere, and then the place is where it would stand
+-- the source stands at the place that is found; or it stands nowhere, and the place is where it would stand
 abbrev pub IsPlaceFor : List Entry → List ℕ → List ℕ → Place → Type 0
 IsPlaceFor table order source (Found place) = (place < length order) × (source_at table order place ≡ source)
 IsPlaceFor table order source (Absent place) = IsGapFor table order source place

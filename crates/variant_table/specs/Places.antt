@@ -21,7 +21,7 @@ entries_from table beginning (c ∷ rest) = option_to_list (entry_with table (be
 abbrev pub entries_at : List Entry → List ℕ → ℕ → List Entry
 entries_at table label place = entries_from table [] (take 8 (drop place label))
 
--- the same, of those sources that are longer than this
+-- the same for the sources that are longer than this
 abbrev pub entries_longer : List Entry → List ℕ → ℕ → ℕ → List Entry
 entries_longer table label place len = entries_from table (slice_range label place (place + len)) (drop len (take 8 (drop place label)))
 

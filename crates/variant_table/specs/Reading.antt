@@ -19,13 +19,13 @@ use Rattle.variant_table.specs.Conditions.{is_too_long, is_over_limit, has_bad_c
 
 -- ---- answers
 
--- what f gives of an answer, or its fault
+-- what f makes of an answer, or the fault
 infixl 10 ◌>>=◌
 abbrev pub ◌>>=◌ : {A B F : Type 0} → Result A F → (A → Result B F) → Result B F
 (Ok x) >>= f = f x
 (Err e) >>= f = Err e
 
--- a call fails with what reading the line of this number tells, unless memory was refused
+-- a call fails with the fault of the line of this number, unless memory was refused
 abbrev pub Fails : {Y : Type 0} → ℕ → TableFault → Result Y LineFault → Type 0
 Fails number tables.Memory read = Unit {0}
 Fails number (tables.Limit line) read = (line ≡ number) × (read ≡ Err Limit)
@@ -34,7 +34,7 @@ Fails number (tables.BadClass line) read = (line ≡ number) × (read ≡ Err Ba
 Fails number (tables.SameVariant line) read = (line ≡ number) × (read ≡ Err SameVariant)
 Fails number (tables.SameSource line) read = (line ≡ number) × (read ≡ Err SameSource)
 
--- where a call succeeds, y is what reading the line of this number gives; its fault is as said
+-- if a call succeeds, y is what reading the line of this number gives; if it fails, it is with the fault of that line
 abbrev pub Leaves : {X Y : Type 0} → ℕ → Result X TableFault → Y → Result Y LineFault → Type 0
 Leaves number (Ok x) y read = read ≡ Ok y
 Leaves number (Err fault) y read = Fails number fault read
@@ -62,7 +62,7 @@ begun blocked c = record { sequence = c ∷ []; blocked = blocked }
 abbrev pub longer : Variant → ℕ → Variant
 longer v c = record { sequence = v.sequence ++ c ∷ []; blocked = v.blocked }
 
--- behind a point: the sequences that are ended, and the one that this point may end
+-- after a point: the sequences that are complete, and the one that this point may complete
 unfoldable pub sequences_after : Bool → List Variant → Variant → List Token → Result (List Variant) LineFault
 sequences_after in_variants ended current [] = Ok (ended ++ current ∷ [])
 sequences_after in_variants ended current (Hyphen ∷ Point c ∷ tokens) = sequences_after in_variants ended (longer current c) tokens
@@ -82,15 +82,15 @@ abbrev pub has_mark_out_of_place : Version → List Variant → Bool
 has_mark_out_of_place One sequences = list_any (λ v. v.blocked) sequences
 has_mark_out_of_place Two sequences = false
 
--- the entry of these sequences alone, where the version has it
+-- the entry of these sequences as a list of one, if the version has such an entry
 abbrev pub entry_alone : Version → List Variant → Result (List Entry) LineFault
 entry_alone version sequences = if has_mark_out_of_place version sequences then Err Syntax else Ok (entry_from sequences ∷ [])
 
--- the entry of tokens, where the version has it
+-- the same for the sequences of tokens
 abbrev pub entry_of_tokens : Version → List Token → Result (List Entry) LineFault
 entry_of_tokens version tokens = sequences_of tokens >>= entry_alone version
 
--- the ends of the range that tokens are, where the version has ranges
+-- the ends of the range that tokens spell, if the version has ranges
 abbrev pub range_ends : Version → List Token → Option (ℕ × ℕ)
 range_ends Two (Point first ∷ Range ∷ Point last ∷ []) = Some (first, last)
 range_ends version tokens = None
@@ -130,7 +130,7 @@ with_line version table line =
     if is_skipped line then Ok table else
     (entries_of_tokens version (tokens_of line) >>= with_entries version table)
 
--- the same, of a line as it stands in the text, behind so many bytes
+-- the same for a line as it stands in the text, after so many bytes
 unfoldable pub with_raw_line : Version → ℕ → List Entry → List ℕ → Result (List Entry) LineFault
 with_raw_line version bytes table line = if is_too_long bytes line then Err Limit else with_line version table (strip_carriage_return line)
 
@@ -139,7 +139,7 @@ abbrev pub in_line : {A : Type 0} → ℕ → Result A LineFault → Result A (�
 in_line number (Ok x) = Ok x
 in_line number (Err fault) = Err (number, fault)
 
--- the table with what lines add, the first of which has this number and stands behind so many bytes
+-- the table with what lines add; the first of them has this number and comes after so many bytes
 unfoldable pub with_lines : Version → ℕ → ℕ → List Entry → List (List ℕ) → Result (List Entry) (ℕ × LineFault)
 with_lines version number bytes table [] = Ok table
 with_lines version number bytes table (line ∷ lines) =
@@ -170,7 +170,7 @@ abbrev pub IsPoint : ℕ → Result ℕ TableFault → List Token → List Token
 IsPoint number (Ok c) old new = old ≡ Point c ∷ new
 IsPoint number (Err fault) old new = (fault ≡ tables.Syntax number) × (BeginsWithPoint old → ⊥)
 
--- the first token is a point, or a mark with a point behind it
+-- the first token is a point, or a mark followed by a point
 abbrev pub BeginsVariant : List Token → Type 0
 BeginsVariant (Point c ∷ tokens) = Unit {0}
 BeginsVariant (Mark ∷ Point c ∷ tokens) = Unit {0}

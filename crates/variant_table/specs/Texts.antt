@@ -41,7 +41,7 @@ LinesSpell version (line ∷ lines) table =
     (entries : List Entry) × (others : List Entry)
     × LineSpells version (strip_carriage_return line) entries × LinesSpell version lines others × (table ≡ entries ++ others)
 
--- lines without a fault behind a version line or none, and the table that they spell
+-- lines without a fault, after a version line or without one, and the table that they spell
 pub record AreLinesOf (head lines : List (List ℕ)) (table : TableValue) : Type 0 where
   pub spelled : LinesSpell table.version lines table.entries
   pub short : All (λ line. length line ≤ 1024) lines
@@ -73,7 +73,7 @@ order_of bad_class = 4
 order_of same_variant = 5
 order_of same_source = 6
 
--- what is told of a line of which the condition holds
+-- what is told of a line for which the condition holds
 abbrev pub fault_of : Condition → LineFault
 fault_of too_long = Limit
 fault_of no_form = Syntax
@@ -86,7 +86,7 @@ fault_of same_source = SameSource
 abbrev pub SpellsSuch : Version → List ℕ → (List Entry → Bool) → Type 0
 SpellsSuch version line test = (entries : List Entry) × LineSpells version (strip_carriage_return line) entries × IsTrue (test entries)
 
--- the condition holds of a line, behind so many bytes of lines that spell the table
+-- the condition holds for a line; the lines before it have so many bytes and spell the table
 abbrev pub Holds : ℕ → TableValue → List ℕ → Condition → Type 0
 Holds bytes table line too_long = IsTrue (is_too_long bytes line)
 Holds bytes table line no_form = (entries : List Entry) → LineSpells table.version (strip_carriage_return line) entries → ⊥

@@ -11,9 +11,9 @@ use crate::version::{VERSION_LINE, Version};
 use arrayvec::ArrayVec;
 use std::alloc::AllocError;
 
-/// Writes the canonical text of a sequence of 1 to 8 scalar values in place of what stood there: its
-/// points as upper-case hexadecimal digits, at least four, joined by hyphens. It has at most 55
-/// bytes, and takes no memory.
+/// Writes the canonical text of a sequence of 1 to 8 scalar values, in place of what was in `out`:
+/// each code point in at least four upper-case hexadecimal digits, with hyphens between them. The
+/// text has at most 55 bytes. No memory is taken.
 pub fn write_sequence(sequence: &[u32], out: &mut ArrayVec<u8, 64>)
     requires filled { 1 ≤ length sequence.now }
     requires short { length sequence.now ≤ 8 }
@@ -31,7 +31,7 @@ pub fn write_sequence(sequence: &[u32], out: &mut ArrayVec<u8, 64>)
     }
 }
 
-/// Writes a code point at the end.
+/// Appends a code point.
 #[tactic(auto, unfolding(crate::specs::Canonical::point_text))]
 fn push_point(out: &mut ArrayVec<u8, 64>, point: u32)
     requires point { IsScalarValue point }
@@ -50,7 +50,7 @@ fn push_point(out: &mut ArrayVec<u8, 64>, point: u32)
     }
 }
 
-/// Writes the four last digits of a number at the end.
+/// Appends the last four digits of a number.
 fn push_four(out: &mut ArrayVec<u8, 64>, number: u32)
     requires { array_vec_len out.old ≤ 60 }
     ensures { out.new.items ≡ out.old.items ++ text.four_digits number }
@@ -83,7 +83,7 @@ fn push_byte(out: &mut ArrayVec<u8, 64>, byte: u8)
     out.push(byte);
 }
 
-/// Writes at the end what stands before the entries of a table of this version.
+/// Appends what comes before the entries: the version line in version 2, nothing in version 1.
 pub fn push_head(out: &mut Vec<u8>, version: Version) -> Result<(), AllocError>
     ensures { OnOk result (out.new.items ≡ out.old.items ++ text.head_text version) }
 {
@@ -94,7 +94,7 @@ pub fn push_head(out: &mut Vec<u8>, version: Version) -> Result<(), AllocError>
     Ok(())
 }
 
-/// Writes the canonical line of an entry and its line feed at the end.
+/// Appends the canonical line of an entry and its line feed.
 pub fn push_entry(out: &mut Vec<u8>, entry: &Entry) -> Result<(), AllocError>
     requires { IsEntry entry.now }
     ensures { OnOk result (out.new.items ≡ out.old.items ++ (text.canonical_line entry.now ++ 10 ∷ [])) }
@@ -112,7 +112,7 @@ pub fn push_entry(out: &mut Vec<u8>, entry: &Entry) -> Result<(), AllocError>
     Ok(())
 }
 
-/// Writes the mark of a variant at the end, where it is blocked.
+/// Appends the mark of a variant, if the variant is blocked.
 fn push_mark(out: &mut Vec<u8>, blocked: bool) -> Result<(), AllocError>
     ensures { OnOk result (out.new.items ≡ out.old.items ++ text.tokens_text (mark_tokens blocked)) }
 {
@@ -122,7 +122,7 @@ fn push_mark(out: &mut Vec<u8>, blocked: bool) -> Result<(), AllocError>
     Ok(())
 }
 
-/// What stands before the variant of this number, from 0.
+/// The separator before the variant of this number, counted from 0.
 fn separator_before(variant: usize) -> u8
     ensures { result ≡ text.separator variant }
 {

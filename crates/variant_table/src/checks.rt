@@ -17,7 +17,7 @@ const REPLACEMENT_LIMIT: usize = 17;
 /// The most code points of a sequence.
 const SEQUENCE_LIMIT: usize = 8;
 
-/// Whether there are too many variants, or too many code points in a sequence.
+/// Whether an entry has too many variants, or one of its sequences too many code points.
 pub fn is_too_large(sequences: &Sequences) -> bool
     requires { 0 < length sequences.now }
     ensures { result ≡ conditions.is_too_large (entry_from sequences.now) }
@@ -38,7 +38,7 @@ pub fn has_bad_class(alloc: Global, sequences: &Sequences) -> Result<bool, Alloc
     Ok(false)
 }
 
-/// The same, of the entries of so many code points from this one on.
+/// Whether one of `count` code points, from `first` on, has such a class.
 pub fn has_bad_class_in(alloc: Global, first: u32, count: usize) -> Result<bool, AllocError>
     requires { first + count ≤ 2 ^ 32 }
     ensures { IfOk result (λ bad. bad ≡ list_any conditions.has_bad_class (map point_entry (range_with_len first count))) }
@@ -51,7 +51,7 @@ pub fn has_bad_class_in(alloc: Global, first: u32, count: usize) -> Result<bool,
     Ok(false)
 }
 
-/// The same, of the code points of one sequence.
+/// Whether a code point of the sequence has such a class.
 fn has_bad_point(alloc: Global, sequence: &[u32]) -> Result<bool, AllocError>
     ensures { IfOk result (λ bad. bad ≡ conditions.has_bad_point sequence.now) }
 {
@@ -82,7 +82,7 @@ pub fn has_repeat(sequences: &Sequences) -> bool
     false
 }
 
-/// Whether a sequence stands at this number or behind it.
+/// Whether a sequence occurs at the number `start` or after it.
 fn occurs_from(sequences: &Sequences, start: usize, wanted: &[u32]) -> bool
     ensures { result ≡ list_any (bytes_eq wanted.now) (drop start (sequences_in sequences.now)) }
 {

@@ -10,8 +10,8 @@ use crate::token::{Token, Tokens};
 use crate::version::Version;
 use std::alloc::{AllocError, Global};
 
-/// The sequences of an entry, and the code points and the mark of the one that is not ended yet. Its
-/// memory serves for one line after another.
+/// The sequences of an entry that are complete, and the code points and the mark of the one that is
+/// being read. The memory is used again for each line.
 #[derive(Drop)]
 pub struct Draft {
     pub sequences: Sequences,
@@ -28,7 +28,7 @@ impl Draft {
         }
     }
 
-    /// Ends the current sequence.
+    /// Completes the current sequence.
     fn end_sequence(&mut self) -> Result<(), AllocError>
         ensures sequences { OnOk result (self.new.sequences ≡ self.old.sequences ++ record { sequence = self.old.current.items; blocked = self.old.is_blocked } ∷ []) }
         ensures current { OnOk result (self.new.current.items ≡ []) }
@@ -38,8 +38,8 @@ impl Draft {
         Ok(())
     }
 
-    /// Takes in the line of this number, of an entry that the version has, in place of what was there
-    /// before.
+    /// Reads the entry on the line of this number, in place of what was read before. An entry that the
+    /// version does not allow is a fault.
     pub fn read(&mut self, version: Version, number: u64, line: &[u8]) -> Result<(), TableFault>
         ensures read { Leaves number result (entry_from self.new.sequences ∷ [])
             (entry_of_tokens version (tokens_of line.now)) }
@@ -53,7 +53,7 @@ impl Draft {
         Ok(())
     }
 
-    /// Takes in the line of this number, of an entry, in place of what was there before.
+    /// The same for an entry of any version.
     #[tactic(auto, unfolding(crate::specs::Reading::sequences_of, crate::specs::Reading::sequences_after))]
     fn read_sequences(&mut self, number: u64, line: &[u8]) -> Result<(), TableFault>
         ensures read { Leaves number result self.new.sequences (sequences_of (tokens_of line.now)) }
@@ -87,7 +87,7 @@ impl Draft {
     }
 }
 
-/// The ends of the range that a line spells, where the version has ranges.
+/// The ends of the range that a line spells, if it spells one and the version has ranges.
 pub fn range_ends(version: Version, line: &[u8]) -> Option<(u32, u32)>
     ensures { result ≡ range_ends_of version (tokens_of line.now) }
 {
@@ -107,7 +107,7 @@ pub fn range_ends(version: Version, line: &[u8]) -> Option<(u32, u32)>
     }
 }
 
-/// The next token of the line of this number, which is to be a point, or a mark with a point behind it.
+/// Takes the next token of the line of this number, which must be a point, or a mark followed by a point.
 fn next_marked_point(number: u64, tokens: &mut Tokens) -> Result<(bool, u32), TableFault>
     ensures { IsMarkedPoint number result (tokens_of tokens.old.rest.now) (tokens_of tokens.new.rest.now) }
 {
@@ -118,7 +118,7 @@ fn next_marked_point(number: u64, tokens: &mut Tokens) -> Result<(bool, u32), Ta
     }
 }
 
-/// The next token of the line of this number, which is to be a point.
+/// Takes the next token of the line of this number, which must be a point.
 fn next_point(number: u64, tokens: &mut Tokens) -> Result<u32, TableFault>
     ensures { IsPoint number result (tokens_of tokens.old.rest.now) (tokens_of tokens.new.rest.now) }
 {

@@ -1,4 +1,4 @@
-//! Entries in memory, in the order in which they came.
+//! Entries in memory, in the order in which they were added.
 ghost use Rattle.std.specs.Prelude.{◌≡◌, ◌<◌, [], ◌∷◌, ◌++◌, length, slice_get, Some, IfOk, OnOk, OnErr};
 ghost use Rattle.variant_table.specs.Entries.{unblocked, unblocked_entry};
 ghost use Rattle.variant_table.specs.Reading.{entry_from};
@@ -51,7 +51,7 @@ impl Entries {
         Entry::new(&self.sequences, self.spans[number])
     }
 
-    /// Adds the entry of these sequences, the source first. An `Err` changes nothing.
+    /// Adds the entry of these sequences, of which the first is the source. An `Err` changes nothing.
     pub fn push(&mut self, sequences: &Sequences) -> Result<(), AllocError>
         requires { 0 < length sequences.now }
         ensures ok { OnOk result (self.new ≡ self.old ++ entry_from sequences.now ∷ []) }
@@ -78,7 +78,7 @@ impl Entries {
     }
 }
 
-/// The sequences of an entry that are not blocked, the source first, in place of what was there before.
+/// Puts the sequences of an entry that are not blocked, the source first, in place of what was there before.
 fn take_unblocked(sequences: &mut Sequences, entry: &Entry) -> Result<(), AllocError>
     ensures entry { OnOk result (entry_from sequences.new ≡ unblocked_entry entry.now) }
     ensures some { OnOk result (0 < length sequences.new) }

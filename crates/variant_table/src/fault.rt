@@ -5,14 +5,14 @@ ghost use Rattle.variant_table.specs.declared.fault.TableFault.TheVariants.{Memo
 use std::alloc::{AllocError, AllocFailed};
 use thiserror::Error;
 
-/// Why a text is not read as a table: its first faulty line, from 1, with what is told of it, or
-/// memory that was refused.
+/// Why a text is not read as a table: the number of its first faulty line, from 1, with what is wrong
+/// there; or that memory was refused.
 #[derive(Clone, Copy, Debug, PartialEq, Eq, Error)]
 pub enum TableFault {
-    /// A line that is no blank line, comment or entry.
+    /// A line that is not blank, and spells no comment, no entry and no range of the version.
     #[error("table syntax")]
     Syntax { line: u64 },
-    /// A source that an earlier line has.
+    /// A source that an earlier entry has.
     #[error("source given twice")]
     SameSource { line: u64 },
     /// Two equal variants, or a variant equal to its source.

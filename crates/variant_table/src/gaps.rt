@@ -28,13 +28,13 @@ fn in_vector(alloc: Global, gaps: BTreeSet<Gap>) -> Result<Vec<Gap>, AllocError>
     ensures gaps { IfOk result (λ list. list.items ≡ gaps.keys) }
     ensures rising { IfOk result (λ list. IsStrictlySortedBy pair_cmp (pairs_of list.items)) }
 {
-    // Not by `collect`, which goes on where the room that it takes ahead is refused.
+    // Not by `collect`, which goes on even if the memory that it reserves in advance is refused.
     let mut list = Vec::with_capacity(alloc, gaps.len())?;
     list.extend(gaps.into_iter())?;
     Ok(list)
 }
 
-/// Adds the gaps that the variants of an entry ask for.
+/// Adds the gaps that the variants of an entry require.
 fn add_gaps_of_entry(
     alloc: Global,
     rows: &Rows,
@@ -49,8 +49,8 @@ fn add_gaps_of_entry(
     Ok(())
 }
 
-/// Adds the gaps that one variant of an entry asks for: the reverse pair, and the pairs with the
-/// variants of the variant.
+/// Adds the gaps that one variant of an entry requires: the reverse pair, and the pairs with the
+/// variants of that variant.
 fn add_gaps_through(
     alloc: Global,
     rows: &Rows,
@@ -113,7 +113,7 @@ fn add_wanted(
     add(alloc, gaps, entry.source(), sequence)
 }
 
-/// Adds a gap, unless it is there.
+/// Adds a gap, unless it is already there.
 fn add(
     alloc: Global,
     gaps: &mut BTreeSet<Gap>,

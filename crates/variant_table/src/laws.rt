@@ -53,9 +53,9 @@ pub fn canonical_text_is_read_back()
     ensures { (table : TableValue) → IsTable table → IsTextOf (table_text table.version table.entries) table }
 {}
 
-/// The canonical text of a table of version 1 is at most as long as any text that spells it, with a
-/// line feed behind a rest that has none; and a line of it has at most 951 bytes, of a table of version 2
-/// at most 967.
+/// The canonical text of a table of version 1 is at most as long as any text that spells the table, a
+/// line feed added where the last line has none. A canonical line has at most 951 bytes in version 1, and
+/// at most 967 in version 2.
 pub fn canonical_text_is_never_longer()
     ensures text { (text : List ℕ) (table : TableValue) → IsTextOf text table → table.version ≡ versions.One →
         length (table_text table.version table.entries) ≤ size_of (raw_lines text) }
@@ -64,7 +64,7 @@ pub fn canonical_text_is_never_longer()
     ensures feeds { (text : List ℕ) → size_of (raw_lines text) ≡ length (with_last_feed text) }
 {}
 
-/// The list of the gaps of a well-formed table has its gaps, each once and in order.
+/// The list that is computed for a well-formed table has its gaps, each once and in order.
 pub fn gaps_of_are_the_gaps()
     ensures { (table : List Entry) → IsWellFormed table → AreGapsOf table (gaps_of table) }
 {}

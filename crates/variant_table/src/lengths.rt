@@ -1,4 +1,4 @@
-//! How long canonical lines are, each with its line feed, where the version limits the canonical text.
+//! How many bytes canonical lines have, each with its line feed, if the version limits the canonical text.
 ghost use Rattle.std.specs.Prelude.{◌≡◌, ◌+◌, ◌<◌, ◌≤◌, ◌^◌, [], ◌∷◌, false, length, map};
 ghost use Rattle.std.specs.List.{range_with_len};
 ghost use Rattle.variant_table.specs.Canonical.{point_text, tokens_text, sequence_text, canonical_text};
@@ -11,7 +11,7 @@ ghost use Rattle.variant_table.specs.Reading.{entry_from};
 use crate::sequences::Sequences;
 use crate::version::Version;
 
-/// The bytes that the entry of these sequences, the source first, adds to the canonical text; 0 in version 1,
+/// How many bytes the entry of these sequences, the source first, adds to the canonical text; 0 in version 1,
 /// which doesn't limit it.
 pub fn entry_len(version: Version, sequences: &Sequences) -> usize
     requires some { 0 < length sequences.now }
@@ -26,7 +26,7 @@ pub fn entry_len(version: Version, sequences: &Sequences) -> usize
     }
 }
 
-/// The bytes of the canonical line of the entry of these sequences, its line feed counted.
+/// How many bytes the canonical line of the entry of these sequences has, with its line feed.
 fn line_len(sequences: &Sequences) -> usize
     requires some { 0 < length sequences.now }
     requires filled { HasNoEmptySequence (entry_from sequences.now) }
@@ -41,14 +41,14 @@ fn line_len(sequences: &Sequences) -> usize
     len
 }
 
-/// The bytes of the mark of a variant.
+/// How many bytes the mark of a variant has: none if the variant is not blocked.
 fn mark_len(blocked: bool) -> usize
     ensures { result ≡ length (tokens_text (mark_tokens blocked)) }
 {
     if blocked { 1 } else { 0 }
 }
 
-/// The bytes of a sequence, and one more for what stands behind it.
+/// How many bytes a sequence has, and one more for what follows it.
 fn sequence_len(sequence: &[u32]) -> usize
     requires some { 0 < length sequence.now }
     requires short { length sequence.now ≤ 8 }
@@ -62,7 +62,7 @@ fn sequence_len(sequence: &[u32]) -> usize
     len
 }
 
-/// The bytes that the entries of so many code points from this one on add to the canonical text; 0 in
+/// How many bytes the entries of `count` code points, from `first` on, add to the canonical text; 0 in
 /// version 1, which doesn't limit it.
 pub fn range_len(version: Version, first: u32, count: usize) -> usize
     requires few { count ≤ 4096 }
@@ -76,7 +76,7 @@ pub fn range_len(version: Version, first: u32, count: usize) -> usize
     }
 }
 
-/// The bytes of the canonical lines of these entries, their line feeds counted.
+/// How many bytes the canonical lines of these entries have, with their line feeds.
 fn lines_len(first: u32, count: usize) -> usize
     requires few { count ≤ 4096 }
     requires last { first + count ≤ 2 ^ 32 }
@@ -90,7 +90,7 @@ fn lines_len(first: u32, count: usize) -> usize
     len
 }
 
-/// The bytes of a code point.
+/// How many bytes a code point has.
 #[tactic(auto, unfolding(crate::specs::Canonical::point_text))]
 fn point_len(point: u32) -> usize
     ensures count { result ≡ length (point_text point) }

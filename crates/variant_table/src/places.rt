@@ -17,7 +17,7 @@ pub struct EntriesAt<'a> {
     rows: &'a Rows,
     label: &'a [u32],
     place: usize,
-    /// The sources that are longer than this are left; at the limit there are none.
+    /// The sources longer than this are still to come; at the limit there are none.
     len: usize,
 }
 
@@ -45,8 +45,8 @@ impl<'a> EntriesAt<'a> {
         }
     }
 
-    /// The next entry, by the next length at which there is one. Where no longer source begins with
-    /// the code points so far, no other length is tried.
+    /// The next entry: that of the next length for which there is one. If no longer source begins with
+    /// the code points so far, no further length is tried.
     fn next_entry(&mut self) -> Option<Entry<'a>>
         ensures { YieldsFirst (λ s. s) self.old result self.new }
     {

@@ -20,10 +20,10 @@ use std::alloc::Global;
 /// The most entries of a table.
 const ENTRY_LIMIT: usize = 4096;
 
-/// The most bytes of a line, a carriage return counted.
+/// The most bytes of a line, with its carriage return.
 const LINE_LIMIT: usize = 1024;
 
-/// The most bytes of a text, a missing last line feed counted, and of a canonical text.
+/// The most bytes of a text, also of a canonical one. A line feed that is missing at the end is counted too.
 const TEXT_LIMIT: usize = 1_048_576;
 
 /// The version of a text, and the entries that it spells.
@@ -43,7 +43,7 @@ pub fn read_rows(alloc: Global, text: &[u8]) -> Result<(Version, Rows), TableFau
     Ok((reader.version, reader.rows))
 }
 
-/// What was read of a text so far.
+/// What has been read of a text so far.
 #[derive(Drop)]
 struct Reader {
     alloc: Global,
@@ -55,7 +55,7 @@ struct Reader {
 }
 
 impl Reader {
-    /// Nothing of a text of this version.
+    /// Nothing yet, of a text of this version.
     fn new(alloc: Global, version: Version) -> Self
         ensures version { result.version ≡ version }
         ensures rows { result.rows ≡ [] }
@@ -73,7 +73,7 @@ impl Reader {
         }
     }
 
-    /// Adds what the line of this number says, as it stands in a text behind so many bytes.
+    /// Adds what the line of this number says, as it stands in a text after `bytes` bytes.
     #[tactic(auto, unfolding(crate::specs::Reading::with_raw_line))]
     fn add_raw_line(&mut self, number: u64, bytes: usize, line: &[u8]) -> Result<(), TableFault>
         requires bytes { bytes ≤ 1048576 }
@@ -139,7 +139,7 @@ impl Reader {
         Ok(())
     }
 
-    /// Adds the entries of so many code points from this one on, unless one has a fault.
+    /// Adds the entries of `count` code points, from `first` on, unless one has a fault.
     #[tactic(auto, unfolding(crate::specs::Reading::with_entries))]
     fn add_range(&mut self, number: u64, first: u32, count: usize) -> Result<(), TableFault>
         requires last { first + count ≤ 2 ^ 32 }
@@ -164,7 +164,7 @@ impl Reader {
     }
 }
 
-/// Adds the entries of so many code points from this one on, if their sources are new.
+/// Adds the entries of `count` code points, from `first` on, if their sources are new.
 fn add_points(
     alloc: Global,
     rows: &mut Rows,

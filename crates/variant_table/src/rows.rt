@@ -80,8 +80,8 @@ impl Rows {
         }
     }
 
-    /// Adds the entry of these sequences, the source first, which stand in the line of this number,
-    /// unless an entry has its source. An `Err` changes nothing.
+    /// Adds the entry of these sequences, of which the first is the source, unless another entry has that
+    /// source. They stand on the line of this number. An `Err` changes nothing.
     pub fn push(&mut self, number: u64, sequences: &Sequences) -> Result<(), TableFault>
         requires some { 0 < length sequences.now }
         requires room { length self.old < 2 ^ 16 }
@@ -109,12 +109,12 @@ impl Rows {
     }
 }
 
-/// What the sources have of a sequence.
+/// What a search for a sequence finds among the sources.
 #[derive(Drop)]
 pub struct LookUp<'a> {
     /// The entry whose source it is.
     pub entry: Option<Entry<'a>>,
-    /// Not set where no longer source begins with it.
+    /// Whether a longer source may begin with it. If this is false, none does.
     pub has_longer: bool,
 }
 

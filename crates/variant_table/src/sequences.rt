@@ -7,7 +7,7 @@ ghost use Rattle.std.specs.Iterator.{YieldsFirstRef, item_count};
 use std::alloc::{AllocError, Global};
 use std::marker::Model;
 
-/// A part of a vector: its first place, and the place behind it.
+/// A part of a vector: the index where it begins, and the index after its last.
 #[derive(Clone, Copy, Debug, PartialEq, Eq)]
 pub struct Span {
     pub start: usize,
@@ -122,7 +122,7 @@ impl Sequences {
         Ok(())
     }
 
-    /// Adds sequences. After an `Err` some of them may stand there.
+    /// Adds sequences. After an `Err` some of them may have been added.
     pub fn append(&mut self, others: &Sequences) -> Result<(), AllocError>
         ensures ok { OnOk result (self.new ≡ self.old ++ others.now) }
         ensures kept { take (length self.old) self.new ≡ self.old }

@@ -31,14 +31,14 @@ impl Version {
 #[derive(Drop)]
 pub struct Head<'a> {
     pub version: Version,
-    /// How many lines stand before those of the entries, and how many bytes they have.
+    /// How many lines come before those of the entries, and how many bytes they have.
     pub lines: u64,
     pub bytes: usize,
     /// The lines of the entries.
     pub body: &'a [u8],
 }
 
-/// The version of a text by its first line, and what stands behind the version line, if there is one.
+/// The version of a text by its first line, and the text after the version line, or all of it if there is none.
 pub fn head_of(text: &[u8]) -> Head<'_>
     ensures version { result.version ≡ versions.version_of (raw_lines text.now) }
     ensures lines { result.lines ≡ length (versions.head_of (raw_lines text.now)) }
@@ -64,7 +64,7 @@ pub fn head_of(text: &[u8]) -> Head<'_>
     }
 }
 
-/// Whether a line is the version line, less one carriage return at its end.
+/// Whether a line is the version line, apart from one carriage return at its end.
 fn is_version_line(line: &[u8]) -> bool
     ensures { result ≡ versions.is_version_line line.now }
 {
