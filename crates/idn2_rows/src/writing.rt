@@ -26,6 +26,23 @@ impl Write for LateWriter {
     }
 }
 
+/// Takes one byte a call, and counts its calls.
+#[derive(Drop)]
+struct SlowWriter {
+    calls: u64,
+}
+
+impl Write for SlowWriter {
+    fn write(&mut self, text: &[u8]) -> io::Result<usize> {
+        self.calls = self.calls.saturating_add(1);
+        Ok(text.len().min(1))
+    }
+
+    fn flush(&mut self) -> io::Result<()> {
+        Ok(())
+    }
+}
+
 /// A text of eight bytes, into less room, just enough, and more.
 #[test]
 fn up_to_the_room(rt: HostRuntime) -> Result<(), Fail> {
@@ -62,6 +79,16 @@ fn no_call_follows_a_fault(rt: HostRuntime) {
         (result, writer.inner().calls),
         (Err(WriteFault { taken: 0 }), 1)
     );
+}
+
+/// No call is made with nothing to write.
+#[test]
+fn a_call_for_each_piece(rt: HostRuntime) {
+    for (text, calls) in [(&b""[..], 0), (&b"a"[..], 1), (&b"aaa\taaa\n"[..], 8)] {
+        let mut writer = Device::new(SlowWriter { calls: 0 });
+        let result = write_text(&mut writer, text);
+        assert_eq!(rt; (result, writer.inner().calls), (Ok(()), calls), "{text:?}");
+    }
 }
 
 /// A fault of an earlier call does not stop a later one: the writer is asked again.
