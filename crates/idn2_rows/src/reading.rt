@@ -23,9 +23,14 @@ const NEVER: Stop = Stop {
 /// The lines of an input, each as its body behind a colon, `#` and its length for a long one, `!` for one that is too
 /// long; then `.` at the end or `F` at a fault, each as often as two further calls give it.
 fn spelled_lines(alloc: Global, input: &[u8], stop: Stop) -> Result<String, Fail> {
-    let mut spelled = String::new(alloc);
     let reader = StopReader::new(input, stop.piece.max(1), stop.fail_at, stop.once);
-    let mut lines = Lines::new(Device::new(reader));
+    spelled_lines_of(alloc, Device::new(reader))
+}
+
+/// The same of what a device gives from here on.
+fn spelled_lines_of(alloc: Global, reader: Device<StopReader<'_>>) -> Result<String, Fail> {
+    let mut spelled = String::new(alloc);
+    let mut lines = Lines::new(reader);
     for number in 1..100u64 {
         match lines.next_line() {
             Ok(Some(line)) if line.number == number => spell_line(alloc, &mut spelled, &line)?,
@@ -164,13 +169,8 @@ fn whether_the_last_call_failed(rt: HostRuntime) {
 fn lines_after_an_earlier_fault(rt: HostRuntime) -> Result<(), Fail> {
     let mut reader = Device::new(StopReader::new(b"aa\nb", 1, 1, true));
     assert_eq!(rt; reader.get(&mut [0; 4]), Err(DeviceFault));
-    let mut lines = Lines::new(reader);
-    let mut spelled = String::new(rt.alloc());
-    while let Ok(Some(line)) = lines.next_line() {
-        spell_line(rt.alloc(), &mut spelled, &line)?;
-    }
-    assert_eq!(rt; spelled.as_str(), ":aa:b");
-    assert_eq!(rt; lines.next_line().is_ok(), true, "at the end");
+    let got = spelled_lines_of(rt.alloc(), reader)?;
+    assert_eq!(rt; got.as_str(), ":aa:b...");
     Ok(())
 }
 
