@@ -1,4 +1,4 @@
-use Rattle.std.proofs.Common.{Ok, sym, ap, ◌∙◌}
+use Rattle.std.proofs.Common.{◌∙◌}
 use Rattle.idn2_cli.specs.Inner.{query_answer}
 use Rattle.idn2_cli.proofs.TextAnswers.{text_answer-query, pieces_for-line, one_line-answered, one_line-refused}
 use Rattle.idn2_cli.proofs.Refusing.{emits_refusal, refused_is}
@@ -8,23 +8,23 @@ pub returns-in-Ok-clause-written : goal.returns-in-Ok-clause-written
 returns-in-Ok-clause-written g c =
     let std3 = c.args.self.now.std3 in
     let text = c.args.text.now in
-    rw (text_answer-query std3 text, pieces_for-line c.args.number (query_answer text std3) c.as_slice.result.now (c.in-Ok.ensures ∙ ap Ok (sym c.as_slice.ensures.value)))
+    rw (text_answer-query std3 text, pieces_for-line c.args.number (query_answer text std3) _ c.in-Ok.ensures.answer)
     c.reply.ensures.written
 
 pub returns-in-Ok-clause-refused : goal.returns-in-Ok-clause-refused
 returns-in-Ok-clause-refused g c =
     let std3 = c.args.self.now.std3 in
     let text = c.args.text.now in
-    rw (text_answer-query std3 text, one_line-answered (query_answer text std3) _ c.in-Ok.ensures) c.reply.ensures.refused
+    rw (text_answer-query std3 text, one_line-answered (query_answer text std3) _ c.in-Ok.ensures.answer) c.reply.ensures.refused
 
 pub returns-in-Err-clause-written : goal.returns-in-Err-clause-written
 returns-in-Err-clause-written g c =
     let std3 = c.args.self.now.std3 in
     let text = c.args.text.now in
-    emits_refusal _ _ _ c.in-Err.refusal _ c.refuse.result (λ other. text_answer-query std3 text ∙ one_line-refused (query_answer text std3) c.in-Err.refusal (c.in-Err.ensures other)) c.refuse.ensures.told c.refuse.ensures.memory
+    emits_refusal _ _ _ c.in-Err.refusal _ c.refuse.result (λ other. text_answer-query std3 text ∙ one_line-refused (query_answer text std3) c.in-Err.refusal (c.in-Err.ensures.answer other)) c.refuse.ensures.told c.refuse.ensures.memory
 
 pub returns-in-Err-clause-refused : goal.returns-in-Err-clause-refused
 returns-in-Err-clause-refused g c =
     let std3 = c.args.self.now.std3 in
     let text = c.args.text.now in
-    refused_is c.in-Err.refusal _ c.refuse.result (λ other. text_answer-query std3 text ∙ one_line-refused (query_answer text std3) c.in-Err.refusal (c.in-Err.ensures other)) c.refuse.ensures.memory c.refuse.ensures.refused
+    refused_is c.in-Err.refusal _ c.refuse.result (λ other. text_answer-query std3 text ∙ one_line-refused (query_answer text std3) c.in-Err.refusal (c.in-Err.ensures.answer other)) c.refuse.ensures.memory c.refuse.ensures.refused
