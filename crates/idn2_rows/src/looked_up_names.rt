@@ -1,7 +1,6 @@
 //! Lookup of names, on each way through the code. The answers are those of libidn2's `idn2`, except for the capital
 //! sharp s, which UTS 46 has mapped differently since Unicode 15.1, and for what only one of the programs requires.
 use crate::label_calls::{letters, points_of};
-use arrayvec::ArrayVec;
 use idn_label::{lookup, lookup_utf8};
 use idn_text::Refusal;
 use std::alloc::Global;
@@ -115,14 +114,13 @@ fn looks_up(
             "{name}: {answer:?}"
         ),
     }
-    let mut query: ArrayVec<u8, 254> = ArrayVec::new();
-    query.push(b'?');
+    let mut room = [b'?'; 254];
     match (
-        lookup_utf8(alloc, name.as_bytes(), std3, &mut query),
+        lookup_utf8(alloc, name.as_bytes(), std3, &mut room),
         expected,
     ) {
-        (Ok(()), Ok(text)) => assert_eq!(rt; query.as_slice(), text.as_bytes(), "{name}"),
-        (answer, _) => assert_eq!(rt; answer.err(), expected.err(), "{name}: {query:?}"),
+        (Ok(len), Ok(text)) => assert_eq!(rt; &room[..len], text.as_bytes(), "{name}"),
+        (answer, _) => assert_eq!(rt; answer.err(), expected.err(), "{name}: {answer:?}"),
     }
     Ok(())
 }
@@ -184,9 +182,9 @@ fn lengths_are_measured(rt: HostRuntime) -> Result<(), Fail> {
 
 #[test]
 fn bytes_that_are_no_utf8_are_refused(rt: HostRuntime) -> Result<(), Fail> {
-    let mut query: ArrayVec<u8, 254> = ArrayVec::new();
+    let mut room = [0; 254];
     for bytes in [b"\xC3", b"\xFF"] {
-        let answer = lookup_utf8(rt.alloc(), bytes, false, &mut query);
+        let answer = lookup_utf8(rt.alloc(), bytes, false, &mut room);
         assert_eq!(rt; answer, Err(Refusal::NotUtf8), "{bytes:?}");
     }
     Ok(())

@@ -1,9 +1,10 @@
 //! Lookup of a name.
-ghost use Rattle.std.specs.Prelude.{◌≡◌, ◌≢◌, ◌≤◌, string_bytes, Err, IfOk, OnOk};
-ghost use Rattle.arrayvec.specs.ArrayVec.{array_vec_len};
+ghost use Rattle.std.specs.Prelude.{◌≡◌, ◌≢◌, ◌≤◌, [], length, take, string_bytes, Err, IfOk};
+ghost use Rattle.idna.specs.Display.{IsPlain};
+ghost use Rattle.idna.specs.declared.options.Hyphens.TheVariants.{Allow};
 ghost use Rattle.idn_text.specs.Points.{AreScalarValues, utf8_of};
 ghost use Rattle.idn_label.specs.Answers.{Gives};
-ghost use Rattle.idn_label.specs.Lookup.{utf8_answer, lookup_answer};
+ghost use Rattle.idn_label.specs.Lookup.{deny_list, utf8_answer, lookup_answer};
 ghost use Rattle.idn_label.specs.Memory.{LooksUpWithoutMemory};
 
 mod bidi;
@@ -33,34 +34,52 @@ pub fn lookup(alloc: Global, name: &[u32], std3: bool) -> Result<String, Refusal
     ensures { Gives string_bytes result (lookup_answer name.now std3) }
 {
     let text = utf8(alloc, name)?;
-    let mut query: ArrayVec<u8, MAX_QUERY_LEN> = ArrayVec::new();
-    lookup_utf8(alloc, &text, std3, &mut query)?;
-    let Ok(query) = str::from_utf8(&query) else {
+    let mut room = [0; MAX_QUERY_LEN];
+    let len = lookup_utf8(alloc, &text, std3, &mut room)?;
+    let Ok(query) = str::from_utf8(&room[..len]) else {
         unreachable!()
     };
     Ok(String::from_str(alloc, query)?)
 }
 
-/// Leaves in `query` the octets that `lookup` answers of a name in UTF-8 (RFC 3629), in place of what stood there: at most
-/// 254. Other bytes are refused as `NotUtf8`; where the name is refused, what is left in `query` says nothing. A
-/// name in ASCII without capitals takes no memory where none of its labels begins with `xn--` and, with `std3`, it has
-/// only letters, digits, hyphens and full stops. Nor does one of at most 254 octets that has only these, capitals too.
-pub fn lookup_utf8<const N: usize>(
+/// Writes into `room` the octets that `lookup` answers of a name in UTF-8 (RFC 3629), and returns how many: at most 254.
+/// Other bytes are refused as `NotUtf8`; where the name is refused, what is left in `room` says nothing. A name in ASCII
+/// without capitals takes no memory where none of its labels begins with `xn--` and, with `std3`, it has only letters,
+/// digits, hyphens and full stops. Nor does one of at most 254 octets that has only these, capitals too.
+pub fn lookup_utf8(
     alloc: Global,
     name: &[u8],
     std3: bool,
-    query: &mut ArrayVec<u8, N>,
-) -> Result<(), Refusal>
-    requires { 254 ≤ N }
-    ensures answer { Gives (λ _. query.new.items) result (utf8_answer name.now std3) }
-    ensures short { OnOk result (array_vec_len query.new ≤ 254) }
+    room: &mut [u8],
+) -> Result<usize, Refusal>
+    requires { 254 ≤ length room.old }
+    ensures answer { Gives (λ len. take len room.new) result (utf8_answer name.now std3) }
+    ensures short { IfOk result (λ len. len ≤ 254) }
+    ensures length { length room.new ≡ length room.old }
     ensures no_memory { LooksUpWithoutMemory std3 name.now → result ≢ Err Refusal.Memory }
 {
-    query.clear();
-    if let Some(answer) = ldh_query(name, query) {
+    if let Some(answer) = ldh_query(name, room) {
         return answer;
     }
-    query.clear();
+    let mut query = ArrayVec::new();
+    other_query(alloc, name, std3, &mut query)?;
+    let len = query.len();
+    room[..len].copy_from_slice(&query);
+    Ok(len)
+}
+
+/// Leaves in `query`, where nothing stands, what `lookup_utf8` answers of a name that has other code points than letters,
+/// digits and hyphens of ASCII.
+fn other_query(
+    alloc: Global,
+    name: &[u8],
+    std3: bool,
+    query: &mut ArrayVec<u8, MAX_QUERY_LEN>,
+) -> Result<(), Refusal>
+    requires { query.old.items ≡ [] }
+    ensures answer { Gives (λ _. query.new.items) result (utf8_answer name.now std3) }
+    ensures no_memory { IsPlain (deny_list std3) Allow name.now → result ≢ Err Refusal.Memory }
+{
     if let Some(()) = simple_query(name, query) {
         return Ok(());
     }

@@ -1,6 +1,6 @@
 //! Lookup: a name is answered by the name that a query has.
 
-ghost use Rattle.std.specs.Prelude.{◌≡◌, ◌≢◌, [], Err};
+ghost use Rattle.std.specs.Prelude.{◌≡◌, ◌≢◌, ◌≤◌, length, take, Err, IfOk};
 ghost use Rattle.idn_label.specs.Answers.{Gives};
 ghost use Rattle.idn_label.specs.Lookup.{lookup_answer};
 ghost use Rattle.idn_label.specs.Memory.{LooksUpWithoutMemory};
@@ -8,10 +8,9 @@ ghost use Rattle.idn2_cli.specs.Answers.{one_line};
 ghost use Rattle.idn2_cli.specs.Inner.{with_feed, query_answer};
 
 use crate::modes::answering::{Answering, refuse, reply};
-use crate::session::buffers::{Buffers, MAX_ANSWER_LEN};
+use crate::session::buffers::Buffers;
 use crate::session::console::Console;
 use crate::session::stop::Stop;
-use arrayvec::ArrayVec;
 use idn_label::lookup_utf8;
 use idn_text::{Refusal, Sink};
 use std::alloc::Global;
@@ -36,28 +35,26 @@ impl Answering for Lookup {
         buffers: &mut Buffers,
         console: &mut Console<'_, '_, W, E>,
     ) -> Result<bool, Stop> {
-        match fill_line(alloc, text, self.std3, &mut buffers.answer) {
-            Ok(()) => reply(buffers.answer.as_slice(), console),
+        match fill_line(alloc, text, self.std3, &mut buffers.query) {
+            Ok(len) => reply(&buffers.query[..len], console),
             Err(refusal) => refuse(number, refusal, console),
         }
     }
 }
 
-/// Leaves in `line` what a name is in a query and a line feed, in place of what stood there. Where the name is refused,
-/// what is left says nothing.
-fn fill_line(
-    alloc: Global,
-    name: &[u8],
-    std3: bool,
-    line: &mut ArrayVec<u8, MAX_ANSWER_LEN>,
-) -> Result<(), Refusal>
-    ensures answer { Gives (λ _. line.new.items) result (with_feed (query_answer name.now std3)) }
+/// Writes into `line` what a name is in a query and a line feed, and returns the length of that. Where the name is
+/// refused, what is left says nothing.
+fn fill_line(alloc: Global, name: &[u8], std3: bool, line: &mut [u8]) -> Result<usize, Refusal>
+    requires { length line.old ≡ 255 }
+    ensures answer { Gives (λ len. take len line.new) result (with_feed (query_answer name.now std3)) }
+    ensures short { IfOk result (λ len. len ≤ 255) }
     ensures no_memory { LooksUpWithoutMemory std3 name.now → result ≢ Err Refusal.Memory }
+    ensures length { length line.new ≡ 255 }
 {
     if name.is_empty() {
         return Err(Refusal::Empty);
     }
-    lookup_utf8(alloc, name, std3, line)?;
-    line.push(b'\n');
-    Ok(())
+    let len = lookup_utf8(alloc, name, std3, line)?;
+    line[len] = b'\n';
+    Ok(len + 1)
 }

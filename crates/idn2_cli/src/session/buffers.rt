@@ -8,13 +8,18 @@ use arrayvec::ArrayVec;
 /// The most octets of an answer: four for each of 1,024 code points, and a line feed.
 pub(crate) const MAX_ANSWER_LEN: usize = 4 * 1024 + 1;
 
+/// The most octets of the answer of lookup: 254, and a line feed.
+const MAX_QUERY_LINE_LEN: usize = 255;
+
 /// Buffers that are used again from line to line. What is left in them says nothing of the next line.
 #[derive(Drop)]
 pub(crate) struct Buffers {
     /// The code points of a line.
     pub points: ArrayVec<u32, 1024>,
-    /// The answer in UTF-8, of lookup or decoding, and a line feed.
+    /// The answer of decoding in UTF-8, and a line feed.
     pub answer: ArrayVec<u8, MAX_ANSWER_LEN>,
+    /// The answer of lookup, and a line feed.
+    pub query: [u8; MAX_QUERY_LINE_LEN],
 }
 
 impl Buffers {
@@ -25,6 +30,7 @@ impl Buffers {
         Buffers {
             points: ArrayVec::new(),
             answer: ArrayVec::new(),
+            query: [0; MAX_QUERY_LINE_LEN],
         }
     }
 }

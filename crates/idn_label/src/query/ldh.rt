@@ -1,6 +1,6 @@
 //! Names of letters, digits and hyphens of ASCII (LDH, RFC 5890 section 2.3.1). Most names are such, and their lookup
 //! takes no memory and one pass.
-ghost use Rattle.std.specs.Prelude.{◌≡◌, ◌≢◌, ◌≤◌, ◌-◌, Bool, [], length, Err, IfSome, IsSome, if◌then◌else◌};
+ghost use Rattle.std.specs.Prelude.{◌≡◌, ◌≢◌, ◌≤◌, ◌-◌, Bool, length, take, Err, IfOk, IfSome, IsSome, if◌then◌else◌};
 ghost use Rattle.std.specs.Char.{to_ascii_lowercase};
 ghost use Rattle.std.specs.Int.{is_in_range};
 ghost use Rattle.idn_label.specs.Answers.{Gives};
@@ -10,7 +10,6 @@ ghost use Rattle.idn_label.specs.LdhNames.{IsLdhName, is_name_point, may_end};
 use crate::a_label::MAX_LABEL_LEN;
 use crate::query::lengths::MAX_NAME_LEN;
 use crate::unit::has_ace_prefix;
-use arrayvec::ArrayVec;
 use idn_text::Refusal;
 
 /// The most octets of a name in the DNS, with a full stop at its end (RFC 1035 section 2.3.4).
@@ -37,19 +36,16 @@ static LOWERCASE: [u8; 256] = [
     0, 0, 0, 0, 0, 0, 0, 0, 0, 0, 0, 0, 0, 0, 0, 0,
 ];
 
-/// Leaves in `query` what `lookup_utf8` answers of such a name: the name in lower case, or `LookupLength`. `None` says
-/// nothing of the name, and another way then gives the answer: an octet is no ASCII letter, digit, hyphen or full stop, a
-/// label begins with `xn--`, or the name is too long for any query.
-pub(crate) fn ldh_query<const N: usize>(
-    name: &[u8],
-    query: &mut ArrayVec<u8, N>,
-) -> Option<Result<(), Refusal>>
-    requires empty { query.old.items ≡ [] }
-    requires room { MAX_QUERY_LEN ≤ N }
-    ensures answer { IfSome result (λ answer. (std3 : Bool) → Gives (λ _. query.new.items) answer (utf8_answer name.now std3)) }
-    ensures short { length query.new.items ≤ 254 }
+/// Writes into `room` what `lookup_utf8` answers of such a name, the name in lower case, and returns its length; or
+/// `LookupLength`. `None` says nothing of the name, and another way then gives the answer: an octet is no ASCII letter,
+/// digit, hyphen or full stop, a label begins with `xn--`, or the name is too long for any query.
+pub(crate) fn ldh_query(name: &[u8], room: &mut [u8]) -> Option<Result<usize, Refusal>>
+    requires { MAX_QUERY_LEN ≤ length room.old }
+    ensures answer { IfSome result (λ answer. (std3 : Bool) → Gives (λ len. take len room.new) answer (utf8_answer name.now std3)) }
+    ensures short { IfSome result (λ answer. IfOk answer (λ len. len ≤ 254)) }
     ensures no_memory { IfSome result (λ answer. answer ≢ Err Refusal.Memory) }
     ensures told { IsLdhName name.now → IsSome result }
+    ensures length { length room.new ≡ length room.old }
 {
     if name.len() > MAX_QUERY_LEN {
         return None;
@@ -57,23 +53,23 @@ pub(crate) fn ldh_query<const N: usize>(
     // Where the label begins to which the next octet belongs, and whether all labels before it have 1 to 63 octets.
     let mut start = 0;
     let mut have_lengths = true;
-    for octet in name {
+    for (at, octet) in name.iter().enumerate() {
         let lower = lowercase_octet(*octet);
-        query.push(lower);
+        room[at] = lower;
         // Letters and digits stand behind the full stop in ASCII.
         if lower <= b'.' {
             match lower {
                 b'.' => {
-                    have_lengths &= has_label_length(start, query.len() - 1);
-                    start = query.len();
+                    have_lengths &= has_label_length(start, at);
+                    start = at + 1;
                 }
-                b'-' if !has_ace_prefix(&query.as_slice()[start..]) => {}
+                b'-' if !has_ace_prefix(&room[start..at + 1]) => {}
                 _ => return None,
             }
         }
     }
-    if have_lengths && may_end(start, query.len()) {
-        Some(Ok(()))
+    if have_lengths && may_end(start, name.len()) {
+        Some(Ok(name.len()))
     } else {
         Some(Err(Refusal::LookupLength))
     }

@@ -1,4 +1,4 @@
-use Rattle.std.proofs.Common.{Ok, sym, ap, ◌∙◌}
+use Rattle.std.proofs.Common.{◌∙◌}
 use Rattle.idn2_cli.specs.Inner.{query_answer}
 use Rattle.idn2_cli.proofs.TextAnswers.{text_answer-query, pieces_for-line, one_line-answered, one_line-refused}
 use Rattle.idn2_cli.proofs.Refusing.{emits_refusal, refused_is}
@@ -8,7 +8,7 @@ pub returns-in-Ok-clause-written : goal.returns-in-Ok-clause-written
 returns-in-Ok-clause-written g c =
     let std3 = c.args.self.now.std3 in
     let text = c.args.text.now in
-    rw (text_answer-query std3 text, pieces_for-line c.args.number (query_answer text std3) c.as_slice.result.now (c.in-Ok.ensures.answer ∙ ap Ok (sym c.as_slice.ensures.value)))
+    rw (text_answer-query std3 text, pieces_for-line c.args.number (query_answer text std3) _ c.in-Ok.ensures.answer)
     c.reply.ensures.written
 
 pub returns-in-Ok-clause-refused : goal.returns-in-Ok-clause-refused
