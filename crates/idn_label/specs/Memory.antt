@@ -14,6 +14,7 @@ use Rattle.idn_class.specs.Class.{is_left_open}
 use Rattle.idn_class.specs.Facts.{has_fact}
 use Rattle.idn_label.specs.LdhNames.{IsLdhName}
 use Rattle.idn_label.specs.Lookup.{deny_list}
+use Rattle.idn_label.specs.Steps.{begins_with_prefix}
 
 -- look-ups give the class of each code point, and either none may compose, or there are at most 63 and the quick check of NFC
 -- (UAX 15 section 9) is not Maybe
@@ -32,7 +33,7 @@ NeedsNoMemoryDecoded given =
 -- a label of a name that is decoded: if it begins with "xn--" in any ASCII case, it is such an A-label in lower case
 abbrev pub DecodesWithoutMemory : List ℕ → Type 0
 DecodesWithoutMemory label =
-    has_ace_prefix (map to_ascii_lowercase label) ≡ true → NeedsNoMemoryDecoded (map to_ascii_lowercase label)
+    begins_with_prefix label ≡ true → NeedsNoMemoryDecoded (map to_ascii_lowercase label)
 
 -- a label that is registered: if it begins with "xn--", it is such an A-label without capitals, and else it needs none
 abbrev pub RegistersWithoutMemory : List ℕ → Type 0
