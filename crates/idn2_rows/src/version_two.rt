@@ -90,8 +90,11 @@ fn blocked_variants(rt: HostRuntime) -> Result<(), Fail> {
     let table = Table::read(alloc, b"%version 2\n0061\n0078|!0079:007A:!0031")?;
     assert_eq!(&rt; table.version(), 2);
     let entry = table.entries_at(&[0x78], 0).next().expect(&rt, "an entry");
-    let blocked = [0, 1, 2, 3].map(|number| entry.blocked(number));
-    assert_eq!(&rt; blocked, [false, true, false, true]);
+    let mut blocked = Vec::new(alloc);
+    for number in 0..entry.replacements() {
+        blocked.push(entry.blocked(number))?;
+    }
+    assert_eq!(&rt; blocked.as_slice(), [false, true, false, true].as_slice());
     let unblocked = table.unblocked(alloc)?;
     assert_eq!(&rt; unblocked.version(), 2);
     let written = unblocked.write_table(alloc)?;
