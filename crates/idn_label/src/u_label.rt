@@ -98,12 +98,21 @@ fn tested_u_label(
     }
     let (_, code) = given.split_at(4);
     let Ok(()) = decode(code, label) else {
-        return Err(Refusal::BadALabel);
+        return Err(bad_code());
     };
     if is_all_ascii(label) {
         return Err(refusal_of(alloc, given));
     }
     check_label(alloc, label)
+}
+
+/// How a code that is no Punycode is refused. It stands apart, since the loop over the digits would prepare it at each.
+#[cold]
+#[inline(never)]
+fn bad_code() -> Refusal
+    ensures { result ≡ Refusal.BadALabel }
+{
+    Refusal::BadALabel
 }
 
 /// Why an A-label is refused that no label which may be registered has.
