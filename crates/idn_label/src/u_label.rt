@@ -79,11 +79,7 @@ pub(crate) fn has_no_capital(text: &[u8]) -> bool
 /// `u_label` of an A-label put into lower case; if it is refused, this is why where it has no capital. One that is short
 /// need not be encoded again to be compared: Punycode in lower case is the only one of what it stands for (RFC 3492
 /// sections 1.1 and 5).
-fn tested_u_label(
-    alloc: Global,
-    given: &[u8],
-    label: &mut ArrayVec<u32, 63>,
-) -> Result<(), Refusal>
+fn tested_u_label(alloc: Global, given: &[u8], label: &mut ArrayVec<u32, 63>) -> Result<(), Refusal>
     requires prefix { has_ace_prefix (map to_ascii_lowercase given.now) ≡ true }
     requires ascii { is_all_ascii given.now ≡ true }
     requires short { length given.now ≤ MAX_LINE_LEN }
