@@ -33,6 +33,13 @@ impl LineText {
         }
     }
 
+    /// How many bytes there are.
+    pub fn len(&self) -> usize
+        ensures { result ≡ length self.now }
+    {
+        self.len
+    }
+
     /// Forgets the bytes.
     pub(crate) fn clear(&mut self)
         ensures { self.new ≡ [] }

@@ -131,7 +131,6 @@ impl<R: Source> Lines<R> {
     }
 
     /// Reads the next line, where neither the end nor a fault was met yet.
-    #[inline(always)]
     fn read_open(&mut self, line: &mut Line) -> Result<bool, ReadFault>
         requires { self.old.state ≡ Open }
         ensures lines { (start : Reading) (given : List ℕ) (lines : List Numbered) → HasRead start self.old given lines →
