@@ -1,7 +1,7 @@
 -- Capitals in a code: its digits are read in either case.
-use Rattle.std.proofs.Common.{◌≡◌, ℕ, zero, suc, ◌+◌, ◌-◌, ◌*◌, ◌/◌, ◌%◌, ◌<◌, ◌≤◌, Bool, true, false, cond, not, ◌&&◌, ◌==◌, List, [], ◌∷◌, ◌++◌, map, take, drop, length, reverse, insert, Option, Some, None, refl, sym, ap, ap₂, ◌∙◌, inl, inr, arith, take-append-drop}
+use Rattle.std.proofs.Common.{◌≡◌, ℕ, zero, suc, ◌+◌, ◌-◌, ◌*◌, ◌/◌, ◌%◌, Bool, true, false, cond, not, ◌==◌, List, [], ◌∷◌, ◌++◌, map, take, drop, length, reverse, insert, Option, Some, None, refl, sym, ap, ap₂, ◌∙◌, inl, inr, arith, take-append-drop}
 use Rattle.std.specs.Char.{is_ascii, is_ascii_uppercase, to_ascii_lowercase}
-use Rattle.std.specs.List.{list_all, prefix_len, suffix_len, before_last, after_last}
+use Rattle.std.specs.List.{list_all, prefix_len, suffix_len, after_last}
 use Rattle.std.proofs.lemmas.Bool.{and_parts, cases_Bool, cases_lt, cond-true, cond-false}
 use Rattle.std.proofs.lemmas.Bool.Decides.{nat_tests}
 use Rattle.std.proofs.lemmas.List.{length-map, map-append, take-map, drop-map, reverse-append}
