@@ -1,10 +1,11 @@
 -- A-labels that no label has which may be registered: those that are long, those with a capital, and the codes of ASCII.
-use Rattle.std.proofs.Common.{◌≡◌, ◌≢◌, ℕ, Result, OnOk, IfErr, ◌<◌, true, false, not, ◌==◌, List, [], ◌∷◌, codes, drop, length, Some, None, Ok, Err, refl, sym, ap, ◌∙◌, inl, inr, arith}
-use Rattle.std.specs.Char.{is_ascii_uppercase}
+use Rattle.std.proofs.Common.{◌≡◌, ◌≢◌, ℕ, Result, OnOk, IfErr, ◌<◌, ◌≤◌, true, false, not, ◌==◌, List, [], ◌∷◌, codes, map, drop, length, Some, None, Ok, Err, refl, sym, ap, ◌∙◌, inl, inr, arith}
+use Rattle.std.specs.Char.{is_ascii_uppercase, to_ascii_lowercase}
 use Rattle.std.specs.List.{list_all}
-use Rattle.std.proofs.lemmas.Bool.{cases_Bool, cond-true}
+use Rattle.std.proofs.lemmas.Bool.{cases_Bool, cases_lt, cond-true}
 use Rattle.std.proofs.lemmas.Bool.Decides.{nat_tests}
 use Rattle.std.specs.Char.{is_ascii}
+use Rattle.std.proofs.lemmas.List.{length-map, drop-map}
 use Rattle.std.proofs.lemmas.List.Elements.{All-weaker, All-drop}
 use Rattle.std.proofs.lemmas.List.Folds.{list_all-append}
 use Rattle.std.proofs.lemmas.List.Sums.{AllPass-from_list_all, list_all-from_AllPass}
@@ -15,17 +16,20 @@ use Rattle.idna.specs.Punycode.{decode}
 use Rattle.idna.specs.Validity.{is_all_ascii, has_ace_prefix}
 use Rattle.idna.proofs.Computing.{idna}
 use Rattle.idna.proofs.Uts46Lemmas.{ace_parts}
+use Rattle.idn_punycode.proofs.CaseSteps.{decode-lower}
 use Rattle.idn_text.specs.declared.refusal.Refusal.{Refusal}
 use Rattle.idn_text.specs.declared.refusal.Refusal.TheVariants.{BadALabel, Memory}
 use Rattle.idn_label.specs.ALabel.{a_label_of}
 use Rattle.idn_label.specs.Answers.{Gives}
-use Rattle.idn_label.specs.FirstFault.{first_fault, IsRegistrable}
+use Rattle.idn_label.specs.FirstFault.{code_point_fault, first_fault, IsRegistrable}
 use Rattle.idn_label.specs.Register.{decoded_code, u_label_answer}
-use Rattle.idn_label.specs.Steps.{is_ldh_point}
-use Rattle.idn_label.proofs.AnswerLemmas.{tested_answer-ok, tested_answer-fault, confirmed-same, confirmed-other, confirmed-fault, decoded_code-as, decoded_code-other, decoded_code-from, u_label_answer-code_fault, u_label_answer-confirmed}
+use Rattle.idn_label.specs.Steps.{is_ldh_point, fault_but_length}
+use Rattle.idn_label.proofs.AnswerLemmas.{tested_answer-ok, tested_answer-fault, confirmed-same, confirmed-other, confirmed-fault, decoded_code-as, decoded_code-other, decoded_code-from, u_label_answer-code_fault, u_label_answer-confirmed, ace_label-again, a_label_of-not_ascii}
+use Rattle.idn_label.proofs.DecodeLemmas.{lowercase_of-lower, is_all_ascii-lower, has_no_capital-lower}
+use Rattle.idn_label.proofs.FaultLemmas.{permitted-faultless, first_fault-short}
 use Rattle.idn_label.proofs.LdhLemmas.{is_all_ascii-points}
 use Rattle.idn_label.proofs.RequirementLemmas.{MeetsRequirements-registrable}
-use Rattle.idn_label.proofs.RoundTrips.{ldh_a_label, short_a_label, no_prefix}
+use Rattle.idn_label.proofs.RoundTrips.{ldh_ascii_points, ldh_a_label, short_a_label, no_prefix}
 
 -- ---- no label that may be registered has such an A-label
 
@@ -112,10 +116,50 @@ answered-registrable given label decoded same registrable =
     u_label_answer-confirmed given (drop 4 given) label (Ok label) refl decoded
     (confirmed-same given label (a_label_of label) (tested_answer-ok label registrable) same)
 
--- the test of a label of which the A-label is known to be the one given, as the answer
-pub Gives-u_label : (r : Result (Unit {0}) Refusal) (given label : List ℕ) → decoded_code (drop 4 given) ≡ Ok label → a_label_of label ≡ given → OnOk r (IsRegistrable label) → IfErr r (λ refusal. refusal ≢ Memory → first_fault label ≡ Some refusal) → Gives (λ (_ : Unit {0}). label) r (u_label_answer given)
-Gives-u_label (Ok value) given label decoded same registrable fault = answered-registrable given label decoded same registrable
-Gives-u_label (Err refusal) given label decoded same registrable fault = λ other. refused-fault given label refusal decoded (fault other)
+-- ---- capitals
+
+past_lower : (c : ℕ) → 128 ≤ c → not (is_ascii_uppercase c) ≡ true
+past_lower c high = grind (arith, nat_tests)
+
+point_lower : (c : ℕ) → (c < 128 → is_ldh_point c ≡ true) → not (is_ascii_uppercase c) ≡ true
+point_lower c ldh =
+    elim (cases_lt c 128) [
+      | inl low ↦ ldh_lower c (ldh low)
+      | inr high ↦ past_lower c high
+    ]
+
+-- a label of permitted code points has no capital
+permitted_lower : (label : List ℕ) → code_point_fault label ≡ None → list_all (λ c. not (is_ascii_uppercase c)) label ≡ true
+permitted_lower label none =
+    list_all-from_AllPass (λ c. not (is_ascii_uppercase c)) label
+    (All-weaker (λ c. c < 128 → is_ldh_point c ≡ true) (λ c. not (is_ascii_uppercase c) ≡ true) point_lower label (ldh_ascii_points label none))
+
+pub prefix_long : (given : List ℕ) → has_ace_prefix (map to_ascii_lowercase given) ≡ true → 4 ≤ length given
+prefix_long given prefix = omega (arith, (ace_parts (map to_ascii_lowercase given) prefix).1, length-map given to_ascii_lowercase)
+
+-- what is decoded from a code in any case, where it passes the test, is the answer for the code in lower case
+pub answered-tested : (given label : List ℕ) → has_ace_prefix (map to_ascii_lowercase given) ≡ true → is_all_ascii given ≡ true → length given ≤ 63 → decode (drop 4 given) ≡ Some label → is_all_ascii label ≡ false → length label ≤ 63 → fault_but_length label ≡ None → u_label_answer (map to_ascii_lowercase given) ≡ Ok label
+answered-tested given label prefix ascii short decoded coded few faultless =
+    let lower = map to_ascii_lowercase given in
+    let is : decode (drop 4 lower) ≡ Some label =
+    ap decode (drop-map to_ascii_lowercase 4 given) ∙ decode-lower (drop 4 given) label decoded (permitted_lower label (permitted-faultless label faultless)) in
+    let code = decoded_coded lower label (is_all_ascii-lower given ∙ ascii) is coded in
+    let same : a_label_of label ≡ lower = a_label_of-not_ascii label coded ∙ ace_label-again lower label prefix code (has_no_capital-lower given) in
+    let count : length (a_label_of label) ≡ length given = ap length same ∙ length-map given to_ascii_lowercase in
+    answered-registrable lower label code same (first_fault-short label faultless few (omega (arith, count, short)))
+
+-- no A-label is that of a label in ASCII, whatever its case
+pub of_none-ascii_any : (given label : List ℕ) → has_ace_prefix (map to_ascii_lowercase given) ≡ true → is_all_ascii label ≡ true → IsRegistrable label → a_label_of label ≢ given
+of_none-ascii_any given label prefix ascii registrable =
+    elim (cases_Bool (list_all (λ c. not (is_ascii_uppercase c)) given)) [
+      | inl lower ↦ of_none-ascii given label (ap has_ace_prefix (sym (lowercase_of-lower given lower)) ∙ prefix) ascii registrable
+      | inr capital ↦ of_none-capital given capital label registrable
+    ]
+
+-- the answer for an A-label without capitals
+pub Gives-tested : (r : Result (Unit {0}) Refusal) (given label : List ℕ) → list_all (λ c. not (is_ascii_uppercase c)) given ≡ true → OnOk r (u_label_answer (map to_ascii_lowercase given) ≡ Ok label) → IfErr r (λ refusal. list_all (λ c. not (is_ascii_uppercase c)) given ≡ true → refusal ≢ Memory → u_label_answer given ≡ Err refusal) → Gives (λ (_ : Unit {0}). label) r (u_label_answer given)
+Gives-tested (Ok value) given label lower passes fault = ap u_label_answer (sym (lowercase_of-lower given lower)) ∙ passes
+Gives-tested (Err refusal) given label lower passes fault = fault lower
 
 -- ---- code points past ASCII
 

@@ -69,7 +69,7 @@ registrable_scalars label registrable = permitted_scalars label (faultless label
 
 -- ---- an A-label holds lower-case letters, digits and hyphens alone
 
-ldh_ascii_points : (label : List ℕ) → code_point_fault label ≡ None → All (λ c. c < 128 → is_ldh_point c ≡ true) label
+pub ldh_ascii_points : (label : List ℕ) → code_point_fault label ≡ None → All (λ c. c < 128 → is_ldh_point c ≡ true) label
 ldh_ascii_points [] none = All-nil (λ c. c < 128 → is_ldh_point c ≡ true)
 ldh_ascii_points (c ∷ label) none =
     let parts = first_of-none (fault_of_class (class_of c)) (code_point_fault label) (sym (code_point_fault-cons c label) ∙ none) in

@@ -1,14 +1,13 @@
 //! What an A-label stands for (RFC 5891 section 5.3).
-ghost use Rattle.std.specs.Prelude.{◌≡◌, ◌≢◌, ◌↔◌, ◌<◌, ◌≤◌, ◌+◌, ◌++◌, ◌⊎◌, ℕ, List, not, length, map, drop, codes, true, false, Some, Ok, Err, IsTrue, IfOk, IfErr, OnOk};
+ghost use Rattle.std.specs.Prelude.{◌≡◌, ◌≢◌, ◌<◌, ◌≤◌, ℕ, List, not, length, map, drop, true, Ok, Err, IfErr, OnOk};
 ghost use Rattle.std.specs.Char.{is_ascii_uppercase, to_ascii_lowercase};
 ghost use Rattle.std.specs.List.{list_all};
-ghost use Rattle.idna.specs.Punycode.{encode, decode};
 ghost use Rattle.idna.specs.Validity.{is_all_ascii, has_ace_prefix};
 ghost use Rattle.idn_label.specs.ALabel.{a_label_of};
 ghost use Rattle.idn_label.specs.Answers.{Gives};
 ghost use Rattle.idn_label.specs.FirstFault.{first_fault, IsRegistrable};
-ghost use Rattle.idn_label.specs.Memory.{NeedsNoMemory, NeedsNoMemoryDecoded};
-ghost use Rattle.idn_label.specs.Register.{decoded_code, confirmed, u_label_answer};
+ghost use Rattle.idn_label.specs.Memory.{NeedsNoMemoryDecoded};
+ghost use Rattle.idn_label.specs.Register.{decoded_code, u_label_answer};
 
 use crate::a_label::{ALabel, MAX_LABEL_LEN};
 use crate::code_points::points_of;
@@ -25,8 +24,8 @@ use std::str;
 /// The most code points of a label or a name that is handed in.
 pub(crate) const MAX_LINE_LEN: usize = 1024;
 
-/// Leaves in `label` what an A-label in any ASCII case stands for, in place of what stood there. Most are in lower case,
-/// and are taken as they stand.
+/// Leaves in `label` what an A-label in any ASCII case stands for, in place of what stood there. A label that passes the
+/// test has no capital, so its code need not be put into lower case first.
 pub(crate) fn u_label_in_any_case(
     alloc: Global,
     given: &[u8],
@@ -39,11 +38,14 @@ pub(crate) fn u_label_in_any_case(
     ensures shorter { OnOk result (length label.new.items < length given.now) }
     ensures no_memory { NeedsNoMemoryDecoded (map to_ascii_lowercase given.now) → result ≢ Err Refusal.Memory }
 {
-    if has_no_capital(given) {
-        return lowercase_u_label(alloc, given, label);
+    match tested_u_label(alloc, given, label) {
+        Ok(()) => Ok(()),
+        Err(refusal) if has_no_capital(given) => Err(refusal),
+        Err(_) => {
+            let lower = lowercase_of(given);
+            tested_u_label(alloc, &lower, label)
+        }
     }
-    let lower = lowercase_of(given);
-    lowercase_u_label(alloc, &lower, label)
 }
 
 /// Leaves in `label` the label that an A-label stands for, which may be registered and has that A-label, in place of what
@@ -60,7 +62,7 @@ pub(crate) fn u_label(
     ensures no_memory { list_all (λ c. not (is_ascii_uppercase c)) given.now ≡ true → NeedsNoMemoryDecoded given.now → result ≢ Err Refusal.Memory }
 {
     if has_no_capital(given) {
-        return lowercase_u_label(alloc, given, label);
+        return tested_u_label(alloc, given, label);
     }
     // The A-label of a label that may be registered has no capital.
     Err(refusal_of(alloc, given))
@@ -77,18 +79,16 @@ pub(crate) fn has_no_capital(text: &[u8]) -> bool
     has_none
 }
 
-/// `u_label` of an A-label in lower case. One that is short need not be encoded again to be compared: Punycode in lower
-/// case is the only one of what it stands for (RFC 3492 sections 1.1 and 5).
-fn lowercase_u_label(
-    alloc: Global,
-    given: &[u8],
-    label: &mut ArrayVec<u32, 63>,
-) -> Result<(), Refusal>
-    requires prefix { has_ace_prefix given.now ≡ true }
+/// `u_label` of an A-label put into lower case; if it is refused, this is why where it has no capital. One that is short
+/// need not be encoded again to be compared: Punycode in lower case is the only one of what it stands for (RFC 3492
+/// sections 1.1 and 5).
+fn tested_u_label(alloc: Global, given: &[u8], label: &mut ArrayVec<u32, 63>) -> Result<(), Refusal>
+    requires prefix { has_ace_prefix (map to_ascii_lowercase given.now) ≡ true }
     requires ascii { is_all_ascii given.now ≡ true }
     requires short { length given.now ≤ MAX_LINE_LEN }
-    requires lowercase { list_all (λ c. not (is_ascii_uppercase c)) given.now ≡ true }
-    ensures answer { Gives (λ _. label.new.items) result (u_label_answer given.now) }
+    ensures passes { OnOk result (u_label_answer (map to_ascii_lowercase given.now) ≡ Ok label.new.items) }
+    ensures fault { IfErr result (λ refusal. list_all (λ c. not (is_ascii_uppercase c)) given.now ≡ true
+        → refusal ≢ Refusal.Memory → u_label_answer given.now ≡ Err refusal) }
     ensures shorter { OnOk result (length label.new.items < length given.now) }
     ensures no_memory { NeedsNoMemoryDecoded given.now → result ≢ Err Refusal.Memory }
 {
@@ -98,29 +98,26 @@ fn lowercase_u_label(
     }
     let (_, code) = given.split_at(4);
     let Ok(()) = decode(code, label) else {
-        return Err(Refusal::BadALabel);
+        return Err(bad_code());
     };
     if is_all_ascii(label) {
         return Err(refusal_of(alloc, given));
     }
-    check_u_label(alloc, label)
+    check_label(alloc, label)
 }
 
-/// Tests a label that is not all ASCII, and whose A-label is short, for registration.
-fn check_u_label(alloc: Global, label: &[u32]) -> Result<(), Refusal>
-    requires coded { is_all_ascii label.now ≡ false }
-    requires short { length label.now ≤ 63 }
-    requires short_a_label { length (codes "xn--" ++ encode label.now) ≤ 63 }
-    ensures registrable { OnOk result (IsRegistrable label.now) }
-    ensures fault { IfErr result (λ refusal. refusal ≢ Refusal.Memory → first_fault label.now ≡ Some refusal) }
-    ensures no_memory { NeedsNoMemory label.now → result ≢ Err Refusal.Memory }
+/// How a code that is no Punycode is refused. It stands apart, since the loop over the digits would prepare it at each.
+#[cold]
+#[inline(never)]
+fn bad_code() -> Refusal
+    ensures { result ≡ Refusal.BadALabel }
 {
-    check_label(alloc, label)
+    Refusal::BadALabel
 }
 
 /// Why an A-label is refused that no label which may be registered has.
 fn refusal_of(alloc: Global, given: &[u8]) -> Refusal
-    requires prefix { has_ace_prefix given.now ≡ true }
+    requires prefix { 4 ≤ length given.now }
     requires ascii { is_all_ascii given.now ≡ true }
     requires short { length given.now ≤ MAX_LINE_LEN }
     requires of_none { (label : List ℕ) → decoded_code (drop 4 given.now) ≡ Ok label → IsRegistrable label → a_label_of label ≢ given.now }

@@ -53,17 +53,19 @@ pub(crate) fn ldh_query(name: &[u8], room: &mut [u8]) -> Option<Result<usize, Re
     // Where the label begins to which the next octet belongs, and whether all labels before it have 1 to 63 octets.
     let mut start = 0;
     let mut have_lengths = true;
-    for (at, octet) in name.iter().enumerate() {
-        let lower = lowercase_octet(*octet);
+    let mut at = 0;
+    while at < name.len() {
+        let lower = lowercase_octet(name[at]);
         room[at] = lower;
+        at += 1;
         // Letters and digits stand behind the full stop in ASCII.
         if lower <= b'.' {
             match lower {
                 b'.' => {
-                    have_lengths &= has_label_length(start, at);
-                    start = at + 1;
+                    have_lengths &= has_label_length(start, at - 1);
+                    start = at;
                 }
-                b'-' if !has_ace_prefix(&room[start..at + 1]) => {}
+                b'-' if !has_ace_prefix(&room[start..at]) => {}
                 _ => return None,
             }
         }

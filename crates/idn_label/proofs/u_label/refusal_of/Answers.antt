@@ -1,13 +1,9 @@
 use Rattle.std.proofs.Common.{sym, ap, ◌∙◌}
-use Rattle.idna.proofs.Uts46Lemmas.{ace_parts}
 use Rattle.idn_label.specs.FirstFault.{first_fault}
 use Rattle.idn_label.specs.Register.{decoded_code}
 use Rattle.idn_label.proofs.AnswerLemmas.{u_label_answer-code_fault}
 use Rattle.idn_label.proofs.OtherLabels.{refused-registrable, refused-fault}
 use Rattle.idn_label.proofs.u_label.refusal_of.Goals as goal
-
-pub split_at-requires : goal.split_at-requires
-split_at-requires c = (ace_parts c.args.given.now c.requires.prefix).1
 
 pub returns-in-Err : goal.returns-in-Err
 returns-in-Err c = λ other. u_label_answer-code_fault c.args.given.now _ _ c.split_at.ensures.back (c.in-Err.ensures other)

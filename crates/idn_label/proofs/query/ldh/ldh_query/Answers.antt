@@ -1,4 +1,4 @@
-use Rattle.std.proofs.Common.{◌≡◌, ◌≢◌, ◌+◌, ◌-◌, true, false, ◌<◌, ◌∷◌, [], ◌++◌, map, length, take, drop, take_all, get_or, set, All, Ok, Err, refl, sym, ap, subst, ◌∙◌, ne_eqb, length-take, take-append-drop, arith}
+use Rattle.std.proofs.Common.{◌≡◌, ◌≢◌, ℕ, List, cond, ◌+◌, ◌-◌, true, false, ◌<◌, ◌∷◌, [], ◌++◌, map, length, take, drop, take_all, get_or, set, All, Ok, Err, refl, sym, ap, subst, ◌∙◌, ne_eqb, length-take, take-append-drop, arith}
 use Rattle.std.specs.Char.{to_ascii_lowercase}
 use Rattle.std.specs.Int.{is_in_range}
 use Rattle.std.specs.List.{list_any}
@@ -16,16 +16,72 @@ use Rattle.idn_label.proofs.LdhLabels.{split_nothing, same_split, split_letter, 
 use Rattle.idn_label.proofs.LdhNames.{lower_some, lowercase_push, to_ascii-lowercase_name}
 use Rattle.idn_label.proofs.LookupLemmas.{Gives-measured}
 use Rattle.idn_label.proofs.query.ldh.ldh_query.Goals as goal
-use Rattle.idn_label.proofs.query.ldh.ldh_query.Goals.{then-lower-le46+in-46, then-lower-le46+in-45, else-lower-le46, else-have_lengths-via-then-have_lengths+else-may_end, else-have_lengths-via-else-have_lengths}
+use Rattle.idn_label.proofs.query.ldh.ldh_query.Goals.{else-have_lengths-via-then-have_lengths+else-may_end, else-have_lengths-via-else-have_lengths}
 
 pub loop-at-init : goal.loop-at-init
 loop-at-init c = record {
   lower = refl;
   points = All-nil (λ c. is_name_point (to_ascii_lowercase c) ≡ true);
   labels = split_nothing;
-  within = omega arith;
+  within = (omega arith, omega arith);
   room = refl;
 }
+
+abbrev lowered : List ℕ → List ℕ
+lowered name = map to_ascii_lowercase name
+
+-- an octet more, in lower case: what is written so far, that it may stand in such a name, and what is written with it
+octet_more : (name room : List ℕ) (at lower : ℕ) → at < length name → at < length room → lower ≡ cond (is_name_point (to_ascii_lowercase (get_or name at 0))) (to_ascii_lowercase (get_or name at 0)) 0 → lower ≢ 0 → take at room ≡ lowered (take at name) → All (λ c. is_name_point (to_ascii_lowercase c) ≡ true) (take at name) → (take (at + 1) (set room at lower) ≡ lowered (take (at + 1) name)) × All (λ c. is_name_point (to_ascii_lowercase c) ≡ true) (take (at + 1) name) × (take (at + 1) (set room at lower) ≡ take at room ++ lower ∷ [])
+octet_more name room at lower within fits is other so_far points =
+    let pushed = take_more_set room at lower fits in
+    let some = lower_some (get_or name at 0) lower is other in (
+      lowercase_push name (take at room) (take (at + 1) (set room at lower)) at lower within some.0 pushed so_far,
+      All-more (λ c. is_name_point (to_ascii_lowercase c) ≡ true) name at 0 within points some.1,
+      pushed,
+    )
+
+pub loop-at-preserved-in-46-1 : goal.loop-at-preserved-in-46-1
+loop-at-preserved-in-46-1 c =
+    let name = c.args.name.now in
+    let at = c.loop-at.at in
+    let start = c.loop-at.start in
+    let room = c.loop-at.room in
+    let lower = c.lowercase_octet-lower.result in
+    let fits : at < length room = omega (arith, c.requires, c.loop-at.invariant.room, c.loop-at.invariant.within.1, c.loop-at-test.true, c.if-name-gt-MAX_QUERY_LEN.false) in
+    let count : length (take at room) ≡ at = omega (arith, length-take at room) in
+    let more = octet_more name room at lower c.loop-at-test.true fits c.lowercase_octet-lower.ensures (omega (arith, c.in-46.is)) c.loop-at.invariant.lower c.loop-at.invariant.points in
+    let stop : take at room ++ 0x2E ∷ [] ≡ take (at + 1) (set room at lower) = ap (λ x. take at room ++ x ∷ []) (sym c.in-46.is) ∙ sym more.2 in
+    let next : length (take at room) + 1 ≡ at + 1 = omega (arith, count) in
+    let last : at + 1 - 1 - start ≡ length (take at room) - start = omega (arith, count) in
+    record {
+      lower = more.0;
+      points = more.1;
+      labels = same_split stop next refl (split_stop c.loop-at.invariant.labels c.has_label_length-have_lengths.result (c.has_label_length-have_lengths.ensures ∙ ap (is_in_range 1 63) last));
+      within = (omega arith, omega arith);
+      room = length-set room at lower ∙ c.loop-at.invariant.room;
+    }
+
+pub loop-at-preserved-then-not-has_ace_prefix : goal.loop-at-preserved-then-not-has_ace_prefix
+loop-at-preserved-then-not-has_ace_prefix c =
+    let name = c.args.name.now in
+    let at = c.loop-at.at in
+    let start = c.loop-at.start in
+    let room = c.loop-at.room in
+    let lower = c.lowercase_octet-lower.result in
+    let fits : at < length room = omega (arith, c.requires, c.loop-at.invariant.room, c.loop-at.invariant.within.1, c.loop-at-test.true, c.if-name-gt-MAX_QUERY_LEN.false) in
+    let count : length (take at room) ≡ at = omega (arith, length-take at room) in
+    let more = octet_more name room at lower c.loop-at-test.true fits c.lowercase_octet-lower.ensures (omega (arith, c.in-45.is)) c.loop-at.invariant.lower c.loop-at.invariant.points in
+    let hyphens : take at room ++ hyphen ∷ [] ≡ take (at + 1) (set room at lower) = ap (λ x. take at room ++ x ∷ []) (sym c.in-45.is) ∙ sym more.2 in
+    let end : start + (at + 1 - start) ≡ at + 1 = omega (arith, c.loop-at.invariant.within.0) in
+    let whole : take (at + 1 - start) (drop start (set room at lower)) ≡ drop start (take at room ++ hyphen ∷ []) =
+    sym (drop-take start (at + 1 - start) (set room at lower)) ∙ ap (λ n. drop start (take n (set room at lower))) end ∙ ap (drop start) (sym hyphens) in
+    record {
+      lower = more.0;
+      points = more.1;
+      labels = same_split hyphens refl refl (split_hyphen c.loop-at.invariant.labels (ap has_ace_prefix (sym whole) ∙ sym c.has_ace_prefix.ensures ∙ c.if-not-has_ace_prefix.true));
+      within = (omega (arith, c.loop-at.invariant.within.0), omega arith);
+      room = length-set room at lower ∙ c.loop-at.invariant.room;
+    }
 
 pub loop-at-preserved : goal.loop-at-preserved
 loop-at-preserved c =
@@ -33,49 +89,17 @@ loop-at-preserved c =
     let at = c.loop-at.at in
     let start = c.loop-at.start in
     let room = c.loop-at.room in
-    let query = take at room in
     let lower = c.lowercase_octet-lower.result in
-    let within = c.loop-at-test.true in
-    let fits : at < length room = omega (arith, c.requires, c.loop-at.invariant.room, c.if-name-gt-MAX_QUERY_LEN.false) in
-    let count : length query ≡ at = omega (arith, length-take at room) in
-    let pushed : take (at + 1) (set room at lower) ≡ query ++ lower ∷ [] = take_more_set room at lower fits in
-    let labels = c.loop-at.invariant.labels in
-    let other : lower ≢ 0 =
-    elim c.if-lower-le46.branch [
-      | then-lower-le46+in-46 w ↦ omega (arith, w.in-46.is)
-      | then-lower-le46+in-45 w ↦ omega (arith, w.in-45.is)
-      | else-lower-le46 w ↦ omega (arith, w.if-lower-le46.false)
-    ] in
-    let some = lower_some (get_or name at 0) lower c.lowercase_octet-lower.ensures other in
+    let fits : at < length room = omega (arith, c.requires, c.loop-at.invariant.room, c.loop-at.invariant.within.1, c.loop-at-test.true, c.if-name-gt-MAX_QUERY_LEN.false) in
+    let count : length (take at room) ≡ at = omega (arith, length-take at room) in
+    let more = octet_more name room at lower c.loop-at-test.true fits c.lowercase_octet-lower.ensures (omega (arith, c.if-lower-le46.false)) c.loop-at.invariant.lower c.loop-at.invariant.points in
+    let no_stop = ne_eqb lower 0x2E (omega (arith, c.if-lower-le46.false)) in
+    let no_hyphen = ne_eqb lower hyphen (omega (arith, c.if-lower-le46.false)) in
     record {
-      lower = lowercase_push name query (take (at + 1) (set room at lower)) at lower within some.0 pushed c.loop-at.invariant.lower;
-      points = All-more (λ c. is_name_point (to_ascii_lowercase c) ≡ true) name at 0 within c.loop-at.invariant.points some.1;
-      labels =
-          elim c.if-lower-le46.branch [
-            | then-lower-le46+in-46 w ↦
-                let stop : query ++ 0x2E ∷ [] ≡ take (at + 1) (set room at lower) = ap (λ x. query ++ x ∷ []) (sym w.in-46.is) ∙ sym pushed in
-                let next : length query + 1 ≡ c.if-lower-le46.start = omega (arith, count, w.start-is) in
-                let last : at - start ≡ length query - start = omega (arith, count) in
-                same_split stop next (sym w.have_lengths-is)
-                (split_stop labels w.has_label_length-have_lengths.result (w.has_label_length-have_lengths.ensures ∙ ap (is_in_range 1 63) last))
-            | then-lower-le46+in-45 w ↦
-                let hyphens : query ++ hyphen ∷ [] ≡ take (at + 1) (set room at lower) = ap (λ x. query ++ x ∷ []) (sym w.in-45.is) ∙ sym pushed in
-                let end : start + (at + 1 - start) ≡ at + 1 = omega (arith, c.loop-at.invariant.within) in
-                let whole : take (at + 1 - start) (drop start (set room at lower)) ≡ drop start (query ++ hyphen ∷ []) =
-                sym (drop-take start (at + 1 - start) (set room at lower)) ∙ ap (λ n. drop start (take n (set room at lower))) end ∙ ap (drop start) (sym hyphens) in
-                same_split hyphens (sym w.start-is) (sym w.have_lengths-is)
-                (split_hyphen labels (ap has_ace_prefix (sym whole) ∙ sym w.has_ace_prefix.ensures ∙ w.if-not-has_ace_prefix.true))
-            | else-lower-le46 w ↦
-                let no_stop = ne_eqb lower 0x2E (omega (arith, w.if-lower-le46.false)) in
-                let no_hyphen = ne_eqb lower hyphen (omega (arith, w.if-lower-le46.false)) in
-                same_split (sym pushed) (sym w.start-is) (sym w.have_lengths-is) (split_letter labels lower no_stop no_hyphen)
-          ];
-      within =
-          elim c.if-lower-le46.branch [
-            | then-lower-le46+in-46 w ↦ omega (arith, w.start-is)
-            | then-lower-le46+in-45 w ↦ omega (arith, c.loop-at.invariant.within, w.start-is)
-            | else-lower-le46 w ↦ omega (arith, c.loop-at.invariant.within, w.start-is)
-          ];
+      lower = more.0;
+      points = more.1;
+      labels = same_split (sym more.2) refl refl (split_letter c.loop-at.invariant.labels lower no_stop no_hyphen);
+      within = (omega (arith, c.loop-at.invariant.within.0), omega arith);
       room = length-set room at lower ∙ c.loop-at.invariant.room;
     }
 
@@ -83,7 +107,7 @@ pub returns-then-may_end-clause-answer : goal.returns-then-may_end-clause-answer
 returns-then-may_end-clause-answer c std3 =
     let name = c.args.name.now in
     let query = take c.loop-at.at c.loop-at.room in
-    let all : c.loop-at.at ≡ length name = omega (arith, c.loop-at-test.false, c.loop-at.auto.at-end) in
+    let all : c.loop-at.at ≡ length name = omega (arith, c.loop-at-test.false, c.loop-at.invariant.within.1) in
     let count : length query ≡ length name = omega (arith, all, length-take c.loop-at.at c.loop-at.room, c.requires, c.loop-at.invariant.room, c.if-name-gt-MAX_QUERY_LEN.false) in
     let whole = take_all _ name c.loop-at-test.false in
     let points = subst (All (λ c. is_name_point (to_ascii_lowercase c) ≡ true)) whole c.loop-at.invariant.points in
@@ -97,7 +121,7 @@ pub returns-else-have_lengths-clause-answer : goal.returns-else-have_lengths-cla
 returns-else-have_lengths-clause-answer c std3 =
     let name = c.args.name.now in
     let query = take c.loop-at.at c.loop-at.room in
-    let all : c.loop-at.at ≡ length name = omega (arith, c.loop-at-test.false, c.loop-at.auto.at-end) in
+    let all : c.loop-at.at ≡ length name = omega (arith, c.loop-at-test.false, c.loop-at.invariant.within.1) in
     let count : length query ≡ length name = omega (arith, all, length-take c.loop-at.at c.loop-at.room, c.requires, c.loop-at.invariant.room, c.if-name-gt-MAX_QUERY_LEN.false) in
     let whole = take_all _ name c.loop-at-test.false in
     let points = subst (All (λ c. is_name_point (to_ascii_lowercase c) ≡ true)) whole c.loop-at.invariant.points in
@@ -122,14 +146,14 @@ returns-in_default-clause-told c ldh =
     let query = take at room in
     let lower = c.lowercase_octet-lower.result in
     let rest = map to_ascii_lowercase (drop (at + 1) name) in
-    let fits : at < length room = omega (arith, c.requires, c.loop-at.invariant.room, c.if-name-gt-MAX_QUERY_LEN.false) in
+    let fits : at < length room = omega (arith, c.requires, c.loop-at.invariant.room, c.loop-at.invariant.within.1, c.loop-at-test.true, c.if-name-gt-MAX_QUERY_LEN.false) in
     let pushed : take (at + 1) (set room at lower) ≡ query ++ lower ∷ [] = take_more_set room at lower fits in
     let some = lower_some (get_or name at 0) lower c.lowercase_octet-lower.ensures (omega (arith, c.in-45.is)) in
     let more = lowercase_push name query (take (at + 1) (set room at lower)) at lower c.loop-at-test.true some.0 pushed c.loop-at.invariant.lower in
     let hyphens : query ++ hyphen ∷ [] ≡ take (at + 1) (set room at lower) = ap (λ x. query ++ x ∷ []) (sym c.in-45.is) ∙ sym pushed in
     let parts : map to_ascii_lowercase name ≡ (query ++ hyphen ∷ []) ++ rest =
     sym (ap (map to_ascii_lowercase) (take-append-drop (at + 1) name)) ∙ map-append to_ascii_lowercase (take (at + 1) name) (drop (at + 1) name) ∙ ap (λ x. x ++ rest) (sym (hyphens ∙ more)) in
-    let end : start + (at + 1 - start) ≡ at + 1 = omega (arith, c.loop-at.invariant.within) in
+    let end : start + (at + 1 - start) ≡ at + 1 = omega (arith, c.loop-at.invariant.within.0) in
     let whole : take (at + 1 - start) (drop start (set room at lower)) ≡ drop start (query ++ hyphen ∷ []) =
     sym (drop-take start (at + 1 - start) (set room at lower)) ∙ ap (λ n. drop start (take n (set room at lower))) end ∙ ap (drop start) (sym hyphens) in
     let prefix = ap has_ace_prefix (sym whole) ∙ sym c.has_ace_prefix.ensures ∙ c.if-not-has_ace_prefix.false in
