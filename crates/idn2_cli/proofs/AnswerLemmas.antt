@@ -9,7 +9,7 @@ use Rattle.idn2_cli.specs.CommandLine.{app}
 use Rattle.idn2_cli.specs.Words.{Answer, IsAnswer, IsUsage, answer_of, asks_to_show, bad, chosen, is_allowed, options_of, settings_of, shown}
 use Rattle.idn2_cli.specs.declared.command_line.usage.Usage.{Usage}
 use Rattle.idn2_cli.specs.declared.command_line.usage.Usage.TheVariants.{Bad, Show, Memory}
-use Rattle.idn2_cli.proofs.LoneKind.{IsLone, lone-app}
+use Rattle.idn2_cli.proofs.SingleErrorKind.{IsLone, lone-app}
 
 -- a refusal of one kind
 refused : (kind : ErrorKind) (rows : List Row) (usage : Usage) → IsUsage kind usage → IsAnswer (answer_of (kind ∷ []) rows) (Err usage)

@@ -15,12 +15,12 @@ use Rattle.variant_list.specs.Segmentations.{HasSegmentation}
 use Rattle.variant_list.specs.Spelled.{spelled}
 use Rattle.variant_list.specs.Spelling.{JoinsReplacements, Spells}
 use Rattle.variant_list.proofs.ListedLemmas.{variants-IsListed}
-use Rattle.variant_list.proofs.Members.{Contains-head, Contains-later, Contains-none, Contains-cases}
+use Rattle.variant_list.proofs.ListMembers.{Contains-head, Contains-later, Contains-none, Contains-cases}
 use Rattle.variant_list.proofs.RecursionLemmas.{spelled-Spells}
 use Rattle.variant_list.proofs.SpellingLemmas.{Spells-itself, Spells-nothing, Spells-piece}
 use Rattle.idn2_cli.specs.Settings.{Settings}
 use Rattle.idn2_cli.specs.Answers.{block, is_registrable, is_allocatable, disposition_field, disposition, IsFieldOf, IsDisposition, stop_of, trailer, up_to, variant_line, variants_after}
-use Rattle.idn2_cli.specs.Inner.{AreOfTable, AreOfLabel, CanBeCut, block_by, field_by}
+use Rattle.idn2_cli.specs.inner.Dispositions.{AreOfTable, AreOfLabel, CanBeCut, block_by, field_by}
 use Rattle.idn2_cli.specs.Transcript.{output_lines}
 use Rattle.idn2_cli.specs.declared.modes.dispositions.Dispositions.{Dispositions}
 use Rattle.idn2_cli.specs.declared.modes.dispositions.Dispositions.TheVariants.{Unstated, AllAllocatable, BySpelling}

@@ -7,23 +7,23 @@ mod CountLemmas
 -- Options that the rules allow are within the limits of a run.
 mod LimitLemmas
 -- The definition of a command without subcommands names one kind of error at most.
-mod LoneKind
+mod SingleErrorKind
 -- From what `clap` gives to the answer.
 mod AnswerLemmas
 -- The messages of faults, written out.
 mod FaultLemmas
 -- What is written, piece by piece.
-pub mod Writing
+pub mod WrittenPieces
 -- What the bytes of a line are answered, by the code points that they spell.
 pub mod TextAnswers
 -- A listing step by step, and that it is the block.
-pub mod Walking
+pub mod BlockSteps
 -- One line more, and the end of the lines.
-pub mod Sessions
+pub mod LineSteps
 -- From the lines of the input, or none, to the end of a run.
-pub mod Finishing
+pub mod RunEnds
 -- A run over a console is a run over the two writers that were lent to it.
-pub mod Lending
+pub mod LentWriters
 -- The table of a run.
 pub mod TableLemmas
 -- The gaps of a table, as they are written.
@@ -33,15 +33,15 @@ pub mod DecodedLemmas
 -- The listing of a label's variants, and the labels in it.
 pub mod ListingLemmas
 -- Labels that can be cut into sources of a table, and others.
-pub mod Segmented
+pub mod SegmentedLabels
 -- The third field of a variant's line: which variants the table without its blocked variants spells.
 pub mod DispositionLemmas
 -- The block and the check that compute are those that are listed.
-pub mod ListedLemmas
+pub mod BlockMembers
 -- The answer to a line that a call refused.
-pub mod Refusing
+pub mod RefusedLines
 -- A listing under way: what it has written, and what is still to come.
-pub mod Listings
+pub mod ListingProgress
 -- Options that the rules allow suit their mode.
 pub mod SuitLemmas
 -- The mode that the words name.

@@ -17,7 +17,7 @@ use Rattle.variant_list.specs.Tested.{tested}
 use Rattle.variant_list.specs.Variants.{fits_label}
 use Rattle.variant_list.specs.Positions.{Position, tested_ahead}
 use Rattle.variant_list.specs.Steps.{last_of, moved_over}
-use Rattle.variant_list.proofs.Members.{Contains-head, Contains-later}
+use Rattle.variant_list.proofs.ListMembers.{Contains-head, Contains-later}
 use Rattle.variant_list.proofs.RecursionLemmas.{spelled-Spells}
 use Rattle.variant_list.proofs.ListedLemmas.{variants-IsListed, variants-behind}
 use Rattle.variant_list.proofs.ListingLemmas.{fits_label-short}
@@ -25,9 +25,9 @@ use Rattle.variant_list.proofs.TestedLaws.{variants_are_accepted_tested, tested-
 use Rattle.variant_list.proofs.VariantLists.{both}
 use Rattle.idn2_cli.specs.Settings.{Settings, IsCount}
 use Rattle.idn2_cli.specs.Transcript.{Piece, Output, output_lines}
-use Rattle.idn2_cli.specs.Answers.{is_registrable, nth, nth_if_given, lesser, up_to, variant_line, trailer, block_to}
-use Rattle.idn2_cli.specs.Inner.{block_by}
-use Rattle.idn2_cli.proofs.Walking.{walk, lines_to, lines_at-walk}
+use Rattle.idn2_cli.specs.Answers.{is_registrable, nth, nth_if_given, lesser_label, up_to, variant_line, trailer, block_to}
+use Rattle.idn2_cli.specs.inner.Dispositions.{block_by}
+use Rattle.idn2_cli.proofs.BlockSteps.{walk, lines_to, lines_at-walk}
 
 -- ---- labels that may be registered
 
@@ -52,7 +52,7 @@ lines_to-none field stop vs = ap (λ (n : ℕ). map (line_by field) (up_to stop 
 
 -- the block of lists is what the steps write
 block_lists : (field : List ℕ → List ℕ) (accepts : List ℕ → Bool) (limit : Option ℕ) (tries : ℕ) (cs : List (List ℕ)) (last : List ℕ) → IsRising cs → IfSome limit IsCount → IsCount tries
-    → block_to field (lesser (nth_if_given (filter accepts cs) limit) (nth cs tries)) (filter accepts cs) ≡ walk (line_by field) accepts limit 0 last cs tries
+    → block_to field (lesser_label (nth_if_given (filter accepts cs) limit) (nth cs tries)) (filter accepts cs) ≡ walk (line_by field) accepts limit 0 last cs tries
 block_lists field accepts limit zero cs last rising limits count = absurd (omega (arith, count.0))
 block_lists field accepts None (suc t) cs last rising limits count =
     lines_to-none field (nth cs (suc t)) (filter accepts cs)
@@ -61,9 +61,9 @@ block_lists field accepts None (suc t) cs last rising limits count =
 block_lists field accepts (Some zero) (suc t) cs last rising limits count = absurd (omega (arith, limits.0))
 block_lists field accepts (Some (suc m)) (suc t) cs last rising limits count =
     let vs = filter accepts cs in
-    lines_to-none field (lesser (nth vs (suc m)) (nth cs (suc t))) vs
-    ∙ ap (λ (n : ℕ). lines_to (line_by field) 0 (lesser (nth vs (suc m)) (slice_get cs n)) vs) (let one : suc t - 1 ≡ t = omega arith in one)
-    ∙ ap (λ (n : ℕ). lines_to (line_by field) 0 (lesser (slice_get vs n) (slice_get cs t)) vs) (let one : suc m - 1 ≡ m = omega arith in one)
+    lines_to-none field (lesser_label (nth vs (suc m)) (nth cs (suc t))) vs
+    ∙ ap (λ (n : ℕ). lines_to (line_by field) 0 (lesser_label (nth vs (suc m)) (slice_get cs n)) vs) (let one : suc t - 1 ≡ t = omega arith in one)
+    ∙ ap (λ (n : ℕ). lines_to (line_by field) 0 (lesser_label (slice_get vs n) (slice_get cs t)) vs) (let one : suc m - 1 ≡ m = omega arith in one)
     ∙ lines_at-walk (line_by field) accepts cs rising last 0 (Some m) t
     ∙ ap (λ (n : ℕ). walk (line_by field) accepts (Some n) 0 last cs (suc t)) (let same : (0 + 1) + m ≡ suc m = omega arith in same)
 
@@ -78,7 +78,7 @@ pub block-walk : (field : List ℕ → List ℕ) (o : Settings) (table : List En
     → block_by field o table label ≡ walk (line_by field) is_registrable o.limit 0 last (tested hopeless table label (take 63 o.after)) o.tries
 block-walk field o table label last limits count =
     let cs = tested hopeless table label o.after in
-    ap (λ (vs : List (List ℕ)). block_to field (lesser (nth_if_given vs o.limit) (nth cs o.tries)) vs) (variants_are_accepted_tested is_registrable hopeless registrable-short none_hopeless table label o.after)
+    ap (λ (vs : List (List ℕ)). block_to field (lesser_label (nth_if_given vs o.limit) (nth cs o.tries)) vs) (variants_are_accepted_tested is_registrable hopeless registrable-short none_hopeless table label o.after)
     ∙ block_lists field is_registrable o.limit o.tries cs last (tested-rising table label o.after) limits count
     ∙ ap (λ (ds : List (List ℕ)). walk (line_by field) is_registrable o.limit 0 last ds o.tries) (tested-cut hopeless table label o.after)
 

@@ -8,10 +8,10 @@ use Rattle.variant_table.specs.Faults as kinds
 use Rattle.variant_table.specs.declared.fault.TableFault.{TableFault}
 use Rattle.variant_table.proofs.TextLemmas.{text_decided}
 use Rattle.idn2_cli.specs.Transcript.{TableGiven, IsReadAs, table_refusal, check_pieces}
-use Rattle.idn2_cli.specs.Inner.{told_of}
+use Rattle.idn2_cli.specs.inner.TableFaults.{told_of}
 use Rattle.std.specs.Prelude.{MatchOption}
 use Rattle.idn2_cli.specs.Ends.{Held}
-use Rattle.idn2_cli.specs.Emitting.{Emits}
+use Rattle.idn2_cli.specs.inner.Emitting.{Emits}
 use Rattle.idn2_cli.specs.declared.session.status.Status.{Status}
 use Rattle.idn2_cli.specs.declared.session.stop.Stop.{Stop}
 use Rattle.idn2_cli.specs.declared.session.stop.Stop.TheVariants as stop

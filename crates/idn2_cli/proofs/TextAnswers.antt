@@ -14,7 +14,7 @@ use Rattle.idn_label.specs.Lookup.{lookup_answer, utf8_answer}
 use Rattle.idn2_cli.specs.Transcript.{Output, pieces_for}
 use Rattle.idn_text.proofs.Utf8Lemmas.{IsUtf8-from_points, points_from_utf8, ascii_points}
 use Rattle.idn2_cli.specs.Answers.{LineAnswer, one_line, text_answer}
-use Rattle.idn2_cli.specs.Inner.{with_feed, query_answer}
+use Rattle.idn2_cli.specs.inner.LineAnswers.{with_feed, query_answer}
 
 and_parts : (a b : Bool) → (a && b) ≡ true → (a ≡ true) × (b ≡ true)
 and_parts true b e = (refl, e)
@@ -60,34 +60,35 @@ text_answer-points answer bytes points is some =
 pub text_answer-ascii : (answer : List ℕ → LineAnswer) (bytes : List ℕ) → IsAscii bytes → (length bytes == 0) ≡ false → text_answer answer bytes ≡ answer bytes
 text_answer-ascii answer bytes ascii some = text_answer-points answer bytes bytes (ascii_points bytes ascii) some
 
+-- no bytes are UTF-8
+utf8_of_none : (bytes : List ℕ) → (length bytes == 0) ≡ true → is_utf8 bytes ≡ true
+utf8_of_none [] empty = is_utf8-from_IsUtf8 [] ([], (refl, refl))
+utf8_of_none (c ∷ cs) empty = let some : (length (c ∷ cs) == 0) ≡ false = grind (arith, nat_tests) in absurd (let clash : true ≡ false = sym empty ∙ some in cc)
+
 -- what lookup answers to bytes, by the name that they are in a query
 pub text_answer-query : (std3 : Bool) (bytes : List ℕ) → text_answer (λ name. one_line (lookup_answer name std3)) bytes ≡ one_line (query_answer bytes std3)
-unfolding query_answer
+unfolding query_answer utf8_answer
 text_answer-query std3 bytes =
-    elim (cases_Bool (is_utf8 bytes)) [
-      | inl utf8 ↦
-          let is = IsUtf8-from_is_utf8 bytes utf8 in
-          let named : utf8_of (chars bytes) ≡ bytes = ap utf8_of (points_from_utf8 bytes is.0 (points_of bytes is)) ∙ is.1.1 in
-          elim (cases_Bool (length bytes == 0)) [
-            | inl empty ↦ rw (utf8, empty) refl
-            | inr some ↦ rw (utf8, some, named) refl
+    elim (cases_Bool (length bytes == 0)) [
+      | inl empty ↦ rw (utf8_of_none bytes empty, empty) refl
+      | inr some ↦
+          elim (cases_Bool (is_utf8 bytes)) [
+            | inl utf8 ↦
+                let is = IsUtf8-from_is_utf8 bytes utf8 in
+                let named : utf8_of (chars bytes) ≡ bytes = ap utf8_of (points_from_utf8 bytes is.0 (points_of bytes is)) ∙ is.1.1 in
+                rw (utf8, some, named) refl
+            | inr other ↦ rw (other, some) refl
           ]
-      | inr other ↦ rw other refl
     ]
 
 -- of some bytes it is the answer of lookup
 pub query_answer-some : (std3 : Bool) (bytes : List ℕ) → (length bytes == 0) ≡ false → query_answer bytes std3 ≡ utf8_answer bytes std3
-unfolding query_answer utf8_answer
-query_answer-some std3 bytes some =
-    elim (cases_Bool (is_utf8 bytes)) [
-      | inl utf8 ↦ rw (utf8, some) refl
-      | inr other ↦ rw other refl
-    ]
+unfolding query_answer
+query_answer-some std3 bytes some = rw some refl
 
 pub query_answer-empty : (std3 : Bool) (bytes : List ℕ) → (length bytes == 0) ≡ true → query_answer bytes std3 ≡ Err Empty
 unfolding query_answer
-query_answer-empty std3 [] empty = let utf8 : is_utf8 [] ≡ true = is_utf8-from_IsUtf8 [] ([], (refl, refl)) in rw utf8 refl
-query_answer-empty std3 (c ∷ cs) empty = let some : (length (c ∷ cs) == 0) ≡ false = grind (arith, nat_tests) in absurd (let clash : true ≡ false = sym empty ∙ some in cc)
+query_answer-empty std3 bytes empty = rw empty refl
 
 -- ---- one line
 

@@ -49,10 +49,10 @@ nth_if_given labels None = None
 nth_if_given labels (Some n) = nth labels n
 
 -- the lesser of two labels, as far as they exist
-abbrev pub lesser : Option (List ℕ) → Option (List ℕ) → Option (List ℕ)
-lesser None b = b
-lesser (Some a) None = Some a
-lesser (Some a) (Some b) = if is_le (label_cmp a b) then Some a else Some b
+abbrev pub lesser_label : Option (List ℕ) → Option (List ℕ) → Option (List ℕ)
+lesser_label None b = b
+lesser_label (Some a) None = Some a
+lesser_label (Some a) (Some b) = if is_le (label_cmp a b) then Some a else Some b
 
 -- the labels that a listing tests: those of at most 63 code points that the label spells, after the text of the settings, no
 -- beginning of which is hopeless
@@ -62,7 +62,7 @@ tested_after o table label = tested hopeless table label o.after
 -- the stop of a listing: the limit-th variant or the tries-th tested label, the lesser of those that exist
 abbrev pub stop_of : Settings → List Entry → List ℕ → Option (List ℕ)
 stop_of o table label =
-    lesser (nth_if_given (variants_after o table label) o.limit) (nth (tested_after o table label) o.tries)
+    lesser_label (nth_if_given (variants_after o table label) o.limit) (nth (tested_after o table label) o.tries)
 
 -- the labels that are not greater than the stop; all of them, if there is no stop
 abbrev pub up_to : Option (List ℕ) → List (List ℕ) → List (List ℕ)
@@ -174,7 +174,7 @@ pub record IsBlock (o : Settings) (table : TableValue) (label : List ℕ) (lines
   pub tried : List (List ℕ)
   pub exactly_tried : IsListOf (IsTried o table.entries label) tried
   pub stop : Option (List ℕ)
-  pub stops : stop ≡ lesser (nth_if_given listed o.limit) (nth tried o.tries)
+  pub stops : stop ≡ lesser_label (nth_if_given listed o.limit) (nth tried o.tries)
   pub field : List ℕ → List ℕ
   pub disposed : (v : List ℕ) → IsDisposition table label v (field v)
   pub printed : lines ≡ map (λ v. variant_line (field v) v) (up_to stop listed) ++ trailer (length (up_to stop listed)) stop ∷ []

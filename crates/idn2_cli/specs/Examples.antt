@@ -10,7 +10,7 @@ use Rattle.variant_list.specs.Examples.{allocatable, a_or_two, letter_or_hyphen}
 use Rattle.idn2_cli.specs.Settings.{Settings}
 use Rattle.idn2_cli.specs.Transcript.{Output, Message, line_message, table_message, table_line, transcript, status_of, no_table}
 use Rattle.idn2_cli.specs.Ends.{closing_message}
-use Rattle.idn2_cli.specs.Answers.{block, nth, nth_if_given, lesser, up_to, trailer, LineAnswer, line_answer}
+use Rattle.idn2_cli.specs.Answers.{block, nth, nth_if_given, lesser_label, up_to, trailer, LineAnswer, line_answer}
 use Rattle.idn2_cli.specs.Words.{Answer, options_of, chosen, bad}
 use Rattle.idn2_cli.specs.declared.command_line.mode.Mode.{Mode}
 use Rattle.idn2_cli.specs.declared.command_line.mode.Mode.TheVariants.{Lookup, Register, Variants}
@@ -29,10 +29,10 @@ pub record ExamplesOfARun : Type 0 where
   pub ended : trailer 3 None ≡ codes "#end 3"
   pub stopped : trailer 2 (Some (115 ∷ 0xDF ∷ [])) ≡ codes "#stop 2 " ++ utf8_of (115 ∷ 0xDF ∷ [])
   -- the limit-th variant and the tries-th candidate: the same label, one alone, the lesser of two, neither
-  pub both : lesser (nth_if_given three (Some 2)) (nth three 2) ≡ Some (115 ∷ 0xDF ∷ [])
-  pub tries_alone : lesser (nth_if_given three None) (nth three 3) ≡ Some (0xDF ∷ 115 ∷ [])
-  pub limit_first : lesser (nth_if_given three (Some 1)) (nth three 3) ≡ Some (115 ∷ 115 ∷ 115 ∷ [])
-  pub neither : lesser (nth_if_given three (Some 4)) (nth three 4) ≡ None
+  pub both : lesser_label (nth_if_given three (Some 2)) (nth three 2) ≡ Some (115 ∷ 0xDF ∷ [])
+  pub tries_alone : lesser_label (nth_if_given three None) (nth three 3) ≡ Some (0xDF ∷ 115 ∷ [])
+  pub limit_first : lesser_label (nth_if_given three (Some 1)) (nth three 3) ≡ Some (115 ∷ 115 ∷ 115 ∷ [])
+  pub neither : lesser_label (nth_if_given three (Some 4)) (nth three 4) ≡ None
   pub up_to_the_second : up_to (Some (115 ∷ 0xDF ∷ [])) three ≡ (115 ∷ 115 ∷ 115 ∷ []) ∷ (115 ∷ 0xDF ∷ []) ∷ []
 
 -- lines that are refused in each mode: a line that is too long, an empty one, and one that isn't UTF-8

@@ -27,7 +27,7 @@ use Rattle.idn_class.specs.Facts.{is_barred_class, is_contextj, is_contexto, is_
 use Rattle.idn_class.specs.LeadingMark.{is_mark}
 use Rattle.idn_class.specs.Rows.{HasClasses}
 use Rattle.idn_class.specs.Tests.{leading_mark, contextj_ok, contexto_ok, bidi_ok}
-use Rattle.idn_class.proofs.Computing.{in_table, HasClasses-rows_ok}
+use Rattle.idn_class.proofs.ComputedLabels.{in_table, HasClasses-rows_ok}
 use Rattle.idn_class.proofs.ContextJTests.{contextj_ok-PassesContextJ}
 use Rattle.idn_class.proofs.ContextOTests.{contexto_ok-PassesContextO}
 

@@ -9,7 +9,7 @@ use Rattle.idn_class.specs.declared.direction.Direction.{Direction}
 use Rattle.idn_class.specs.declared.direction.Direction.TheVariants.{Ltr}
 use Rattle.idn_class.specs.BidiRule.{is_rtl_class}
 use Rattle.idn_class.specs.Hopeless.{has_hyphens_third_and_fourth, hopeless, IsHopeless, IsShortestHopeless, HasHope}
-use Rattle.idn_class.specs.Directions.{IsShortest, HasNone, breaks_at_first, breaks_behind, begun_by, begun, lengthened}
+use Rattle.idn_class.specs.inner.Directions.{IsShortest, HasNone, breaks_at_first, breaks_behind, begun_by, begun, lengthened}
 use Rattle.idn_class.proofs.HopelessSteps.{Tells, Tells-longer, Tells-itself, breaks_at-last, breaks_after, breaks_at_first-cons, breaks_behind-nil, hyphens-few, hyphens-many, hyphens-short, hopeless-none, hopeless-breaks, hopeless-hyphens, hopeless-more}
 use Rattle.idn_class.proofs.HopelessTests.{hopeless-gives, hopeless-from}
 

@@ -12,7 +12,7 @@ use Rattle.idn_class.specs.BidiRule.{is_rtl_class}
 use Rattle.idn_class.specs.LeadingMark.{is_mark}
 use Rattle.idn_class.specs.Tests.{is_en, is_an, is_rtl}
 use Rattle.idn_class.specs.Hopeless.{is_l, has_hyphens_third_and_fourth, breaks_bidi, hopeless}
-use Rattle.idn_class.specs.Directions.{breaks_at_first, breaks_behind, begun_by, begun, rtl_lengthened, lengthened}
+use Rattle.idn_class.specs.inner.Directions.{breaks_at_first, breaks_behind, begun_by, begun, rtl_lengthened, lengthened}
 
 -- where there is no direction, everything is broken
 abbrev pub breaks_after : Option Direction → List ℕ → Bool

@@ -8,9 +8,9 @@ use Rattle.idn_class.specs.declared.direction.Direction.{Direction}
 use Rattle.idn_class.specs.declared.facts.Fact.{Fact}
 use Rattle.idn_class.specs.declared.facts.Facts.{Facts}
 use Rattle.idn_class.specs.declared.known.Known.{Known}
-use Rattle.idn_class.specs.Directions.{HasNone, IsShortest, breaks_at_first, breaks_behind, begun, lengthened}
+use Rattle.idn_class.specs.inner.Directions.{HasNone, IsShortest, breaks_at_first, breaks_behind, begun, lengthened}
 use Rattle.idn_class.specs.Facts.{contains, has_fact}
-use Rattle.idn_class.specs.Known.{IsKnown, AreKnown}
+use Rattle.idn_class.specs.inner.Known.{IsKnown, AreKnown}
 use Rattle.idn_class.proofs.HopelessSteps.{breaks_after, breaks_at_first-cons, breaks_behind-cons, breaks_behind-nil}
 use Rattle.idn_class.proofs.HopelessShortest.{HasNone-nil, HasNone-behind}
 

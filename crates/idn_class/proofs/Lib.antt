@@ -33,6 +33,6 @@ pub mod HopelessTests
 -- The shortest hopeless beginning: the shortest that breaks the direction, or hyphens third and fourth before it.
 pub mod HopelessShortest
 -- How a proof computes classes and rules on a label that is written out.
-pub mod Computing
+pub mod ComputedLabels
 -- What is known of a beginning, and of one that is longer by a code point.
 pub mod KnownLemmas

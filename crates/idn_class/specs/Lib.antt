@@ -10,5 +10,4 @@ pub mod Neighbors
 pub mod Rows
 pub mod Tests
 pub mod Hopeless
-pub mod Directions
-pub mod Known
+pub mod inner

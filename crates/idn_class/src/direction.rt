@@ -1,5 +1,5 @@
 ghost use Rattle.std.specs.Prelude.{◌≡◌, MatchOption};
-ghost use Rattle.idn_class.specs.Directions.{IsShortest, HasNone, begun, lengthened, rtl_lengthened, breaks_behind};
+ghost use Rattle.idn_class.specs.inner.Directions.{IsShortest, HasNone, begun, lengthened, rtl_lengthened, breaks_behind};
 
 use crate::bidi::is_rtl_code_point;
 use crate::bidi_class::{BidiClass, bidi_class};

@@ -1,5 +1,5 @@
 ghost use Rattle.std.specs.Prelude.{◌≡◌, ◌≤◌, length, take};
-ghost use Rattle.idn_class.specs.Known.{IsLongestShared};
+ghost use Rattle.idn_class.specs.inner.Known.{IsLongestShared};
 
 use crate::beginning::with_hyphens;
 use crate::facts::Facts;
@@ -21,7 +21,7 @@ pub struct KeptBeginnings {
 
 impl Model for KeptBeginnings {
     ghost use Rattle.std.specs.Prelude.{ℕ, List};
-    ghost use Rattle.idn_class.specs.Known.{AreKnown};
+    ghost use Rattle.idn_class.specs.inner.Known.{AreKnown};
 
     ghost Value = { List ℕ };
 
@@ -34,8 +34,8 @@ impl KeptBeginnings {
     ghost use Rattle.std.specs.Prelude.{◌≡◌, ◌≤◌, ◌<◌, ◌∷◌, [], ◌++◌, true, length, take, None, MatchOption};
     ghost use Rattle.idn_class.specs.Hopeless.{IsShortestHopeless, HasHope};
     ghost use Rattle.idn_class.specs.Facts.{AreFactsOf};
-    ghost use Rattle.idn_class.specs.Directions.{IsShortest, HasNone, breaks_at_first};
-    ghost use Rattle.idn_class.specs.Known.{IsKnown, IsLongestShared};
+    ghost use Rattle.idn_class.specs.inner.Directions.{IsShortest, HasNone, breaks_at_first};
+    ghost use Rattle.idn_class.specs.inner.Known.{IsKnown, IsLongestShared};
 
     /// Of the empty label.
     pub fn new() -> KeptBeginnings

@@ -1,6 +1,6 @@
 ghost use Rattle.std.specs.Prelude.{◌≡◌, ◌∷◌, [], ◌++◌, ℕ, true, List, MatchOption};
 ghost use Rattle.idn_class.specs.Facts.{AreFactsOf};
-ghost use Rattle.idn_class.specs.Directions.{breaks_at_first};
+ghost use Rattle.idn_class.specs.inner.Directions.{breaks_at_first};
 
 use crate::direction::Direction;
 use crate::facts::Facts;
@@ -16,7 +16,7 @@ pub(crate) struct Known {
 }
 
 impl Known {
-    ghost use Rattle.idn_class.specs.Known.{IsKnown};
+    ghost use Rattle.idn_class.specs.inner.Known.{IsKnown};
 
     /// Nothing yet.
     pub(crate) const NOTHING: Known = Known {

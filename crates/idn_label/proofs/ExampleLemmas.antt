@@ -11,7 +11,7 @@ use Rattle.idn_class.specs.declared.class.Class.TheVariants.{Pvalid, Contextj, C
 use Rattle.idn_class.specs.declared.class.Class.TheVariants as class
 use Rattle.idn_class.specs.Class.{class_of}
 use Rattle.idn_class.specs.Tests.{leading_mark, contextj_ok, contexto_ok, bidi_ok}
-use Rattle.idn_class.proofs.Computing.{rules, in_table, map-class_of-in_table}
+use Rattle.idn_class.proofs.ComputedLabels.{rules, in_table, map-class_of-in_table}
 use Rattle.idn_label.specs.ALabel.{a_label_of}
 use Rattle.idn_label.specs.Examples.{HaveALabels, HaveFirstFaults, HaveRegisterAnswers, HaveDecodeAnswers, HaveLookupAnswers, a_labels, first_faults, first_faults_of_two, register_answers, decode_answers, lookup_answers}
 use Rattle.idn_label.specs.Answers.{and_then}

@@ -21,7 +21,7 @@ use Rattle.unicode_normalization.specs.Forms.{is_nfc}
 use Rattle.idn_text.specs.declared.refusal.Refusal.TheVariants as refusals
 use Rattle.idn_class.specs.Tests.{leading_mark, contextj_ok, contexto_ok, bidi_ok}
 use Rattle.idn_label.specs.FirstFault.{first_of, fault_if, fault_of_class, code_point_fault, has_hyphen_out_of_place, is_too_long, first_fault}
-use Rattle.idn_label.specs.Steps.{rule_fault, fault_but_length}
+use Rattle.idn_label.specs.inner.FaultSteps.{rule_fault, fault_but_length}
 
 -- where a list of faults goes on, its first part tells the first fault or leaves it to the rest
 pub first_of-append : (xs ys : List (Option Refusal)) → first_of (xs ++ ys) ≡ first_of (first_of xs ∷ ys)

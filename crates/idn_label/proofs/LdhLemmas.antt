@@ -3,7 +3,7 @@ use Rattle.std.proofs.Common.{◌≡◌, ℕ, ◌<◌, Bool, true, false, not, �
 use Rattle.std.specs.List.{list_all}
 use Rattle.std.proofs.lemmas.Bool.{and_parts, cond-true, cond-false}
 use Rattle.std.proofs.lemmas.Bool.Decides.{nat_tests}
-use Rattle.idn_class.proofs.Computing.{rules, in_table, class_of-in_table}
+use Rattle.idn_class.proofs.ComputedLabels.{rules, in_table, class_of-in_table}
 use Rattle.idn_class.specs.declared.class.Class.{Class}
 use Rattle.idn_class.specs.declared.class.Class.TheVariants.{Pvalid, Disallowed}
 use Rattle.idn_class.specs.Class.{class_of}
@@ -18,7 +18,8 @@ use Rattle.idna.specs.Validity.{is_all_ascii}
 use Rattle.idn_text.specs.declared.refusal.Refusal.TheVariants.{Empty, Hyphen, LabelTooLong}
 use Rattle.idn_label.specs.ALabel.{a_label_of}
 use Rattle.idn_label.specs.FirstFault.{first_of, fault_if, fault_of_class, code_point_fault, has_hyphen_out_of_place, is_too_long, first_fault}
-use Rattle.idn_label.specs.Steps.{is_ldh_point, rule_fault}
+use Rattle.idn_label.specs.Steps.{is_ldh_point}
+use Rattle.idn_label.specs.inner.FaultSteps.{rule_fault}
 use Rattle.idn_class.specs.declared.facts.Fact.{Fact}
 use Rattle.idn_class.specs.declared.facts.Fact.TheVariants.{MayBeBarred, Contextj, Contexto, MayCompose, Mark, RightToLeft}
 use Rattle.idn_class.specs.Facts.{has_fact, IsSimple}

@@ -23,7 +23,8 @@ use Rattle.idn_label.specs.ALabel.{a_label_of}
 use Rattle.idn_label.specs.Answers.{Gives}
 use Rattle.idn_label.specs.FirstFault.{code_point_fault, first_fault, IsRegistrable}
 use Rattle.idn_label.specs.Register.{decoded_code, u_label_answer}
-use Rattle.idn_label.specs.Steps.{is_ldh_point, fault_but_length}
+use Rattle.idn_label.specs.Steps.{is_ldh_point}
+use Rattle.idn_label.specs.inner.FaultSteps.{fault_but_length}
 use Rattle.idn_label.proofs.AnswerLemmas.{tested_answer-ok, tested_answer-fault, confirmed-same, confirmed-other, confirmed-fault, decoded_code-as, decoded_code-other, decoded_code-from, u_label_answer-code_fault, u_label_answer-confirmed, ace_label-again, a_label_of-not_ascii}
 use Rattle.idn_label.proofs.DecodeLemmas.{lowercase_of-lower, is_all_ascii-lower, has_no_capital-lower}
 use Rattle.idn_label.proofs.FaultLemmas.{permitted-faultless, first_fault-short}

@@ -21,7 +21,8 @@ use Rattle.idn_class.specs.Tests.{leading_mark, contextj_ok, contexto_ok, bidi_o
 use Rattle.idn_text.specs.declared.refusal.Refusal.TheVariants.{Empty, Hyphen, LabelTooLong}
 use Rattle.idn_label.specs.ALabel.{a_label_of}
 use Rattle.idn_label.specs.FirstFault.{fault_if, fault_of_class, code_point_fault, has_hyphen_out_of_place, is_too_long, IsRegistrable}
-use Rattle.idn_label.specs.Steps.{is_ldh_point, rule_fault}
+use Rattle.idn_label.specs.Steps.{is_ldh_point}
+use Rattle.idn_label.specs.inner.FaultSteps.{rule_fault}
 use Rattle.idn_label.specs.Register.{u_label_answer, register_answer}
 use Rattle.idn_label.specs.Decode.{decode_answer}
 use Rattle.idn_label.proofs.FaultLemmas.{first_of-none, first_of-all, fault_if-none, code_point_fault-cons, permitted_scalars, first_fault-parts}

@@ -36,7 +36,7 @@ use Rattle.idn_class.specs.declared.facts.Facts.{Facts}
 use Rattle.idn_class.specs.declared.facts.Fact.TheVariants.{MayCompose, RightToLeft}
 use Rattle.idn_class.specs.Facts.{contains, has_fact}
 use Rattle.idn_class.proofs.FactLabels.{compose_without}
-use Rattle.idn_label.specs.SimpleNames.{PassesInLabel, TellsRightToLeft}
+use Rattle.idn_label.specs.inner.SimpleNames.{PassesInLabel, TellsRightToLeft}
 
 -- ---- labels
 

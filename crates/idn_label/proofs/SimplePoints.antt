@@ -24,7 +24,7 @@ use Rattle.idna.specs.BidiRule.{is_rtl}
 use Rattle.idna.specs.Labels.{is_full_stop}
 use Rattle.idna.specs.Uts46.{map_by, map_char}
 use Rattle.idna.specs.Validity.{begins_with_mark, is_valid_status}
-use Rattle.idn_class.proofs.Computing.{rules, in_table, class_of-in_table}
+use Rattle.idn_class.proofs.ComputedLabels.{rules, in_table, class_of-in_table}
 use Rattle.idn_class.specs.declared.class.Class.TheVariants.{Pvalid, Contextj, Disallowed}
 use Rattle.idn_class.specs.Class.{class_of}
 use Rattle.idn_class.specs.declared.facts.Fact.TheVariants.{MayBeBarred, Contextj as fact_Contextj, MayCompose, Mark as Mark_fact, RightToLeft, NotKept}
@@ -34,7 +34,7 @@ use Rattle.idn_class.proofs.FactLabels.{class_without, contextj_without, mark_wi
 use Rattle.idn_class.specs.LeadingMark.{is_mark_category, is_mark}
 use Rattle.idn_class.specs.Tests.{all_places}
 use Rattle.idn_class.proofs.TestLemmas.{all_places-at}
-use Rattle.idn_label.specs.SimpleNames.{PassesInLabel, TellsRightToLeft, TellsComposing}
+use Rattle.idn_label.specs.inner.SimpleNames.{PassesInLabel, TellsRightToLeft, TellsComposing}
 use Rattle.idn_label.specs.Steps.{is_ldh_point}
 use Rattle.idn_label.proofs.LdhLemmas.{class_of-ascii}
 

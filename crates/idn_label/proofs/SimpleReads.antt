@@ -26,7 +26,7 @@ use Rattle.idna.specs.Uts46.{map_char, to_ascii, has_dns_lengths, verify_dns_len
 use Rattle.idna.specs.Validity.{has_ace_prefix, begins_with_mark, passes_bidi}
 use Rattle.idna.proofs.LabelsLemmas.{HasNoFullStop, terminated, terminated-push, terminated-cons, labels_of-join_labels}
 use Rattle.idn_label.specs.ALabel.{a_label_of}
-use Rattle.idn_label.specs.SimpleNames.{PassesInLabel, TellsRightToLeft, TellsComposing}
+use Rattle.idn_label.specs.inner.SimpleNames.{PassesInLabel, TellsRightToLeft, TellsComposing}
 use Rattle.idn_label.proofs.SimplePoints.{map_char-ascii}
 use Rattle.idn_label.proofs.SimpleNames.{IsShortLabel, to_ascii-short, no_full_stop-a_label, labels_of-terminated, a_label_of-ascii, left_to_right-full_stop}
 

@@ -5,8 +5,8 @@ pub mod Answers
 pub mod Register
 pub mod Decode
 pub mod Lookup
-pub mod SimpleNames
 pub mod LdhNames
 pub mod Steps
 pub mod Requirements
 pub mod Examples
+pub mod inner

@@ -3,7 +3,7 @@ ghost use Rattle.std.specs.Prelude.{◌≡◌, ◌≢◌, ◌<◌, ◌≤◌, �
 ghost use Rattle.idna.specs.Punycode.{encode};
 ghost use Rattle.idn_label.specs.ALabel.{a_label_of};
 ghost use Rattle.idn_label.specs.FirstFault.{first_fault, IsRegistrable};
-ghost use Rattle.idn_label.specs.Steps.{fault_but_length};
+ghost use Rattle.idn_label.specs.inner.FaultSteps.{fault_but_length};
 
 use crate::code_points::short_chars;
 use crate::unit::is_all_ascii;

@@ -6,7 +6,7 @@ ghost use Rattle.idn_class.specs.Facts.{AreFactsOf};
 ghost use Rattle.idn_label.specs.ALabel.{a_label_of};
 ghost use Rattle.idn_label.specs.FirstFault.{code_point_fault, fault_of_class, first_fault, IsRegistrable};
 ghost use Rattle.idn_label.specs.Memory.{NeedsNoMemory};
-ghost use Rattle.idn_label.specs.Steps.{fault_but_length};
+ghost use Rattle.idn_label.specs.inner.FaultSteps.{fault_but_length};
 
 use crate::a_label::{ALabel, measured_a_label};
 use crate::rules::check_rules;

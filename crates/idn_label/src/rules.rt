@@ -7,7 +7,7 @@ ghost use Rattle.unicode_normalization.specs.QuickCheck.{quick_check_text};
 ghost use Rattle.idn_text.specs.Points.{AreScalarValues};
 ghost use Rattle.idn_class.specs.Facts.{AreFactsOf, contains};
 ghost use Rattle.idn_class.specs.Tests.{leading_mark, contextj_ok, contexto_ok, bidi_ok};
-ghost use Rattle.idn_label.specs.Steps.{rule_fault};
+ghost use Rattle.idn_label.specs.inner.FaultSteps.{rule_fault};
 
 use crate::a_label::MAX_LABEL_LEN;
 use crate::code_points::{chars_of, short_chars};
@@ -19,7 +19,7 @@ use unicode_normalization::IsNormalized;
 use unicode_normalization::slice::{extend_nfc, is_nfc_quick};
 
 /// Tells the first fault that is neither of a code point nor of the length. `facts` are those of the label.
-#[tactic(auto, unfolding(crate::specs::Steps::rule_fault))]
+#[tactic(auto, unfolding(crate::specs::inner::FaultSteps::rule_fault))]
 pub(crate) fn check_rules(alloc: Global, label: &[u32], facts: Facts) -> Result<(), Refusal>
     requires scalars { AreScalarValues label.now }
     requires facts { AreFactsOf facts label.now }

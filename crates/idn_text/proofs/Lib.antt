@@ -5,7 +5,7 @@ mod HexLemmas
 -- What a whole history of reading says of a text that is known.
 pub mod HistoryLemmas
 -- How what is known of a reader or a writer goes on over several calls.
-pub mod Knowing
+pub mod KnownBytesLemmas
 -- What the laws rest on.
 pub mod LawLemmas
 -- How lines go on from those that were read.

@@ -2,11 +2,12 @@
 use Rattle.std.proofs.Common.{◌≡◌, ◌≢◌, ℕ, ◌+◌, ◌^◌, ◌≤◌, ◌<◌, inl, inr, List, [], ◌∷◌, ◌++◌, Option, Bool, true, false, cond, All, length, refl, sym, ap, subst, ◌∙◌, length-append, arith}
 use Rattle.std.proofs.lemmas.List.{append-nil}
 use Rattle.idn_text.specs.Lines.{Numbered, raw_lines, body_of}
-use Rattle.idn_text.specs.Taking.{left, Takes, HasEnded, HasFailed}
+use Rattle.idn_text.specs.Taking.{left, HasEnded, HasFailed}
+use Rattle.idn_text.specs.inner.TakenLines.{Takes}
 use Rattle.idn_text.specs.declared.lines.State.{State}
 use Rattle.idn_text.specs.declared.lines.State.TheVariants.{Open, Ended, Stopped}
 use Rattle.idn_text.specs.Reading.{Reading, IsUnread, AreLines, HasRead, idle_reads}
-use Rattle.idn_text.proofs.Knowing.{consumes_join, consumes_nothing}
+use Rattle.idn_text.proofs.KnownBytesLemmas.{consumes_join, consumes_nothing}
 use Rattle.idn_text.proofs.TakingLemmas.{fails_from}
 use Rattle.idn_text.proofs.NumberingLemmas.{raw_lines-line, raw_lines-rest, ended_lines-rest, EndsInFeed-line, lines_of_more, ended_lines_of_more, too_many_lines}
 

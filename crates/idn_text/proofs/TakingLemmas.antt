@@ -5,8 +5,9 @@ use Rattle.std.proofs.lemmas.List.Elements.{All-append}
 use Rattle.memchr.specs.Find.{Nowhere, NoneBefore, Passes, is_byte}
 use Rattle.std.specs.Io.KnownBytes.{Consumes, Keeps}
 use Rattle.std.specs.Option.{option_map}
-use Rattle.idn_text.specs.Taking.{Input, left, Takes, HasFailed}
-use Rattle.idn_text.proofs.Knowing.{consumes_front, consumes_join, consumes_kept, consumes_nothing}
+use Rattle.idn_text.specs.Taking.{Input, left, HasFailed}
+use Rattle.idn_text.specs.inner.TakenLines.{Takes}
+use Rattle.idn_text.proofs.KnownBytesLemmas.{consumes_front, consumes_join, consumes_kept, consumes_nothing}
 
 -- a range that begins n later
 pub slice_range_later : (bytes : List ℕ) (start stop n : ℕ) → n ≤ length (slice_range bytes start stop) → slice_range bytes (start + n) stop ≡ drop n (slice_range bytes start stop)

@@ -2,7 +2,7 @@
 
 ghost use Rattle.std.specs.Prelude.{◌≡◌, ◌++◌, ◌↔◌, ℕ, List, [], IsTrue};
 ghost use Rattle.idn_text.specs.Lines.{body_of};
-ghost use Rattle.idn_text.specs.Taking.{kept};
+ghost use Rattle.idn_text.specs.inner.TakenLines.{kept};
 
 use crate::line_text::LineText;
 

@@ -3,6 +3,7 @@
 ghost use Rattle.std.specs.Prelude.{◌≡◌, ◌<◌, ◌≤◌, ◌+◌, ◌^◌, ℕ, List, [], ◌∷◌, ◌++◌, length, drop, OnErr, OnOk, IfOk, Ok, true, false, if◌then◌else◌};
 ghost use Rattle.std.specs.Io.KnownBytes.{Keeps};
 ghost use Rattle.idn_text.specs.Taking as seen;
+ghost use Rattle.idn_text.specs.inner.TakenLines as inner;
 
 use crate::body::Body;
 use crate::device::{DeviceFault, Source};
@@ -59,12 +60,12 @@ impl<R: Source> Input<R> {
     /// Takes the bytes through the next line feed, or all that come, adds those before it to a body,
     /// and returns whether a line feed came.
     pub fn take_line(&mut self, body: &mut Body) -> Result<bool, ReadFault>
-        requires { bytes_of body.old ≡ seen.kept [] }
-        ensures line { IfOk result (λ has_feed. (line : List ℕ) × (bytes_of body.new ≡ seen.kept line)
-            × seen.Takes self.old self.new line (if has_feed then 10 ∷ [] else []) (if has_feed then 0 else 1)) }
+        requires { bytes_of body.old ≡ inner.kept [] }
+        ensures line { IfOk result (λ has_feed. (line : List ℕ) × (bytes_of body.new ≡ inner.kept line)
+            × inner.Takes self.old self.new line (if has_feed then 10 ∷ [] else []) (if has_feed then 0 else 1)) }
         ensures no_fault { OnOk result (self.new.reader.faults ≡ self.old.reader.faults) }
         ensures ended { result ≡ Ok false → seen.HasEnded self.new }
-        ensures failed { OnErr result ((line : List ℕ) × seen.Takes self.old self.new line [] 1 × seen.HasFailed self.old self.new) }
+        ensures failed { OnErr result ((line : List ℕ) × inner.Takes self.old self.new line [] 1 × seen.HasFailed self.old self.new) }
     {
         'reads: loop {
             if self.take_held(body) {
@@ -81,8 +82,8 @@ impl<R: Source> Input<R> {
     fn take_held(&mut self, body: &mut Body) -> bool
         ensures same { self.new ≡ record self.old { held = self.new.held } }
         ensures rest { result ≡ false → self.new.held ≡ [] }
-        ensures taken { (line : List ℕ) × seen.Takes self.old self.new line (if result then 10 ∷ [] else []) 0
-            × ((before : List ℕ) → bytes_of body.old ≡ seen.kept before → bytes_of body.new ≡ seen.kept (before ++ line)) }
+        ensures taken { (line : List ℕ) × inner.Takes self.old self.new line (if result then 10 ∷ [] else []) 0
+            × ((before : List ℕ) → bytes_of body.old ≡ inner.kept before → bytes_of body.new ≡ inner.kept (before ++ line)) }
     {
         let held = self.held();
         match memchr(b'\n', held) {

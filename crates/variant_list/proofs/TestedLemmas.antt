@@ -12,7 +12,7 @@ use Rattle.variant_list.proofs.OrderLemmas.{ranked_labels, below_itself, Less_fr
 use Rattle.variant_list.specs.Beginnings.{has_hope, shares}
 use Rattle.variant_list.specs.inner.Skips.{outside}
 use Rattle.variant_list.specs.Tested.{tested}
-use Rattle.variant_list.proofs.Lists.{filter-none, AllByRecursion-map, AllByRecursion-behind}
+use Rattle.variant_list.proofs.ListLemmas.{filter-none, AllByRecursion-map, AllByRecursion-behind}
 
 pub filter-both : {X : Type 0} (p q r : X → Bool) → ((x : X) → r x ≡ (p x && q x)) → (xs : List X) → filter r xs ≡ filter q (filter p xs)
 filter-both p q r same [] = refl

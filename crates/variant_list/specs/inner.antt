@@ -8,3 +8,4 @@ pub mod Least
 pub mod Scans
 pub mod Searches
 pub mod Skips
+pub mod LabelSets

@@ -13,9 +13,10 @@ use Rattle.variant_table.specs.Faults.{LineFault, Limit, BadClass, SameVariant, 
 use Rattle.variant_table.specs.Canonical.{canonical_line, canonical_text, head_text, table_text}
 use Rattle.variant_table.specs.Conditions.{is_too_large, is_text_too_long, is_over_limit, has_bad_class, has_repeat, has_source_in}
 use Rattle.variant_table.specs.Entries.{Entry}
-use Rattle.variant_table.specs.Held.{counted, IsCounted}
+use Rattle.variant_table.specs.inner.Held.{counted, IsCounted}
 use Rattle.variant_table.specs.Ranges.{point_entry}
-use Rattle.variant_table.specs.Reading.{◌>>=◌, Fails, with_entries, with_new_sources}
+use Rattle.variant_table.specs.Reading.{◌>>=◌, with_entries}
+use Rattle.variant_table.specs.inner.ReadingSteps.{Fails, with_new_sources}
 use Rattle.variant_table.proofs.ExampleLemmas.{with_entries-by}
 use Rattle.variant_table.proofs.RangeLemmas.{points_from, range_small, range_single, with_range}
 

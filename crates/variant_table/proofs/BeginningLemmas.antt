@@ -11,7 +11,7 @@ use Rattle.std.proofs.lemmas.List.Kept.{AllPairs-cons}
 use Rattle.std.proofs.lemmas.Slice.Eq.{bytes_eq-Decides}
 use Rattle.variant_table.specs.Entries.{Entry}
 use Rattle.variant_table.specs.WellFormed.{IsEntry, IsWellFormed}
-use Rattle.variant_table.specs.Order.{HasNoLonger}
+use Rattle.variant_table.specs.inner.Order.{HasNoLonger}
 use Rattle.variant_table.specs.Places.{entry_with, entries_from, entries_at, BeginsAt, AreEntriesAt}
 use Rattle.variant_table.proofs.MemberLemmas.{Contains-head, Contains-later, Contains-none, Contains-one, find_some, find_none}
 

@@ -7,7 +7,7 @@ use Rattle.std.proofs.lemmas.List.Elements.{recursion_from_All}
 use Rattle.variant_table.specs.declared.sequences.Span.{Span}
 use Rattle.variant_table.specs.Entries.{Variant, sequences_in, replacements, marks}
 use Rattle.variant_table.specs.Reading.{entry_from}
-use Rattle.variant_table.specs.Held.{entry_at, entries_of, IsEntryBelow}
+use Rattle.variant_table.specs.inner.Held.{entry_at, entries_of, IsEntryBelow}
 use Rattle.variant_table.proofs.ListLemmas.{drop_next}
 use Rattle.variant_table.proofs.PartLemmas.{slice_range-append, slice_range-end}
 

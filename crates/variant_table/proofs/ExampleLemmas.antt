@@ -3,7 +3,7 @@ use Rattle.std.proofs.Common.{◌≡◌, ℕ, Bool, List, [], ◌∷◌, ◌++�
 use Rattle.std.specs.List.{list_any}
 use Rattle.idn_class.specs.Class.{class_of}
 use Rattle.idn_class.specs.declared.class.Class.TheVariants.{Pvalid, Disallowed}
-use Rattle.idn_class.proofs.Computing.{in_table, class_of-in_table}
+use Rattle.idn_class.proofs.ComputedLabels.{in_table, class_of-in_table}
 use Rattle.variant_table.specs.Faults.{Limit, BadClass, SameVariant, SameSource}
 use Rattle.variant_table.specs.declared.version.Version.{Version}
 use Rattle.variant_table.specs.declared.version.Version.TheVariants.{One, Two}

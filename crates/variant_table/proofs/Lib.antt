@@ -1,30 +1,60 @@
+-- One element of a list, and what follows it.
 pub mod ListLemmas
+-- The first line of a text, and what follows it.
 pub mod LineLemmas
+-- The first token of a line.
 pub mod TokenLemmas
+-- A blank line or a comment.
 pub mod SkipLemmas
+-- Parts of a vector that grows.
 pub mod PartLemmas
+-- The sequences of an entry, token by token.
 pub mod DraftLemmas
+-- Entries as spans of a list of sequences.
 pub mod EntryLemmas
+-- Reading line by line.
 pub mod ReadLemmas
+-- The entries at a place, one length after the other.
 pub mod PlaceLemmas
+-- Hexadecimal digits.
 pub mod HexLemmas
+-- What spells tokens is cut into them.
 pub mod SpelledLemmas
+-- What is read as an entry spells it.
 pub mod CutLemmas
+-- The form of a line: skipped, the line of an entry or of a range, or none.
 pub mod FormLemmas
+-- Entries without a fault are those of a well-formed table.
 pub mod ConditionLemmas
+-- In version 1 canonical text is never longer than what was read.
 pub mod SizeLemmas
+-- Lines without a fault are read as what they spell, and other lines up to the first faulty one.
 pub mod FaultlessLemmas
+-- What is told of a line is the first thing that is wrong with it.
 pub mod FaultLemmas
+-- The function that reads gives exactly what the definitions say of a text.
 pub mod TextLemmas
+-- Members of lists.
 pub mod MemberLemmas
+-- The entries at a place are those whose source begins the label there.
 pub mod BeginningLemmas
+-- The order of a table's sources.
 pub mod OrderLemmas
+-- The canonical text of a well-formed table spells that table.
 pub mod CanonicalLemmas
+-- The text of a sequence, point by point, and of an entry, variant by variant.
 pub mod WritingLemmas
+-- The gaps of a table.
 pub mod GapLemmas
+-- The gaps of a table rise.
 pub mod RisingLemmas
+-- Examples of entries that are taken or refused, computed.
 pub mod ExampleLemmas
+-- The entries of a range, one by one.
 pub mod RangeLemmas
+-- How long canonical lines are.
 pub mod LengthLemmas
+-- The table without its blocked variants.
 pub mod UnblockedLemmas
+-- What the entries of a line add.
 pub mod AddingLemmas

@@ -17,7 +17,7 @@ use Rattle.std.proofs.lemmas.List.FromFn.{length-range_with_len, get_or-range_wi
 use Rattle.std.proofs.lemmas.List.Sorted.{All-permutation, Contains-permutation, length_permutation, IsPermutation-insert, IsPermutation-push_more}
 use Rattle.variant_table.specs.Entries.{Entry}
 use Rattle.variant_table.specs.Conditions.{has_source_in}
-use Rattle.variant_table.specs.Order.{source_at, IsOrderOf, IsGapFor, begins_at, HasNoLonger}
+use Rattle.variant_table.specs.inner.Order.{source_at, IsOrderOf, IsGapFor, begins_at, HasNoLonger}
 use Rattle.variant_table.specs.Places.{entry_with}
 use Rattle.variant_table.specs.Reading.{entry_from}
 use Rattle.variant_table.proofs.BeginningLemmas.{entry_with-found, entry_with-of}

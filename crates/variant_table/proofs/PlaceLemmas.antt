@@ -5,7 +5,7 @@ use Rattle.std.specs.Option.{option_to_list}
 use Rattle.std.proofs.lemmas.Bool.{cases_lt}
 use Rattle.std.proofs.lemmas.List.{take_more, drop_all}
 use Rattle.variant_table.specs.Entries.{Entry}
-use Rattle.variant_table.specs.Order.{HasNoLonger}
+use Rattle.variant_table.specs.inner.Order.{HasNoLonger}
 use Rattle.variant_table.specs.Places.{entry_with, entries_from, entries_longer}
 use Rattle.variant_table.proofs.BeginningLemmas.{entries_from-none}
 

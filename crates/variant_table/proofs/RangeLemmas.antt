@@ -8,7 +8,8 @@ use Rattle.variant_table.specs.Entries.{Entry}
 use Rattle.variant_table.specs.Canonical.{point_text, canonical_line, canonical_text}
 use Rattle.variant_table.specs.Conditions.{is_too_large, has_bad_class, has_repeat, has_source_in}
 use Rattle.variant_table.specs.Ranges.{point_entry}
-use Rattle.variant_table.specs.Reading.{◌>>=◌, with_new_source, with_new_sources}
+use Rattle.variant_table.specs.Reading.{◌>>=◌}
+use Rattle.variant_table.specs.inner.ReadingSteps.{with_new_source, with_new_sources}
 use Rattle.variant_table.proofs.ConditionLemmas.{AreNewSources, new_range}
 
 -- so many entries from a code point on

@@ -6,7 +6,8 @@ use Rattle.variant_table.specs.declared.fault.TableFault.TheVariants as tables
 use Rattle.variant_table.specs.declared.version.Version.{Version}
 use Rattle.variant_table.specs.Entries.{Entry, TableValue}
 use Rattle.variant_table.specs.Versions.{version_of, head_of, body_of, size_of}
-use Rattle.variant_table.specs.Reading.{◌>>=◌, in_line, with_raw_line, with_lines, table_from, table_of_lines, Fails, FailsIn}
+use Rattle.variant_table.specs.Reading.{◌>>=◌, in_line, with_raw_line, with_lines, table_from, table_of_lines}
+use Rattle.variant_table.specs.inner.ReadingSteps.{Fails, FailsIn}
 use Rattle.variant_table.proofs.FaultlessLemmas.{read_as-is}
 use Rattle.variant_table.proofs.SizeLemmas.{size_of-cons}
 

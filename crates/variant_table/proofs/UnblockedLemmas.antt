@@ -15,7 +15,7 @@ use Rattle.variant_table.specs.Conditions.{repeats, has_source_in}
 use Rattle.variant_table.specs.Entries.{Variant, Entry, IsOfVersion, sequences_in, replacements, unblocked_entry, unblocked, has_blocked}
 use Rattle.variant_table.specs.Notation.{variant_tokens, further_variants}
 use Rattle.variant_table.specs.Canonical.{token_text, tokens_text}
-use Rattle.variant_table.specs.Order.{IsOrderOf}
+use Rattle.variant_table.specs.inner.Order.{IsOrderOf}
 use Rattle.variant_table.specs.Reading.{entry_from}
 use Rattle.variant_table.specs.WellFormed.{IsSequence, IsEntry, IsTable}
 use Rattle.std.proofs.lemmas.List.Concat.{flat_map-append}

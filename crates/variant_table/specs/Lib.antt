@@ -10,6 +10,5 @@ pub mod Places
 pub mod Tokens
 pub mod Reading
 pub mod Faults
-pub mod Held
-pub mod Order
 pub mod Gaps
+pub mod inner

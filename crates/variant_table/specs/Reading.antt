@@ -1,18 +1,15 @@
 -- Reading as a function, line by line over the table so far.
-use Rattle.std.specs.Prelude.{◌≡◌, ◌⊎◌, ℕ, ◌+◌, Bool, true, false, ◌==◌, nat_le, Option, Some, None, List, [], ◌∷◌, ◌++◌, length, Result, Ok, Err, if◌then◌else◌}
+use Rattle.std.specs.Prelude.{ℕ, ◌+◌, Bool, true, false, ◌==◌, nat_le, Option, Some, None, List, [], ◌∷◌, ◌++◌, length, Result, Ok, Err, if◌then◌else◌}
 use Rattle.std.specs.List.{list_any}
 use Rattle.std.specs.Str.Lines.{strip_carriage_return}
 use Rattle.idn_text.specs.Lines.{raw_lines}
 use Rattle.variant_table.specs.declared.token.Token.{Token}
 use Rattle.variant_table.specs.declared.token.Token.TheVariants.{Point, Hyphen, Bar, Colon, Mark, Range}
-use Rattle.variant_table.specs.declared.fault.TableFault.{TableFault}
-use Rattle.variant_table.specs.declared.fault.TableFault.TheVariants as tables
-use Rattle.variant_table.specs.Faults.{LineFault, Limit, Syntax, BadClass, SameVariant, SameSource, table_fault}
+use Rattle.variant_table.specs.Faults.{LineFault, Limit, Syntax, BadClass, SameVariant, SameSource}
 use Rattle.variant_table.specs.Tokens.{is_blank, tokens_of}
 use Rattle.variant_table.specs.declared.version.Version.{Version}
 use Rattle.variant_table.specs.declared.version.Version.TheVariants.{One, Two}
 use Rattle.variant_table.specs.Entries.{Variant, Entry, TableValue}
-use Rattle.variant_table.specs.Notation.{mark_tokens}
 use Rattle.variant_table.specs.Ranges.{range_entries}
 use Rattle.variant_table.specs.Versions.{version_of, head_of, body_of, size_of}
 use Rattle.variant_table.specs.Conditions.{is_too_long, is_over_limit, has_bad_class, has_repeat, has_source_in}
@@ -24,20 +21,6 @@ infixl 10 ◌>>=◌
 abbrev pub ◌>>=◌ : {A B F : Type 0} → Result A F → (A → Result B F) → Result B F
 (Ok x) >>= f = f x
 (Err e) >>= f = Err e
-
--- a call fails with the fault of the line of this number, unless memory was refused
-abbrev pub Fails : {Y : Type 0} → ℕ → TableFault → Result Y LineFault → Type 0
-Fails number tables.Memory read = Unit {0}
-Fails number (tables.Limit line) read = (line ≡ number) × (read ≡ Err Limit)
-Fails number (tables.Syntax line) read = (line ≡ number) × (read ≡ Err Syntax)
-Fails number (tables.BadClass line) read = (line ≡ number) × (read ≡ Err BadClass)
-Fails number (tables.SameVariant line) read = (line ≡ number) × (read ≡ Err SameVariant)
-Fails number (tables.SameSource line) read = (line ≡ number) × (read ≡ Err SameSource)
-
--- if a call succeeds, y is what reading the line of this number gives; if it fails, it is with the fault of that line
-abbrev pub Leaves : {X Y : Type 0} → ℕ → Result X TableFault → Y → Result Y LineFault → Type 0
-Leaves number (Ok x) y read = read ≡ Ok y
-Leaves number (Err fault) y read = Fails number fault read
 
 -- ---- the entry of a line
 
@@ -106,15 +89,6 @@ entries_of_tokens version tokens = entries_by version tokens (range_ends version
 
 -- ---- the table so far
 
--- the table with an entry, whose source is to be new
-abbrev pub with_new_source : List Entry → Entry → Result (List Entry) LineFault
-with_new_source table e = if has_source_in table e then Err SameSource else Ok (table ++ e ∷ [])
-
--- the table with entries, one after another, whose sources are to be new
-abbrev pub with_new_sources : List Entry → List Entry → Result (List Entry) LineFault
-with_new_sources table [] = Ok table
-with_new_sources table (e ∷ entries) = with_new_source table e >>= λ t. with_new_sources t entries
-
 -- the table with the entries of a line
 unfoldable pub with_entries : Version → List Entry → List Entry → Result (List Entry) LineFault
 with_entries version table entries =
@@ -157,37 +131,3 @@ table_of_lines lines =
 -- the table that a text spells, or the line and the kind of its first fault
 abbrev pub table_of_text : List ℕ → Result TableValue (ℕ × LineFault)
 table_of_text text = table_of_lines (raw_lines text)
-
--- ---- a point that is to come next
-
--- the first token is a point
-abbrev pub BeginsWithPoint : List Token → Type 0
-BeginsWithPoint (Point c ∷ tokens) = Unit {0}
-BeginsWithPoint tokens = ⊥
-
--- the point was taken off the tokens of the line of this number, or they don't begin with one
-abbrev pub IsPoint : ℕ → Result ℕ TableFault → List Token → List Token → Type 0
-IsPoint number (Ok c) old new = old ≡ Point c ∷ new
-IsPoint number (Err fault) old new = (fault ≡ tables.Syntax number) × (BeginsWithPoint old → ⊥)
-
--- the first token is a point, or a mark followed by a point
-abbrev pub BeginsVariant : List Token → Type 0
-BeginsVariant (Point c ∷ tokens) = Unit {0}
-BeginsVariant (Mark ∷ Point c ∷ tokens) = Unit {0}
-BeginsVariant tokens = ⊥
-
--- the point and the mark before it, if there is one, were taken off the tokens, or they don't begin so
-abbrev pub IsMarkedPoint : ℕ → Result (Bool × ℕ) TableFault → List Token → List Token → Type 0
-IsMarkedPoint number (Ok (blocked, c)) old new = old ≡ mark_tokens blocked ++ Point c ∷ new
-IsMarkedPoint number (Err fault) old new = (fault ≡ tables.Syntax number) × (BeginsVariant old → ⊥)
-
--- ---- the whole text
-
--- the fault that reading gives, unless memory was refused
-abbrev pub FailsIn : {Y : Type 0} → TableFault → Result Y (ℕ × LineFault) → Type 0
-FailsIn {Y} fault read = (fault ≡ tables.Memory) ⊎ ((line : ℕ) × (kind : LineFault) × (fault ≡ table_fault line kind) × (read ≡ Err (line, kind)))
-
--- the answer is that of the function, unless memory was refused
-abbrev pub Reads : Result (Version × List Entry) TableFault → Result TableValue (ℕ × LineFault) → Type 0
-Reads (Ok table) read = read ≡ table_from table.0 table.1
-Reads (Err fault) read = FailsIn fault read

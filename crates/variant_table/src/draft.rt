@@ -2,7 +2,8 @@
 ghost use Rattle.std.specs.Prelude.{◌≡◌, ◌<◌, [], ◌∷◌, ◌++◌, length, OnOk};
 ghost use Rattle.variant_table.specs.Notation.{HasNoEmptySequence};
 ghost use Rattle.variant_table.specs.Tokens.{tokens_of};
-ghost use Rattle.variant_table.specs.Reading.{entry_from, entry_of_tokens, sequences_of, range_ends as range_ends_of, Leaves, IsPoint, IsMarkedPoint};
+ghost use Rattle.variant_table.specs.Reading.{entry_from, entry_of_tokens, sequences_of, range_ends as range_ends_of};
+ghost use Rattle.variant_table.specs.inner.ReadingSteps.{Leaves, IsPoint, IsMarkedPoint};
 
 use crate::fault::TableFault;
 use crate::sequences::Sequences;

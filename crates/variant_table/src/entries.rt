@@ -18,7 +18,7 @@ pub struct Entries {
 impl Model for Entries {
     ghost use Rattle.std.specs.Prelude.{List, length};
     ghost use Rattle.variant_table.specs.Places.{EntryValue};
-    ghost use Rattle.variant_table.specs.Held.{entries_of, AreEntriesBelow};
+    ghost use Rattle.variant_table.specs.inner.Held.{entries_of, AreEntriesBelow};
 
     ghost Value = { List EntryValue };
 

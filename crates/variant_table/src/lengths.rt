@@ -3,7 +3,7 @@ ghost use Rattle.std.specs.Prelude.{◌≡◌, ◌+◌, ◌<◌, ◌≤◌, ◌^
 ghost use Rattle.std.specs.List.{range_with_len};
 ghost use Rattle.variant_table.specs.Canonical.{point_text, tokens_text, sequence_text, canonical_text};
 ghost use Rattle.variant_table.specs.Conditions.{is_too_large};
-ghost use Rattle.variant_table.specs.Held.{counted};
+ghost use Rattle.variant_table.specs.inner.Held.{counted};
 ghost use Rattle.variant_table.specs.Notation.{mark_tokens, HasNoEmptySequence};
 ghost use Rattle.variant_table.specs.Ranges.{point_entry};
 ghost use Rattle.variant_table.specs.Reading.{entry_from};

@@ -1,10 +1,11 @@
 //! Reading the entries of a text, line by line.
 ghost use Rattle.std.specs.Prelude.{◌≡◌, ◌+◌, ◌<◌, ◌≤◌, ◌^◌, [], ◌∷◌, length, map, OnOk};
 ghost use Rattle.std.specs.List.{range_with_len};
-ghost use Rattle.variant_table.specs.Held.{IsCounted};
+ghost use Rattle.variant_table.specs.inner.Held.{IsCounted};
 ghost use Rattle.variant_table.specs.Notation.{HasNoEmptySequence};
 ghost use Rattle.variant_table.specs.Ranges.{point_entry};
-ghost use Rattle.variant_table.specs.Reading.{Leaves, Reads, entry_from, with_new_sources, with_entries, with_line, with_raw_line, table_of_text, is_skipped as is_skipped_line};
+ghost use Rattle.variant_table.specs.Reading.{entry_from, with_entries, with_line, with_raw_line, table_of_text, is_skipped as is_skipped_line};
+ghost use Rattle.variant_table.specs.inner.ReadingSteps.{Leaves, Reads, with_new_sources};
 
 use crate::checks::{has_bad_class, has_bad_class_in, has_repeat, is_too_large};
 use crate::draft::{Draft, range_ends};

@@ -31,7 +31,7 @@ pub struct Sequences {
 impl Model for Sequences {
     ghost use Rattle.std.specs.Prelude.{List, length};
     ghost use Rattle.variant_table.specs.Entries.{Variant as VariantValue};
-    ghost use Rattle.variant_table.specs.Held.{parts_of, AreSpansBelow};
+    ghost use Rattle.variant_table.specs.inner.Held.{parts_of, AreSpansBelow};
 
     ghost Value = { List VariantValue };
 

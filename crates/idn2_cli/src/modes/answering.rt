@@ -4,7 +4,7 @@ ghost use Rattle.std.specs.Prelude.{◌≡◌, ◌≢◌, ◌≤◌, ℕ, List, 
 ghost use Rattle.std.specs.Result.{is_err};
 ghost use Rattle.idn2_cli.specs.Answers.{LineAnswer, text_answer};
 ghost use Rattle.idn2_cli.specs.Transcript.{Output, pieces_for};
-ghost use Rattle.idn2_cli.specs.Emitting.{Emits};
+ghost use Rattle.idn2_cli.specs.inner.Emitting.{Emits};
 ghost use Rattle.idn2_cli.specs.declared.session.stop.Stop.TheVariants as stop;
 
 use crate::session::buffers::Buffers;

@@ -13,8 +13,9 @@ ghost use Rattle.variant_list.specs.Verdicts.{IsVerdict};
 ghost use Rattle.idn2_cli.specs.Settings.{IsWithinLimits};
 ghost use Rattle.idn2_cli.specs.Transcript.{output_lines, Output};
 ghost use Rattle.idn2_cli.specs.Answers.{is_registrable, variant_line, trailer};
-ghost use Rattle.idn2_cli.specs.Inner.{reaches, block_by, field_by, TellsWell};
-ghost use Rattle.idn2_cli.specs.Emitting.{Emits};
+ghost use Rattle.idn2_cli.specs.inner.Dispositions.{block_by, field_by, TellsWell};
+ghost use Rattle.idn2_cli.specs.inner.LineAnswers.{reaches};
+ghost use Rattle.idn2_cli.specs.inner.Emitting.{Emits};
 ghost use Rattle.idn2_cli.specs.declared.session.stop.Stop.TheVariants as stop;
 
 use crate::command_line::options::Options;

@@ -3,9 +3,9 @@
 ghost use Rattle.std.specs.Prelude.{◌≡◌, ◌≤◌, ◌==◌, ◌++◌, ◌∷◌, [], not, length, map, IfOk, IfErr};
 ghost use Rattle.idn_text.specs.Points.{AreScalarValues};
 ghost use Rattle.variant_table.specs.Gaps.{gaps_of, pairs_of};
-ghost use Rattle.idn2_cli.specs.Inner.{HoldSequences};
+ghost use Rattle.idn2_cli.specs.inner.GapSequences.{HoldSequences};
 ghost use Rattle.idn2_cli.specs.Transcript.{gap_line, table_line, check_lines, output_lines, status_if};
-ghost use Rattle.idn2_cli.specs.Emitting.{Emits};
+ghost use Rattle.idn2_cli.specs.inner.Emitting.{Emits};
 ghost use Rattle.idn2_cli.specs.declared.session.stop.Stop.TheVariants as stop;
 
 use crate::session::buffers::append;

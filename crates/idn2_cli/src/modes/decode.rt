@@ -8,7 +8,7 @@ ghost use Rattle.idn_label.specs.Memory.{DecodesWithoutMemory};
 ghost use Rattle.idna.specs.Labels.{labels_of};
 ghost use Rattle.idn2_cli.specs.Answers.{one_line};
 ghost use Rattle.idn_label.specs.Steps.{in_utf8};
-ghost use Rattle.idn2_cli.specs.Inner.{with_feed};
+ghost use Rattle.idn2_cli.specs.inner.LineAnswers.{with_feed};
 ghost use Rattle.idn2_cli.specs.Memory.{DecodesLineWithoutMemory};
 
 use crate::modes::answering::{Answering, refuse, reply};

@@ -4,7 +4,7 @@ ghost use Rattle.std.specs.Prelude.{◌≡◌, ◌≤◌, length, IfOk};
 ghost use Rattle.variant_table.specs.Entries.{TableValue};
 ghost use Rattle.variant_table.specs.declared.version.Version.TheVariants.{Two};
 ghost use Rattle.idn2_cli.specs.Answers.{disposition_field};
-ghost use Rattle.idn2_cli.specs.Inner.{AreOfTable, AreOfLabel, CanBeCut, TellsWell, field_by};
+ghost use Rattle.idn2_cli.specs.inner.Dispositions.{AreOfTable, AreOfLabel, CanBeCut, TellsWell, field_by};
 
 use std::alloc::{AllocError, Global};
 use variant_list::{Net, NetFault};

@@ -5,7 +5,7 @@ ghost use Rattle.idn_label.specs.Answers.{Gives};
 ghost use Rattle.idn_label.specs.Lookup.{lookup_answer};
 ghost use Rattle.idn_label.specs.Memory.{LooksUpWithoutMemory};
 ghost use Rattle.idn2_cli.specs.Answers.{one_line};
-ghost use Rattle.idn2_cli.specs.Inner.{with_feed, query_answer};
+ghost use Rattle.idn2_cli.specs.inner.LineAnswers.{with_feed, query_answer};
 
 use crate::modes::answering::{Answering, refuse, reply};
 use crate::session::buffers::Buffers;

@@ -5,7 +5,7 @@ ghost use Rattle.idn_label.specs.Answers.{Gives};
 ghost use Rattle.idn_label.specs.Memory.{RegistersWithoutMemory};
 ghost use Rattle.idn_label.specs.Register.{register_answer};
 ghost use Rattle.idn2_cli.specs.Answers.{one_line};
-ghost use Rattle.idn2_cli.specs.Inner.{with_feed};
+ghost use Rattle.idn2_cli.specs.inner.LineAnswers.{with_feed};
 
 use crate::modes::answering::{refuse, reply};
 use crate::modes::code_points::PointAnswering;

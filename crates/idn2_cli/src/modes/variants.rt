@@ -6,9 +6,9 @@ ghost use Rattle.idn_label.specs.FirstFault.{IsRegistrable};
 ghost use Rattle.variant_table.specs.WellFormed.{IsWellFormed};
 ghost use Rattle.idn2_cli.specs.Settings.{IsWithinLimits};
 ghost use Rattle.idn2_cli.specs.Answers.{variants_answer, listing_answer};
-ghost use Rattle.idn2_cli.specs.Inner.{AreOfTable};
+ghost use Rattle.idn2_cli.specs.inner.Dispositions.{AreOfTable};
 ghost use Rattle.idn2_cli.specs.Transcript.{pieces_for};
-ghost use Rattle.idn2_cli.specs.Emitting.{Emits};
+ghost use Rattle.idn2_cli.specs.inner.Emitting.{Emits};
 
 use crate::command_line::options::Options;
 use crate::modes::answering::refuse;

@@ -30,7 +30,7 @@ impl<'o, 'm, W: Sink, E: Sink> Model for Console<'o, 'm, W, E> {
 
 impl<'o, 'm, W: Sink, E: Sink> Console<'o, 'm, W, E> {
     ghost use Rattle.idn2_cli.specs.Transcript as pieces;
-    ghost use Rattle.idn2_cli.specs.Emitting.{Emits};
+    ghost use Rattle.idn2_cli.specs.inner.Emitting.{Emits};
     ghost use Rattle.idn2_cli.specs.declared.session.stop.Stop.TheVariants as stop;
 
     /// Writes a piece to the output. It takes no memory.

@@ -1,7 +1,7 @@
 //! The messages of refusals.
 
 ghost use Rattle.std.specs.Prelude.{◌≡◌, ◌≤◌, ◌++◌, length, codes, decimal, option_map};
-ghost use Rattle.idn2_cli.specs.Inner.{told_of};
+ghost use Rattle.idn2_cli.specs.inner.TableFaults.{told_of};
 ghost use Rattle.idn2_cli.specs.Transcript.{told, line_message, table_message};
 
 use arrayvec::ArrayString;

@@ -8,7 +8,7 @@ ghost use Rattle.idn2_cli.specs.Settings.{IsWithinLimits};
 ghost use Rattle.idn2_cli.specs.Answers.{variants_answer, IsListing};
 ghost use Rattle.idn2_cli.specs.Ends.{held, closing_status, Does, Ends, Closes, mode_job, refusal_of};
 ghost use Rattle.idn2_cli.specs.Transcript.{TableGiven, IsCheck, IsReadAs, IsTableOf, check_lines, check_pieces, check_status};
-ghost use Rattle.idn2_cli.specs.Emitting.{Emits};
+ghost use Rattle.idn2_cli.specs.inner.Emitting.{Emits};
 ghost use Rattle.idn2_cli.specs.declared.command_line.mode.Mode.TheVariants as modes;
 
 use crate::command_line::mode::Mode;

@@ -2,8 +2,8 @@
 
 ghost use Rattle.std.specs.Prelude.{◌≡◌, Err, IfOk, MatchOption};
 ghost use Rattle.idn2_cli.specs.Transcript.{check_pieces};
-ghost use Rattle.idn2_cli.specs.Emitting.{Emits};
-ghost use Rattle.idn2_cli.specs.Inner.{told_of};
+ghost use Rattle.idn2_cli.specs.inner.Emitting.{Emits};
+ghost use Rattle.idn2_cli.specs.inner.TableFaults.{told_of};
 ghost use Rattle.idn2_cli.specs.declared.session.status.Status.TheVariants as statuses;
 ghost use Rattle.idn2_cli.specs.declared.session.stop.Stop.TheVariants as stop;
 

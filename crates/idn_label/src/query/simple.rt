@@ -10,7 +10,7 @@ ghost use Rattle.unicode_normalization.specs.Forms.{nfc};
 ghost use Rattle.idn_class.specs.Facts.{contains, has_fact, IsSimple};
 ghost use Rattle.idn_class.specs.LeadingMark.{is_mark};
 ghost use Rattle.idn_label.specs.ALabel.{a_label_of};
-ghost use Rattle.idn_label.specs.SimpleNames.{PassesInLabel, TellsRightToLeft, TellsComposing};
+ghost use Rattle.idn_label.specs.inner.SimpleNames.{PassesInLabel, TellsRightToLeft, TellsComposing};
 ghost use Rattle.idn_label.specs.Lookup.{deny_list};
 
 use crate::a_label::{MAX_LABEL_LEN, encoded_label};

@@ -1,6 +1,6 @@
 use Rattle.std.proofs.Common.{refl}
 use Rattle.idn_class.specs.Rows.{latin_1, exceptions, examples}
-use Rattle.idn_class.proofs.Computing.{in_table, HasClasses-rows_ok}
+use Rattle.idn_class.proofs.ComputedLabels.{in_table, HasClasses-rows_ok}
 use Rattle.idn_class.proofs.laws.class_rows.Goals as goal
 
 pub returns-clause-latin_1 : goal.returns-clause-latin_1

@@ -1,5 +1,5 @@
 use Rattle.std.proofs.Common.{refl}
-use Rattle.idn_class.proofs.Computing.{rules}
+use Rattle.idn_class.proofs.ComputedLabels.{rules}
 use Rattle.idn_class.proofs.laws.other_rows.Goals as goal
 
 pub returns-clause-met : goal.returns-clause-met

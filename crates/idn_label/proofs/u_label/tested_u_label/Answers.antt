@@ -2,7 +2,7 @@ use Rattle.std.proofs.Common.{◌≤◌, length, Err, refl, sym, ap, ◌∙◌, 
 use Rattle.std.proofs.lemmas.Result.{on_ok_weaker, MatchResult-weaker}
 use Rattle.idna.specs.Punycode.{decode}
 use Rattle.idna.specs.Validity.{is_all_ascii}
-use Rattle.idn_label.specs.Steps.{fault_but_length}
+use Rattle.idn_label.specs.inner.FaultSteps.{fault_but_length}
 use Rattle.idn_label.proofs.AnswerLemmas.{u_label_answer-code_fault}
 use Rattle.idn_label.proofs.FaultLemmas.{first_fault-but_length}
 use Rattle.idn_label.proofs.OtherLabels.{of_none-long, of_none-ascii_any, prefix_long, answered-tested, refused-fault, decoded_coded, decoded_code-none, decoded_code-same, is_all_ascii-code}

@@ -1,5 +1,5 @@
 use Rattle.std.proofs.Common.{◌≡◌, ◌+◌, ◌-◌, ◌≤◌, length}
-use Rattle.variant_table.specs.Reading.{with_new_sources}
+use Rattle.variant_table.specs.inner.ReadingSteps.{with_new_sources}
 use Rattle.variant_table.proofs.RangeLemmas.{points_from}
 use Rattle.variant_table.proofs.reading.add_points.Given as goal
 

@@ -1,8 +1,9 @@
 use Rattle.std.proofs.Common.{rules, arith, ◌+◌, ℕ, List, length, sym, ap, subst, ◌∙◌}
 use Rattle.idn_text.specs.Lines.{raw_lines}
-use Rattle.variant_table.specs.Held.{IsCounted}
+use Rattle.variant_table.specs.inner.Held.{IsCounted}
 use Rattle.variant_table.specs.Versions.{head_of}
-use Rattle.variant_table.specs.Reading.{◌>>=◌, FailsIn, with_lines, table_from, table_of_text}
+use Rattle.variant_table.specs.Reading.{◌>>=◌, with_lines, table_from, table_of_text}
+use Rattle.variant_table.specs.inner.ReadingSteps.{FailsIn}
 use Rattle.variant_table.proofs.FaultlessLemmas.{head_small}
 use Rattle.variant_table.proofs.ReadLemmas.{lines_begin, lines_counted, lines_step, lines_fail, lines_end}
 use Rattle.variant_table.proofs.reading.read_rows.Goals as goal

@@ -1,6 +1,6 @@
 use Rattle.std.proofs.Common.{◌≡◌, ◌+◌, ◌≤◌}
 use Rattle.idn_text.specs.Lines.{raw_lines}
-use Rattle.variant_table.specs.Held.{IsCounted}
+use Rattle.variant_table.specs.inner.Held.{IsCounted}
 use Rattle.variant_table.specs.Reading.{◌>>=◌, with_lines, table_from, table_of_text}
 use Rattle.variant_table.proofs.reading.read_rows.Given as goal
 

@@ -2,7 +2,7 @@ use Rattle.std.proofs.Common.{◌≡◌, ◌∙◌, ◌&&◌, length, ap, sym}
 use Rattle.std.specs.Prelude.{nat_eq}
 use Rattle.std.specs.List.{starts_with}
 use Rattle.std.proofs.lemmas.Bool.{lt-ltb}
-use Rattle.variant_table.specs.Order.{source_at}
+use Rattle.variant_table.specs.inner.Order.{source_at}
 use Rattle.variant_table.proofs.OrderLemmas.{number_below, source-read}
 use Rattle.variant_table.proofs.rows.begins_at.Goals as goal
 

@@ -3,7 +3,7 @@ use Rattle.std.specs.Ordering.{nat_cmp}
 use Rattle.std.specs.Cmp.Lexicographic.{slice_cmp}
 use Rattle.std.proofs.lemmas.Map.Lookups.{exact_bytes}
 use Rattle.variant_table.specs.Entries.{Entry}
-use Rattle.variant_table.specs.Order.{source_at}
+use Rattle.variant_table.specs.inner.Order.{source_at}
 use Rattle.variant_table.proofs.OrderLemmas.{number_below, source-read, less_before, greater_behind}
 use Rattle.variant_table.proofs.rows.search.Goals as goal
 use Rattle.variant_table.proofs.rows.search.Goals.{in-Less, in-Greater}

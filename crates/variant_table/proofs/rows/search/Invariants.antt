@@ -2,7 +2,7 @@ use Rattle.std.proofs.Common.{◌≡◌, ◌-◌, ◌<◌, ◌≤◌, ℕ, lengt
 use Rattle.std.specs.Ordering.{nat_cmp}
 use Rattle.std.specs.declared.cmp.Ordering.TheVariants.{Less, Greater}
 use Rattle.std.specs.Cmp.Lexicographic.{slice_cmp}
-use Rattle.variant_table.specs.Order.{source_at}
+use Rattle.variant_table.specs.inner.Order.{source_at}
 use Rattle.variant_table.proofs.rows.search.Given as goal
 
 -- the place lies between, sources before `low` are less, and those from `high` on are greater

@@ -1,7 +1,7 @@
 use Rattle.std.proofs.Common.{[], ◌∷◌, ◌∙◌, sym, ap, refl, Err}
 use Rattle.std.proofs.lemmas.Result.{err_from_is_err_and}
 use Rattle.idn2_cli.specs.Transcript.{Message}
-use Rattle.idn2_cli.proofs.Writing.{emits_as, writes_as, stops, stops_first}
+use Rattle.idn2_cli.proofs.WrittenPieces.{emits_as, writes_as, stops, stops_first}
 use Rattle.idn2_cli.proofs.modes.answering.refuse.Goals as goal
 
 pub returns-in-Memory-clause-memory : goal.returns-in-Memory-clause-memory

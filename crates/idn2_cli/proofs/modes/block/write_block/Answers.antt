@@ -2,10 +2,11 @@ use Rattle.std.proofs.Common.{◌≡◌, ◌+◌, ◌-◌, ◌∙◌, ◌++◌, 
 use Rattle.std.proofs.lemmas.Result.{err_from_is_err_and}
 use Rattle.idn2_cli.specs.Settings.{Settings}
 use Rattle.idn2_cli.specs.Answers.{variant_line}
-use Rattle.idn2_cli.specs.Inner.{reaches, field_by}
+use Rattle.idn2_cli.specs.inner.Dispositions.{field_by}
+use Rattle.idn2_cli.specs.inner.LineAnswers.{reaches}
 use Rattle.idn2_cli.specs.Transcript.{Output}
-use Rattle.idn2_cli.proofs.Writing.{stops_first, emits_as, writes_as}
-use Rattle.idn2_cli.proofs.Listings.{listing-start, listing-plain, listing-spent, listing-ended, listing-found, listing-broken, listing-reached, found-from, spent-from, ended-from}
+use Rattle.idn2_cli.proofs.WrittenPieces.{stops_first, emits_as, writes_as}
+use Rattle.idn2_cli.proofs.ListingProgress.{listing-start, listing-plain, listing-spent, listing-ended, listing-found, listing-broken, listing-reached, found-from, spent-from, ended-from}
 use Rattle.idn2_cli.proofs.modes.block.write_block.Goals as goal
 
 -- the line with the same field

@@ -1,5 +1,5 @@
-use Rattle.idn2_cli.specs.Inner.{field_by}
-use Rattle.idn2_cli.proofs.Listings.{IsListing}
+use Rattle.idn2_cli.specs.inner.Dispositions.{field_by}
+use Rattle.idn2_cli.proofs.ListingProgress.{IsListing}
 use Rattle.idn2_cli.proofs.modes.block.write_block.Given as goal
 
 -- the lines so far are written; those to come follow from where the cursor stands, the tries left and the count

@@ -1,7 +1,7 @@
 use Rattle.std.proofs.Common.{◌++◌, ◌∙◌, Some, Ok, Err, Bool, ap, sym, subst}
 use Rattle.std.proofs.lemmas.Result.{err_from_is_err_and}
 use Rattle.idn_text.specs.Reading.{HasRead, answered, read_into, numbered_line, IsLeftBy}
-use Rattle.idn2_cli.proofs.Sessions.{none_so_far, one_more, stops_in_line, stops_reading, or_true, or_else}
+use Rattle.idn2_cli.proofs.LineSteps.{none_so_far, one_more, stops_in_line, stops_reading, or_true, or_else}
 use Rattle.idn2_cli.proofs.session.lines.serve_lines.Goals as goal
 
 pub lines-init : goal.lines-init

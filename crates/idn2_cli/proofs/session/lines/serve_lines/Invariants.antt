@@ -1,5 +1,5 @@
 use Rattle.std.proofs.Common.{◌-◌, ◌^◌}
-use Rattle.idn2_cli.proofs.Sessions.{SoFar}
+use Rattle.idn2_cli.proofs.LineSteps.{SoFar}
 use Rattle.idn2_cli.proofs.session.lines.serve_lines.Given as goal
 
 abbrev pub invariant-lines : goal.invariant-lines

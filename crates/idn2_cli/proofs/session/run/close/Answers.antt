@@ -1,6 +1,6 @@
 use Rattle.std.proofs.Common.{refl, ap, ◌∙◌}
 use Rattle.idn2_cli.specs.Ends.{closing_status}
-use Rattle.idn2_cli.proofs.Finishing.{closes_by}
+use Rattle.idn2_cli.proofs.RunEnds.{closes_by}
 use Rattle.idn2_cli.proofs.session.run.close.Goals as goal
 
 pub returns : goal.returns

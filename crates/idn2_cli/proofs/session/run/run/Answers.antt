@@ -1,7 +1,7 @@
 use Rattle.std.proofs.Common.{ap, sym, ◌∙◌, rules}
 use Rattle.idn2_cli.specs.Ends.{Held}
-use Rattle.idn2_cli.proofs.Lending.{same_loans, given_back}
-use Rattle.idn2_cli.proofs.ListedLemmas.{variants_answer-IsListing, check_lines-IsCheck}
+use Rattle.idn2_cli.proofs.LentWriters.{same_loans, given_back}
+use Rattle.idn2_cli.proofs.BlockMembers.{variants_answer-IsListing, check_lines-IsCheck}
 use Rattle.idn2_cli.proofs.session.run.run.Goals as goal
 
 pub returns-clause-ends : goal.returns-clause-ends

@@ -1,5 +1,5 @@
 use Rattle.std.proofs.Common.{Ok}
-use Rattle.idn2_cli.proofs.Finishing.{refused_check}
+use Rattle.idn2_cli.proofs.RunEnds.{refused_check}
 use Rattle.idn2_cli.proofs.session.run.serve_check.Goals as goal
 
 pub returns-in-Err : goal.returns-in-Err

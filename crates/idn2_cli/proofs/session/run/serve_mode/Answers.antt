@@ -6,7 +6,7 @@ use Rattle.idn2_cli.specs.Answers.{LineAnswer, one_line}
 use Rattle.idn2_cli.specs.Transcript.{no_table}
 use Rattle.idn2_cli.specs.Ends.{lines_job}
 use Rattle.idn2_cli.specs.declared.command_line.mode.Mode.TheVariants.{Lookup, Register, Decode}
-use Rattle.idn2_cli.proofs.Finishing.{as_mode, checked}
+use Rattle.idn2_cli.proofs.RunEnds.{as_mode, checked}
 use Rattle.idn2_cli.proofs.session.run.serve_mode.Goals as goal
 
 pub returns-in-Lookup : goal.returns-in-Lookup

@@ -1,7 +1,7 @@
 use Rattle.std.proofs.Common.{Ok, refl}
 use Rattle.std.proofs.lemmas.Result.{err_from_is_err_and}
 use Rattle.idn2_cli.specs.declared.command_line.mode.Mode.TheVariants.{Variants}
-use Rattle.idn2_cli.proofs.Finishing.{as_mode, refused_variants, unread_stopped}
+use Rattle.idn2_cli.proofs.RunEnds.{as_mode, refused_variants, unread_stopped}
 use Rattle.idn2_cli.proofs.session.run.serve_variants.Goals as goal
 
 pub returns-in-Err : goal.returns-in-Err

@@ -1,5 +1,5 @@
 use Rattle.std.proofs.Common.{sym, subst}
-use Rattle.idn_class.specs.Known.{AreKnown}
+use Rattle.idn_class.specs.inner.Known.{AreKnown}
 use Rattle.idn_class.proofs.KnownLemmas.{AreKnown-take}
 use Rattle.idn_class.proofs.kept_beginnings.KeptBeginnings.keep_shared.Goals as goal
 

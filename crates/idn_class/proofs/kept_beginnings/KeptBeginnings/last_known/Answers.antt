@@ -1,7 +1,7 @@
 use Rattle.std.proofs.Common.{◌-◌, get_or, subst, arith}
 use Rattle.idn_class.specs.declared.direction.Direction.TheVariants.{Ltr}
 use Rattle.idn_class.specs.declared.known.Known.{Known}
-use Rattle.idn_class.specs.Known.{IsKnown}
+use Rattle.idn_class.specs.inner.Known.{IsKnown}
 use Rattle.idn_class.proofs.KnownLemmas.{IsKnown-whole}
 use Rattle.idn_class.proofs.kept_beginnings.KeptBeginnings.last_known.Goals as goal
 

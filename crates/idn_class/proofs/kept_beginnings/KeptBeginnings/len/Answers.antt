@@ -1,7 +1,7 @@
 use Rattle.std.proofs.Common.{subst}
 use Rattle.idn_class.specs.declared.direction.Direction.TheVariants.{Ltr}
 use Rattle.idn_class.specs.declared.known.Known.{Known}
-use Rattle.idn_class.specs.Directions.{HasNone, breaks_at_first}
+use Rattle.idn_class.specs.inner.Directions.{HasNone, breaks_at_first}
 use Rattle.idn_class.proofs.KnownLemmas.{AreKnown-unbroken}
 use Rattle.idn_class.proofs.kept_beginnings.KeptBeginnings.len.Goals as goal
 

@@ -1,5 +1,5 @@
 use Rattle.std.proofs.Common.{◌≡◌, ◌∷◌, [], ◌++◌, true, get_or, subst}
-use Rattle.idn_class.specs.Directions.{breaks_at_first}
+use Rattle.idn_class.specs.inner.Directions.{breaks_at_first}
 use Rattle.idn_class.proofs.KnownLemmas.{IsShortest-next}
 use Rattle.idn_class.proofs.kept_beginnings.KeptBeginnings.lengthen_to.Goals as goal
 

@@ -1,5 +1,5 @@
 use Rattle.std.proofs.Common.{◌≡◌, take}
-use Rattle.idn_class.specs.Directions.{HasNone, breaks_at_first}
+use Rattle.idn_class.specs.inner.Directions.{HasNone, breaks_at_first}
 use Rattle.idn_class.proofs.kept_beginnings.KeptBeginnings.lengthen_to.Given as goal
 
 abbrev pub invariant-loop-index : goal.invariant-loop-index

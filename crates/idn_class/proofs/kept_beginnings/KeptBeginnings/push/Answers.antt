@@ -1,5 +1,5 @@
 use Rattle.std.proofs.Common.{rules, ◌<◌, ◌∷◌, [], ◌++◌, length, slice_set, sym, subst, arith}
-use Rattle.idn_class.specs.Known.{IsKnown, AreKnown}
+use Rattle.idn_class.specs.inner.Known.{IsKnown, AreKnown}
 use Rattle.idn_class.proofs.KnownLemmas.{AreKnown-push}
 use Rattle.idn_class.proofs.kept_beginnings.KeptBeginnings.push.Goals as goal
 

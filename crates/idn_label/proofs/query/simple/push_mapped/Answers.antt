@@ -2,7 +2,7 @@ use Rattle.std.proofs.Common.{◌≡◌, ℕ, ◌++◌, List, ◌∷◌, [], All
 use Rattle.idna.specs.Validity.{begins_with_mark}
 use Rattle.idn_class.specs.declared.facts.Fact.TheVariants.{MayCompose, RightToLeft}
 use Rattle.idn_class.specs.Facts.{IsSimple}
-use Rattle.idn_label.specs.SimpleNames.{PassesInLabel, TellsRightToLeft, TellsComposing}
+use Rattle.idn_label.specs.inner.SimpleNames.{PassesInLabel, TellsRightToLeft, TellsComposing}
 use Rattle.idn_label.proofs.SimplePoints.{PassesInLabel-simple, TellsRightToLeft-simple, TellsRightToLeft-one, TellsComposing-simple, TellsComposing-one, no_mark-simple, map_char-lower, map_char-mapped, all_pass, one_passes, begins_with_mark-one, begins_with_mark-simple}
 use Rattle.idn_label.proofs.query.simple.push_mapped.Goals as goal
 

@@ -1,7 +1,7 @@
 use Rattle.std.proofs.Common.{◌≡◌, ◌≤◌, ◌-◌, List, ℕ, length, take, drop, flat_map}
 use Rattle.idna.specs.Uts46.{map_char}
 use Rattle.idn_text.specs.Points.{IsUtf8Of}
-use Rattle.idn_label.specs.SimpleNames.{TellsRightToLeft, TellsComposing}
+use Rattle.idn_label.specs.inner.SimpleNames.{TellsRightToLeft, TellsComposing}
 use Rattle.idn_label.proofs.SimpleReads.{IsRead}
 use Rattle.idn_label.proofs.query.simple.simple_query.Given as goal
 

@@ -1,5 +1,6 @@
 use Rattle.std.proofs.Common.{◌∙◌, ◌++◌, List, ℕ, length, take, drop, subst, ap}
-use Rattle.idn_text.specs.Taking.{Input, kept}
+use Rattle.idn_text.specs.Taking.{Input}
+use Rattle.idn_text.specs.inner.TakenLines.{kept}
 use Rattle.memchr.specs.Find.{NoneBefore, Nowhere, Passes, is_byte}
 use Rattle.idn_text.proofs.TakingLemmas.{takes_ended, takes_all}
 use Rattle.idn_text.proofs.input.Input.take_held.Goals as goal

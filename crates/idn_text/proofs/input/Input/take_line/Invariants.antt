@@ -1,6 +1,6 @@
 use Rattle.std.proofs.Common.{◌≡◌, ℕ, List, [], ◌-◌, ◌^◌}
 use Rattle.idn_text.specs.Bodies.{bytes_of}
-use Rattle.idn_text.specs.Taking.{Takes, kept}
+use Rattle.idn_text.specs.inner.TakenLines.{Takes, kept}
 use Rattle.idn_text.proofs.input.Input.take_line.Given as goal
 
 -- bytes without a line feed were taken, each read call gave some and none failed, and the body has them

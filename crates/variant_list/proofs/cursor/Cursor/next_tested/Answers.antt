@@ -2,7 +2,7 @@ use Rattle.std.proofs.Common.{◌≡◌, ◌+◌, None, Some, length, refl, sym,
 use Rattle.std.proofs.lemmas.Result.{err_from_is_err_and}
 use Rattle.variant_list.specs.Beginnings.{shortest_hopeless}
 use Rattle.variant_list.specs.Verdicts.{IsVerdict}
-use Rattle.variant_list.proofs.Skipping.{Skips-none, Skips-more, fewer_ahead, FindsHope-found}
+use Rattle.variant_list.proofs.DeadEndSearches.{Skips-none, Skips-more, fewer_ahead, FindsHope-found}
 use Rattle.variant_list.proofs.cursor.Cursor.next_tested.Goals as goal
 
 pub beginnings-init : goal.beginnings-init

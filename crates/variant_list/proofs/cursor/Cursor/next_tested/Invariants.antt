@@ -1,6 +1,6 @@
 use Rattle.std.proofs.Common.{◌≡◌, length}
 use Rattle.variant_list.specs.Positions.{candidates_ahead}
-use Rattle.variant_list.proofs.Skipping.{Skips}
+use Rattle.variant_list.proofs.DeadEndSearches.{Skips}
 use Rattle.variant_list.proofs.cursor.Cursor.next_tested.Given as goal
 
 abbrev pub invariant-beginnings : goal.invariant-beginnings

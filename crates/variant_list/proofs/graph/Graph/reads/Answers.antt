@@ -2,7 +2,7 @@ use Rattle.std.proofs.Common.{◌≡◌, ◌+◌, ◌-◌, ◌*◌, ◌<◌, ◌
 use Rattle.std.specs.Prelude.{slice_index}
 use Rattle.std.proofs.lemmas.List.{drop_all, drop_more}
 use Rattle.variant_list.specs.inner.Plans.{Plan}
-use Rattle.variant_list.proofs.Walking.{ReadsFromRow, ReadsFromRow-next, ReadsFromRow-end, HoldsInside-next}
+use Rattle.variant_list.proofs.LabelWalks.{ReadsFromRow, ReadsFromRow-next, ReadsFromRow-end, HoldsInside-next}
 use Rattle.variant_list.proofs.graph.Graph.reads.Goals as goal
 
 pub loop-index-preserved : goal.loop-index-preserved

@@ -1,7 +1,7 @@
 use Rattle.std.proofs.Common.{◌*◌, ◌≤◌, ◌↔◌, length, drop}
 use Rattle.variant_list.specs.inner.Holding.{HoldsInside}
 use Rattle.variant_list.specs.inner.Plans.{Reads, first_place}
-use Rattle.variant_list.proofs.Walking.{ReadsFromRow}
+use Rattle.variant_list.proofs.LabelWalks.{ReadsFromRow}
 use Rattle.variant_list.proofs.graph.Graph.reads.Given as goal
 
 -- the row stands for the beginning of the label so far

@@ -3,7 +3,7 @@ use Rattle.std.specs.Prelude.{IsTrue, IfOk}
 use Rattle.variant_list.specs.Spelling.{Spells}
 use Rattle.variant_list.specs.Positions.{Built}
 use Rattle.variant_list.specs.inner.Plans.{Plan, Reads, first_place}
-use Rattle.variant_list.proofs.Walking.{IfOk-same}
+use Rattle.variant_list.proofs.LabelWalks.{IfOk-same}
 use Rattle.variant_list.proofs.net.Net.spells.Goals as goal
 
 pub returns : goal.returns

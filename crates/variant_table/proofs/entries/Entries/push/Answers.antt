@@ -1,6 +1,6 @@
 use Rattle.std.proofs.Common.{length-append, ◌≡◌, ◌+◌, ◌++◌, ◌∷◌, [], List, ℕ, length, ap, ◌∙◌}
 use Rattle.variant_table.specs.Entries.{Variant}
-use Rattle.variant_table.specs.Held.{entries_of}
+use Rattle.variant_table.specs.inner.Held.{entries_of}
 use Rattle.variant_table.specs.Reading.{entry_from}
 use Rattle.variant_table.proofs.DraftLemmas.{on_err}
 use Rattle.variant_table.proofs.EntryLemmas.{entries_of-longer, entries_of-push}

@@ -2,7 +2,8 @@ use Rattle.std.proofs.Common.{◌≡◌, ◌+◌, ◌<◌, ◌≤◌, false, tru
 use Rattle.std.specs.List.{list_any}
 use Rattle.variant_table.specs.Conditions.{has_bad_class}
 use Rattle.variant_table.specs.Entries.{Entry}
-use Rattle.variant_table.specs.Reading.{Fails, with_entries}
+use Rattle.variant_table.specs.Reading.{with_entries}
+use Rattle.variant_table.specs.inner.ReadingSteps.{Fails}
 use Rattle.variant_table.proofs.AddingLemmas.{range_too_many, range_bad, range_good, range_added}
 use Rattle.variant_table.proofs.RangeLemmas.{points_from}
 use Rattle.variant_table.proofs.reading.Reader.add_range.Goals as goal

@@ -2,7 +2,7 @@ use Rattle.std.proofs.Common.{arith, ◌≡◌, ◌+◌, ap, sym, subst, ◌∙�
 use Rattle.std.specs.Prelude.{slice_get}
 use Rattle.std.proofs.lemmas.List.{get_or_default}
 use Rattle.variant_table.specs.Entries.{Entry}
-use Rattle.variant_table.specs.Order.{IsPlaceFor, HasNoLonger, begins_at}
+use Rattle.variant_table.specs.inner.Order.{IsPlaceFor, HasNoLonger, begins_at}
 use Rattle.variant_table.specs.declared.rows.Place.TheVariants.{Found, Absent}
 use Rattle.variant_table.specs.Places.{entry_with}
 use Rattle.variant_table.proofs.OrderLemmas.{number_below, entry_with-at, entry_with-gap, no_longer-found, no_longer-gap}

@@ -1,6 +1,6 @@
 use Rattle.std.proofs.Common.{sym, subst, ◌∙◌}
 use Rattle.variant_table.specs.Entries.{unblocked}
-use Rattle.variant_table.specs.Order.{IsOrderOf}
+use Rattle.variant_table.specs.inner.Order.{IsOrderOf}
 use Rattle.variant_table.proofs.UnblockedLemmas.{order_kept}
 use Rattle.variant_table.proofs.rows.Rows.unblocked.Goals as goal
 

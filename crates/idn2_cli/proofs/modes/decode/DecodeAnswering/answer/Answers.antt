@@ -3,7 +3,7 @@ use Rattle.idn_label.specs.Decode.{decode_answer}
 use Rattle.idn2_cli.specs.Answers.{one_line}
 use Rattle.idn_label.specs.Steps.{in_utf8}
 use Rattle.idn2_cli.proofs.TextAnswers.{text_answer-none, text_answer-ascii, pieces_for-line, one_line-answered, one_line-refused}
-use Rattle.idn2_cli.proofs.Refusing.{emits_refusal, refused_is}
+use Rattle.idn2_cli.proofs.RefusedLines.{emits_refusal, refused_is}
 use Rattle.idn2_cli.proofs.modes.decode.DecodeAnswering.answer.Goals as goal
 
 pub returns-then-is_empty-clause-written : goal.returns-then-is_empty-clause-written

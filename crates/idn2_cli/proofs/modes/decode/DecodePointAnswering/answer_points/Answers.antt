@@ -1,7 +1,7 @@
 use Rattle.idn_label.specs.Decode.{decode_answer}
 use Rattle.idn_label.specs.Steps.{in_utf8}
 use Rattle.idn2_cli.proofs.TextAnswers.{one_line-refused}
-use Rattle.idn2_cli.proofs.Refusing.{emits_refusal}
+use Rattle.idn2_cli.proofs.RefusedLines.{emits_refusal}
 use Rattle.idn2_cli.proofs.modes.decode.DecodePointAnswering.answer_points.Goals as goal
 
 pub returns-in-Err-clause-written : goal.returns-in-Err-clause-written

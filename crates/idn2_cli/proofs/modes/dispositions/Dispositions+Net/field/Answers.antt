@@ -1,5 +1,5 @@
 use Rattle.std.proofs.Common.{◌∙◌, ap, sym, subst}
-use Rattle.idn2_cli.specs.Inner.{field_by, TellsWell}
+use Rattle.idn2_cli.specs.inner.Dispositions.{field_by, TellsWell}
 use Rattle.variant_list.specs.Positions.{Built}
 use Rattle.idn2_cli.specs.declared.modes.dispositions.Dispositions.{Dispositions}
 use Rattle.idn2_cli.proofs.DispositionLemmas.{spelled-told}

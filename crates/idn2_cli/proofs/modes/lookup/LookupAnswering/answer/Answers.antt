@@ -1,7 +1,7 @@
 use Rattle.std.proofs.Common.{◌∙◌}
-use Rattle.idn2_cli.specs.Inner.{query_answer}
+use Rattle.idn2_cli.specs.inner.LineAnswers.{query_answer}
 use Rattle.idn2_cli.proofs.TextAnswers.{text_answer-query, pieces_for-line, one_line-answered, one_line-refused}
-use Rattle.idn2_cli.proofs.Refusing.{emits_refusal, refused_is}
+use Rattle.idn2_cli.proofs.RefusedLines.{emits_refusal, refused_is}
 use Rattle.idn2_cli.proofs.modes.lookup.LookupAnswering.answer.Goals as goal
 
 pub returns-in-Ok-clause-written : goal.returns-in-Ok-clause-written

@@ -1,6 +1,6 @@
 use Rattle.idn_label.specs.Register.{register_answer}
 use Rattle.idn2_cli.proofs.TextAnswers.{one_line-refused}
-use Rattle.idn2_cli.proofs.Refusing.{emits_refusal}
+use Rattle.idn2_cli.proofs.RefusedLines.{emits_refusal}
 use Rattle.idn2_cli.proofs.modes.register.RegisterPointAnswering.answer_points.Goals as goal
 
 pub returns-in-Err-clause-written : goal.returns-in-Err-clause-written

@@ -1,5 +1,5 @@
-use Rattle.idn2_cli.proofs.Listings.{answer-refused}
-use Rattle.idn2_cli.proofs.Refusing.{emits_refusal}
+use Rattle.idn2_cli.proofs.ListingProgress.{answer-refused}
+use Rattle.idn2_cli.proofs.RefusedLines.{emits_refusal}
 use Rattle.idn2_cli.proofs.modes.variants.VariantsPointAnswering.answer_points.Goals as goal
 
 pub returns-in-Err-clause-written : goal.returns-in-Err-clause-written

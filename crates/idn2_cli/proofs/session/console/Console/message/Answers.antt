@@ -1,4 +1,4 @@
-use Rattle.idn2_cli.proofs.Writing.{writes_message, stops_message}
+use Rattle.idn2_cli.proofs.WrittenPieces.{writes_message, stops_message}
 use Rattle.idn2_cli.proofs.session.console.Console.message.Goals as goal
 use Rattle.idn2_cli.proofs.session.console.Console.message.Goals.{in-Ok, in-Err}
 

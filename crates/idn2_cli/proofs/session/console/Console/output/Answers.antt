@@ -1,4 +1,4 @@
-use Rattle.idn2_cli.proofs.Writing.{writes_output, stops_output}
+use Rattle.idn2_cli.proofs.WrittenPieces.{writes_output, stops_output}
 use Rattle.idn2_cli.proofs.session.console.Console.output.Goals as goal
 use Rattle.idn2_cli.proofs.session.console.Console.output.Goals.{in-Ok, in-Err}
 

@@ -1,15 +1,9 @@
--- Words of inner functions.
-use Rattle.std.specs.Prelude.{ℕ, ◌==◌, Bool, true, false, bytes_eq, List, [], ◌∷◌, ◌++◌, length, Option, Some, None, if◌then◌else◌, Result, Ok, Err, ◌≡◌, ◌<◌, slice_index_or, Vec}
-use Rattle.std.specs.Str.{is_utf8}
-use Rattle.std.specs.declared.alloc.Global.{Global}
-use Rattle.idn_text.specs.declared.refusal.Refusal.{Refusal}
-use Rattle.idn_text.specs.declared.refusal.Refusal.TheVariants.{LineTooLong, NotUtf8, Empty, NotInTable}
-use Rattle.idn_label.specs.Lookup.{query_name}
-use Rattle.variant_table.specs.declared.fault.TableFault.{TableFault}
+-- The third field of a listing's lines, and what tells it.
+use Rattle.std.specs.Prelude.{ℕ, true, bytes_eq, List, [], ◌≡◌}
 use Rattle.std.specs.List.{list_any}
 use Rattle.variant_table.specs.declared.version.Version.TheVariants.{One, Two}
 use Rattle.variant_table.specs.Entries.{Entry, TableValue, unblocked}
-use Rattle.variant_table.specs.WellFormed.{IsSequence, IsWellFormed}
+use Rattle.variant_table.specs.WellFormed.{IsWellFormed}
 use Rattle.variant_list.specs.Positions.{Built}
 use Rattle.variant_list.specs.Segmentations.{HasSegmentation}
 use Rattle.variant_list.specs.Spelled.{spelled}
@@ -17,40 +11,6 @@ use Rattle.idn2_cli.specs.Settings.{Settings}
 use Rattle.idn2_cli.specs.Answers.{disposition_field, block_to, stop_of, variants_after}
 use Rattle.idn2_cli.specs.declared.modes.dispositions.Dispositions.{Dispositions}
 use Rattle.idn2_cli.specs.declared.modes.dispositions.Dispositions.TheVariants.{Unstated, AllAllocatable, BySpelling}
-use Rattle.idn_text.specs.declared.refusal.Refusal.TheVariants as refusals
-use Rattle.variant_table.specs.declared.fault.TableFault.TheVariants as tables
-
--- so many variants are as many as may be listed
-abbrev pub reaches : Option ℕ → ℕ → Bool
-reaches None count = false
-reaches (Some limit) count = limit == count
-
--- an answer of one line, with its line feed
-abbrev pub with_feed : Result (List ℕ) Refusal → Result (List ℕ) Refusal
-with_feed (Ok line) = Ok (line ++ 10 ∷ [])
-with_feed (Err refusal) = Err refusal
-
--- the same of lookup, by the bytes of the name: they need not be decoded to be looked up
-unfoldable pub query_answer : List ℕ → Bool → Result (List ℕ) Refusal
-query_answer bytes std3 =
-    if is_utf8 bytes then (if length bytes == 0 then Err Empty else query_name bytes std3) else Err NotUtf8
-
--- what is reported of a table that is not read; nothing where memory was refused
-abbrev pub told_of : TableFault → Option (ℕ × Refusal)
-told_of (tables.Syntax line) = Some (line, refusals.Syntax)
-told_of (tables.SameSource line) = Some (line, refusals.SameSource)
-told_of (tables.SameVariant line) = Some (line, refusals.SameVariant)
-told_of (tables.BadClass line) = Some (line, refusals.BadClass)
-told_of (tables.Limit line) = Some (line, refusals.Limit)
-told_of tables.Memory = None
-
--- both sequences of each gap are sequences of a table
-abbrev pub HoldSequences : List (Vec ℕ Global × Vec ℕ Global) → Type 0
-HoldSequences gaps =
-    (i : ℕ) (gap : Vec ℕ Global × Vec ℕ Global) → i < length gaps → gap ≡ slice_index_or gaps i gap →
-    IsSequence gap.0.items × IsSequence gap.1.items
-
--- ---- the third field of a line
 
 -- the block of a label by the fields of its variants
 abbrev pub block_by : (List ℕ → List ℕ) → Settings → List Entry → List ℕ → List (List ℕ)

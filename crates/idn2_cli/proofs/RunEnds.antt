@@ -7,19 +7,19 @@ use Rattle.std.proofs.lemmas.Bool.{false≢true}
 use Rattle.idn2_cli.specs.Settings.{Settings}
 use Rattle.idn2_cli.specs.Transcript.{TableGiven, IsReadAs, IsTableOf, Piece, check_pieces, check_status}
 use Rattle.idn2_cli.specs.Ends.{Held, TakesText, closing_message, Job, Does, Closes, mode_job, refusal_of}
-use Rattle.idn2_cli.specs.Emitting.{Emits}
+use Rattle.idn2_cli.specs.inner.Emitting.{Emits}
 use Rattle.idn2_cli.specs.declared.command_line.mode.Mode.{Mode}
 use Rattle.idn2_cli.specs.declared.command_line.mode.Mode.TheVariants.{Variants, CheckTable}
 use Rattle.idn2_cli.specs.declared.session.status.Status.{Status}
 use Rattle.idn2_cli.specs.declared.session.stop.Stop.{Stop}
 use Rattle.idn2_cli.specs.declared.session.stop.Stop.TheVariants as stop
-use Rattle.idn2_cli.proofs.Writing.{stops_first}
-use Rattle.idn2_cli.proofs.Sessions.{stands_at}
+use Rattle.idn2_cli.proofs.WrittenPieces.{stops_first}
+use Rattle.idn2_cli.proofs.LineSteps.{stands_at}
 use Rattle.idn2_cli.proofs.TableLemmas.{some_table, refused_table}
 use Rattle.std.specs.Prelude.{MatchOption}
 use Rattle.variant_table.specs.Texts.{IsToldOf}
 use Rattle.variant_table.specs.declared.fault.TableFault.{TableFault}
-use Rattle.idn2_cli.specs.Inner.{told_of}
+use Rattle.idn2_cli.specs.inner.TableFaults.{told_of}
 use Rattle.idn2_cli.specs.declared.session.status.Status.TheVariants.{Unusable}
 
 -- ---- a mode that answers lines

@@ -1,7 +1,7 @@
 -- What is known of the beginnings of a label, one code point after the other: words of inner functions.
 use Rattle.std.specs.Prelude.{◌≡◌, ℕ, ◌+◌, ◌<◌, ◌≤◌, ◌++◌, List, length, take, slice_index_or}
 use Rattle.idn_class.specs.declared.known.Known.{Known}
-use Rattle.idn_class.specs.Directions.{HasNone, breaks_at_first, breaks_behind}
+use Rattle.idn_class.specs.inner.Directions.{HasNone, breaks_at_first, breaks_behind}
 use Rattle.idn_class.specs.Facts.{AreFactsOf}
 
 -- nothing in the beginning w breaks a test for good, and this is known of it

@@ -6,8 +6,8 @@ use Rattle.std.specs.List.{AllByRecursion, filter, slice_get}
 use Rattle.variant_list.specs.Labels.{IsBelow, IsRising, label_cmp}
 use Rattle.variant_list.specs.Steps.{last_of}
 use Rattle.variant_list.proofs.OrderLemmas.{below_itself, below_both, ranked_labels}
-use Rattle.idn2_cli.specs.Answers.{lesser, up_to, trailer}
-use Rattle.idn2_cli.specs.Inner.{reaches}
+use Rattle.idn2_cli.specs.Answers.{lesser_label, up_to, trailer}
+use Rattle.idn2_cli.specs.inner.LineAnswers.{reaches}
 
 -- each variant has a line
 module _ (line : List ℕ → List ℕ) where
@@ -47,19 +47,19 @@ module _ (line : List ℕ → List ℕ) where
   abbrev IsFrom : List ℕ → List ℕ → Type 0
   IsFrom c b = (c ≡ b) ⊎ IsBelow c b
 
-  lesser-first : (c : List ℕ) (r : Option (List ℕ)) → IfSome r (IsFrom c) → lesser (Some c) r ≡ Some c
-  lesser-first c None h = refl
-  lesser-first c (Some b) h = ap (λ (t : Bool). if t then Some c else Some b) (is_le-below c b h)
+  lesser_label-first : (c : List ℕ) (r : Option (List ℕ)) → IfSome r (IsFrom c) → lesser_label (Some c) r ≡ Some c
+  lesser_label-first c None h = refl
+  lesser_label-first c (Some b) h = ap (λ (t : Bool). if t then Some c else Some b) (is_le-below c b h)
 
-  lesser-second : (c : List ℕ) (r : Option (List ℕ)) → IfSome r (IsFrom c) → lesser r (Some c) ≡ Some c
-  lesser-second c None h = refl
-  lesser-second c (Some a) (inl e) = subst (λ (x : List ℕ). lesser (Some x) (Some c) ≡ Some c) e (ap (λ (t : Bool). if t then Some c else Some c) (is_le-below c c (inl refl)))
-  lesser-second c (Some a) (inr b) = ap (λ (t : Bool). if t then Some a else Some c) (is_le-above a c b)
+  lesser_label-second : (c : List ℕ) (r : Option (List ℕ)) → IfSome r (IsFrom c) → lesser_label r (Some c) ≡ Some c
+  lesser_label-second c None h = refl
+  lesser_label-second c (Some a) (inl e) = subst (λ (x : List ℕ). lesser_label (Some x) (Some c) ≡ Some c) e (ap (λ (t : Bool). if t then Some c else Some c) (is_le-below c c (inl refl)))
+  lesser_label-second c (Some a) (inr b) = ap (λ (t : Bool). if t then Some a else Some c) (is_le-above a c b)
 
-  lesser-above : (c : List ℕ) (r s : Option (List ℕ)) → IfSome r (IsBelow c) → IfSome s (IsBelow c) → IfSome (lesser r s) (IsBelow c)
-  lesser-above c None s h g = g
-  lesser-above c (Some a) None h g = h
-  lesser-above c (Some a) (Some b) h g = chosen (is_le (label_cmp a b))
+  lesser_label-above : (c : List ℕ) (r s : Option (List ℕ)) → IfSome r (IsBelow c) → IfSome s (IsBelow c) → IfSome (lesser_label r s) (IsBelow c)
+  lesser_label-above c None s h g = g
+  lesser_label-above c (Some a) None h g = h
+  lesser_label-above c (Some a) (Some b) h g = chosen (is_le (label_cmp a b))
     where
       chosen : (t : Bool) → IfSome (if t then Some a else Some b) (IsBelow c)
       chosen true = h
@@ -112,7 +112,7 @@ module _ (line : List ℕ → List ℕ) where
   lines_to count stop vs = map line (up_to stop vs) ++ trailer (count + length (up_to stop vs)) stop ∷ []
 
   abbrev pub lines_at : ℕ → Option ℕ → List (List ℕ) → List (List ℕ) → ℕ → List (List ℕ)
-  lines_at count place vs cs tested = lines_to count (lesser (get_if_given vs place) (slice_get cs tested)) vs
+  lines_at count place vs cs tested = lines_to count (lesser_label (get_if_given vs place) (slice_get cs tested)) vs
 
   add_none : (n : ℕ) → n + 0 ≡ n
   add_none n = omega arith
@@ -176,7 +176,7 @@ module _ (line : List ℕ → List ℕ) where
       → lines_at count place (c ∷ filter accepts cs) (c ∷ cs) tested ≡ line c ∷ walk_on accepts (limit_from count place) count c cs tested
   accepted_step accepts count place c cs zero above go =
       let vs = filter-above accepts c cs above in
-      stops_at_variant count c (filter accepts cs) (lesser (get_if_given (c ∷ filter accepts cs) place) (Some c)) vs (lesser-second c (get_if_given (c ∷ filter accepts cs) place) (from place))
+      stops_at_variant count c (filter accepts cs) (lesser_label (get_if_given (c ∷ filter accepts cs) place) (Some c)) vs (lesser_label-second c (get_if_given (c ∷ filter accepts cs) place) (from place))
       ∙ ap (λ (l : List (List ℕ)). line c ∷ l) (sym (either (reaches (limit_from count place) (count + 1)) (trailer (count + 1) (Some c) ∷ []) (walk accepts (limit_from count place) (count + 1) c cs 0) (sym (walk-zero accepts (limit_from count place) (count + 1) c cs))))
     where
       from : (place : Option ℕ) → IfSome (get_if_given (c ∷ filter accepts cs) place) (IsFrom c)
@@ -186,11 +186,11 @@ module _ (line : List ℕ → List ℕ) where
       stops_later count c (filter accepts cs) (slice_get cs tested) (get-above c cs tested above)
       ∙ ap (λ (l : List (List ℕ)). line c ∷ l) (go (count + 1) None tested)
   accepted_step accepts count (Some zero) c cs (suc tested) above go =
-      stops_at_variant count c (filter accepts cs) (lesser (Some c) (slice_get cs tested)) (filter-above accepts c cs above) (lesser-first c (slice_get cs tested) (get-from c cs (suc tested) above))
+      stops_at_variant count c (filter accepts cs) (lesser_label (Some c) (slice_get cs tested)) (filter-above accepts c cs above) (lesser_label-first c (slice_get cs tested) (get-from c cs (suc tested) above))
       ∙ ap (λ (b : Bool). line c ∷ (if b then trailer (count + 1) (Some c) ∷ [] else walk accepts (limit_from count (Some 0)) (count + 1) c cs (suc tested))) (sym (reaches-now count))
   accepted_step accepts count (Some (suc i)) c cs (suc tested) above go =
       let vs = filter accepts cs in
-      stops_later count c vs (lesser (slice_get vs i) (slice_get cs tested)) (lesser-above c (slice_get vs i) (slice_get cs tested) (get-above c vs i (filter-above accepts c cs above)) (get-above c cs tested above))
+      stops_later count c vs (lesser_label (slice_get vs i) (slice_get cs tested)) (lesser_label-above c (slice_get vs i) (slice_get cs tested) (get-above c vs i (filter-above accepts c cs above)) (get-above c cs tested above))
       ∙ ap (λ (l : List (List ℕ)). line c ∷ l) (go (count + 1) (Some i) tested)
       ∙ ap (λ (limit : Option ℕ). line c ∷ walk accepts limit (count + 1) c cs (suc tested)) (sym (limit_from-later count i))
       ∙ ap (λ (b : Bool). line c ∷ (if b then trailer (count + 1) (Some c) ∷ [] else walk accepts (limit_from count (Some (suc i))) (count + 1) c cs (suc tested))) (sym (reaches-later count i))
@@ -198,7 +198,7 @@ module _ (line : List ℕ → List ℕ) where
   other_step : (accepts : List ℕ → Bool) (count : ℕ) (place : Option ℕ) (c : List ℕ) (cs : List (List ℕ)) (tested : ℕ) → AllByRecursion (IsBelow c) cs → Continues accepts c cs
       → lines_at count place (filter accepts cs) (c ∷ cs) tested ≡ walk accepts (limit_from count place) count c cs tested
   other_step accepts count place c cs zero above go =
-      stops_at_other count c (filter accepts cs) (lesser (get_if_given (filter accepts cs) place) (Some c)) (filter-above accepts c cs above) (lesser-second c (get_if_given (filter accepts cs) place) (from place))
+      stops_at_other count c (filter accepts cs) (lesser_label (get_if_given (filter accepts cs) place) (Some c)) (filter-above accepts c cs above) (lesser_label-second c (get_if_given (filter accepts cs) place) (from place))
       ∙ sym (walk-zero accepts (limit_from count place) count c cs)
     where
       later : (r : Option (List ℕ)) → IfSome r (IsBelow c) → IfSome r (IsFrom c)

@@ -11,11 +11,11 @@ use Rattle.variant_list.specs.Steps.{NoneAccepted, last_of, moved_over, IsFound,
 use Rattle.variant_list.specs.Beginnings.{shortest_hopeless, has_hope, dead_ends}
 use Rattle.variant_list.specs.Tested.{dead_ends_after, dead_ends_between}
 use Rattle.variant_list.specs.inner.Skips.{edges_of_net, GoesBack, FindsHope, FindsNone}
-use Rattle.variant_list.proofs.Lists.{looks-sum, product-le, last_of-push, filter-none, slice_get-behind}
-use Rattle.variant_list.proofs.Skipping.{IsRising-ahead, edges-same}
+use Rattle.variant_list.proofs.ListLemmas.{looks-sum, product-le, last_of-push, filter-none, slice_get-behind}
+use Rattle.variant_list.proofs.DeadEndSearches.{IsRising-ahead, edges-same}
 use Rattle.variant_list.proofs.DeadEndLemmas.{dead_ends-joined}
 use Rattle.variant_list.proofs.TestedLemmas.{tested-filter, below-front}
-use Rattle.variant_list.proofs.Going.{EndsIn, HasGone, HasPassed, HasGone-next, joined, no_shortest, one_tested}
+use Rattle.variant_list.proofs.SeekSteps.{EndsIn, HasGone, HasPassed, HasGone-next, joined, no_shortest, one_tested}
 
 module _ (hopeless : List ℕ → Bool) where
   -- the tested labels ahead of a call: those that it decided, and those ahead of where it is

@@ -6,10 +6,10 @@ use Rattle.idn_text.specs.declared.refusal.Refusal.TheVariants.{Memory}
 use Rattle.idn2_cli.specs.Transcript.{Piece, pieces_for}
 use Rattle.idn2_cli.specs.Ends.{Held}
 use Rattle.idn2_cli.specs.Answers.{LineAnswer}
-use Rattle.idn2_cli.specs.Emitting.{Emits}
+use Rattle.idn2_cli.specs.inner.Emitting.{Emits}
 use Rattle.idn2_cli.specs.declared.session.stop.Stop.{Stop}
 use Rattle.idn2_cli.specs.declared.session.stop.Stop.TheVariants as stop
-use Rattle.idn2_cli.proofs.Writing.{stops, cut_before}
+use Rattle.idn2_cli.proofs.WrittenPieces.{stops, cut_before}
 
 is_memory : (refusal : Refusal) → (refusal ≡ Memory) ⊎ (refusal ≢ Memory)
 is_memory Memory = inl refl

@@ -28,7 +28,7 @@ use Rattle.idn2_cli.specs.Transcript.{IsCheck}
 use Rattle.idn2_cli.specs.Transcript.{check_lines}
 use Rattle.idn2_cli.proofs.DispositionLemmas.{disposition-IsDisposition}
 use Rattle.idn2_cli.proofs.HopeLemmas.{clear}
-use Rattle.idn2_cli.proofs.Segmented.{listing_answer-segmented, listing_answer-unsegmented, segmented_or_not}
+use Rattle.idn2_cli.proofs.SegmentedLabels.{listing_answer-segmented, listing_answer-unsegmented, segmented_or_not}
 
 none_if_none : (fault : Option Refusal) → is_none fault ≡ true → fault ≡ None
 none_if_none None h = refl

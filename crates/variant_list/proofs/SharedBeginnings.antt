@@ -3,7 +3,7 @@ use Rattle.std.proofs.Common.{◌≡◌, ◌==◌, ◌&&◌, ℕ, zero, suc, ◌
 use Rattle.std.proofs.lemmas.Bool.{eq-eqb, ne_eqb}
 use Rattle.variant_list.specs.Beginnings.{shares}
 use Rattle.variant_list.specs.inner.Least.{floor}
-use Rattle.variant_list.proofs.Orders.{floor-more, floor-first}
+use Rattle.variant_list.proofs.GreaterLabels.{floor-more, floor-first}
 
 -- labels that go on from the same code points share them
 pub shares-fork : (n j : ℕ) (old rest : List ℕ) → n ≤ j → j ≤ length old → shares n old (take j old ++ rest) ≡ true

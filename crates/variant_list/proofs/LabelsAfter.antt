@@ -5,7 +5,7 @@ use Rattle.std.proofs.lemmas.Bool.{false_from_ne_true}
 use Rattle.variant_list.specs.Labels.{IsBelow, IsRising}
 use Rattle.variant_list.specs.Beginnings.{shares}
 use Rattle.variant_list.specs.inner.Skips.{outside}
-use Rattle.variant_list.proofs.Lists.{AllByRecursion-map, filter-all, filter-none, filter-passes}
+use Rattle.variant_list.proofs.ListLemmas.{AllByRecursion-map, filter-all, filter-none, filter-passes}
 use Rattle.variant_list.proofs.BeginningLemmas.{shares-between, shares-within}
 use Rattle.variant_list.proofs.DeadEndLemmas.{AllShare, BeginsApart}
 

@@ -9,8 +9,8 @@ use Rattle.variant_list.proofs.ListedLemmas.{variants-IsListed, variants-behind}
 use Rattle.variant_list.specs.Beginnings.{shortest_hopeless, has_hope, shares, dead_ends}
 use Rattle.variant_list.specs.inner.Skips.{edges_of_net, outside, Searches, FindsHope, FindsNone}
 use Rattle.variant_list.specs.Nets.{edge_count}
-use Rattle.variant_list.proofs.Lists.{slice_get-none, slice_get-some, looks-more, last_of-push, AllByRecursion-append, AllByRecursion-map, filter-shorter, IsRising-behind}
-use Rattle.variant_list.proofs.Sharing.{inside, split-shared, outside-all, inside-shares, outside-apart}
+use Rattle.variant_list.proofs.ListLemmas.{slice_get-none, slice_get-some, looks-more, last_of-push, AllByRecursion-append, AllByRecursion-map, filter-shorter, IsRising-behind}
+use Rattle.variant_list.proofs.LabelsAfter.{inside, split-shared, outside-all, inside-shares, outside-apart}
 use Rattle.variant_list.proofs.BeginningLemmas.{shortest_hopeless-shares}
 use Rattle.variant_list.proofs.DeadEndLemmas.{BeginsApart, dead_ends-one}
 

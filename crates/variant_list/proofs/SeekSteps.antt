@@ -7,9 +7,9 @@ use Rattle.variant_list.specs.Positions.{Position, candidates_ahead}
 use Rattle.variant_list.specs.Steps.{NoneAccepted}
 use Rattle.variant_list.specs.Beginnings.{shortest_hopeless, has_hope, dead_ends}
 use Rattle.variant_list.specs.inner.Skips.{edges_of_net, FindsHope}
-use Rattle.variant_list.proofs.Lists.{looks-sum, filter-none}
+use Rattle.variant_list.proofs.ListLemmas.{looks-sum, filter-none}
 use Rattle.variant_list.proofs.DeadEndLemmas.{dead_ends-joined}
-use Rattle.variant_list.proofs.Skipping.{edges-same}
+use Rattle.variant_list.proofs.DeadEndSearches.{edges-same}
 
 -- the last label ends the candidates gone over, and has hope
 pub record EndsIn (hopeless : List ℕ → Bool) (front : List (List ℕ)) (last : List ℕ) : Type 0 where

@@ -1,0 +1,6 @@
+-- Words of inner functions and of private fields. No public contract cites them.
+pub mod Emitting
+pub mod LineAnswers
+pub mod TableFaults
+pub mod Dispositions
+pub mod GapSequences

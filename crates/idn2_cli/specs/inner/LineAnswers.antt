@@ -1,0 +1,19 @@
+-- What the modes answer to a line, and when a listing has as many variants as it may.
+use Rattle.std.specs.Prelude.{ℕ, ◌==◌, Bool, false, List, [], ◌∷◌, ◌++◌, length, Option, Some, None, if◌then◌else◌, Result, Ok, Err}
+use Rattle.idn_text.specs.declared.refusal.Refusal.{Refusal}
+use Rattle.idn_text.specs.declared.refusal.Refusal.TheVariants.{Empty}
+use Rattle.idn_label.specs.Lookup.{utf8_answer}
+
+-- so many variants are as many as may be listed
+abbrev pub reaches : Option ℕ → ℕ → Bool
+reaches None count = false
+reaches (Some limit) count = limit == count
+
+-- an answer of one line, with its line feed
+abbrev pub with_feed : Result (List ℕ) Refusal → Result (List ℕ) Refusal
+with_feed (Ok line) = Ok (line ++ 10 ∷ [])
+with_feed (Err refusal) = Err refusal
+
+-- the same of lookup, by the bytes of the name: they need not be decoded to be looked up
+unfoldable pub query_answer : List ℕ → Bool → Result (List ℕ) Refusal
+query_answer bytes std3 = if length bytes == 0 then Err Empty else utf8_answer bytes std3

@@ -1,0 +1,24 @@
+-- The first fault of a label, but for those of some kinds.
+use Rattle.std.specs.Prelude.{ℕ, not, ◌==◌, List, [], ◌∷◌, length, Option}
+use Rattle.unicode_normalization.specs.Forms.{is_nfc}
+use Rattle.idn_text.specs.declared.refusal.Refusal.{Refusal}
+use Rattle.idn_text.specs.declared.refusal.Refusal.TheVariants.{Empty, NotNfc, Hyphen, LeadingMark, ContextJ, ContextO, Bidi}
+use Rattle.idn_class.specs.Tests.{leading_mark, contextj_ok, contexto_ok, bidi_ok}
+use Rattle.idn_label.specs.FirstFault.{first_of, fault_if, code_point_fault, has_hyphen_out_of_place}
+
+-- the first fault of those that are neither of the code points nor of the length
+unfoldable pub rule_fault : List ℕ → Option Refusal
+rule_fault label =
+    first_of (
+    fault_if (not (is_nfc label)) NotNfc
+    ∷ fault_if (has_hyphen_out_of_place label) Hyphen
+    ∷ fault_if (leading_mark label) LeadingMark
+    ∷ fault_if (not (contextj_ok label)) ContextJ
+    ∷ fault_if (not (contexto_ok label)) ContextO
+    ∷ fault_if (not (bidi_ok label)) Bidi
+    ∷ []
+    )
+
+-- the first fault but for the length
+unfoldable pub fault_but_length : List ℕ → Option Refusal
+fault_but_length label = first_of (fault_if (length label == 0) Empty ∷ code_point_fault label ∷ rule_fault label ∷ [])

@@ -1,0 +1,35 @@
+-- What sets of labels hold, and what a step of the plain lister adds to them.
+use Rattle.std.specs.Prelude.{◌≡◌, ℕ, ◌-◌, ◌<◌, ◌⊎◌, ◌↔◌, List, ◌++◌, length, drop, Contains, slice_index_or, Vec}
+use Rattle.std.specs.declared.alloc.Global.{Global}
+use Rattle.std.specs.BTreeSet.{BTreeSet}
+use Rattle.variant_table.specs.Entries.{Entry, replacements}
+use Rattle.variant_list.specs.Labels.{IsRising}
+use Rattle.variant_list.specs.Spelling.{Spells}
+use Rattle.variant_list.specs.LabelSet.{labels_of}
+
+-- the set holds exactly what the label spells, in label order
+pub record HoldsSpelled (table : List Entry) (label : List ℕ) (labels : BTreeSet (Vec ℕ Global)) : Type 0 where
+  pub spelled : (v : List ℕ) → Contains (labels_of labels) v ↔ Spells table label v
+  pub rising : IsRising (labels_of labels)
+
+-- the sets hold what the last code points of the label spell: none of them, one, two, and so on
+abbrev pub HoldEndings : List Entry → List ℕ → List (BTreeSet (Vec ℕ Global)) → Type 0
+HoldEndings table label sets =
+    (n : ℕ) (d : BTreeSet (Vec ℕ Global)) → n < length sets → HoldsSpelled table (drop (length label - n) label) (slice_index_or sets n d)
+
+-- new has the labels of old and those of which P holds
+abbrev pub Adds : (List ℕ → Type 0) → List (List ℕ) → List (List ℕ) → Type 0
+Adds P old new = (q : List ℕ) → Contains new q ↔ (Contains old q ⊎ P q)
+
+-- what some member of the list gives
+abbrev pub SomeGives : {X : Type 0} → (X → List ℕ → Type 0) → List X → List ℕ → Type 0
+SomeGives {X} gives xs q = (x : X) × Contains xs x × gives x q
+
+-- q is the beginning and then one of the endings
+abbrev pub JoinsEnding : List (List ℕ) → List ℕ → List ℕ → Type 0
+JoinsEnding endings beginning = SomeGives (λ ending q. q ≡ beginning ++ ending) endings
+
+-- q is a replacement of the entry, whose source is cut off the rest, and then something that what is left spells
+abbrev pub BeginsWith : List Entry → List ℕ → Entry → List ℕ → Type 0
+BeginsWith table rest e q =
+    (later : List ℕ) × (w : List ℕ) × (rest ≡ e.source ++ later) × Spells table later w × SomeGives (λ r q. q ≡ r ++ w) (replacements e) q

@@ -1,0 +1,65 @@
+-- What each step of reading leaves: the table so far, or the fault of its line.
+use Rattle.std.specs.Prelude.{◌≡◌, ◌⊎◌, ℕ, Bool, List, [], ◌∷◌, ◌++◌, Result, Ok, Err, if◌then◌else◌}
+use Rattle.variant_table.specs.declared.token.Token.{Token}
+use Rattle.variant_table.specs.declared.token.Token.TheVariants.{Point, Mark}
+use Rattle.variant_table.specs.declared.fault.TableFault.{TableFault}
+use Rattle.variant_table.specs.declared.fault.TableFault.TheVariants as tables
+use Rattle.variant_table.specs.Faults.{LineFault, Limit, Syntax, BadClass, SameVariant, SameSource, table_fault}
+use Rattle.variant_table.specs.declared.version.Version.{Version}
+use Rattle.variant_table.specs.Entries.{Entry, TableValue}
+use Rattle.variant_table.specs.Notation.{mark_tokens}
+use Rattle.variant_table.specs.Conditions.{has_source_in}
+use Rattle.variant_table.specs.Reading.{◌>>=◌, table_from}
+
+-- a call fails with the fault of the line of this number, unless memory was refused
+abbrev pub Fails : {Y : Type 0} → ℕ → TableFault → Result Y LineFault → Type 0
+Fails number tables.Memory read = Unit {0}
+Fails number (tables.Limit line) read = (line ≡ number) × (read ≡ Err Limit)
+Fails number (tables.Syntax line) read = (line ≡ number) × (read ≡ Err Syntax)
+Fails number (tables.BadClass line) read = (line ≡ number) × (read ≡ Err BadClass)
+Fails number (tables.SameVariant line) read = (line ≡ number) × (read ≡ Err SameVariant)
+Fails number (tables.SameSource line) read = (line ≡ number) × (read ≡ Err SameSource)
+
+-- if a call succeeds, y is what reading the line of this number gives; if it fails, it is with the fault of that line
+abbrev pub Leaves : {X Y : Type 0} → ℕ → Result X TableFault → Y → Result Y LineFault → Type 0
+Leaves number (Ok x) y read = read ≡ Ok y
+Leaves number (Err fault) y read = Fails number fault read
+
+-- the table with an entry, whose source is to be new
+abbrev pub with_new_source : List Entry → Entry → Result (List Entry) LineFault
+with_new_source table e = if has_source_in table e then Err SameSource else Ok (table ++ e ∷ [])
+
+-- the table with entries, one after another, whose sources are to be new
+abbrev pub with_new_sources : List Entry → List Entry → Result (List Entry) LineFault
+with_new_sources table [] = Ok table
+with_new_sources table (e ∷ entries) = with_new_source table e >>= λ t. with_new_sources t entries
+
+-- the first token is a point
+abbrev pub BeginsWithPoint : List Token → Type 0
+BeginsWithPoint (Point c ∷ tokens) = Unit {0}
+BeginsWithPoint tokens = ⊥
+
+-- the point was taken off the tokens of the line of this number, or they don't begin with one
+abbrev pub IsPoint : ℕ → Result ℕ TableFault → List Token → List Token → Type 0
+IsPoint number (Ok c) old new = old ≡ Point c ∷ new
+IsPoint number (Err fault) old new = (fault ≡ tables.Syntax number) × (BeginsWithPoint old → ⊥)
+
+-- the first token is a point, or a mark followed by a point
+abbrev pub BeginsVariant : List Token → Type 0
+BeginsVariant (Point c ∷ tokens) = Unit {0}
+BeginsVariant (Mark ∷ Point c ∷ tokens) = Unit {0}
+BeginsVariant tokens = ⊥
+
+-- the point and the mark before it, if there is one, were taken off the tokens, or they don't begin so
+abbrev pub IsMarkedPoint : ℕ → Result (Bool × ℕ) TableFault → List Token → List Token → Type 0
+IsMarkedPoint number (Ok (blocked, c)) old new = old ≡ mark_tokens blocked ++ Point c ∷ new
+IsMarkedPoint number (Err fault) old new = (fault ≡ tables.Syntax number) × (BeginsVariant old → ⊥)
+
+-- the fault that reading gives, unless memory was refused
+abbrev pub FailsIn : {Y : Type 0} → TableFault → Result Y (ℕ × LineFault) → Type 0
+FailsIn {Y} fault read = (fault ≡ tables.Memory) ⊎ ((line : ℕ) × (kind : LineFault) × (fault ≡ table_fault line kind) × (read ≡ Err (line, kind)))
+
+-- the answer is that of the function, unless memory was refused
+abbrev pub Reads : Result (Version × List Entry) TableFault → Result TableValue (ℕ × LineFault) → Type 0
+Reads (Ok table) read = read ≡ table_from table.0 table.1
+Reads (Err fault) read = FailsIn fault read
