@@ -11,6 +11,7 @@ use Rattle.clap.specs.Words.{Row, Text}
 use Rattle.idn_text.specs.Points.{AreScalarValues, IsScalarValue}
 use Rattle.idn2_cli.specs.Settings.{IsCount, IsWithinLimits}
 use Rattle.idn2_cli.specs.Words.{bounds_variants, checks_alone, count_of, has_counts, has_short_start, is_allowed, is_count, is_short_numeral, names_one_mode, settings_of, start_of, value_of}
+use Rattle.idn2_cli.specs.declared.command_line.arguments.TheConstants.{LIMIT, TRIES}
 
 pub le-test : (m n : ℕ) → nat_le m n ≡ true → m ≤ n
 le-test m n test = grind (arith, nat_tests)
@@ -70,6 +71,6 @@ within_limits rows is_text allowed =
     record {
       after_length = omega arith;
       after_points = all-scalar (chars (start_of rows)) (scalars-chars (start_of rows) is_text);
-      limit = IsCount-limit (value_of (codes "limit") rows);
-      tries = or_default _ (IsCount-limit (value_of (codes "tries") rows));
+      limit = IsCount-limit (value_of LIMIT.now rows);
+      tries = or_default _ (IsCount-limit (value_of TRIES.now rows));
     }

@@ -11,6 +11,7 @@ use Rattle.idn2_cli.specs.Words.{bounds_variants, checks_alone, count_of, file_o
 use Rattle.idn2_cli.specs.declared.command_line.mode.Mode.{Mode}
 use Rattle.idn2_cli.specs.declared.command_line.mode.Mode.TheVariants.{Lookup, Register, Decode, Variants, CheckTable}
 use Rattle.idn2_cli.proofs.LimitLemmas.{le-test}
+use Rattle.idn2_cli.specs.declared.command_line.arguments.TheConstants.{AFTER, CHECK_TABLE, DECODE, LIMIT, LOOKUP, REGISTER, TRIES, VARIANTS}
 
 -- ---- tests
 
@@ -80,7 +81,7 @@ check-alone l r d v k one is_k =
 -- ---- the rules, one by one
 
 pub record Rules (rows : List Row) : Type 0 where
-  pub one : IsOne (has_flag (codes "lookup") rows) (has_flag (codes "register") rows) (has_flag (codes "decode") rows) (has_value (codes "variants") rows) (has_value (codes "check-table") rows)
+  pub one : IsOne (has_flag LOOKUP.now rows) (has_flag REGISTER.now rows) (has_flag DECODE.now rows) (has_value VARIANTS.now rows) (has_value CHECK_TABLE.now rows)
   pub bounds : bounds_variants rows ≡ true
   pub alone : checks_alone rows ≡ true
 
@@ -92,37 +93,37 @@ rules rows allowed =
     let first = and_parts (names_one_mode rows) (bounds_variants rows) counts.0 in
     record { one = le-test _ 1 first.0; bounds = first.1; alone = last.1 }
 
-no-variants : (rows : List Row) → Rules rows → mode_of rows ≢ Variants → has_value (codes "variants") rows ≡ false
-no-variants rows r other = false-where (has_value (codes "variants") rows) (λ named. other (variants-alone _ _ _ _ _ r.one named))
+no-variants : (rows : List Row) → Rules rows → mode_of rows ≢ Variants → has_value VARIANTS.now rows ≡ false
+no-variants rows r other = false-where (has_value VARIANTS.now rows) (λ named. other (variants-alone _ _ _ _ _ r.one named))
 
-no-check : (rows : List Row) → Rules rows → mode_of rows ≢ CheckTable → has_value (codes "check-table") rows ≡ false
-no-check rows r other = false-where (has_value (codes "check-table") rows) (λ named. other (check-alone _ _ _ _ _ r.one named))
+no-check : (rows : List Row) → Rules rows → mode_of rows ≢ CheckTable → has_value CHECK_TABLE.now rows ≡ false
+no-check rows r other = false-where (has_value CHECK_TABLE.now rows) (λ named. other (check-alone _ _ _ _ _ r.one named))
 
 no-bounds : (rows : List Row) → Rules rows → mode_of rows ≢ Variants
-    → (chars (start_of rows) ≡ []) × (option_and_then count_of (value_of (codes "limit") rows) ≡ None)
-    × (unwrap_or (option_and_then count_of (value_of (codes "tries") rows)) 1000000 ≡ 1000000)
+    → (chars (start_of rows) ≡ []) × (option_and_then count_of (value_of LIMIT.now rows) ≡ None)
+    × (unwrap_or (option_and_then count_of (value_of TRIES.now rows)) 1000000 ≡ 1000000)
 no-bounds rows r other =
-    let after = has_value (codes "after") rows in
-    let limit = has_value (codes "limit") rows in
-    let tries = has_value (codes "tries") rows in
+    let after = has_value AFTER.now rows in
+    let limit = has_value LIMIT.now rows in
+    let tries = has_value TRIES.now rows in
     let none = neither (after || limit) tries
-    (second-test (has_value (codes "variants") rows) (not (after || limit || tries)) r.bounds (no-variants rows r other)) in
+    (second-test (has_value VARIANTS.now rows) (not (after || limit || tries)) r.bounds (no-variants rows r other)) in
     let first = neither after limit (ap not none.0) in (
-      ap (λ (o : Option Text). chars (unwrap_or o [])) (not-given (value_of (codes "after") rows) first.0) ∙ chars-nil,
-      ap (option_and_then count_of) (not-given (value_of (codes "limit") rows) first.1),
-      ap (λ (o : Option Text). unwrap_or (option_and_then count_of o) 1000000) (not-given (value_of (codes "tries") rows) none.1),
+      ap (λ (o : Option Text). chars (unwrap_or o [])) (not-given (value_of AFTER.now rows) first.0) ∙ chars-nil,
+      ap (option_and_then count_of) (not-given (value_of LIMIT.now rows) first.1),
+      ap (λ (o : Option Text). unwrap_or (option_and_then count_of o) 1000000) (not-given (value_of TRIES.now rows) none.1),
     )
 
 no-file : (rows : List Row) → Rules rows → mode_of rows ≢ Variants → mode_of rows ≢ CheckTable → file_of rows ≡ []
 no-file rows r variants check =
-    let v = not-given (value_of (codes "variants") rows) (no-variants rows r variants) in
-    let k = not-given (value_of (codes "check-table") rows) (no-check rows r check) in
-    ap (λ (o : Option Text). unwrap_or o (unwrap_or (value_of (codes "check-table") rows) [])) v ∙ ap (λ (o : Option Text). unwrap_or o []) k
+    let v = not-given (value_of VARIANTS.now rows) (no-variants rows r variants) in
+    let k = not-given (value_of CHECK_TABLE.now rows) (no-check rows r check) in
+    ap (λ (o : Option Text). unwrap_or o (unwrap_or (value_of CHECK_TABLE.now rows) [])) v ∙ ap (λ (o : Option Text). unwrap_or o []) k
 
 alone : (rows : List Row) → Rules rows → mode_of rows ≡ CheckTable → strings_of rows ≡ []
 alone rows r is =
     let named = check-named _ _ _ _ is in
-    let none = second-test (not (has_value (codes "check-table") rows)) (not (has_strings rows)) r.alone (ap not named) in
+    let none = second-test (not (has_value CHECK_TABLE.now rows)) (not (has_strings rows)) r.alone (ap not named) in
     no-strings (strings_of rows) (false-where (has_strings rows) (λ some. let bad : false ≡ true = ap not (sym some) ∙ none in cc))
 
 pub suits_mode : (rows : List Row) → is_allowed rows ≡ true → SuitsMode (settings_of rows)

@@ -3,6 +3,7 @@
 use Rattle.std.specs.Prelude.{ℕ, ◌^◌, ◌-◌, Some, codes, true}
 use Rattle.clap.specs.Words.{App, Rule, Text, new_app, new_rule, with_rule}
 use Rattle.clap.specs.declared.builder.ArgAction.TheVariants.{SetTrue, Set, Append}
+use Rattle.idn2_cli.specs.declared.command_line.arguments.TheConstants.{AFTER, CHECK_TABLE, DECODE, LIMIT, LOOKUP, QUIET, REGISTER, STD3, STRINGS, TR46NT, TRIES, VARIANTS}
 
 -- a flag, `--name`
 abbrev pub flag_rule : Text → Rule
@@ -26,25 +27,25 @@ strings_rule name = record (new_rule name) {
 -- `-l`, `-r`, `-d`, `--variants FILE`, `--check-table FILE`
 abbrev pub with_modes : App → App
 with_modes a = with_rule (with_rule (with_rule (with_rule (with_rule a
-    (short_flag_rule (codes "lookup") 108))
-    (short_flag_rule (codes "register") 114))
-    (short_flag_rule (codes "decode") 100))
-    (value_rule (codes "variants")))
-    (value_rule (codes "check-table"))
+    (short_flag_rule LOOKUP.now 108))
+    (short_flag_rule REGISTER.now 114))
+    (short_flag_rule DECODE.now 100))
+    (value_rule VARIANTS.now))
+    (value_rule CHECK_TABLE.now)
 
 -- `-N`, `--usestd3asciirules`, `--quiet`
 abbrev pub with_switches : App → App
 with_switches a = with_rule (with_rule (with_rule a
-    (short_flag_rule (codes "tr46nt") 78))
-    (flag_rule (codes "usestd3asciirules")))
-    (flag_rule (codes "quiet"))
+    (short_flag_rule TR46NT.now 78))
+    (flag_rule STD3.now))
+    (flag_rule QUIET.now)
 
 -- `--after TEXT`, `--limit N`, `--tries N`
 abbrev pub with_bounds : App → App
 with_bounds a = with_rule (with_rule (with_rule a
-    (value_rule (codes "after")))
-    (value_rule (codes "limit")))
-    (value_rule (codes "tries"))
+    (value_rule AFTER.now))
+    (value_rule LIMIT.now))
+    (value_rule TRIES.now)
 
 -- a command of this name that has a version to show
 abbrev pub versioned_app : Text → App
@@ -53,4 +54,4 @@ versioned_app name = record (new_app name) { top = record (new_app name).top { h
 -- `idn2`; building it adds `-h`, `--help`, `-V` and `--version`
 unfoldable pub app : App
 app = with_rule (with_bounds (with_switches (with_modes (versioned_app (codes "idn2")))))
-    (strings_rule (codes "STRINGS"))
+    (strings_rule STRINGS.now)

@@ -10,14 +10,15 @@ use Rattle.idn2_cli.specs.Answers.{disposition}
 use Rattle.idn2_cli.specs.Words.{has_flag, has_value, is_allowed, mode_of}
 use Rattle.idn2_cli.specs.declared.command_line.mode.Mode.{Mode}
 use Rattle.idn2_cli.specs.declared.command_line.mode.Mode.TheVariants.{Lookup, Register, Decode, Variants, CheckTable}
+use Rattle.idn2_cli.specs.declared.command_line.arguments.TheConstants.{CHECK_TABLE, DECODE, LOOKUP, REGISTER, VARIANTS}
 
 -- a word of the command line names the mode
 abbrev pub is_named : Mode → List Row → Bool
-is_named Lookup rows = has_flag (codes "lookup") rows
-is_named Register rows = has_flag (codes "register") rows
-is_named Decode rows = has_flag (codes "decode") rows
-is_named Variants rows = has_value (codes "variants") rows
-is_named CheckTable rows = has_value (codes "check-table") rows
+is_named Lookup rows = has_flag LOOKUP.now rows
+is_named Register rows = has_flag REGISTER.now rows
+is_named Decode rows = has_flag DECODE.now rows
+is_named Variants rows = has_value VARIANTS.now rows
+is_named CheckTable rows = has_value CHECK_TABLE.now rows
 
 -- the mode is the one that is named, or lookup where none is; where two are named, the words are refused
 pub record ModeIsTheOneNamed : Type 0 where

@@ -18,6 +18,7 @@ use Rattle.idn2_cli.specs.declared.command_line.mode.Mode.{Mode}
 use Rattle.idn2_cli.specs.declared.command_line.mode.Mode.TheVariants.{Lookup, Register, Decode, Variants, CheckTable}
 use Rattle.idn2_cli.specs.declared.command_line.usage.Usage.{Usage}
 use Rattle.idn2_cli.specs.declared.command_line.usage.Usage.TheVariants.{Bad, Show, Memory}
+use Rattle.idn2_cli.specs.declared.command_line.arguments.TheConstants.{AFTER, CHECK_TABLE, DECODE, LIMIT, LOOKUP, REGISTER, STD3, STRINGS, TRIES, VARIANTS}
 
 -- ---- what `clap` found
 
@@ -35,7 +36,7 @@ has_value name rows = is_some (value_of name rows)
 
 -- the words that belong to no option
 abbrev pub strings_of : List Row → List Text
-strings_of rows = unwrap_or (all_of (codes "STRINGS") rows) []
+strings_of rows = unwrap_or (all_of STRINGS.now rows) []
 
 -- there are some
 abbrev pub has_strings : List Row → Bool
@@ -65,21 +66,21 @@ is_count_if_given name rows = option_map_or (λ text. is_some (count_of text)) (
 -- at most one of the five modes is named
 abbrev pub names_one_mode : List Row → Bool
 names_one_mode rows = nat_le (count_by (λ named. named)
-    (has_flag (codes "lookup") rows ∷ has_flag (codes "register") rows ∷ has_flag (codes "decode") rows
-    ∷ has_value (codes "variants") rows ∷ has_value (codes "check-table") rows ∷ [])) 1
+    (has_flag LOOKUP.now rows ∷ has_flag REGISTER.now rows ∷ has_flag DECODE.now rows
+    ∷ has_value VARIANTS.now rows ∷ has_value CHECK_TABLE.now rows ∷ [])) 1
 
 -- `--after`, `--limit` and `--tries` come with `--variants` alone
 abbrev pub bounds_variants : List Row → Bool
-bounds_variants rows = has_value (codes "variants") rows
-    || not (has_value (codes "after") rows || has_value (codes "limit") rows || has_value (codes "tries") rows)
+bounds_variants rows = has_value VARIANTS.now rows
+    || not (has_value AFTER.now rows || has_value LIMIT.now rows || has_value TRIES.now rows)
 
 -- `--limit` and `--tries` have a count
 abbrev pub has_counts : List Row → Bool
-has_counts rows = is_count_if_given (codes "limit") rows && is_count_if_given (codes "tries") rows
+has_counts rows = is_count_if_given LIMIT.now rows && is_count_if_given TRIES.now rows
 
 -- the text of `--after`, which is empty where it is left out
 abbrev pub start_of : List Row → Text
-start_of rows = unwrap_or (value_of (codes "after") rows) []
+start_of rows = unwrap_or (value_of AFTER.now rows) []
 
 -- that text has at most 1,024 bytes
 abbrev pub has_short_start : List Row → Bool
@@ -87,7 +88,7 @@ has_short_start rows = nat_le (length (start_of rows)) 1024
 
 -- `--check-table` comes without STRINGS
 abbrev pub checks_alone : List Row → Bool
-checks_alone rows = not (has_value (codes "check-table") rows) || not (has_strings rows)
+checks_alone rows = not (has_value CHECK_TABLE.now rows) || not (has_strings rows)
 
 -- all of these rules hold
 abbrev pub is_allowed : List Row → Bool
@@ -99,26 +100,26 @@ is_allowed rows =
 -- the mode that is named; lookup where none is
 abbrev pub mode_of : List Row → Mode
 mode_of rows =
-    if has_flag (codes "register") rows then Register
-    else (if has_flag (codes "decode") rows then Decode
-    else (if has_value (codes "variants") rows then Variants
-    else (if has_value (codes "check-table") rows then CheckTable
+    if has_flag REGISTER.now rows then Register
+    else (if has_flag DECODE.now rows then Decode
+    else (if has_value VARIANTS.now rows then Variants
+    else (if has_value CHECK_TABLE.now rows then CheckTable
     else Lookup)))
 
 -- the name of the table's file; empty where the mode has no table
 abbrev pub file_of : List Row → Text
-file_of rows = unwrap_or (value_of (codes "variants") rows) (unwrap_or (value_of (codes "check-table") rows) [])
+file_of rows = unwrap_or (value_of VARIANTS.now rows) (unwrap_or (value_of CHECK_TABLE.now rows) [])
 
 -- the options, part by part
 abbrev pub settings_of : List Row → Settings
 settings_of rows = record {
   mode = mode_of rows;
-  std3 = has_flag (codes "usestd3asciirules") rows;
+  std3 = has_flag STD3.now rows;
   file = file_of rows;
   strings = strings_of rows;
   after = chars (start_of rows);
-  limit = option_and_then count_of (value_of (codes "limit") rows);
-  tries = unwrap_or (option_and_then count_of (value_of (codes "tries") rows)) 1000000;
+  limit = option_and_then count_of (value_of LIMIT.now rows);
+  tries = unwrap_or (option_and_then count_of (value_of TRIES.now rows)) 1000000;
 }
 
 -- ---- the answer

@@ -4,11 +4,12 @@ use Rattle.clap.specs.Simple.{app_of_fields}
 use Rattle.idn2_cli.specs.CommandLine.{app, strings_rule, with_bounds, with_switches, with_modes}
 use Rattle.idn2_cli.proofs.AppLemmas.{IfOk-with_rule}
 use Rattle.idn2_cli.proofs.command_line.command.command.Goals as goal
+use Rattle.idn2_cli.specs.declared.command_line.arguments.TheConstants.{STRINGS}
 
 pub returns : goal.returns
 unfolding app
 returns c =
-    IfOk-with_rule c.with_strings.result _ _ (strings_rule (codes "STRINGS")) c.with_strings.ensures
+    IfOk-with_rule c.with_strings.result _ _ (strings_rule STRINGS.now) c.with_strings.ensures
     (c.in_ok-command-3.ensures ∙ ap with_bounds
     (c.in_ok-command-2.ensures ∙ ap with_switches
     (c.in_ok-command.ensures ∙ ap with_modes
