@@ -4,12 +4,12 @@ ghost use Rattle.std.specs.Prelude.{◌≡◌, ◌++◌, ◌↔◌, ℕ, List, [
 ghost use Rattle.idn_text.specs.Lines.{body_of};
 ghost use Rattle.idn_text.specs.inner.TakenLines.{kept};
 
-use crate::line_text::LineText;
+use arrayvec::ArrayVec;
 
 /// A line without its end: the line feed, and one carriage return before it, are left out.
 #[derive(Debug, Drop)]
 pub enum Body {
-    Text(LineText),
+    Text(ArrayVec<u8, 1024>),
     /// A line of more than 1,024 bytes, a carriage return at its end counted.
     TooLong,
 }
@@ -21,7 +21,7 @@ impl Body {
     pub(crate) fn new() -> Self
         ensures { bytes_of result ≡ kept [] }
     {
-        Body::Text(LineText::new())
+        Body::Text(ArrayVec::new())
     }
 
     /// Forgets the line.
@@ -39,7 +39,7 @@ impl Body {
         ensures { (line : List ℕ) → bytes_of self.old ≡ kept line → bytes_of self.new ≡ kept (line ++ bytes.now) }
     {
         if let Body::Text(text) = self
-            && !text.extend(bytes)
+            && text.try_extend_from_slice(bytes).is_err()
         {
             *self = Body::TooLong;
         }

@@ -7,7 +7,6 @@ mod device;
 pub mod hostile;
 mod input;
 pub mod laws;
-mod line_text;
 mod lines;
 mod point;
 mod refusal;
@@ -16,7 +15,6 @@ mod write;
 
 pub use body::Body;
 pub use device::{Device, DeviceFault, Sink, Source};
-pub use line_text::LineText;
 pub use lines::{Line, Lines, ReadFault};
 pub use point::{hex_point, is_point};
 pub use refusal::Refusal;
