@@ -125,6 +125,16 @@ def says_which_variants_are_blocked(folder):
     expect(["--variants", table, "ss"], b"", "ss\tss\tallocatable\nß\txn--zca\tallocatable\n#end 2\n".encode(), b"", 0)
 
 
+def says_it_for_labels_of_every_length(folder):
+    table = table_file(folder, b"%version 2\n0061|!0062\n")
+    labels = ["a" * length for length in range(1, 64)]
+    seconds = [label[1:] + "b" for label in labels]
+    blocks = (f"{label}\t{label}\tallocatable\n{second}\t{second}\tblocked\n#stop 2 {second}\n"
+              for label, second in zip(labels, seconds))
+    lines = "".join(label + "\n" for label in labels)
+    expect(["--variants", table, "--limit", "2"], lines.encode(), "".join(blocks).encode(), b"", 0)
+
+
 def resumes_where_it_stopped(folder):
     """Runs of five tries each, every one from the stop of the one before, list what one run lists."""
     words = ["--variants", table_file(folder, b"0061|002D\n")]
@@ -490,6 +500,7 @@ TESTS = [
     needs_only_the_c_library,
     lists_variants,
     says_which_variants_are_blocked,
+    says_it_for_labels_of_every_length,
     resumes_where_it_stopped,
     lists_any_number_of_lines_in_the_memory_of_ten,
     lists_what_sets_of_all_labels_list,
