@@ -3,21 +3,18 @@ use Rattle.std.proofs.Common.{◌≡◌, ◌≢◌, ℕ, ◌-◌, ◌≤◌, ◌
 use Rattle.std.proofs.lemmas.List.{append-nil}
 use Rattle.std.proofs.Math.Seq.{take-append_seam}
 use Rattle.std.specs.List.{onto_first, AllByRecursion}
-use Rattle.std.proofs.lemmas.List.Elements.{recursion_from_All, All-from_recursion}
+use Rattle.std.proofs.lemmas.List.Elements.{All-nil, All-cons, recursion_from_All, All-from_recursion}
 use Rattle.std.proofs.lemmas.Bool.Decides.{nat_tests}
 use Rattle.std.proofs.lemmas.Grind.{common_steps}
 use Rattle.idn_text.specs.Lines.{raw_lines, ended_lines, body_of, IsPlain, EndsInFeed, joined_lines, with_last_feed}
-use Rattle.idn_text.proofs.NumberingLemmas.{ended_lines-append, ended_lines-plain}
-
-plain_more : (c : ℕ) (line : List ℕ) → c ≢ 10 → IsPlain line → IsPlain (c ∷ line)
-plain_more c line other plain = All-from_recursion (λ byte. byte ≢ 10) (c ∷ line) (other, recursion_from_All (λ byte. byte ≢ 10) line plain)
+use Rattle.idn_text.proofs.NumberingLemmas.{raw_lines-some, raw_lines-then, ended_lines-append, ended_lines-plain}
 
 onto_plain : (c : ℕ) (lines : List (List ℕ)) → c ≢ 10 → AllByRecursion IsPlain lines → AllByRecursion IsPlain (onto_first c lines)
-onto_plain c [] other all = (plain_more c [] other (λ k d lt. absurd (omega arith)), tt)
-onto_plain c (line ∷ lines) other all = (plain_more c line other all.0, all.1)
+onto_plain c [] other all = (All-cons (λ byte. byte ≢ 10) c [] other (All-nil (λ byte. byte ≢ 10)), tt)
+onto_plain c (line ∷ lines) other all = (All-cons (λ byte. byte ≢ 10) c line other all.0, all.1)
 
 plain_step : (c : ℕ) (cs : List ℕ) (b : Bool) → eqb c 10 ≡ b → AllByRecursion IsPlain (raw_lines cs) → AllByRecursion IsPlain (cond b ([] ∷ raw_lines cs) (onto_first c (raw_lines cs)))
-plain_step c cs true e all = (λ k d lt. absurd (omega arith), all)
+plain_step c cs true e all = (All-nil (λ byte. byte ≢ 10), all)
 plain_step c cs false e all = onto_plain c (raw_lines cs) (λ is. cc (eq-eqb c 10 is, e)) all
 
 plain_lines : (text : List ℕ) → AllByRecursion IsPlain (raw_lines text)
@@ -32,21 +29,13 @@ joined-onto_first : (c : ℕ) (lines : List (List ℕ)) → lines ≢ [] → joi
 joined-onto_first c [] some = absurd (some refl)
 joined-onto_first c (line ∷ lines) some = refl
 
-some_lines : (c : ℕ) (cs : List ℕ) (b : Bool) → cond b ([] ∷ raw_lines cs) (onto_first c (raw_lines cs)) ≢ []
-some_lines c cs true e = cc
-some_lines c cs false e = some_onto c (raw_lines cs) e
-  where
-    some_onto : (c : ℕ) (lines : List (List ℕ)) → onto_first c lines ≢ []
-    some_onto c [] e = cc
-    some_onto c (line ∷ lines) e = cc
-
 joined_one : (c : ℕ) (b : Bool) → eqb c 10 ≡ b → joined_lines (cond b ([] ∷ []) ((c ∷ []) ∷ [])) ≡ cond b (c ∷ []) (c ∷ 10 ∷ [])
 joined_one c true e = ap (λ byte. byte ∷ []) (sym (eqb-true c 10 e))
 joined_one c false e = refl
 
 joined_step : (c d : ℕ) (ds : List ℕ) (b : Bool) → eqb c 10 ≡ b → joined_lines (raw_lines (d ∷ ds)) ≡ with_last_feed (d ∷ ds) → joined_lines (cond b ([] ∷ raw_lines (d ∷ ds)) (onto_first c (raw_lines (d ∷ ds)))) ≡ c ∷ with_last_feed (d ∷ ds)
 joined_step c d ds true e rest = ap (λ byte. byte ∷ joined_lines (raw_lines (d ∷ ds))) (sym (eqb-true c 10 e)) ∙ ap (λ bytes. c ∷ bytes) rest
-joined_step c d ds false e rest = joined-onto_first c (raw_lines (d ∷ ds)) (some_lines d ds (eqb d 10)) ∙ ap (λ bytes. c ∷ bytes) rest
+joined_step c d ds false e rest = joined-onto_first c (raw_lines (d ∷ ds)) (raw_lines-some d ds) ∙ ap (λ bytes. c ∷ bytes) rest
 
 -- the lines joined are the text
 pub joined-raw_lines : (text : List ℕ) → joined_lines (raw_lines text) ≡ with_last_feed text
@@ -54,17 +43,9 @@ joined-raw_lines [] = refl
 joined-raw_lines (c ∷ []) = joined_one c (eqb c 10) refl
 joined-raw_lines (c ∷ d ∷ ds) = joined_step c d ds (eqb c 10) refl (joined-raw_lines (d ∷ ds))
 
-not_feed : (c : ℕ) → c ≢ 10 → eqb c 10 ≡ false
-not_feed c other = grind (arith, nat_tests)
-
-line_then : (line more : List ℕ) → AllByRecursion (λ byte. byte ≢ 10) line → raw_lines (line ++ 10 ∷ more) ≡ line ∷ raw_lines more
-line_then [] more plain = refl
-line_then (c ∷ cs) more plain = rw (not_feed c plain.0) (ap (onto_first c) (line_then cs more plain.1))
-
 lines_then : (lines : List (List ℕ)) → AllByRecursion IsPlain lines → raw_lines (joined_lines lines) ≡ lines
 lines_then [] all = refl
-lines_then (line ∷ lines) all =
-    line_then line (joined_lines lines) (recursion_from_All (λ byte. byte ≢ 10) line all.0) ∙ ap (λ rest. line ∷ rest) (lines_then lines all.1)
+lines_then (line ∷ lines) all = raw_lines-then line (joined_lines lines) all.0 ∙ ap (λ rest. line ∷ rest) (lines_then lines all.1)
 
 -- the lines of lines joined
 pub raw_lines-joined : (lines : List (List ℕ)) → All IsPlain lines → raw_lines (joined_lines lines) ≡ lines

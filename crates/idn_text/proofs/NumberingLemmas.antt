@@ -24,7 +24,7 @@ cond-some : (b : Bool) (xs ys : List (List ℕ)) → xs ≢ [] → ys ≢ [] →
 cond-some true xs ys h g = h
 cond-some false xs ys h g = g
 
-raw_lines-some : (c : ℕ) (cs : List ℕ) → raw_lines (c ∷ cs) ≢ []
+pub raw_lines-some : (c : ℕ) (cs : List ℕ) → raw_lines (c ∷ cs) ≢ []
 raw_lines-some c cs = cond-some (eqb c 10) _ _ (λ e. cc) (onto_first-some c (raw_lines cs))
 
 cond-append : (b : Bool) (xs ys zs us vs : List (List ℕ)) → us ≡ xs ++ zs → vs ≡ ys ++ zs → cond b us vs ≡ cond b xs ys ++ zs
@@ -49,9 +49,9 @@ ended_lines-append (c ∷ d ∷ ds) more h =
 not_feed : (c : ℕ) → c ≢ 10 → eqb c 10 ≡ false
 not_feed c other = grind (arith, nat_tests)
 
-plain_feed : (line : List ℕ) → AllByRecursion (λ byte. byte ≢ 10) line → raw_lines (line ++ 10 ∷ []) ≡ line ∷ []
-plain_feed [] h = refl
-plain_feed (c ∷ cs) h = rw (not_feed c h.0) (ap (onto_first c) (plain_feed cs h.1))
+plain_then : (line more : List ℕ) → AllByRecursion (λ byte. byte ≢ 10) line → raw_lines (line ++ 10 ∷ more) ≡ line ∷ raw_lines more
+plain_then [] more h = refl
+plain_then (c ∷ cs) more h = rw (not_feed c h.0) (ap (onto_first c) (plain_then cs more h.1))
 
 plain_rest : (c : ℕ) (cs : List ℕ) → AllByRecursion (λ byte. byte ≢ 10) (c ∷ cs) → raw_lines (c ∷ cs) ≡ (c ∷ cs) ∷ []
 plain_rest c [] h = rw (not_feed c h.0) refl
@@ -65,13 +65,13 @@ plain_ended : (line : List ℕ) → AllByRecursion (λ byte. byte ≢ 10) line �
 plain_ended [] h = refl
 plain_ended (c ∷ cs) h = rw (not_feed c h.0) (ap (onto_ended c) (plain_ended cs h.1))
 
--- a line with its line feed is one line
-pub raw_lines-line : (line : List ℕ) → All (λ byte. byte ≢ 10) line → raw_lines (line ++ 10 ∷ []) ≡ line ∷ []
-raw_lines-line line plain = plain_feed line (recursion_from_All (λ byte. byte ≢ 10) line plain)
+-- a line with its line feed comes before the lines of what follows
+pub raw_lines-then : (line more : List ℕ) → All (λ byte. byte ≢ 10) line → raw_lines (line ++ 10 ∷ more) ≡ line ∷ raw_lines more
+raw_lines-then line more plain = plain_then line more (recursion_from_All (λ byte. byte ≢ 10) line plain)
 
--- so is a rest that is not empty
-pub raw_lines-rest : (line : List ℕ) → line ≢ [] → All (λ byte. byte ≢ 10) line → raw_lines (line ++ []) ≡ line ∷ []
-raw_lines-rest line some plain = rw append-nil (plain_some line some (recursion_from_All (λ byte. byte ≢ 10) line plain))
+-- a rest that is not empty is one line
+pub raw_lines-rest : (line : List ℕ) → line ≢ [] → All (λ byte. byte ≢ 10) line → raw_lines line ≡ line ∷ []
+raw_lines-rest line some plain = plain_some line some (recursion_from_All (λ byte. byte ≢ 10) line plain)
 
 -- nothing without a line feed is a line that one ends
 pub ended_lines-plain : (line : List ℕ) → All (λ byte. byte ≢ 10) line → ended_lines line ≡ []

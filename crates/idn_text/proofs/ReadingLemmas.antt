@@ -9,7 +9,7 @@ use Rattle.idn_text.specs.declared.lines.State.TheVariants.{Open, Ended, Stopped
 use Rattle.idn_text.specs.Reading.{Reading, IsUnread, AreLines, HasRead, idle_reads}
 use Rattle.idn_text.proofs.KnownBytesLemmas.{consumes_join, consumes_nothing}
 use Rattle.idn_text.proofs.TakingLemmas.{fails_from}
-use Rattle.idn_text.proofs.NumberingLemmas.{raw_lines-line, raw_lines-rest, ended_lines-rest, EndsInFeed-line, lines_of_more, ended_lines_of_more, too_many_lines}
+use Rattle.idn_text.proofs.NumberingLemmas.{raw_lines-then, raw_lines-rest, ended_lines-rest, EndsInFeed-line, lines_of_more, ended_lines_of_more, too_many_lines}
 
 -- nothing was read yet
 pub has_read_nothing : (start : Reading) → IsUnread start → HasRead start start [] []
@@ -53,7 +53,7 @@ has_line start old new given line lines has is_open takes no_fault few number st
       counted = omega (arith, length-append lines (record { number = old.number + 1; body = body_of line } ∷ []));
       few = omega arith;
       read = subst (λ (s : State). AreLines s start.input new.input after now) (sym still)
-          (lines_of_more given line (10 ∷ []) lines old.number read.1 read.0 counted (raw_lines-line line takes.plain), EndsInFeed-line given line);
+          (lines_of_more given line (10 ∷ []) lines old.number read.1 read.0 counted (raw_lines-then line [] takes.plain), EndsInFeed-line given line);
     }
 
 -- the last line, which no line feed ends
@@ -72,7 +72,7 @@ has_last start old new given line lines has is_open takes some at_end no_fault f
       counted = omega (arith, length-append lines (record { number = old.number + 1; body = body_of line } ∷ []));
       few = omega arith;
       read = subst (λ (s : State). AreLines s start.input new.input after now) (sym still)
-          (lines_of_more given line [] lines old.number read.1 read.0 counted (raw_lines-rest line some takes.plain), at_end);
+          (lines_of_more given line [] lines old.number read.1 read.0 counted (rw append-nil (raw_lines-rest line some takes.plain)), at_end);
     }
 
 -- a reader that failed
@@ -120,8 +120,8 @@ has_too_many start old new given line lines has_feed has is_open takes no_fault 
     }
   where
     one_line : (line : List ℕ) (has_feed : Bool) → All (λ byte. byte ≢ 10) line → (has_feed ≡ false → line ≢ []) → raw_lines (line ++ cond has_feed (10 ∷ []) []) ≡ line ∷ []
-    one_line line true plain some = raw_lines-line line plain
-    one_line line false plain some = raw_lines-rest line (some refl) plain
+    one_line line true plain some = raw_lines-then line [] plain
+    one_line line false plain some = rw append-nil (raw_lines-rest line (some refl) plain)
 
     at_most_once : (has_feed : Bool) → cond has_feed 0 1 ≤ 1
     at_most_once true = omega arith

@@ -1,11 +1,12 @@
 -- Taking bytes from the front of what a reader gave.
-use Rattle.std.proofs.Common.{◌≡◌, ◌≢◌, ℕ, suc, inl, inr, ◌+◌, ◌-◌, ◌≤◌, ◌<◌, List, [], ◌∷◌, ◌++◌, All, take, drop, length, slice_range, get_or, sym, ap, subst, ◌∙◌, append_assoc, drop-drop, zero-le, eq-eqb, eqb-true, length-take, length-drop, length-append, arith}
-use Rattle.std.proofs.lemmas.List.{take_all, append-nil, drop-take, take_more, get_or_default, get_or-take}
+use Rattle.std.proofs.Common.{◌≡◌, ◌≢◌, ℕ, suc, inl, inr, ◌+◌, ◌-◌, ◌≤◌, List, [], ◌∷◌, ◌++◌, take, drop, length, slice_range, sym, ap, subst, ◌∙◌, append_assoc, drop-drop, length-take, length-drop, length-append, arith}
+use Rattle.std.proofs.lemmas.List.{take_all, append-nil, drop-take}
 use Rattle.std.proofs.lemmas.List.Elements.{All-append}
-use Rattle.memchr.specs.Find.{Nowhere, NoneBefore, Passes, is_byte}
+use Rattle.std.proofs.Math.Seq.{take-append_seam}
 use Rattle.std.specs.Io.KnownBytes.{Consumes, Keeps}
 use Rattle.std.specs.Option.{option_map}
 use Rattle.idn_text.specs.Taking.{Input, left, HasFailed}
+use Rattle.idn_text.specs.Lines.{IsPlain}
 use Rattle.idn_text.specs.inner.TakenLines.{Takes}
 use Rattle.idn_text.proofs.KnownBytesLemmas.{consumes_front, consumes_join, consumes_kept, consumes_nothing}
 
@@ -16,39 +17,31 @@ slice_range_later bytes start stop n h =
     let count : stop - start ≡ n + m = omega (arith, h, length-take (stop - start) (drop start bytes)) in
     sym (ap (λ k. drop n (take k (drop start bytes))) count ∙ drop-take n m (drop start bytes) ∙ ap (take m) (drop-drop n start bytes))
 
--- the bytes that a search for a line feed passed are none
-plain_take : (bytes : List ℕ) (i j : ℕ) → Nowhere (Passes (is_byte 10) bytes) 0 j → length (take i bytes) ≤ j → All (λ byte. byte ≢ 10) (take i bytes)
-plain_take bytes i j none le = λ k d lt is.
-    let short = length-take i bytes in
-    let below : k < i = omega arith in
-    let within : k < length bytes = omega arith in
-    let read : get_or bytes k 0 ≡ 10 = get_or_default bytes k 0 d within ∙ sym (get_or-take i bytes k d below) ∙ is in
-    none k zero-le (omega arith) (eq-eqb _ _ read)
-
 -- what stands before the first line feed, and the line feed
-pub takes_ended : (old new : Input) (k : ℕ) → NoneBefore (Passes (is_byte 10) old.held) 0 (length old.held) k → Passes (is_byte 10) old.held k → new ≡ record old { held = drop (k + 1) old.held } → Takes old new (take k old.held) (10 ∷ []) 0
-takes_ended old new k first here e =
-    let feed : get_or old.held k 0 ≡ 10 = eqb-true _ _ here in
-    let split : take (k + 1) old.held ≡ take k old.held ++ 10 ∷ [] = take_more old.held k 0 first.high ∙ ap (λ byte. take k old.held ++ byte ∷ []) feed in
-    let count : length (take k old.held ++ 10 ∷ []) ≡ k + 1 = omega (arith, first.high, length-append (take k old.held) (10 ∷ []), length-take k old.held) in
-    let rest = length-drop (k + 1) old.held in
-    let after : Input = record old { held = drop (k + 1) old.held } in
-    subst (λ (n : Input). Takes old n (take k old.held) (10 ∷ []) 0) (sym e) (let is : Takes old after (take k old.held) (10 ∷ []) 0 = record {
-      plain = plain_take old.held k k first.before (omega (arith, length-take k old.held));
-      taken = subst (Consumes (left old) (left after)) split (consumes_front old.reader.remaining old.held (k + 1));
-      asked = omega (arith, first.high);
+pub takes_ended : (old new : Input) (line rest : List ℕ) → IsPlain line → old.held ≡ line ++ 10 ∷ rest → new ≡ record old { held = drop (length line + 1) old.held } → Takes old new line (10 ∷ []) 0
+takes_ended old new line rest plain split e =
+    let n = length line + 1 in
+    let count : length (line ++ 10 ∷ []) ≡ n = length-append line (10 ∷ []) in
+    let all = ap length split ∙ length-append line (10 ∷ rest) in
+    let front : take n old.held ≡ line ++ 10 ∷ [] =
+    ap (take n) (split ∙ sym (append_assoc line (10 ∷ []) rest)) ∙ ap (λ k. take k ((line ++ 10 ∷ []) ++ rest)) (sym count) ∙ take-append_seam (line ++ 10 ∷ []) rest in
+    let after : Input = record old { held = drop n old.held } in
+    subst (λ (m : Input). Takes old m line (10 ∷ []) 0) (sym e) (let is : Takes old after line (10 ∷ []) 0 = record {
+      plain = plain;
+      taken = subst (Consumes (left old) (left after)) front (consumes_front old.reader.remaining old.held n);
+      asked = omega (arith, count, all, length-drop n old.held);
       called = omega arith;
     } in is)
 
 -- all that is held, where it has no line feed
-pub takes_all : (old new : Input) → Nowhere (Passes (is_byte 10) old.held) 0 (length old.held) → new ≡ record old { held = drop (length old.held) old.held } → Takes old new old.held [] 0
-takes_all old new none e =
+pub takes_all : (old new : Input) → IsPlain old.held → new ≡ record old { held = drop (length old.held) old.held } → Takes old new old.held [] 0
+takes_all old new plain e =
     let n = length old.held in
     let all : take n old.held ≡ old.held = take_all n old.held (omega arith) in
     let count : length (old.held ++ []) ≡ n = ap length (append-nil old.held) in
     let after : Input = record old { held = drop n old.held } in
     subst (λ (m : Input). Takes old m old.held [] 0) (sym e) (let is : Takes old after old.held [] 0 = record {
-      plain = subst (All (λ byte. byte ≢ 10)) all (plain_take old.held n n none (omega (arith, length-take n old.held)));
+      plain = plain;
       taken = subst (Consumes (left old) (left after)) (all ∙ sym (append-nil old.held)) (consumes_front old.reader.remaining old.held n);
       asked = omega arith;
       called = omega arith;

@@ -1,5 +1,5 @@
 -- The lines of a text, of whatever reader or table it comes.
-use Rattle.std.specs.Prelude.{◌≡◌, ◌≢◌, ℕ, ◌+◌, ◌==◌, nat_lt, List, [], ◌∷◌, ◌++◌, length, Option, Some, None, All, if◌then◌else◌}
+use Rattle.std.specs.Prelude.{◌≡◌, ◌≢◌, ℕ, ◌+◌, ◌==◌, Bool, nat_lt, List, [], ◌∷◌, ◌++◌, length, Option, Some, None, All, if◌then◌else◌}
 use Rattle.std.specs.List.{onto_first}
 use Rattle.std.specs.Str.Lines.{strip_carriage_return}
 
@@ -39,9 +39,13 @@ with_last_feed [] = []
 with_last_feed (c ∷ []) = if c == 10 then c ∷ [] else c ∷ 10 ∷ []
 with_last_feed (c ∷ d ∷ ds) = c ∷ with_last_feed (d ∷ ds)
 
--- the body of a line: none over 1,024 bytes, else the line less one carriage return at its end
+-- more than 1,024 bytes, a carriage return at the end counted
+abbrev pub is_long_line : List ℕ → Bool
+is_long_line line = nat_lt 1024 (length line)
+
+-- the body of a line: none where the line is too long, else the line less one carriage return at its end
 abbrev pub body_of : List ℕ → Option (List ℕ)
-body_of line = if nat_lt 1024 (length line) then None else Some (strip_carriage_return line)
+body_of line = if is_long_line line then None else Some (strip_carriage_return line)
 
 -- a line's number and its body, none where the line is too long
 pub record Numbered : Type 0 where

@@ -4,12 +4,16 @@ ghost use Rattle.std.specs.Prelude.{◌≡◌, ◌++◌, ◌↔◌, ℕ, List, [
 ghost use Rattle.idn_text.specs.Lines.{body_of};
 ghost use Rattle.idn_text.specs.inner.TakenLines.{kept};
 
+use crate::text_lines::without_carriage_return;
 use arrayvec::ArrayVec;
+
+/// The most bytes of a line, a carriage return at its end counted.
+pub const MAX_LINE_LEN: usize = 1024;
 
 /// A line without its end: the line feed, and one carriage return before it, are left out.
 #[derive(Debug, Drop)]
 pub enum Body {
-    Text(ArrayVec<u8, 1024>),
+    Text(ArrayVec<u8, MAX_LINE_LEN>),
     /// A line of more than 1,024 bytes, a carriage return at its end counted.
     TooLong,
 }
@@ -56,10 +60,8 @@ impl Body {
     pub(crate) fn drop_carriage_return(&mut self)
         ensures { (line : List ℕ) → bytes_of self.old ≡ kept line → bytes_of self.new ≡ body_of line }
     {
-        if let Body::Text(text) = self
-            && text.last() == Some(&b'\r')
-        {
-            text.pop();
+        if let Body::Text(text) = self {
+            text.truncate(without_carriage_return(text).len());
         }
     }
 }

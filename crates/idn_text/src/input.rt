@@ -8,7 +8,7 @@ ghost use Rattle.idn_text.specs.inner.TakenLines as inner;
 use crate::body::Body;
 use crate::device::{DeviceFault, Source};
 use crate::lines::ReadFault;
-use memchr::memchr;
+use crate::text_lines::split_at_feed;
 use std::marker::Model;
 
 /// The most read calls.
@@ -86,10 +86,11 @@ impl<R: Source> Input<R> {
             × ((before : List ℕ) → bytes_of body.old ≡ inner.kept before → bytes_of body.new ≡ inner.kept (before ++ line)) }
     {
         let held = self.held();
-        match memchr(b'\n', held) {
-            Some(end) => {
-                body.extend(&held[..end]);
-                self.advance(end + 1);
+        match split_at_feed(held) {
+            Some((line, _)) => {
+                let len = line.len() + 1;
+                body.extend(line);
+                self.advance(len);
                 true
             }
             None => {

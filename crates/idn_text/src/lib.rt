@@ -1,5 +1,6 @@
-//! Text as the other crates take it and give it: code points and their UTF-8, the numbered lines of
-//! a reader, pieces written to a writer, and the numbers and texts of all refusals.
+//! Text as the other crates take it and give it: code points and their UTF-8, the lines of a text,
+//! the numbered lines of a reader, pieces written to a writer, and the numbers and texts of all
+//! refusals.
 #![tactic(auto)]
 
 mod body;
@@ -10,13 +11,15 @@ pub mod laws;
 mod lines;
 mod point;
 mod refusal;
+mod text_lines;
 mod utf8;
 mod write;
 
-pub use body::Body;
+pub use body::{Body, MAX_LINE_LEN};
 pub use device::{Device, DeviceFault, Sink, Source};
 pub use lines::{Line, Lines, ReadFault};
 pub use point::{hex_point, is_point};
 pub use refusal::Refusal;
+pub use text_lines::{TextLines, without_carriage_return};
 pub use utf8::{NotUtf8, decode_points, push_points, write_points};
 pub use write::{WriteFault, write_text};

@@ -1,21 +1,22 @@
 -- The canonical text of a well-formed table spells that table.
-use Rattle.std.proofs.Common.{◌≡◌, ℕ, zero, suc, ◌+◌, ◌*◌, ◌-◌, ◌<◌, ◌≤◌, Bool, true, false, cond, eqb, List, [], ◌∷◌, ◌++◌, length, map, get_or, take, inl, inr, refl, sym, ap, subst, ◌∙◌, append_assoc, arith, length-append}
-use Rattle.std.specs.List.{AllByRecursion, onto_first, list_all, flat_map}
+use Rattle.std.proofs.Common.{◌≡◌, ◌≢◌, ℕ, zero, suc, ◌+◌, ◌*◌, ◌-◌, ◌<◌, ◌≤◌, Bool, true, false, cond, eqb, List, [], ◌∷◌, ◌++◌, length, map, get_or, take, inl, inr, refl, sym, ap, subst, ◌∙◌, append_assoc, arith, length-append, eq-eqb}
+use Rattle.std.specs.List.{AllByRecursion, list_all, flat_map}
 use Rattle.std.specs.Str.Lines.{strip_carriage_return}
 use Rattle.std.specs.Prelude.{bytes_eq}
 use Rattle.std.proofs.lemmas.Bool.{leb-true, and_parts, false_from_ne_true}
 use Rattle.std.proofs.lemmas.Slice.Eq.{bytes_eq-Decides}
-use Rattle.std.proofs.lemmas.List.Elements.{All-from_recursion, recursion_from_All}
-use Rattle.idn_text.specs.Lines.{raw_lines}
+use Rattle.std.proofs.lemmas.List.Elements.{All-from_recursion, recursion_from_All, All-weaker}
+use Rattle.idn_text.specs.Lines.{raw_lines, IsPlain}
+use Rattle.idn_text.proofs.NumberingLemmas.{raw_lines-then}
 use Rattle.idn_text.specs.Points.{is_hex_digit}
 use Rattle.variant_table.specs.declared.token.Token.{Token}
 use Rattle.variant_table.specs.declared.token.Token.TheVariants.{Point, Hyphen, Bar, Colon, Mark, Range, Unknown}
 use Rattle.variant_table.specs.declared.version.Version.{Version}
 use Rattle.variant_table.specs.declared.version.Version.TheVariants.{One, Two}
 use Rattle.variant_table.specs.Entries.{Variant, Entry, IsOfVersion, TableValue, sequences_in, replacements}
-use Rattle.variant_table.specs.Notation.{mark_tokens, further_points, sequence_tokens, variant_tokens, further_variants, variants_tokens, entry_tokens, IsTokenText, SpellsTokens, IsEntryLine}
+use Rattle.variant_table.specs.Notation.{mark_tokens, further_points, sequence_tokens, further_variants, variants_tokens, entry_tokens, IsTokenText, SpellsTokens, IsEntryLine}
 use Rattle.variant_table.specs.Canonical.{point_text, token_text, canonical_line, canonical_text, version_line, head_text, table_text}
-use Rattle.variant_table.specs.WellFormed.{IsSequence, IsEntry, IsWellFormed, IsTable}
+use Rattle.variant_table.specs.WellFormed.{IsSequence, IsEntry, IsTable}
 use Rattle.variant_table.specs.Versions.{version_of, head_of, body_of, size_of, is_version_line}
 use Rattle.variant_table.specs.Texts.{LinesSpell, AreLinesOf, IsTextOf}
 use Rattle.variant_table.proofs.HexLemmas.{hex_facts, other_than, point_of_hex-text, length-point_text}
@@ -91,10 +92,8 @@ texts_in_line (Mark ∷ tokens) h = ((refl, refl), texts_in_line tokens h.1)
 texts_in_line (Range ∷ tokens) h = ((refl, refl), ((refl, refl), texts_in_line tokens h.1))
 texts_in_line (Unknown ∷ tokens) h = absurd h.0
 
-raw_lines-line : (line rest : List ℕ) → AllByRecursion IsInLine line → raw_lines (line ++ 10 ∷ rest) ≡ line ∷ raw_lines rest
-raw_lines-line [] rest h = refl
-raw_lines-line (c ∷ cs) rest h =
-    ap (λ b. cond b ([] ∷ raw_lines (cs ++ 10 ∷ rest)) (onto_first c (raw_lines (cs ++ 10 ∷ rest)))) h.0.0 ∙ ap (onto_first c) (raw_lines-line cs rest h.1)
+plain_line : (line : List ℕ) → AllByRecursion IsInLine line → IsPlain line
+plain_line line h = All-weaker IsInLine (λ b. b ≢ 10) (λ b other is. cc (eq-eqb b 10 is, other.0)) line (All-from_recursion IsInLine line h)
 
 no_return : (line : List ℕ) (i : ℕ) → AllByRecursion IsInLine line → eqb (get_or line i 0) 13 ≡ false
 no_return [] i h = refl
@@ -173,7 +172,7 @@ length-canonical_line e h of = omega (arith, length-by_marks e h, marked-none e.
 -- ---- the text
 
 cut_entry : (e : Entry) (rest : List ℕ) → IsEntry e → raw_lines ((canonical_line e ++ 10 ∷ []) ++ rest) ≡ canonical_line e ∷ raw_lines rest
-cut_entry e rest h = ap raw_lines (append_assoc (canonical_line e) (10 ∷ []) rest) ∙ raw_lines-line (canonical_line e) rest (texts_in_line (entry_tokens e) (entry_scalar_tokens e h))
+cut_entry e rest h = ap raw_lines (append_assoc (canonical_line e) (10 ∷ []) rest) ∙ raw_lines-then (canonical_line e) rest (plain_line (canonical_line e) (texts_in_line (entry_tokens e) (entry_scalar_tokens e h)))
 
 raw_lines-canonical : (table : List Entry) → AllByRecursion IsEntry table → raw_lines (canonical_text table) ≡ map canonical_line table
 raw_lines-canonical [] h = refl

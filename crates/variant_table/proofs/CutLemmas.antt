@@ -8,7 +8,7 @@ use Rattle.variant_table.specs.declared.token.Token.TheVariants.{Point, Hyphen, 
 use Rattle.variant_table.specs.Faults.{LineFault}
 use Rattle.idn_text.specs.Points.{point_of_hex}
 use Rattle.variant_table.specs.Tokens.{is_blank, is_separator, is_full_stop, is_word_end, is_word_byte, begins_in_word, begins_in_stops, is_joined, lexemes, lexeme_token, stops_token, without_prefix, word_token, point_token, tokens_of}
-use Rattle.variant_table.specs.Entries.{Variant, sequences_in, replacements}
+use Rattle.variant_table.specs.Entries.{Variant, replacements}
 use Rattle.variant_table.specs.Reading.{begun, longer, sequences_after, sequences_of, entry_from}
 use Rattle.variant_table.proofs.HexLemmas.{and_parts, or_parts}
 use Rattle.variant_table.proofs.TokenLemmas.{blank_no_stop}

@@ -2,7 +2,7 @@
 use Rattle.std.proofs.Common.{◌≡◌, ℕ, Bool, true, false, List, [], ◌∷◌, ◌++◌, Result, Ok, Err, ap, ◌∙◌}
 use Rattle.std.specs.Prelude.{OnErr}
 use Rattle.variant_table.specs.declared.token.Token.{Token}
-use Rattle.variant_table.specs.declared.token.Token.TheVariants.{Point, Hyphen, Bar, Colon, Mark}
+use Rattle.variant_table.specs.declared.token.Token.TheVariants.{Point, Hyphen, Bar, Colon}
 use Rattle.variant_table.specs.Faults.{LineFault}
 use Rattle.variant_table.specs.Entries.{Variant}
 use Rattle.variant_table.specs.Notation.{mark_tokens}

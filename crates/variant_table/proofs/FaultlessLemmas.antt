@@ -1,6 +1,6 @@
 -- Lines without a fault are read as what they spell, and other lines up to the first faulty one.
-use Rattle.std.proofs.Common.{◌≡◌, ◌⊎◌, inl, inr, ℕ, suc, ◌+◌, ◌-◌, ◌≤◌, Bool, true, false, ◌||◌, cond, eqb, List, [], ◌∷◌, ◌++◌, length, take, Result, Ok, Err, refl, sym, ap, subst, ◌∙◌, arith, append_assoc, length-append, length-take}
-use Rattle.std.specs.Prelude.{nat_lt, bytes_eq, slice_index}
+use Rattle.std.proofs.Common.{◌≡◌, ◌⊎◌, inl, inr, ℕ, suc, ◌+◌, ◌≤◌, Bool, true, false, ◌||◌, cond, List, [], ◌∷◌, ◌++◌, length, Result, Ok, Err, refl, sym, ap, subst, ◌∙◌, arith, append_assoc, length-append}
+use Rattle.std.specs.Prelude.{nat_lt, bytes_eq}
 use Rattle.std.specs.List.{AllByRecursion, list_any}
 use Rattle.std.specs.Str.Lines.{strip_carriage_return}
 use Rattle.std.proofs.lemmas.Bool.{ltb-false, le-ltb, or_parts, or_from}
@@ -19,10 +19,10 @@ use Rattle.variant_table.specs.WellFormed.{IsEntry, IsWellFormed, IsTable}
 use Rattle.variant_table.specs.Conditions.{is_too_long, is_too_large, is_text_too_long, has_bad_class, has_repeat, has_source_in}
 use Rattle.variant_table.specs.Texts.{LineSpells, LinesSpell, AreLinesOf, IsTextOf}
 use Rattle.variant_table.specs.Reading.{◌>>=◌, in_line, with_entries, with_line, with_raw_line, with_lines, table_from, table_of_lines, table_of_text}
-use Rattle.variant_table.proofs.FormLemmas.{Spells, skipped, of_entries, formless, form_of, with_line-skipped, with_line-entries, with_line-formless, LineSpells-skipped, none, some, spelling_of}
+use Rattle.variant_table.proofs.FormLemmas.{skipped, of_entries, formless, form_of, with_line-skipped, with_line-entries, with_line-formless, LineSpells-skipped, none, some, spelling_of}
 use Rattle.variant_table.proofs.ConditionLemmas.{small_from_entry, good_from_entry, single_from_entry, AreNewSources, distinct_sources, new_sources, no_sources, sound_spelled}
 use Rattle.variant_table.proofs.ExampleLemmas.{with_entries-by}
-use Rattle.variant_table.proofs.SizeLemmas.{canonical_text_long, size_of-cons}
+use Rattle.variant_table.proofs.SizeLemmas.{length-stripped, canonical_text_long, size_of-cons}
 
 abbrev pub Whole : Type 0
 Whole = Result (List Entry) (ℕ × LineFault)
@@ -322,18 +322,11 @@ outcome v (line ∷ lines) n bytes t = outcome_at v n bytes t line lines (with_r
 
 -- ---- the version line
 
-stripped_short : (line : List ℕ) → length line ≤ length (strip_carriage_return line) + 1
-stripped_short line = by_cases (eqb (slice_index line (length line - 1)) 13)
-  where
-    by_cases : (b : Bool) → length line ≤ length (cond b (take (length line - 1) line) line) + 1
-    by_cases true = omega (arith, length-take (length line - 1) line)
-    by_cases false = omega arith
-
 head_by : (line : List ℕ) (b : Bool) → is_version_line line ≡ b → size_of (cond b (line ∷ []) []) ≤ 12
 head_by line false e = omega arith
 head_by line true e =
     let same : strip_carriage_return line ≡ version_line = (bytes_eq-Decides (strip_carriage_return line) version_line).0 e in
-    omega (arith, size_of-cons line [], stripped_short line, ap length same)
+    omega (arith, size_of-cons line [], (length-stripped line).1, ap length same)
 
 -- the version line with its line feed has at most 12 bytes
 pub head_small : (lines : List (List ℕ)) → size_of (head_of lines) ≤ 12

@@ -1,7 +1,5 @@
 -- One element of a list, and what follows it.
 pub mod ListLemmas
--- The first line of a text, and what follows it.
-pub mod LineLemmas
 -- The first token of a line.
 pub mod TokenLemmas
 -- A blank line or a comment.

@@ -1,12 +1,12 @@
 -- The entries of a range, one by one.
-use Rattle.std.proofs.Common.{◌≡◌, ℕ, zero, suc, ◌+◌, ◌-◌, ◌<◌, ◌≤◌, Bool, true, false, ◌||◌, cond, List, [], ◌∷◌, ◌++◌, length, map, Result, Ok, Err, refl, sym, ap, ◌∙◌, arith, append_assoc, length-append}
+use Rattle.std.proofs.Common.{◌≡◌, ℕ, suc, ◌+◌, ◌-◌, ◌<◌, ◌≤◌, Bool, true, false, ◌||◌, cond, List, [], ◌∷◌, ◌++◌, length, map, Ok, Err, refl, sym, ap, ◌∙◌, arith, append_assoc, length-append}
 use Rattle.std.specs.Prelude.{bytes_eq}
 use Rattle.std.specs.List.{range_with_len, list_any}
 use Rattle.std.proofs.lemmas.List.{append-nil}
-use Rattle.variant_table.specs.Faults.{LineFault, SameSource}
+use Rattle.variant_table.specs.Faults.{SameSource}
 use Rattle.variant_table.specs.Entries.{Entry}
 use Rattle.variant_table.specs.Canonical.{point_text, canonical_line, canonical_text}
-use Rattle.variant_table.specs.Conditions.{is_too_large, has_bad_class, has_repeat, has_source_in}
+use Rattle.variant_table.specs.Conditions.{is_too_large, has_repeat, has_source_in}
 use Rattle.variant_table.specs.Ranges.{point_entry}
 use Rattle.variant_table.specs.Reading.{◌>>=◌}
 use Rattle.variant_table.specs.inner.ReadingSteps.{with_new_source, with_new_sources}

@@ -90,12 +90,12 @@ tokens_long [] line s = omega arith
 tokens_long (token ∷ tokens) line s =
     omega (arith, length-append (token_text token) (tokens_text tokens), token_long token s.1 s.4, tokens_long tokens s.2 s.5, ap length s.6, length-append s.0 (s.1 ++ s.2), length-append s.1 s.2)
 
-stripped_long : (line : List ℕ) → length (strip_carriage_return line) ≤ length line
-stripped_long line = by_cases (eqb (slice_index line (length line - 1)) 13)
+pub length-stripped : (line : List ℕ) → (length (strip_carriage_return line) ≤ length line) × (length line ≤ length (strip_carriage_return line) + 1)
+length-stripped line = by_cases (eqb (slice_index line (length line - 1)) 13)
   where
-    by_cases : (b : Bool) → length (cond b (take (length line - 1) line) line) ≤ length line
-    by_cases true = omega (arith, length-take (length line - 1) line)
-    by_cases false = omega arith
+    by_cases : (b : Bool) → (length (cond b (take (length line - 1) line) line) ≤ length line) × (length line ≤ length (cond b (take (length line - 1) line) line) + 1)
+    by_cases true = let count = length-take (length line - 1) line in (omega (arith, count), omega (arith, count))
+    by_cases false = (omega arith, omega arith)
 
 pub canonical_line_long : (e : Entry) (line : List ℕ) → IsEntryLine e line → length (canonical_line e) ≤ length line
 canonical_line_long e line h = tokens_long (entry_tokens e) line h.1
@@ -103,7 +103,7 @@ canonical_line_long e line h = tokens_long (entry_tokens e) line h.1
 -- in version 1 no line spells a range
 spelled_long : (line : List ℕ) (entries : List Entry) → Spells One (strip_carriage_return line) entries → length (canonical_text entries) ≤ length line + 1
 spelled_long line entries (inl h) =
-    omega (arith, ap (λ es. length (canonical_text es)) h.3, canonical_line_long h.0 (strip_carriage_return line) h.1, stripped_long line, length-append (canonical_line h.0 ++ 10 ∷ []) [], length-append (canonical_line h.0) (10 ∷ []))
+    omega (arith, ap (λ es. length (canonical_text es)) h.3, canonical_line_long h.0 (strip_carriage_return line) h.1, (length-stripped line).0, length-append (canonical_line h.0 ++ 10 ∷ []) [], length-append (canonical_line h.0) (10 ∷ []))
 spelled_long line entries (inr h) = absurd (let other : One ≡ Two = h.3 in cc)
 
 line_long : (line : List ℕ) (entries : List Entry) → LineSpells One (strip_carriage_return line) entries → length (canonical_text entries) ≤ length line + 1

@@ -7,7 +7,7 @@ use Rattle.variant_table.specs.declared.fault.TableFault.TheVariants.{Memory}
 use Rattle.variant_table.specs.Entries.{TableValue}
 use Rattle.variant_table.specs.Texts.{IsTextOf, IsFaultOf, IsToldOf}
 use Rattle.variant_table.specs.Versions.{version_of, head_of, body_of, size_of}
-use Rattle.variant_table.specs.Reading.{◌>>=◌, with_raw_line, with_lines, table_from, table_of_text}
+use Rattle.variant_table.specs.Reading.{◌>>=◌, with_lines, table_from, table_of_text}
 use Rattle.variant_table.specs.inner.ReadingSteps.{FailsIn}
 use Rattle.variant_table.proofs.FaultlessLemmas.{WholeTable, fits_table, step_of, outcome, head_small, well_formed_lines, lines_read, read_as, read_as-is, text_read, whole_ok, whole_no, whole_err, read_ok, read_err, read_text}
 use Rattle.variant_table.proofs.FaultLemmas.{line_fault, told}

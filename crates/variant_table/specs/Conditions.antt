@@ -1,6 +1,7 @@
 -- What may be wrong with a line and its entries.
 use Rattle.std.specs.Prelude.{ℕ, ◌+◌, ◌++◌, Bool, false, ◌||◌, not, nat_lt, List, [], ◌∷◌, length, bytes_eq}
 use Rattle.std.specs.List.{list_any}
+use Rattle.idn_text.specs.Lines.{is_long_line}
 use Rattle.idn_class.specs.Class.{class_of}
 use Rattle.variant_table.specs.declared.version.Version.{Version}
 use Rattle.variant_table.specs.declared.version.Version.TheVariants.{One, Two}
@@ -8,9 +9,9 @@ use Rattle.variant_table.specs.Entries.{Entry, replacements}
 use Rattle.variant_table.specs.Canonical.{table_text}
 use Rattle.variant_table.specs.WellFormed.{is_table_class}
 
--- a line of more than 1,024 bytes, or one that ends, with its line feed, past byte 1,048,576 of the text, where it comes after so many bytes
+-- a line that is too long, or one that ends, with its line feed, past byte 1,048,576 of the text, where it comes after so many bytes
 abbrev pub is_too_long : ℕ → List ℕ → Bool
-is_too_long bytes line = nat_lt 1024 (length line) || nat_lt 1048576 (bytes + length line + 1)
+is_too_long bytes line = is_long_line line || nat_lt 1048576 (bytes + length line + 1)
 
 -- more than 16 variants, or a sequence of more than 8 code points
 abbrev pub is_too_large : Entry → Bool

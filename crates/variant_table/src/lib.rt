@@ -11,7 +11,6 @@ mod fault;
 mod gaps;
 pub mod laws;
 mod lengths;
-mod line;
 mod places;
 mod reading;
 mod rows;

@@ -11,18 +11,15 @@ use crate::checks::{has_bad_class, has_bad_class_in, has_repeat, is_too_large};
 use crate::draft::{Draft, range_ends};
 use crate::fault::TableFault;
 use crate::lengths::{entry_len, range_len};
-use crate::line::{RawLines, without_return};
 use crate::rows::Rows;
 use crate::sequences::Sequences;
 use crate::token::without_blanks;
 use crate::version::{VERSION_LINE, Version, head_of};
+use idn_text::{MAX_LINE_LEN, without_carriage_return};
 use std::alloc::Global;
 
 /// The most entries of a table.
 const ENTRY_LIMIT: usize = 4096;
-
-/// The most bytes of a line, with its carriage return.
-const LINE_LIMIT: usize = 1024;
 
 /// The most bytes of a text, also of a canonical one. A line feed that is missing at the end is counted too.
 const TEXT_LIMIT: usize = 1_048_576;
@@ -36,7 +33,7 @@ pub fn read_rows(alloc: Global, text: &[u8]) -> Result<(Version, Rows), TableFau
     let mut reader = Reader::new(alloc, head.version);
     let mut number = head.lines;
     let mut bytes = head.bytes;
-    for line in RawLines::new(head.body) {
+    for line in head.body {
         number += 1;
         reader.add_raw_line(number, bytes, line)?;
         bytes += line.len() + 1;
@@ -84,10 +81,10 @@ impl Reader {
         ensures counted { OnOk result (IsCounted self.old.version self.new.written self.new.rows) }
         ensures version { self.new.version ≡ self.old.version }
     {
-        if line.len() > LINE_LIMIT || bytes + line.len() + 1 > TEXT_LIMIT {
+        if line.len() > MAX_LINE_LEN || bytes + line.len() + 1 > TEXT_LIMIT {
             return Err(TableFault::Limit { line: number });
         }
-        self.add_line(number, without_return(line))
+        self.add_line(number, without_carriage_return(line))
     }
 
     /// Adds what the line of this number says.

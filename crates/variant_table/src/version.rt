@@ -4,7 +4,7 @@ ghost use Rattle.idn_text.specs.Lines.{raw_lines};
 ghost use Rattle.variant_table.specs.Versions as versions;
 ghost use Rattle.variant_table.specs.Versions.{version_number};
 
-use crate::line::{first_line, without_return};
+use idn_text::{TextLines, without_carriage_return};
 
 /// Version 2 adds ranges of code points and blocked variants to version 1.
 #[derive(Clone, Copy, Debug, PartialEq, Eq)]
@@ -35,32 +35,32 @@ pub struct Head<'a> {
     pub lines: u64,
     pub bytes: usize,
     /// The lines of the entries.
-    pub body: &'a [u8],
+    pub body: TextLines<'a>,
 }
 
-/// The version of a text by its first line, and the text after the version line, or all of it if there is none.
+/// The version of a text by its first line, and the lines after the version line, or all lines if there is none.
 pub fn head_of(text: &[u8]) -> Head<'_>
     ensures version { result.version ≡ versions.version_of (raw_lines text.now) }
     ensures lines { result.lines ≡ length (versions.head_of (raw_lines text.now)) }
     ensures bytes { result.bytes ≡ versions.size_of (versions.head_of (raw_lines text.now)) }
-    ensures body { raw_lines result.body.now ≡ versions.body_of (raw_lines text.now) }
+    ensures body { result.body ≡ versions.body_of (raw_lines text.now) }
 {
-    if !text.is_empty() {
-        let (line, body) = first_line(text);
-        if is_version_line(line) {
-            return Head {
-                version: Version::Two,
-                lines: 1,
-                bytes: line.len() + 1,
-                body,
-            };
-        }
+    let mut body = TextLines::new(text);
+    if let Some(line) = body.next()
+        && is_version_line(line)
+    {
+        return Head {
+            version: Version::Two,
+            lines: 1,
+            bytes: line.len() + 1,
+            body,
+        };
     }
     Head {
         version: Version::One,
         lines: 0,
         bytes: 0,
-        body: text,
+        body: TextLines::new(text),
     }
 }
 
@@ -68,5 +68,5 @@ pub fn head_of(text: &[u8]) -> Head<'_>
 fn is_version_line(line: &[u8]) -> bool
     ensures { result ≡ versions.is_version_line line.now }
 {
-    without_return(line) == VERSION_LINE
+    without_carriage_return(line) == VERSION_LINE
 }

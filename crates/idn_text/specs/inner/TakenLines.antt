@@ -1,7 +1,7 @@
 -- A line taken from what a reader gave, and what is kept of it.
-use Rattle.std.specs.Prelude.{ℕ, ◌+◌, ◌≤◌, nat_lt, List, ◌++◌, length, Option, Some, None, if◌then◌else◌}
+use Rattle.std.specs.Prelude.{ℕ, ◌+◌, ◌≤◌, List, ◌++◌, length, Option, Some, None, if◌then◌else◌}
 use Rattle.std.specs.Io.KnownBytes.{Consumes}
-use Rattle.idn_text.specs.Lines.{IsPlain}
+use Rattle.idn_text.specs.Lines.{IsPlain, is_long_line}
 use Rattle.idn_text.specs.Taking.{Input, left}
 
 -- these bytes without a line feed, and then these, were taken; of the read calls between, none uncounted, all but so many gave a byte
@@ -11,6 +11,6 @@ pub record Takes (old new : Input) (line feed : List ℕ) (idle : ℕ) : Type 0 
   pub asked : new.reads + length old.held ≤ old.reads + length (line ++ feed) + length new.held + idle
   pub called : new.reader.calls + old.reads ≤ old.reader.calls + new.reads
 
--- what is kept of a line: its bytes, if they are at most 1,024
+-- what is kept of a line: its bytes, unless it is too long
 abbrev pub kept : List ℕ → Option (List ℕ)
-kept line = if nat_lt 1024 (length line) then None else Some line
+kept line = if is_long_line line then None else Some line

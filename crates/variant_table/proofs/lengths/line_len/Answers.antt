@@ -1,11 +1,7 @@
-use Rattle.std.proofs.Common.{◌≡◌, ◌+◌, ◌-◌, ◌≤◌, ℕ, List, length, take, ap, sym, ◌∙◌, arith}
-use Rattle.std.proofs.lemmas.List.{take_all}
+use Rattle.std.proofs.Common.{arith}
 use Rattle.variant_table.specs.Entries.{Variant}
-use Rattle.variant_table.specs.Canonical.{sequence_text}
-use Rattle.variant_table.specs.Reading.{entry_from}
-use Rattle.variant_table.proofs.EntryLemmas.{source-first, variant_from, length-variants}
-use Rattle.variant_table.proofs.WritingLemmas.{variants_text}
-use Rattle.variant_table.proofs.LengthLemmas.{one_mark, sequence_filled, sequence_short, few_variants, length-variants_next, length-one_line}
+use Rattle.variant_table.proofs.EntryLemmas.{variant_from}
+use Rattle.variant_table.proofs.LengthLemmas.{one_mark, sequence_filled, sequence_short, length-variants_next}
 use Rattle.variant_table.proofs.lengths.line_len.Goals as goal
 
 pub sequence_len-requires-clause-some : goal.sequence_len-requires-clause-some

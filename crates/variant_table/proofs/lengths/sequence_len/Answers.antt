@@ -1,4 +1,4 @@
-use Rattle.std.proofs.Common.{◌≡◌, ◌+◌, ℕ, length, take, ap, ◌∙◌, arith}
+use Rattle.std.proofs.Common.{◌≡◌, ℕ, length, take, ap, arith}
 use Rattle.std.proofs.lemmas.List.{take_all}
 use Rattle.variant_table.proofs.WritingLemmas.{further_text}
 use Rattle.variant_table.proofs.LengthLemmas.{length-further_next, length-further}

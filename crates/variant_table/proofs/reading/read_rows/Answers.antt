@@ -22,15 +22,15 @@ loop-line-init c =
 pub returns-in_err-add_raw_line : goal.returns-in_err-add_raw_line
 returns-in_err-add_raw_line c =
     let fails : FailsIn c.in_err-add_raw_line.field-0.0 (table_of_text c.args.text.now) =
-    lines_fail c.loop-line.reader.version (c.loop-line.number + 1) c.loop-line.bytes c.loop-line.reader.rows c.in-Some.line.now (raw_lines c.next.new.self.rest.now) (raw_lines c.loop-line.line-iterator.rest.now) (table_of_text c.args.text.now)
+    lines_fail c.loop-line.reader.version (c.loop-line.number + 1) c.loop-line.bytes c.loop-line.reader.rows c.in-Some.line.now c.next.new.self c.loop-line.line-iterator (table_of_text c.args.text.now)
     c.in-Some.ensures.steps c.loop-line.invariant.same c.in_err-add_raw_line.field-0.0 c.in_err-add_raw_line.ensures.read in search rules
 
 pub loop-line-preserved : goal.loop-line-preserved
 loop-line-preserved c =
     let version = c.in_ok-add_raw_line.ensures.version in
     record {
-      same = ap (λ v. with_lines v (c.loop-line.number + 1 + 1) (c.loop-line.bytes + (length c.in-Some.line.now + 1)) c.add_raw_line.new.self.rows (raw_lines c.next.new.self.rest.now) >>= table_from v) version
-          ∙ lines_step c.loop-line.reader.version (c.loop-line.number + 1) c.loop-line.bytes c.loop-line.reader.rows c.in-Some.line.now (raw_lines c.next.new.self.rest.now) (raw_lines c.loop-line.line-iterator.rest.now) (table_of_text c.args.text.now)
+      same = ap (λ v. with_lines v (c.loop-line.number + 1 + 1) (c.loop-line.bytes + (length c.in-Some.line.now + 1)) c.add_raw_line.new.self.rows c.next.new.self >>= table_from v) version
+          ∙ lines_step c.loop-line.reader.version (c.loop-line.number + 1) c.loop-line.bytes c.loop-line.reader.rows c.in-Some.line.now c.next.new.self c.loop-line.line-iterator (table_of_text c.args.text.now)
           c.in-Some.ensures.steps c.loop-line.invariant.same c.add_raw_line.new.self.rows c.in_ok-add_raw_line.ensures.read;
       within = omega (arith, c.in_ok-add_raw_line.ensures.within);
       counted = omega (arith, c.loop-line.invariant.counted);
@@ -38,4 +38,4 @@ loop-line-preserved c =
     }
 
 pub returns : goal.returns
-returns c = lines_end c.loop-line.reader.version (c.loop-line.number + 1) c.loop-line.bytes c.loop-line.reader.rows (raw_lines c.loop-line.line-iterator.rest.now) (table_of_text c.args.text.now) c.in-None.ensures.steps.0 c.loop-line.invariant.same
+returns c = lines_end c.loop-line.reader.version (c.loop-line.number + 1) c.loop-line.bytes c.loop-line.reader.rows c.loop-line.line-iterator (table_of_text c.args.text.now) c.in-None.ensures.steps.0 c.loop-line.invariant.same

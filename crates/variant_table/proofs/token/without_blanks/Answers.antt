@@ -3,7 +3,7 @@ use Rattle.std.proofs.lemmas.List.{take_rest}
 use Rattle.std.proofs.lemmas.Iterator.{YieldsList-from_slice}
 use Rattle.std.proofs.lemmas.Iterator.Search.{position_from_yields_List}
 use Rattle.variant_table.specs.Tokens.{is_blank}
-use Rattle.variant_table.proofs.LineLemmas.{unwrap_place}
+use Rattle.variant_table.proofs.TokenLemmas.{unwrap_place}
 use Rattle.variant_table.proofs.token.without_blanks.Goals as goal
 
 pub returns : goal.returns

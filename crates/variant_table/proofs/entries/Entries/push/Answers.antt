@@ -1,4 +1,4 @@
-use Rattle.std.proofs.Common.{length-append, ◌≡◌, ◌+◌, ◌++◌, ◌∷◌, [], List, ℕ, length, ap, ◌∙◌}
+use Rattle.std.proofs.Common.{length-append, ◌≡◌, ◌+◌, ◌++◌, ◌∷◌, [], List, length, ap, ◌∙◌}
 use Rattle.variant_table.specs.Entries.{Variant}
 use Rattle.variant_table.specs.inner.Held.{entries_of}
 use Rattle.variant_table.specs.Reading.{entry_from}

@@ -1,7 +1,4 @@
-use Rattle.std.proofs.Common.{◌≡◌, ◌+◌, ◌<◌, ◌≤◌, false, true, ℕ, List, length, rules, refl, ap, sym, subst, ◌∙◌, arith}
-use Rattle.std.specs.List.{list_any}
-use Rattle.variant_table.specs.Conditions.{has_bad_class}
-use Rattle.variant_table.specs.Entries.{Entry}
+use Rattle.std.proofs.Common.{◌+◌, ◌<◌, ◌≤◌, length, rules, refl, sym, subst, ◌∙◌, arith}
 use Rattle.variant_table.specs.Reading.{with_entries}
 use Rattle.variant_table.specs.inner.ReadingSteps.{Fails}
 use Rattle.variant_table.proofs.AddingLemmas.{range_too_many, range_bad, range_good, range_added}
