@@ -201,22 +201,6 @@ ended label normalized no_prefix few measured = record { normalized = normalized
 
 -- ---- what is read and mapped
 
-pub utf8_nothing : IsUtf8Of [] []
-utf8_nothing = record { scalar_values = All-nil IsScalarValue; encoded = refl }
-
-pub utf8_character : (name points : List ℕ) (at next c : ℕ) → IsUtf8Of (take at name) points → take next name ≡ take at name ++ encode_utf8 c → IsScalarValue c → IsUtf8Of (take next name) (points ++ c ∷ [])
-utf8_character name points at next c is read scalar = record {
-  scalar_values = All-push IsScalarValue points c is.scalar_values scalar;
-  encoded =
-      encodes-append points (c ∷ [])
-      ∙ ap (λ x. utf8_of points ++ x) (append-nil (encode_utf8 c))
-      ∙ ap (λ x. x ++ encode_utf8 c) is.encoded
-      ∙ sym read;
-}
-
-pub utf8_all : (name points : List ℕ) (at : ℕ) → length name ≤ at → IsUtf8Of (take at name) points → IsUtf8Of name points
-utf8_all name points at all is = subst (λ (bytes : List ℕ). IsUtf8Of bytes points) (take_all at name all) is
-
 pub mapped_character : (points : List ℕ) (c : ℕ) (mapped : List ℕ) → mapped ≡ flat_map map_char points → mapped ++ map_char c ≡ flat_map map_char (points ++ c ∷ [])
 mapped_character points c mapped is = ap (λ x. x ++ map_char c) is ∙ sym (flat_map-push points c)
 

@@ -3,6 +3,7 @@
 #![tactic(auto)]
 
 mod body;
+mod character;
 mod device;
 pub mod hostile;
 mod input;
@@ -14,6 +15,7 @@ mod utf8;
 mod write;
 
 pub use body::Body;
+pub use character::character_at;
 pub use device::{Device, DeviceFault, Sink, Source};
 pub use lines::{Line, Lines, ReadFault};
 pub use point::{hex_point, is_point};

@@ -1,5 +1,7 @@
 //! Characters of a text in UTF-8 (RFC 3629), one after another.
-ghost use Rattle.std.specs.Prelude.{◌≡◌, ◌+◌, ◌<◌, ◌≤◌, ◌++◌, length, take, slice_index, encode_utf8, IfSome};
+ghost use Rattle.std.specs.Prelude.{◌≡◌, ◌+◌, ◌<◌, ◌≤◌, ◌++◌, length, take, drop, slice_index, encode_utf8, IfSome, IfNone};
+ghost use Rattle.std.specs.Int.{IsOutOfRange};
+ghost use Rattle.std.specs.Str.{StartsWithNoChar};
 ghost use Rattle.idn_text.specs.Points.{IsScalarValue};
 
 /// The least character that three octets encode, and the least that four do.
@@ -9,12 +11,13 @@ const LEAST_OF_FOUR: u32 = 0x1_0000;
 
 /// The character at a place of a text, and the place after it. `None` where no character in UTF-8 stands there.
 #[inline]
-pub(crate) fn character_at(text: &[u8], at: usize) -> Option<(char, usize)>
+pub fn character_at(text: &[u8], at: usize) -> Option<(char, usize)>
     requires { at < length text.now }
     ensures read { IfSome result (λ step. take step.1 text.now ≡ take at text.now ++ encode_utf8 step.0) }
     ensures scalar_value { IfSome result (λ step. IsScalarValue step.0) }
     ensures further { IfSome result (λ step. at < step.1) }
     ensures within { IfSome result (λ step. step.1 ≤ length text.now) }
+    ensures none { IfNone result (StartsWithNoChar (drop at text.now)) }
 {
     match text[at] {
         first @ 0..=0x7F => Some((char::from(first), at + 1)),
@@ -50,6 +53,7 @@ fn bits_at(text: &[u8], at: usize) -> Option<u32>
     ensures bits { IfSome result (λ bits. slice_index text.now at ≡ 0x80 + bits) }
     ensures few { IfSome result (λ bits. bits < 64) }
     ensures within { IfSome result (λ _. at < length text.now) }
+    ensures none { IfNone result (IsOutOfRange 0x80 0xBF (slice_index text.now at)) }
 {
     match text.get(at) {
         Some(octet @ 0x80..=0xBF) => Some(u32::from(*octet - 0x80)),
