@@ -10,7 +10,8 @@ const LEAST_OF_THREE: u32 = 0x800;
 const LEAST_OF_FOUR: u32 = 0x1_0000;
 
 /// The character at a place of a text, and the place after it. `None` where no character in UTF-8 stands there.
-#[inline]
+// The loops that read a text by it want no call for each character.
+#[inline(always)]
 pub fn character_at(text: &[u8], at: usize) -> Option<(char, usize)>
     requires { at < length text.now }
     ensures read { IfSome result (λ step. take step.1 text.now ≡ take at text.now ++ encode_utf8 step.0) }
@@ -22,22 +23,25 @@ pub fn character_at(text: &[u8], at: usize) -> Option<(char, usize)>
     match text[at] {
         first @ 0..=0x7F => Some((char::from(first), at + 1)),
         first @ 0xC2..=0xDF => {
-            let code = u32::from(first - 0xC0) * 64 + bits_at(text, at + 1)?;
+            let second = bits_at(text, at + 1)?;
+            let code = u32::from(first - 0xC0) * 64 + second;
             Some((char::from_u32(code)?, at + 2))
         }
         first @ 0xE0..=0xEF => {
-            let code = (u32::from(first - 0xE0) * 64 + bits_at(text, at + 1)?) * 64
-                + bits_at(text, at + 2)?;
+            // The last octet first: if that is within the text, so are the others.
+            let third = bits_at(text, at + 2)?;
+            let second = bits_at(text, at + 1)?;
+            let code = (u32::from(first - 0xE0) * 64 + second) * 64 + third;
             if code < LEAST_OF_THREE {
                 return None;
             }
             Some((char::from_u32(code)?, at + 3))
         }
         first @ 0xF0..=0xF4 => {
-            let code = ((u32::from(first - 0xF0) * 64 + bits_at(text, at + 1)?) * 64
-                + bits_at(text, at + 2)?)
-                * 64
-                + bits_at(text, at + 3)?;
+            let fourth = bits_at(text, at + 3)?;
+            let third = bits_at(text, at + 2)?;
+            let second = bits_at(text, at + 1)?;
+            let code = ((u32::from(first - 0xF0) * 64 + second) * 64 + third) * 64 + fourth;
             if code < LEAST_OF_FOUR {
                 return None;
             }
