@@ -1,5 +1,5 @@
 -- How the characters of a name are read, and its labels, as they are mapped, written as A-labels.
-use Rattle.std.proofs.Common.{◌≡◌, ◌≢◌, ℕ, ◌-◌, ◌<◌, ◌≤◌, Bool, true, false, List, [], ◌∷◌, ◌++◌, map, flat_map, chars, length, All, Some, refl, sym, ap, ap₂, subst, ◌∙◌, append_assoc, append-nil, lit<, zero, suc, ◌+◌, ◌==◌, take, take_all, slice_index, ◌||◌, le-leb, length-append, arith}
+use Rattle.std.proofs.Common.{◌≡◌, ◌≢◌, ℕ, ◌-◌, ◌<◌, ◌≤◌, Bool, true, false, List, [], ◌∷◌, ◌++◌, map, flat_map, chars, length, All, Some, refl, sym, ap, ap₂, subst, ◌∙◌, append_assoc, append-nil, lit<, zero, suc, ◌+◌, ◌==◌, take, slice_index, ◌||◌, le-leb, length-append, arith}
 use Rattle.std.specs.Str.{IsUtf8}
 use Rattle.std.proofs.lemmas.List.{map-append, get_or-append-add, take_at}
 use Rattle.std.proofs.lemmas.List.Concat.{flat_map-append}
@@ -7,12 +7,10 @@ use Rattle.std.proofs.lemmas.List.Elements.{All-nil, All-append, All-push, All-m
 use Rattle.std.proofs.lemmas.List.Sums.{list_all-from_AllPass}
 use Rattle.std.specs.Int.{is_in_range}
 use Rattle.std.specs.List.{list_all}
-use Rattle.std.proofs.lemmas.Str.{encodes-append, is_utf8-from_IsUtf8}
-use Rattle.std.specs.Prelude.{encode_utf8}
+use Rattle.std.proofs.lemmas.Str.{is_utf8-from_IsUtf8}
 use Rattle.ucd_bidi.specs.BidiClass.{bidi_class}
 use Rattle.unicode_normalization.specs.Forms.{nfc}
 use Rattle.idna.specs.BidiRule.{is_rtl}
-use Rattle.idn_text.specs.Points.{IsScalarValue, IsUtf8Of, utf8_of}
 use Rattle.idn_class.specs.declared.facts.Fact.TheVariants.{MayCompose, RightToLeft}
 use Rattle.idn_class.specs.declared.facts.Facts.{Facts}
 use Rattle.idn_class.specs.Facts.{contains, has_fact}

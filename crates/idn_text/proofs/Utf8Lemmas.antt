@@ -1,9 +1,9 @@
 -- The UTF-8 of a list of code points.
-use Rattle.std.proofs.Common.{◌≡◌, ℕ, ◌+◌, ◌*◌, ◌/◌, ◌%◌, ◌≤◌, ◌<◌, List, [], ◌∷◌, ◌++◌, Bool, true, false, ◌&&◌, length, take, take_all, drop, get_or, refl, sym, ap, subst, ◌∙◌, length-append, length-drop, arith}
+use Rattle.std.proofs.Common.{◌≡◌, ℕ, ◌+◌, ◌*◌, ◌/◌, ◌%◌, ◌≤◌, ◌<◌, List, [], ◌∷◌, ◌++◌, true, length, take, take_all, drop, get_or, refl, sym, ap, subst, ◌∙◌, length-append, length-drop, arith}
 use Rattle.std.proofs.lemmas.List.{append-nil, take_more}
 use Rattle.std.proofs.lemmas.Str.{encodes-append, encodes-IsAscii, length-encode, len_utf8_bounds, chars-encodes, IsUtf8-drop, IsCharBoundary-from_take}
 use Rattle.std.proofs.lemmas.Str.Ascii.{All-from_ascii}
-use Rattle.std.proofs.lemmas.Bool.{and_parts}
+use Rattle.std.proofs.lemmas.Bool.{and_from, and_parts}
 use Rattle.std.proofs.lemmas.Bool.Decides.{nat_tests}
 use Rattle.std.specs.List.{AllByRecursion}
 use Rattle.std.proofs.lemmas.List.Elements.{All-nil, All-push, All-weaker, recursion_from_All}
@@ -39,13 +39,9 @@ utf8_of_more points i within =
     ∙ encodes-append (take i points) (get_or points i 0 ∷ [])
     ∙ ap (λ bytes. utf8_of (take i points) ++ bytes) (append-nil (encode_utf8 (get_or points i 0)))
 
-and_true : (a b : Bool) → a ≡ true → b ≡ true → (a && b) ≡ true
-and_true true b e f = f
-and_true false b e f = cc
-
 by_recursion : (points : List ℕ) → AllByRecursion IsScalarValue points → all_scalars points ≡ true
 by_recursion [] h = refl
-by_recursion (c ∷ cs) h = and_true (is_scalar_value c) (all_scalars cs) h.0 (by_recursion cs h.1)
+by_recursion (c ∷ cs) h = and_from (is_scalar_value c) (all_scalars cs) h.0 (by_recursion cs h.1)
 
 -- scalar values, as std's test of a list has them
 pub all_scalars-from_All : (points : List ℕ) → AreScalarValues points → all_scalars points ≡ true

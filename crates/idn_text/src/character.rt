@@ -24,24 +24,23 @@ pub fn character_at(text: &[u8], at: usize) -> Option<(char, usize)>
         first @ 0..=0x7F => Some((char::from(first), at + 1)),
         first @ 0xC2..=0xDF => {
             let second = bits_at(text, at + 1)?;
-            let code = u32::from(first - 0xC0) * 64 + second;
+            let code = (u32::from(first) - 0xC0) * 64 + second;
             Some((char::from_u32(code)?, at + 2))
         }
         first @ 0xE0..=0xEF => {
-            // The last octet first: if that is within the text, so are the others.
-            let third = bits_at(text, at + 2)?;
             let second = bits_at(text, at + 1)?;
-            let code = (u32::from(first - 0xE0) * 64 + second) * 64 + third;
+            let third = bits_at(text, at + 2)?;
+            let code = ((u32::from(first) - 0xE0) * 64 + second) * 64 + third;
             if code < LEAST_OF_THREE {
                 return None;
             }
             Some((char::from_u32(code)?, at + 3))
         }
         first @ 0xF0..=0xF4 => {
-            let fourth = bits_at(text, at + 3)?;
-            let third = bits_at(text, at + 2)?;
             let second = bits_at(text, at + 1)?;
-            let code = ((u32::from(first - 0xF0) * 64 + second) * 64 + third) * 64 + fourth;
+            let third = bits_at(text, at + 2)?;
+            let fourth = bits_at(text, at + 3)?;
+            let code = (((u32::from(first) - 0xF0) * 64 + second) * 64 + third) * 64 + fourth;
             if code < LEAST_OF_FOUR {
                 return None;
             }
@@ -60,7 +59,7 @@ fn bits_at(text: &[u8], at: usize) -> Option<u32>
     ensures none { IfNone result (IsOutOfRange 0x80 0xBF (slice_index text.now at)) }
 {
     match text.get(at) {
-        Some(octet @ 0x80..=0xBF) => Some(u32::from(*octet - 0x80)),
+        Some(octet @ 0x80..=0xBF) => Some(u32::from(*octet) - 0x80),
         _ => None,
     }
 }

@@ -1,4 +1,4 @@
-use Rattle.std.proofs.Common.{◌≡◌, ◌+◌, ◌*◌, ◌/◌, ◌%◌, ◌<◌, arith}
+use Rattle.std.proofs.Common.{arith}
 use Rattle.idn_text.proofs.CharacterReads.{read_two, read_three, read_four, no_character}
 use Rattle.idn_text.proofs.character.character_at.Goals as goal
 

@@ -1,4 +1,4 @@
-use Rattle.std.proofs.Common.{List, ℕ, ◌≡◌, ◌∙◌, ◌∷◌, ◌+◌, ◌++◌, [], ap, sym, subst, take, length, length-append, arith}
+use Rattle.std.proofs.Common.{List, ℕ, ◌∙◌, ◌∷◌, ◌++◌, [], ap, sym, subst, take, length, length-append, arith}
 use Rattle.idn_text.specs.Points.{IsUtf8Of}
 use Rattle.idn_text.proofs.Utf8Lemmas.{IsUtf8-from_points, utf8_nothing, utf8_character, utf8_all, utf8_refused}
 use Rattle.idn_text.proofs.utf8.decode_points.Goals as goal
