@@ -1,5 +1,5 @@
 -- How the characters of a name are read, and its labels, as they are mapped, written as A-labels.
-use Rattle.std.proofs.Common.{◌≡◌, ◌≢◌, ℕ, ◌-◌, ◌<◌, ◌≤◌, Bool, true, false, List, [], ◌∷◌, ◌++◌, map, flat_map, chars, length, All, Some, refl, sym, ap, ap₂, subst, ◌∙◌, append_assoc, append-nil, lit<, zero, suc, ◌+◌, ◌==◌, take, take_all, slice_index, ◌||◌, le-leb, length-append, arith}
+use Rattle.std.proofs.Common.{◌≡◌, ◌≢◌, ℕ, ◌-◌, ◌<◌, ◌≤◌, Bool, true, false, List, [], ◌∷◌, ◌++◌, map, flat_map, chars, length, All, Some, refl, sym, ap, ap₂, subst, ◌∙◌, append_assoc, append-nil, lit<, zero, suc, ◌+◌, ◌==◌, take, slice_index, ◌||◌, le-leb, length-append, arith}
 use Rattle.std.specs.Str.{IsUtf8}
 use Rattle.std.proofs.lemmas.List.{map-append, get_or-append-add, take_at}
 use Rattle.std.proofs.lemmas.List.Concat.{flat_map-append}
@@ -7,12 +7,10 @@ use Rattle.std.proofs.lemmas.List.Elements.{All-nil, All-append, All-push, All-m
 use Rattle.std.proofs.lemmas.List.Sums.{list_all-from_AllPass}
 use Rattle.std.specs.Int.{is_in_range}
 use Rattle.std.specs.List.{list_all}
-use Rattle.std.proofs.lemmas.Str.{encodes-append, is_utf8-from_IsUtf8}
-use Rattle.std.specs.Prelude.{encode_utf8}
+use Rattle.std.proofs.lemmas.Str.{is_utf8-from_IsUtf8}
 use Rattle.ucd_bidi.specs.BidiClass.{bidi_class}
 use Rattle.unicode_normalization.specs.Forms.{nfc}
 use Rattle.idna.specs.BidiRule.{is_rtl}
-use Rattle.idn_text.specs.Points.{IsScalarValue, IsUtf8Of, utf8_of}
 use Rattle.idn_class.specs.declared.facts.Fact.TheVariants.{MayCompose, RightToLeft}
 use Rattle.idn_class.specs.declared.facts.Facts.{Facts}
 use Rattle.idn_class.specs.Facts.{contains, has_fact}
@@ -200,22 +198,6 @@ pub ended : (label : List ℕ) → nfc label ≡ label → has_ace_prefix label 
 ended label normalized no_prefix few measured = record { normalized = normalized; no_prefix = no_prefix; few = few; short = in_range-most 63 (length (a_label_of label)) measured }
 
 -- ---- what is read and mapped
-
-pub utf8_nothing : IsUtf8Of [] []
-utf8_nothing = record { scalar_values = All-nil IsScalarValue; encoded = refl }
-
-pub utf8_character : (name points : List ℕ) (at next c : ℕ) → IsUtf8Of (take at name) points → take next name ≡ take at name ++ encode_utf8 c → IsScalarValue c → IsUtf8Of (take next name) (points ++ c ∷ [])
-utf8_character name points at next c is read scalar = record {
-  scalar_values = All-push IsScalarValue points c is.scalar_values scalar;
-  encoded =
-      encodes-append points (c ∷ [])
-      ∙ ap (λ x. utf8_of points ++ x) (append-nil (encode_utf8 c))
-      ∙ ap (λ x. x ++ encode_utf8 c) is.encoded
-      ∙ sym read;
-}
-
-pub utf8_all : (name points : List ℕ) (at : ℕ) → length name ≤ at → IsUtf8Of (take at name) points → IsUtf8Of name points
-utf8_all name points at all is = subst (λ (bytes : List ℕ). IsUtf8Of bytes points) (take_all at name all) is
 
 pub mapped_character : (points : List ℕ) (c : ℕ) (mapped : List ℕ) → mapped ≡ flat_map map_char points → mapped ++ map_char c ≡ flat_map map_char (points ++ c ∷ [])
 mapped_character points c mapped is = ap (λ x. x ++ map_char c) is ∙ sym (flat_map-push points c)

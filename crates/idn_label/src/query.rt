@@ -8,7 +8,6 @@ ghost use Rattle.idn_label.specs.Lookup.{deny_list, utf8_answer, lookup_answer};
 ghost use Rattle.idn_label.specs.Memory.{LooksUpWithoutMemory};
 
 mod bidi;
-mod character;
 mod full;
 mod ldh;
 mod lengths;

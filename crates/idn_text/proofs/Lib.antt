@@ -1,5 +1,5 @@
--- How the code points of bytes are read one after another.
-pub mod DecodingLemmas
+-- Characters read from octets of UTF-8, one more behind those before a place.
+pub mod CharacterReads
 -- The size of a number that hexadecimal digits write.
 mod HexLemmas
 -- What a whole history of reading says of a text that is known.

@@ -1,13 +1,14 @@
 -- The UTF-8 of a list of code points.
-use Rattle.std.proofs.Common.{◌≡◌, ℕ, ◌+◌, ◌*◌, ◌/◌, ◌%◌, ◌≤◌, ◌<◌, List, [], ◌∷◌, ◌++◌, Bool, true, false, ◌&&◌, length, take, get_or, refl, sym, ap, ◌∙◌, length-append, arith}
+use Rattle.std.proofs.Common.{◌≡◌, ℕ, ◌+◌, ◌*◌, ◌/◌, ◌%◌, ◌≤◌, ◌<◌, List, [], ◌∷◌, ◌++◌, true, length, take, take_all, drop, get_or, refl, sym, ap, subst, ◌∙◌, length-append, length-drop, arith}
 use Rattle.std.proofs.lemmas.List.{append-nil, take_more}
-use Rattle.std.proofs.lemmas.Str.{encodes-append, encodes-IsAscii, length-encode, len_utf8_bounds, chars-encodes}
+use Rattle.std.proofs.lemmas.Str.{encodes-append, encodes-IsAscii, length-encode, len_utf8_bounds, chars-encodes, IsUtf8-drop, IsCharBoundary-from_take}
 use Rattle.std.proofs.lemmas.Str.Ascii.{All-from_ascii}
+use Rattle.std.proofs.lemmas.Bool.{and_from, and_parts}
 use Rattle.std.proofs.lemmas.Bool.Decides.{nat_tests}
 use Rattle.std.specs.List.{AllByRecursion}
-use Rattle.std.proofs.lemmas.List.Elements.{All-weaker, recursion_from_All}
+use Rattle.std.proofs.lemmas.List.Elements.{All-nil, All-push, All-weaker, recursion_from_All}
 use Rattle.std.specs.Char.{encode_utf8}
-use Rattle.std.specs.Str.{all_scalars, chars, IsUtf8, IsAscii}
+use Rattle.std.specs.Str.{all_scalars, chars, IsUtf8, IsAscii, StartsWithNoChar}
 use Rattle.idn_text.specs.Points.{is_scalar_value, IsScalarValue, AreScalarValues, IsUtf8Of, utf8_of}
 
 -- the bytes of a code point past ASCII
@@ -38,13 +39,9 @@ utf8_of_more points i within =
     ∙ encodes-append (take i points) (get_or points i 0 ∷ [])
     ∙ ap (λ bytes. utf8_of (take i points) ++ bytes) (append-nil (encode_utf8 (get_or points i 0)))
 
-and_true : (a b : Bool) → a ≡ true → b ≡ true → (a && b) ≡ true
-and_true true b e f = f
-and_true false b e f = cc
-
 by_recursion : (points : List ℕ) → AllByRecursion IsScalarValue points → all_scalars points ≡ true
 by_recursion [] h = refl
-by_recursion (c ∷ cs) h = and_true (is_scalar_value c) (all_scalars cs) h.0 (by_recursion cs h.1)
+by_recursion (c ∷ cs) h = and_from (is_scalar_value c) (all_scalars cs) h.0 (by_recursion cs h.1)
 
 -- scalar values, as std's test of a list has them
 pub all_scalars-from_All : (points : List ℕ) → AreScalarValues points → all_scalars points ≡ true
@@ -67,3 +64,31 @@ ascii_points bytes ascii = record {
   where
     small : (b : ℕ) → b < 128 → IsScalarValue b
     small b lt = grind (arith, nat_tests)
+
+-- ---- what is read so far
+
+pub utf8_nothing : IsUtf8Of [] []
+utf8_nothing = record { scalar_values = All-nil IsScalarValue; encoded = refl }
+
+pub utf8_character : (text points : List ℕ) (at next c : ℕ) → IsUtf8Of (take at text) points → take next text ≡ take at text ++ encode_utf8 c → IsScalarValue c → IsUtf8Of (take next text) (points ++ c ∷ [])
+utf8_character text points at next c is read scalar = record {
+  scalar_values = All-push IsScalarValue points c is.scalar_values scalar;
+  encoded =
+      encodes-append points (c ∷ [])
+      ∙ ap (λ x. utf8_of points ++ x) (append-nil (encode_utf8 c))
+      ∙ ap (λ x. x ++ encode_utf8 c) is.encoded
+      ∙ sym read;
+}
+
+pub utf8_all : (text points : List ℕ) (at : ℕ) → length text ≤ at → IsUtf8Of (take at text) points → IsUtf8Of text points
+utf8_all text points at all is = subst (λ (bytes : List ℕ). IsUtf8Of bytes points) (take_all at text all) is
+
+-- no text goes on where no character begins
+pub utf8_refused : (text points : List ℕ) (at : ℕ) → at < length text → IsUtf8Of (take at text) points → StartsWithNoChar (drop at text) → ¬ (IsUtf8 text)
+utf8_refused text points at more is none utf8 =
+    let rest = IsUtf8-drop text at utf8 (IsCharBoundary-from_take text at utf8 (omega arith) (IsUtf8-from_points (take at text) points is)) in
+    begins rest.0 rest.1.0 rest.1.1
+  where
+    begins : (cs : List ℕ) → all_scalars cs ≡ true → utf8_of cs ≡ drop at text → ⊥
+    begins [] scalars encoded = omega (arith, ap length encoded, length-drop at text)
+    begins (c ∷ cs) scalars encoded = none c (utf8_of cs) (and_parts (is_scalar_value c) (all_scalars cs) scalars).0 (sym encoded)

@@ -4,6 +4,7 @@
 #![tactic(auto)]
 
 mod body;
+mod character;
 mod device;
 pub mod hostile;
 mod input;
@@ -16,6 +17,7 @@ mod utf8;
 mod write;
 
 pub use body::{Body, MAX_LINE_LEN};
+pub use character::character_at;
 pub use device::{Device, DeviceFault, Sink, Source};
 pub use lines::{Line, Lines, ReadFault};
 pub use point::{hex_point, is_point};

@@ -4,6 +4,7 @@ ghost use Rattle.std.specs.Prelude.{◌≡◌, ◌≤◌, ◌+◌, ◌*◌, ◌%
 ghost use Rattle.arrayvec.specs.ArrayVec.{array_vec_len};
 ghost use Rattle.idn_text.specs.Points.{AreScalarValues, IsScalarValue, IsUtf8Of, utf8_of};
 
+use crate::character::character_at;
 use arrayvec::ArrayVec;
 
 /// Bytes that are no UTF-8 (RFC 3629).
@@ -19,27 +20,16 @@ pub fn decode_points(bytes: &[u8], points: &mut ArrayVec<u32, 1024>) -> Result<(
     ensures emptied { OnErr result (points.new.items ≡ []) }
 {
     points.clear();
-    if bytes.is_ascii() {
-        push_ascii(bytes, points);
-        return Ok(());
-    }
-    let Ok(text) = str::from_utf8(bytes) else {
-        return Err(NotUtf8);
-    };
-    for character in text.chars() {
+    let mut at = 0;
+    while at < bytes.len() {
+        let Some((character, next)) = character_at(bytes, at) else {
+            points.clear();
+            return Err(NotUtf8);
+        };
         points.push(u32::from(character));
+        at = next;
     }
     Ok(())
-}
-
-/// Appends ASCII, each byte of which is a code point. There must be space for it.
-fn push_ascii(bytes: &[u8], points: &mut ArrayVec<u32, 1024>)
-    requires { length points.old.items + length bytes.now ≤ 1024 }
-    ensures { points.new.items ≡ points.old.items ++ bytes.now }
-{
-    for byte in bytes {
-        points.push(u32::from(*byte));
-    }
 }
 
 /// Leaves in `utf8` the UTF-8 (RFC 3629) of at most 1,024 code points, each a scalar value, in place

@@ -15,11 +15,11 @@ ghost use Rattle.idn_label.specs.Lookup.{deny_list};
 
 use crate::a_label::{MAX_LABEL_LEN, encoded_label};
 use crate::query::bidi::pass_bidi_rule;
-use crate::query::character::character_at;
 use crate::query::ldh::MAX_QUERY_LEN;
 use crate::unit::{has_ace_prefix, is_all_ascii};
 use arrayvec::ArrayVec;
 use idn_class::{Fact, Facts};
+use idn_text::character_at;
 use ucd_idna_map::{IdnaStatus, idna_mapping};
 use unicode_normalization::IsNormalized;
 use unicode_normalization::slice::is_nfc_quick;

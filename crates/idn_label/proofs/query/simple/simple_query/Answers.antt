@@ -11,12 +11,12 @@ use Rattle.idna.specs.Validity.{passes_bidi}
 use Rattle.idn_class.specs.declared.facts.Fact.TheVariants.{MayCompose, RightToLeft}
 use Rattle.idn_class.specs.Facts.{contains}
 use Rattle.idn_text.specs.Points.{IsUtf8Of}
-use Rattle.idn_text.proofs.Utf8Lemmas.{IsUtf8-from_points, points_from_utf8}
+use Rattle.idn_text.proofs.Utf8Lemmas.{IsUtf8-from_points, points_from_utf8, utf8_nothing, utf8_character, utf8_all}
 use Rattle.idn_label.specs.ALabel.{a_label_of}
 use Rattle.idn_label.specs.Lookup.{deny_list}
 use Rattle.idn_label.specs.inner.SimpleNames.{TellsRightToLeft, TellsComposing}
 use Rattle.idn_label.proofs.SimpleNames.{passes_bidi-tested}
-use Rattle.idn_label.proofs.SimpleReads.{IsEnded, read_nothing, same_read, read_char, read_full_stop, read_all, ended, ended_last, lengths_all, utf8_nothing, utf8_character, utf8_all, mapped_character, mapped_full_stop, tells_nothing, tells_full_stop, tells_more, composing_nothing, composing_more}
+use Rattle.idn_label.proofs.SimpleReads.{IsEnded, read_nothing, same_read, read_char, read_full_stop, read_all, ended, ended_last, lengths_all, mapped_character, mapped_full_stop, tells_nothing, tells_full_stop, tells_more, composing_nothing, composing_more}
 use Rattle.idn_label.proofs.query.simple.simple_query.Goals as goal
 use Rattle.idn_label.proofs.query.simple.simple_query.Goals.{else-contains-via-then-contains+else-not-pass_bidi_rule, else-contains-via-else-contains}
 
