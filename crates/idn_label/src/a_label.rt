@@ -5,7 +5,6 @@ ghost use Rattle.idn_label.specs.ALabel.{a_label_of};
 ghost use Rattle.idn_label.specs.FirstFault.{first_fault, IsRegistrable};
 ghost use Rattle.idn_label.specs.inner.FaultSteps.{fault_but_length};
 
-use crate::code_points::short_chars;
 use crate::unit::is_all_ascii;
 use arrayvec::ArrayString;
 use idn_punycode::push_encoded;
@@ -31,11 +30,11 @@ pub(crate) fn measured_a_label(label: &[u32]) -> Result<ALabel, Refusal>
     if is_all_ascii(label) {
         return Ok(ascii_text(label));
     }
-    encoded_label(&short_chars(label))
+    encoded_label(label)
 }
 
 /// The prefix and the Punycode of a label, if they are short enough.
-pub(crate) fn encoded_label(label: &[char]) -> Result<ALabel, Refusal>
+pub(crate) fn encoded_label(label: &[u32]) -> Result<ALabel, Refusal>
     requires { length label.now ≤ 63 }
     ensures ok { IfOk result (λ answer. answer.bytes ≡ codes "xn--" ++ encode label.now) }
     ensures short { OnOk result (length (codes "xn--" ++ encode label.now) ≤ 63) }

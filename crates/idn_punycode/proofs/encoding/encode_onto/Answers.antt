@@ -5,7 +5,7 @@ use Rattle.idn_punycode.proofs.EncodingSteps.{Encodes-basic, Encodes-no_basic, e
 use Rattle.idn_punycode.proofs.KeySteps.{rounds_fit, Selects-counted, Chosen-length, Chosen-counted}
 use Rattle.idn_punycode.proofs.OrderSteps.{Turns-start, Turns-end, Turns-chosen, Turns-from, Turns-more}
 use Rattle.idn_punycode.proofs.encoding.encode_onto.Goals as goal
-use Rattle.idn_punycode.proofs.encoding.encode_onto.Goals.{then-basic-gt0+in_ok-push_text, else-basic-gt0}
+use Rattle.idn_punycode.proofs.encoding.encode_onto.Goals.{then-basic-gt0+in_ok-push_ascii, else-basic-gt0}
 
 -- what is written behind a text, and then more
 Appends-more : (before code more : List ℕ) {text after : List ℕ} → text ≡ before ++ code → after ≡ text ++ more → after ≡ before ++ (code ++ more)
@@ -18,15 +18,15 @@ returns-in_err-places-clause-too_long c =
     OnErr-always c.from_residual.result
     (omega (arith, c.in_err-places.ensures.too_long, encode-basic_le c.args.label.now, length-append before basic, length-append before (encode c.args.label.now)))
 
-pub returns-in_err-push_text-clause-too_long : goal.returns-in_err-push_text-clause-too_long
-returns-in_err-push_text-clause-too_long c =
+pub returns-in_err-push_ascii-clause-too_long : goal.returns-in_err-push_ascii-clause-too_long
+returns-in_err-push_ascii-clause-too_long c =
     let before = c.args.text.now.bytes in
     let label = c.args.label.now in
     let text = c.in_ok-places.ensures.basic in
     let sizes = ap length text ∙ length-append before (below 128 label) in
     let longer = encode-longer label _ refl (omega (arith, c.len.ensures.value, c.len-before_len.ensures.value)) in
-    OnErr-always c.from_residual-in_err-push_text.result
-    (omega (arith, c.in_err-push_text.ensures.full, length-append before (encode label)))
+    OnErr-always c.from_residual-in_err-push_ascii.result
+    (omega (arith, c.in_err-push_ascii.ensures.full, length-append before (encode label)))
 
 pub loop-key-init : goal.loop-key-init
 loop-key-init c =
@@ -36,15 +36,15 @@ loop-key-init c =
     let sizes = ap length parts.basic ∙ length-append before code in
     let basic : c.len.result - c.len-before_len.result ≡ length code = omega (arith, c.len.ensures.value, c.len-before_len.ensures.value) in
     elim c.if-basic-gt0.branch [
-      | then-basic-gt0+in_ok-push_text w ↦
+      | then-basic-gt0+in_ok-push_ascii w ↦
           rw (c.as_slice-key-items.ensures.value, basic) (
             code ++ 45 ∷ [],
-            ap (λ t. t.bytes) w.text-is ∙ w.in_ok-push_text.ensures.ok ∙ ap (λ xs. xs ++ 45 ∷ []) parts.basic ∙ append_assoc before code (45 ∷ []),
+            ap (λ t. t.bytes) w.text-is ∙ w.in_ok-push_ascii.ensures.ok ∙ ap (λ xs. xs ++ 45 ∷ []) parts.basic ∙ append_assoc before code (45 ∷ []),
             Turns-start (Encodes-basic _ _ refl (omega (arith, w.if-basic-gt0.true))) c.requires parts.are_keys parts.all parts.places,
             parts.are_keys,
             parts.rising,
             omega arith,
-            omega (arith, ap (λ t. length t.bytes) w.text-is, w.in_ok-push_text.ensures.short),
+            omega (arith, ap (λ t. length t.bytes) w.text-is, w.in_ok-push_ascii.ensures.short),
           )
       | else-basic-gt0 w ↦
           rw (c.as_slice-key-items.ensures.value, basic) (
