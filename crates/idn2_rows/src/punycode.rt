@@ -104,12 +104,12 @@ const APPENDED: [(&str, &str, Option<&str>); 11] = [
 /// The text with the Punycode of a label after it, or nothing where it does not fit. The text has no more than 63 octets,
 /// and the label no more than 63 characters.
 fn appended(before: &str, label: &str) -> Option<ArrayString<63>> {
-    let mut points = ArrayVec::<u32, 63>::new();
+    let mut chars = ArrayVec::<char, 63>::new();
     for c in label.chars() {
-        points.try_push(c as u32).ok()?;
+        chars.try_push(c).ok()?;
     }
     let mut text = ArrayString::from(before).ok()?;
-    push_encoded(&points, &mut text).ok()?;
+    push_encoded(&chars, &mut text).ok()?;
     Some(text)
 }
 
@@ -165,7 +165,7 @@ fn a_text_stays_where_nothing_fits(rt: HostRuntime) {
     let mut text = ArrayString::<63>::new();
     text.push_str("a text of 59 octets, which leaves no room for the five more");
     let before = text;
-    let fits = push_encoded(&[0x10FFFF], &mut text).is_ok();
+    let fits = push_encoded(&['\u{10FFFF}'], &mut text).is_ok();
     assert_eq!(rt; fits, false, "{text}");
     assert_eq!(rt; text.as_str(), before.as_str());
 }

@@ -1,5 +1,5 @@
 //! Labels as numbers and as characters.
-ghost use Rattle.std.specs.Prelude.{◌≡◌, ◌≤◌, ◌++◌, length, IfOk};
+ghost use Rattle.std.specs.Prelude.{◌≡◌, ◌≤◌, length, IfOk};
 ghost use Rattle.idn_text.specs.Points.{AreScalarValues, IsScalarValue};
 
 use arrayvec::ArrayVec;
@@ -38,17 +38,6 @@ pub(crate) fn to_char(c: u32) -> char
     match char::from_u32(c) {
         Some(c) => c,
         None => unreachable!(),
-    }
-}
-
-/// Appends a short label as numbers. There must be space for it.
-#[inline]
-pub(crate) fn push_points(label: &[char], points: &mut ArrayVec<u32, 63>)
-    requires { length (points.old.items ++ label.now) ≤ 63 }
-    ensures { points.new.items ≡ points.old.items ++ label.now }
-{
-    for c in label {
-        points.push(*c as u32);
     }
 }
 

@@ -14,7 +14,6 @@ ghost use Rattle.idn_label.specs.inner.SimpleNames.{PassesInLabel, TellsRightToL
 ghost use Rattle.idn_label.specs.Lookup.{deny_list};
 
 use crate::a_label::{MAX_LABEL_LEN, encoded_label};
-use crate::code_points::push_points;
 use crate::query::bidi::pass_bidi_rule;
 use crate::query::character::character_at;
 use crate::query::ldh::MAX_QUERY_LEN;
@@ -174,9 +173,7 @@ fn push_a_label<const N: usize>(
     if is_all_ascii(label) {
         push_ascii(label, query)?;
     } else {
-        let mut points = ArrayVec::new();
-        push_points(label, &mut points);
-        let a_label = encoded_label(&points).ok()?;
+        let a_label = encoded_label(label).ok()?;
         query.try_extend_from_slice(a_label.as_bytes()).ok()?;
     }
     Some(())

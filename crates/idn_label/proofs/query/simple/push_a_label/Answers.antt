@@ -17,18 +17,14 @@ returns-in_ok-push_ascii-clause-length g c =
 
 pub returns-in_ok-ok-clause-written : goal.returns-in_ok-ok-clause-written
 returns-in_ok-ok-clause-written g c =
-    let label = c.args.label.now in
-    let points : c.deref.result.now ≡ label = c.deref.ensures.0 ∙ c.push_points.ensures ∙ ap (λ xs. xs ++ label) c.new-points.ensures in
-    let is : a_label_of label ≡ codes "xn--" ++ encode label = a_label_of-other label (sym c.if-is_all_ascii.ensures) in
+    let is : a_label_of c.args.label.now ≡ codes "xn--" ++ encode c.args.label.now = a_label_of-other c.args.label.now (sym c.if-is_all_ascii.ensures) in
     let pushed : c.try_extend_from_slice.new.self.items ≡ c.args.query.now.items ++ c.as_bytes.result.now = search rules in
-    let ok : c.in_ok-a_label.a_label.bytes ≡ codes "xn--" ++ encode c.deref.result.now = search rules in
-    pushed ∙ ap (λ x. c.args.query.now.items ++ x) (c.as_bytes.ensures.value ∙ c.deref-else-is_all_ascii.ensures.0 ∙ ok ∙ ap (λ xs. codes "xn--" ++ encode xs) points ∙ sym is)
+    let ok : c.in_ok-a_label.a_label.bytes ≡ codes "xn--" ++ encode c.args.label.now = search rules in
+    pushed ∙ ap (λ x. c.args.query.now.items ++ x) (c.as_bytes.ensures.value ∙ c.deref.ensures.0 ∙ ok ∙ sym is)
 
 pub returns-in_ok-ok-clause-length : goal.returns-in_ok-ok-clause-length
 returns-in_ok-ok-clause-length g c =
-    let label = c.args.label.now in
-    let points : c.deref.result.now ≡ label = c.deref.ensures.0 ∙ c.push_points.ensures ∙ ap (λ xs. xs ++ label) c.new-points.ensures in
-    let code = encode c.deref.result.now in
-    let is : a_label_of label ≡ codes "xn--" ++ code = a_label_of-other label (sym c.if-is_all_ascii.ensures) ∙ ap (λ xs. codes "xn--" ++ encode xs) (sym points) in
+    let code = encode c.args.label.now in
+    let is : a_label_of c.args.label.now ≡ codes "xn--" ++ code = a_label_of-other c.args.label.now (sym c.if-is_all_ascii.ensures) in
     let short : length (codes "xn--" ++ code) ≤ 63 = search rules in
     subst (λ x. is_in_range 1 63 (length x) ≡ true) (sym is) (in_range (length (codes "xn--" ++ code)) (omega (arith, length-append (codes "xn--") code)) short)
