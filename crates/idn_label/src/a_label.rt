@@ -5,8 +5,7 @@ ghost use Rattle.idn_label.specs.ALabel.{a_label_of};
 ghost use Rattle.idn_label.specs.FirstFault.{first_fault, IsRegistrable};
 ghost use Rattle.idn_label.specs.inner.FaultSteps.{fault_but_length};
 
-use crate::code_points::short_chars;
-use crate::unit::is_all_ascii;
+use crate::unit::{Unit, is_all_ascii};
 use arrayvec::ArrayString;
 use idn_punycode::push_encoded;
 use idn_text::Refusal;
@@ -31,15 +30,15 @@ pub(crate) fn measured_a_label(label: &[u32]) -> Result<ALabel, Refusal>
     if is_all_ascii(label) {
         return Ok(ascii_text(label));
     }
-    encoded_label(&short_chars(label))
+    encoded_label(label)
 }
 
 /// The prefix and the Punycode of a label, if they are short enough.
-pub(crate) fn encoded_label(label: &[char]) -> Result<ALabel, Refusal>
-    requires { length label.now ≤ 63 }
-    ensures ok { IfOk result (λ answer. answer.bytes ≡ codes "xn--" ++ encode label.now) }
-    ensures short { OnOk result (length (codes "xn--" ++ encode label.now) ≤ 63) }
-    ensures too_long { IfErr result (λ refusal. (refusal ≡ Refusal.LabelTooLong) × (63 < length (codes "xn--" ++ encode label.now))) }
+pub(crate) fn encoded_label<U: Unit>(label: &[U]) -> Result<ALabel, Refusal>
+    requires { length (U.codes label.now) ≤ 63 }
+    ensures ok { IfOk result (λ answer. answer.bytes ≡ codes "xn--" ++ encode (U.codes label.now)) }
+    ensures short { OnOk result (length (codes "xn--" ++ encode (U.codes label.now)) ≤ 63) }
+    ensures too_long { IfErr result (λ refusal. (refusal ≡ Refusal.LabelTooLong) × (63 < length (codes "xn--" ++ encode (U.codes label.now)))) }
 {
     let mut answer = ALabel::new();
     answer.push_str("xn--");

@@ -1,67 +1,16 @@
 //! What octets, numbers and characters share, as the code points of a label.
-ghost use Rattle.std.specs.Prelude.{◌≡◌, ◌<◌, ◌≤◌, ℕ, List, [], ◌∷◌, ◌++◌, length, map, slice_index, IfSome};
+ghost use Rattle.std.specs.Prelude.{◌≡◌, ◌<◌, ◌≤◌, [], ◌∷◌, ◌++◌, length, map, slice_index, IfSome};
 ghost use Rattle.std.specs.Option.{option_map_or};
 ghost use Rattle.std.specs.Char.{to_ascii_lowercase};
-ghost use Rattle.std.proofs.Common.{map-id, sym};
 ghost use Rattle.idna.specs.Labels.{labels_of};
 ghost use Rattle.idna.specs.Validity.{is_all_ascii, has_ace_prefix, has_hyphens_third_and_fourth};
 ghost use Rattle.idn_label.specs.FirstFault.{has_hyphen_out_of_place};
 
+pub(crate) use idn_punycode::Unit;
+
 const HYPHEN: u32 = 0x2D;
 
 pub(crate) const FULL_STOP: u32 = 0x2E;
-
-/// A code point of a label as it is held: an octet of ASCII, a number, or a character.
-pub(crate) trait Unit: Copy {
-    ghost code: { Self → ℕ };
-
-    /// The code points of a text of such units.
-    ghost codes: { List Self → List ℕ };
-
-    fn code_point(self) -> u32
-        ensures { result ≡ code self };
-
-    ghost codes_are: { (units : List Self) → codes units ≡ map code units };
-}
-
-impl Unit for u8 {
-    ghost code = { λ octet. octet };
-
-    ghost codes = { λ octets. octets };
-
-    ghost codes_are = { λ octets. sym (map-id octets) };
-
-    #[inline]
-    fn code_point(self) -> u32 {
-        u32::from(self)
-    }
-}
-
-impl Unit for u32 {
-    ghost code = { λ number. number };
-
-    ghost codes = { λ numbers. numbers };
-
-    ghost codes_are = { λ numbers. sym (map-id numbers) };
-
-    #[inline]
-    fn code_point(self) -> u32 {
-        self
-    }
-}
-
-impl Unit for char {
-    ghost code = { λ character. character };
-
-    ghost codes = { λ characters. characters };
-
-    ghost codes_are = { λ characters. sym (map-id characters) };
-
-    #[inline]
-    fn code_point(self) -> u32 {
-        self as u32
-    }
-}
 
 /// The code point at a place, or 0 past the end.
 #[inline]
