@@ -2,7 +2,7 @@ use Rattle.std.proofs.Common.{◌≡◌, ℕ, ◌==◌, ◌&&◌, List, map, get
 use Rattle.std.specs.Char.{to_ascii_lowercase}
 use Rattle.std.proofs.Math.ListN.{get_or-map}
 use Rattle.std.proofs.lemmas.Bool.Decides.{nat_tests}
-use Rattle.idna.specs.Validity.{has_ace_prefix, has_hyphens_third_and_fourth}
+use Rattle.idna.specs.Validity.{has_hyphens_third_and_fourth}
 use Rattle.idna.proofs.ValidityLemmas.{has_ace_prefix_by_index}
 use Rattle.idn_label.proofs.unit.has_ace_prefix_in_any_case.Goals as goal
 
