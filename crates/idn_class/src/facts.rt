@@ -53,6 +53,9 @@ pub struct Facts {
 /// The bits of all facts.
 const ALL: u32 = 0x7F;
 
+/// One past the last code point.
+const END: u32 = 0x11_0000;
+
 impl Facts {
     /// No fact.
     pub(crate) const NONE: Facts = Facts { absent: ALL };
@@ -73,6 +76,10 @@ impl Facts {
     {
         let mut facts = Facts { absent: ALL };
         for c in label {
+            // The look-up is faster where it need not ask this itself.
+            if *c >= END {
+                return Facts { absent: 0 };
+            }
             facts = facts.joined(Facts::of(*c));
         }
         facts

@@ -33,11 +33,10 @@ pub fn decode_ascii<const N: usize>(
     ensures grown { array_vec_len text.new ≤ array_vec_len text.old + 4 * length name.now }
     ensures no_memory { All DecodesWithoutMemory (labels_of name.now) → result ≢ Err Refusal.Memory }
 {
-    let mut u_label = ArrayVec::new();
     let mut rest = name;
     'labels: loop {
         let (label, others) = split_first_label(rest);
-        decode_label(alloc, label, &mut u_label, text)?;
+        decode_label(alloc, label, text)?;
         let Some(others) = others else {
             return Ok(());
         };
@@ -46,11 +45,10 @@ pub fn decode_ascii<const N: usize>(
     }
 }
 
-/// Appends the UTF-8 of a label, decoded if it begins with `xn--` in any ASCII case. `u_label` is a buffer.
+/// Appends the UTF-8 of a label, decoded if it begins with `xn--` in any ASCII case.
 fn decode_label<const N: usize>(
     alloc: Global,
     label: &[u8],
-    u_label: &mut ArrayVec<u32, 63>,
     text: &mut ArrayVec<u8, N>,
 ) -> Result<(), Refusal>
     requires ascii { IsAscii label.now }
@@ -61,8 +59,9 @@ fn decode_label<const N: usize>(
     ensures no_memory { DecodesWithoutMemory label.now → result ≢ Err Refusal.Memory }
 {
     if has_ace_prefix_in_any_case(label) {
-        u_label_in_any_case(alloc, label, u_label)?;
-        push_points(u_label, text);
+        let mut u_label = ArrayVec::new();
+        u_label_in_any_case(alloc, label, &mut u_label)?;
+        push_points(&u_label, text);
         return Ok(());
     }
     let Ok(()) = text.try_extend_from_slice(label) else {

@@ -25,7 +25,7 @@ use std::str;
 pub(crate) const MAX_LINE_LEN: usize = 1024;
 
 /// Leaves in `label` what an A-label in any ASCII case stands for, in place of what stood there. A label that passes the
-/// test has no capital, so its code need not be put into lower case first.
+/// test has no capital, so only one that is refused is put into lower case, to tell why.
 pub(crate) fn u_label_in_any_case(
     alloc: Global,
     given: &[u8],
@@ -38,14 +38,11 @@ pub(crate) fn u_label_in_any_case(
     ensures shorter { OnOk result (length label.new.items < length given.now) }
     ensures no_memory { NeedsNoMemoryDecoded (map to_ascii_lowercase given.now) → result ≢ Err Refusal.Memory }
 {
-    match tested_u_label(alloc, given, label) {
-        Ok(()) => Ok(()),
-        Err(refusal) if has_no_capital(given) => Err(refusal),
-        Err(_) => {
-            let lower = lowercase_of(given);
-            tested_u_label(alloc, &lower, label)
-        }
+    if let Ok(()) = tested_u_label(alloc, given, label) {
+        return Ok(());
     }
+    let lower = lowercase_of(given);
+    tested_u_label(alloc, &lower, label)
 }
 
 /// Leaves in `label` the label that an A-label stands for, which may be registered and has that A-label, in place of what
@@ -98,21 +95,12 @@ fn tested_u_label(alloc: Global, given: &[u8], label: &mut ArrayVec<u32, 63>) ->
     }
     let (_, code) = given.split_at(4);
     let Ok(()) = decode(code, label) else {
-        return Err(bad_code());
+        return Err(Refusal::BadALabel);
     };
     if is_all_ascii(label) {
         return Err(refusal_of(alloc, given));
     }
     check_label(alloc, label)
-}
-
-/// How a code that is no Punycode is refused. It stands apart, since the loop over the digits would prepare it at each.
-#[cold]
-#[inline(never)]
-fn bad_code() -> Refusal
-    ensures { result ≡ Refusal.BadALabel }
-{
-    Refusal::BadALabel
 }
 
 /// Why an A-label is refused that no label which may be registered has.

@@ -70,10 +70,8 @@ pub(crate) fn has_ace_prefix<U: Unit>(label: &[U]) -> bool
 pub(crate) fn has_ace_prefix_in_any_case<U: Unit>(label: &[U]) -> bool
     ensures { result ≡ has_ace_prefix (map to_ascii_lowercase (U.codes label.now)) }
 {
-    (lowercase_at(label, 2) == HYPHEN)
-        & (lowercase_at(label, 3) == HYPHEN)
-        & (lowercase_at(label, 0) == 'x' as u32)
-        & (lowercase_at(label, 1) == 'n' as u32)
+    has_hyphens_third_and_fourth(label)
+        && (lowercase_at(label, 0) == 'x' as u32) & (lowercase_at(label, 1) == 'n' as u32)
 }
 
 /// The code point at a place in lower case, or 0 past the end.

@@ -53,3 +53,11 @@ labels-preserved g c =
           (all_labels DecodesWithoutMemory rest first (labels_of others.now)
           (labels_of-some rest first c.split_first_label.result.1 others c.split_first_label.ensures.labels c.in-Some.is) (c.labels.invariant.4 all)).1),
     )
+
+pub returns-in_err-decode_label-clause-no_memory : goal.returns-in_err-decode_label-clause-no_memory
+returns-in_err-decode_label-clause-no_memory g c =
+    λ all.
+    let p = err_from_is_err_and c.from_residual.result c.from_residual.ensures.1 in
+    let label = c.split_first_label.result.0.now in
+    let first = (all_labels DecodesWithoutMemory c.labels.rest.now label _ c.split_first_label.ensures.labels (c.labels.invariant.4 all)).0 in
+    rw (p.1, p.2) (λ e. c.decode_label.ensures.no_memory first (c.in_err-decode_label.was ∙ e))

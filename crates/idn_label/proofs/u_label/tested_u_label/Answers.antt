@@ -1,4 +1,4 @@
-use Rattle.std.proofs.Common.{◌≤◌, length, Err, refl, sym, ap, ◌∙◌, arith}
+use Rattle.std.proofs.Common.{◌≤◌, length, refl, sym, ap, ◌∙◌, arith}
 use Rattle.std.proofs.lemmas.Result.{on_ok_weaker, MatchResult-weaker}
 use Rattle.idna.specs.Punycode.{decode}
 use Rattle.idna.specs.Validity.{is_all_ascii}
@@ -22,7 +22,7 @@ returns-in_default-clause-fault c =
     λ _ _.
     let given = c.args.given.now in
     let none = ap decode (sym c.split_at.ensures.back) ∙ c.in_default.ensures.refused in
-    u_label_answer-code_fault given _ _ refl (decoded_code-none _ (is_all_ascii-code given c.requires.ascii) none) ∙ ap Err (sym c.bad_code.ensures)
+    u_label_answer-code_fault given _ _ refl (decoded_code-none _ (is_all_ascii-code given c.requires.ascii) none)
 
 pub refusal_of-requires-then-is_all_ascii-clause-prefix : goal.refusal_of-requires-then-is_all_ascii-clause-prefix
 refusal_of-requires-then-is_all_ascii-clause-prefix c = prefix_long c.args.given.now c.requires.prefix
