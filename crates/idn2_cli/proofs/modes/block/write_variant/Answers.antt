@@ -1,4 +1,4 @@
-use Rattle.std.proofs.Common.{◌≡◌, ◌+◌, ◌*◌, ◌≤◌, List, ℕ, [], ◌∷◌, ◌∙◌, ap, arith, length, length-append}
+use Rattle.std.proofs.Common.{[], ◌∷◌, ◌∙◌, ap, arith, length, length-append}
 use Rattle.idn_text.proofs.Utf8Lemmas.{length-utf8_of-le}
 use Rattle.idn_label.proofs.RequirementLemmas.{MeetsRequirements-registrable}
 use Rattle.idn2_cli.proofs.DecodedLemmas.{registrable-scalar}
