@@ -50,3 +50,5 @@ pub mod ModeLemmas
 pub mod ExampleLemmas
 -- The shortest hopeless beginning of a label, as a listing asks for it.
 pub mod HopeLemmas
+-- A line that begins with a label's UTF-8, cut or lengthened.
+pub mod KeptLineLemmas

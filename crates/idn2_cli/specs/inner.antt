@@ -4,3 +4,4 @@ pub mod LineAnswers
 pub mod TableFaults
 pub mod Dispositions
 pub mod GapSequences
+pub mod KeptLines

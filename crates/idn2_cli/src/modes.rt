@@ -6,6 +6,7 @@ mod check_table;
 pub(crate) mod code_points;
 mod decode;
 mod dispositions;
+mod kept_line;
 mod lookup;
 mod register;
 mod variants;

@@ -10,4 +10,5 @@ pub mod Neighbors
 pub mod Rows
 pub mod Tests
 pub mod Hopeless
+pub mod Shared
 pub mod inner

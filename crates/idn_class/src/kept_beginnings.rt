@@ -1,5 +1,5 @@
 ghost use Rattle.std.specs.Prelude.{◌≡◌, ◌≤◌, length, take};
-ghost use Rattle.idn_class.specs.inner.Known.{IsLongestShared};
+ghost use Rattle.idn_class.specs.Shared.{IsLongestShared};
 
 use crate::beginning::with_hyphens;
 use crate::facts::Facts;
@@ -35,7 +35,8 @@ impl KeptBeginnings {
     ghost use Rattle.idn_class.specs.Hopeless.{IsShortestHopeless, HasHope};
     ghost use Rattle.idn_class.specs.Facts.{AreFactsOf};
     ghost use Rattle.idn_class.specs.inner.Directions.{IsShortest, HasNone, breaks_at_first};
-    ghost use Rattle.idn_class.specs.inner.Known.{IsKnown, IsLongestShared};
+    ghost use Rattle.idn_class.specs.Shared.{IsLongestShared};
+    ghost use Rattle.idn_class.specs.inner.Known.{IsKnown};
 
     /// Of the empty label.
     pub fn new() -> KeptBeginnings
@@ -138,7 +139,7 @@ impl KeptBeginnings {
 }
 
 /// How many code points two labels share at their start.
-fn shared_len(a: &[u32], b: &[u32]) -> usize
+pub fn shared_len(a: &[u32], b: &[u32]) -> usize
     ensures same { take result a.now ≡ take result b.now }
     ensures within_a { result ≤ length a.now }
     ensures within_b { result ≤ length b.now }

@@ -30,7 +30,7 @@ pub use contextj::contextj_ok;
 pub use contexto::contexto_ok;
 pub use facts::{Fact, Facts};
 pub use joining_type::JoiningType;
-pub use kept_beginnings::KeptBeginnings;
+pub use kept_beginnings::{KeptBeginnings, shared_len};
 pub use laws::{
     bidi_rows, class_rows, hopeless_for_good, hopeless_rows, joiner_rows, mark_rows,
     only_rtl_labels_pass, other_rows, tests_are_rules,

@@ -1,5 +1,5 @@
 -- What the answer of a search for a tested label says.
-use Rattle.std.proofs.Common.{◌≡◌, ℕ, Bool, List, Option, Some, None, Result, Ok, Err, sym, ◌∙◌, subst}
+use Rattle.std.proofs.Common.{◌≡◌, ℕ, Bool, List, Option, Some, None, Result, Ok, Err, subst}
 use Rattle.std.specs.declared.alloc.AllocError.{AllocError}
 use Rattle.variant_list.specs.Positions.{Position}
 use Rattle.variant_list.specs.inner.Skips.{Finds, FindsHope, FindsNone, IfTested}

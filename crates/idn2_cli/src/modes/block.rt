@@ -20,13 +20,14 @@ ghost use Rattle.idn2_cli.specs.declared.session.stop.Stop.TheVariants as stop;
 
 use crate::command_line::options::Options;
 use crate::modes::dispositions::Dispositions;
+use crate::modes::kept_line::KeptLine;
 use crate::session::buffers::append;
 use crate::session::console::Console;
 use crate::session::stop::Stop;
 use arrayvec::{ArrayString, ArrayVec};
 use idn_class::KeptBeginnings;
 use idn_label::{ALabel, test_label_of};
-use idn_text::{Refusal, Sink, write_points};
+use idn_text::{Refusal, Sink};
 use itoa::Buffer;
 use std::alloc::{AllocError, Global};
 use variant_list::{Cursor, Judge, Net, Outcome, Verdict};
@@ -51,19 +52,19 @@ pub(crate) fn write_block<W: Sink, E: Sink>(
     };
     let mut tries = options.tries;
     let mut count = 0;
-    let mut text = ArrayVec::new();
+    let mut line = KeptLine::new();
     'variants: loop {
         let a_label = match cursor.seek(alloc, &mut judge, &mut tries)? {
             Outcome::Found(a_label) => a_label,
-            Outcome::Spent => return write_stop(count, cursor.last(), &mut text, console),
+            Outcome::Spent => return write_stop(count, cursor.last(), &mut line, console),
             Outcome::Ended => return write_end(count, console),
         };
         let variant = cursor.last();
         let field = dispositions.field(alloc, variant)?;
-        write_variant(variant, &a_label, field, &mut text, console)?;
+        write_variant(variant, &a_label, field, &mut line, console)?;
         count += 1;
         if is_reached(options.limit, count) {
-            return write_stop(count, cursor.last(), &mut text, console);
+            return write_stop(count, cursor.last(), &mut line, console);
         }
     }
 }
@@ -114,12 +115,12 @@ fn is_reached(limit: Option<u64>, count: u64) -> bool
     }
 }
 
-/// Writes a variant, its A-label and its third field. `text` is a buffer for the line.
+/// Writes a variant, its A-label and its third field.
 fn write_variant<W: Sink, E: Sink>(
     label: &[u32],
     a_label: &ALabel,
     field: &str,
-    text: &mut ArrayVec<u8, 4096>,
+    line: &mut KeptLine,
     console: &mut Console<'_, '_, W, E>,
 ) -> Result<(), Stop>
     requires registrable { IsRegistrable label.now }
@@ -127,20 +128,20 @@ fn write_variant<W: Sink, E: Sink>(
     requires short { length field.now ≤ 16 }
     ensures { Emits console.old console.new (Output (variant_line field.now label.now ++ 10 ∷ []) ∷ []) result }
 {
-    write_points(label, text);
-    text.push(b'\t');
-    append(text, a_label.as_str().as_bytes());
-    append(text, field.as_bytes());
-    text.push(b'\n');
-    console.output(text.as_slice())
+    line.begin(label);
+    line.append(b"\t");
+    line.append(a_label.as_str().as_bytes());
+    line.append(field.as_bytes());
+    line.append(b"\n");
+    console.output(line.as_slice())
 }
 
-/// Writes the trailer of a listing that stops at a label of at most 63 code points. `text` is room
+/// Writes the trailer of a listing that stops at a label of at most 63 code points. `text` is begun anew
 /// for the label.
 fn write_stop<W: Sink, E: Sink>(
     count: u64,
     last: &[u32],
-    text: &mut ArrayVec<u8, 4096>,
+    text: &mut KeptLine,
     console: &mut Console<'_, '_, W, E>,
 ) -> Result<(), Stop>
     requires short { length last.now ≤ 63 }
@@ -148,7 +149,7 @@ fn write_stop<W: Sink, E: Sink>(
     ensures written { Emits console.old console.new (Output (trailer count (Some last.now) ++ 10 ∷ []) ∷ []) result }
     ensures why { IfErr result (λ why. why ≡ stop.Output) }
 {
-    write_points(last, text);
+    text.begin(last);
     let line = stop_line(count, text.as_slice());
     console.output(line.as_slice())
 }

@@ -1,5 +1,5 @@
 -- What is known of the beginnings of a label, one code point after the other: words of inner functions.
-use Rattle.std.specs.Prelude.{◌≡◌, ℕ, ◌+◌, ◌<◌, ◌≤◌, ◌++◌, List, length, take, slice_index_or}
+use Rattle.std.specs.Prelude.{◌≡◌, ℕ, ◌+◌, ◌<◌, ◌++◌, List, length, take, slice_index_or}
 use Rattle.idn_class.specs.declared.known.Known.{Known}
 use Rattle.idn_class.specs.inner.Directions.{HasNone, breaks_at_first, breaks_behind}
 use Rattle.idn_class.specs.Facts.{AreFactsOf}
@@ -13,7 +13,3 @@ pub record IsKnown (w : List ℕ) (known : Known) : Type 0 where
 -- at each place of the label stands what is known of the beginning that ends there
 abbrev pub AreKnown : List ℕ → List Known → Type 0
 AreKnown label known = (i : ℕ) (k : Known) → i < length label → IsKnown (take (i + 1) label) (slice_index_or known i k)
-
--- two labels share no longer beginning than one of so many code points
-abbrev pub IsLongestShared : List ℕ → List ℕ → ℕ → Type 0
-IsLongestShared a b count = (n : ℕ) → n ≤ length a → n ≤ length b → take n a ≡ take n b → n ≤ count

@@ -6,5 +6,5 @@ pub stop_line-line-requires : goal.stop_line-line-requires
 stop_line-line-requires g c =
     let short = c.requires.short in
     let most = length-utf8_of-le c.args.last.now in
-    let count = ap length (c.as_slice.ensures.value ∙ c.write_points.ensures) in
+    let count = ap length (c.as_slice.ensures ∙ c.begin.ensures) in
     omega (arith, short, most, count)

@@ -1,0 +1,99 @@
+//! The line of a variant, whose beginning stays from one variant to the next.
+
+ghost use Rattle.std.specs.Prelude.{◌≡◌, ◌≤◌, ◌<◌, ◌+◌, ◌∷◌, [], ◌++◌, length, take};
+ghost use Rattle.idn_text.specs.Points.{AreScalarValues, IsScalarValue, utf8_of};
+
+use crate::session::buffers::append;
+use arrayvec::ArrayVec;
+use idn_class::shared_len;
+use idn_text::push_points;
+use std::marker::Model;
+
+/// The most code points of a label (RFC 1034, section 3.1).
+const MAX_LABEL_LEN: usize = 63;
+
+/// The most octets of a line: four for each code point of a label, a tab, an A-label, a field and a line feed.
+const MAX_LINE_LEN: usize = 4 * MAX_LABEL_LEN + 1 + 63 + 16 + 1;
+
+/// A line that begins with a label's UTF-8. The next line keeps that of the code points which both labels share at their
+/// start. Contracts see the label and the line.
+#[derive(Drop)]
+pub(crate) struct KeptLine {
+    label: ArrayVec<u32, MAX_LABEL_LEN>,
+    /// How many octets of UTF-8 the first code points of the label have, from none of them to all.
+    ends: [u8; MAX_LABEL_LEN + 1],
+    line: ArrayVec<u8, MAX_LINE_LEN>,
+}
+
+impl Model for KeptLine {
+    ghost use Rattle.idn2_cli.specs.inner.KeptLines.{Begun, BeginsWith};
+
+    ghost Value = { Begun };
+
+    ghost view = { λ kept. record { label = kept.label.items; line = kept.line.items } };
+
+    ghost invariant = { λ kept. BeginsWith kept.line.items kept.label.items kept.ends };
+}
+
+impl KeptLine {
+    /// Of the empty label.
+    pub(crate) fn new() -> KeptLine {
+        KeptLine {
+            label: ArrayVec::new(),
+            ends: [0; MAX_LABEL_LEN + 1],
+            line: ArrayVec::new(),
+        }
+    }
+
+    /// Begins the line of a label of at most 63 code points.
+    pub(crate) fn begin(&mut self, label: &[u32])
+        requires short { length label.now ≤ 63 }
+        requires scalar_values { AreScalarValues label.now }
+        ensures { self.new.line ≡ utf8_of label.now }
+    {
+        for index in self.keep_shared(label)..label.len() {
+            self.push(label[index]);
+        }
+    }
+
+    /// Appends a text for which there is space.
+    pub(crate) fn append(&mut self, text: &[u8])
+        requires { length self.old.line + length text.now ≤ 333 }
+        ensures { self.new.line ≡ self.old.line ++ text.now }
+    {
+        append(&mut self.line, text);
+    }
+
+    /// The line.
+    pub(crate) fn as_slice(&self) -> &[u8]
+        ensures { result.now ≡ self.now.line }
+    {
+        self.line.as_slice()
+    }
+
+    /// Keeps what the label shares at its start with the one before, and tells how many code points that are.
+    fn keep_shared(&mut self, label: &[u32]) -> usize
+        ensures within { result ≤ length label.now }
+        ensures label { self.new.label ≡ take result label.now }
+        ensures line { self.new.line ≡ utf8_of (take result label.now) }
+    {
+        let count = shared_len(self.label.as_slice(), label);
+        let end = usize::from(self.ends[count]);
+        self.label.truncate(count);
+        self.line.truncate(end);
+        count
+    }
+
+    /// Appends a code point to the label and to the line, which has nothing behind the label.
+    fn push(&mut self, point: u32)
+        requires room { length self.old.label < 63 }
+        requires scalar_value { IsScalarValue point }
+        requires line { self.old.line ≡ utf8_of self.old.label }
+        ensures label { self.new.label ≡ self.old.label ++ point ∷ [] }
+        ensures line { self.new.line ≡ utf8_of (self.old.label ++ point ∷ []) }
+    {
+        push_points(&[point], &mut self.line);
+        self.label.push(point);
+        self.ends[self.label.len()] = self.line.len() as u8;
+    }
+}
