@@ -111,8 +111,16 @@ chunk_later : (q : List ℕ) (at n k : ℕ) → k ≤ n → drop k (chunk at n q
 chunk_later q at n k le =
     ap (λ m. drop k (take m (drop at q))) (let e : n ≡ k + (n - k) = omega arith in e) ∙ drop-take k (n - k) (drop at q) ∙ ap (take (n - k)) (drop-drop k at q)
 
--- the first lane that passes, and the mask of those behind it
-pub next_lane : (p : ℕ → Bool) (q : List ℕ) (at n mask : ℕ) → at + n ≤ length q → n ≤ 64 → mask ≡ mask_l (map p (chunk at n q)) → mask ≢ 0 → (let r = count_trailing_zeros 64 mask in (r < n) × ((k : ℕ) → at ≤ k → k < at + r → p (get_or q k 0) ≡ false) × (p (get_or q (at + r) 0) ≡ true) × (mask / 2 ^ r / 2 ≡ mask_l (map p (chunk (at + r + 1) (n - (r + 1)) q))))
+-- of n octets from `at` on, r don't pass and then one passes; and the mask of those behind it
+abbrev pub IsNext : (ℕ → Bool) → List ℕ → ℕ → ℕ → ℕ → ℕ → Type 0
+IsNext p q at n mask r =
+    (r < n)
+    × ((k : ℕ) → at ≤ k → k < at + r → p (get_or q k 0) ≡ false)
+    × (p (get_or q (at + r) 0) ≡ true)
+    × (mask / 2 ^ r / 2 ≡ mask_l (map p (chunk (at + r + 1) (n - (r + 1)) q)))
+
+-- the lowest bit is the first lane that passes
+pub next_lane : (p : ℕ → Bool) (q : List ℕ) (at n mask : ℕ) → at + n ≤ length q → n ≤ 64 → mask ≡ mask_l (map p (chunk at n q)) → mask ≢ 0 → IsNext p q at n mask (count_trailing_zeros 64 mask)
 next_lane p q at n mask room few is some =
     let v = chunk at n q in
     let r = count_trailing_zeros 64 mask in

@@ -1,4 +1,4 @@
-use Rattle.std.proofs.Common.{◌≡◌, ℕ, suc, Bool, List, [], ◌∷◌, ◌+◌, ◌-◌, true, false, ◌<◌, ◌≤◌, ◌++◌, map, length, take, drop, take_all, slice_range, get_or, All, Ok, Err, refl, sym, ap, ap₂, subst, ◌∙◌, inl, inr, length-take, length-drop, arith}
+use Rattle.std.proofs.Common.{◌≡◌, ℕ, suc, Bool, List, [], ◌∷◌, ◌≢◌, ◌+◌, ◌-◌, min, true, false, ◌<◌, ◌≤◌, ◌++◌, map, length, take, drop, take_all, slice_range, get_or, All, Ok, Err, refl, sym, ap, ap₂, subst, ◌∙◌, inl, inr, length-take, length-drop, arith}
 use Rattle.std.specs.Char.{to_ascii_lowercase}
 use Rattle.std.specs.Simd.Lanes.{chunk, mask_l}
 use Rattle.std.proofs.Math.Bool.{and-false}
@@ -16,7 +16,7 @@ use Rattle.idna.specs.Uts46.{verify_dns_length}
 use Rattle.idn_text.specs.declared.refusal.Refusal.TheVariants.{LookupLength}
 use Rattle.idn_label.specs.Lookup.{deny_list}
 use Rattle.idn_label.specs.LdhNames.{is_name_point, may_end}
-use Rattle.idn_label.proofs.LaneLemmas.{next_lane}
+use Rattle.idn_label.proofs.LaneLemmas.{IsNext, next_lane}
 use Rattle.idn_label.proofs.LdhLabels.{IsSplit, split_nothing, split_free, split_measured, part_more, label_more, stop_more, part_prefix}
 use Rattle.idn_label.proofs.LdhNames.{to_ascii-lowercase_name}
 use Rattle.idn_label.proofs.LookupLemmas.{Gives-measured}
@@ -34,15 +34,14 @@ take-behind [] ys n = ap (λ m. take m ys) (let e : 0 + n ≡ n = omega arith in
 take-behind (x ∷ xs) ys n = ap (λ m. take m (x ∷ xs ++ ys)) (let e : length (x ∷ xs) + n ≡ suc (length xs + n) = omega arith in e) ∙ ap (λ l. x ∷ l) (take-behind xs ys n)
 
 -- a block more in the room
-room_more : (room name part : List ℕ) (at end k : ℕ) → at ≤ end → end ≤ length name → length name ≤ length room → at + k ≡ length room → length part ≡ k → take at room ≡ take at (lowered name) → take (length (slice_range name at end)) part ≡ lowered (slice_range name at end) → take end (put_mid at k room part) ≡ take end (lowered name)
-room_more room name part at end k order within fits whole long front block =
+room_more : (room name part : List ℕ) (at end : ℕ) → at ≤ end → end ≤ length name → length name ≤ length room → length part ≡ length (take (length room - at) (drop at room)) → take at room ≡ take at (lowered name) → take (length (slice_range name at end)) part ≡ lowered (slice_range name at end) → take end (put_mid at (length room - at) room part) ≡ take end (lowered name)
+room_more room name part at end order within fits same front block =
     let n = end - at in
     let count : length (slice_range name at end) ≡ n = omega (arith, length-take n (drop at name), length-drop at name) in
     let before : length (take at room) ≡ at = length-take-le at room (omega arith) in
-    let sum : end ≡ length (take at room) + n = omega arith in
-    sym (take-take end (length room) (put_mid at k room part) (omega arith))
-    ∙ ap (take end) (take-put_mid at k room part (length room) (omega arith) (omega arith))
-    ∙ ap (λ m. take m (take at room ++ part)) sum
+    sym (take-take end (length room) (put_mid at (length room - at) room part) (omega arith))
+    ∙ ap (take end) (take-put_mid at (length room - at) room part (length room) (let long : length room ≡ at + length part = omega (arith, length-take (length room - at) (drop at room), length-drop at room) in long) (omega arith))
+    ∙ ap (λ m. take m (take at room ++ part)) (let sum : end ≡ length (take at room) + n = omega arith in sum)
     ∙ take-behind (take at room) part n
     ∙ ap₂ (λ a b. a ++ b) front (ap (λ m. take m part) (sym count) ∙ block ∙ lowered_part name at end)
     ∙ sym (take-add at n (lowered name))
@@ -57,6 +56,11 @@ same_part room q start stop end order within same =
 
 plain_more : (q : List ℕ) (start at end : ℕ) → ((k : ℕ) → start ≤ k → k < at → is_full_stop (get_or q k 0) ≡ false) → ((k : ℕ) → at ≤ k → k < end → is_full_stop (get_or q k 0) ≡ false) → (k : ℕ) → start ≤ k → k < end → is_full_stop (get_or q k 0) ≡ false
 plain_more q start at end first second k from to = elim (cases_lt k at) [ inl early ↦ first k from early | inr late ↦ second k late to ]
+
+-- the next full stop of a block that begins at `from`
+next_stop : (name : List ℕ) (from at end stops : ℕ) → end ≡ min (length name) (from + 32) → from ≤ at → at ≤ end → stops ≡ mask_l (map is_full_stop (chunk at (end - at) (lowered name))) → stops ≢ 0 → IsNext is_full_stop (lowered name) at (end - at) stops (count_trailing_zeros 64 stops)
+next_stop name from at end stops is later order rest some =
+    next_lane is_full_stop (lowered name) at (end - at) stops (omega (arith, length-map name to_ascii_lowercase)) (omega arith) rest some
 
 pub pieces-init : goal.pieces-init
 pieces-init c = record {
@@ -80,18 +84,18 @@ pub slice_bounds-has_ace_prefix-end : goal.slice_bounds-has_ace_prefix-end
 slice_bounds-has_ace_prefix-end c =
     let name = c.args.name.now in
     let end = c.min-end.result in
-    let at = c.pieces.at in
-    let whole = room_more c.pieces.room name c.lowercase_block.new.room at end (length c.pieces.room - at) (omega (arith, c.labels.invariant.within)) (omega (arith, c.min-end.ensures)) (omega (arith, c.requires, c.pieces.invariant.room, c.if-name-gt-MAX_QUERY_LEN.false)) (omega (arith, c.pieces.invariant.within, c.requires, c.pieces.invariant.room, c.if-name-gt-MAX_QUERY_LEN.false)) (c.in_ok-stops.ensures.length ∙ length-take-le (length c.pieces.room - at) (drop at c.pieces.room) (omega (arith, length-drop at c.pieces.room))) c.pieces.invariant.lower c.in_ok-stops.ensures.lower in
-    let next = next_lane is_full_stop (lowered name) c.labels.at (end - c.labels.at) c.labels.stops (omega (arith, length-map name to_ascii_lowercase, c.min-end.ensures, c.labels.invariant.within)) (omega (arith, c.min-end.ensures, c.labels.invariant.within)) c.labels.invariant.stops c.labels-test.true in
+    let fits : length name ≤ length c.pieces.room = omega (arith, c.requires, c.pieces.invariant.room, c.if-name-gt-MAX_QUERY_LEN.false) in
+    let whole = room_more c.pieces.room name c.lowercase_block.new.room c.pieces.at end (omega (arith, c.labels.invariant.within)) (omega (arith, c.min-end.ensures)) fits c.in_ok-stops.ensures.length c.pieces.invariant.lower c.in_ok-stops.ensures.lower in
+    let next = next_stop name c.pieces.at c.labels.at end c.labels.stops c.min-end.ensures c.labels.invariant.within.2 c.labels.invariant.within.1 c.labels.invariant.stops c.labels-test.true in
     omega (arith, next.0, ap length whole, length-take end (lowered name), length-map name to_ascii_lowercase, c.min-end.ensures)
 
 pub returns-then-has_ace_prefix-clause-told : goal.returns-then-has_ace_prefix-clause-told
 returns-then-has_ace_prefix-clause-told c ldh =
     let name = c.args.name.now in
     let end = c.min-end.result in
-    let at = c.pieces.at in
-    let whole = room_more c.pieces.room name c.lowercase_block.new.room at end (length c.pieces.room - at) (omega (arith, c.labels.invariant.within)) (omega (arith, c.min-end.ensures)) (omega (arith, c.requires, c.pieces.invariant.room, c.if-name-gt-MAX_QUERY_LEN.false)) (omega (arith, c.pieces.invariant.within, c.requires, c.pieces.invariant.room, c.if-name-gt-MAX_QUERY_LEN.false)) (c.in_ok-stops.ensures.length ∙ length-take-le (length c.pieces.room - at) (drop at c.pieces.room) (omega (arith, length-drop at c.pieces.room))) c.pieces.invariant.lower c.in_ok-stops.ensures.lower in
-    let next = next_lane is_full_stop (lowered name) c.labels.at (end - c.labels.at) c.labels.stops (omega (arith, length-map name to_ascii_lowercase, c.min-end.ensures, c.labels.invariant.within)) (omega (arith, c.min-end.ensures, c.labels.invariant.within)) c.labels.invariant.stops c.labels-test.true in
+    let fits : length name ≤ length c.pieces.room = omega (arith, c.requires, c.pieces.invariant.room, c.if-name-gt-MAX_QUERY_LEN.false) in
+    let whole = room_more c.pieces.room name c.lowercase_block.new.room c.pieces.at end (omega (arith, c.labels.invariant.within)) (omega (arith, c.min-end.ensures)) fits c.in_ok-stops.ensures.length c.pieces.invariant.lower c.in_ok-stops.ensures.lower in
+    let next = next_stop name c.pieces.at c.labels.at end c.labels.stops c.min-end.ensures c.labels.invariant.within.2 c.labels.invariant.within.1 c.labels.invariant.stops c.labels-test.true in
     let start = c.labels.start in
     let stop = c.labels.at + count_trailing_zeros 64 c.labels.stops in
     let prefix = ap has_ace_prefix (sym (same_part _ (lowered name) start stop end (omega (arith, c.labels.invariant.within)) (omega (arith, next.0)) whole)) ∙ sym c.has_ace_prefix.ensures ∙ c.if-has_ace_prefix.true in
@@ -102,16 +106,16 @@ pub has_label_length-have_lengths-requires-clause-short : goal.has_label_length-
 has_label_length-have_lengths-requires-clause-short c =
     let name = c.args.name.now in
     let end = c.min-end.result in
-    let next = next_lane is_full_stop (lowered name) c.labels.at (end - c.labels.at) c.labels.stops (omega (arith, length-map name to_ascii_lowercase, c.min-end.ensures, c.labels.invariant.within)) (omega (arith, c.min-end.ensures, c.labels.invariant.within)) c.labels.invariant.stops c.labels-test.true in
+    let next = next_stop name c.pieces.at c.labels.at end c.labels.stops c.min-end.ensures c.labels.invariant.within.2 c.labels.invariant.within.1 c.labels.invariant.stops c.labels-test.true in
     omega (arith, next.0, c.min-end.ensures, c.if-name-gt-MAX_QUERY_LEN.false)
 
 pub labels-preserved : goal.labels-preserved
 labels-preserved c =
     let name = c.args.name.now in
     let end = c.min-end.result in
-    let at = c.pieces.at in
-    let whole = room_more c.pieces.room name c.lowercase_block.new.room at end (length c.pieces.room - at) (omega (arith, c.labels.invariant.within)) (omega (arith, c.min-end.ensures)) (omega (arith, c.requires, c.pieces.invariant.room, c.if-name-gt-MAX_QUERY_LEN.false)) (omega (arith, c.pieces.invariant.within, c.requires, c.pieces.invariant.room, c.if-name-gt-MAX_QUERY_LEN.false)) (c.in_ok-stops.ensures.length ∙ length-take-le (length c.pieces.room - at) (drop at c.pieces.room) (omega (arith, length-drop at c.pieces.room))) c.pieces.invariant.lower c.in_ok-stops.ensures.lower in
-    let next = next_lane is_full_stop (lowered name) c.labels.at (end - c.labels.at) c.labels.stops (omega (arith, length-map name to_ascii_lowercase, c.min-end.ensures, c.labels.invariant.within)) (omega (arith, c.min-end.ensures, c.labels.invariant.within)) c.labels.invariant.stops c.labels-test.true in
+    let fits : length name ≤ length c.pieces.room = omega (arith, c.requires, c.pieces.invariant.room, c.if-name-gt-MAX_QUERY_LEN.false) in
+    let whole = room_more c.pieces.room name c.lowercase_block.new.room c.pieces.at end (omega (arith, c.labels.invariant.within)) (omega (arith, c.min-end.ensures)) fits c.in_ok-stops.ensures.length c.pieces.invariant.lower c.in_ok-stops.ensures.lower in
+    let next = next_stop name c.pieces.at c.labels.at end c.labels.stops c.min-end.ensures c.labels.invariant.within.2 c.labels.invariant.within.1 c.labels.invariant.stops c.labels-test.true in
     let start = c.labels.start in
     let count = count_trailing_zeros 64 c.labels.stops in
     let stop = c.labels.at + count in
@@ -129,7 +133,7 @@ pieces-preserved c =
     let end = c.min-end.result in
     let at = c.pieces.at in
     record {
-      lower = room_more c.pieces.room name c.lowercase_block.new.room at end (length c.pieces.room - at) (omega (arith, c.labels.invariant.within)) (omega (arith, c.min-end.ensures)) (omega (arith, c.requires, c.pieces.invariant.room, c.if-name-gt-MAX_QUERY_LEN.false)) (omega (arith, c.pieces.invariant.within, c.requires, c.pieces.invariant.room, c.if-name-gt-MAX_QUERY_LEN.false)) (c.in_ok-stops.ensures.length ∙ length-take-le (length c.pieces.room - at) (drop at c.pieces.room) (omega (arith, length-drop at c.pieces.room))) c.pieces.invariant.lower c.in_ok-stops.ensures.lower;
+      lower = room_more c.pieces.room name c.lowercase_block.new.room at end (omega (arith, c.labels.invariant.within)) (omega (arith, c.min-end.ensures)) (omega (arith, c.requires, c.pieces.invariant.room, c.if-name-gt-MAX_QUERY_LEN.false)) c.in_ok-stops.ensures.length c.pieces.invariant.lower c.in_ok-stops.ensures.lower;
       points = subst (All (λ c. is_name_point (to_ascii_lowercase c) ≡ true)) (part_more name at end (omega (arith, c.labels.invariant.within)))
           (All-append (λ c. is_name_point (to_ascii_lowercase c) ≡ true) (take at name) (slice_range name at end) c.pieces.invariant.points (c.in_ok-stops.ensures.points.0 refl));
       labels = c.labels.invariant.labels;
