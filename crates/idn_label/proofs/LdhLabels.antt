@@ -1,13 +1,14 @@
 -- The labels of a name of letters, digits and hyphens, as they are read octet by octet.
-use Rattle.std.proofs.Common.{◌≡◌, ◌≢◌, ℕ, ◌+◌, ◌-◌, ◌<◌, ◌≤◌, ◌==◌, ◌&&◌, ◌||◌, nat_le, Bool, true, false, List, [], ◌∷◌, ◌++◌, length, drop, take, get_or, All, refl, sym, ap, ◌∙◌, ap₂, append_assoc, append-nil, length-append, arith, eq-eqb}
+use Rattle.std.proofs.Common.{◌≡◌, ◌≢◌, ℕ, ◌+◌, ◌-◌, ◌<◌, ◌≤◌, ◌==◌, ◌&&◌, ◌||◌, nat_le, Bool, true, false, List, [], ◌∷◌, ◌++◌, length, drop, take, slice_range, get_or, All, refl, sym, ap, subst, ◌∙◌, ap₂, append_assoc, append-nil, length-append, length-take, take-append-drop, arith, eq-eqb}
 use Rattle.std.specs.Int.{is_in_range}
 use Rattle.std.specs.List.{list_all, list_any, onto_first}
 use Rattle.std.proofs.Math.Bool.{and_comm, and-false, and-true}
-use Rattle.std.proofs.Math.Seq.{get_or-append_seam, drop-append_seam, take-append_seam}
-use Rattle.std.proofs.lemmas.Bool.{false≢true}
+use Rattle.std.proofs.Math.Seq.{get_or-append_seam, take-append_seam, take-add}
+use Rattle.std.proofs.lemmas.Bool.{false≢true, eqb-true}
 use Rattle.std.proofs.lemmas.Bool.Decides.{nat_tests}
-use Rattle.std.proofs.lemmas.List.{get_or-append-add}
-use Rattle.std.proofs.lemmas.List.Elements.{All-nil, All-push, All-head, All-tail}
+use Rattle.std.proofs.lemmas.List.{get_or-append-add, length-take-le, take_more}
+use Rattle.std.proofs.lemmas.List.Elements.{All-nil, All-push, All-head, All-tail, All-from_get_or}
+use Rattle.std.proofs.lemmas.Simd.{get_or-chunk}
 use Rattle.std.proofs.lemmas.List.Folds.{list_all-append}
 use Rattle.std.proofs.lemmas.List.Splits.{slice_split_at, slice_split_none}
 use Rattle.idna.specs.Labels.{full_stop, is_full_stop, labels_of, join_labels}
@@ -58,49 +59,35 @@ same_split q s f r = record {
   lengths = sym f ∙ r.lengths;
 }
 
--- ---- one more octet
+-- ---- one more label
 
 pub split_within : {query : List ℕ} {start : ℕ} {fit : Bool} → IsSplit query start fit → start ≤ length query
 split_within r = let parts = ap length r.parts ∙ length-append (terminated r.whole) r.last in omega (arith, parts, r.begins)
 
-more_parts : {query : List ℕ} {start : ℕ} {fit : Bool} → (r : IsSplit query start fit) → (c : ℕ) → query ++ c ∷ [] ≡ terminated r.whole ++ (r.last ++ c ∷ [])
-more_parts r c = ap (λ x. x ++ c ∷ []) r.parts ∙ append_assoc (terminated r.whole) r.last (c ∷ [])
+last_length : {query : List ℕ} {start : ℕ} {fit : Bool} → (r : IsSplit query start fit) → length query ≡ start + length r.last
+last_length r = ap length r.parts ∙ length-append (terminated r.whole) r.last ∙ ap (λ n. n + length r.last) (sym r.begins)
 
-split_more : {query : List ℕ} {start : ℕ} {fit : Bool} → (r : IsSplit query start fit) → (c : ℕ) → is_full_stop c ≡ false → has_ace_prefix (r.last ++ c ∷ []) ≡ false → IsSplit (query ++ c ∷ []) start fit
-split_more r c other free = record {
+-- where the whole labels are all
+whole_parts : {query : List ℕ} {start : ℕ} {fit : Bool} → (r : IsSplit query start fit) → length query ≡ start → query ≡ terminated r.whole
+whole_parts r all = r.parts ∙ ap (λ last. terminated r.whole ++ last) (none r.last (let count = last_length r in omega arith)) ∙ append-nil (terminated r.whole)
+  where
+    none : (last : List ℕ) → length last ≡ 0 → last ≡ []
+    none [] e = refl
+    none (c ∷ last) e = absurd (omega arith)
+
+-- a label behind whole ones
+pub split_label : {query : List ℕ} {start : ℕ} {fit : Bool} → (r : IsSplit query start fit) → length query ≡ start → (label : List ℕ) → HasNoFullStop label → has_ace_prefix label ≡ false → IsSplit (query ++ label) start fit
+split_label r all label plain free = record {
   whole = r.whole;
-  last = r.last ++ c ∷ [];
-  parts = more_parts r c;
+  last = label;
+  parts = ap (λ q. q ++ label) (whole_parts r all);
   begins = r.begins;
   plain = r.plain;
-  last_plain = All-push (λ c. is_full_stop c ≡ false) r.last c r.last_plain other;
+  last_plain = plain;
   free = r.free;
   last_free = free;
   lengths = r.lengths;
 }
-
-prefix_ends_in_hyphen : (label : List ℕ) (c : ℕ) → has_ace_prefix label ≡ false → (c == hyphen) ≡ false → has_ace_prefix (label ++ c ∷ []) ≡ false
-prefix_ends_in_hyphen [] c free other = has_ace_prefix_by_index (c ∷ [])
-prefix_ends_in_hyphen (a ∷ []) c free other = has_ace_prefix_by_index (a ∷ c ∷ [])
-prefix_ends_in_hyphen (a ∷ b ∷ []) c free other = has_ace_prefix_by_index (a ∷ b ∷ c ∷ []) ∙ ap (λ x. (x && (a == 120)) && (b == 110)) (and-false (c == hyphen))
-prefix_ends_in_hyphen (a ∷ b ∷ d ∷ []) c free other =
-    has_ace_prefix_by_index (a ∷ b ∷ d ∷ c ∷ []) ∙ ap (λ x. ((d == hyphen) && x) && (a == 120) && (b == 110)) other ∙ ap (λ x. x && (a == 120) && (b == 110)) (and-false (d == hyphen))
-prefix_ends_in_hyphen (a ∷ b ∷ d ∷ e ∷ label) c free other =
-    has_ace_prefix_by_index (a ∷ b ∷ d ∷ e ∷ label ++ c ∷ []) ∙ sym (has_ace_prefix_by_index (a ∷ b ∷ d ∷ e ∷ label)) ∙ free
-
--- a letter or a digit
-pub split_letter : {query : List ℕ} {start : ℕ} {fit : Bool} → IsSplit query start fit → (c : ℕ) → is_full_stop c ≡ false → (c == hyphen) ≡ false → IsSplit (query ++ c ∷ []) start fit
-split_letter r c other no_hyphen = split_more r c other (prefix_ends_in_hyphen r.last c r.last_free no_hyphen)
-
--- a hyphen that does not end the prefix
-pub split_hyphen : {query : List ℕ} {start : ℕ} {fit : Bool} → IsSplit query start fit → has_ace_prefix (drop start (query ++ hyphen ∷ [])) ≡ false → IsSplit (query ++ hyphen ∷ []) start fit
-split_hyphen {query} {start} r free =
-    let last : drop start (query ++ hyphen ∷ []) ≡ r.last ++ hyphen ∷ [] =
-    ap (λ n. drop n (query ++ hyphen ∷ [])) r.begins ∙ ap (drop (length (terminated r.whole))) (more_parts r hyphen) ∙ drop-append_seam (terminated r.whole) (r.last ++ hyphen ∷ []) in
-    split_more r hyphen refl (ap has_ace_prefix (sym last) ∙ free)
-
-last_length : {query : List ℕ} {start : ℕ} {fit : Bool} → (r : IsSplit query start fit) → length query ≡ start + length r.last
-last_length r = ap length r.parts ∙ length-append (terminated r.whole) r.last ∙ ap (λ n. n + length r.last) (sym r.begins)
 
 -- a full stop
 pub split_stop : {query : List ℕ} {start : ℕ} {fit : Bool} → IsSplit query start fit → (allowed : Bool) → allowed ≡ is_in_range 1 63 (length query - start) → IsSplit (query ++ full_stop ∷ []) (length query + 1) (fit && allowed)
@@ -158,13 +145,10 @@ prefixed (label ∷ labels) last rest plain last_plain is =
     ∙ ap (λ b. has_ace_prefix label || b) (prefixed labels last rest (All-tail HasNoFullStop label labels plain) last_plain is)
     ∙ or_true (has_ace_prefix label)
 
--- a hyphen that ends the prefix, whatever follows
-pub split_prefix : {query : List ℕ} {start : ℕ} {fit : Bool} → IsSplit query start fit → (rest : List ℕ) → has_ace_prefix (drop start (query ++ hyphen ∷ [])) ≡ true → list_any has_ace_prefix (labels_of ((query ++ hyphen ∷ []) ++ rest)) ≡ true
-split_prefix {query} {start} r rest is =
-    let last : drop start (query ++ hyphen ∷ []) ≡ r.last ++ hyphen ∷ [] =
-    ap (λ n. drop n (query ++ hyphen ∷ [])) r.begins ∙ ap (drop (length (terminated r.whole))) (more_parts r hyphen) ∙ drop-append_seam (terminated r.whole) (r.last ++ hyphen ∷ []) in
-    ap (λ name. list_any has_ace_prefix (labels_of name)) (ap (λ x. x ++ rest) (more_parts r hyphen) ∙ append_assoc (terminated r.whole) (r.last ++ hyphen ∷ []) rest)
-    ∙ prefixed r.whole (r.last ++ hyphen ∷ []) rest r.plain (All-push (λ c. is_full_stop c ≡ false) r.last hyphen r.last_plain refl) (ap has_ace_prefix (sym last) ∙ is)
+-- a label with the prefix behind whole ones, whatever follows
+pub split_prefix : {query : List ℕ} {start : ℕ} {fit : Bool} → (r : IsSplit query start fit) → length query ≡ start → (label rest : List ℕ) → HasNoFullStop label → has_ace_prefix label ≡ true → list_any has_ace_prefix (labels_of (query ++ (label ++ rest))) ≡ true
+split_prefix r all label rest plain is =
+    ap (λ q. list_any has_ace_prefix (labels_of (q ++ (label ++ rest)))) (whole_parts r all) ∙ prefixed r.whole label rest r.plain plain is
 
 -- ---- the whole name
 
@@ -236,3 +220,38 @@ measured_by query start fit r (c ∷ last) is = measured_label query start fit r
 -- the lengths of the name, a full stop at its end put aside
 pub split_measured : {query : List ℕ} {start : ℕ} {fit : Bool} → IsSplit query start fit → verify_dns_length query true ≡ (fit && may_end start (length query))
 split_measured {query} {start} {fit} r = measured_by query start fit r r.last refl
+
+-- ---- in a name, from one place to another
+
+pub part_more : (q : List ℕ) (start stop : ℕ) → start ≤ stop → take start q ++ slice_range q start stop ≡ take stop q
+part_more q start stop le = sym (take-add start (stop - start) q) ∙ ap (λ n. take n q) (let e : start + (stop - start) ≡ stop = omega arith in e)
+
+part_plain : (q : List ℕ) (start stop : ℕ) → ((k : ℕ) → start ≤ k → k < stop → is_full_stop (get_or q k 0) ≡ false) → HasNoFullStop (slice_range q start stop)
+part_plain q start stop plain =
+    All-from_get_or (λ c. is_full_stop c ≡ false) (slice_range q start stop) 0 (λ k lt.
+        let short = length-take (stop - start) (drop start q) in
+        let below : k < stop - start = omega (arith, short) in
+        ap is_full_stop (get_or-chunk start (stop - start) q k 0 below) ∙ plain (start + k) (omega arith) (omega arith))
+
+-- a label that no full stop ends yet
+pub label_more : (q : List ℕ) (start stop : ℕ) (fit : Bool) → IsSplit (take start q) start fit → start ≤ stop → stop ≤ length q → ((k : ℕ) → start ≤ k → k < stop → is_full_stop (get_or q k 0) ≡ false) → has_ace_prefix (slice_range q start stop) ≡ false → IsSplit (take stop q) start fit
+label_more q start stop fit r le within plain free =
+    subst (λ x. IsSplit x start fit) (part_more q start stop le)
+    (split_label r (length-take-le start q (omega arith)) (slice_range q start stop) (part_plain q start stop plain) free)
+
+-- and the full stop that ends it
+pub stop_more : (q : List ℕ) (start stop : ℕ) (fit allowed : Bool) → IsSplit (take start q) start fit → start ≤ stop → stop < length q → ((k : ℕ) → start ≤ k → k < stop → is_full_stop (get_or q k 0) ≡ false) → is_full_stop (get_or q stop 0) ≡ true → has_ace_prefix (slice_range q start stop) ≡ false → allowed ≡ is_in_range 1 63 (stop - start) → IsSplit (take (stop + 1) q) (stop + 1) (fit && allowed)
+stop_more q start stop fit allowed r le within plain here free is =
+    let count : length (take stop q) ≡ stop = length-take-le stop q (omega arith) in
+    let whole : take (stop + 1) q ≡ take stop q ++ full_stop ∷ [] = take_more q stop 0 within ∙ ap (λ c. take stop q ++ c ∷ []) (eqb-true _ _ here) in
+    subst (λ x. IsSplit x (stop + 1) (fit && allowed)) (sym whole)
+    (subst (λ n. IsSplit (take stop q ++ full_stop ∷ []) (n + 1) (fit && allowed)) count
+        (split_stop (label_more q start stop fit r le (omega arith) plain free) allowed (is ∙ ap (λ n. is_in_range 1 63 (n - start)) (sym count))))
+
+-- a label with the prefix
+pub part_prefix : (q : List ℕ) (start stop : ℕ) (fit : Bool) → IsSplit (take start q) start fit → start ≤ stop → stop ≤ length q → ((k : ℕ) → start ≤ k → k < stop → is_full_stop (get_or q k 0) ≡ false) → has_ace_prefix (slice_range q start stop) ≡ true → list_any has_ace_prefix (labels_of q) ≡ true
+part_prefix q start stop fit r le within plain is =
+    let whole : take start q ++ (slice_range q start stop ++ drop stop q) ≡ q =
+    sym (append_assoc (take start q) (slice_range q start stop) (drop stop q)) ∙ ap (λ x. x ++ drop stop q) (part_more q start stop le) ∙ take-append-drop stop q in
+    ap (λ x. list_any has_ace_prefix (labels_of x)) (sym whole)
+    ∙ split_prefix r (length-take-le start q (omega arith)) (slice_range q start stop) (drop stop q) (part_plain q start stop plain) is

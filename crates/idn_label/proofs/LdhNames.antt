@@ -1,10 +1,8 @@
 -- Names of ASCII letters, digits, hyphens and full stops: what ToASCII gives of them is the name in lower case.
-use Rattle.std.proofs.Common.{◌≡◌, ◌≢◌, ℕ, ◌+◌, ◌<◌, ◌==◌, ◌||◌, Bool, true, false, not, cond, List, [], ◌∷◌, ◌++◌, map, take, get_or, length, All, Some, refl, sym, ap, subst, ◌∙◌, inl, inr, arith}
+use Rattle.std.proofs.Common.{◌≡◌, ℕ, ◌<◌, ◌||◌, Bool, true, false, not, List, [], ◌∷◌, map, All, Some, refl, sym, ap, subst, ◌∙◌, arith}
 use Rattle.std.specs.Char.{is_ascii_uppercase, to_ascii_lowercase}
 use Rattle.std.specs.List.{list_all, list_any}
-use Rattle.std.proofs.lemmas.Bool.{eqb-true, cases_Bool, cond-true, cond-false}
 use Rattle.std.proofs.lemmas.Bool.Decides.{nat_tests}
-use Rattle.std.proofs.lemmas.List.{take_more, map-append}
 use Rattle.std.proofs.lemmas.List.Sums.{list_all-from_AllPass}
 use Rattle.std.proofs.lemmas.List.Elements.{All-nil, All-cons, All-weaker, All-map, recursion_from_All, All-from_recursion}
 use Rattle.std.proofs.lemmas.Str.Ascii.{IsAscii-from_all}
@@ -18,16 +16,7 @@ use Rattle.idna.specs.Uts46.{to_ascii}
 use Rattle.idna.specs.Validity.{has_ace_prefix, is_valid_char, passes_hyphens}
 use Rattle.idna.proofs.Uts46Lemmas.{to_ascii-map-lowercase, to_ascii-plain}
 use Rattle.idna.proofs.ValidityLemmas.{denies-may_be_denied, is_valid_char-ascii}
-use Rattle.idn_class.specs.Tests.{all_places}
-use Rattle.idn_class.proofs.TestLemmas.{all_places-at}
 use Rattle.idn_label.specs.LdhNames.{is_name_point}
-use Rattle.idn_label.specs.declared.query.ldh.TheConstants.{LOWERCASE}
-
--- ---- one more octet
-
-lowercase_more : (name : List ℕ) (i c : ℕ) → i < length name → c ≡ get_or name i 0 → map to_ascii_lowercase (take (i + 1) name) ≡ map to_ascii_lowercase (take i name) ++ to_ascii_lowercase c ∷ []
-lowercase_more name i c within is =
-    ap (map to_ascii_lowercase) (take_more name i 0 within ∙ ap (λ x. take i name ++ x ∷ []) (sym is)) ∙ map-append to_ascii_lowercase (take i name) (c ∷ [])
 
 -- ---- the code points
 
@@ -87,41 +76,3 @@ to_ascii-lowercase_name deny name query points is none =
 pub all_labels : (P : List ℕ → Type 0) (name first : List ℕ) (others : List (List ℕ)) → labels_of name ≡ first ∷ others → All P (labels_of name) → P first × All P others
 all_labels P name first others parts all =
     let both = recursion_from_All P (first ∷ others) (subst (All P) parts all) in (both.0, All-from_recursion P others both.1)
-
--- ---- the table
-
--- the entry of an octet: its lower case, or 0
-is_entry : Bool → ℕ → ℕ → Bool
-is_entry true lower entry = entry == lower
-is_entry false lower entry = entry == 0
-
-entries : all_places 256 (λ c. is_entry (is_name_point (to_ascii_lowercase c)) (to_ascii_lowercase c) (get_or LOWERCASE c 0)) ≡ true
-unfolding is_entry
-entries = refl
-
-entry_at : (c : ℕ) → c < 256 → is_entry (is_name_point (to_ascii_lowercase c)) (to_ascii_lowercase c) (get_or LOWERCASE c 0) ≡ true
-entry_at c lt = all_places-at 256 (λ c. is_entry (is_name_point (to_ascii_lowercase c)) (to_ascii_lowercase c) (get_or LOWERCASE c 0)) entries c lt
-
-by_entry : (point : Bool) (lower entry : ℕ) → is_entry point lower entry ≡ true → entry ≡ cond point lower 0
-unfolding is_entry
-by_entry true lower entry h = eqb-true entry lower h
-by_entry false lower entry h = eqb-true entry 0 h
-
-pub LOWERCASE-entry : (c : ℕ) → c < 256 → get_or LOWERCASE c 0 ≡ cond (is_name_point (to_ascii_lowercase c)) (to_ascii_lowercase c) 0
-LOWERCASE-entry c lt = by_entry _ _ _ (entry_at c lt)
-
--- an octet that has an entry: its lower case
-pub lower_some : (c lower : ℕ) → lower ≡ cond (is_name_point (to_ascii_lowercase c)) (to_ascii_lowercase c) 0 → lower ≢ 0 → (lower ≡ to_ascii_lowercase c) × (is_name_point (to_ascii_lowercase c) ≡ true)
-lower_some c lower is some =
-    elim (cases_Bool (is_name_point (to_ascii_lowercase c))) [
-      | inl point ↦ (is ∙ cond-true _ _ _ point, point)
-      | inr other ↦ absurd (some (is ∙ cond-false _ _ _ other))
-    ]
-
--- one more octet of the name, in lower case
-pub lowercase_push : (name query more : List ℕ) (i lower : ℕ) → i < length name → lower ≡ to_ascii_lowercase (get_or name i 0) → more ≡ query ++ lower ∷ [] → query ≡ map to_ascii_lowercase (take i name) → more ≡ map to_ascii_lowercase (take (i + 1) name)
-lowercase_push name query more i lower within is pushed so_far =
-    pushed
-    ∙ ap (λ x. query ++ x ∷ []) is
-    ∙ ap (λ x. x ++ to_ascii_lowercase (get_or name i 0) ∷ []) so_far
-    ∙ sym (lowercase_more name i (get_or name i 0) within refl)

@@ -1,8 +1,10 @@
 //! Names of letters, digits and hyphens of ASCII (LDH, RFC 5890 section 2.3.1). Most names are such, and their lookup
 //! takes no memory and one pass.
-ghost use Rattle.std.specs.Prelude.{◌≡◌, ◌≢◌, ◌≤◌, ◌-◌, Bool, length, take, Err, IfOk, IfSome, IsSome, if◌then◌else◌};
+ghost use Rattle.std.specs.Prelude.{◌≡◌, ◌≢◌, ◌≤◌, ◌-◌, ◌↔◌, Bool, not, true, length, map, take, All, Err, IfOk, IfSome, IsSome};
 ghost use Rattle.std.specs.Char.{to_ascii_lowercase};
 ghost use Rattle.std.specs.Int.{is_in_range};
+ghost use Rattle.std.specs.Simd.Lanes.{mask_l};
+ghost use Rattle.idna.specs.Labels.{is_full_stop};
 ghost use Rattle.idn_label.specs.Answers.{Gives};
 ghost use Rattle.idn_label.specs.Lookup.{utf8_answer};
 ghost use Rattle.idn_label.specs.LdhNames.{IsLdhName, is_name_point, may_end};
@@ -11,30 +13,13 @@ use crate::a_label::MAX_LABEL_LEN;
 use crate::query::lengths::MAX_NAME_LEN;
 use crate::unit::has_ace_prefix;
 use idn_text::Refusal;
+use std::simd::prelude::*;
 
 /// The most octets of a name in the DNS, with a full stop at its end (RFC 1035 section 2.3.4).
 pub(crate) const MAX_QUERY_LEN: usize = 254;
 
-/// The lower case of each octet that a name of this kind may have, and 0 for the others.
-#[rattlefmt::skip]
-static LOWERCASE: [u8; 256] = [
-    0, 0, 0, 0, 0, 0, 0, 0, 0, 0, 0, 0, 0, 0, 0, 0,
-    0, 0, 0, 0, 0, 0, 0, 0, 0, 0, 0, 0, 0, 0, 0, 0,
-    0, 0, 0, 0, 0, 0, 0, 0, 0, 0, 0, 0, 0, 45, 46, 0,
-    48, 49, 50, 51, 52, 53, 54, 55, 56, 57, 0, 0, 0, 0, 0, 0,
-    0, 97, 98, 99, 100, 101, 102, 103, 104, 105, 106, 107, 108, 109, 110, 111,
-    112, 113, 114, 115, 116, 117, 118, 119, 120, 121, 122, 0, 0, 0, 0, 0,
-    0, 97, 98, 99, 100, 101, 102, 103, 104, 105, 106, 107, 108, 109, 110, 111,
-    112, 113, 114, 115, 116, 117, 118, 119, 120, 121, 122, 0, 0, 0, 0, 0,
-    0, 0, 0, 0, 0, 0, 0, 0, 0, 0, 0, 0, 0, 0, 0, 0,
-    0, 0, 0, 0, 0, 0, 0, 0, 0, 0, 0, 0, 0, 0, 0, 0,
-    0, 0, 0, 0, 0, 0, 0, 0, 0, 0, 0, 0, 0, 0, 0, 0,
-    0, 0, 0, 0, 0, 0, 0, 0, 0, 0, 0, 0, 0, 0, 0, 0,
-    0, 0, 0, 0, 0, 0, 0, 0, 0, 0, 0, 0, 0, 0, 0, 0,
-    0, 0, 0, 0, 0, 0, 0, 0, 0, 0, 0, 0, 0, 0, 0, 0,
-    0, 0, 0, 0, 0, 0, 0, 0, 0, 0, 0, 0, 0, 0, 0, 0,
-    0, 0, 0, 0, 0, 0, 0, 0, 0, 0, 0, 0, 0, 0, 0, 0,
-];
+/// The most octets of a name that are read at once.
+const BLOCK_LEN: usize = 32;
 
 /// Writes into `room` what `lookup_utf8` answers of such a name, the name in lower case, and returns its length; or
 /// `LookupLength`. `None` says nothing of the name, and another way then gives the answer: an octet is no ASCII letter,
@@ -54,21 +39,25 @@ pub(crate) fn ldh_query(name: &[u8], room: &mut [u8]) -> Option<Result<usize, Re
     let mut start = 0;
     let mut have_lengths = true;
     let mut at = 0;
-    while at < name.len() {
-        let lower = lowercase_octet(name[at]);
-        room[at] = lower;
-        at += 1;
-        // Letters and digits stand behind the full stop in ASCII.
-        if lower <= b'.' {
-            match lower {
-                b'.' => {
-                    have_lengths &= has_label_length(start, at - 1);
-                    start = at;
-                }
-                b'-' if !has_ace_prefix(&room[start..at]) => {}
-                _ => return None,
+    'pieces: while at < name.len() {
+        let end = name.len().min(at + BLOCK_LEN);
+        // A bit for each octet from `at` on: whether it is a full stop.
+        let mut stops = lowercase_block(&name[at..end], &mut room[at..])?;
+        'labels: while stops != 0 {
+            let count = stops.trailing_zeros() as usize;
+            let stop = at + count;
+            if has_ace_prefix(&room[start..stop]) {
+                return None;
             }
+            have_lengths &= has_label_length(start, stop);
+            start = stop + 1;
+            at = start;
+            stops = stops >> count >> 1;
         }
+        at = end;
+    }
+    if has_ace_prefix(&room[start..name.len()]) {
+        return None;
     }
     if have_lengths && may_end(start, name.len()) {
         Some(Ok(name.len()))
@@ -77,12 +66,52 @@ pub(crate) fn ldh_query(name: &[u8], room: &mut [u8]) -> Option<Result<usize, Re
     }
 }
 
-/// The lower case of an ASCII letter, a digit, the hyphen or the full stop, and 0 for other octets.
-#[inline]
-fn lowercase_octet(octet: u8) -> u8
-    ensures { result ≡ (let lower = to_ascii_lowercase octet in if is_name_point lower then lower else 0) }
+/// Writes at most 32 octets into `room` in lower case, and tells the full stops among them by a bit each; or `None`, where
+/// one is no ASCII letter, digit, hyphen or full stop.
+#[inline(always)]
+fn lowercase_block(block: &[u8], room: &mut [u8]) -> Option<u64>
+    requires few { length block.now ≤ 32 }
+    requires room { length block.now ≤ length room.old }
+    ensures lower { IfSome result (λ _. take (length block.now) room.new ≡ map to_ascii_lowercase block.now) }
+    ensures stops { IfSome result (λ stops. stops ≡ mask_l (map is_full_stop (map to_ascii_lowercase block.now))) }
+    ensures points { IsSome result ↔ All (λ c. is_name_point (to_ascii_lowercase c) ≡ true) block.now }
+    ensures length { length room.new ≡ length room.old }
 {
-    LOWERCASE[octet as usize]
+    // Letters behind a short block change nothing.
+    let mut octets = [b'a'; BLOCK_LEN];
+    octets[..block.len()].copy_from_slice(block);
+    let (lower, stops, others) = lowercase_lanes(u8x32::from_array(octets));
+    if others != 0 {
+        return None;
+    }
+    if room.len() >= BLOCK_LEN {
+        lower.copy_to_slice(room);
+    } else {
+        room[..block.len()].copy_from_slice(&lower.to_array()[..block.len()]);
+    }
+    Some(stops)
+}
+
+/// Octets in lower case, and by a bit each the full stops among them, and those that are no ASCII letters, digits, hyphens
+/// or full stops.
+#[inline(always)]
+fn lowercase_lanes(octets: u8x32) -> (u8x32, u64, u64)
+    ensures lower { result.0 ≡ map to_ascii_lowercase octets }
+    ensures stops { result.1 ≡ mask_l (map is_full_stop (map to_ascii_lowercase octets)) }
+    ensures others { result.2 ≡ mask_l (map (λ c. not (is_name_point (to_ascii_lowercase c))) octets) }
+{
+    let with_bit = octets | u8x32::splat(0x20);
+    let are_no_letters = (with_bit - u8x32::splat(b'a')).simd_ge(u8x32::splat(26));
+    let lower = are_no_letters.select(octets, with_bit);
+    // From the hyphen to the nine lie the full stop, the slash and the digits.
+    let are_others = (octets - u8x32::splat(b'-')).simd_ge(u8x32::splat(13))
+        | octets.simd_eq(u8x32::splat(b'/'));
+    let stops = lower.simd_eq(u8x32::splat(b'.'));
+    (
+        lower,
+        stops.to_bitmask(),
+        (are_no_letters & are_others).to_bitmask(),
+    )
 }
 
 /// Whether a label that begins at `start` and ends before `end` has 1 to 63 octets.

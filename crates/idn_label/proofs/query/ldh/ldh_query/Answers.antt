@@ -1,160 +1,197 @@
-use Rattle.std.proofs.Common.{◌≡◌, ◌≢◌, ℕ, List, cond, ◌+◌, ◌-◌, true, false, ◌<◌, ◌∷◌, [], ◌++◌, map, length, take, drop, take_all, get_or, set, All, Ok, Err, refl, sym, ap, subst, ◌∙◌, ne_eqb, length-take, take-append-drop, arith}
+use Rattle.std.proofs.Common.{◌≡◌, ℕ, suc, Bool, List, [], ◌∷◌, ◌≢◌, ◌+◌, ◌-◌, min, true, false, ◌<◌, ◌≤◌, ◌++◌, map, length, take, drop, take_all, slice_range, get_or, All, Ok, Err, refl, sym, ap, ap₂, subst, ◌∙◌, inl, inr, length-take, length-drop, arith}
 use Rattle.std.specs.Char.{to_ascii_lowercase}
-use Rattle.std.specs.Int.{is_in_range}
-use Rattle.std.specs.List.{list_any}
-use Rattle.idna.specs.Labels.{labels_of}
+use Rattle.std.specs.Simd.Lanes.{chunk, mask_l}
 use Rattle.std.proofs.Math.Bool.{and-false}
-use Rattle.std.proofs.lemmas.Bool.{cond-true, cond-false}
-use Rattle.std.proofs.lemmas.List.{length-set, map-append, drop-take, take_more_set}
-use Rattle.std.proofs.lemmas.List.Elements.{All-nil, All-more}
-use Rattle.idna.specs.Validity.{hyphen, has_ace_prefix}
+use Rattle.std.proofs.Math.Seq.{take-add}
+use Rattle.std.proofs.lemmas.Bool.{cases_lt, cond-true, cond-false}
+use Rattle.std.proofs.lemmas.List.{length-map, length-take-le, take-map, take-take, drop-map, drop-take}
+use Rattle.std.proofs.lemmas.List.Elements.{All-nil, All-append}
+use Rattle.std.proofs.lemmas.Simd.{none_from_empty_mask}
+use Rattle.std.proofs.lemmas.Slice.{take-put_mid}
+use lib.Count.{count_trailing_zeros}
+use borrow.Rule.Slice.PartMut.{put_mid, same_len_mid}
+use Rattle.idna.specs.Labels.{is_full_stop}
+use Rattle.idna.specs.Validity.{has_ace_prefix}
 use Rattle.idna.specs.Uts46.{verify_dns_length}
 use Rattle.idn_text.specs.declared.refusal.Refusal.TheVariants.{LookupLength}
 use Rattle.idn_label.specs.Lookup.{deny_list}
 use Rattle.idn_label.specs.LdhNames.{is_name_point, may_end}
-use Rattle.idn_label.proofs.LdhLabels.{split_nothing, same_split, split_letter, split_hyphen, split_stop, split_free, split_measured, split_prefix}
-use Rattle.idn_label.proofs.LdhNames.{lower_some, lowercase_push, to_ascii-lowercase_name}
+use Rattle.idn_label.proofs.LaneLemmas.{IsNext, next_lane}
+use Rattle.idn_label.proofs.LdhLabels.{IsSplit, split_nothing, split_free, split_measured, part_more, label_more, stop_more, part_prefix}
+use Rattle.idn_label.proofs.LdhNames.{to_ascii-lowercase_name}
 use Rattle.idn_label.proofs.LookupLemmas.{Gives-measured}
 use Rattle.idn_label.proofs.query.ldh.ldh_query.Goals as goal
 use Rattle.idn_label.proofs.query.ldh.ldh_query.Goals.{else-have_lengths-via-then-have_lengths+else-may_end, else-have_lengths-via-else-have_lengths}
 
-pub loop-at-init : goal.loop-at-init
-loop-at-init c = record {
+abbrev lowered : List ℕ → List ℕ
+lowered name = map to_ascii_lowercase name
+
+lowered_part : (name : List ℕ) (at end : ℕ) → lowered (slice_range name at end) ≡ chunk at (end - at) (lowered name)
+lowered_part name at end = sym (take-map to_ascii_lowercase (end - at) (drop at name)) ∙ ap (take (end - at)) (sym (drop-map to_ascii_lowercase at name))
+
+take-behind : (xs ys : List ℕ) (n : ℕ) → take (length xs + n) (xs ++ ys) ≡ xs ++ take n ys
+take-behind [] ys n = ap (λ m. take m ys) (let e : 0 + n ≡ n = omega arith in e)
+take-behind (x ∷ xs) ys n = ap (λ m. take m (x ∷ xs ++ ys)) (let e : length (x ∷ xs) + n ≡ suc (length xs + n) = omega arith in e) ∙ ap (λ l. x ∷ l) (take-behind xs ys n)
+
+-- a block more in the room
+room_more : (room name part : List ℕ) (at end : ℕ) → at ≤ end → end ≤ length name → length name ≤ length room → length part ≡ length (take (length room - at) (drop at room)) → take at room ≡ take at (lowered name) → take (length (slice_range name at end)) part ≡ lowered (slice_range name at end) → take end (put_mid at (length room - at) room part) ≡ take end (lowered name)
+room_more room name part at end order within fits same front block =
+    let n = end - at in
+    let count : length (slice_range name at end) ≡ n = omega (arith, length-take n (drop at name), length-drop at name) in
+    let before : length (take at room) ≡ at = length-take-le at room (omega arith) in
+    sym (take-take end (length room) (put_mid at (length room - at) room part) (omega arith))
+    ∙ ap (take end) (take-put_mid at (length room - at) room part (length room) (let long : length room ≡ at + length part = omega (arith, length-take (length room - at) (drop at room), length-drop at room) in long) (omega arith))
+    ∙ ap (λ m. take m (take at room ++ part)) (let sum : end ≡ length (take at room) + n = omega arith in sum)
+    ∙ take-behind (take at room) part n
+    ∙ ap₂ (λ a b. a ++ b) front (ap (λ m. take m part) (sym count) ∙ block ∙ lowered_part name at end)
+    ∙ sym (take-add at n (lowered name))
+    ∙ ap (λ m. take m (lowered name)) (let e : at + n ≡ end = omega arith in e)
+
+-- a part of the room is that of the name
+same_part : (room q : List ℕ) (start stop end : ℕ) → start ≤ stop → stop ≤ end → take end room ≡ take end q → slice_range room start stop ≡ slice_range q start stop
+same_part room q start stop end order within same =
+    let cut : (xs : List ℕ) → slice_range xs start stop ≡ drop start (take stop (take end xs)) = λ xs.
+        sym (drop-take start (stop - start) xs) ∙ ap (λ n. drop start (take n xs)) (let e : start + (stop - start) ≡ stop = omega arith in e) ∙ ap (drop start) (sym (take-take stop end xs within)) in
+    cut room ∙ ap (λ x. drop start (take stop x)) same ∙ sym (cut q)
+
+plain_more : (q : List ℕ) (start at end : ℕ) → ((k : ℕ) → start ≤ k → k < at → is_full_stop (get_or q k 0) ≡ false) → ((k : ℕ) → at ≤ k → k < end → is_full_stop (get_or q k 0) ≡ false) → (k : ℕ) → start ≤ k → k < end → is_full_stop (get_or q k 0) ≡ false
+plain_more q start at end first second k from to = elim (cases_lt k at) [ inl early ↦ first k from early | inr late ↦ second k late to ]
+
+-- the next full stop of a block that begins at `from`
+next_stop : (name : List ℕ) (from at end stops : ℕ) → end ≡ min (length name) (from + 32) → from ≤ at → at ≤ end → stops ≡ mask_l (map is_full_stop (chunk at (end - at) (lowered name))) → stops ≢ 0 → IsNext is_full_stop (lowered name) at (end - at) stops (count_trailing_zeros 64 stops)
+next_stop name from at end stops is later order rest some =
+    next_lane is_full_stop (lowered name) at (end - at) stops (omega (arith, length-map name to_ascii_lowercase)) (omega arith) rest some
+
+pub pieces-init : goal.pieces-init
+pieces-init c = record {
   lower = refl;
   points = All-nil (λ c. is_name_point (to_ascii_lowercase c) ≡ true);
   labels = split_nothing;
+  plain = λ k from to. absurd (omega arith);
   within = (omega arith, omega arith);
   room = refl;
 }
 
-abbrev lowered : List ℕ → List ℕ
-lowered name = map to_ascii_lowercase name
+pub labels-init : goal.labels-init
+labels-init c = record {
+  labels = c.pieces.invariant.labels;
+  plain = c.pieces.invariant.plain;
+  stops = c.in_ok-stops.ensures.stops ∙ ap (λ x. mask_l (map is_full_stop x)) (lowered_part c.args.name.now c.pieces.at c.min-end.result);
+  within = (c.pieces.invariant.within.0, omega (arith, c.min-end.ensures, c.pieces-test.true), omega arith);
+}
 
--- an octet more, in lower case: what is written so far, that it may stand in such a name, and what is written with it
-octet_more : (name room : List ℕ) (at lower : ℕ) → at < length name → at < length room → lower ≡ cond (is_name_point (to_ascii_lowercase (get_or name at 0))) (to_ascii_lowercase (get_or name at 0)) 0 → lower ≢ 0 → take at room ≡ lowered (take at name) → All (λ c. is_name_point (to_ascii_lowercase c) ≡ true) (take at name) → (take (at + 1) (set room at lower) ≡ lowered (take (at + 1) name)) × All (λ c. is_name_point (to_ascii_lowercase c) ≡ true) (take (at + 1) name) × (take (at + 1) (set room at lower) ≡ take at room ++ lower ∷ [])
-octet_more name room at lower within fits is other so_far points =
-    let pushed = take_more_set room at lower fits in
-    let some = lower_some (get_or name at 0) lower is other in (
-      lowercase_push name (take at room) (take (at + 1) (set room at lower)) at lower within some.0 pushed so_far,
-      All-more (λ c. is_name_point (to_ascii_lowercase c) ≡ true) name at 0 within points some.1,
-      pushed,
+pub slice_bounds-has_ace_prefix-end : goal.slice_bounds-has_ace_prefix-end
+slice_bounds-has_ace_prefix-end c =
+    let name = c.args.name.now in
+    let end = c.min-end.result in
+    let fits : length name ≤ length c.pieces.room = omega (arith, c.requires, c.pieces.invariant.room, c.if-name-gt-MAX_QUERY_LEN.false) in
+    let whole = room_more c.pieces.room name c.lowercase_block.new.room c.pieces.at end (omega (arith, c.labels.invariant.within)) (omega (arith, c.min-end.ensures)) fits c.in_ok-stops.ensures.length c.pieces.invariant.lower c.in_ok-stops.ensures.lower in
+    let next = next_stop name c.pieces.at c.labels.at end c.labels.stops c.min-end.ensures c.labels.invariant.within.2 c.labels.invariant.within.1 c.labels.invariant.stops c.labels-test.true in
+    omega (arith, next.0, ap length whole, length-take end (lowered name), length-map name to_ascii_lowercase, c.min-end.ensures)
+
+pub returns-then-has_ace_prefix-clause-told : goal.returns-then-has_ace_prefix-clause-told
+returns-then-has_ace_prefix-clause-told c ldh =
+    let name = c.args.name.now in
+    let end = c.min-end.result in
+    let fits : length name ≤ length c.pieces.room = omega (arith, c.requires, c.pieces.invariant.room, c.if-name-gt-MAX_QUERY_LEN.false) in
+    let whole = room_more c.pieces.room name c.lowercase_block.new.room c.pieces.at end (omega (arith, c.labels.invariant.within)) (omega (arith, c.min-end.ensures)) fits c.in_ok-stops.ensures.length c.pieces.invariant.lower c.in_ok-stops.ensures.lower in
+    let next = next_stop name c.pieces.at c.labels.at end c.labels.stops c.min-end.ensures c.labels.invariant.within.2 c.labels.invariant.within.1 c.labels.invariant.stops c.labels-test.true in
+    let start = c.labels.start in
+    let stop = c.labels.at + count_trailing_zeros 64 c.labels.stops in
+    let prefix = ap has_ace_prefix (sym (same_part _ (lowered name) start stop end (omega (arith, c.labels.invariant.within)) (omega (arith, next.0)) whole)) ∙ sym c.has_ace_prefix.ensures ∙ c.if-has_ace_prefix.true in
+    sym ldh.no_a_label
+    ∙ part_prefix (lowered name) start stop c.labels.have_lengths c.labels.invariant.labels (omega (arith, c.labels.invariant.within)) (omega (arith, next.0, length-map name to_ascii_lowercase, c.min-end.ensures)) (plain_more (lowered name) start c.labels.at stop c.labels.invariant.plain next.1) prefix
+
+pub has_label_length-have_lengths-requires-clause-short : goal.has_label_length-have_lengths-requires-clause-short
+has_label_length-have_lengths-requires-clause-short c =
+    let name = c.args.name.now in
+    let end = c.min-end.result in
+    let next = next_stop name c.pieces.at c.labels.at end c.labels.stops c.min-end.ensures c.labels.invariant.within.2 c.labels.invariant.within.1 c.labels.invariant.stops c.labels-test.true in
+    omega (arith, next.0, c.min-end.ensures, c.if-name-gt-MAX_QUERY_LEN.false)
+
+pub labels-preserved : goal.labels-preserved
+labels-preserved c =
+    let name = c.args.name.now in
+    let end = c.min-end.result in
+    let fits : length name ≤ length c.pieces.room = omega (arith, c.requires, c.pieces.invariant.room, c.if-name-gt-MAX_QUERY_LEN.false) in
+    let whole = room_more c.pieces.room name c.lowercase_block.new.room c.pieces.at end (omega (arith, c.labels.invariant.within)) (omega (arith, c.min-end.ensures)) fits c.in_ok-stops.ensures.length c.pieces.invariant.lower c.in_ok-stops.ensures.lower in
+    let next = next_stop name c.pieces.at c.labels.at end c.labels.stops c.min-end.ensures c.labels.invariant.within.2 c.labels.invariant.within.1 c.labels.invariant.stops c.labels-test.true in
+    let start = c.labels.start in
+    let count = count_trailing_zeros 64 c.labels.stops in
+    let stop = c.labels.at + count in
+    let free = ap has_ace_prefix (sym (same_part _ (lowered name) start stop end (omega (arith, c.labels.invariant.within)) (omega (arith, next.0)) whole)) ∙ sym c.has_ace_prefix.ensures ∙ c.if-has_ace_prefix.false in
+    record {
+      labels = stop_more (lowered name) start stop c.labels.have_lengths c.has_label_length-have_lengths.result c.labels.invariant.labels (omega (arith, c.labels.invariant.within)) (omega (arith, next.0, length-map name to_ascii_lowercase, c.min-end.ensures)) (plain_more (lowered name) start c.labels.at stop c.labels.invariant.plain next.1) next.2 free c.has_label_length-have_lengths.ensures;
+      plain = λ k from to. absurd (omega arith);
+      stops = next.3 ∙ ap (λ n. mask_l (map is_full_stop (chunk (stop + 1) n (lowered name)))) (let e : end - c.labels.at - (count + 1) ≡ end - (stop + 1) = omega (arith, next.0) in e);
+      within = (omega arith, omega (arith, next.0), omega (arith, c.labels.invariant.within));
+    }
+
+pub pieces-preserved : goal.pieces-preserved
+pieces-preserved c =
+    let name = c.args.name.now in
+    let end = c.min-end.result in
+    let at = c.pieces.at in
+    record {
+      lower = room_more c.pieces.room name c.lowercase_block.new.room at end (omega (arith, c.labels.invariant.within)) (omega (arith, c.min-end.ensures)) (omega (arith, c.requires, c.pieces.invariant.room, c.if-name-gt-MAX_QUERY_LEN.false)) c.in_ok-stops.ensures.length c.pieces.invariant.lower c.in_ok-stops.ensures.lower;
+      points = subst (All (λ c. is_name_point (to_ascii_lowercase c) ≡ true)) (part_more name at end (omega (arith, c.labels.invariant.within)))
+          (All-append (λ c. is_name_point (to_ascii_lowercase c) ≡ true) (take at name) (slice_range name at end) c.pieces.invariant.points (c.in_ok-stops.ensures.points.0 refl));
+      labels = c.labels.invariant.labels;
+      plain = plain_more (lowered name) c.labels.start c.labels.at end c.labels.invariant.plain
+          (λ k from to. none_from_empty_mask is_full_stop (lowered name) c.labels.at (end - c.labels.at) 0 (omega (arith, length-map name to_ascii_lowercase, c.min-end.ensures, c.labels.invariant.within)) (sym c.labels.invariant.stops ∙ c.labels-test.false) k from (omega (arith, c.labels.invariant.within)));
+      within = (omega (arith, c.labels.invariant.within), omega (arith, c.min-end.ensures));
+      room = same_len_mid at (length c.pieces.room - at) c.pieces.room c.lowercase_block.new.room c.in_ok-stops.ensures.length ∙ c.pieces.invariant.room;
+    }
+
+pub returns-then-has_ace_prefix-2-clause-told : goal.returns-then-has_ace_prefix-2-clause-told
+returns-then-has_ace_prefix-2-clause-told c ldh =
+    let name = c.args.name.now in
+    let n = length name in
+    let all : c.pieces.at ≡ n = omega (arith, c.pieces-test.false, c.pieces.invariant.within) in
+    let same = subst (λ k. take k c.pieces.room ≡ take k (lowered name)) all c.pieces.invariant.lower in
+    let prefix = ap has_ace_prefix (sym (same_part c.pieces.room (lowered name) c.pieces.start n n (omega (arith, c.pieces.invariant.within)) (omega arith) same)) ∙ sym c.has_ace_prefix-2.ensures ∙ c.if-has_ace_prefix-2.true in
+    sym ldh.no_a_label
+    ∙ part_prefix (lowered name) c.pieces.start n c.pieces.have_lengths c.pieces.invariant.labels (omega (arith, c.pieces.invariant.within)) (omega (arith, length-map name to_ascii_lowercase)) (λ k from to. c.pieces.invariant.plain k from (omega arith)) prefix
+
+-- the labels of the whole name
+all_labels : (name room : List ℕ) (start at : ℕ) (fit free : Bool) → at ≡ length name → start ≤ at → take at room ≡ take at (lowered name) → IsSplit (take start (lowered name)) start fit → ((k : ℕ) → start ≤ k → k < at → is_full_stop (get_or (lowered name) k 0) ≡ false) → free ≡ has_ace_prefix (slice_range room start (length name)) → free ≡ false → (take (length name) room ≡ lowered name) × IsSplit (lowered name) start fit
+all_labels name room start at fit free all order same labels plain tested is =
+    let n = length name in
+    let whole : take n (lowered name) ≡ lowered name = take_all n (lowered name) (omega (arith, length-map name to_ascii_lowercase)) in
+    let front : take n room ≡ take n (lowered name) = subst (λ k. take k room ≡ take k (lowered name)) all same in (
+      front ∙ whole,
+      subst (λ x. IsSplit x start fit) whole
+          (label_more (lowered name) start n fit labels (omega arith) (omega (arith, length-map name to_ascii_lowercase)) (λ k from to. plain k from (omega arith))
+              (ap has_ace_prefix (sym (same_part room (lowered name) start n n (omega arith) (omega arith) front)) ∙ sym tested ∙ is)),
     )
-
-pub loop-at-preserved-in-46-1 : goal.loop-at-preserved-in-46-1
-loop-at-preserved-in-46-1 c =
-    let name = c.args.name.now in
-    let at = c.loop-at.at in
-    let start = c.loop-at.start in
-    let room = c.loop-at.room in
-    let lower = c.lowercase_octet-lower.result in
-    let fits : at < length room = omega (arith, c.requires, c.loop-at.invariant.room, c.loop-at.invariant.within.1, c.loop-at-test.true, c.if-name-gt-MAX_QUERY_LEN.false) in
-    let count : length (take at room) ≡ at = omega (arith, length-take at room) in
-    let more = octet_more name room at lower c.loop-at-test.true fits c.lowercase_octet-lower.ensures (omega (arith, c.in-46.is)) c.loop-at.invariant.lower c.loop-at.invariant.points in
-    let stop : take at room ++ 0x2E ∷ [] ≡ take (at + 1) (set room at lower) = ap (λ x. take at room ++ x ∷ []) (sym c.in-46.is) ∙ sym more.2 in
-    let next : length (take at room) + 1 ≡ at + 1 = omega (arith, count) in
-    let last : at + 1 - 1 - start ≡ length (take at room) - start = omega (arith, count) in
-    record {
-      lower = more.0;
-      points = more.1;
-      labels = same_split stop next refl (split_stop c.loop-at.invariant.labels c.has_label_length-have_lengths.result (c.has_label_length-have_lengths.ensures ∙ ap (is_in_range 1 63) last));
-      within = (omega arith, omega arith);
-      room = length-set room at lower ∙ c.loop-at.invariant.room;
-    }
-
-pub loop-at-preserved-then-not-has_ace_prefix : goal.loop-at-preserved-then-not-has_ace_prefix
-loop-at-preserved-then-not-has_ace_prefix c =
-    let name = c.args.name.now in
-    let at = c.loop-at.at in
-    let start = c.loop-at.start in
-    let room = c.loop-at.room in
-    let lower = c.lowercase_octet-lower.result in
-    let fits : at < length room = omega (arith, c.requires, c.loop-at.invariant.room, c.loop-at.invariant.within.1, c.loop-at-test.true, c.if-name-gt-MAX_QUERY_LEN.false) in
-    let count : length (take at room) ≡ at = omega (arith, length-take at room) in
-    let more = octet_more name room at lower c.loop-at-test.true fits c.lowercase_octet-lower.ensures (omega (arith, c.in-45.is)) c.loop-at.invariant.lower c.loop-at.invariant.points in
-    let hyphens : take at room ++ hyphen ∷ [] ≡ take (at + 1) (set room at lower) = ap (λ x. take at room ++ x ∷ []) (sym c.in-45.is) ∙ sym more.2 in
-    let end : start + (at + 1 - start) ≡ at + 1 = omega (arith, c.loop-at.invariant.within.0) in
-    let whole : take (at + 1 - start) (drop start (set room at lower)) ≡ drop start (take at room ++ hyphen ∷ []) =
-    sym (drop-take start (at + 1 - start) (set room at lower)) ∙ ap (λ n. drop start (take n (set room at lower))) end ∙ ap (drop start) (sym hyphens) in
-    record {
-      lower = more.0;
-      points = more.1;
-      labels = same_split hyphens refl refl (split_hyphen c.loop-at.invariant.labels (ap has_ace_prefix (sym whole) ∙ sym c.has_ace_prefix.ensures ∙ c.if-not-has_ace_prefix.true));
-      within = (omega (arith, c.loop-at.invariant.within.0), omega arith);
-      room = length-set room at lower ∙ c.loop-at.invariant.room;
-    }
-
-pub loop-at-preserved : goal.loop-at-preserved
-loop-at-preserved c =
-    let name = c.args.name.now in
-    let at = c.loop-at.at in
-    let start = c.loop-at.start in
-    let room = c.loop-at.room in
-    let lower = c.lowercase_octet-lower.result in
-    let fits : at < length room = omega (arith, c.requires, c.loop-at.invariant.room, c.loop-at.invariant.within.1, c.loop-at-test.true, c.if-name-gt-MAX_QUERY_LEN.false) in
-    let count : length (take at room) ≡ at = omega (arith, length-take at room) in
-    let more = octet_more name room at lower c.loop-at-test.true fits c.lowercase_octet-lower.ensures (omega (arith, c.if-lower-le46.false)) c.loop-at.invariant.lower c.loop-at.invariant.points in
-    let no_stop = ne_eqb lower 0x2E (omega (arith, c.if-lower-le46.false)) in
-    let no_hyphen = ne_eqb lower hyphen (omega (arith, c.if-lower-le46.false)) in
-    record {
-      lower = more.0;
-      points = more.1;
-      labels = same_split (sym more.2) refl refl (split_letter c.loop-at.invariant.labels lower no_stop no_hyphen);
-      within = (omega (arith, c.loop-at.invariant.within.0), omega arith);
-      room = length-set room at lower ∙ c.loop-at.invariant.room;
-    }
 
 pub returns-then-may_end-clause-answer : goal.returns-then-may_end-clause-answer
 returns-then-may_end-clause-answer c std3 =
     let name = c.args.name.now in
-    let query = take c.loop-at.at c.loop-at.room in
-    let all : c.loop-at.at ≡ length name = omega (arith, c.loop-at-test.false, c.loop-at.invariant.within.1) in
-    let count : length query ≡ length name = omega (arith, all, length-take c.loop-at.at c.loop-at.room, c.requires, c.loop-at.invariant.room, c.if-name-gt-MAX_QUERY_LEN.false) in
-    let whole = take_all _ name c.loop-at-test.false in
-    let points = subst (All (λ c. is_name_point (to_ascii_lowercase c) ≡ true)) whole c.loop-at.invariant.points in
-    let is = c.loop-at.invariant.lower ∙ ap (map to_ascii_lowercase) whole in
-    let given = to_ascii-lowercase_name (deny_list std3) name query points is (split_free c.loop-at.invariant.labels) in
-    let end : may_end c.loop-at.start (length query) ≡ true = ap (may_end c.loop-at.start) count ∙ sym c.if-may_end.ensures in
-    let fits : verify_dns_length query true ≡ true = split_measured c.loop-at.invariant.labels ∙ rw (c.if-have_lengths.true, end) refl in
-    Gives-measured (Ok tt) name query query std3 refl given (cond-true _ _ _ fits) ∙ ap (λ n. Ok (take n c.loop-at.room)) all
+    let query = lowered name in
+    let count = length-map name to_ascii_lowercase in
+    let all : c.pieces.at ≡ length name = omega (arith, c.pieces-test.false, c.pieces.invariant.within) in
+    let points = subst (All (λ c. is_name_point (to_ascii_lowercase c) ≡ true)) (take_all c.pieces.at name (omega arith)) c.pieces.invariant.points in
+    let parts = all_labels name c.pieces.room c.pieces.start c.pieces.at c.pieces.have_lengths c.has_ace_prefix-2.result all c.pieces.invariant.within.0 c.pieces.invariant.lower c.pieces.invariant.labels c.pieces.invariant.plain c.has_ace_prefix-2.ensures c.if-has_ace_prefix-2.false in
+    let given = to_ascii-lowercase_name (deny_list std3) name query points refl (split_free parts.1) in
+    let end : may_end c.pieces.start (length query) ≡ true = ap (may_end c.pieces.start) count ∙ sym c.if-may_end.ensures in
+    let fits : verify_dns_length query true ≡ true = split_measured parts.1 ∙ rw (c.if-have_lengths.true, end) refl in
+    Gives-measured (Ok tt) name query query std3 refl given (cond-true _ _ _ fits) ∙ ap Ok (sym parts.0)
 
 pub returns-else-have_lengths-clause-answer : goal.returns-else-have_lengths-clause-answer
 returns-else-have_lengths-clause-answer c std3 =
     let name = c.args.name.now in
-    let query = take c.loop-at.at c.loop-at.room in
-    let all : c.loop-at.at ≡ length name = omega (arith, c.loop-at-test.false, c.loop-at.invariant.within.1) in
-    let count : length query ≡ length name = omega (arith, all, length-take c.loop-at.at c.loop-at.room, c.requires, c.loop-at.invariant.room, c.if-name-gt-MAX_QUERY_LEN.false) in
-    let whole = take_all _ name c.loop-at-test.false in
-    let points = subst (All (λ c. is_name_point (to_ascii_lowercase c) ≡ true)) whole c.loop-at.invariant.points in
-    let is = c.loop-at.invariant.lower ∙ ap (map to_ascii_lowercase) whole in
-    let given = to_ascii-lowercase_name (deny_list std3) name query points is (split_free c.loop-at.invariant.labels) in
+    let query = lowered name in
+    let count = length-map name to_ascii_lowercase in
+    let all : c.pieces.at ≡ length name = omega (arith, c.pieces-test.false, c.pieces.invariant.within) in
+    let points = subst (All (λ c. is_name_point (to_ascii_lowercase c) ≡ true)) (take_all c.pieces.at name (omega arith)) c.pieces.invariant.points in
+    let parts = all_labels name c.pieces.room c.pieces.start c.pieces.at c.pieces.have_lengths c.has_ace_prefix-2.result all c.pieces.invariant.within.0 c.pieces.invariant.lower c.pieces.invariant.labels c.pieces.invariant.plain c.has_ace_prefix-2.ensures c.if-has_ace_prefix-2.false in
+    let given = to_ascii-lowercase_name (deny_list std3) name query points refl (split_free parts.1) in
     let fits : verify_dns_length query true ≡ false =
     elim c.else-have_lengths.branch [
       | else-have_lengths-via-then-have_lengths+else-may_end w ↦
-          let end : may_end c.loop-at.start (length query) ≡ false = ap (may_end c.loop-at.start) count ∙ sym w.may_end.ensures ∙ w.if-may_end.false in
-          split_measured c.loop-at.invariant.labels ∙ rw end (and-false c.loop-at.have_lengths)
-      | else-have_lengths-via-else-have_lengths w ↦ split_measured c.loop-at.invariant.labels ∙ rw w.if-have_lengths.false refl
+          let end : may_end c.pieces.start (length query) ≡ false = ap (may_end c.pieces.start) count ∙ sym w.may_end.ensures ∙ w.if-may_end.false in
+          split_measured parts.1 ∙ rw end (and-false c.pieces.have_lengths)
+      | else-have_lengths-via-else-have_lengths w ↦ split_measured parts.1 ∙ rw w.if-have_lengths.false refl
     ] in
     Gives-measured (Err LookupLength) name query query std3 refl given (λ _. cond-false _ _ _ fits)
-
--- A hyphen that ends the prefix stands in a label of the name.
-pub returns-in_default-clause-told : goal.returns-in_default-clause-told
-returns-in_default-clause-told c ldh =
-    let name = c.args.name.now in
-    let at = c.loop-at.at in
-    let start = c.loop-at.start in
-    let room = c.loop-at.room in
-    let query = take at room in
-    let lower = c.lowercase_octet-lower.result in
-    let rest = map to_ascii_lowercase (drop (at + 1) name) in
-    let fits : at < length room = omega (arith, c.requires, c.loop-at.invariant.room, c.loop-at.invariant.within.1, c.loop-at-test.true, c.if-name-gt-MAX_QUERY_LEN.false) in
-    let pushed : take (at + 1) (set room at lower) ≡ query ++ lower ∷ [] = take_more_set room at lower fits in
-    let some = lower_some (get_or name at 0) lower c.lowercase_octet-lower.ensures (omega (arith, c.in-45.is)) in
-    let more = lowercase_push name query (take (at + 1) (set room at lower)) at lower c.loop-at-test.true some.0 pushed c.loop-at.invariant.lower in
-    let hyphens : query ++ hyphen ∷ [] ≡ take (at + 1) (set room at lower) = ap (λ x. query ++ x ∷ []) (sym c.in-45.is) ∙ sym pushed in
-    let parts : map to_ascii_lowercase name ≡ (query ++ hyphen ∷ []) ++ rest =
-    sym (ap (map to_ascii_lowercase) (take-append-drop (at + 1) name)) ∙ map-append to_ascii_lowercase (take (at + 1) name) (drop (at + 1) name) ∙ ap (λ x. x ++ rest) (sym (hyphens ∙ more)) in
-    let end : start + (at + 1 - start) ≡ at + 1 = omega (arith, c.loop-at.invariant.within.0) in
-    let whole : take (at + 1 - start) (drop start (set room at lower)) ≡ drop start (query ++ hyphen ∷ []) =
-    sym (drop-take start (at + 1 - start) (set room at lower)) ∙ ap (λ n. drop start (take n (set room at lower))) end ∙ ap (drop start) (sym hyphens) in
-    let prefix = ap has_ace_prefix (sym whole) ∙ sym c.has_ace_prefix.ensures ∙ c.if-not-has_ace_prefix.false in
-    sym ldh.no_a_label ∙ ap (λ x. list_any has_ace_prefix (labels_of x)) parts ∙ split_prefix c.loop-at.invariant.labels rest prefix

@@ -1,18 +1,33 @@
-use Rattle.std.proofs.Common.{◌≡◌, ◌-◌, ◌≤◌, true, map, take, length, All}
+use Rattle.std.proofs.Common.{◌≡◌, ℕ, ◌-◌, ◌<◌, ◌≤◌, true, false, map, take, length, get_or, All}
 use Rattle.std.specs.Char.{to_ascii_lowercase}
+use Rattle.std.specs.Simd.Lanes.{chunk, mask_l}
+use Rattle.idna.specs.Labels.{is_full_stop}
 use Rattle.idn_label.specs.LdhNames.{is_name_point}
 use Rattle.idn_label.proofs.LdhLabels.{IsSplit}
 use Rattle.idn_label.proofs.query.ldh.ldh_query.Given as goal
 
--- the octets so far, in lower case, and their labels
-abbrev pub invariant-loop-at : goal.invariant-loop-at
-invariant-loop-at l = record {
-  lower : take l.at l.room ≡ map to_ascii_lowercase (take l.at l.name);
+-- the octets so far, in lower case, and their labels: whole ones, and one without its end
+abbrev pub invariant-pieces : goal.invariant-pieces
+invariant-pieces l = record {
+  lower : take l.at l.room ≡ take l.at (map to_ascii_lowercase l.name);
   points : All (λ c. is_name_point (to_ascii_lowercase c) ≡ true) (take l.at l.name);
-  labels : IsSplit (take l.at l.room) l.start l.have_lengths;
+  labels : IsSplit (take l.start (map to_ascii_lowercase l.name)) l.start l.have_lengths;
+  plain : (k : ℕ) → l.start ≤ k → k < l.at → is_full_stop (get_or (map to_ascii_lowercase l.name) k 0) ≡ false;
   within : (l.start ≤ l.at) × (l.at ≤ length l.name);
   room : length l.room ≡ length l.fn.room;
 }
 
-abbrev pub decreases-loop-at : goal.decreases-loop-at
-decreases-loop-at l = length l.name - l.at
+abbrev pub decreases-pieces : goal.decreases-pieces
+decreases-pieces l = length l.name - l.at
+
+-- the labels of the block's octets so far, and the full stops behind them
+abbrev pub invariant-labels : goal.invariant-labels
+invariant-labels l = record {
+  labels : IsSplit (take l.start (map to_ascii_lowercase l.name)) l.start l.have_lengths;
+  plain : (k : ℕ) → l.start ≤ k → k < l.at → is_full_stop (get_or (map to_ascii_lowercase l.name) k 0) ≡ false;
+  stops : l.stops ≡ mask_l (map is_full_stop (chunk l.at (l.end - l.at) (map to_ascii_lowercase l.name)));
+  within : (l.start ≤ l.at) × (l.at ≤ l.end) × (l.initial.at ≤ l.at);
+}
+
+abbrev pub decreases-labels : goal.decreases-labels
+decreases-labels l = l.end - l.at
