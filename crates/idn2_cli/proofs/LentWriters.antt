@@ -9,58 +9,58 @@ use Rattle.idn2_cli.specs.declared.session.stop.Stop.{Stop}
 use Rattle.idn2_cli.specs.declared.session.stop.Stop.TheVariants as stop
 
 -- what two writers hold, and not by which loans
-abbrev plain : Held → Held
-plain h = held h.output h.messages
+abbrev without_loans : Held → Held
+without_loans h = held h.output h.messages
 
-takes_plain : (old new : Held) (pieces : List Piece) → Takes old new pieces → Takes (plain old) (plain new) pieces
-takes_plain old new pieces t = record { output = t.output; messages = t.messages; output_loan = refl; messages_loan = refl }
+takes_without_loans : (old new : Held) (pieces : List Piece) → Takes old new pieces → Takes (without_loans old) (without_loans new) pieces
+takes_without_loans old new pieces t = record { output = t.output; messages = t.messages; output_loan = refl; messages_loan = refl }
 
-writes_plain : (old new : Held) (pieces : List Piece) → Writes old new pieces → Writes (plain old) (plain new) pieces
-writes_plain old new pieces w =
-    record { takes = takes_plain old new pieces w.takes; output_faults = w.output_faults; messages_faults = w.messages_faults }
+writes_without_loans : (old new : Held) (pieces : List Piece) → Writes old new pieces → Writes (without_loans old) (without_loans new) pieces
+writes_without_loans old new pieces w =
+    record { takes = takes_without_loans old new pieces w.takes; output_faults = w.output_faults; messages_faults = w.messages_faults }
 
-until_plain : (why : Stop) (old new : Held) (pieces : List Piece) → WritesUntil why old new pieces → WritesUntil why (plain old) (plain new) pieces
-until_plain why old new pieces w = record {
-  takes = takes_plain old new pieces w.takes;
+until_without_loans : (why : Stop) (old new : Held) (pieces : List Piece) → WritesUntil why old new pieces → WritesUntil why (without_loans old) (without_loans new) pieces
+until_without_loans why old new pieces w = record {
+  takes = takes_without_loans old new pieces w.takes;
   output_failed = w.output_failed;
   output_faults = w.output_faults;
   messages_failed = w.messages_failed;
   messages_faults = w.messages_faults;
 }
 
-closes_plain : (why : Stop) (old new : Held) → Closes why old new → Closes why (plain old) (plain new)
-closes_plain stop.Messages old new c = ap plain c
-closes_plain stop.Reading old new c = (ap plain c.0, c.1)
-closes_plain stop.Output old new c = (ap plain c.0, c.1)
-closes_plain stop.Memory old new c = (ap plain c.0, c.1)
+closes_without_loans : (why : Stop) (old new : Held) → Closes why old new → Closes why (without_loans old) (without_loans new)
+closes_without_loans stop.Messages old new c = ap without_loans c
+closes_without_loans stop.Reading old new c = (ap without_loans c.0, c.1)
+closes_without_loans stop.Output old new c = (ap without_loans c.0, c.1)
+closes_without_loans stop.Memory old new c = (ap without_loans c.0, c.1)
 
-does_plain : (job : Job) (start now : Reading) (old new : Held) (r : Result Status Stop) → Does job start now old new r → Does job start now (plain old) (plain new) r
-does_plain job start now old new (Ok status) done = record {
+does_without_loans : (job : Job) (start now : Reading) (old new : Held) (r : Result Status Stop) → Does job start now old new r → Does job start now (without_loans old) (without_loans new) r
+does_without_loans job start now old new (Ok status) done = record {
   given = done.given;
   lines = done.lines;
   read = done.read;
   unread = done.unread;
-  ending = record { ended = done.ending.ended; pieces = writes_plain old new (job.pieces done.lines) done.ending.pieces; answered = done.ending.answered };
+  ending = record { ended = done.ending.ended; pieces = writes_without_loans old new (job.pieces done.lines) done.ending.pieces; answered = done.ending.answered };
 }
-does_plain job start now old new (Err why) done = record {
+does_without_loans job start now old new (Err why) done = record {
   given = done.given;
   lines = done.lines;
   read = done.read;
   unread = done.unread;
   ending = record {
     written = done.ending.written;
-    pieces = until_plain why old new done.ending.written done.ending.pieces;
+    pieces = until_without_loans why old new done.ending.written done.ending.pieces;
     stands = done.ending.stands;
   };
 }
 
-ends_plain : (job : Job) (start now : Reading) (old new : Held) (status : Status) → Ends job start now old new status → Ends job start now (plain old) (plain new) status
-ends_plain job start now old new status (inl done) = inl (does_plain job start now old new (Ok status) done)
-ends_plain job start now old new status (inr s) = inr (record {
+ends_without_loans : (job : Job) (start now : Reading) (old new : Held) (status : Status) → Ends job start now old new status → Ends job start now (without_loans old) (without_loans new) status
+ends_without_loans job start now old new status (inl done) = inl (does_without_loans job start now old new (Ok status) done)
+ends_without_loans job start now old new status (inr s) = inr (record {
   why = s.why;
-  middle = plain s.middle;
-  stopped = does_plain job start now old s.middle (Err s.why) s.stopped;
-  closes = closes_plain s.why s.middle new s.closes;
+  middle = without_loans s.middle;
+  stopped = does_without_loans job start now old s.middle (Err s.why) s.stopped;
+  closes = closes_without_loans s.why s.middle new s.closes;
   answered = s.answered;
 })
 
@@ -81,7 +81,7 @@ same_loans job start now old new status (inr s) =
 
 -- what they then hold is what they hold when they are given back
 pub given_back : (job : Job) (start now : Reading) (old new : Held) (status : Status) (output messages : Writer) → output ≡ new.output → messages ≡ new.messages
-    → Ends job start now old new status → Ends job start now (plain old) (held output messages) status
+    → Ends job start now old new status → Ends job start now (without_loans old) (held output messages) status
 given_back job start now old new status output messages first second ends =
-    subst (λ (m : Writer). Ends job start now (plain old) (held output m) status) (sym second)
-    (subst (λ (o : Writer). Ends job start now (plain old) (held o new.messages) status) (sym first) (ends_plain job start now old new status ends))
+    subst (λ (m : Writer). Ends job start now (without_loans old) (held output m) status) (sym second)
+    (subst (λ (o : Writer). Ends job start now (without_loans old) (held o new.messages) status) (sym first) (ends_without_loans job start now old new status ends))

@@ -85,7 +85,7 @@ block-walk field o table label last limits count =
 -- ---- tested labels can be written
 
 -- at most 63 code points, all scalar values
-pub record IsPlain (v : List ℕ) : Type 0 where
+pub record IsWritable (v : List ℕ) : Type 0 where
   pub short : length v ≤ 63
   pub scalar_values : AreScalarValues v
 
@@ -109,8 +109,8 @@ all_members : (P : List ℕ → Type 0) (vs : List (List ℕ)) → ((v : List �
 all_members P [] h = tt
 all_members P (v ∷ vs) h = (h v (Contains-head v vs), all_members P vs (λ w c. h w (Contains-later v vs w c)))
 
-pub tested-plain : (table : List Entry) → IsWellFormed table → (label after : List ℕ) → AllByRecursion IsPlain (tested hopeless table label after)
-tested-plain table formed label after = all_members IsPlain (tested hopeless table label after) (λ v c.
+pub tested-writable : (table : List Entry) → IsWellFormed table → (label after : List ℕ) → AllByRecursion IsWritable (tested hopeless table label after)
+tested-writable table formed label after = all_members IsWritable (tested hopeless table label after) (λ v c.
     let is = ((variants-IsListed fits_with_hope table label after).members v).0 c in
     let spells = (spelled-Spells table label v formed.entries).0 is.spelled in
     record {
@@ -118,9 +118,9 @@ tested-plain table formed label after = all_members IsPlain (tested hopeless tab
       scalar_values = All-from_recursion IsScalarValue v (joins_scalar table formed spells.0 spells.1.of_table v spells.2);
     })
 
-last_of-plain : (start : List ℕ) (passed : List (List ℕ)) → IsPlain start → AllByRecursion IsPlain passed → IsPlain (last_of start passed)
-last_of-plain start [] h all = h
-last_of-plain start (v ∷ passed) h all = last_of-plain v passed all.0 all.1
+last_of-writable : (start : List ℕ) (passed : List (List ℕ)) → IsWritable start → AllByRecursion IsWritable passed → IsWritable (last_of start passed)
+last_of-writable start [] h all = h
+last_of-writable start (v ∷ passed) h all = last_of-writable v passed all.0 all.1
 
 take_all_of : {X : Type 0} (P : X → Type 0) (n : ℕ) (xs : List X) → AllByRecursion P xs → AllByRecursion P (take n xs)
 take_all_of P zero xs all = tt
@@ -128,8 +128,8 @@ take_all_of P (suc n) [] all = tt
 take_all_of P (suc n) (x ∷ xs) all = (all.0, take_all_of P n xs all.1)
 
 -- where a cursor comes to can be written, where it was can
-pub moved-plain : (count : ℕ) (p : Position) → IsWellFormed p.net.table → IsPlain p.last → IsPlain (moved_over hopeless count p).last
-moved-plain count p formed plain = last_of-plain p.last (take count (tested_ahead hopeless p)) plain (take_all_of IsPlain count (tested_ahead hopeless p) (tested-plain p.net.table formed p.net.label p.last))
+pub moved-writable : (count : ℕ) (p : Position) → IsWellFormed p.net.table → IsWritable p.last → IsWritable (moved_over hopeless count p).last
+moved-writable count p formed writable = last_of-writable p.last (take count (tested_ahead hopeless p)) writable (take_all_of IsWritable count (tested_ahead hopeless p) (tested-writable p.net.table formed p.net.label p.last))
 
 -- what is ahead of it then
 pub moved-ahead : (count : ℕ) (p : Position) → tested_ahead hopeless (moved_over hopeless count p) ≡ drop count (tested_ahead hopeless p)
@@ -141,8 +141,8 @@ take_scalar : (n : ℕ) (points : List ℕ) → AreScalarValues points → AreSc
 take_scalar n points h = All-from_recursion IsScalarValue (take n points) (take_all_of IsScalarValue n points (recursion_from_All IsScalarValue points h))
 
 -- the start of a listing
-pub start-plain : (after : List ℕ) → AreScalarValues after → IsPlain (take 63 after)
-start-plain after h = record { short = few after 63; scalar_values = take_scalar 63 after h }
+pub start-writable : (after : List ℕ) → AreScalarValues after → IsWritable (take 63 after)
+start-writable after h = record { short = few after 63; scalar_values = take_scalar 63 after h }
   where
     few : (xs : List ℕ) (n : ℕ) → length (take n xs) ≤ n
     few xs n = omega (arith, length-take n xs)

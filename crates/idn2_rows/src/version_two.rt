@@ -103,9 +103,9 @@ fn blocked_variants(rt: HostRuntime) -> Result<(), Fail> {
         written.as_slice(),
         b"%version 2\n0061\n0078|007A\n".as_slice()
     );
-    let plain = Table::read(alloc, b"0061|0062")?;
-    assert_eq!(&rt; plain.version(), 1);
-    let same = plain.unblocked(alloc)?.write_table(alloc)?;
+    let version_one = Table::read(alloc, b"0061|0062")?;
+    assert_eq!(&rt; version_one.version(), 1);
+    let same = version_one.unblocked(alloc)?.write_table(alloc)?;
     assert_eq!(&rt; same.as_slice(), b"0061|0062\n".as_slice());
     Ok(())
 }

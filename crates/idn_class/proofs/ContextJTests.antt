@@ -6,8 +6,8 @@ use Rattle.idn_class.specs.declared.joining_type.JoiningType.{JoiningType}
 use Rattle.idn_class.specs.declared.joining_type.JoiningType.TheVariants.{Transparent}
 use Rattle.idn_class.specs.JoiningType.{is_virama, joins_next, joins_previous}
 use Rattle.idn_class.specs.Neighbors.{before}
-use Rattle.idn_class.specs.ContextJ.{type_at, JoinsBefore, JoinsAfter, FollowsVirama, JoinerFits, PassesContextJ}
-use Rattle.idn_class.specs.Tests.{first_other, joins_before, joins_after, follows_virama, non_joiner_fits, joiner_fits, contextj_ok}
+use Rattle.idn_class.specs.ContextJ.{type_at, JoinsBefore, JoinsAfter, FollowsVirama, JoinerPasses, PassesContextJ}
+use Rattle.idn_class.specs.Tests.{first_other, joins_before, joins_after, follows_virama, non_joiner_passes, joiner_passes, contextj_ok}
 use Rattle.idn_class.proofs.JoiningLemmas.{joins_before_here, joins_after_here, clear_joins_not_left, clear_joins_not_right}
 use Rattle.idn_class.proofs.TestLemmas.{same_test, all_places-from, all_places-at, is_some_and-gives, is_some_and-from, asked_at-gives, asked_at-from}
 
@@ -123,7 +123,7 @@ joins_after-from label p at (suc more) sum lt clear found =
 
 -- ---- the rule at a place, and of the label
 
-non_joiner-gives : (label : List ℕ) (p : ℕ) → p < length label → non_joiner_fits true label p ≡ true → FollowsVirama label p ⊎ (JoinsBefore label p × JoinsAfter label p)
+non_joiner-gives : (label : List ℕ) (p : ℕ) → p < length label → non_joiner_passes true label p ≡ true → FollowsVirama label p ⊎ (JoinsBefore label p × JoinsAfter label p)
 non_joiner-gives label p within h =
     elim (or_cases (follows_virama label p) (joins_before label p && joins_after (drop (p + 1) label)) h) [
       | inl virama ↦ inl (is_some_and-gives (before label p) is_virama virama)
@@ -136,10 +136,10 @@ non_joiner-gives label p within h =
           )
     ]
 
-non_joiner-from : (label : List ℕ) (p : ℕ) → p < length label → FollowsVirama label p ⊎ (JoinsBefore label p × JoinsAfter label p) → non_joiner_fits true label p ≡ true
-non_joiner-from label p within fits =
+non_joiner-from : (label : List ℕ) (p : ℕ) → p < length label → FollowsVirama label p ⊎ (JoinsBefore label p × JoinsAfter label p) → non_joiner_passes true label p ≡ true
+non_joiner-from label p within passes =
     let joined = joins_before label p && joins_after (drop (p + 1) label) in
-    elim fits [
+    elim passes [
       | inl virama ↦ or_left (follows_virama label p) joined (is_some_and-from (before label p) is_virama virama)
       | inr joins ↦
           or_right (follows_virama label p) joined
@@ -147,40 +147,40 @@ non_joiner-from label p within fits =
           (joins_after-from label p (p + 1) (length label - (p + 1)) (omega arith) (omega arith) (λ k low high. absurd (omega arith)) joins.1))
     ]
 
-fits_at : List ℕ → ℕ → Bool
-fits_at label p = non_joiner_fits (slice_index label p == 0x200C) label p && joiner_fits (slice_index label p == 0x200D) label p
+passes_at : List ℕ → ℕ → Bool
+passes_at label p = non_joiner_passes (slice_index label p == 0x200C) label p && joiner_passes (slice_index label p == 0x200D) label p
 
-JoinerFits-from : (label : List ℕ) (p : ℕ) → p < length label → fits_at label p ≡ true → JoinerFits label p
-unfolding fits_at
-JoinerFits-from label p within h =
+JoinerPasses-from : (label : List ℕ) (p : ℕ) → p < length label → passes_at label p ≡ true → JoinerPasses label p
+unfolding passes_at
+JoinerPasses-from label p within h =
     let c = slice_index label p in
-    let parts = and_parts (non_joiner_fits (c == 0x200C) label p) (joiner_fits (c == 0x200D) label p) h in
+    let parts = and_parts (non_joiner_passes (c == 0x200C) label p) (joiner_passes (c == 0x200D) label p) h in
     record {
-      non_joiner = λ is. non_joiner-gives label p within (asked_at-gives c 0x200C (λ b. non_joiner_fits b label p) parts.0 is);
-      joiner = λ is. is_some_and-gives (before label p) is_virama (asked_at-gives c 0x200D (λ b. joiner_fits b label p) parts.1 is);
+      non_joiner = λ is. non_joiner-gives label p within (asked_at-gives c 0x200C (λ b. non_joiner_passes b label p) parts.0 is);
+      joiner = λ is. is_some_and-gives (before label p) is_virama (asked_at-gives c 0x200D (λ b. joiner_passes b label p) parts.1 is);
     }
 
-fits_at-from : (label : List ℕ) (p : ℕ) → p < length label → JoinerFits label p → fits_at label p ≡ true
-unfolding fits_at
-fits_at-from label p within fits =
+passes_at-from : (label : List ℕ) (p : ℕ) → p < length label → JoinerPasses label p → passes_at label p ≡ true
+unfolding passes_at
+passes_at-from label p within passes =
     let c = slice_index label p in
-    and_from (non_joiner_fits (c == 0x200C) label p) (joiner_fits (c == 0x200D) label p)
-    (asked_at-from c 0x200C (λ b. non_joiner_fits b label p) refl (λ is. non_joiner-from label p within (fits.non_joiner is)))
-    (asked_at-from c 0x200D (λ b. joiner_fits b label p) refl (λ is. is_some_and-from (before label p) is_virama (fits.joiner is)))
+    and_from (non_joiner_passes (c == 0x200C) label p) (joiner_passes (c == 0x200D) label p)
+    (asked_at-from c 0x200C (λ b. non_joiner_passes b label p) refl (λ is. non_joiner-from label p within (passes.non_joiner is)))
+    (asked_at-from c 0x200D (λ b. joiner_passes b label p) refl (λ is. is_some_and-from (before label p) is_virama (passes.joiner is)))
 
 contextj_ok-gives : (label : List ℕ) → contextj_ok label ≡ true → PassesContextJ label
-unfolding contextj_ok fits_at
-contextj_ok-gives label ok p within = JoinerFits-from label p within (all_places-at (length label) (fits_at label) ok p within)
+unfolding contextj_ok passes_at
+contextj_ok-gives label ok p within = JoinerPasses-from label p within (all_places-at (length label) (passes_at label) ok p within)
 
 contextj_ok-from : (label : List ℕ) → PassesContextJ label → contextj_ok label ≡ true
-unfolding contextj_ok fits_at
-contextj_ok-from label passes = all_places-from (length label) (fits_at label) (λ p within. fits_at-from label p within (passes p within))
+unfolding contextj_ok passes_at
+contextj_ok-from label passes = all_places-from (length label) (passes_at label) (λ p within. passes_at-from label p within (passes p within))
 
 -- the test is the rule
 pub contextj_ok-PassesContextJ : (label : List ℕ) → (contextj_ok label ≡ true) ↔ PassesContextJ label
 contextj_ok-PassesContextJ label = (contextj_ok-gives label, contextj_ok-from label)
 
 -- one joiner against its rule fails the test
-pub contextj_ok-misfit : (label : List ℕ) (p : ℕ) → p < length label → (JoinerFits label p → ⊥) → false ≡ contextj_ok label
-contextj_ok-misfit label p within misfit =
+pub contextj_ok-failing : (label : List ℕ) (p : ℕ) → p < length label → (JoinerPasses label p → ⊥) → false ≡ contextj_ok label
+contextj_ok-failing label p within misfit =
     same_test false (contextj_ok label) (λ no. cc) (λ ok. absurd (misfit (contextj_ok-gives label ok p within)))

@@ -7,8 +7,8 @@ use Rattle.ucd_script.specs.declared.Script.{Script}
 use Rattle.ucd_script.specs.declared.Script.TheVariants.{Greek, Hebrew}
 use Rattle.unicode.specs.Script.{script}
 use Rattle.idn_class.specs.Neighbors.{before, after}
-use Rattle.idn_class.specs.ContextO.{is_japanese, is_arabic_digit, is_extended_arabic_digit, OtherFits, PassesContextO}
-use Rattle.idn_class.specs.Tests.{is_some_and, is_greek, is_hebrew, middle_dot_fits, keraia_fits, geresh_fits, katakana_middle_dot_fits, digit_fits, contexto_ok}
+use Rattle.idn_class.specs.ContextO.{is_japanese, is_arabic_digit, is_extended_arabic_digit, OtherPasses, PassesContextO}
+use Rattle.idn_class.specs.Tests.{is_some_and, is_greek, is_hebrew, middle_dot_passes, keraia_passes, geresh_passes, katakana_middle_dot_passes, digit_passes, contexto_ok}
 use Rattle.idn_class.proofs.TestLemmas.{same_test, all_places-from, all_places-at, asked-gives, asked-from, asked_at-gives, asked_at-from}
 
 -- ---- what each test asks of a neighbor, or of the label
@@ -52,12 +52,12 @@ no_other-from : (is_other : ℕ → Bool) (label : List ℕ) → ¬ (Any (λ c. 
 no_other-from is_other label none =
     not_from_false (list_any is_other label) (false_from_ne_true (list_any is_other label) (λ h. none (Any-from_list_any is_other label h)))
 
-middle_dot-gives : (label : List ℕ) (p : ℕ) → middle_dot_fits true label p ≡ true → (before label p ≡ Some 0x6C) × (after label p ≡ Some 0x6C)
+middle_dot-gives : (label : List ℕ) (p : ℕ) → middle_dot_passes true label p ≡ true → (before label p ≡ Some 0x6C) × (after label p ≡ Some 0x6C)
 middle_dot-gives label p h =
     let parts = and_parts (is_some_and (before label p) (λ c. c == 0x6C)) (is_some_and (after label p) (λ c. c == 0x6C)) h in
     (is_l-gives (before label p) parts.0, is_l-gives (after label p) parts.1)
 
-middle_dot-from : (label : List ℕ) (p : ℕ) → (before label p ≡ Some 0x6C) × (after label p ≡ Some 0x6C) → middle_dot_fits true label p ≡ true
+middle_dot-from : (label : List ℕ) (p : ℕ) → (before label p ≡ Some 0x6C) × (after label p ≡ Some 0x6C) → middle_dot_passes true label p ≡ true
 middle_dot-from label p both =
     and_from (is_some_and (before label p) (λ c. c == 0x6C)) (is_some_and (after label p) (λ c. c == 0x6C)) (is_l-from (before label p) both.0) (is_l-from (after label p) both.1)
 
@@ -65,32 +65,32 @@ middle_dot-from label p both =
 
 -- the tests of a place, in the order of the standard
 pub record Parts (label : List ℕ) (p : ℕ) : Type 0 where
-  pub middle_dot : middle_dot_fits (slice_index label p == 0xB7) label p ≡ true
-  pub keraia : keraia_fits (slice_index label p == 0x375) label p ≡ true
-  pub geresh : geresh_fits (slice_index label p == 0x5F3) label p ≡ true
-  pub gershayim : geresh_fits (slice_index label p == 0x5F4) label p ≡ true
-  pub katakana : katakana_middle_dot_fits (slice_index label p == 0x30FB) label ≡ true
-  pub arabic : digit_fits is_extended_arabic_digit (is_arabic_digit (slice_index label p)) label ≡ true
-  pub extended : digit_fits is_arabic_digit (is_extended_arabic_digit (slice_index label p)) label ≡ true
+  pub middle_dot : middle_dot_passes (slice_index label p == 0xB7) label p ≡ true
+  pub keraia : keraia_passes (slice_index label p == 0x375) label p ≡ true
+  pub geresh : geresh_passes (slice_index label p == 0x5F3) label p ≡ true
+  pub gershayim : geresh_passes (slice_index label p == 0x5F4) label p ≡ true
+  pub katakana : katakana_middle_dot_passes (slice_index label p == 0x30FB) label ≡ true
+  pub arabic : digit_passes is_extended_arabic_digit (is_arabic_digit (slice_index label p)) label ≡ true
+  pub extended : digit_passes is_arabic_digit (is_extended_arabic_digit (slice_index label p)) label ≡ true
 
-fits_at : List ℕ → ℕ → Bool
-fits_at label p =
-    middle_dot_fits (slice_index label p == 0xB7) label p && keraia_fits (slice_index label p == 0x375) label p
-    && geresh_fits (slice_index label p == 0x5F3) label p
-    && geresh_fits (slice_index label p == 0x5F4) label p
-    && katakana_middle_dot_fits (slice_index label p == 0x30FB) label
-    && digit_fits is_extended_arabic_digit (is_arabic_digit (slice_index label p)) label
-    && digit_fits is_arabic_digit (is_extended_arabic_digit (slice_index label p)) label
+passes_at : List ℕ → ℕ → Bool
+passes_at label p =
+    middle_dot_passes (slice_index label p == 0xB7) label p && keraia_passes (slice_index label p == 0x375) label p
+    && geresh_passes (slice_index label p == 0x5F3) label p
+    && geresh_passes (slice_index label p == 0x5F4) label p
+    && katakana_middle_dot_passes (slice_index label p == 0x30FB) label
+    && digit_passes is_extended_arabic_digit (is_arabic_digit (slice_index label p)) label
+    && digit_passes is_arabic_digit (is_extended_arabic_digit (slice_index label p)) label
 
-Parts-from : (label : List ℕ) (p : ℕ) → fits_at label p ≡ true → Parts label p
-unfolding fits_at
+Parts-from : (label : List ℕ) (p : ℕ) → passes_at label p ≡ true → Parts label p
+unfolding passes_at
 Parts-from label p h =
-    let sixth = and_parts _ (digit_fits is_arabic_digit (is_extended_arabic_digit (slice_index label p)) label) h in
-    let fifth = and_parts _ (digit_fits is_extended_arabic_digit (is_arabic_digit (slice_index label p)) label) sixth.0 in
-    let fourth = and_parts _ (katakana_middle_dot_fits (slice_index label p == 0x30FB) label) fifth.0 in
-    let third = and_parts _ (geresh_fits (slice_index label p == 0x5F4) label p) fourth.0 in
-    let second = and_parts _ (geresh_fits (slice_index label p == 0x5F3) label p) third.0 in
-    let first = and_parts _ (keraia_fits (slice_index label p == 0x375) label p) second.0 in
+    let sixth = and_parts _ (digit_passes is_arabic_digit (is_extended_arabic_digit (slice_index label p)) label) h in
+    let fifth = and_parts _ (digit_passes is_extended_arabic_digit (is_arabic_digit (slice_index label p)) label) sixth.0 in
+    let fourth = and_parts _ (katakana_middle_dot_passes (slice_index label p == 0x30FB) label) fifth.0 in
+    let third = and_parts _ (geresh_passes (slice_index label p == 0x5F4) label p) fourth.0 in
+    let second = and_parts _ (geresh_passes (slice_index label p == 0x5F3) label p) third.0 in
+    let first = and_parts _ (keraia_passes (slice_index label p == 0x375) label p) second.0 in
     record {
       middle_dot = first.0;
       keraia = first.1;
@@ -101,51 +101,51 @@ Parts-from label p h =
       extended = sixth.1;
     }
 
-fits_at-Parts : (label : List ℕ) (p : ℕ) → Parts label p → fits_at label p ≡ true
-unfolding fits_at
-fits_at-Parts label p parts =
+passes_at-Parts : (label : List ℕ) (p : ℕ) → Parts label p → passes_at label p ≡ true
+unfolding passes_at
+passes_at-Parts label p parts =
     and_from _ _ (and_from _ _ (and_from _ _ (and_from _ _ (and_from _ _ (and_from _ _ parts.middle_dot parts.keraia) parts.geresh) parts.gershayim) parts.katakana) parts.arabic) parts.extended
 
-OtherFits-from : (label : List ℕ) (p : ℕ) → Parts label p → OtherFits label p
-OtherFits-from label p parts =
+OtherPasses-from : (label : List ℕ) (p : ℕ) → Parts label p → OtherPasses label p
+OtherPasses-from label p parts =
     let c = slice_index label p in
     record {
-      middle_dot = λ is. middle_dot-gives label p (asked_at-gives c 0xB7 (λ b. middle_dot_fits b label p) parts.middle_dot is);
-      keraia = λ is. greek-gives (after label p) (asked_at-gives c 0x375 (λ b. keraia_fits b label p) parts.keraia is);
-      geresh = λ is. hebrew-gives (before label p) (asked_at-gives c 0x5F3 (λ b. geresh_fits b label p) parts.geresh is);
-      gershayim = λ is. hebrew-gives (before label p) (asked_at-gives c 0x5F4 (λ b. geresh_fits b label p) parts.gershayim is);
-      katakana_middle_dot = λ is. Any-from_list_any is_japanese label (asked_at-gives c 0x30FB (λ b. katakana_middle_dot_fits b label) parts.katakana is);
-      arabic_digit = λ is. no_other-gives is_extended_arabic_digit label (asked-gives (is_arabic_digit c) (λ b. digit_fits is_extended_arabic_digit b label) parts.arabic is);
-      extended_arabic_digit = λ is. no_other-gives is_arabic_digit label (asked-gives (is_extended_arabic_digit c) (λ b. digit_fits is_arabic_digit b label) parts.extended is);
+      middle_dot = λ is. middle_dot-gives label p (asked_at-gives c 0xB7 (λ b. middle_dot_passes b label p) parts.middle_dot is);
+      keraia = λ is. greek-gives (after label p) (asked_at-gives c 0x375 (λ b. keraia_passes b label p) parts.keraia is);
+      geresh = λ is. hebrew-gives (before label p) (asked_at-gives c 0x5F3 (λ b. geresh_passes b label p) parts.geresh is);
+      gershayim = λ is. hebrew-gives (before label p) (asked_at-gives c 0x5F4 (λ b. geresh_passes b label p) parts.gershayim is);
+      katakana_middle_dot = λ is. Any-from_list_any is_japanese label (asked_at-gives c 0x30FB (λ b. katakana_middle_dot_passes b label) parts.katakana is);
+      arabic_digit = λ is. no_other-gives is_extended_arabic_digit label (asked-gives (is_arabic_digit c) (λ b. digit_passes is_extended_arabic_digit b label) parts.arabic is);
+      extended_arabic_digit = λ is. no_other-gives is_arabic_digit label (asked-gives (is_extended_arabic_digit c) (λ b. digit_passes is_arabic_digit b label) parts.extended is);
     }
 
-Parts-OtherFits : (label : List ℕ) (p : ℕ) → OtherFits label p → Parts label p
-Parts-OtherFits label p fits =
+Parts-OtherPasses : (label : List ℕ) (p : ℕ) → OtherPasses label p → Parts label p
+Parts-OtherPasses label p passes =
     let c = slice_index label p in
     record {
-      middle_dot = asked_at-from c 0xB7 (λ b. middle_dot_fits b label p) refl (λ is. middle_dot-from label p (fits.middle_dot is));
-      keraia = asked_at-from c 0x375 (λ b. keraia_fits b label p) refl (λ is. greek-from (after label p) (fits.keraia is));
-      geresh = asked_at-from c 0x5F3 (λ b. geresh_fits b label p) refl (λ is. hebrew-from (before label p) (fits.geresh is));
-      gershayim = asked_at-from c 0x5F4 (λ b. geresh_fits b label p) refl (λ is. hebrew-from (before label p) (fits.gershayim is));
-      katakana = asked_at-from c 0x30FB (λ b. katakana_middle_dot_fits b label) refl (λ is. list_any-from_Any is_japanese label (fits.katakana_middle_dot is));
-      arabic = asked-from (is_arabic_digit c) (λ b. digit_fits is_extended_arabic_digit b label) refl (λ is. no_other-from is_extended_arabic_digit label (fits.arabic_digit is));
-      extended = asked-from (is_extended_arabic_digit c) (λ b. digit_fits is_arabic_digit b label) refl (λ is. no_other-from is_arabic_digit label (fits.extended_arabic_digit is));
+      middle_dot = asked_at-from c 0xB7 (λ b. middle_dot_passes b label p) refl (λ is. middle_dot-from label p (passes.middle_dot is));
+      keraia = asked_at-from c 0x375 (λ b. keraia_passes b label p) refl (λ is. greek-from (after label p) (passes.keraia is));
+      geresh = asked_at-from c 0x5F3 (λ b. geresh_passes b label p) refl (λ is. hebrew-from (before label p) (passes.geresh is));
+      gershayim = asked_at-from c 0x5F4 (λ b. geresh_passes b label p) refl (λ is. hebrew-from (before label p) (passes.gershayim is));
+      katakana = asked_at-from c 0x30FB (λ b. katakana_middle_dot_passes b label) refl (λ is. list_any-from_Any is_japanese label (passes.katakana_middle_dot is));
+      arabic = asked-from (is_arabic_digit c) (λ b. digit_passes is_extended_arabic_digit b label) refl (λ is. no_other-from is_extended_arabic_digit label (passes.arabic_digit is));
+      extended = asked-from (is_extended_arabic_digit c) (λ b. digit_passes is_arabic_digit b label) refl (λ is. no_other-from is_arabic_digit label (passes.extended_arabic_digit is));
     }
 
 contexto_ok-gives : (label : List ℕ) → contexto_ok label ≡ true → PassesContextO label
-unfolding contexto_ok fits_at
-contexto_ok-gives label ok p within = OtherFits-from label p (Parts-from label p (all_places-at (length label) (fits_at label) ok p within))
+unfolding contexto_ok passes_at
+contexto_ok-gives label ok p within = OtherPasses-from label p (Parts-from label p (all_places-at (length label) (passes_at label) ok p within))
 
 contexto_ok-from : (label : List ℕ) → PassesContextO label → contexto_ok label ≡ true
-unfolding contexto_ok fits_at
+unfolding contexto_ok passes_at
 contexto_ok-from label passes =
-    all_places-from (length label) (fits_at label) (λ p within. fits_at-Parts label p (Parts-OtherFits label p (passes p within)))
+    all_places-from (length label) (passes_at label) (λ p within. passes_at-Parts label p (Parts-OtherPasses label p (passes p within)))
 
 -- the test is the rule
 pub contexto_ok-PassesContextO : (label : List ℕ) → (contexto_ok label ≡ true) ↔ PassesContextO label
 contexto_ok-PassesContextO label = (contexto_ok-gives label, contexto_ok-from label)
 
 -- one code point against its rule fails the test
-pub contexto_ok-misfit : (label : List ℕ) (p : ℕ) → p < length label → (OtherFits label p → ⊥) → false ≡ contexto_ok label
-contexto_ok-misfit label p within misfit =
+pub contexto_ok-failing : (label : List ℕ) (p : ℕ) → p < length label → (OtherPasses label p → ⊥) → false ≡ contexto_ok label
+contexto_ok-failing label p within misfit =
     same_test false (contexto_ok label) (λ no. cc) (λ ok. absurd (misfit (contexto_ok-gives label ok p within)))

@@ -31,16 +31,16 @@ is_some_and-from None passes h = absurd h
 is_some_and-from (Some c) passes h = h
 
 -- a rule that is asked only under a condition
-pub asked-gives : (condition : Bool) (fits : Bool → Bool) → fits condition ≡ true → condition ≡ true → fits true ≡ true
-asked-gives condition fits h holds = ap fits (sym holds) ∙ h
+pub asked-gives : (condition : Bool) (passes : Bool → Bool) → passes condition ≡ true → condition ≡ true → passes true ≡ true
+asked-gives condition passes h holds = ap passes (sym holds) ∙ h
 
-pub asked-from : (condition : Bool) (fits : Bool → Bool) → fits false ≡ true → (condition ≡ true → fits true ≡ true) → fits condition ≡ true
-asked-from condition fits unasked h =
-    elim (cases_Bool condition) [ inl holds ↦ ap fits holds ∙ h holds | inr not_asked ↦ ap fits not_asked ∙ unasked ]
+pub asked-from : (condition : Bool) (passes : Bool → Bool) → passes false ≡ true → (condition ≡ true → passes true ≡ true) → passes condition ≡ true
+asked-from condition passes unasked h =
+    elim (cases_Bool condition) [ inl holds ↦ ap passes holds ∙ h holds | inr not_asked ↦ ap passes not_asked ∙ unasked ]
 
 -- a rule of one code point
-pub asked_at-gives : (c point : ℕ) (fits : Bool → Bool) → fits (c == point) ≡ true → c ≡ point → fits true ≡ true
-asked_at-gives c point fits h same = asked-gives (c == point) fits h (eq-eqb c point same)
+pub asked_at-gives : (c point : ℕ) (passes : Bool → Bool) → passes (c == point) ≡ true → c ≡ point → passes true ≡ true
+asked_at-gives c point passes h same = asked-gives (c == point) passes h (eq-eqb c point same)
 
-pub asked_at-from : (c point : ℕ) (fits : Bool → Bool) → fits false ≡ true → (c ≡ point → fits true ≡ true) → fits (c == point) ≡ true
-asked_at-from c point fits unasked h = asked-from (c == point) fits unasked (λ same. h (eqb-true c point same))
+pub asked_at-from : (c point : ℕ) (passes : Bool → Bool) → passes false ≡ true → (c ≡ point → passes true ≡ true) → passes (c == point) ≡ true
+asked_at-from c point passes unasked h = asked-from (c == point) passes unasked (λ same. h (eqb-true c point same))

@@ -47,7 +47,7 @@ unfoldable pub is_arabic_letter : ℕ → Bool
 unfolding in_ranges
 is_arabic_letter = in_ranges ((0x600, 0x7BF) ∷ (0x860, 0x8FF) ∷ [])
 
--- the first line that fits decides
+-- the first line that applies decides
 unfoldable pub bidi_class : ℕ → BidiClass
 bidi_class c =
     if is_boundary_neutral c then BN

@@ -84,7 +84,7 @@ class_by_properties c =
     else (if is_letter_or_digit (general_category c) then Pvalid
     else Disallowed))))
 
--- section 3, after two lines of this profile: the first line that fits decides. BackwardCompatible (G, 2.7) is empty.
+-- section 3, after two lines of this profile: the first line that applies decides. BackwardCompatible (G, 2.7) is empty.
 unfoldable pub class_of : ℕ → Class
 class_of c =
     if not (is_scalar c) then Disallowed

@@ -29,7 +29,7 @@ abbrev pub FollowsVirama : List ℕ → ℕ → Type 0
 FollowsVirama label place = IsSomeAnd (before label place) (λ c. IsTrue (is_virama c))
 
 -- the rule of the joiner at a place, where one stands there
-pub record JoinerFits (label : List ℕ) (place : ℕ) : Type 0 where
+pub record JoinerPasses (label : List ℕ) (place : ℕ) : Type 0 where
   -- A.1, ZERO WIDTH NON-JOINER
   pub non_joiner : slice_index label place ≡ 0x200C → FollowsVirama label place ⊎ (JoinsBefore label place × JoinsAfter label place)
   -- A.2, ZERO WIDTH JOINER
@@ -37,4 +37,4 @@ pub record JoinerFits (label : List ℕ) (place : ℕ) : Type 0 where
 
 -- each joiner of the label meets its rule
 abbrev pub PassesContextJ : List ℕ → Type 0
-PassesContextJ label = EachIndex label (JoinerFits label)
+PassesContextJ label = EachIndex label (JoinerPasses label)

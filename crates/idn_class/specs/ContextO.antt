@@ -25,7 +25,7 @@ unfoldable pub is_japanese : ℕ → Bool
 is_japanese c = is_japanese_script (script c)
 
 -- the rule of the code point at a place, where it has one
-pub record OtherFits (label : List ℕ) (place : ℕ) : Type 0 where
+pub record OtherPasses (label : List ℕ) (place : ℕ) : Type 0 where
   -- A.3, MIDDLE DOT: between two l
   pub middle_dot : slice_index label place ≡ 0xB7 → (before label place ≡ Some 0x6C) × (after label place ≡ Some 0x6C)
   -- A.4, GREEK LOWER NUMERAL SIGN
@@ -43,4 +43,4 @@ pub record OtherFits (label : List ℕ) (place : ℕ) : Type 0 where
 
 -- each code point of the label that has a rule meets it
 abbrev pub PassesContextO : List ℕ → Type 0
-PassesContextO label = EachIndex label (OtherFits label)
+PassesContextO label = EachIndex label (OtherPasses label)

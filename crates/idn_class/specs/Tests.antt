@@ -47,20 +47,20 @@ joins_after (c ∷ label) = first_other joins_previous (joining_type c) (joins_a
 abbrev pub follows_virama : List ℕ → ℕ → Bool
 follows_virama label place = is_some_and (before label place) is_virama
 
-abbrev pub non_joiner_fits : Bool → List ℕ → ℕ → Bool
-non_joiner_fits true label place = follows_virama label place || joins_before label place && joins_after (drop (place + 1) label)
-non_joiner_fits false label place = true
+abbrev pub non_joiner_passes : Bool → List ℕ → ℕ → Bool
+non_joiner_passes true label place = follows_virama label place || joins_before label place && joins_after (drop (place + 1) label)
+non_joiner_passes false label place = true
 
-abbrev pub joiner_fits : Bool → List ℕ → ℕ → Bool
-joiner_fits true label place = follows_virama label place
-joiner_fits false label place = true
+abbrev pub joiner_passes : Bool → List ℕ → ℕ → Bool
+joiner_passes true label place = follows_virama label place
+joiner_passes false label place = true
 
 unfoldable pub contextj_ok : List ℕ → Bool
 contextj_ok label =
     all_places (length label)
     (λ place.
     let c = slice_index label place in
-    non_joiner_fits (c == 0x200C) label place && joiner_fits (c == 0x200D) label place)
+    non_joiner_passes (c == 0x200C) label place && joiner_passes (c == 0x200D) label place)
 
 -- ---- other code points that need a context
 
@@ -72,36 +72,36 @@ abbrev pub is_hebrew : Script → Bool
 is_hebrew Hebrew = true
 is_hebrew _ = false
 
-abbrev pub middle_dot_fits : Bool → List ℕ → ℕ → Bool
-middle_dot_fits true label place = is_some_and (before label place) (λ c. c == 0x6C) && is_some_and (after label place) (λ c. c == 0x6C)
-middle_dot_fits false label place = true
+abbrev pub middle_dot_passes : Bool → List ℕ → ℕ → Bool
+middle_dot_passes true label place = is_some_and (before label place) (λ c. c == 0x6C) && is_some_and (after label place) (λ c. c == 0x6C)
+middle_dot_passes false label place = true
 
-abbrev pub keraia_fits : Bool → List ℕ → ℕ → Bool
-keraia_fits true label place = is_some_and (after label place) (λ c. is_greek (script c))
-keraia_fits false label place = true
+abbrev pub keraia_passes : Bool → List ℕ → ℕ → Bool
+keraia_passes true label place = is_some_and (after label place) (λ c. is_greek (script c))
+keraia_passes false label place = true
 
-abbrev pub geresh_fits : Bool → List ℕ → ℕ → Bool
-geresh_fits true label place = is_some_and (before label place) (λ c. is_hebrew (script c))
-geresh_fits false label place = true
+abbrev pub geresh_passes : Bool → List ℕ → ℕ → Bool
+geresh_passes true label place = is_some_and (before label place) (λ c. is_hebrew (script c))
+geresh_passes false label place = true
 
-abbrev pub katakana_middle_dot_fits : Bool → List ℕ → Bool
-katakana_middle_dot_fits true label = list_any is_japanese label
-katakana_middle_dot_fits false label = true
+abbrev pub katakana_middle_dot_passes : Bool → List ℕ → Bool
+katakana_middle_dot_passes true label = list_any is_japanese label
+katakana_middle_dot_passes false label = true
 
 -- a digit does not meet one of the other kind
-abbrev pub digit_fits : (ℕ → Bool) → Bool → List ℕ → Bool
-digit_fits is_other true label = not (list_any is_other label)
-digit_fits is_other false label = true
+abbrev pub digit_passes : (ℕ → Bool) → Bool → List ℕ → Bool
+digit_passes is_other true label = not (list_any is_other label)
+digit_passes is_other false label = true
 
 unfoldable pub contexto_ok : List ℕ → Bool
 contexto_ok label =
     all_places (length label)
     (λ place.
     let c = slice_index label place in
-    middle_dot_fits (c == 0xB7) label place && keraia_fits (c == 0x375) label place && geresh_fits (c == 0x5F3) label place
-    && geresh_fits (c == 0x5F4) label place && katakana_middle_dot_fits (c == 0x30FB) label
-    && digit_fits is_extended_arabic_digit (is_arabic_digit c) label
-    && digit_fits is_arabic_digit (is_extended_arabic_digit c) label)
+    middle_dot_passes (c == 0xB7) label place && keraia_passes (c == 0x375) label place && geresh_passes (c == 0x5F3) label place
+    && geresh_passes (c == 0x5F4) label place && katakana_middle_dot_passes (c == 0x30FB) label
+    && digit_passes is_extended_arabic_digit (is_arabic_digit c) label
+    && digit_passes is_arabic_digit (is_extended_arabic_digit c) label)
 
 -- ---- the Bidi rule
 
@@ -130,18 +130,18 @@ abbrev pub ends_in : (BidiClass → Bool) → List BidiClass → Bool
 ends_in is_end [] = false
 ends_in is_end (class ∷ classes) = ends_in is_end classes || is_end class && list_all is_nsm classes
 
-abbrev pub rtl_fits : Bool → List BidiClass → Bool
-rtl_fits true classes =
+abbrev pub rtl_passes : Bool → List BidiClass → Bool
+rtl_passes true classes =
     list_all is_allowed_in_rtl classes && ends_in is_end_of_rtl classes && not (list_any is_en classes && list_any is_an classes)
-rtl_fits false classes = true
+rtl_passes false classes = true
 
-abbrev pub ltr_fits : Bool → List BidiClass → Bool
-ltr_fits true classes = list_all is_allowed_in_ltr classes && ends_in is_end_of_ltr classes
-ltr_fits false classes = true
+abbrev pub ltr_passes : Bool → List BidiClass → Bool
+ltr_passes true classes = list_all is_allowed_in_ltr classes && ends_in is_end_of_ltr classes
+ltr_passes false classes = true
 
 abbrev pub meets_six_conditions : List BidiClass → Bool
 meets_six_conditions classes =
-    (is_ltr classes || is_rtl classes) && rtl_fits (is_rtl classes) classes && ltr_fits (is_ltr classes) classes
+    (is_ltr classes || is_rtl classes) && rtl_passes (is_rtl classes) classes && ltr_passes (is_ltr classes) classes
 
 abbrev pub bidi_rule : Bool → List BidiClass → Bool
 bidi_rule true classes = meets_six_conditions classes

@@ -1,5 +1,5 @@
 ghost use Rattle.std.specs.Prelude.{◌≡◌, ◌↔◌, ◌<◌, ◌≤◌, length, IsTrue};
-ghost use Rattle.idn_class.specs.ContextJ.{FollowsVirama, JoinsBefore, JoinsAfter, JoinerFits, PassesContextJ};
+ghost use Rattle.idn_class.specs.ContextJ.{FollowsVirama, JoinsBefore, JoinsAfter, JoinerPasses, PassesContextJ};
 ghost use Rattle.idn_class.specs.Tests.{contextj_ok};
 
 use crate::joining_type::{JoiningType, is_virama, joining_type};
@@ -12,7 +12,7 @@ pub fn contextj_ok(label: &[u32]) -> bool
     ensures test { result ≡ contextj_ok label.now }
 {
     for place in 0..label.len() {
-        if !joiner_fits(label, place) {
+        if !joiner_passes(label, place) {
             return false;
         }
     }
@@ -20,9 +20,9 @@ pub fn contextj_ok(label: &[u32]) -> bool
 }
 
 /// Whether the joiner at a place, if one stands there, meets its rule.
-fn joiner_fits(label: &[u32], place: usize) -> bool
+fn joiner_passes(label: &[u32], place: usize) -> bool
     requires { place < length label.now }
-    ensures { IsTrue result ↔ JoinerFits label.now place }
+    ensures { IsTrue result ↔ JoinerPasses label.now place }
 {
     match label[place] {
         0x200C => {

@@ -1,6 +1,6 @@
 ghost use Rattle.std.specs.Prelude.{◌≡◌, ◌↔◌, ◌<◌, length, IsTrue, IsSomeAnd, Any};
 ghost use Rattle.unicode.specs.Script.{script};
-ghost use Rattle.idn_class.specs.ContextO.{is_arabic_digit, is_extended_arabic_digit, is_japanese, OtherFits, PassesContextO};
+ghost use Rattle.idn_class.specs.ContextO.{is_arabic_digit, is_extended_arabic_digit, is_japanese, OtherPasses, PassesContextO};
 ghost use Rattle.idn_class.specs.Tests.{contexto_ok};
 
 use crate::category::script_of;
@@ -14,7 +14,7 @@ pub fn contexto_ok(label: &[u32]) -> bool
     ensures test { result ≡ contexto_ok label.now }
 {
     for place in 0..label.len() {
-        if !other_fits(label, place) {
+        if !other_passes(label, place) {
             return false;
         }
     }
@@ -22,9 +22,9 @@ pub fn contexto_ok(label: &[u32]) -> bool
 }
 
 /// Whether the code point at a place meets its rule, if it has one.
-fn other_fits(label: &[u32], place: usize) -> bool
+fn other_passes(label: &[u32], place: usize) -> bool
     requires { place < length label.now }
-    ensures { IsTrue result ↔ OtherFits label.now place }
+    ensures { IsTrue result ↔ OtherPasses label.now place }
 {
     match label[place] {
         0xB7 => is_l(before(label, place)) && is_l(after(label, place)),

@@ -12,10 +12,10 @@ ghost use Rattle.idn_label.specs.Register.{u_label_answer};
 ghost use Rattle.idn_label.specs.Steps.{appended};
 
 use crate::octets::ascii_octets;
-use crate::u_label::{MAX_LINE_LEN, u_label_in_any_case};
+use crate::u_label::u_label_in_any_case;
 use crate::unit::{FULL_STOP, has_ace_prefix_in_any_case, split_first_label};
 use arrayvec::ArrayVec;
-use idn_text::Refusal;
+use idn_text::{MAX_LINE_LEN, Refusal};
 use std::alloc::Global;
 
 /// The name with each A-label turned into what it stands for (RFC 5891 section 5.3). A label that begins with `xn--`

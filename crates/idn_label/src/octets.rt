@@ -3,8 +3,8 @@ ghost use Rattle.std.specs.Prelude.{◌≡◌, ◌≤◌, length, map, false, tr
 ghost use Rattle.std.specs.Char.{to_ascii_lowercase};
 ghost use Rattle.idna.specs.Validity.{is_all_ascii};
 
-use crate::u_label::MAX_LINE_LEN;
 use arrayvec::ArrayVec;
+use idn_text::MAX_LINE_LEN;
 
 /// The octets of a label, if it is all ASCII.
 pub(crate) fn ascii_octets(label: &[u32]) -> Option<ArrayVec<u8, MAX_LINE_LEN>>

@@ -12,10 +12,10 @@ ghost use Rattle.idn_label.specs.Register.{register_answer};
 use crate::a_label::{ALabel, ascii_text};
 use crate::first_fault::test_label;
 use crate::octets::ascii_octets;
-use crate::u_label::{MAX_LINE_LEN, u_label};
+use crate::u_label::u_label;
 use crate::unit::has_ace_prefix;
 use arrayvec::ArrayVec;
-use idn_text::Refusal;
+use idn_text::{MAX_LINE_LEN, Refusal};
 use std::alloc::Global;
 
 /// The A-label of a label that may be registered (RFC 5891 section 4), else its first fault, as `test_label` reports it.

@@ -16,13 +16,10 @@ use crate::octets::lowercase_of;
 use crate::unit::is_all_ascii;
 use arrayvec::ArrayVec;
 use idn_punycode::decode;
-use idn_text::Refusal;
+use idn_text::{MAX_LINE_LEN, Refusal};
 use idna::{Errors, punycode};
 use std::alloc::Global;
 use std::str;
-
-/// The most code points of a label or a name that is handed in.
-pub(crate) const MAX_LINE_LEN: usize = 1024;
 
 /// Leaves in `label` what an A-label in any ASCII case stands for, in place of what stood there. A label that passes the
 /// test has no capital, so only one that is refused is put into lower case, to tell why.

@@ -6,24 +6,24 @@ use Rattle.std.specs.List.{onto_first, AllByRecursion}
 use Rattle.std.proofs.lemmas.List.Elements.{All-nil, All-cons, recursion_from_All, All-from_recursion}
 use Rattle.std.proofs.lemmas.Bool.Decides.{nat_tests}
 use Rattle.std.proofs.lemmas.Grind.{common_steps}
-use Rattle.idn_text.specs.Lines.{raw_lines, ended_lines, body_of, IsPlain, EndsInFeed, joined_lines, with_last_feed}
-use Rattle.idn_text.proofs.NumberingLemmas.{raw_lines-some, raw_lines-then, ended_lines-append, ended_lines-plain}
+use Rattle.idn_text.specs.Lines.{raw_lines, ended_lines, body_of, HasNoFeed, EndsInFeed, joined_lines, with_last_feed}
+use Rattle.idn_text.proofs.NumberingLemmas.{raw_lines-some, raw_lines-then, ended_lines-append, ended_lines-no_feed}
 
-onto_plain : (c : ℕ) (lines : List (List ℕ)) → c ≢ 10 → AllByRecursion IsPlain lines → AllByRecursion IsPlain (onto_first c lines)
-onto_plain c [] other all = (All-cons (λ byte. byte ≢ 10) c [] other (All-nil (λ byte. byte ≢ 10)), tt)
-onto_plain c (line ∷ lines) other all = (All-cons (λ byte. byte ≢ 10) c line other all.0, all.1)
+onto_no_feed : (c : ℕ) (lines : List (List ℕ)) → c ≢ 10 → AllByRecursion HasNoFeed lines → AllByRecursion HasNoFeed (onto_first c lines)
+onto_no_feed c [] other all = (All-cons (λ byte. byte ≢ 10) c [] other (All-nil (λ byte. byte ≢ 10)), tt)
+onto_no_feed c (line ∷ lines) other all = (All-cons (λ byte. byte ≢ 10) c line other all.0, all.1)
 
-plain_step : (c : ℕ) (cs : List ℕ) (b : Bool) → eqb c 10 ≡ b → AllByRecursion IsPlain (raw_lines cs) → AllByRecursion IsPlain (cond b ([] ∷ raw_lines cs) (onto_first c (raw_lines cs)))
-plain_step c cs true e all = (All-nil (λ byte. byte ≢ 10), all)
-plain_step c cs false e all = onto_plain c (raw_lines cs) (λ is. cc (eq-eqb c 10 is, e)) all
+no_feed_step : (c : ℕ) (cs : List ℕ) (b : Bool) → eqb c 10 ≡ b → AllByRecursion HasNoFeed (raw_lines cs) → AllByRecursion HasNoFeed (cond b ([] ∷ raw_lines cs) (onto_first c (raw_lines cs)))
+no_feed_step c cs true e all = (All-nil (λ byte. byte ≢ 10), all)
+no_feed_step c cs false e all = onto_no_feed c (raw_lines cs) (λ is. cc (eq-eqb c 10 is, e)) all
 
-plain_lines : (text : List ℕ) → AllByRecursion IsPlain (raw_lines text)
-plain_lines [] = tt
-plain_lines (c ∷ cs) = plain_step c cs (eqb c 10) refl (plain_lines cs)
+no_feed_lines : (text : List ℕ) → AllByRecursion HasNoFeed (raw_lines text)
+no_feed_lines [] = tt
+no_feed_lines (c ∷ cs) = no_feed_step c cs (eqb c 10) refl (no_feed_lines cs)
 
 -- no line holds a line feed
-pub raw_lines-plain : (text : List ℕ) → All IsPlain (raw_lines text)
-raw_lines-plain text = All-from_recursion IsPlain (raw_lines text) (plain_lines text)
+pub raw_lines-no_feed : (text : List ℕ) → All HasNoFeed (raw_lines text)
+raw_lines-no_feed text = All-from_recursion HasNoFeed (raw_lines text) (no_feed_lines text)
 
 joined-onto_first : (c : ℕ) (lines : List (List ℕ)) → lines ≢ [] → joined_lines (onto_first c lines) ≡ c ∷ joined_lines lines
 joined-onto_first c [] some = absurd (some refl)
@@ -43,18 +43,18 @@ joined-raw_lines [] = refl
 joined-raw_lines (c ∷ []) = joined_one c (eqb c 10) refl
 joined-raw_lines (c ∷ d ∷ ds) = joined_step c d ds (eqb c 10) refl (joined-raw_lines (d ∷ ds))
 
-lines_then : (lines : List (List ℕ)) → AllByRecursion IsPlain lines → raw_lines (joined_lines lines) ≡ lines
+lines_then : (lines : List (List ℕ)) → AllByRecursion HasNoFeed lines → raw_lines (joined_lines lines) ≡ lines
 lines_then [] all = refl
 lines_then (line ∷ lines) all = raw_lines-then line (joined_lines lines) all.0 ∙ ap (λ rest. line ∷ rest) (lines_then lines all.1)
 
 -- the lines of lines joined
-pub raw_lines-joined : (lines : List (List ℕ)) → All IsPlain lines → raw_lines (joined_lines lines) ≡ lines
-raw_lines-joined lines all = lines_then lines (recursion_from_All IsPlain lines all)
+pub raw_lines-joined : (lines : List (List ℕ)) → All HasNoFeed lines → raw_lines (joined_lines lines) ≡ lines
+raw_lines-joined lines all = lines_then lines (recursion_from_All HasNoFeed lines all)
 
 -- the rest is no line that a line feed ends
-pub ended_lines-then_rest : (text rest : List ℕ) → EndsInFeed text → IsPlain rest → ended_lines (text ++ rest) ≡ raw_lines text
-ended_lines-then_rest text rest ends plain =
-    ended_lines-append text rest ends ∙ ap (λ lines. raw_lines text ++ lines) (ended_lines-plain rest plain) ∙ append-nil (raw_lines text)
+pub ended_lines-then_rest : (text rest : List ℕ) → EndsInFeed text → HasNoFeed rest → ended_lines (text ++ rest) ≡ raw_lines text
+ended_lines-then_rest text rest ends no_feed =
+    ended_lines-append text rest ends ∙ ap (λ lines. raw_lines text ++ lines) (ended_lines-no_feed rest no_feed) ∙ append-nil (raw_lines text)
 
 last_byte : (line : List ℕ) (last : ℕ) → get_or (line ++ last ∷ []) (length (line ++ last ∷ []) - 1) 0 ≡ last
 last_byte [] last = refl

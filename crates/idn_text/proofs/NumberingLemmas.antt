@@ -49,37 +49,37 @@ ended_lines-append (c ∷ d ∷ ds) more h =
 not_feed : (c : ℕ) → c ≢ 10 → eqb c 10 ≡ false
 not_feed c other = grind (arith, nat_tests)
 
-plain_then : (line more : List ℕ) → AllByRecursion (λ byte. byte ≢ 10) line → raw_lines (line ++ 10 ∷ more) ≡ line ∷ raw_lines more
-plain_then [] more h = refl
-plain_then (c ∷ cs) more h = rw (not_feed c h.0) (ap (onto_first c) (plain_then cs more h.1))
+no_feed_then : (line more : List ℕ) → AllByRecursion (λ byte. byte ≢ 10) line → raw_lines (line ++ 10 ∷ more) ≡ line ∷ raw_lines more
+no_feed_then [] more h = refl
+no_feed_then (c ∷ cs) more h = rw (not_feed c h.0) (ap (onto_first c) (no_feed_then cs more h.1))
 
-plain_rest : (c : ℕ) (cs : List ℕ) → AllByRecursion (λ byte. byte ≢ 10) (c ∷ cs) → raw_lines (c ∷ cs) ≡ (c ∷ cs) ∷ []
-plain_rest c [] h = rw (not_feed c h.0) refl
-plain_rest c (d ∷ ds) h = rw (not_feed c h.0) (ap (onto_first c) (plain_rest d ds h.1))
+no_feed_rest : (c : ℕ) (cs : List ℕ) → AllByRecursion (λ byte. byte ≢ 10) (c ∷ cs) → raw_lines (c ∷ cs) ≡ (c ∷ cs) ∷ []
+no_feed_rest c [] h = rw (not_feed c h.0) refl
+no_feed_rest c (d ∷ ds) h = rw (not_feed c h.0) (ap (onto_first c) (no_feed_rest d ds h.1))
 
-plain_some : (line : List ℕ) → line ≢ [] → AllByRecursion (λ byte. byte ≢ 10) line → raw_lines line ≡ line ∷ []
-plain_some [] some h = absurd (some refl)
-plain_some (c ∷ cs) some h = plain_rest c cs h
+no_feed_some : (line : List ℕ) → line ≢ [] → AllByRecursion (λ byte. byte ≢ 10) line → raw_lines line ≡ line ∷ []
+no_feed_some [] some h = absurd (some refl)
+no_feed_some (c ∷ cs) some h = no_feed_rest c cs h
 
-plain_ended : (line : List ℕ) → AllByRecursion (λ byte. byte ≢ 10) line → ended_lines line ≡ []
-plain_ended [] h = refl
-plain_ended (c ∷ cs) h = rw (not_feed c h.0) (ap (onto_ended c) (plain_ended cs h.1))
+no_feed_ended : (line : List ℕ) → AllByRecursion (λ byte. byte ≢ 10) line → ended_lines line ≡ []
+no_feed_ended [] h = refl
+no_feed_ended (c ∷ cs) h = rw (not_feed c h.0) (ap (onto_ended c) (no_feed_ended cs h.1))
 
 -- a line with its line feed comes before the lines of what follows
 pub raw_lines-then : (line more : List ℕ) → All (λ byte. byte ≢ 10) line → raw_lines (line ++ 10 ∷ more) ≡ line ∷ raw_lines more
-raw_lines-then line more plain = plain_then line more (recursion_from_All (λ byte. byte ≢ 10) line plain)
+raw_lines-then line more no_feed = no_feed_then line more (recursion_from_All (λ byte. byte ≢ 10) line no_feed)
 
 -- a rest that is not empty is one line
 pub raw_lines-rest : (line : List ℕ) → line ≢ [] → All (λ byte. byte ≢ 10) line → raw_lines line ≡ line ∷ []
-raw_lines-rest line some plain = plain_some line some (recursion_from_All (λ byte. byte ≢ 10) line plain)
+raw_lines-rest line some no_feed = no_feed_some line some (recursion_from_All (λ byte. byte ≢ 10) line no_feed)
 
 -- nothing without a line feed is a line that one ends
-pub ended_lines-plain : (line : List ℕ) → All (λ byte. byte ≢ 10) line → ended_lines line ≡ []
-ended_lines-plain line plain = plain_ended line (recursion_from_All (λ byte. byte ≢ 10) line plain)
+pub ended_lines-no_feed : (line : List ℕ) → All (λ byte. byte ≢ 10) line → ended_lines line ≡ []
+ended_lines-no_feed line no_feed = no_feed_ended line (recursion_from_All (λ byte. byte ≢ 10) line no_feed)
 
 -- a rest is no line that a line feed ends
 pub ended_lines-rest : (line : List ℕ) → All (λ byte. byte ≢ 10) line → ended_lines (line ++ []) ≡ []
-ended_lines-rest line plain = rw append-nil (ended_lines-plain line plain)
+ended_lines-rest line no_feed = rw append-nil (ended_lines-no_feed line no_feed)
 
 ends_feed : (line : List ℕ) → EndsInFeed (line ++ 10 ∷ [])
 ends_feed [] = refl

@@ -53,7 +53,7 @@ has_line start old new given line lines has is_open takes no_fault few number st
       counted = omega (arith, length-append lines (record { number = old.number + 1; body = body_of line } ∷ []));
       few = omega arith;
       read = subst (λ (s : State). AreLines s start.input new.input after now) (sym still)
-          (lines_of_more given line (10 ∷ []) lines old.number read.1 read.0 counted (raw_lines-then line [] takes.plain), EndsInFeed-line given line);
+          (lines_of_more given line (10 ∷ []) lines old.number read.1 read.0 counted (raw_lines-then line [] takes.no_feed), EndsInFeed-line given line);
     }
 
 -- the last line, which no line feed ends
@@ -72,7 +72,7 @@ has_last start old new given line lines has is_open takes some at_end no_fault f
       counted = omega (arith, length-append lines (record { number = old.number + 1; body = body_of line } ∷ []));
       few = omega arith;
       read = subst (λ (s : State). AreLines s start.input new.input after now) (sym still)
-          (lines_of_more given line [] lines old.number read.1 read.0 counted (rw append-nil (raw_lines-rest line some takes.plain)), at_end);
+          (lines_of_more given line [] lines old.number read.1 read.0 counted (rw append-nil (raw_lines-rest line some takes.no_feed)), at_end);
     }
 
 -- a reader that failed
@@ -91,14 +91,14 @@ has_failed start old new given line lines has is_open takes failed number still 
       counted = rw (append-nil lines) (number ∙ counted);
       few = omega arith;
       read = subst (λ (s : State). AreLines s start.input new.input after (lines ++ [])) (sym still)
-          (rw (append-nil lines) (ended_lines_of_more given (line ++ []) lines read.1 read.0 (omega arith) (inr (ended_lines-rest line takes.plain))), inl (fails_from start.input old.input new.input (has.no_fault (not_stopped is_open)) failed));
+          (rw (append-nil lines) (ended_lines_of_more given (line ++ []) lines read.1 read.0 (omega arith) (inr (ended_lines-rest line takes.no_feed))), inl (fails_from start.input old.input new.input (has.no_fault (not_stopped is_open)) failed));
     }
 
 -- a line more than may be
 pub has_too_many : (start old new : Reading) (given line : List ℕ) (lines : List Numbered) (has_feed : Bool) → HasRead start old given lines → old.state ≡ Open → Takes old.input new.input line (cond has_feed (10 ∷ []) []) (cond has_feed 0 1) → new.input.reader.faults ≡ old.input.reader.faults → (has_feed ≡ false → line ≢ []) → old.number ≡ 2 ^ 32 → new.number ≡ old.number → new.state ≡ Stopped → HasRead start new (given ++ (line ++ cond has_feed (10 ∷ []) [])) (lines ++ [])
 has_too_many start old new given line lines has_feed has is_open takes no_fault some full number still =
     let feed : List ℕ = cond has_feed (10 ∷ []) [] in
-    let one = one_line line has_feed takes.plain some in
+    let one = one_line line has_feed takes.no_feed some in
     let read = subst (λ (s : State). AreLines s start.input old.input given lines) is_open has.read in
     let asked = subst (λ (s : State). old.input.reads + length start.input.held ≤ start.input.reads + length given + length old.input.held + idle_reads s) is_open has.asked in
     let counted = has.counted in
@@ -120,8 +120,8 @@ has_too_many start old new given line lines has_feed has is_open takes no_fault 
     }
   where
     one_line : (line : List ℕ) (has_feed : Bool) → All (λ byte. byte ≢ 10) line → (has_feed ≡ false → line ≢ []) → raw_lines (line ++ cond has_feed (10 ∷ []) []) ≡ line ∷ []
-    one_line line true plain some = raw_lines-then line [] plain
-    one_line line false plain some = rw append-nil (raw_lines-rest line (some refl) plain)
+    one_line line true no_feed some = raw_lines-then line [] no_feed
+    one_line line false no_feed some = rw append-nil (raw_lines-rest line (some refl) no_feed)
 
     at_most_once : (has_feed : Bool) → cond has_feed 0 1 ≤ 1
     at_most_once true = omega arith

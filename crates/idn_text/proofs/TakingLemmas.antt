@@ -6,7 +6,7 @@ use Rattle.std.proofs.Math.Seq.{take-append_seam}
 use Rattle.std.specs.Io.KnownBytes.{Consumes, Keeps}
 use Rattle.std.specs.Option.{option_map}
 use Rattle.idn_text.specs.Taking.{Input, left, HasFailed}
-use Rattle.idn_text.specs.Lines.{IsPlain}
+use Rattle.idn_text.specs.Lines.{HasNoFeed}
 use Rattle.idn_text.specs.inner.TakenLines.{Takes}
 use Rattle.idn_text.proofs.KnownBytesLemmas.{consumes_front, consumes_join, consumes_kept, consumes_nothing}
 
@@ -18,8 +18,8 @@ slice_range_later bytes start stop n h =
     sym (ap (λ k. drop n (take k (drop start bytes))) count ∙ drop-take n m (drop start bytes) ∙ ap (take m) (drop-drop n start bytes))
 
 -- what stands before the first line feed, and the line feed
-pub takes_ended : (old new : Input) (line rest : List ℕ) → IsPlain line → old.held ≡ line ++ 10 ∷ rest → new ≡ record old { held = drop (length line + 1) old.held } → Takes old new line (10 ∷ []) 0
-takes_ended old new line rest plain split e =
+pub takes_ended : (old new : Input) (line rest : List ℕ) → HasNoFeed line → old.held ≡ line ++ 10 ∷ rest → new ≡ record old { held = drop (length line + 1) old.held } → Takes old new line (10 ∷ []) 0
+takes_ended old new line rest no_feed split e =
     let n = length line + 1 in
     let count : length (line ++ 10 ∷ []) ≡ n = length-append line (10 ∷ []) in
     let all = ap length split ∙ length-append line (10 ∷ rest) in
@@ -27,21 +27,21 @@ takes_ended old new line rest plain split e =
     ap (take n) (split ∙ sym (append_assoc line (10 ∷ []) rest)) ∙ ap (λ k. take k ((line ++ 10 ∷ []) ++ rest)) (sym count) ∙ take-append_seam (line ++ 10 ∷ []) rest in
     let after : Input = record old { held = drop n old.held } in
     subst (λ (m : Input). Takes old m line (10 ∷ []) 0) (sym e) (let is : Takes old after line (10 ∷ []) 0 = record {
-      plain = plain;
+      no_feed = no_feed;
       taken = subst (Consumes (left old) (left after)) front (consumes_front old.reader.remaining old.held n);
       asked = omega (arith, count, all, length-drop n old.held);
       called = omega arith;
     } in is)
 
 -- all that is held, where it has no line feed
-pub takes_all : (old new : Input) → IsPlain old.held → new ≡ record old { held = drop (length old.held) old.held } → Takes old new old.held [] 0
-takes_all old new plain e =
+pub takes_all : (old new : Input) → HasNoFeed old.held → new ≡ record old { held = drop (length old.held) old.held } → Takes old new old.held [] 0
+takes_all old new no_feed e =
     let n = length old.held in
     let all : take n old.held ≡ old.held = take_all n old.held (omega arith) in
     let count : length (old.held ++ []) ≡ n = ap length (append-nil old.held) in
     let after : Input = record old { held = drop n old.held } in
     subst (λ (m : Input). Takes old m old.held [] 0) (sym e) (let is : Takes old after old.held [] 0 = record {
-      plain = plain;
+      no_feed = no_feed;
       taken = subst (Consumes (left old) (left after)) (all ∙ sym (append-nil old.held)) (consumes_front old.reader.remaining old.held n);
       asked = omega arith;
       called = omega arith;
@@ -49,7 +49,7 @@ takes_all old new plain e =
 
 -- nothing was taken
 pub takes_nothing : (a : Input) → Takes a a [] [] 0
-takes_nothing a = record { plain = λ k d lt is. absurd (omega arith); taken = consumes_nothing (left a); asked = omega arith; called = omega arith }
+takes_nothing a = record { no_feed = λ k d lt is. absurd (omega arith); taken = consumes_nothing (left a); asked = omega arith; called = omega arith }
 
 -- first a front without a line feed, then the rest of the line
 pub takes_then : (a b c : Input) (f g feed : List ℕ) (idle : ℕ) → Takes a b f [] 0 → Takes b c g feed idle → Takes a c (f ++ g) feed idle
@@ -61,7 +61,7 @@ takes_then a b c f g feed idle first second =
     let first_asked = first.asked in
     let second_asked = second.asked in
     record {
-      plain = All-append (λ byte. byte ≢ 10) f g first.plain second.plain;
+      no_feed = All-append (λ byte. byte ≢ 10) f g first.no_feed second.no_feed;
       taken = subst (Consumes (left a) (left c)) (sym (append_assoc f g feed)) (consumes_join (left a) (left b) (left c) f (g ++ feed) (subst (Consumes (left a) (left b)) (append-nil f) first.taken) second.taken);
       asked = omega arith;
       called = omega (arith, first.called, second.called);
@@ -71,7 +71,7 @@ takes_then a b c f g feed idle first second =
 pub takes_read : (a b c : Input) (f feed : List ℕ) (idle : ℕ) → Takes a b f feed 0 → Keeps (left b) (left c) → c.reads + length b.held ≤ b.reads + length c.held + idle → c.reader.calls + b.reads ≤ b.reader.calls + c.reads → Takes a c f feed idle
 takes_read a b c f feed idle first same asked called =
     let first_asked = first.asked in
-    record { plain = first.plain; taken = consumes_kept (left a) (left b) (left c) (f ++ feed) first.taken same; asked = omega arith; called = omega (arith, first.called, called) }
+    record { no_feed = first.no_feed; taken = consumes_kept (left a) (left b) (left c) (f ++ feed) first.taken same; asked = omega arith; called = omega (arith, first.called, called) }
 
 -- a failure behind reads that did not fail
 pub fails_from : (a b c : Input) → b.reader.faults ≡ a.reader.faults → HasFailed b c → HasFailed a c

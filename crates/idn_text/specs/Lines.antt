@@ -19,8 +19,8 @@ ended_lines [] = []
 ended_lines (c ∷ cs) = if c == 10 then [] ∷ ended_lines cs else onto_ended c (ended_lines cs)
 
 -- bytes without a line feed
-abbrev pub IsPlain : List ℕ → Type 0
-IsPlain bytes = All (λ byte. byte ≢ 10) bytes
+abbrev pub HasNoFeed : List ℕ → Type 0
+HasNoFeed bytes = All (λ byte. byte ≢ 10) bytes
 
 -- the text is empty or ends in a line feed
 abbrev pub EndsInFeed : List ℕ → Type 0

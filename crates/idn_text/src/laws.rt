@@ -1,7 +1,7 @@
 //! Laws of the definitions, each the contract of a function that does nothing.
 
 ghost use Rattle.std.specs.Prelude.{◌≡◌, ◌≢◌, ◌<◌, ◌^◌, ℕ, List, [], ◌∷◌, ◌++◌, length, All, Some, None, codes};
-ghost use Rattle.idn_text.specs.Lines.{raw_lines, ended_lines, lines_of, Numbered, body_of, IsPlain, joined_lines, with_last_feed, EndsInFeed};
+ghost use Rattle.idn_text.specs.Lines.{raw_lines, ended_lines, lines_of, Numbered, body_of, HasNoFeed, joined_lines, with_last_feed, EndsInFeed};
 ghost use Rattle.idn_text.specs.Readers.{Reader, Fails};
 ghost use Rattle.idn_text.specs.Reading.{Reading, IsUnread, HasRead, unread};
 ghost use Rattle.idn_text.specs.declared.lines.State.TheVariants.{Ended, Stopped};
@@ -10,18 +10,18 @@ ghost use Rattle.idn_text.specs.Points.{IsUtf8Of, utf8_of, point_of_hex};
 /// The lines of a text hold no line feed, and each with a line feed after it, joined, are the text,
 /// with a line feed after a rest that has none.
 pub fn lines_join_to_the_text()
-    ensures plain { (text : List ℕ) → All IsPlain (raw_lines text) }
+    ensures no_feed { (text : List ℕ) → All HasNoFeed (raw_lines text) }
     ensures joined { (text : List ℕ) → joined_lines (raw_lines text) ≡ with_last_feed text }
 {}
 
 /// Lines without a line feed, joined, have these very lines.
 pub fn joined_lines_are_the_lines()
-    ensures { (lines : List (List ℕ)) → All IsPlain lines → raw_lines (joined_lines lines) ≡ lines }
+    ensures { (lines : List (List ℕ)) → All HasNoFeed lines → raw_lines (joined_lines lines) ≡ lines }
 {}
 
 /// The lines that a line feed ends are the lines of the text without its rest.
 pub fn ended_lines_are_those_before_the_rest()
-    ensures { (text rest : List ℕ) → EndsInFeed text → IsPlain rest → ended_lines (text ++ rest) ≡ raw_lines text }
+    ensures { (text rest : List ℕ) → EndsInFeed text → HasNoFeed rest → ended_lines (text ++ rest) ≡ raw_lines text }
 {}
 
 /// Of a line of at most 1,024 bytes one carriage return is dropped, and no longer line has a body.

@@ -2,7 +2,7 @@
 
 ghost use Rattle.std.specs.Prelude.{◌≡◌, [], ◌∷◌, ◌++◌, MatchOption};
 ghost use Rattle.std.specs.Str.Lines.{strip_carriage_return};
-ghost use Rattle.idn_text.specs.Lines.{IsPlain, raw_lines};
+ghost use Rattle.idn_text.specs.Lines.{HasNoFeed, raw_lines};
 
 use memchr::memchr;
 use std::marker::Model;
@@ -62,7 +62,7 @@ fn split_line(text: &[u8]) -> Option<(&[u8], &[u8])>
 /// What stands before the first line feed, and what follows it, if there is one.
 #[inline(always)]
 pub(crate) fn split_at_feed(bytes: &[u8]) -> Option<(&[u8], &[u8])>
-    ensures { MatchOption result (IsPlain bytes.now) (λ parts. IsPlain parts.0.now × (bytes.now ≡ parts.0.now ++ 10 ∷ parts.1.now)) }
+    ensures { MatchOption result (HasNoFeed bytes.now) (λ parts. HasNoFeed parts.0.now × (bytes.now ≡ parts.0.now ++ 10 ∷ parts.1.now)) }
 {
     let place = memchr(b'\n', bytes)?;
     Some((&bytes[..place], &bytes[place + 1..]))

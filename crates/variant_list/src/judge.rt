@@ -21,13 +21,13 @@ pub trait Judge {
     ghost lost: { Self → List ℕ → Bool };
 
     /// What may be given for an accepted label.
-    ghost fits: { List ℕ → Self.Told → Type 0 };
+    ghost tells: { List ℕ → Self.Told → Type 0 };
 
     /// The verdict on a label of at most 63 code points. Memory is needed only for a label without a hopeless
     /// beginning.
     fn judge(&mut self, alloc: Global, label: &[u32]) -> Result<Verdict<Self::Told>, AllocError>
         requires { length label.now ≤ 63 }
-        ensures verdict { IfOk result (IsVerdict (accepted self.old) (lost self.old) fits label.now) }
+        ensures verdict { IfOk result (IsVerdict (accepted self.old) (lost self.old) tells label.now) }
         ensures memory { OnErr result (shortest_hopeless (lost self.old) label.now ≡ None) }
         ensures same_labels { accepted self.new ≡ accepted self.old }
         ensures same_beginnings { lost self.new ≡ lost self.old };
@@ -44,7 +44,7 @@ impl<F: Filter> Judge for &F {
 
     ghost lost = { λ filter. F.lost filter.now };
 
-    ghost fits = { λ _ _. Unit {0} };
+    ghost tells = { λ _ _. Unit {0} };
 
     ghost lost_for_good = { λ filter w z. F.lost_for_good filter.now w z };
 

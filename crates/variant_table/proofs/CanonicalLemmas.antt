@@ -6,7 +6,7 @@ use Rattle.std.specs.Prelude.{bytes_eq}
 use Rattle.std.proofs.lemmas.Bool.{leb-true, and_parts, false_from_ne_true}
 use Rattle.std.proofs.lemmas.Slice.Eq.{bytes_eq-Decides}
 use Rattle.std.proofs.lemmas.List.Elements.{All-from_recursion, recursion_from_All, All-weaker}
-use Rattle.idn_text.specs.Lines.{raw_lines, IsPlain}
+use Rattle.idn_text.specs.Lines.{raw_lines, HasNoFeed}
 use Rattle.idn_text.proofs.NumberingLemmas.{raw_lines-then}
 use Rattle.idn_text.specs.Points.{is_hex_digit}
 use Rattle.variant_table.specs.declared.token.Token.{Token}
@@ -92,8 +92,8 @@ texts_in_line (Mark ∷ tokens) h = ((refl, refl), texts_in_line tokens h.1)
 texts_in_line (Range ∷ tokens) h = ((refl, refl), ((refl, refl), texts_in_line tokens h.1))
 texts_in_line (Unknown ∷ tokens) h = absurd h.0
 
-plain_line : (line : List ℕ) → AllByRecursion IsInLine line → IsPlain line
-plain_line line h = All-weaker IsInLine (λ b. b ≢ 10) (λ b other is. cc (eq-eqb b 10 is, other.0)) line (All-from_recursion IsInLine line h)
+no_feed_line : (line : List ℕ) → AllByRecursion IsInLine line → HasNoFeed line
+no_feed_line line h = All-weaker IsInLine (λ b. b ≢ 10) (λ b other is. cc (eq-eqb b 10 is, other.0)) line (All-from_recursion IsInLine line h)
 
 no_return : (line : List ℕ) (i : ℕ) → AllByRecursion IsInLine line → eqb (get_or line i 0) 13 ≡ false
 no_return [] i h = refl
@@ -172,7 +172,7 @@ length-canonical_line e h of = omega (arith, length-by_marks e h, marked-none e.
 -- ---- the text
 
 cut_entry : (e : Entry) (rest : List ℕ) → IsEntry e → raw_lines ((canonical_line e ++ 10 ∷ []) ++ rest) ≡ canonical_line e ∷ raw_lines rest
-cut_entry e rest h = ap raw_lines (append_assoc (canonical_line e) (10 ∷ []) rest) ∙ raw_lines-then (canonical_line e) rest (plain_line (canonical_line e) (texts_in_line (entry_tokens e) (entry_scalar_tokens e h)))
+cut_entry e rest h = ap raw_lines (append_assoc (canonical_line e) (10 ∷ []) rest) ∙ raw_lines-then (canonical_line e) rest (no_feed_line (canonical_line e) (texts_in_line (entry_tokens e) (entry_scalar_tokens e h)))
 
 raw_lines-canonical : (table : List Entry) → AllByRecursion IsEntry table → raw_lines (canonical_text table) ≡ map canonical_line table
 raw_lines-canonical [] h = refl

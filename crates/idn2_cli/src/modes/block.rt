@@ -83,7 +83,7 @@ impl Judge for Registrable {
 
     ghost lost = { λ _ label. hopeless label };
 
-    ghost fits = { λ label a_label. a_label.bytes ≡ a_label_of label };
+    ghost tells = { λ label a_label. a_label.bytes ≡ a_label_of label };
 
     ghost lost_for_good = { λ _ w z lost. none_hopeless w z lost };
 
@@ -136,12 +136,11 @@ fn write_variant<W: Sink, E: Sink>(
     console.output(line.as_slice())
 }
 
-/// Writes the trailer of a listing that stops at a label of at most 63 code points. `text` is begun anew
-/// for the label.
+/// Writes the trailer of a listing that stops at a label of at most 63 code points. `kept` gives the UTF-8 of the label.
 fn write_stop<W: Sink, E: Sink>(
     count: u64,
     last: &[u32],
-    text: &mut KeptLine,
+    kept: &mut KeptLine,
     console: &mut Console<'_, '_, W, E>,
 ) -> Result<(), Stop>
     requires short { length last.now ≤ 63 }
@@ -149,8 +148,8 @@ fn write_stop<W: Sink, E: Sink>(
     ensures written { Emits console.old console.new (Output (trailer count (Some last.now) ++ 10 ∷ []) ∷ []) result }
     ensures why { IfErr result (λ why. why ≡ stop.Output) }
 {
-    text.begin(last);
-    let line = stop_line(count, text.as_slice());
+    kept.begin(last);
+    let line = stop_line(count, kept.as_slice());
     console.output(line.as_slice())
 }
 

@@ -13,7 +13,7 @@ use std::marker::Model;
 const MAX_LABEL_LEN: usize = 63;
 
 /// The most octets of a line: four for each code point of a label, a tab, an A-label, a field and a line feed.
-const MAX_LINE_LEN: usize = 4 * MAX_LABEL_LEN + 1 + 63 + 16 + 1;
+const MAX_VARIANT_LINE_LEN: usize = 4 * MAX_LABEL_LEN + 1 + 63 + 16 + 1;
 
 /// A line that begins with a label's UTF-8. The next line keeps that of the code points which both labels share at their
 /// start. Contracts see the label and the line.
@@ -22,7 +22,7 @@ pub(crate) struct KeptLine {
     label: ArrayVec<u32, MAX_LABEL_LEN>,
     /// How many octets of UTF-8 the first code points of the label have, from none of them to all.
     ends: [u8; MAX_LABEL_LEN + 1],
-    line: ArrayVec<u8, MAX_LINE_LEN>,
+    line: ArrayVec<u8, MAX_VARIANT_LINE_LEN>,
 }
 
 impl Model for KeptLine {

@@ -1,12 +1,12 @@
 -- A line taken from what a reader gave, and what is kept of it.
 use Rattle.std.specs.Prelude.{ℕ, ◌+◌, ◌≤◌, List, ◌++◌, length, Option, Some, None, if◌then◌else◌}
 use Rattle.std.specs.Io.KnownBytes.{Consumes}
-use Rattle.idn_text.specs.Lines.{IsPlain, is_long_line}
+use Rattle.idn_text.specs.Lines.{HasNoFeed, is_long_line}
 use Rattle.idn_text.specs.Taking.{Input, left}
 
 -- these bytes without a line feed, and then these, were taken; of the read calls between, none uncounted, all but so many gave a byte
 pub record Takes (old new : Input) (line feed : List ℕ) (idle : ℕ) : Type 0 where
-  pub plain : IsPlain line
+  pub no_feed : HasNoFeed line
   pub taken : Consumes (left old) (left new) (line ++ feed)
   pub asked : new.reads + length old.held ≤ old.reads + length (line ++ feed) + length new.held + idle
   pub called : new.reader.calls + old.reads ≤ old.reader.calls + new.reads

@@ -1,6 +1,6 @@
 use Rattle.std.proofs.Common.{ℕ, ◌<◌}
-use Rattle.idn_class.specs.ContextJ.{JoinerFits}
+use Rattle.idn_class.specs.ContextJ.{JoinerPasses}
 use Rattle.idn_class.proofs.contextj.contextj_ok.Given as goal
 
 abbrev pub invariant-loop-place : goal.invariant-loop-place
-invariant-loop-place l = (k : ℕ) → k < l.place → JoinerFits l.label k
+invariant-loop-place l = (k : ℕ) → k < l.place → JoinerPasses l.label k

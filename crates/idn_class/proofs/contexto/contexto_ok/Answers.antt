@@ -1,13 +1,13 @@
 use Rattle.std.proofs.Common.{◌≡◌, true, false, refl, sym, below_more, arith}
-use Rattle.idn_class.proofs.ContextOTests.{contexto_ok-PassesContextO, contexto_ok-misfit}
+use Rattle.idn_class.proofs.ContextOTests.{contexto_ok-PassesContextO, contexto_ok-failing}
 use Rattle.idn_class.proofs.contexto.contexto_ok.Goals as goal
 
 pub loop-place-preserved : goal.loop-place-preserved
-loop-place-preserved c = below_more _ _ c.loop-place.invariant (c.if-not-other_fits.ensures.0 refl)
+loop-place-preserved c = below_more _ _ c.loop-place.invariant (c.if-not-other_passes.ensures.0 refl)
 
-pub returns-then-not-other_fits-clause-test : goal.returns-then-not-other_fits-clause-test
-returns-then-not-other_fits-clause-test c =
-    contexto_ok-misfit _ _ c.loop-place-test.true (λ fits. let clash : false ≡ true = c.if-not-other_fits.ensures.1 fits in cc)
+pub returns-then-not-other_passes-clause-test : goal.returns-then-not-other_passes-clause-test
+returns-then-not-other_passes-clause-test c =
+    contexto_ok-failing _ _ c.loop-place-test.true (λ passes. let clash : false ≡ true = c.if-not-other_passes.ensures.1 passes in cc)
 
 pub returns-clause-test : goal.returns-clause-test
 returns-clause-test c =

@@ -1,6 +1,6 @@
 use Rattle.std.proofs.Common.{ℕ, ◌<◌}
-use Rattle.idn_class.specs.ContextO.{OtherFits}
+use Rattle.idn_class.specs.ContextO.{OtherPasses}
 use Rattle.idn_class.proofs.contexto.contexto_ok.Given as goal
 
 abbrev pub invariant-loop-place : goal.invariant-loop-place
-invariant-loop-place l = (k : ℕ) → k < l.place → OtherFits l.label k
+invariant-loop-place l = (k : ℕ) → k < l.place → OtherPasses l.label k

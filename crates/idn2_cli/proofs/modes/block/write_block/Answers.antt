@@ -6,7 +6,7 @@ use Rattle.idn2_cli.specs.inner.Dispositions.{field_by}
 use Rattle.idn2_cli.specs.inner.LineAnswers.{reaches}
 use Rattle.idn2_cli.specs.Transcript.{Output}
 use Rattle.idn2_cli.proofs.WrittenPieces.{stops_first, emits_as, writes_as}
-use Rattle.idn2_cli.proofs.ListingProgress.{listing-start, listing-plain, listing-spent, listing-ended, listing-found, listing-broken, listing-reached, found-from, spent-from, ended-from}
+use Rattle.idn2_cli.proofs.ListingProgress.{listing-start, listing-writable, listing-spent, listing-ended, listing-found, listing-broken, listing-reached, found-from, spent-from, ended-from}
 use Rattle.idn2_cli.proofs.modes.block.write_block.Goals as goal
 
 -- the line with the same field
@@ -26,7 +26,7 @@ variants-init g c = record {
 
 pub write_stop-requires-clause-scalar_values : goal.write_stop-requires-clause-scalar_values
 write_stop-requires-clause-scalar_values g c =
-    (listing-plain (field_by c.args.dispositions.now) _ _ _ _ c.variants.cursor c.seek.new.self _ _ (c.variants.tries - c.seek.new.tries) c.last.result.now c.requires.table c.variants.invariant.listing c.seek.ensures.moves.last c.last.ensures.value).scalar_values
+    (listing-writable (field_by c.args.dispositions.now) _ _ _ _ c.variants.cursor c.seek.new.self _ _ (c.variants.tries - c.seek.new.tries) c.last.result.now c.requires.table c.variants.invariant.listing c.seek.ensures.moves.last c.last.ensures.value).scalar_values
 
 pub returns-in-Spent : goal.returns-in-Spent
 returns-in-Spent g c =
@@ -47,7 +47,7 @@ returns-in_err-write_variant g c =
 
 pub write_stop-requires-then-is_reached-clause-scalar_values : goal.write_stop-requires-then-is_reached-clause-scalar_values
 write_stop-requires-then-is_reached-clause-scalar_values g c =
-    (listing-plain (field_by c.args.dispositions.now) _ _ _ _ c.variants.cursor c.seek.new.self _ _ (c.variants.tries - c.seek.new.tries) c.last-then-is_reached.result.now c.requires.table c.variants.invariant.listing c.seek.ensures.moves.last c.last-then-is_reached.ensures.value).scalar_values
+    (listing-writable (field_by c.args.dispositions.now) _ _ _ _ c.variants.cursor c.seek.new.self _ _ (c.variants.tries - c.seek.new.tries) c.last-then-is_reached.result.now c.requires.table c.variants.invariant.listing c.seek.ensures.moves.last c.last-then-is_reached.ensures.value).scalar_values
 
 pub returns-then-is_reached : goal.returns-then-is_reached
 returns-then-is_reached g c =

@@ -67,7 +67,7 @@ pieces-init c = record {
   lower = refl;
   points = All-nil (λ c. is_name_point (to_ascii_lowercase c) ≡ true);
   labels = split_nothing;
-  plain = λ k from to. absurd (omega arith);
+  without_stops = λ k from to. absurd (omega arith);
   within = (omega arith, omega arith);
   room = refl;
 }
@@ -75,7 +75,7 @@ pieces-init c = record {
 pub labels-init : goal.labels-init
 labels-init c = record {
   labels = c.pieces.invariant.labels;
-  plain = c.pieces.invariant.plain;
+  without_stops = c.pieces.invariant.without_stops;
   stops = c.in_ok-stops.ensures.stops ∙ ap (λ x. mask_l (map is_full_stop x)) (lowered_part c.args.name.now c.pieces.at c.min-end.result);
   within = (c.pieces.invariant.within.0, omega (arith, c.min-end.ensures, c.pieces-test.true), omega arith);
 }
@@ -100,7 +100,7 @@ returns-then-has_ace_prefix-clause-told c ldh =
     let stop = c.labels.at + count_trailing_zeros 64 c.labels.stops in
     let prefix = ap has_ace_prefix (sym (same_part _ (lowered name) start stop end (omega (arith, c.labels.invariant.within)) (omega (arith, next.0)) whole)) ∙ sym c.has_ace_prefix.ensures ∙ c.if-has_ace_prefix.true in
     sym ldh.no_a_label
-    ∙ part_prefix (lowered name) start stop c.labels.have_lengths c.labels.invariant.labels (omega (arith, c.labels.invariant.within)) (omega (arith, next.0, length-map name to_ascii_lowercase, c.min-end.ensures)) (plain_more (lowered name) start c.labels.at stop c.labels.invariant.plain next.1) prefix
+    ∙ part_prefix (lowered name) start stop c.labels.have_lengths c.labels.invariant.labels (omega (arith, c.labels.invariant.within)) (omega (arith, next.0, length-map name to_ascii_lowercase, c.min-end.ensures)) (plain_more (lowered name) start c.labels.at stop c.labels.invariant.without_stops next.1) prefix
 
 pub has_label_length-have_lengths-requires-clause-short : goal.has_label_length-have_lengths-requires-clause-short
 has_label_length-have_lengths-requires-clause-short c =
@@ -121,8 +121,8 @@ labels-preserved c =
     let stop = c.labels.at + count in
     let free = ap has_ace_prefix (sym (same_part _ (lowered name) start stop end (omega (arith, c.labels.invariant.within)) (omega (arith, next.0)) whole)) ∙ sym c.has_ace_prefix.ensures ∙ c.if-has_ace_prefix.false in
     record {
-      labels = stop_more (lowered name) start stop c.labels.have_lengths c.has_label_length-have_lengths.result c.labels.invariant.labels (omega (arith, c.labels.invariant.within)) (omega (arith, next.0, length-map name to_ascii_lowercase, c.min-end.ensures)) (plain_more (lowered name) start c.labels.at stop c.labels.invariant.plain next.1) next.2 free c.has_label_length-have_lengths.ensures;
-      plain = λ k from to. absurd (omega arith);
+      labels = stop_more (lowered name) start stop c.labels.have_lengths c.has_label_length-have_lengths.result c.labels.invariant.labels (omega (arith, c.labels.invariant.within)) (omega (arith, next.0, length-map name to_ascii_lowercase, c.min-end.ensures)) (plain_more (lowered name) start c.labels.at stop c.labels.invariant.without_stops next.1) next.2 free c.has_label_length-have_lengths.ensures;
+      without_stops = λ k from to. absurd (omega arith);
       stops = next.3 ∙ ap (λ n. mask_l (map is_full_stop (chunk (stop + 1) n (lowered name)))) (let e : end - c.labels.at - (count + 1) ≡ end - (stop + 1) = omega (arith, next.0) in e);
       within = (omega arith, omega (arith, next.0), omega (arith, c.labels.invariant.within));
     }
@@ -137,7 +137,7 @@ pieces-preserved c =
       points = subst (All (λ c. is_name_point (to_ascii_lowercase c) ≡ true)) (part_more name at end (omega (arith, c.labels.invariant.within)))
           (All-append (λ c. is_name_point (to_ascii_lowercase c) ≡ true) (take at name) (slice_range name at end) c.pieces.invariant.points (c.in_ok-stops.ensures.points.0 refl));
       labels = c.labels.invariant.labels;
-      plain = plain_more (lowered name) c.labels.start c.labels.at end c.labels.invariant.plain
+      without_stops = plain_more (lowered name) c.labels.start c.labels.at end c.labels.invariant.without_stops
           (λ k from to. none_from_empty_mask is_full_stop (lowered name) c.labels.at (end - c.labels.at) 0 (omega (arith, length-map name to_ascii_lowercase, c.min-end.ensures, c.labels.invariant.within)) (sym c.labels.invariant.stops ∙ c.labels-test.false) k from (omega (arith, c.labels.invariant.within)));
       within = (omega (arith, c.labels.invariant.within), omega (arith, c.min-end.ensures));
       room = same_len_mid at (length c.pieces.room - at) c.pieces.room c.lowercase_block.new.room c.in_ok-stops.ensures.length ∙ c.pieces.invariant.room;
@@ -151,17 +151,17 @@ returns-then-has_ace_prefix-2-clause-told c ldh =
     let same = subst (λ k. take k c.pieces.room ≡ take k (lowered name)) all c.pieces.invariant.lower in
     let prefix = ap has_ace_prefix (sym (same_part c.pieces.room (lowered name) c.pieces.start n n (omega (arith, c.pieces.invariant.within)) (omega arith) same)) ∙ sym c.has_ace_prefix-2.ensures ∙ c.if-has_ace_prefix-2.true in
     sym ldh.no_a_label
-    ∙ part_prefix (lowered name) c.pieces.start n c.pieces.have_lengths c.pieces.invariant.labels (omega (arith, c.pieces.invariant.within)) (omega (arith, length-map name to_ascii_lowercase)) (λ k from to. c.pieces.invariant.plain k from (omega arith)) prefix
+    ∙ part_prefix (lowered name) c.pieces.start n c.pieces.have_lengths c.pieces.invariant.labels (omega (arith, c.pieces.invariant.within)) (omega (arith, length-map name to_ascii_lowercase)) (λ k from to. c.pieces.invariant.without_stops k from (omega arith)) prefix
 
 -- the labels of the whole name
 all_labels : (name room : List ℕ) (start at : ℕ) (fit free : Bool) → at ≡ length name → start ≤ at → take at room ≡ take at (lowered name) → IsSplit (take start (lowered name)) start fit → ((k : ℕ) → start ≤ k → k < at → is_full_stop (get_or (lowered name) k 0) ≡ false) → free ≡ has_ace_prefix (slice_range room start (length name)) → free ≡ false → (take (length name) room ≡ lowered name) × IsSplit (lowered name) start fit
-all_labels name room start at fit free all order same labels plain tested is =
+all_labels name room start at fit free all order same labels without_stops tested is =
     let n = length name in
     let whole : take n (lowered name) ≡ lowered name = take_all n (lowered name) (omega (arith, length-map name to_ascii_lowercase)) in
     let front : take n room ≡ take n (lowered name) = subst (λ k. take k room ≡ take k (lowered name)) all same in (
       front ∙ whole,
       subst (λ x. IsSplit x start fit) whole
-          (label_more (lowered name) start n fit labels (omega arith) (omega (arith, length-map name to_ascii_lowercase)) (λ k from to. plain k from (omega arith))
+          (label_more (lowered name) start n fit labels (omega arith) (omega (arith, length-map name to_ascii_lowercase)) (λ k from to. without_stops k from (omega arith))
               (ap has_ace_prefix (sym (same_part room (lowered name) start n n (omega arith) (omega arith) front)) ∙ sym tested ∙ is)),
     )
 
@@ -172,7 +172,7 @@ returns-then-may_end-clause-answer c std3 =
     let count = length-map name to_ascii_lowercase in
     let all : c.pieces.at ≡ length name = omega (arith, c.pieces-test.false, c.pieces.invariant.within) in
     let points = subst (All (λ c. is_name_point (to_ascii_lowercase c) ≡ true)) (take_all c.pieces.at name (omega arith)) c.pieces.invariant.points in
-    let parts = all_labels name c.pieces.room c.pieces.start c.pieces.at c.pieces.have_lengths c.has_ace_prefix-2.result all c.pieces.invariant.within.0 c.pieces.invariant.lower c.pieces.invariant.labels c.pieces.invariant.plain c.has_ace_prefix-2.ensures c.if-has_ace_prefix-2.false in
+    let parts = all_labels name c.pieces.room c.pieces.start c.pieces.at c.pieces.have_lengths c.has_ace_prefix-2.result all c.pieces.invariant.within.0 c.pieces.invariant.lower c.pieces.invariant.labels c.pieces.invariant.without_stops c.has_ace_prefix-2.ensures c.if-has_ace_prefix-2.false in
     let given = to_ascii-lowercase_name (deny_list std3) name query points refl (split_free parts.1) in
     let end : may_end c.pieces.start (length query) ≡ true = ap (may_end c.pieces.start) count ∙ sym c.if-may_end.ensures in
     let fits : verify_dns_length query true ≡ true = split_measured parts.1 ∙ rw (c.if-have_lengths.true, end) refl in
@@ -185,7 +185,7 @@ returns-else-have_lengths-clause-answer c std3 =
     let count = length-map name to_ascii_lowercase in
     let all : c.pieces.at ≡ length name = omega (arith, c.pieces-test.false, c.pieces.invariant.within) in
     let points = subst (All (λ c. is_name_point (to_ascii_lowercase c) ≡ true)) (take_all c.pieces.at name (omega arith)) c.pieces.invariant.points in
-    let parts = all_labels name c.pieces.room c.pieces.start c.pieces.at c.pieces.have_lengths c.has_ace_prefix-2.result all c.pieces.invariant.within.0 c.pieces.invariant.lower c.pieces.invariant.labels c.pieces.invariant.plain c.has_ace_prefix-2.ensures c.if-has_ace_prefix-2.false in
+    let parts = all_labels name c.pieces.room c.pieces.start c.pieces.at c.pieces.have_lengths c.has_ace_prefix-2.result all c.pieces.invariant.within.0 c.pieces.invariant.lower c.pieces.invariant.labels c.pieces.invariant.without_stops c.has_ace_prefix-2.ensures c.if-has_ace_prefix-2.false in
     let given = to_ascii-lowercase_name (deny_list std3) name query points refl (split_free parts.1) in
     let fits : verify_dns_length query true ≡ false =
     elim c.else-have_lengths.branch [

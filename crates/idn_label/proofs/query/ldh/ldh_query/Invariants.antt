@@ -12,7 +12,7 @@ invariant-pieces l = record {
   lower : take l.at l.room ≡ take l.at (map to_ascii_lowercase l.name);
   points : All (λ c. is_name_point (to_ascii_lowercase c) ≡ true) (take l.at l.name);
   labels : IsSplit (take l.start (map to_ascii_lowercase l.name)) l.start l.have_lengths;
-  plain : (k : ℕ) → l.start ≤ k → k < l.at → is_full_stop (get_or (map to_ascii_lowercase l.name) k 0) ≡ false;
+  without_stops : (k : ℕ) → l.start ≤ k → k < l.at → is_full_stop (get_or (map to_ascii_lowercase l.name) k 0) ≡ false;
   within : (l.start ≤ l.at) × (l.at ≤ length l.name);
   room : length l.room ≡ length l.fn.room;
 }
@@ -24,7 +24,7 @@ decreases-pieces l = length l.name - l.at
 abbrev pub invariant-labels : goal.invariant-labels
 invariant-labels l = record {
   labels : IsSplit (take l.start (map to_ascii_lowercase l.name)) l.start l.have_lengths;
-  plain : (k : ℕ) → l.start ≤ k → k < l.at → is_full_stop (get_or (map to_ascii_lowercase l.name) k 0) ≡ false;
+  without_stops : (k : ℕ) → l.start ≤ k → k < l.at → is_full_stop (get_or (map to_ascii_lowercase l.name) k 0) ≡ false;
   stops : l.stops ≡ mask_l (map is_full_stop (chunk l.at (l.end - l.at) (map to_ascii_lowercase l.name)));
   within : (l.start ≤ l.at) × (l.at ≤ l.end) × (l.initial.at ≤ l.at);
 }

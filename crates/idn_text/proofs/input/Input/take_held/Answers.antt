@@ -1,5 +1,5 @@
 use Rattle.std.proofs.Common.{◌∙◌, ◌++◌, List, ℕ, length, drop, subst, sym, ap}
-use Rattle.idn_text.specs.Lines.{IsPlain}
+use Rattle.idn_text.specs.Lines.{HasNoFeed}
 use Rattle.idn_text.specs.Taking.{Input}
 use Rattle.idn_text.specs.inner.TakenLines.{kept}
 use Rattle.idn_text.proofs.TakingLemmas.{takes_ended, takes_all}
@@ -13,4 +13,4 @@ returns-in-Some-clause-taken g c =
 pub returns-in-None-clause-taken : goal.returns-in-None-clause-taken
 returns-in-None-clause-taken g c =
     let held = c.held-held.ensures in
-    (c.args.self.now.held, takes_all _ _ (subst IsPlain held c.in-None.ensures) (c.advance-in-None.ensures ∙ ap (λ (bytes : List ℕ). let v : Input = record c.args.self.now { held = drop (length bytes) c.args.self.now.held } in v) held), λ before h. c.extend-in-None.ensures before h ∙ ap (λ (bytes : List ℕ). kept (before ++ bytes)) held)
+    (c.args.self.now.held, takes_all _ _ (subst HasNoFeed held c.in-None.ensures) (c.advance-in-None.ensures ∙ ap (λ (bytes : List ℕ). let v : Input = record c.args.self.now { held = drop (length bytes) c.args.self.now.held } in v) held), λ before h. c.extend-in-None.ensures before h ∙ ap (λ (bytes : List ℕ). kept (before ++ bytes)) held)

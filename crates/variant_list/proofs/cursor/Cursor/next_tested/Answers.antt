@@ -28,7 +28,7 @@ beginnings-smaller g c =
 pub beginnings-preserved : goal.beginnings-preserved
 beginnings-preserved g c =
     let lost = g.J.Judge.lost c.args.judge.now in
-    let told = subst (IsVerdict (g.J.Judge.accepted c.beginnings.judge) (g.J.Judge.lost c.beginnings.judge) g.J.Judge.fits c.last-in-beginnings.result.now) c.in-Hopeless.is c.in_ok-count.ensures.verdict in
+    let told = subst (IsVerdict (g.J.Judge.accepted c.beginnings.judge) (g.J.Judge.lost c.beginnings.judge) g.J.Judge.tells c.last-in-beginnings.result.now) c.in-Hopeless.is c.in_ok-count.ensures.verdict in
     let hopeless : shortest_hopeless lost c.pass_over.new.self.last ≡ Some c.in-Hopeless.count =
     ap (λ h. shortest_hopeless h c.pass_over.new.self.last) (sym c.beginnings.invariant.same_beginnings)
     ∙ ap (shortest_hopeless (g.J.Judge.lost c.beginnings.judge)) (sym c.last-in-beginnings.ensures.value) ∙ told in
@@ -41,7 +41,7 @@ beginnings-preserved g c =
 pub returns-in-Tested-clause-finds : goal.returns-in-Tested-clause-finds
 returns-in-Tested-clause-finds g c =
     let lost = g.J.Judge.lost c.args.judge.now in
-    let told = subst (IsVerdict (g.J.Judge.accepted c.beginnings.judge) (g.J.Judge.lost c.beginnings.judge) g.J.Judge.fits c.last-in-beginnings.result.now) c.in-Tested.is c.in_ok-count.ensures.verdict in
+    let told = subst (IsVerdict (g.J.Judge.accepted c.beginnings.judge) (g.J.Judge.lost c.beginnings.judge) g.J.Judge.tells c.last-in-beginnings.result.now) c.in-Tested.is c.in_ok-count.ensures.verdict in
     let hope : shortest_hopeless lost c.pass_over.new.self.last ≡ None =
     ap (λ h. shortest_hopeless h c.pass_over.new.self.last) (sym c.beginnings.invariant.same_beginnings)
     ∙ ap (shortest_hopeless (g.J.Judge.lost c.beginnings.judge)) (sym c.last-in-beginnings.ensures.value) ∙ told.0 in
