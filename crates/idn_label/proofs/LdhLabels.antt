@@ -1,4 +1,4 @@
--- The labels of a name of letters, digits and hyphens, as they are read octet by octet.
+-- The labels of a name of letters, digits and hyphens, one behind another.
 use Rattle.std.proofs.Common.{◌≡◌, ◌≢◌, ℕ, ◌+◌, ◌-◌, ◌<◌, ◌≤◌, ◌==◌, ◌&&◌, ◌||◌, nat_le, Bool, true, false, List, [], ◌∷◌, ◌++◌, length, drop, take, slice_range, get_or, All, refl, sym, ap, subst, ◌∙◌, ap₂, append_assoc, append-nil, length-append, length-take, take-append-drop, arith, eq-eqb}
 use Rattle.std.specs.Int.{is_in_range}
 use Rattle.std.specs.List.{list_all, list_any, onto_first}

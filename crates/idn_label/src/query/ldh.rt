@@ -115,7 +115,6 @@ fn lowercase_lanes(octets: u8x32) -> (u8x32, u64, u64)
 }
 
 /// Whether a label that begins at `start` and ends before `end` has 1 to 63 octets.
-// By comparisons alone: for a difference the loop above would carry one more counter.
 #[inline]
 fn has_label_length(start: usize, end: usize) -> bool
     requires order { start ≤ end }
