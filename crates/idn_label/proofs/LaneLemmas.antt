@@ -128,11 +128,12 @@ next_lane p q at n mask room few is some =
     let small : mask < 2 ^ n = rw is (subst (λ k. mask_l (map p v) < 2 ^ k) (length-map v p ∙ long) (mask_l-lt (map p v))) in
     let bits = bit_at-trailing_zeros w64 mask (omega arith) (let most : 2 ^ n ≤ 2 ^ 64 = pow_mono {i = n} {j = 64} few in omega arith) in
     let before : r < n = elim (cases_lt r n) [ inl lt ↦ lt | inr ge ↦ absurd (let none = bit_at_above mask n r small ge in omega (arith, bits.1, none)) ] in
-    let counted : r ≡ prefix_len (λ x. not (p x)) v = ap (count_trailing_zeros 64) is ∙ trailing_mask_l p 64 v (omega (arith, long)) (omega (arith, is)) in
-    (before,
-     run_in_chunk_fails p q at n r 0 room counted,
-     run_in_chunk_stops p q at n r 0 room counted before,
-     ap (λ m. m / 2 ^ r / 2) is
-     ∙ shr-shr (mask_l (map p v)) r 1
-     ∙ mask_l-drop (r + 1) (map p v)
-     ∙ ap mask_l (drop-map p (r + 1) v ∙ ap (map p) (chunk_later q at n (r + 1) (omega arith) ∙ ap (λ i. chunk i (n - (r + 1)) q) (let e : at + (r + 1) ≡ at + r + 1 = omega arith in e))))
+    let counted : r ≡ prefix_len (λ x. not (p x)) v = ap (count_trailing_zeros 64) is ∙ trailing_mask_l p 64 v (omega (arith, long)) (omega (arith, is)) in (
+      before,
+      run_in_chunk_fails p q at n r 0 room counted,
+      run_in_chunk_stops p q at n r 0 room counted before,
+      ap (λ m. m / 2 ^ r / 2) is
+          ∙ shr-shr (mask_l (map p v)) r 1
+          ∙ mask_l-drop (r + 1) (map p v)
+          ∙ ap mask_l (drop-map p (r + 1) v ∙ ap (map p) (chunk_later q at n (r + 1) (omega arith) ∙ ap (λ i. chunk i (n - (r + 1)) q) (let e : at + (r + 1) ≡ at + r + 1 = omega arith in e))),
+    )

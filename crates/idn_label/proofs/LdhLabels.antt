@@ -229,9 +229,9 @@ part_more q start stop le = sym (take-add start (stop - start) q) ∙ ap (λ n. 
 part_plain : (q : List ℕ) (start stop : ℕ) → ((k : ℕ) → start ≤ k → k < stop → is_full_stop (get_or q k 0) ≡ false) → HasNoFullStop (slice_range q start stop)
 part_plain q start stop without_stops =
     All-from_get_or (λ c. is_full_stop c ≡ false) (slice_range q start stop) 0 (λ k lt.
-        let short = length-take (stop - start) (drop start q) in
-        let below : k < stop - start = omega (arith, short) in
-        ap is_full_stop (get_or-chunk start (stop - start) q k 0 below) ∙ without_stops (start + k) (omega arith) (omega arith))
+    let short = length-take (stop - start) (drop start q) in
+    let below : k < stop - start = omega (arith, short) in
+    ap is_full_stop (get_or-chunk start (stop - start) q k 0 below) ∙ without_stops (start + k) (omega arith) (omega arith))
 
 -- a label that no full stop ends yet
 pub label_more : (q : List ℕ) (start stop : ℕ) (fit : Bool) → IsSplit (take start q) start fit → start ≤ stop → stop ≤ length q → ((k : ℕ) → start ≤ k → k < stop → is_full_stop (get_or q k 0) ≡ false) → has_ace_prefix (slice_range q start stop) ≡ false → IsSplit (take stop q) start fit
@@ -246,7 +246,7 @@ stop_more q start stop fit allowed r le within without_stops here free is =
     let whole : take (stop + 1) q ≡ take stop q ++ full_stop ∷ [] = take_more q stop 0 within ∙ ap (λ c. take stop q ++ c ∷ []) (eqb-true _ _ here) in
     subst (λ x. IsSplit x (stop + 1) (fit && allowed)) (sym whole)
     (subst (λ n. IsSplit (take stop q ++ full_stop ∷ []) (n + 1) (fit && allowed)) count
-        (split_stop (label_more q start stop fit r le (omega arith) without_stops free) allowed (is ∙ ap (λ n. is_in_range 1 63 (n - start)) (sym count))))
+    (split_stop (label_more q start stop fit r le (omega arith) without_stops free) allowed (is ∙ ap (λ n. is_in_range 1 63 (n - start)) (sym count))))
 
 -- a label with the prefix
 pub part_prefix : (q : List ℕ) (start stop : ℕ) (fit : Bool) → IsSplit (take start q) start fit → start ≤ stop → stop ≤ length q → ((k : ℕ) → start ≤ k → k < stop → is_full_stop (get_or q k 0) ≡ false) → has_ace_prefix (slice_range q start stop) ≡ true → list_any has_ace_prefix (labels_of q) ≡ true

@@ -51,7 +51,7 @@ room_more room name part at end order within fits same front block =
 same_part : (room q : List ℕ) (start stop end : ℕ) → start ≤ stop → stop ≤ end → take end room ≡ take end q → slice_range room start stop ≡ slice_range q start stop
 same_part room q start stop end order within same =
     let cut : (xs : List ℕ) → slice_range xs start stop ≡ drop start (take stop (take end xs)) = λ xs.
-        sym (drop-take start (stop - start) xs) ∙ ap (λ n. drop start (take n xs)) (let e : start + (stop - start) ≡ stop = omega arith in e) ∙ ap (drop start) (sym (take-take stop end xs within)) in
+    sym (drop-take start (stop - start) xs) ∙ ap (λ n. drop start (take n xs)) (let e : start + (stop - start) ≡ stop = omega arith in e) ∙ ap (drop start) (sym (take-take stop end xs within)) in
     cut room ∙ ap (λ x. drop start (take stop x)) same ∙ sym (cut q)
 
 plain_more : (q : List ℕ) (start at end : ℕ) → ((k : ℕ) → start ≤ k → k < at → is_full_stop (get_or q k 0) ≡ false) → ((k : ℕ) → at ≤ k → k < end → is_full_stop (get_or q k 0) ≡ false) → (k : ℕ) → start ≤ k → k < end → is_full_stop (get_or q k 0) ≡ false
@@ -162,7 +162,7 @@ all_labels name room start at fit free all order same labels without_stops teste
       front ∙ whole,
       subst (λ x. IsSplit x start fit) whole
           (label_more (lowered name) start n fit labels (omega arith) (omega (arith, length-map name to_ascii_lowercase)) (λ k from to. without_stops k from (omega arith))
-              (ap has_ace_prefix (sym (same_part room (lowered name) start n n (omega arith) (omega arith) front)) ∙ sym tested ∙ is)),
+          (ap has_ace_prefix (sym (same_part room (lowered name) start n n (omega arith) (omega arith) front)) ∙ sym tested ∙ is)),
     )
 
 pub returns-then-may_end-clause-answer : goal.returns-then-may_end-clause-answer

@@ -30,8 +30,8 @@ returns-clause-others c =
     let with_bit = zip2_splat {Y = ℕ} _ v 32 32 long in
     masked (λ c. not (is_name_point (to_ascii_lowercase c))) _ v
     (joined bit_and _ _ v
-      (joined (λ a b. cond (leb a b) 255 0) _ _ v (splat_is v 32 26 long) (joined _ _ _ v with_bit (splat_is v 32 97 long)))
-      (joined bit_or _ _ v
-        (joined (λ a b. cond (leb a b) 255 0) _ _ v (splat_is v 32 13 long) (zip2_splat {Y = ℕ} _ v 32 45 long))
-        (zip2_splat {Y = ℕ} _ v 32 47 long)))
+    (joined (λ a b. cond (leb a b) 255 0) _ _ v (splat_is v 32 26 long) (joined _ _ _ v with_bit (splat_is v 32 97 long)))
+    (joined bit_or _ _ v
+    (joined (λ a b. cond (leb a b) 255 0) _ _ v (splat_is v 32 13 long) (zip2_splat {Y = ℕ} _ v 32 45 long))
+    (zip2_splat {Y = ℕ} _ v 32 47 long)))
     (omega (arith, long)) c.fits-octets.1 refl
