@@ -22,7 +22,7 @@ use std::alloc::Global;
 use std::str;
 
 /// Leaves in `label` what an A-label in any ASCII case stands for, in place of what stood there. A label that passes the
-/// test has no capital, so only one that is refused is put into lower case, to tell why.
+/// test has no capital, so its code need not be put into lower case first.
 pub(crate) fn u_label_in_any_case(
     alloc: Global,
     given: &[u8],
@@ -35,11 +35,14 @@ pub(crate) fn u_label_in_any_case(
     ensures shorter { OnOk result (length label.new.items < length given.now) }
     ensures no_memory { NeedsNoMemoryDecoded (map to_ascii_lowercase given.now) → result ≢ Err Refusal.Memory }
 {
-    if let Ok(()) = tested_u_label(alloc, given, label) {
-        return Ok(());
+    match tested_u_label(alloc, given, label) {
+        Ok(()) => Ok(()),
+        Err(refusal) if has_no_capital(given) => Err(refusal),
+        Err(_) => {
+            let lower = lowercase_of(given);
+            tested_u_label(alloc, &lower, label)
+        }
     }
-    let lower = lowercase_of(given);
-    tested_u_label(alloc, &lower, label)
 }
 
 /// Leaves in `label` the label that an A-label stands for, which may be registered and has that A-label, in place of what
