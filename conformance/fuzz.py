@@ -183,7 +183,7 @@ class Fuzz:
 
 
 def obeys(name, answer, strict):
-    """Whether the answer by the rules for ASCII of UTS #46, section 4, fits the answer without them: the same one where it
+    """Whether the answer by the rules for ASCII of UTS #46, section 4, agrees with the answer without them: the same one where it
     has letters, digits and hyphens alone, else a refusal. Three signs for mathematics stand outside of that."""
     if any(sign in unicodedata.normalize("NFKC", name) for sign in "\u2260\u226e\u226f"):
         return True

@@ -34,9 +34,9 @@ LETTER_DIGITS = {"Ll", "Lu", "Lo", "Nd", "Lm", "Mn", "Mc"}
 
 def lines_of(name):
     """The lines of one of the data's files, which Debian compresses where it is long."""
-    plain, packed = FOLDER / name, FOLDER / (name + ".bz2")
-    if plain.exists():
-        return plain.open(encoding="utf-8")
+    unpacked, packed = FOLDER / name, FOLDER / (name + ".bz2")
+    if unpacked.exists():
+        return unpacked.open(encoding="utf-8")
     if packed.exists():
         return bz2.open(packed, "rt", encoding="utf-8")
     raise SystemExit(MISSING.format(FOLDER))

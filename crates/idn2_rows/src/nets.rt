@@ -128,7 +128,7 @@ fn spelled_labels_of_more_than_63_code_points(rt: HostRuntime) -> Result<(), Fai
     Ok(())
 }
 
-/// Labels that no source fits at the beginning, in the middle and at the end.
+/// Labels at whose beginning, in whose middle or at whose end no source stands.
 const STUCK: [(&[u8], &str); 4] = [
     (DOUBLED, "ba"),
     (DOUBLED, "aba"),

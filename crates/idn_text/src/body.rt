@@ -7,7 +7,7 @@ ghost use Rattle.idn_text.specs.inner.TakenLines.{kept};
 use crate::text_lines::without_carriage_return;
 use arrayvec::ArrayVec;
 
-/// The most bytes of a line, a carriage return at its end counted.
+/// The most bytes of a line, a carriage return at its end counted. So no line has more code points.
 pub const MAX_LINE_LEN: usize = 1024;
 
 /// A line without its end: the line feed, and one carriage return before it, are left out.

@@ -4,9 +4,10 @@ ghost use Rattle.std.specs.Int.{IsOutOfRange};
 ghost use Rattle.std.specs.Str.{StartsWithNoChar};
 ghost use Rattle.idn_text.specs.Points.{IsScalarValue};
 
-/// The least character that three octets encode, and the least that four do.
+/// The least character that three octets encode.
 const LEAST_OF_THREE: u32 = 0x800;
 
+/// The least that four octets encode.
 const LEAST_OF_FOUR: u32 = 0x1_0000;
 
 /// The character at a place of a text, and the place after it. `None` where no character in UTF-8 stands there.

@@ -4,7 +4,7 @@ use Rattle.variant_list.specs.Beginnings.{shortest_hopeless}
 use Rattle.variant_list.specs.declared.verdict.Verdict.{Verdict}
 use Rattle.variant_list.specs.declared.verdict.Verdict.TheVariants.{Hopeless, Tested}
 
--- what is given for a label tells it, and something is given exactly where the label is accepted
+-- something is given exactly where the label is accepted, and then something that may be given for it
 abbrev pub IsAnswer : {T : Type 0} → (List ℕ → Bool) → (List ℕ → T → Type 0) → List ℕ → Option T → Type 0
 IsAnswer accepts tells label (Some told) = (accepts label ≡ true) × tells label told
 IsAnswer accepts tells label None = accepts label ≡ false

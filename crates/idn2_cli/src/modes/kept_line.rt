@@ -2,6 +2,7 @@
 
 ghost use Rattle.std.specs.Prelude.{◌≡◌, ◌≤◌, ◌<◌, ◌+◌, ◌∷◌, [], ◌++◌, length, take};
 ghost use Rattle.idn_text.specs.Points.{AreScalarValues, IsScalarValue, utf8_of};
+ghost use Rattle.idn_class.specs.Shared.{IsLongestShared};
 
 use crate::session::buffers::append;
 use arrayvec::ArrayVec;
@@ -76,6 +77,7 @@ impl KeptLine {
         ensures within { result ≤ length label.now }
         ensures label { self.new.label ≡ take result label.now }
         ensures line { self.new.line ≡ utf8_of (take result label.now) }
+        ensures longest { IsLongestShared self.old.label label.now result }
     {
         let count = shared_len(self.label.as_slice(), label);
         let end = usize::from(self.ends[count]);

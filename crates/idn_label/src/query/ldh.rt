@@ -23,7 +23,7 @@ const BLOCK_LEN: usize = 32;
 
 /// Writes into `room` what `lookup_utf8` answers of such a name, the name in lower case, and returns its length; or
 /// `LookupLength`. `None` says nothing of the name, and another way then gives the answer: an octet is no ASCII letter,
-/// digit, hyphen or full stop, a label begins with `xn--`, or the name is too long for any query.
+/// digit, hyphen or full stop, a label begins with `xn--` in any ASCII case, or the name is too long for any query.
 pub(crate) fn ldh_query(name: &[u8], room: &mut [u8]) -> Option<Result<usize, Refusal>>
     requires { MAX_QUERY_LEN ≤ length room.old }
     ensures answer { IfSome result (λ answer. (std3 : Bool) → Gives (λ len. take len room.new) answer (utf8_answer name.now std3)) }
@@ -66,8 +66,8 @@ pub(crate) fn ldh_query(name: &[u8], room: &mut [u8]) -> Option<Result<usize, Re
     }
 }
 
-/// Writes at most 32 octets into `room` in lower case, and tells the full stops among them by a bit each; or `None`, where
-/// one is no ASCII letter, digit, hyphen or full stop.
+/// Writes at most 32 octets into the beginning of `room` in lower case, and tells the full stops among them by a bit each;
+/// or `None`, where one is no ASCII letter, digit, hyphen or full stop. What stood in `room` behind them may be lost.
 #[inline(always)]
 fn lowercase_block(block: &[u8], room: &mut [u8]) -> Option<u64>
     requires few { length block.now ≤ 32 }
