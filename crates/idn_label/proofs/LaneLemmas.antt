@@ -53,7 +53,7 @@ masked p f v lanes few fits all =
 
 -- ---- masks
 
--- letters behind a block of octets
+-- letters behind a chunk of octets
 drop-replicate : (k n c : ℕ) → drop k (replicate n c) ≡ replicate (n - k) c
 drop-replicate zero n c = ap (λ m. replicate m c) (let e : n ≡ n - 0 = omega arith in e)
 drop-replicate (suc k) zero c = ap (λ m. replicate m c) (let e : 0 ≡ 0 - suc k = omega arith in e)
@@ -64,17 +64,17 @@ mask_l-padded p [] zero c other = refl
 mask_l-padded p [] (suc n) c other = rw (other, mask_l-padded p [] n c other) refl
 mask_l-padded p (x ∷ xs) n c other = ap (λ m. cond (p x) 1 0 + 2 * m) (mask_l-padded p xs n c other)
 
-pub mask_l-block : (p : ℕ → Bool) (block copied : List ℕ) → copied ≡ block → p 97 ≡ false → mask_l (map p (copied ++ drop (length block) (replicate 32 97))) ≡ mask_l (map p block)
-mask_l-block p block copied is other =
-    ap₂ (λ front pad. mask_l (map p (front ++ pad))) is (drop-replicate (length block) 32 97) ∙ mask_l-padded p block (32 - length block) 97 other
+pub mask_l-chunk : (p : ℕ → Bool) (chunk copied : List ℕ) → copied ≡ chunk → p 97 ≡ false → mask_l (map p (copied ++ drop (length chunk) (replicate 32 97))) ≡ mask_l (map p chunk)
+mask_l-chunk p chunk copied is other =
+    ap₂ (λ front pad. mask_l (map p (front ++ pad))) is (drop-replicate (length chunk) 32 97) ∙ mask_l-padded p chunk (32 - length chunk) 97 other
 
 -- a vector is stored of which the first lanes are wanted
-pub stored : (f : ℕ → ℕ) (room block copied pad lanes : List ℕ) → copied ≡ block → lanes ≡ map f (copied ++ pad) → length lanes ≤ length room → take (length block) (put_chunk 0 room lanes) ≡ map f block
-stored f room block copied pad lanes same is fits =
+pub stored : (f : ℕ → ℕ) (room chunk copied pad lanes : List ℕ) → copied ≡ chunk → lanes ≡ map f (copied ++ pad) → length lanes ≤ length room → take (length chunk) (put_chunk 0 room lanes) ≡ map f chunk
+stored f room chunk copied pad lanes same is fits =
     let rest = drop (length lanes) room in
-    ap (take (length block)) (put_chunk_is 0 room lanes (omega (arith, fits)) ∙ ap (λ x. x ++ rest) (is ∙ ap (λ x. map f (x ++ pad)) same ∙ map-append f block pad) ∙ append_assoc (map f block) (map f pad) rest)
-    ∙ ap (λ n. take n (map f block ++ (map f pad ++ rest))) (sym (length-map block f))
-    ∙ take-append_seam (map f block) (map f pad ++ rest)
+    ap (take (length chunk)) (put_chunk_is 0 room lanes (omega (arith, fits)) ∙ ap (λ x. x ++ rest) (is ∙ ap (λ x. map f (x ++ pad)) same ∙ map-append f chunk pad) ∙ append_assoc (map f chunk) (map f pad) rest)
+    ∙ ap (λ n. take n (map f chunk ++ (map f pad ++ rest))) (sym (length-map chunk f))
+    ∙ take-append_seam (map f chunk) (map f pad ++ rest)
 
 pub mask_l-none : (p : ℕ → Bool) (xs : List ℕ) → All (λ x. p x ≡ false) xs → mask_l (map p xs) ≡ 0
 mask_l-none p [] none = refl

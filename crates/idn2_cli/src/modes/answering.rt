@@ -11,7 +11,7 @@ use crate::session::buffers::Buffers;
 use crate::session::console::Console;
 use crate::session::message::line_message;
 use crate::session::stop::Stop;
-use idn_text::{Refusal, Sink};
+use idn_text::{MAX_LINE_LEN, Refusal, Sink};
 use std::alloc::Global;
 
 /// A mode that answers each line by itself.
@@ -35,7 +35,7 @@ pub(crate) trait Answering {
         console: &mut Console<'_, '_, W, E>,
     ) -> Result<bool, Stop>
         requires ready { is_ready self.now }
-        requires few { length text.now ≤ 1024 }
+        requires few { length text.now ≤ MAX_LINE_LEN }
         ensures written { Emits console.old console.new
             (pieces_for number (text_answer (answer_of self.now) text.now)) result }
         ensures refused { IfOk result (λ refused. refused ≡ is_err (text_answer (answer_of self.now) text.now)) }

@@ -12,7 +12,7 @@ use crate::modes::answering::{Answering, refuse};
 use crate::session::buffers::Buffers;
 use crate::session::console::Console;
 use crate::session::stop::Stop;
-use idn_text::{Refusal, Sink, decode_points};
+use idn_text::{MAX_LINE_LEN, Refusal, Sink, decode_points};
 use std::alloc::Global;
 
 /// A mode that is handed the code points of a line.
@@ -35,7 +35,7 @@ pub(crate) trait PointAnswering {
         console: &mut Console<'_, '_, W, E>,
     ) -> Result<bool, Stop>
         requires ready { is_ready self.now }
-        requires few { length points.now ≤ 1024 }
+        requires few { length points.now ≤ MAX_LINE_LEN }
         requires scalar_values { AreScalarValues points.now }
         ensures written { Emits console.old console.new
             (pieces_for number (answer_of self.now points.now)) result }

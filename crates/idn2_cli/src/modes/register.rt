@@ -13,7 +13,7 @@ use crate::session::console::Console;
 use crate::session::stop::Stop;
 use arrayvec::ArrayVec;
 use idn_label::register;
-use idn_text::{Refusal, Sink};
+use idn_text::{MAX_LINE_LEN, Refusal, Sink};
 use std::alloc::Global;
 
 /// Registration (RFC 5891 section 4).
@@ -41,7 +41,7 @@ impl PointAnswering for Register {
 
 /// The line of a label's A-label.
 fn line_of(alloc: Global, label: &[u32]) -> Result<ArrayVec<u8, 64>, Refusal>
-    requires { length label.now ≤ 1024 }
+    requires { length label.now ≤ MAX_LINE_LEN }
     ensures answer { Gives (λ line. line.items) result (with_feed (register_answer label.now)) }
     ensures no_memory { RegistersWithoutMemory label.now → result ≢ Err Refusal.Memory }
 {

@@ -19,7 +19,7 @@ use std::simd::prelude::*;
 pub(crate) const MAX_QUERY_LEN: usize = 254;
 
 /// The most octets of a name that are read at once.
-const BLOCK_LEN: usize = 32;
+const CHUNK_LEN: usize = 32;
 
 /// Writes into `room` what `lookup_utf8` answers of such a name, the name in lower case, and returns its length; or
 /// `LookupLength`. `None` says nothing of the name, and another way then gives the answer: an octet is no ASCII letter,
@@ -39,10 +39,10 @@ pub(crate) fn ldh_query(name: &[u8], room: &mut [u8]) -> Option<Result<usize, Re
     let mut start = 0;
     let mut have_lengths = true;
     let mut at = 0;
-    'pieces: while at < name.len() {
-        let end = name.len().min(at + BLOCK_LEN);
+    'chunks: while at < name.len() {
+        let end = name.len().min(at + CHUNK_LEN);
         // A bit for each octet from `at` on: whether it is a full stop.
-        let mut stops = lowercase_block(&name[at..end], &mut room[at..])?;
+        let mut stops = lowercase_chunk(&name[at..end], &mut room[at..])?;
         'labels: while stops != 0 {
             let count = stops.trailing_zeros() as usize;
             let stop = at + count;
@@ -69,25 +69,25 @@ pub(crate) fn ldh_query(name: &[u8], room: &mut [u8]) -> Option<Result<usize, Re
 /// Writes at most 32 octets into the beginning of `room` in lower case, and tells the full stops among them by a bit each;
 /// or `None`, where one is no ASCII letter, digit, hyphen or full stop. What stood in `room` behind them may be lost.
 #[inline(always)]
-fn lowercase_block(block: &[u8], room: &mut [u8]) -> Option<u64>
-    requires few { length block.now ≤ 32 }
-    requires room { length block.now ≤ length room.old }
-    ensures lower { IfSome result (λ _. take (length block.now) room.new ≡ map to_ascii_lowercase block.now) }
-    ensures stops { IfSome result (λ stops. stops ≡ mask_l (map is_full_stop (map to_ascii_lowercase block.now))) }
-    ensures points { IsSome result ↔ All (λ c. is_name_point (to_ascii_lowercase c) ≡ true) block.now }
+fn lowercase_chunk(chunk: &[u8], room: &mut [u8]) -> Option<u64>
+    requires few { length chunk.now ≤ 32 }
+    requires room { length chunk.now ≤ length room.old }
+    ensures lower { IfSome result (λ _. take (length chunk.now) room.new ≡ map to_ascii_lowercase chunk.now) }
+    ensures stops { IfSome result (λ stops. stops ≡ mask_l (map is_full_stop (map to_ascii_lowercase chunk.now))) }
+    ensures points { IsSome result ↔ All (λ c. is_name_point (to_ascii_lowercase c) ≡ true) chunk.now }
     ensures length { length room.new ≡ length room.old }
 {
-    // Letters behind a short block change nothing.
-    let mut octets = [b'a'; BLOCK_LEN];
-    octets[..block.len()].copy_from_slice(block);
+    // Letters behind a short chunk change nothing.
+    let mut octets = [b'a'; CHUNK_LEN];
+    octets[..chunk.len()].copy_from_slice(chunk);
     let (lower, stops, others) = lowercase_lanes(u8x32::from_array(octets));
     if others != 0 {
         return None;
     }
-    if room.len() >= BLOCK_LEN {
+    if room.len() >= CHUNK_LEN {
         lower.copy_to_slice(room);
     } else {
-        room[..block.len()].copy_from_slice(&lower.to_array()[..block.len()]);
+        room[..chunk.len()].copy_from_slice(&lower.to_array()[..chunk.len()]);
     }
     Some(stops)
 }

@@ -33,9 +33,9 @@ take-behind : (xs ys : List ℕ) (n : ℕ) → take (length xs + n) (xs ++ ys) �
 take-behind [] ys n = ap (λ m. take m ys) (let e : 0 + n ≡ n = omega arith in e)
 take-behind (x ∷ xs) ys n = ap (λ m. take m (x ∷ xs ++ ys)) (let e : length (x ∷ xs) + n ≡ suc (length xs + n) = omega arith in e) ∙ ap (λ l. x ∷ l) (take-behind xs ys n)
 
--- a block more in the room
+-- a chunk more in the room
 room_more : (room name part : List ℕ) (at end : ℕ) → at ≤ end → end ≤ length name → length name ≤ length room → length part ≡ length (take (length room - at) (drop at room)) → take at room ≡ take at (lowered name) → take (length (slice_range name at end)) part ≡ lowered (slice_range name at end) → take end (put_mid at (length room - at) room part) ≡ take end (lowered name)
-room_more room name part at end order within fits same front block =
+room_more room name part at end order within fits same front chunk =
     let n = end - at in
     let count : length (slice_range name at end) ≡ n = omega (arith, length-take n (drop at name), length-drop at name) in
     let before : length (take at room) ≡ at = length-take-le at room (omega arith) in
@@ -43,7 +43,7 @@ room_more room name part at end order within fits same front block =
     ∙ ap (take end) (take-put_mid at (length room - at) room part (length room) (let long : length room ≡ at + length part = omega (arith, length-take (length room - at) (drop at room), length-drop at room) in long) (omega arith))
     ∙ ap (λ m. take m (take at room ++ part)) (let sum : end ≡ length (take at room) + n = omega arith in sum)
     ∙ take-behind (take at room) part n
-    ∙ ap₂ (λ a b. a ++ b) front (ap (λ m. take m part) (sym count) ∙ block ∙ lowered_part name at end)
+    ∙ ap₂ (λ a b. a ++ b) front (ap (λ m. take m part) (sym count) ∙ chunk ∙ lowered_part name at end)
     ∙ sym (take-add at n (lowered name))
     ∙ ap (λ m. take m (lowered name)) (let e : at + n ≡ end = omega arith in e)
 
@@ -57,13 +57,13 @@ same_part room q start stop end order within same =
 plain_more : (q : List ℕ) (start at end : ℕ) → ((k : ℕ) → start ≤ k → k < at → is_full_stop (get_or q k 0) ≡ false) → ((k : ℕ) → at ≤ k → k < end → is_full_stop (get_or q k 0) ≡ false) → (k : ℕ) → start ≤ k → k < end → is_full_stop (get_or q k 0) ≡ false
 plain_more q start at end first second k from to = elim (cases_lt k at) [ inl early ↦ first k from early | inr late ↦ second k late to ]
 
--- the next full stop of a block that begins at `from`
+-- the next full stop of a chunk that begins at `from`
 next_stop : (name : List ℕ) (from at end stops : ℕ) → end ≡ min (length name) (from + 32) → from ≤ at → at ≤ end → stops ≡ mask_l (map is_full_stop (chunk at (end - at) (lowered name))) → stops ≢ 0 → IsNext is_full_stop (lowered name) at (end - at) stops (count_trailing_zeros 64 stops)
 next_stop name from at end stops is later order rest some =
     next_lane is_full_stop (lowered name) at (end - at) stops (omega (arith, length-map name to_ascii_lowercase)) (omega arith) rest some
 
-pub pieces-init : goal.pieces-init
-pieces-init c = record {
+pub chunks-init : goal.chunks-init
+chunks-init c = record {
   lower = refl;
   points = All-nil (λ c. is_name_point (to_ascii_lowercase c) ≡ true);
   labels = split_nothing;
@@ -74,28 +74,28 @@ pieces-init c = record {
 
 pub labels-init : goal.labels-init
 labels-init c = record {
-  labels = c.pieces.invariant.labels;
-  without_stops = c.pieces.invariant.without_stops;
-  stops = c.in_ok-stops.ensures.stops ∙ ap (λ x. mask_l (map is_full_stop x)) (lowered_part c.args.name.now c.pieces.at c.min-end.result);
-  within = (c.pieces.invariant.within.0, omega (arith, c.min-end.ensures, c.pieces-test.true), omega arith);
+  labels = c.chunks.invariant.labels;
+  without_stops = c.chunks.invariant.without_stops;
+  stops = c.in_ok-stops.ensures.stops ∙ ap (λ x. mask_l (map is_full_stop x)) (lowered_part c.args.name.now c.chunks.at c.min-end.result);
+  within = (c.chunks.invariant.within.0, omega (arith, c.min-end.ensures, c.chunks-test.true), omega arith);
 }
 
 pub slice_bounds-has_ace_prefix-end : goal.slice_bounds-has_ace_prefix-end
 slice_bounds-has_ace_prefix-end c =
     let name = c.args.name.now in
     let end = c.min-end.result in
-    let fits : length name ≤ length c.pieces.room = omega (arith, c.requires, c.pieces.invariant.room, c.if-name-gt-MAX_QUERY_LEN.false) in
-    let whole = room_more c.pieces.room name c.lowercase_block.new.room c.pieces.at end (omega (arith, c.labels.invariant.within)) (omega (arith, c.min-end.ensures)) fits c.in_ok-stops.ensures.length c.pieces.invariant.lower c.in_ok-stops.ensures.lower in
-    let next = next_stop name c.pieces.at c.labels.at end c.labels.stops c.min-end.ensures c.labels.invariant.within.2 c.labels.invariant.within.1 c.labels.invariant.stops c.labels-test.true in
+    let fits : length name ≤ length c.chunks.room = omega (arith, c.requires, c.chunks.invariant.room, c.if-name-gt-MAX_QUERY_LEN.false) in
+    let whole = room_more c.chunks.room name c.lowercase_chunk.new.room c.chunks.at end (omega (arith, c.labels.invariant.within)) (omega (arith, c.min-end.ensures)) fits c.in_ok-stops.ensures.length c.chunks.invariant.lower c.in_ok-stops.ensures.lower in
+    let next = next_stop name c.chunks.at c.labels.at end c.labels.stops c.min-end.ensures c.labels.invariant.within.2 c.labels.invariant.within.1 c.labels.invariant.stops c.labels-test.true in
     omega (arith, next.0, ap length whole, length-take end (lowered name), length-map name to_ascii_lowercase, c.min-end.ensures)
 
 pub returns-then-has_ace_prefix-clause-told : goal.returns-then-has_ace_prefix-clause-told
 returns-then-has_ace_prefix-clause-told c ldh =
     let name = c.args.name.now in
     let end = c.min-end.result in
-    let fits : length name ≤ length c.pieces.room = omega (arith, c.requires, c.pieces.invariant.room, c.if-name-gt-MAX_QUERY_LEN.false) in
-    let whole = room_more c.pieces.room name c.lowercase_block.new.room c.pieces.at end (omega (arith, c.labels.invariant.within)) (omega (arith, c.min-end.ensures)) fits c.in_ok-stops.ensures.length c.pieces.invariant.lower c.in_ok-stops.ensures.lower in
-    let next = next_stop name c.pieces.at c.labels.at end c.labels.stops c.min-end.ensures c.labels.invariant.within.2 c.labels.invariant.within.1 c.labels.invariant.stops c.labels-test.true in
+    let fits : length name ≤ length c.chunks.room = omega (arith, c.requires, c.chunks.invariant.room, c.if-name-gt-MAX_QUERY_LEN.false) in
+    let whole = room_more c.chunks.room name c.lowercase_chunk.new.room c.chunks.at end (omega (arith, c.labels.invariant.within)) (omega (arith, c.min-end.ensures)) fits c.in_ok-stops.ensures.length c.chunks.invariant.lower c.in_ok-stops.ensures.lower in
+    let next = next_stop name c.chunks.at c.labels.at end c.labels.stops c.min-end.ensures c.labels.invariant.within.2 c.labels.invariant.within.1 c.labels.invariant.stops c.labels-test.true in
     let start = c.labels.start in
     let stop = c.labels.at + count_trailing_zeros 64 c.labels.stops in
     let prefix = ap has_ace_prefix (sym (same_part _ (lowered name) start stop end (omega (arith, c.labels.invariant.within)) (omega (arith, next.0)) whole)) ∙ sym c.has_ace_prefix.ensures ∙ c.if-has_ace_prefix.true in
@@ -106,16 +106,16 @@ pub has_label_length-have_lengths-requires-clause-short : goal.has_label_length-
 has_label_length-have_lengths-requires-clause-short c =
     let name = c.args.name.now in
     let end = c.min-end.result in
-    let next = next_stop name c.pieces.at c.labels.at end c.labels.stops c.min-end.ensures c.labels.invariant.within.2 c.labels.invariant.within.1 c.labels.invariant.stops c.labels-test.true in
+    let next = next_stop name c.chunks.at c.labels.at end c.labels.stops c.min-end.ensures c.labels.invariant.within.2 c.labels.invariant.within.1 c.labels.invariant.stops c.labels-test.true in
     omega (arith, next.0, c.min-end.ensures, c.if-name-gt-MAX_QUERY_LEN.false)
 
 pub labels-preserved : goal.labels-preserved
 labels-preserved c =
     let name = c.args.name.now in
     let end = c.min-end.result in
-    let fits : length name ≤ length c.pieces.room = omega (arith, c.requires, c.pieces.invariant.room, c.if-name-gt-MAX_QUERY_LEN.false) in
-    let whole = room_more c.pieces.room name c.lowercase_block.new.room c.pieces.at end (omega (arith, c.labels.invariant.within)) (omega (arith, c.min-end.ensures)) fits c.in_ok-stops.ensures.length c.pieces.invariant.lower c.in_ok-stops.ensures.lower in
-    let next = next_stop name c.pieces.at c.labels.at end c.labels.stops c.min-end.ensures c.labels.invariant.within.2 c.labels.invariant.within.1 c.labels.invariant.stops c.labels-test.true in
+    let fits : length name ≤ length c.chunks.room = omega (arith, c.requires, c.chunks.invariant.room, c.if-name-gt-MAX_QUERY_LEN.false) in
+    let whole = room_more c.chunks.room name c.lowercase_chunk.new.room c.chunks.at end (omega (arith, c.labels.invariant.within)) (omega (arith, c.min-end.ensures)) fits c.in_ok-stops.ensures.length c.chunks.invariant.lower c.in_ok-stops.ensures.lower in
+    let next = next_stop name c.chunks.at c.labels.at end c.labels.stops c.min-end.ensures c.labels.invariant.within.2 c.labels.invariant.within.1 c.labels.invariant.stops c.labels-test.true in
     let start = c.labels.start in
     let count = count_trailing_zeros 64 c.labels.stops in
     let stop = c.labels.at + count in
@@ -127,31 +127,31 @@ labels-preserved c =
       within = (omega arith, omega (arith, next.0), omega (arith, c.labels.invariant.within));
     }
 
-pub pieces-preserved : goal.pieces-preserved
-pieces-preserved c =
+pub chunks-preserved : goal.chunks-preserved
+chunks-preserved c =
     let name = c.args.name.now in
     let end = c.min-end.result in
-    let at = c.pieces.at in
+    let at = c.chunks.at in
     record {
-      lower = room_more c.pieces.room name c.lowercase_block.new.room at end (omega (arith, c.labels.invariant.within)) (omega (arith, c.min-end.ensures)) (omega (arith, c.requires, c.pieces.invariant.room, c.if-name-gt-MAX_QUERY_LEN.false)) c.in_ok-stops.ensures.length c.pieces.invariant.lower c.in_ok-stops.ensures.lower;
+      lower = room_more c.chunks.room name c.lowercase_chunk.new.room at end (omega (arith, c.labels.invariant.within)) (omega (arith, c.min-end.ensures)) (omega (arith, c.requires, c.chunks.invariant.room, c.if-name-gt-MAX_QUERY_LEN.false)) c.in_ok-stops.ensures.length c.chunks.invariant.lower c.in_ok-stops.ensures.lower;
       points = subst (All (λ c. is_name_point (to_ascii_lowercase c) ≡ true)) (part_more name at end (omega (arith, c.labels.invariant.within)))
-          (All-append (λ c. is_name_point (to_ascii_lowercase c) ≡ true) (take at name) (slice_range name at end) c.pieces.invariant.points (c.in_ok-stops.ensures.points.0 refl));
+          (All-append (λ c. is_name_point (to_ascii_lowercase c) ≡ true) (take at name) (slice_range name at end) c.chunks.invariant.points (c.in_ok-stops.ensures.points.0 refl));
       labels = c.labels.invariant.labels;
       without_stops = plain_more (lowered name) c.labels.start c.labels.at end c.labels.invariant.without_stops
           (λ k from to. none_from_empty_mask is_full_stop (lowered name) c.labels.at (end - c.labels.at) 0 (omega (arith, length-map name to_ascii_lowercase, c.min-end.ensures, c.labels.invariant.within)) (sym c.labels.invariant.stops ∙ c.labels-test.false) k from (omega (arith, c.labels.invariant.within)));
       within = (omega (arith, c.labels.invariant.within), omega (arith, c.min-end.ensures));
-      room = same_len_mid at (length c.pieces.room - at) c.pieces.room c.lowercase_block.new.room c.in_ok-stops.ensures.length ∙ c.pieces.invariant.room;
+      room = same_len_mid at (length c.chunks.room - at) c.chunks.room c.lowercase_chunk.new.room c.in_ok-stops.ensures.length ∙ c.chunks.invariant.room;
     }
 
 pub returns-then-has_ace_prefix-2-clause-told : goal.returns-then-has_ace_prefix-2-clause-told
 returns-then-has_ace_prefix-2-clause-told c ldh =
     let name = c.args.name.now in
     let n = length name in
-    let all : c.pieces.at ≡ n = omega (arith, c.pieces-test.false, c.pieces.invariant.within) in
-    let same = subst (λ k. take k c.pieces.room ≡ take k (lowered name)) all c.pieces.invariant.lower in
-    let prefix = ap has_ace_prefix (sym (same_part c.pieces.room (lowered name) c.pieces.start n n (omega (arith, c.pieces.invariant.within)) (omega arith) same)) ∙ sym c.has_ace_prefix-2.ensures ∙ c.if-has_ace_prefix-2.true in
+    let all : c.chunks.at ≡ n = omega (arith, c.chunks-test.false, c.chunks.invariant.within) in
+    let same = subst (λ k. take k c.chunks.room ≡ take k (lowered name)) all c.chunks.invariant.lower in
+    let prefix = ap has_ace_prefix (sym (same_part c.chunks.room (lowered name) c.chunks.start n n (omega (arith, c.chunks.invariant.within)) (omega arith) same)) ∙ sym c.has_ace_prefix-2.ensures ∙ c.if-has_ace_prefix-2.true in
     sym ldh.no_a_label
-    ∙ part_prefix (lowered name) c.pieces.start n c.pieces.have_lengths c.pieces.invariant.labels (omega (arith, c.pieces.invariant.within)) (omega (arith, length-map name to_ascii_lowercase)) (λ k from to. c.pieces.invariant.without_stops k from (omega arith)) prefix
+    ∙ part_prefix (lowered name) c.chunks.start n c.chunks.have_lengths c.chunks.invariant.labels (omega (arith, c.chunks.invariant.within)) (omega (arith, length-map name to_ascii_lowercase)) (λ k from to. c.chunks.invariant.without_stops k from (omega arith)) prefix
 
 -- the labels of the whole name
 all_labels : (name room : List ℕ) (start at : ℕ) (fit free : Bool) → at ≡ length name → start ≤ at → take at room ≡ take at (lowered name) → IsSplit (take start (lowered name)) start fit → ((k : ℕ) → start ≤ k → k < at → is_full_stop (get_or (lowered name) k 0) ≡ false) → free ≡ has_ace_prefix (slice_range room start (length name)) → free ≡ false → (take (length name) room ≡ lowered name) × IsSplit (lowered name) start fit
@@ -170,11 +170,11 @@ returns-then-may_end-clause-answer c std3 =
     let name = c.args.name.now in
     let query = lowered name in
     let count = length-map name to_ascii_lowercase in
-    let all : c.pieces.at ≡ length name = omega (arith, c.pieces-test.false, c.pieces.invariant.within) in
-    let points = subst (All (λ c. is_name_point (to_ascii_lowercase c) ≡ true)) (take_all c.pieces.at name (omega arith)) c.pieces.invariant.points in
-    let parts = all_labels name c.pieces.room c.pieces.start c.pieces.at c.pieces.have_lengths c.has_ace_prefix-2.result all c.pieces.invariant.within.0 c.pieces.invariant.lower c.pieces.invariant.labels c.pieces.invariant.without_stops c.has_ace_prefix-2.ensures c.if-has_ace_prefix-2.false in
+    let all : c.chunks.at ≡ length name = omega (arith, c.chunks-test.false, c.chunks.invariant.within) in
+    let points = subst (All (λ c. is_name_point (to_ascii_lowercase c) ≡ true)) (take_all c.chunks.at name (omega arith)) c.chunks.invariant.points in
+    let parts = all_labels name c.chunks.room c.chunks.start c.chunks.at c.chunks.have_lengths c.has_ace_prefix-2.result all c.chunks.invariant.within.0 c.chunks.invariant.lower c.chunks.invariant.labels c.chunks.invariant.without_stops c.has_ace_prefix-2.ensures c.if-has_ace_prefix-2.false in
     let given = to_ascii-lowercase_name (deny_list std3) name query points refl (split_free parts.1) in
-    let end : may_end c.pieces.start (length query) ≡ true = ap (may_end c.pieces.start) count ∙ sym c.if-may_end.ensures in
+    let end : may_end c.chunks.start (length query) ≡ true = ap (may_end c.chunks.start) count ∙ sym c.if-may_end.ensures in
     let fits : verify_dns_length query true ≡ true = split_measured parts.1 ∙ rw (c.if-have_lengths.true, end) refl in
     Gives-measured (Ok tt) name query query std3 refl given (cond-true _ _ _ fits) ∙ ap Ok (sym parts.0)
 
@@ -183,15 +183,15 @@ returns-else-have_lengths-clause-answer c std3 =
     let name = c.args.name.now in
     let query = lowered name in
     let count = length-map name to_ascii_lowercase in
-    let all : c.pieces.at ≡ length name = omega (arith, c.pieces-test.false, c.pieces.invariant.within) in
-    let points = subst (All (λ c. is_name_point (to_ascii_lowercase c) ≡ true)) (take_all c.pieces.at name (omega arith)) c.pieces.invariant.points in
-    let parts = all_labels name c.pieces.room c.pieces.start c.pieces.at c.pieces.have_lengths c.has_ace_prefix-2.result all c.pieces.invariant.within.0 c.pieces.invariant.lower c.pieces.invariant.labels c.pieces.invariant.without_stops c.has_ace_prefix-2.ensures c.if-has_ace_prefix-2.false in
+    let all : c.chunks.at ≡ length name = omega (arith, c.chunks-test.false, c.chunks.invariant.within) in
+    let points = subst (All (λ c. is_name_point (to_ascii_lowercase c) ≡ true)) (take_all c.chunks.at name (omega arith)) c.chunks.invariant.points in
+    let parts = all_labels name c.chunks.room c.chunks.start c.chunks.at c.chunks.have_lengths c.has_ace_prefix-2.result all c.chunks.invariant.within.0 c.chunks.invariant.lower c.chunks.invariant.labels c.chunks.invariant.without_stops c.has_ace_prefix-2.ensures c.if-has_ace_prefix-2.false in
     let given = to_ascii-lowercase_name (deny_list std3) name query points refl (split_free parts.1) in
     let fits : verify_dns_length query true ≡ false =
     elim c.else-have_lengths.branch [
       | else-have_lengths-via-then-have_lengths+else-may_end w ↦
-          let end : may_end c.pieces.start (length query) ≡ false = ap (may_end c.pieces.start) count ∙ sym w.may_end.ensures ∙ w.if-may_end.false in
-          split_measured parts.1 ∙ rw end (and-false c.pieces.have_lengths)
+          let end : may_end c.chunks.start (length query) ≡ false = ap (may_end c.chunks.start) count ∙ sym w.may_end.ensures ∙ w.if-may_end.false in
+          split_measured parts.1 ∙ rw end (and-false c.chunks.have_lengths)
       | else-have_lengths-via-else-have_lengths w ↦ split_measured parts.1 ∙ rw w.if-have_lengths.false refl
     ] in
     Gives-measured (Err LookupLength) name query query std3 refl given (λ _. cond-false _ _ _ fits)

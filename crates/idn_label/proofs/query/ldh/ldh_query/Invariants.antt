@@ -7,8 +7,8 @@ use Rattle.idn_label.proofs.LdhLabels.{IsSplit}
 use Rattle.idn_label.proofs.query.ldh.ldh_query.Given as goal
 
 -- the octets so far, in lower case, and their labels: whole ones, and one without its end
-abbrev pub invariant-pieces : goal.invariant-pieces
-invariant-pieces l = record {
+abbrev pub invariant-chunks : goal.invariant-chunks
+invariant-chunks l = record {
   lower : take l.at l.room ≡ take l.at (map to_ascii_lowercase l.name);
   points : All (λ c. is_name_point (to_ascii_lowercase c) ≡ true) (take l.at l.name);
   labels : IsSplit (take l.start (map to_ascii_lowercase l.name)) l.start l.have_lengths;
@@ -17,10 +17,10 @@ invariant-pieces l = record {
   room : length l.room ≡ length l.fn.room;
 }
 
-abbrev pub decreases-pieces : goal.decreases-pieces
-decreases-pieces l = length l.name - l.at
+abbrev pub decreases-chunks : goal.decreases-chunks
+decreases-chunks l = length l.name - l.at
 
--- the labels of the block's octets so far, and the full stops behind them
+-- the labels of the chunk's octets so far, and the full stops behind them
 abbrev pub invariant-labels : goal.invariant-labels
 invariant-labels l = record {
   labels : IsSplit (take l.start (map to_ascii_lowercase l.name)) l.start l.have_lengths;
