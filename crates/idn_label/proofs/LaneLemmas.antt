@@ -1,14 +1,13 @@
 -- Vectors of octets that are computed lane by lane, and the masks of their comparisons.
-use Rattle.std.proofs.Common.{◌≡◌, ◌≢◌, ℕ, zero, suc, ◌+◌, ◌-◌, ◌*◌, ◌/◌, ◌%◌, ◌^◌, ◌<◌, ◌≤◌, eqb, Bool, true, false, not, cond, List, [], ◌∷◌, ◌++◌, All, map, length, take, drop, replicate, get_or, Fits, w8, w64, refl, sym, ap, ap₂, subst, inl, inr, ◌∙◌, append_assoc, pow_mono, shr-shr, arith}
+use Rattle.std.proofs.Common.{◌≡◌, ◌≢◌, ℕ, zero, suc, ◌+◌, ◌-◌, ◌*◌, ◌/◌, ◌%◌, ◌^◌, ◌<◌, ◌≤◌, eqb, Bool, true, false, not, cond, List, [], ◌∷◌, ◌++◌, All, map, length, take, drop, replicate, get_or, Fits, w8, w64, refl, sym, ap, ap₂, subst, inl, inr, ◌∙◌, pow_mono, shr-shr, arith}
 use Rattle.std.proofs.lemmas.Bool.{agree_below, agree_below_at, eqb-true, cases_lt}
-use Rattle.std.proofs.Math.Seq.{take-append_seam}
-use Rattle.std.proofs.lemmas.Simd.{map-map, mask_l-mod, mask_l-lt, put_chunk_is, length-chunk, trailing_mask_l, run_in_chunk_fails, run_in_chunk_stops}
+use Rattle.std.proofs.lemmas.Simd.{map-map, mask_l-mod, mask_l-lt, length-chunk, trailing_mask_l, run_in_chunk_fails, run_in_chunk_stops}
 use Rattle.std.proofs.lemmas.Nat.Bits.{bit_at-trailing_zeros, bit_at_above}
 use lib.Count.{count_trailing_zeros}
 use Rattle.std.specs.List.{prefix_len}
-use Rattle.std.proofs.lemmas.List.{length-map, map-append, drop-map, drop-take, drop-drop}
+use Rattle.std.proofs.lemmas.List.{length-map, drop-map, drop-take, drop-drop}
 use Rattle.std.proofs.lemmas.List.Elements.{All-nil, All-cons, All-head, All-tail}
-use Rattle.std.specs.Simd.Lanes.{Each1, zip2, sel_l, mask_l, put_chunk, chunk, top}
+use Rattle.std.specs.Simd.Lanes.{Each1, zip2, sel_l, mask_l, chunk, top}
 
 -- ---- lane by lane
 
@@ -53,28 +52,16 @@ masked p f v lanes few fits all =
 
 -- ---- masks
 
--- letters behind a chunk of octets
-drop-replicate : (k n c : ℕ) → drop k (replicate n c) ≡ replicate (n - k) c
+-- letters behind some octets
+pub drop-replicate : (k n c : ℕ) → drop k (replicate n c) ≡ replicate (n - k) c
 drop-replicate zero n c = ap (λ m. replicate m c) (let e : n ≡ n - 0 = omega arith in e)
 drop-replicate (suc k) zero c = ap (λ m. replicate m c) (let e : 0 ≡ 0 - suc k = omega arith in e)
 drop-replicate (suc k) (suc n) c = drop-replicate k n c ∙ ap (λ m. replicate m c) (let e : n - k ≡ suc n - suc k = omega arith in e)
 
-mask_l-padded : (p : ℕ → Bool) (xs : List ℕ) (n c : ℕ) → p c ≡ false → mask_l (map p (xs ++ replicate n c)) ≡ mask_l (map p xs)
+pub mask_l-padded : (p : ℕ → Bool) (xs : List ℕ) (n c : ℕ) → p c ≡ false → mask_l (map p (xs ++ replicate n c)) ≡ mask_l (map p xs)
 mask_l-padded p [] zero c other = refl
 mask_l-padded p [] (suc n) c other = rw (other, mask_l-padded p [] n c other) refl
 mask_l-padded p (x ∷ xs) n c other = ap (λ m. cond (p x) 1 0 + 2 * m) (mask_l-padded p xs n c other)
-
-pub mask_l-chunk : (p : ℕ → Bool) (chunk copied : List ℕ) → copied ≡ chunk → p 97 ≡ false → mask_l (map p (copied ++ drop (length chunk) (replicate 32 97))) ≡ mask_l (map p chunk)
-mask_l-chunk p chunk copied is other =
-    ap₂ (λ front pad. mask_l (map p (front ++ pad))) is (drop-replicate (length chunk) 32 97) ∙ mask_l-padded p chunk (32 - length chunk) 97 other
-
--- a vector is stored of which the first lanes are wanted
-pub stored : (f : ℕ → ℕ) (room chunk copied pad lanes : List ℕ) → copied ≡ chunk → lanes ≡ map f (copied ++ pad) → length lanes ≤ length room → take (length chunk) (put_chunk 0 room lanes) ≡ map f chunk
-stored f room chunk copied pad lanes same is fits =
-    let rest = drop (length lanes) room in
-    ap (take (length chunk)) (put_chunk_is 0 room lanes (omega (arith, fits)) ∙ ap (λ x. x ++ rest) (is ∙ ap (λ x. map f (x ++ pad)) same ∙ map-append f chunk pad) ∙ append_assoc (map f chunk) (map f pad) rest)
-    ∙ ap (λ n. take n (map f chunk ++ (map f pad ++ rest))) (sym (length-map chunk f))
-    ∙ take-append_seam (map f chunk) (map f pad ++ rest)
 
 pub mask_l-none : (p : ℕ → Bool) (xs : List ℕ) → All (λ x. p x ≡ false) xs → mask_l (map p xs) ≡ 0
 mask_l-none p [] none = refl
@@ -107,7 +94,7 @@ mask_l-drop (suc n) [] = sym (shr-suc 0 n) ∙ mask_l-drop n [] ∙ ap mask_l (n
 mask_l-drop (suc n) (b ∷ ms) = sym (shr-suc (mask_l (b ∷ ms)) n) ∙ ap (λ m. m / 2 ^ n) (halved b (mask_l ms)) ∙ mask_l-drop n ms
 
 -- a load that begins k later
-chunk_later : (q : List ℕ) (at n k : ℕ) → k ≤ n → drop k (chunk at n q) ≡ chunk (at + k) (n - k) q
+pub chunk_later : (q : List ℕ) (at n k : ℕ) → k ≤ n → drop k (chunk at n q) ≡ chunk (at + k) (n - k) q
 chunk_later q at n k le =
     ap (λ m. drop k (take m (drop at q))) (let e : n ≡ k + (n - k) = omega arith in e) ∙ drop-take k (n - k) (drop at q) ∙ ap (take (n - k)) (drop-drop k at q)
 

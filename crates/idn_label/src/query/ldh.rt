@@ -1,9 +1,9 @@
 //! Names of letters, digits and hyphens of ASCII (LDH, RFC 5890 section 2.3.1). Most names are such, and their lookup
 //! takes no memory and one pass.
-ghost use Rattle.std.specs.Prelude.{◌≡◌, ◌≢◌, ◌≤◌, ◌-◌, ◌↔◌, Bool, not, true, length, map, take, All, Err, IfOk, IfSome, IsSome};
+ghost use Rattle.std.specs.Prelude.{◌≡◌, ◌≢◌, ◌≤◌, ◌+◌, ◌-◌, ◌++◌, ◌↔◌, Bool, not, true, length, map, take, replicate, slice_range, All, Err, IfOk, IfSome, IsSome};
 ghost use Rattle.std.specs.Char.{to_ascii_lowercase};
 ghost use Rattle.std.specs.Int.{is_in_range};
-ghost use Rattle.std.specs.Simd.Lanes.{mask_l};
+ghost use Rattle.std.specs.Simd.Lanes.{chunk, mask_l};
 ghost use Rattle.idna.specs.Labels.{is_full_stop};
 ghost use Rattle.idn_label.specs.Answers.{Gives};
 ghost use Rattle.idn_label.specs.Lookup.{utf8_answer};
@@ -18,8 +18,8 @@ use std::simd::prelude::*;
 /// The most octets of a name in the DNS, with a full stop at its end (RFC 1035 section 2.3.4).
 pub(crate) const MAX_QUERY_LEN: usize = 254;
 
-/// The most octets of a name that are read at once.
-const CHUNK_LEN: usize = 32;
+/// How many octets of a name are read at once.
+const CHUNK_LEN: usize = 16;
 
 /// Writes into `room` what `lookup_utf8` answers of such a name, the name in lower case, and returns its length; or
 /// `LookupLength`. `None` says nothing of the name, and another way then gives the answer: an octet is no ASCII letter,
@@ -42,7 +42,7 @@ pub(crate) fn ldh_query(name: &[u8], room: &mut [u8]) -> Option<Result<usize, Re
     'chunks: while at < name.len() {
         let end = name.len().min(at + CHUNK_LEN);
         // A bit for each octet from `at` on: whether it is a full stop.
-        let mut stops = lowercase_chunk(&name[at..end], &mut room[at..])?;
+        let mut stops = lowercase_chunk(name, at, end, room)?;
         'labels: while stops != 0 {
             let count = stops.trailing_zeros() as usize;
             let stop = at + count;
@@ -66,47 +66,63 @@ pub(crate) fn ldh_query(name: &[u8], room: &mut [u8]) -> Option<Result<usize, Re
     }
 }
 
-/// Writes at most 32 octets into the beginning of `room` in lower case, and tells the full stops among them by a bit each;
-/// or `None`, where one is no ASCII letter, digit, hyphen or full stop. What stood in `room` behind them may be lost.
+/// Writes the octets of a name from `at` to `end`, at most 16, in lower case into the same places of `room`, where those
+/// before them stand, and tells the full stops among them by a bit each; or `None`, where one is no ASCII letter, digit,
+/// hyphen or full stop. What stood in `room` behind them may be lost.
 #[inline(always)]
-fn lowercase_chunk(chunk: &[u8], room: &mut [u8]) -> Option<u64>
-    requires few { length chunk.now ≤ 32 }
-    requires room { length chunk.now ≤ length room.old }
-    ensures lower { IfSome result (λ _. take (length chunk.now) room.new ≡ map to_ascii_lowercase chunk.now) }
-    ensures stops { IfSome result (λ stops. stops ≡ mask_l (map is_full_stop (map to_ascii_lowercase chunk.now))) }
-    ensures points { IsSome result ↔ All (λ c. is_name_point (to_ascii_lowercase c) ≡ true) chunk.now }
+fn lowercase_chunk(name: &[u8], at: usize, end: usize, room: &mut [u8]) -> Option<u64>
+    requires order { at ≤ end }
+    requires within { end ≤ length name.now }
+    requires few { end ≤ at + 16 }
+    requires room { length name.now ≤ length room.old }
+    requires wide { 16 ≤ length room.old }
+    requires begun { take at room.old ≡ take at (map to_ascii_lowercase name.now) }
+    requires points { All (λ c. is_name_point (to_ascii_lowercase c) ≡ true) (take at name.now) }
+    ensures lower { IfSome result (λ _. take end room.new ≡ take end (map to_ascii_lowercase name.now)) }
+    ensures stops { IfSome result (λ stops. stops ≡ mask_l (map is_full_stop (chunk at (end - at) (map to_ascii_lowercase name.now)))) }
+    ensures points { IsSome result ↔ All (λ c. is_name_point (to_ascii_lowercase c) ≡ true) (take end name.now) }
     ensures length { length room.new ≡ length room.old }
 {
-    // Letters behind a short chunk change nothing.
-    let mut octets = [b'a'; CHUNK_LEN];
-    octets[..chunk.len()].copy_from_slice(chunk);
-    let (lower, stops, others) = lowercase_lanes(u8x32::from_array(octets));
+    let (lower, stops, others) = lowercase_lanes(lanes_before(name, end));
     if others != 0 {
         return None;
     }
-    if room.len() >= CHUNK_LEN {
-        lower.copy_to_slice(room);
-    } else {
-        room[..chunk.len()].copy_from_slice(&lower.to_array()[..chunk.len()]);
+    let start = end.saturating_sub(CHUNK_LEN);
+    lower.copy_to_slice(&mut room[start..]);
+    // Octets before `at` were told by an earlier chunk.
+    Some(stops >> (at - start))
+}
+
+/// The 16 octets of a name before `end`. Where there are fewer, letters stand behind them: a name of 16 octets and more is
+/// read where it lies, without a copy.
+#[inline(always)]
+fn lanes_before(name: &[u8], end: usize) -> u8x16
+    requires { end ≤ length name.now }
+    ensures { result ≡ slice_range name.now (end - 16) end ++ replicate (16 - end) 97 }
+{
+    if end >= CHUNK_LEN {
+        return u8x16::from_slice(&name[end - CHUNK_LEN..end]);
     }
-    Some(stops)
+    let mut octets = [b'a'; CHUNK_LEN];
+    octets[..end].copy_from_slice(&name[..end]);
+    u8x16::from_array(octets)
 }
 
 /// Octets in lower case, and by a bit each the full stops among them, and those that are no ASCII letters, digits, hyphens
 /// or full stops.
 #[inline(always)]
-fn lowercase_lanes(octets: u8x32) -> (u8x32, u64, u64)
+fn lowercase_lanes(octets: u8x16) -> (u8x16, u64, u64)
     ensures lower { result.0 ≡ map to_ascii_lowercase octets }
     ensures stops { result.1 ≡ mask_l (map is_full_stop (map to_ascii_lowercase octets)) }
     ensures others { result.2 ≡ mask_l (map (λ c. not (is_name_point (to_ascii_lowercase c))) octets) }
 {
-    let with_bit = octets | u8x32::splat(0x20);
-    let are_no_letters = (with_bit - u8x32::splat(b'a')).simd_ge(u8x32::splat(26));
+    let with_bit = octets | u8x16::splat(0x20);
+    let are_no_letters = (with_bit - u8x16::splat(b'a')).simd_ge(u8x16::splat(26));
     let lower = are_no_letters.select(octets, with_bit);
     // From the hyphen to the nine lie the full stop, the slash and the digits.
-    let are_others = (octets - u8x32::splat(b'-')).simd_ge(u8x32::splat(13))
-        | octets.simd_eq(u8x32::splat(b'/'));
-    let stops = lower.simd_eq(u8x32::splat(b'.'));
+    let are_others = (octets - u8x16::splat(b'-')).simd_ge(u8x16::splat(13))
+        | octets.simd_eq(u8x16::splat(b'/'));
+    let stops = lower.simd_eq(u8x16::splat(b'.'));
     (
         lower,
         stops.to_bitmask(),

@@ -1,15 +1,12 @@
-use Rattle.std.proofs.Common.{◌≡◌, ℕ, suc, Bool, List, [], ◌∷◌, ◌≢◌, ◌+◌, ◌-◌, min, true, false, ◌<◌, ◌≤◌, ◌++◌, map, length, take, drop, take_all, slice_range, get_or, All, Ok, Err, refl, sym, ap, ap₂, subst, ◌∙◌, inl, inr, length-take, length-drop, arith}
+use Rattle.std.proofs.Common.{◌≡◌, ℕ, Bool, List, ◌≢◌, ◌+◌, ◌-◌, min, true, false, ◌<◌, ◌≤◌, map, length, take, drop, take_all, slice_range, get_or, All, Ok, Err, refl, sym, ap, subst, ◌∙◌, inl, inr, length-take, arith}
 use Rattle.std.specs.Char.{to_ascii_lowercase}
 use Rattle.std.specs.Simd.Lanes.{chunk, mask_l}
 use Rattle.std.proofs.Math.Bool.{and-false}
-use Rattle.std.proofs.Math.Seq.{take-add}
 use Rattle.std.proofs.lemmas.Bool.{cases_lt, cond-true, cond-false}
-use Rattle.std.proofs.lemmas.List.{length-map, length-take-le, take-map, take-take, drop-map, drop-take}
-use Rattle.std.proofs.lemmas.List.Elements.{All-nil, All-append}
+use Rattle.std.proofs.lemmas.List.{length-map, take-take, drop-take}
+use Rattle.std.proofs.lemmas.List.Elements.{All-nil}
 use Rattle.std.proofs.lemmas.Simd.{none_from_empty_mask}
-use Rattle.std.proofs.lemmas.Slice.{take-put_mid}
 use lib.Count.{count_trailing_zeros}
-use borrow.Rule.Slice.PartMut.{put_mid, same_len_mid}
 use Rattle.idna.specs.Labels.{is_full_stop}
 use Rattle.idna.specs.Validity.{has_ace_prefix}
 use Rattle.idna.specs.Uts46.{verify_dns_length}
@@ -17,7 +14,7 @@ use Rattle.idn_text.specs.declared.refusal.Refusal.TheVariants.{LookupLength}
 use Rattle.idn_label.specs.Lookup.{deny_list}
 use Rattle.idn_label.specs.LdhNames.{is_name_point, may_end}
 use Rattle.idn_label.proofs.LaneLemmas.{IsNext, next_lane}
-use Rattle.idn_label.proofs.LdhLabels.{IsSplit, split_nothing, split_free, split_measured, part_more, label_more, stop_more, part_prefix}
+use Rattle.idn_label.proofs.LdhLabels.{IsSplit, split_nothing, split_free, split_measured, label_more, stop_more, part_prefix}
 use Rattle.idn_label.proofs.LdhNames.{to_ascii-lowercase_name}
 use Rattle.idn_label.proofs.LookupLemmas.{Gives-measured}
 use Rattle.idn_label.proofs.query.ldh.ldh_query.Goals as goal
@@ -25,27 +22,6 @@ use Rattle.idn_label.proofs.query.ldh.ldh_query.Goals.{else-have_lengths-via-the
 
 abbrev lowered : List ℕ → List ℕ
 lowered name = map to_ascii_lowercase name
-
-lowered_part : (name : List ℕ) (at end : ℕ) → lowered (slice_range name at end) ≡ chunk at (end - at) (lowered name)
-lowered_part name at end = sym (take-map to_ascii_lowercase (end - at) (drop at name)) ∙ ap (take (end - at)) (sym (drop-map to_ascii_lowercase at name))
-
-take-behind : (xs ys : List ℕ) (n : ℕ) → take (length xs + n) (xs ++ ys) ≡ xs ++ take n ys
-take-behind [] ys n = ap (λ m. take m ys) (let e : 0 + n ≡ n = omega arith in e)
-take-behind (x ∷ xs) ys n = ap (λ m. take m (x ∷ xs ++ ys)) (let e : length (x ∷ xs) + n ≡ suc (length xs + n) = omega arith in e) ∙ ap (λ l. x ∷ l) (take-behind xs ys n)
-
--- a chunk more in the room
-room_more : (room name part : List ℕ) (at end : ℕ) → at ≤ end → end ≤ length name → length name ≤ length room → length part ≡ length (take (length room - at) (drop at room)) → take at room ≡ take at (lowered name) → take (length (slice_range name at end)) part ≡ lowered (slice_range name at end) → take end (put_mid at (length room - at) room part) ≡ take end (lowered name)
-room_more room name part at end order within fits same front chunk =
-    let n = end - at in
-    let count : length (slice_range name at end) ≡ n = omega (arith, length-take n (drop at name), length-drop at name) in
-    let before : length (take at room) ≡ at = length-take-le at room (omega arith) in
-    sym (take-take end (length room) (put_mid at (length room - at) room part) (omega arith))
-    ∙ ap (take end) (take-put_mid at (length room - at) room part (length room) (let long : length room ≡ at + length part = omega (arith, length-take (length room - at) (drop at room), length-drop at room) in long) (omega arith))
-    ∙ ap (λ m. take m (take at room ++ part)) (let sum : end ≡ length (take at room) + n = omega arith in sum)
-    ∙ take-behind (take at room) part n
-    ∙ ap₂ (λ a b. a ++ b) front (ap (λ m. take m part) (sym count) ∙ chunk ∙ lowered_part name at end)
-    ∙ sym (take-add at n (lowered name))
-    ∙ ap (λ m. take m (lowered name)) (let e : at + n ≡ end = omega arith in e)
 
 -- a part of the room is that of the name
 same_part : (room q : List ℕ) (start stop end : ℕ) → start ≤ stop → stop ≤ end → take end room ≡ take end q → slice_range room start stop ≡ slice_range q start stop
@@ -58,7 +34,7 @@ plain_more : (q : List ℕ) (start at end : ℕ) → ((k : ℕ) → start ≤ k 
 plain_more q start at end first second k from to = elim (cases_lt k at) [ inl early ↦ first k from early | inr late ↦ second k late to ]
 
 -- the next full stop of a chunk that begins at `from`
-next_stop : (name : List ℕ) (from at end stops : ℕ) → end ≡ min (length name) (from + 32) → from ≤ at → at ≤ end → stops ≡ mask_l (map is_full_stop (chunk at (end - at) (lowered name))) → stops ≢ 0 → IsNext is_full_stop (lowered name) at (end - at) stops (count_trailing_zeros 64 stops)
+next_stop : (name : List ℕ) (from at end stops : ℕ) → end ≡ min (length name) (from + 16) → from ≤ at → at ≤ end → stops ≡ mask_l (map is_full_stop (chunk at (end - at) (lowered name))) → stops ≢ 0 → IsNext is_full_stop (lowered name) at (end - at) stops (count_trailing_zeros 64 stops)
 next_stop name from at end stops is later order rest some =
     next_lane is_full_stop (lowered name) at (end - at) stops (omega (arith, length-map name to_ascii_lowercase)) (omega arith) rest some
 
@@ -76,7 +52,7 @@ pub labels-init : goal.labels-init
 labels-init c = record {
   labels = c.chunks.invariant.labels;
   without_stops = c.chunks.invariant.without_stops;
-  stops = c.in_ok-stops.ensures.stops ∙ ap (λ x. mask_l (map is_full_stop x)) (lowered_part c.args.name.now c.chunks.at c.min-end.result);
+  stops = c.in_ok-stops.ensures.stops;
   within = (c.chunks.invariant.within.0, omega (arith, c.min-end.ensures, c.chunks-test.true), omega arith);
 }
 
@@ -84,8 +60,7 @@ pub slice_bounds-has_ace_prefix-end : goal.slice_bounds-has_ace_prefix-end
 slice_bounds-has_ace_prefix-end c =
     let name = c.args.name.now in
     let end = c.min-end.result in
-    let fits : length name ≤ length c.chunks.room = omega (arith, c.requires, c.chunks.invariant.room, c.if-name-gt-MAX_QUERY_LEN.false) in
-    let whole = room_more c.chunks.room name c.lowercase_chunk.new.room c.chunks.at end (omega (arith, c.labels.invariant.within)) (omega (arith, c.min-end.ensures)) fits c.in_ok-stops.ensures.length c.chunks.invariant.lower c.in_ok-stops.ensures.lower in
+    let whole = c.in_ok-stops.ensures.lower in
     let next = next_stop name c.chunks.at c.labels.at end c.labels.stops c.min-end.ensures c.labels.invariant.within.2 c.labels.invariant.within.1 c.labels.invariant.stops c.labels-test.true in
     omega (arith, next.0, ap length whole, length-take end (lowered name), length-map name to_ascii_lowercase, c.min-end.ensures)
 
@@ -93,8 +68,7 @@ pub returns-then-has_ace_prefix-clause-told : goal.returns-then-has_ace_prefix-c
 returns-then-has_ace_prefix-clause-told c ldh =
     let name = c.args.name.now in
     let end = c.min-end.result in
-    let fits : length name ≤ length c.chunks.room = omega (arith, c.requires, c.chunks.invariant.room, c.if-name-gt-MAX_QUERY_LEN.false) in
-    let whole = room_more c.chunks.room name c.lowercase_chunk.new.room c.chunks.at end (omega (arith, c.labels.invariant.within)) (omega (arith, c.min-end.ensures)) fits c.in_ok-stops.ensures.length c.chunks.invariant.lower c.in_ok-stops.ensures.lower in
+    let whole = c.in_ok-stops.ensures.lower in
     let next = next_stop name c.chunks.at c.labels.at end c.labels.stops c.min-end.ensures c.labels.invariant.within.2 c.labels.invariant.within.1 c.labels.invariant.stops c.labels-test.true in
     let start = c.labels.start in
     let stop = c.labels.at + count_trailing_zeros 64 c.labels.stops in
@@ -113,8 +87,7 @@ pub labels-preserved : goal.labels-preserved
 labels-preserved c =
     let name = c.args.name.now in
     let end = c.min-end.result in
-    let fits : length name ≤ length c.chunks.room = omega (arith, c.requires, c.chunks.invariant.room, c.if-name-gt-MAX_QUERY_LEN.false) in
-    let whole = room_more c.chunks.room name c.lowercase_chunk.new.room c.chunks.at end (omega (arith, c.labels.invariant.within)) (omega (arith, c.min-end.ensures)) fits c.in_ok-stops.ensures.length c.chunks.invariant.lower c.in_ok-stops.ensures.lower in
+    let whole = c.in_ok-stops.ensures.lower in
     let next = next_stop name c.chunks.at c.labels.at end c.labels.stops c.min-end.ensures c.labels.invariant.within.2 c.labels.invariant.within.1 c.labels.invariant.stops c.labels-test.true in
     let start = c.labels.start in
     let count = count_trailing_zeros 64 c.labels.stops in
@@ -133,14 +106,13 @@ chunks-preserved c =
     let end = c.min-end.result in
     let at = c.chunks.at in
     record {
-      lower = room_more c.chunks.room name c.lowercase_chunk.new.room at end (omega (arith, c.labels.invariant.within)) (omega (arith, c.min-end.ensures)) (omega (arith, c.requires, c.chunks.invariant.room, c.if-name-gt-MAX_QUERY_LEN.false)) c.in_ok-stops.ensures.length c.chunks.invariant.lower c.in_ok-stops.ensures.lower;
-      points = subst (All (λ c. is_name_point (to_ascii_lowercase c) ≡ true)) (part_more name at end (omega (arith, c.labels.invariant.within)))
-          (All-append (λ c. is_name_point (to_ascii_lowercase c) ≡ true) (take at name) (slice_range name at end) c.chunks.invariant.points (c.in_ok-stops.ensures.points.0 refl));
+      lower = c.in_ok-stops.ensures.lower;
+      points = c.in_ok-stops.ensures.points.0 refl;
       labels = c.labels.invariant.labels;
       without_stops = plain_more (lowered name) c.labels.start c.labels.at end c.labels.invariant.without_stops
           (λ k from to. none_from_empty_mask is_full_stop (lowered name) c.labels.at (end - c.labels.at) 0 (omega (arith, length-map name to_ascii_lowercase, c.min-end.ensures, c.labels.invariant.within)) (sym c.labels.invariant.stops ∙ c.labels-test.false) k from (omega (arith, c.labels.invariant.within)));
       within = (omega (arith, c.labels.invariant.within), omega (arith, c.min-end.ensures));
-      room = same_len_mid at (length c.chunks.room - at) c.chunks.room c.lowercase_chunk.new.room c.in_ok-stops.ensures.length ∙ c.chunks.invariant.room;
+      room = c.in_ok-stops.ensures.length ∙ c.chunks.invariant.room;
     }
 
 pub returns-then-has_ace_prefix-2-clause-told : goal.returns-then-has_ace_prefix-2-clause-told

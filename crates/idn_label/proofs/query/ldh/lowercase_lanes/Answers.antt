@@ -11,8 +11,8 @@ pub returns-clause-lower : goal.returns-clause-lower
 returns-clause-lower c =
     let v = c.args.octets in
     let long = c.fits-octets.0 in
-    let with_bit = zip2_splat {Y = ℕ} _ v 32 32 long in
-    chosen _ _ _ v (joined (λ a b. cond (leb a b) 255 0) _ _ v (splat_is v 32 26 long) (joined _ _ _ v with_bit (splat_is v 32 97 long))) (itself v) with_bit
+    let with_bit = zip2_splat {Y = ℕ} _ v 16 32 long in
+    chosen _ _ _ v (joined (λ a b. cond (leb a b) 255 0) _ _ v (splat_is v 16 26 long) (joined _ _ _ v with_bit (splat_is v 16 97 long))) (itself v) with_bit
     ∙ same_lanes _ to_ascii_lowercase v c.fits-octets.1 refl
 
 pub returns-clause-stops : goal.returns-clause-stops
@@ -20,18 +20,18 @@ returns-clause-stops c =
     let v = c.args.octets in
     let long = c.fits-octets.0 in
     masked (λ x. is_full_stop (to_ascii_lowercase x)) _ v
-    (joined (λ a b. cond (eqb a b) 255 0) to_ascii_lowercase _ v (returns-clause-lower c) (splat_is v 32 46 long)) (omega (arith, long)) c.fits-octets.1 refl
+    (joined (λ a b. cond (eqb a b) 255 0) to_ascii_lowercase _ v (returns-clause-lower c) (splat_is v 16 46 long)) (omega (arith, long)) c.fits-octets.1 refl
     ∙ ap mask_l (sym (map-map is_full_stop to_ascii_lowercase v))
 
 pub returns-clause-others : goal.returns-clause-others
 returns-clause-others c =
     let v = c.args.octets in
     let long = c.fits-octets.0 in
-    let with_bit = zip2_splat {Y = ℕ} _ v 32 32 long in
+    let with_bit = zip2_splat {Y = ℕ} _ v 16 32 long in
     masked (λ c. not (is_name_point (to_ascii_lowercase c))) _ v
     (joined bit_and _ _ v
-    (joined (λ a b. cond (leb a b) 255 0) _ _ v (splat_is v 32 26 long) (joined _ _ _ v with_bit (splat_is v 32 97 long)))
+    (joined (λ a b. cond (leb a b) 255 0) _ _ v (splat_is v 16 26 long) (joined _ _ _ v with_bit (splat_is v 16 97 long)))
     (joined bit_or _ _ v
-    (joined (λ a b. cond (leb a b) 255 0) _ _ v (splat_is v 32 13 long) (zip2_splat {Y = ℕ} _ v 32 45 long))
-    (zip2_splat {Y = ℕ} _ v 32 47 long)))
+    (joined (λ a b. cond (leb a b) 255 0) _ _ v (splat_is v 16 13 long) (zip2_splat {Y = ℕ} _ v 16 45 long))
+    (zip2_splat {Y = ℕ} _ v 16 47 long)))
     (omega (arith, long)) c.fits-octets.1 refl
