@@ -2,6 +2,7 @@ ghost use Rattle.std.specs.Prelude.{◌≡◌, ◌<◌, ◌≤◌};
 ghost use Rattle.unicode.specs.GeneralCategory.{general_category};
 ghost use Rattle.unicode.specs.Script.{script};
 
+use crate::facts::END;
 use unicode::properties::{GeneralCategory, Script};
 
 /// General_Category of a number, also of one that is no character.
@@ -10,7 +11,7 @@ pub(crate) fn category_of(c: u32) -> GeneralCategory
 {
     match char::from_u32(c) {
         Some(c) => GeneralCategory::for_char(c),
-        None if c < 0x11_0000 => GeneralCategory::Surrogate,
+        None if c < END => GeneralCategory::Surrogate,
         None => GeneralCategory::Unassigned,
     }
 }

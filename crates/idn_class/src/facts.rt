@@ -54,7 +54,7 @@ pub struct Facts {
 const ALL: u32 = 0x7F;
 
 /// One past the last code point.
-const END: u32 = 0x11_0000;
+pub(crate) const END: u32 = 0x11_0000;
 
 impl Facts {
     /// No fact.

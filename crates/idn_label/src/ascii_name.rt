@@ -14,7 +14,7 @@ ghost use Rattle.idn_label.specs.Steps.{appended, in_utf8};
 use crate::u_label::u_label_in_any_case;
 use crate::unit::{has_ace_prefix_in_any_case, split_first_label};
 use arrayvec::ArrayVec;
-use idn_text::{Refusal, push_points};
+use idn_text::{MAX_LINE_LEN, Refusal, push_points};
 use std::alloc::Global;
 
 /// Appends the UTF-8 of what `decode_name` makes of a name in ASCII. A name without A-labels takes no memory, nor does an
@@ -27,7 +27,7 @@ pub fn decode_ascii<const N: usize>(
     text: &mut ArrayVec<u8, N>,
 ) -> Result<(), Refusal>
     requires ascii { IsAscii name.now }
-    requires short { length name.now ≤ 1024 }
+    requires short { length name.now ≤ MAX_LINE_LEN }
     requires room { array_vec_len text.old + 4 * length name.now ≤ N }
     ensures answer { Gives (λ _. text.new.items) result (appended text.old.items (in_utf8 (decode_answer name.now))) }
     ensures grown { array_vec_len text.new ≤ array_vec_len text.old + 4 * length name.now }
@@ -52,7 +52,7 @@ fn decode_label<const N: usize>(
     text: &mut ArrayVec<u8, N>,
 ) -> Result<(), Refusal>
     requires ascii { IsAscii label.now }
-    requires short { length label.now ≤ 1024 }
+    requires short { length label.now ≤ MAX_LINE_LEN }
     requires room { array_vec_len text.old + 4 * length label.now ≤ N }
     ensures answer { Gives (λ _. text.new.items) result (appended text.old.items (in_utf8 (decoded_label label.now))) }
     ensures grown { array_vec_len text.new ≤ array_vec_len text.old + 4 * length label.now }

@@ -4,6 +4,7 @@ ghost use Rattle.std.specs.Prelude.{◌≡◌, ◌≤◌, ◌+◌, ◌*◌, ◌%
 ghost use Rattle.arrayvec.specs.ArrayVec.{array_vec_len};
 ghost use Rattle.idn_text.specs.Points.{AreScalarValues, IsScalarValue, IsUtf8Of, utf8_of};
 
+use crate::body::MAX_LINE_LEN;
 use crate::character::character_at;
 use arrayvec::ArrayVec;
 
@@ -13,8 +14,8 @@ pub struct NotUtf8;
 
 /// Leaves in `points` the scalar values whose UTF-8 (RFC 3629) these bytes, at most 1,024, are, in
 /// place of what stood there, and none where the bytes are no UTF-8.
-pub fn decode_points(bytes: &[u8], points: &mut ArrayVec<u32, 1024>) -> Result<(), NotUtf8>
-    requires { length bytes.now ≤ 1024 }
+pub fn decode_points(bytes: &[u8], points: &mut ArrayVec<u32, MAX_LINE_LEN>) -> Result<(), NotUtf8>
+    requires { length bytes.now ≤ MAX_LINE_LEN }
     ensures decoded { OnOk result (IsUtf8Of bytes.now points.new.items) }
     ensures refused { OnErr result ((list : List ℕ) → ¬ (IsUtf8Of bytes.now list)) }
     ensures emptied { OnErr result (points.new.items ≡ []) }
@@ -35,7 +36,7 @@ pub fn decode_points(bytes: &[u8], points: &mut ArrayVec<u32, 1024>) -> Result<(
 /// Leaves in `utf8` the UTF-8 (RFC 3629) of at most 1,024 code points, each a scalar value, in place
 /// of what stood there.
 pub fn write_points(points: &[u32], utf8: &mut ArrayVec<u8, 4096>)
-    requires few { length points.now ≤ 1024 }
+    requires few { length points.now ≤ MAX_LINE_LEN }
     requires scalar_values { AreScalarValues points.now }
     ensures { utf8.new.items ≡ utf8_of points.now }
 {

@@ -18,7 +18,7 @@ use crate::session::console::Console;
 use crate::session::stop::Stop;
 use arrayvec::ArrayVec;
 use idn_label::{decode_ascii, decode_name};
-use idn_text::{Refusal, Sink};
+use idn_text::{MAX_LINE_LEN, Refusal, Sink};
 use std::alloc::{AllocError, Global};
 
 /// Decoding (RFC 5891 section 5.3).
@@ -60,7 +60,7 @@ fn fill_line(
     line: &mut ArrayVec<u8, MAX_ANSWER_LEN>,
 ) -> Result<(), Refusal>
     requires ascii { IsAscii name.now }
-    requires short { length name.now ≤ 1024 }
+    requires short { length name.now ≤ MAX_LINE_LEN }
     ensures answer { Gives (λ _. line.new.items) result (with_feed (in_utf8 (decode_answer name.now))) }
     ensures no_memory { All DecodesWithoutMemory (labels_of name.now) → result ≢ Err Refusal.Memory }
 {
@@ -89,7 +89,7 @@ impl PointAnswering for Decode {
 
 /// The line of a name with U-labels in place of its A-labels.
 fn line_of(alloc: Global, name: &[u32]) -> Result<String, Refusal>
-    requires few { length name.now ≤ 1024 }
+    requires few { length name.now ≤ MAX_LINE_LEN }
     requires scalar_values { AreScalarValues name.now }
     ensures { Gives string_bytes result (with_feed (in_utf8 (decode_answer name.now))) }
 {

@@ -4,9 +4,10 @@ ghost use Rattle.std.specs.Prelude.{◌≡◌, ◌≤◌, ◌+◌, ◌++◌, [],
 ghost use Rattle.arrayvec.specs.ArrayVec.{array_vec_len};
 
 use arrayvec::ArrayVec;
+use idn_text::MAX_LINE_LEN;
 
 /// The most octets of an answer: four for each of 1,024 code points, and a line feed.
-pub(crate) const MAX_ANSWER_LEN: usize = 4 * 1024 + 1;
+pub(crate) const MAX_ANSWER_LEN: usize = 4 * MAX_LINE_LEN + 1;
 
 /// The most octets of the answer of lookup: 254, and a line feed.
 const MAX_QUERY_LINE_LEN: usize = 255;
@@ -15,7 +16,7 @@ const MAX_QUERY_LINE_LEN: usize = 255;
 #[derive(Drop)]
 pub(crate) struct Buffers {
     /// The code points of a line.
-    pub points: ArrayVec<u32, 1024>,
+    pub points: ArrayVec<u32, MAX_LINE_LEN>,
     /// The answer of decoding in UTF-8, and a line feed.
     pub answer: ArrayVec<u8, MAX_ANSWER_LEN>,
     /// The answer of lookup, and a line feed.
