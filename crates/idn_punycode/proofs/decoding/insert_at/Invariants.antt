@@ -1,7 +1,12 @@
-use Rattle.std.proofs.Common.{◌≡◌, ◌∷◌, ◌++◌, length, take, drop, insert}
+use Rattle.std.proofs.Common.{◌≡◌, ℕ, ◌+◌, ◌-◌, ◌*◌, ◌/◌, ◌<◌, ◌≤◌, length, get_or}
 use Rattle.idn_punycode.proofs.decoding.insert_at.Given as goal
 
--- the label with the code point that is carried between its parts
-abbrev pub invariant-loop-at : goal.invariant-loop-at
-invariant-loop-at l =
-    (take l.at l.label ++ l.carried ∷ drop l.at l.label ≡ insert l.fn.label l.place l.code_point) × (length l.label ≡ length l.fn.label)
+-- the blocks that are left stand where they stood, and those behind them one place further up
+abbrev pub invariant-loop-blocks : goal.invariant-loop-blocks
+invariant-loop-blocks l =
+    (length l.points ≡ length l.fn.points) × (l.blocks ≤ (l.len - l.place) / 8 + 1)
+    × ((k : ℕ) → k ≤ l.place + 8 * l.blocks → get_or l.points k 0 ≡ get_or l.fn.points k 0)
+    × ((k : ℕ) → l.place + 8 * l.blocks ≤ k → k < l.place + 8 * ((l.len - l.place) / 8 + 1) → get_or l.points (k + 1) 0 ≡ get_or l.fn.points k 0)
+
+abbrev pub decreases-loop-blocks : goal.decreases-loop-blocks
+decreases-loop-blocks l = l.blocks
