@@ -1,45 +1,13 @@
-use Rattle.std.proofs.Common.{◌≡◌, ℕ, ◌+◌, ◌-◌, ◌*◌, ◌<◌, ◌≤◌, List, length, take, get_or, set, insert, length-take, sym, ap, ◌∙◌, inl, inr, arith}
+use Rattle.std.proofs.Common.{◌≡◌, ℕ, ◌+◌, ◌-◌, ◌<◌, ◌≤◌, List, length, take, get_or, set, insert, length-take, refl, sym, ap, ◌∙◌, inl, inr, arith}
 use Rattle.std.specs.Simd.Lanes.{chunk, put_chunk}
 use Rattle.std.proofs.lemmas.Bool.{cases_lt, cases_order}
 use Rattle.std.proofs.lemmas.Grind.{same_number_lists}
 use Rattle.std.proofs.lemmas.List.{length-set, get_or-set_same, get_or-set_other, get_or-take}
 use Rattle.std.proofs.lemmas.List.Edits.{length-insert, get_or-insert_below, get_or-insert_at, get_or-insert_above}
-use Rattle.std.proofs.lemmas.Simd.{length-chunk, length-put_chunk, get_or-chunk, get_or-put_chunk_below, get_or-put_chunk_at, get_or-put_chunk_above}
+use Rattle.std.proofs.lemmas.Simd.{length-put_chunk, get_or-put_chunk_below}
+use Rattle.idn_punycode.proofs.BlockSteps.{inside, above}
+use Rattle.idn_punycode.proofs.decoding.insert_at.Goals.{then-len-place-gt-BLOCK_LEN, else-len-place-gt-BLOCK_LEN}
 use Rattle.idn_punycode.proofs.decoding.insert_at.Goals as goal
-
--- a block that is stored one place further up
-module _ (points : List ℕ) (at : ℕ) (room : at + 9 ≤ length points) where
-  count : length (chunk at 8 points) ≡ 8
-  count = length-chunk at 8 points (omega (arith, room))
-
-  inside : (k : ℕ) → at ≤ k → k < at + 8 → get_or (put_chunk (at + 1) points (chunk at 8 points)) (k + 1) 0 ≡ get_or points k 0
-  inside k le lt =
-      let up : k + 1 ≡ at + 1 + (k - at) = omega arith in
-      let here : at + (k - at) ≡ k = omega arith in
-      ap (λ i. get_or (put_chunk (at + 1) points (chunk at 8 points)) i 0) up
-      ∙ get_or-put_chunk_at (at + 1) points (chunk at 8 points) (k - at) 0 (omega (arith, count)) (omega (arith, count, room))
-      ∙ get_or-chunk at 8 points (k - at) 0 (omega arith)
-      ∙ ap (λ i. get_or points i 0) here
-
-  above : (k : ℕ) → at + 8 ≤ k → get_or (put_chunk (at + 1) points (chunk at 8 points)) (k + 1) 0 ≡ get_or points (k + 1) 0
-  above k le = get_or-put_chunk_above (at + 1) points (chunk at 8 points) (k + 1) 0 (omega (arith, count))
-
-pub loop-blocks-preserved : goal.loop-blocks-preserved
-loop-blocks-preserved c =
-    let points = c.loop-blocks.points in
-    let place = c.args.place in
-    let blocks = c.loop-blocks.blocks in
-    let at = place + (blocks - 1) * 8 in
-    let i = c.loop-blocks.invariant in
-    let room : at + 9 ≤ length points = omega (arith, i.0, i.1, c.requires.within, c.requires.room, c.loop-blocks-test.true) in (
-      length-put_chunk (at + 1) points (chunk at 8 points) ∙ i.0,
-      omega (arith, i.1),
-      λ k le. get_or-put_chunk_below (at + 1) points (chunk at 8 points) k 0 (omega (arith, le)) ∙ i.2 k (omega (arith, le)),
-      λ k le lt. elim (cases_lt k (at + 8)) [
-        | inl near ↦ inside points at room k (omega (arith, le)) near ∙ i.2 k (omega (arith, near, c.loop-blocks-test.true))
-        | inr far ↦ above points at room k far ∙ i.3 k (omega (arith, far, c.loop-blocks-test.true)) lt
-      ],
-    )
 
 -- the code points from the place on stand one place further up, and the place is written
 module _ (points old : List ℕ) (len place code_point : ℕ) (same : length points ≡ length old) (room : len + 9 ≤ length old) (within : place ≤ len)
@@ -79,10 +47,34 @@ module _ (points old : List ℕ) (len place code_point : ℕ) (same : length poi
       same_number_lists _ _ (omega (arith, written, long, other, front, same, room))
       (λ k lt. get_or-take (len + 1) (set points place code_point) k 0 (omega (arith, lt, written)) ∙ at k (omega (arith, lt, written)))
 
+-- and a block at the place, where those behind it were moved already
+module _ (points old : List ℕ) (len place code_point : ℕ) (same : length points ≡ length old) (room : len + 9 ≤ length old) (within : place ≤ len)
+    (below : (k : ℕ) → k ≤ place + 8 → get_or points k 0 ≡ get_or old k 0)
+    (far : (k : ℕ) → place + 8 ≤ k → k < len → get_or points (k + 1) 0 ≡ get_or old k 0) where
+  fits : place + 9 ≤ length points
+  fits = omega (arith, same, room, within)
+
+  with_block : take (len + 1) (set (put_chunk (place + 1) points (chunk place 8 points)) place code_point) ≡ insert (take len old) place code_point
+  with_block =
+      inserted (put_chunk (place + 1) points (chunk place 8 points)) old len place code_point
+      (length-put_chunk (place + 1) points (chunk place 8 points) ∙ same) room within
+      (λ k le. get_or-put_chunk_below (place + 1) points (chunk place 8 points) k 0 (omega (arith, le)) ∙ below k (omega (arith, le)))
+      (λ k le lt. elim (cases_lt k (place + 8)) [
+        | inl near ↦ inside points place fits k le near ∙ below k (omega (arith, near))
+        | inr more ↦ above points place fits k more ∙ far k more lt
+      ])
+
 pub returns-clause-inserted : goal.returns-clause-inserted
 returns-clause-inserted c =
-    let i = c.loop-blocks.invariant in
-    let none = c.loop-blocks-test.false in
-    inserted c.loop-blocks.points c.args.points.now c.args.len c.args.place c.args.code_point i.0 c.requires.room c.requires.within
-    (λ k le. i.2 k (omega (arith, le)))
-    (λ k le lt. i.3 k (omega (arith, le, none)) (omega (arith, lt)))
+    let old = c.args.points.now in
+    let place = c.args.place in
+    elim c.if-len-place-gt-BLOCK_LEN.branch [
+      | then-len-place-gt-BLOCK_LEN w ↦
+          let moved = w.move_up.ensures in
+          rw w.points-is
+          (with_block w.move_up.new.points old c.args.len place c.args.code_point moved.length c.requires.room c.requires.within moved.below moved.moved)
+      | else-len-place-gt-BLOCK_LEN w ↦
+          rw w.points-is
+          (with_block old old c.args.len place c.args.code_point refl c.requires.room c.requires.within (λ k le. refl)
+          (λ k le lt. absurd (omega (arith, le, lt, w.if-len-place-gt-BLOCK_LEN.false))))
+    ]
