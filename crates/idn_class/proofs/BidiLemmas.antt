@@ -1,5 +1,5 @@
 -- What the six conditions amount to for a label with a right-to-left class.
-use Rattle.std.proofs.Common.{◌≡◌, ℕ, ◌<◌, Bool, true, false, ◌&&◌, ◌||◌, ◌⊎◌, cond, List, [], ◌∷◌, length, map, Any, Contains, Some, option_map, slice_get, refl, sym, ap, ap₂, subst, ◌∙◌, inl, inr, arith, get_or, IsTrue}
+use Rattle.std.proofs.Common.{◌≡◌, ℕ, ◌<◌, ◌≤◌, Bool, true, false, ◌&&◌, ◌||◌, ◌⊎◌, cond, List, [], ◌∷◌, length, map, Any, Contains, Some, option_map, slice_get, refl, sym, ap, ap₂, subst, ◌∙◌, inl, inr, arith, get_or, IsTrue}
 use Rattle.std.specs.List.{list_any, list_all}
 use Rattle.std.proofs.lemmas.Bool.{cases_lt}
 use Rattle.std.proofs.lemmas.Bool.Decides.{nat_tests}
@@ -143,6 +143,24 @@ is_rtl_class-outside c out =
     ∙ ap (λ r. is_rtl_class (cond bn BN (cond es ES (cond en EN (cond false AN (cond nsm NSM (cond r R (cond (is_arabic_letter c) AL L)))))))) (is_right_to_left-outside c out)
     ∙ ap (λ al. is_rtl_class (cond bn BN (cond es ES (cond en EN (cond false AN (cond nsm NSM (cond false R (cond al AL L)))))))) (is_arabic_letter-outside c out)
     ∙ rtl_class_of bn es en nsm
+
+allowed_of : (bn es en an nsm r al : Bool) → r || al ≡ true → is_allowed_in_rtl (cond bn BN (cond es ES (cond en EN (cond an AN (cond nsm NSM (cond r R (cond al AL L))))))) ≡ true
+allowed_of true es en an nsm r al h = refl
+allowed_of false true en an nsm r al h = refl
+allowed_of false false true an nsm r al h = refl
+allowed_of false false false true nsm r al h = refl
+allowed_of false false false false true r al h = refl
+allowed_of false false false false false true al h = refl
+allowed_of false false false false false false true h = refl
+allowed_of false false false false false false false h = h
+
+rtl_block : (c : ℕ) → 0x590 ≤ c → c ≤ 0x8FF → is_right_to_left c || is_arabic_letter c ≡ true
+unfolding is_right_to_left is_arabic_letter
+rtl_block c from to = grind (arith, nat_tests)
+
+pub is_allowed_in_rtl-inside : (c : ℕ) → 0x590 ≤ c → c ≤ 0x8FF → is_allowed_in_rtl (bidi_class c) ≡ true
+unfolding bidi_class
+is_allowed_in_rtl-inside c from to = allowed_of (is_boundary_neutral c) (is_european_separator c) (is_european_number c) (is_arabic_number c) (is_nonspacing c) (is_right_to_left c) (is_arabic_letter c) (rtl_block c from to)
 
 -- a test of the classes of a label, at each code point
 pub list_any-classes : (label : List ℕ) → list_any is_rtl_class (map bidi_class label) ≡ list_any (λ c. is_rtl_class (bidi_class c)) label

@@ -1,8 +1,8 @@
 use Rattle.std.proofs.Common.{◌≡◌, true, false, ◌↔◌, not, map, refl, sym, ap, ◌∙◌}
 use Rattle.std.proofs.lemmas.Bool.{not-true, true≢false}
-use Rattle.std.proofs.lemmas.List.Folds.{list_any-from_Any}
+use Rattle.std.proofs.lemmas.List.Folds.{list_any-from_Any, list_all-map}
 use Rattle.idn_class.specs.BidiClass.{bidi_class}
-use Rattle.idn_class.specs.BidiRule.{is_rtl_class, PassesBidiRule}
+use Rattle.idn_class.specs.BidiRule.{is_rtl_class, is_allowed_in_rtl, PassesBidiRule}
 use Rattle.idn_class.proofs.BidiLemmas.{list_any-classes, RtlParts_from, SixConditions_from}
 use Rattle.idn_class.proofs.BidiTests.{bidi_ok-unique}
 use Rattle.idn_class.proofs.bidi.bidi_ok.Goals as goal
@@ -22,7 +22,7 @@ returns-then-not-is_rtl c =
 pub returns-then-not-holds_allowed_in_rtl : goal.returns-then-not-holds_allowed_in_rtl
 returns-then-not-holds_allowed_in_rtl c =
     let rule : (false ≡ true) ↔ PassesBidiRule c.args.label.now =
-    (λ no. cc, λ ok. c.if-not-holds_allowed_in_rtl.ensures ∙ (RtlParts_from _ (list_any-classes c.args.label.now ∙ sym c.if-not-has_rtl_class.ensures) ok).all) in
+    (λ no. cc, λ ok. c.if-not-holds_allowed_in_rtl.ensures ∙ sym (list_all-map is_allowed_in_rtl bidi_class c.args.label.now) ∙ (RtlParts_from _ (list_any-classes c.args.label.now ∙ sym c.if-not-has_rtl_class.ensures) ok).all) in
     record { rule = rule; test = bidi_ok-unique _ _ rule }
 
 pub returns-then-not-ends_in_end_of_rtl : goal.returns-then-not-ends_in_end_of_rtl
@@ -36,7 +36,7 @@ returns c =
     let rule : (not c.has_both_numbers.result ≡ true) ↔ PassesBidiRule c.args.label.now = (
       λ unmixed _.
           let numbers = sym c.has_both_numbers.ensures in
-          SixConditions_from _ (c.if-not-is_rtl.ensures.0 refl) (sym c.if-not-holds_allowed_in_rtl.ensures) (c.if-not-ends_in_end_of_rtl.ensures.0 refl) (numbers ∙ not-true _ unmixed),
+          SixConditions_from _ (c.if-not-is_rtl.ensures.0 refl) (list_all-map is_allowed_in_rtl bidi_class c.args.label.now ∙ sym c.if-not-holds_allowed_in_rtl.ensures) (c.if-not-ends_in_end_of_rtl.ensures.0 refl) (numbers ∙ not-true _ unmixed),
       λ ok. ap not (c.has_both_numbers.ensures ∙ (RtlParts_from _ (list_any-classes c.args.label.now ∙ sym c.if-not-has_rtl_class.ensures) ok).digits),
     ) in
     record { rule = rule; test = bidi_ok-unique _ _ rule }
