@@ -151,7 +151,7 @@ fn looks_at_edges_are_counted(rt: HostRuntime) -> Result<(), Fail> {
 fn looks_of_each_step(rt: HostRuntime) -> Result<(), Fail> {
     let net = net(rt.alloc(), SHARP_S, "sss")?;
     let mut cursor = Cursor::new(rt.alloc(), &net, &[])?;
-    for looks in [14, 10, 12, 4] {
+    for looks in [9, 6, 8, 4] {
         let _ = cursor.next_candidate();
         assert_eq!(&rt; cursor.edge_tests(), looks);
     }

@@ -3,18 +3,15 @@ ghost use Rattle.idn_class.specs.Shared.{IsLongestShared};
 
 use crate::beginning::with_hyphens;
 use crate::facts::Facts;
+use crate::kept_label::{KeptLabel, MAX_LABEL_LEN};
 use crate::known::Known;
-use arrayvec::ArrayVec;
 use std::marker::Model;
-
-/// The most code points of a label (RFC 1034, section 3.1).
-const MAX_LABEL_LEN: usize = 63;
 
 /// What is known of each beginning of a label. Where it goes from one label to another, it looks only at the code points
 /// behind those that both share at their start. Contracts see the label.
 #[derive(Drop)]
 pub struct KeptBeginnings {
-    label: ArrayVec<u32, MAX_LABEL_LEN>,
+    label: KeptLabel,
     /// For each place of the label what is known of the beginning that ends there.
     known: [Known; MAX_LABEL_LEN],
 }
@@ -25,9 +22,9 @@ impl Model for KeptBeginnings {
 
     ghost Value = { List ℕ };
 
-    ghost view = { λ kept. kept.label.items };
+    ghost view = { λ kept. kept.label };
 
-    ghost invariant = { λ kept. AreKnown kept.label.items kept.known };
+    ghost invariant = { λ kept. AreKnown kept.label kept.known };
 }
 
 impl KeptBeginnings {
@@ -43,7 +40,7 @@ impl KeptBeginnings {
         ensures { result ≡ [] }
     {
         KeptBeginnings {
-            label: ArrayVec::new(),
+            label: KeptLabel::new(),
             known: [Known::NOTHING; MAX_LABEL_LEN],
         }
     }
@@ -98,7 +95,7 @@ impl KeptBeginnings {
         ensures longest { IsLongestShared self.old label.now (length self.new) }
     {
         let count = shared_len(self.label.as_slice(), label);
-        self.label.truncate(count);
+        self.label.keep(count);
     }
 
     /// Goes on to the end of a label that begins with what is kept, or to the code point that breaks a test for good.

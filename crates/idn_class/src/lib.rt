@@ -16,6 +16,7 @@ mod direction;
 mod facts;
 mod joining_type;
 mod kept_beginnings;
+mod kept_label;
 mod known;
 mod laws;
 mod mark;
@@ -31,6 +32,7 @@ pub use contexto::contexto_ok;
 pub use facts::{Fact, Facts};
 pub use joining_type::JoiningType;
 pub use kept_beginnings::{KeptBeginnings, shared_len};
+pub use kept_label::KeptLabel;
 pub use laws::{
     bidi_rows, class_rows, hopeless_for_good, hopeless_rows, joiner_rows, mark_rows,
     only_rtl_labels_pass, other_rows, tests_are_rules,

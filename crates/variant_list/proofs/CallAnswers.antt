@@ -131,13 +131,13 @@ module _ (hopeless : List ℕ → Bool) where
             omega (arith, ap (λ vs. length (dead_ends hopeless None vs)) below, ap (λ vs. length (dead_ends hopeless None vs)) ends.is, ap length once, ap length (append-nil (dead_ends hopeless None ends.others)))
 
     -- a search for hope that was undone
-    looks-back : (mid new : Position) (met : ℕ) (label : List ℕ) → HasGone hopeless old tries now left → mid.net ≡ now.net → mid.edge_tests ≤ now.edge_tests + 190 * (edges_of_net now * (met + 1)) → met ≤ length (dead_ends hopeless None (candidates_ahead now)) → GoesBack mid label new → new.edge_tests ≤ 256 * (edges_of_net old * ((tries - left) + length (dead_ends_after hopeless old.net.table old.net.label old.last) + 1))
+    looks-back : (mid new : Position) (met : ℕ) (label : List ℕ) → HasGone hopeless old tries now left → mid.net ≡ now.net → mid.edge_tests ≤ now.edge_tests + 126 * (edges_of_net now * (met + 1)) → met ≤ length (dead_ends hopeless None (candidates_ahead now)) → GoesBack mid label new → new.edge_tests ≤ 256 * (edges_of_net old * ((tries - left) + length (dead_ends_after hopeless old.net.table old.net.label old.last) + 1))
     looks-back mid new met label h net more few back =
         let before = length (dead_ends hopeless None h.front) in
         let count = length (filter (has_hope hopeless) h.front) in
         let searches = before + count + (met + 1) in
         let paid = (tries - left) + length (dead_ends_after hopeless old.net.table old.net.label old.last) + 1 in
-        let there : mid.edge_tests ≤ 190 * (edges_of_net old * searches) = looks-sum now.edge_tests mid.edge_tests (edges_of_net old) (before + count) (met + 1) searches h.looks (subst (λ e. mid.edge_tests ≤ now.edge_tests + 190 * (e * (met + 1))) (edges-same now old h.net) more) refl in
+        let there : mid.edge_tests ≤ 126 * (edges_of_net old * searches) = looks-sum now.edge_tests mid.edge_tests (edges_of_net old) (before + count) (met + 1) searches h.looks (subst (λ e. mid.edge_tests ≤ now.edge_tests + 126 * (e * (met + 1))) (edges-same now old h.net) more) refl in
         let all : length (dead_ends_after hopeless old.net.table old.net.label old.last) ≡ before + length (dead_ends hopeless None (candidates_ahead now)) =
         ap (λ vs. length (dead_ends hopeless None vs)) h.whole ∙ ap length (joined hopeless h.front now.last old.last (candidates_ahead now) h.shape) ∙ length-append (dead_ends hopeless None h.front) (dead_ends hopeless None (candidates_ahead now)) in
         let enough : searches ≤ paid = omega (arith, h.counted, all, few) in
@@ -154,7 +154,7 @@ module _ (hopeless : List ℕ → Bool) where
           edge_tests = subst (λ l. now.edge_tests ≤ 256 * (edges_of_net old * ((tries - left) + length (dead_ends_between hopeless old.net.table old.net.label old.last l) + 1))) last (looks-below h);
         }
 
-    HasMovedOver-back : (mid new : Position) (met : ℕ) → HasGone hopeless old tries now left → mid.net ≡ now.net → mid.edge_tests ≤ now.edge_tests + 190 * (edges_of_net now * (met + 1)) → met ≤ length (dead_ends hopeless None (candidates_ahead now)) → GoesBack mid now.last new
+    HasMovedOver-back : (mid new : Position) (met : ℕ) → HasGone hopeless old tries now left → mid.net ≡ now.net → mid.edge_tests ≤ now.edge_tests + 126 * (edges_of_net now * (met + 1)) → met ≤ length (dead_ends hopeless None (candidates_ahead now)) → GoesBack mid now.last new
         → HasMovedOver hopeless (tries - left) (length (dead_ends_after hopeless old.net.table old.net.label old.last)) old new
     HasMovedOver-back mid new met h net more few back = record {
       net = back.net ∙ net ∙ h.net;

@@ -38,7 +38,7 @@ pub record Skips (hopeless : List ℕ → Bool) (old : Position) (top : ℕ) (no
   pub whole : candidates_ahead old ≡ passed ++ outside top now.last (candidates_ahead now)
   pub lost : AllByRecursion (λ v. has_hope hopeless v ≡ false) passed
   pub joins : (ws : List (List ℕ)) → BeginsApart top now.last ws → dead_ends hopeless None (passed ++ ws) ≡ dead_ends hopeless None passed ++ dead_ends hopeless None ws
-  pub looks : now.edge_tests ≤ old.edge_tests + 190 * (edges_of_net old * length (dead_ends hopeless None passed))
+  pub looks : now.edge_tests ≤ old.edge_tests + 126 * (edges_of_net old * length (dead_ends hopeless None passed))
 
 pub Skips-none : (hopeless : List ℕ → Bool) (p : Position) (top : ℕ) → length p.last < top → Skips hopeless p top p
 Skips-none hopeless p top long = record {
@@ -100,7 +100,7 @@ Skips-more hopeless old top now new n h found is =
           ∙ sym (append_assoc (dead_ends hopeless None h.passed) (u ∷ []) (dead_ends hopeless None ws))
           ∙ ap (λ hs. hs ++ dead_ends hopeless None ws) (sym once);
       looks = looks-more now.edge_tests new.edge_tests old.edge_tests (edges_of_net old) (length (dead_ends hopeless None h.passed)) (length (dead_ends hopeless None (h.passed ++ u ∷ inside n u more)))
-          (subst (λ e. new.edge_tests ≤ now.edge_tests + 190 * e) (edges-same now old h.net) found.looks) h.looks
+          (subst (λ e. new.edge_tests ≤ now.edge_tests + 126 * e) (edges-same now old h.net) found.looks) h.looks
           (ap length once ∙ length-append (dead_ends hopeless None h.passed) (u ∷ []));
     }
 
@@ -115,7 +115,7 @@ FindsHope-found hopeless old top now new h found is =
       lost = h.lost;
       hope = ap is_none is;
       looks = looks-more now.edge_tests new.edge_tests old.edge_tests (edges_of_net old) (length (dead_ends hopeless None h.passed)) (length (dead_ends hopeless None h.passed) + 1)
-          (subst (λ e. new.edge_tests ≤ now.edge_tests + 190 * e) (edges-same now old h.net) found.looks) h.looks refl;
+          (subst (λ e. new.edge_tests ≤ now.edge_tests + 126 * e) (edges-same now old h.net) found.looks) h.looks refl;
     }
 
 -- no candidate is left
@@ -126,5 +126,5 @@ FindsNone-unfound hopeless old top now new h found =
       net = found.net ∙ h.net;
       lost = subst (AllByRecursion (λ v. has_hope hopeless v ≡ false)) (sym all) h.lost;
       looks = looks-more now.edge_tests new.edge_tests old.edge_tests (edges_of_net old) (length (dead_ends hopeless None h.passed)) (length (dead_ends hopeless None (candidates_ahead old)) + 1)
-          (subst (λ e. new.edge_tests ≤ now.edge_tests + 190 * e) (edges-same now old h.net) found.looks) h.looks (ap (λ vs. length (dead_ends hopeless None vs) + 1) all);
+          (subst (λ e. new.edge_tests ≤ now.edge_tests + 126 * e) (edges-same now old h.net) found.looks) h.looks (ap (λ vs. length (dead_ends hopeless None vs) + 1) all);
     }

@@ -8,13 +8,13 @@ pub mul-plus : (e x y : ℕ) → e * (x + y) ≡ e * x + e * y
 mul-plus e x y = grind arith
 
 -- the count after one more search, after several, and at the end of a call
-pub looks-more : (a b start e x y : ℕ) → b ≤ a + 190 * e → a ≤ start + 190 * (e * x) → y ≡ x + 1 → b ≤ start + 190 * (e * y)
+pub looks-more : (a b start e x y : ℕ) → b ≤ a + 126 * e → a ≤ start + 126 * (e * x) → y ≡ x + 1 → b ≤ start + 126 * (e * y)
 looks-more a b start e x y more so_far is = let product : e * y ≡ e * x + e = ap (λ n. e * n) is ∙ mul-plus e x 1 ∙ ap (λ n. e * x + n) (one e) in omega (arith, more, so_far, product)
   where
     one : (e : ℕ) → e * 1 ≡ e
     one e = omega arith
 
-pub looks-sum : (a b e x y z : ℕ) → a ≤ 190 * (e * x) → b ≤ a + 190 * (e * y) → z ≡ x + y → b ≤ 190 * (e * z)
+pub looks-sum : (a b e x y z : ℕ) → a ≤ 126 * (e * x) → b ≤ a + 126 * (e * y) → z ≡ x + y → b ≤ 126 * (e * z)
 looks-sum a b e x y z so_far more is = let product : e * z ≡ e * x + e * y = ap (λ n. e * n) is ∙ mul-plus e x y in omega (arith, more, so_far, product)
 
 pub product-le : (e x y : ℕ) → x ≤ y → e * x ≤ e * y

@@ -24,7 +24,7 @@ pub record HasGone (hopeless : List ℕ → Bool) (old : Position) (tries : ℕ)
   pub shape : ((front ≡ []) × (now.last ≡ old.last)) ⊎ EndsIn hopeless front now.last
   pub whole : candidates_ahead old ≡ front ++ candidates_ahead now
   pub counted : left + length (filter (has_hope hopeless) front) ≡ tries
-  pub looks : now.edge_tests ≤ 190 * (edges_of_net old * (length (dead_ends hopeless None front) + length (filter (has_hope hopeless) front)))
+  pub looks : now.edge_tests ≤ 126 * (edges_of_net old * (length (dead_ends hopeless None front) + length (filter (has_hope hopeless) front)))
 
 -- and no label that it decided is accepted
 pub record HasPassed (accepts hopeless : List ℕ → Bool) (old : Position) (tries : ℕ) (now : Position) (left : ℕ) : Type 0 where
@@ -82,6 +82,6 @@ HasGone-next hopeless old tries now new left h found some =
       counted = omega (arith, h.counted, some, more);
       looks = looks-sum now.edge_tests new.edge_tests (edges_of_net old) (length (dead_ends hopeless None h.front) + length (filter (has_hope hopeless) h.front)) (length (dead_ends hopeless None found.passed) + 1)
           (length (dead_ends hopeless None (h.front ++ piece)) + length (filter (has_hope hopeless) (h.front ++ piece))) h.looks
-          (subst (λ e. new.edge_tests ≤ now.edge_tests + 190 * (e * (length (dead_ends hopeless None found.passed) + 1))) (edges-same now old h.net) found.looks)
+          (subst (λ e. new.edge_tests ≤ now.edge_tests + 126 * (e * (length (dead_ends hopeless None found.passed) + 1))) (edges-same now old h.net) found.looks)
           (omega (arith, more, all_ends));
     }

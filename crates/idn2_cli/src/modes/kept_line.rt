@@ -6,7 +6,7 @@ ghost use Rattle.idn_class.specs.Shared.{IsLongestShared};
 
 use crate::session::buffers::append;
 use arrayvec::ArrayVec;
-use idn_class::shared_len;
+use idn_class::{KeptLabel, shared_len};
 use idn_text::push_points;
 use std::marker::Model;
 
@@ -20,7 +20,7 @@ const MAX_VARIANT_LINE_LEN: usize = 4 * MAX_LABEL_LEN + 1 + 63 + 16 + 1;
 /// start. Contracts see the label and the line.
 #[derive(Drop)]
 pub(crate) struct KeptLine {
-    label: ArrayVec<u32, MAX_LABEL_LEN>,
+    label: KeptLabel,
     /// How many octets of UTF-8 the first code points of the label have, from none of them to all.
     ends: [u8; MAX_LABEL_LEN + 1],
     line: ArrayVec<u8, MAX_VARIANT_LINE_LEN>,
@@ -31,16 +31,16 @@ impl Model for KeptLine {
 
     ghost Value = { Begun };
 
-    ghost view = { λ kept. record { label = kept.label.items; line = kept.line.items } };
+    ghost view = { λ kept. record { label = kept.label; line = kept.line.items } };
 
-    ghost invariant = { λ kept. BeginsWith kept.line.items kept.label.items kept.ends };
+    ghost invariant = { λ kept. BeginsWith kept.line.items kept.label kept.ends };
 }
 
 impl KeptLine {
     /// Of the empty label.
     pub(crate) fn new() -> KeptLine {
         KeptLine {
-            label: ArrayVec::new(),
+            label: KeptLabel::new(),
             ends: [0; MAX_LABEL_LEN + 1],
             line: ArrayVec::new(),
         }
@@ -81,7 +81,7 @@ impl KeptLine {
     {
         let count = shared_len(self.label.as_slice(), label);
         let end = usize::from(self.ends[count]);
-        self.label.truncate(count);
+        self.label.keep(count);
         self.line.truncate(end);
         count
     }

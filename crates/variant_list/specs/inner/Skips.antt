@@ -20,7 +20,7 @@ pub record Searches (old : Position) (top : ℕ) (found : Bool) (new : Position)
   pub net : new.net ≡ old.net
   pub first : slice_get (outside top old.last (candidates_ahead old)) 0 ≡ (if found then Some new.last else None)
   pub stays : found ≡ false → new.last ≡ old.last
-  pub looks : new.edge_tests ≤ old.edge_tests + 190 * edges_of_net old
+  pub looks : new.edge_tests ≤ old.edge_tests + 126 * edges_of_net old
 
 -- the cursor now goes on after this label
 pub record GoesBack (old : Position) (label : List ℕ) (new : Position) : Type 0 where
@@ -35,13 +35,13 @@ pub record FindsHope (hopeless : List ℕ → Bool) (old new : Position) : Type 
   pub whole : candidates_ahead old ≡ passed ++ new.last ∷ candidates_ahead new
   pub lost : AllByRecursion (λ v. has_hope hopeless v ≡ false) passed
   pub hope : has_hope hopeless new.last ≡ true
-  pub looks : new.edge_tests ≤ old.edge_tests + 190 * (edges_of_net old * (length (dead_ends hopeless None passed) + 1))
+  pub looks : new.edge_tests ≤ old.edge_tests + 126 * (edges_of_net old * (length (dead_ends hopeless None passed) + 1))
 
 -- no candidate has hope
 pub record FindsNone (hopeless : List ℕ → Bool) (old new : Position) : Type 0 where
   pub net : new.net ≡ old.net
   pub lost : AllByRecursion (λ v. has_hope hopeless v ≡ false) (candidates_ahead old)
-  pub looks : new.edge_tests ≤ old.edge_tests + 190 * (edges_of_net old * (length (dead_ends hopeless None (candidates_ahead old)) + 1))
+  pub looks : new.edge_tests ≤ old.edge_tests + 126 * (edges_of_net old * (length (dead_ends hopeless None (candidates_ahead old)) + 1))
 
 -- the answer to a candidate that has hope; or none; where memory was refused, it was for a candidate that has hope
 abbrev pub Finds : {A : Type 0} → (List ℕ → Bool) → Position → Result (Option A) AllocError → Position → Type 0

@@ -9,4 +9,4 @@ pub returns : goal.returns
 returns c =
     let none : Known = record { facts = record { absent = 0 }; direction = Ltr } in
     subst (λ v. IsKnown v (get_or c.self.inside.known (c.len-len.result - 1) none)) c.self.view_is
-    (IsKnown-whole c.self.inside.label.items c.self.inside.known (c.len-len.result - 1) none c.self.invariant (omega (arith, c.len-len.ensures.value, c.if-len-eq0.false)))
+    (IsKnown-whole c.self.inside.label c.self.inside.known (c.len-len.result - 1) none c.self.invariant (omega (arith, c.len-len.ensures.value, c.if-len-eq0.false)))

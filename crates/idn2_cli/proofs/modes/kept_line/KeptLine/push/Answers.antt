@@ -1,4 +1,4 @@
-use Rattle.std.proofs.Common.{◌≡◌, List, ℕ, [], ◌∷◌, ◌++◌, ◌+◌, ◌<◌, length, set, sym, ap, ◌∙◌, subst, arith}
+use Rattle.std.proofs.Common.{◌≡◌, List, ℕ, [], ◌∷◌, ◌++◌, ◌+◌, ◌<◌, length, set, sym, ap, ◌∙◌, subst, arith, length-append}
 use Rattle.std.proofs.lemmas.Str.{encodes-append}
 use Rattle.idn_text.specs.Points.{utf8_of}
 use Rattle.idn_text.proofs.Utf8Lemmas.{length-utf8_of-le}
@@ -21,7 +21,7 @@ overflow_cast-self c =
 
 pub invariant_of-self : goal.invariant_of-self
 invariant_of-self c =
-    let old : List ℕ = c.self.inside.label.items in
+    let old : List ℕ = c.self.inside.label in
     let new : List ℕ = c.push_points.new.utf8.items in
     let added : List ℕ = c.args.point ∷ [] in
     let ends : List ℕ = c.self.inside.ends in
@@ -29,8 +29,8 @@ invariant_of-self c =
     let line = ap (λ (v : Begun). v.line) c.self.view_is ∙ c.requires.line ∙ ap utf8_of (sym label) in
     let longer : new ≡ utf8_of (old ++ added) = c.push_points.ensures.written ∙ ap (λ l. l ++ utf8_of added) line ∙ sym (encodes-append old added) in
     let room : length old + 1 < length ends = omega (arith, c.self.told, ap length label, c.requires.room) in
-    let place : c.len-2.result ≡ length old + 1 = c.len-2.ensures.value ∙ c.push.ensures.len in
-    subst (λ l. BeginsWith new l (set ends c.len-2.result c.len.result)) (sym c.push.ensures.items)
+    let place : c.len-2.result ≡ length old + 1 = omega (arith, c.len-2.ensures.value, ap length c.push.ensures, length-append old added) in
+    subst (λ l. BeginsWith new l (set ends c.len-2.result c.len.result)) (sym c.push.ensures)
     (subst (λ n. BeginsWith new (old ++ added) (set ends n c.len.result)) (sym place)
     (BeginsWith-push c.self.inside.line.items old ends c.self.invariant c.args.point c.len.result new room longer c.len.ensures.value))
 

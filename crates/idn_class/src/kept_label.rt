@@ -1,0 +1,81 @@
+use std::marker::Model;
+
+/// The most code points of a label (RFC 1034, section 3.1).
+pub(crate) const MAX_LABEL_LEN: usize = 63;
+
+/// A label of at most 63 code points, of which a beginning is kept for the next one. Unlike an `ArrayVec`, it leaves what
+/// it cuts off where it stands. Contracts see the label.
+#[derive(Drop)]
+pub struct KeptLabel {
+    points: [u32; MAX_LABEL_LEN],
+    len: usize,
+}
+
+impl Model for KeptLabel {
+    ghost use Rattle.std.specs.Prelude.{◌≤◌, ℕ, List, take};
+
+    ghost Value = { List ℕ };
+
+    ghost view = { λ kept. take kept.len kept.points };
+
+    ghost invariant = { λ kept. kept.len ≤ 63 };
+}
+
+impl KeptLabel {
+    ghost use Rattle.std.specs.Prelude.{◌≡◌, ◌≤◌, ◌<◌, [], ◌∷◌, ◌++◌, length, take};
+
+    /// The empty label.
+    pub fn new() -> KeptLabel
+        ensures { result ≡ [] }
+    {
+        KeptLabel {
+            points: [0; MAX_LABEL_LEN],
+            len: 0,
+        }
+    }
+
+    /// How many code points there are.
+    #[inline]
+    pub fn len(&self) -> usize
+        ensures value { result ≡ length self.now }
+        ensures short { result ≤ 63 }
+    {
+        self.len
+    }
+
+    /// The code points.
+    #[inline]
+    pub fn as_slice(&self) -> &[u32]
+        ensures value { result.now ≡ self.now }
+        ensures short { length result.now ≤ 63 }
+    {
+        &self.points[..self.len]
+    }
+
+    /// Keeps the first `count` code points.
+    #[inline]
+    pub fn keep(&mut self, count: usize)
+        ensures { self.new ≡ take count self.old }
+    {
+        self.len = self.len.min(count);
+    }
+
+    /// Puts a code point behind the others. There must be room.
+    #[inline]
+    pub fn push(&mut self, point: u32)
+        requires { length self.old < 63 }
+        ensures { self.new ≡ self.old ++ point ∷ [] }
+    {
+        self.points[self.len] = point;
+        self.len += 1;
+    }
+    /// Puts these code points in place of all others.
+    #[inline]
+    pub fn replace(&mut self, label: &[u32])
+        requires { length label.now ≤ 63 }
+        ensures { self.new ≡ label.now }
+    {
+        self.points[..label.len()].copy_from_slice(label);
+        self.len = label.len();
+    }
+}
