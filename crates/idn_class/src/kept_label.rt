@@ -69,6 +69,7 @@ impl KeptLabel {
         self.points[self.len] = point;
         self.len += 1;
     }
+
     /// Puts these code points in place of all others.
     #[inline]
     pub fn replace(&mut self, label: &[u32])

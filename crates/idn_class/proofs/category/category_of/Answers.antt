@@ -8,4 +8,4 @@ returns-in-None c =
     sym (general_category-surrogate _ (omega (arith, out)) (omega (arith, out)))
 
 pub returns-in-None-2 : goal.returns-in-None-2
-returns-in-None-2 c = sym (general_category-beyond _ c.if-c-lt1114112.false)
+returns-in-None-2 c = sym (general_category-beyond _ c.if-c-lt-END.false)
