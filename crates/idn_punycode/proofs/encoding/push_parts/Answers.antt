@@ -22,15 +22,15 @@ pub returns-in_err-push_ascii-clause-too_long : goal.returns-in_err-push_ascii-c
 returns-in_err-push_ascii-clause-too_long g c =
     let before = c.args.text.now.bytes in
     let label = g.U.Unit.codes c.args.label.now in
-    let text : c.if-parts-ne0.text.bytes ≡ before ++ below 128 label =
+    let text : c.if-parts-ne0.longer.bytes ≡ before ++ below 128 label =
     elim c.if-parts-ne0.branch [
-      | then-parts-ne0+in_ok-push_basic w ↦ ap (λ t. t.bytes) w.text-is ∙ w.in_ok-push_basic.ensures.ok
+      | then-parts-ne0+in_ok-push_basic w ↦ ap (λ t. t.bytes) w.longer-is ∙ w.in_ok-push_basic.ensures.ok
       | else-parts-ne0 w ↦
-          ap (λ t. t.bytes) w.text-is
+          ap (λ t. t.bytes) w.longer-is
           ∙ sym (ap (λ xs. before ++ xs) (HasPlaces-none c.requires.places w.if-parts-ne0.false) ∙ append-nil before)
     ] in
     let sizes = ap length text ∙ length-append before (below 128 label) in
-    let longer = encode-longer label _ refl (omega (arith, c.len.ensures.value, c.len-before_len.ensures.value)) in
+    let longer = encode-longer label _ refl (omega (arith, c.len.ensures.value, c.len-2.ensures.value)) in
     OnErr-always c.from_residual-in_err-push_ascii.result
     (omega (arith, c.in_err-push_ascii.ensures.full, length-append before (encode label)))
 
@@ -39,33 +39,33 @@ loop-key-init g c =
     let before = c.args.text.now.bytes in
     let label = g.U.Unit.codes c.args.label.now in
     let code = below 128 label in
-    let text : c.if-parts-ne0.text.bytes ≡ before ++ code =
+    let text : c.if-parts-ne0.longer.bytes ≡ before ++ code =
     elim c.if-parts-ne0.branch [
-      | then-parts-ne0+in_ok-push_basic w ↦ ap (λ t. t.bytes) w.text-is ∙ w.in_ok-push_basic.ensures.ok
+      | then-parts-ne0+in_ok-push_basic w ↦ ap (λ t. t.bytes) w.longer-is ∙ w.in_ok-push_basic.ensures.ok
       | else-parts-ne0 w ↦
-          ap (λ t. t.bytes) w.text-is
+          ap (λ t. t.bytes) w.longer-is
           ∙ sym (ap (λ xs. before ++ xs) (HasPlaces-none c.requires.places w.if-parts-ne0.false) ∙ append-nil before)
     ] in
     let sizes = ap length text ∙ length-append before code in
-    let basic : c.len.result - c.len-before_len.result ≡ length code = omega (arith, c.len.ensures.value, c.len-before_len.ensures.value) in
+    let basic : c.len.result - c.len-2.result ≡ length code = omega (arith, c.len.ensures.value, c.len-2.ensures.value) in
     elim c.if-basic-gt0.branch [
       | then-basic-gt0+in_ok-push_ascii w ↦
           rw (c.as_slice-key-items.ensures.value, basic) (
             code ++ 45 ∷ [],
-            ap (λ t. t.bytes) w.text-is ∙ w.in_ok-push_ascii.ensures.ok ∙ ap (λ xs. xs ++ 45 ∷ []) text ∙ append_assoc before code (45 ∷ []),
+            ap (λ t. t.bytes) w.longer-is ∙ w.in_ok-push_ascii.ensures.ok ∙ ap (λ xs. xs ++ 45 ∷ []) text ∙ append_assoc before code (45 ∷ []),
             Turns-start (Encodes-basic _ _ refl (omega (arith, w.if-basic-gt0.true))) c.requires.short c.requires.keys c.requires.places,
             c.requires.keys,
             omega arith,
-            omega (arith, ap (λ t. length t.bytes) w.text-is, w.in_ok-push_ascii.ensures.short),
+            omega (arith, ap (λ t. length t.bytes) w.longer-is, w.in_ok-push_ascii.ensures.short),
           )
       | else-basic-gt0 w ↦
           rw (c.as_slice-key-items.ensures.value, basic) (
             code,
-            ap (λ t. t.bytes) w.text-is ∙ text,
+            ap (λ t. t.bytes) w.longer-is ∙ text,
             Turns-start (Encodes-no_basic _ _ refl (omega (arith, w.if-basic-gt0.false))) c.requires.short c.requires.keys c.requires.places,
             c.requires.keys,
             omega arith,
-            omega (arith, ap (λ t. length t.bytes) w.text-is, c.len.ensures.value, c.len.ensures.fits),
+            omega (arith, ap (λ t. length t.bytes) w.longer-is, c.len.ensures.value, c.len.ensures.fits),
           )
     ]
 
