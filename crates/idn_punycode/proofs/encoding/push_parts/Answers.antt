@@ -5,7 +5,7 @@ use Rattle.idn_punycode.proofs.EncodingSteps.{Encodes-basic, Encodes-no_basic, e
 use Rattle.idn_punycode.proofs.KeySteps.{rounds_fit, Selects-counted, Chosen-length, Chosen-counted}
 use Rattle.idn_punycode.proofs.OrderSteps.{HasPlaces-none, Turns-start, Turns-end, Turns-chosen, Turns-from, Turns-more}
 use Rattle.idn_punycode.proofs.encoding.push_parts.Goals as goal
-use Rattle.idn_punycode.proofs.encoding.push_parts.Goals.{then-parts-ne0+in_ok-push_basic, else-parts-ne0, then-basic-gt0+in_ok-push_ascii, else-basic-gt0}
+use Rattle.idn_punycode.proofs.encoding.push_parts.Goals.{then-places-ne0+in_ok-push_basic, else-places-ne0, then-basic-gt0+in_ok-push_ascii, else-basic-gt0}
 
 -- what is written behind a text, and then more
 Appends-more : (before code more : List ℕ) {text after : List ℕ} → text ≡ before ++ code → after ≡ text ++ more → after ≡ before ++ (code ++ more)
@@ -22,12 +22,12 @@ pub returns-in_err-push_ascii-clause-too_long : goal.returns-in_err-push_ascii-c
 returns-in_err-push_ascii-clause-too_long g c =
     let before = c.args.text.now.bytes in
     let label = g.U.Unit.codes c.args.label.now in
-    let text : c.if-parts-ne0.longer.bytes ≡ before ++ below 128 label =
-    elim c.if-parts-ne0.branch [
-      | then-parts-ne0+in_ok-push_basic w ↦ ap (λ t. t.bytes) w.longer-is ∙ w.in_ok-push_basic.ensures.ok
-      | else-parts-ne0 w ↦
+    let text : c.if-places-ne0.longer.bytes ≡ before ++ below 128 label =
+    elim c.if-places-ne0.branch [
+      | then-places-ne0+in_ok-push_basic w ↦ ap (λ t. t.bytes) w.longer-is ∙ w.in_ok-push_basic.ensures.ok
+      | else-places-ne0 w ↦
           ap (λ t. t.bytes) w.longer-is
-          ∙ sym (ap (λ xs. before ++ xs) (HasPlaces-none c.requires.places w.if-parts-ne0.false) ∙ append-nil before)
+          ∙ sym (ap (λ xs. before ++ xs) (HasPlaces-none c.requires.places (sym c.places.ensures ∙ w.if-places-ne0.false)) ∙ append-nil before)
     ] in
     let sizes = ap length text ∙ length-append before (below 128 label) in
     let longer = encode-longer label _ refl (omega (arith, c.len.ensures.value, c.len-2.ensures.value)) in
@@ -39,18 +39,18 @@ loop-key-init g c =
     let before = c.args.text.now.bytes in
     let label = g.U.Unit.codes c.args.label.now in
     let code = below 128 label in
-    let text : c.if-parts-ne0.longer.bytes ≡ before ++ code =
-    elim c.if-parts-ne0.branch [
-      | then-parts-ne0+in_ok-push_basic w ↦ ap (λ t. t.bytes) w.longer-is ∙ w.in_ok-push_basic.ensures.ok
-      | else-parts-ne0 w ↦
+    let text : c.if-places-ne0.longer.bytes ≡ before ++ code =
+    elim c.if-places-ne0.branch [
+      | then-places-ne0+in_ok-push_basic w ↦ ap (λ t. t.bytes) w.longer-is ∙ w.in_ok-push_basic.ensures.ok
+      | else-places-ne0 w ↦
           ap (λ t. t.bytes) w.longer-is
-          ∙ sym (ap (λ xs. before ++ xs) (HasPlaces-none c.requires.places w.if-parts-ne0.false) ∙ append-nil before)
+          ∙ sym (ap (λ xs. before ++ xs) (HasPlaces-none c.requires.places (sym c.places.ensures ∙ w.if-places-ne0.false)) ∙ append-nil before)
     ] in
     let sizes = ap length text ∙ length-append before code in
     let basic : c.len.result - c.len-2.result ≡ length code = omega (arith, c.len.ensures.value, c.len-2.ensures.value) in
     elim c.if-basic-gt0.branch [
       | then-basic-gt0+in_ok-push_ascii w ↦
-          rw (c.as_slice-key-items.ensures.value, basic) (
+          rw (c.keys-key-items.ensures, c.places-places.ensures, basic) (
             code ++ 45 ∷ [],
             ap (λ t. t.bytes) w.longer-is ∙ w.in_ok-push_ascii.ensures.ok ∙ ap (λ xs. xs ++ 45 ∷ []) text ∙ append_assoc before code (45 ∷ []),
             Turns-start (Encodes-basic _ _ refl (omega (arith, w.if-basic-gt0.true))) c.requires.short c.requires.keys c.requires.places,
@@ -59,7 +59,7 @@ loop-key-init g c =
             omega (arith, ap (λ t. length t.bytes) w.longer-is, w.in_ok-push_ascii.ensures.short),
           )
       | else-basic-gt0 w ↦
-          rw (c.as_slice-key-items.ensures.value, basic) (
+          rw (c.keys-key-items.ensures, c.places-places.ensures, basic) (
             code,
             ap (λ t. t.bytes) w.longer-is ∙ text,
             Turns-start (Encodes-no_basic _ _ refl (omega (arith, w.if-basic-gt0.false))) c.requires.short c.requires.keys c.requires.places,
