@@ -1,6 +1,7 @@
 //! A-labels.
-ghost use Rattle.std.specs.Prelude.{◌≡◌, ◌≢◌, ◌<◌, ◌≤◌, ◌++◌, length, codes, None, Some, Err, IfOk, IfErr, OnOk, All};
+ghost use Rattle.std.specs.Prelude.{◌≡◌, ◌≢◌, ◌<◌, ◌≤◌, ◌++◌, length, codes, None, Some, Err, IfOk, IfErr, OnOk, MatchOption, All, false};
 ghost use Rattle.idna.specs.Punycode.{encode};
+ghost use Rattle.idna.specs.Validity.{is_all_ascii};
 ghost use Rattle.idn_label.specs.ALabel.{a_label_of};
 ghost use Rattle.idn_label.specs.FirstFault.{first_fault, IsRegistrable};
 ghost use Rattle.idn_label.specs.inner.FaultSteps.{fault_but_length};
@@ -24,13 +25,30 @@ pub(crate) fn measured_a_label(label: &[u32]) -> Result<ALabel, Refusal>
     ensures fault { IfErr result (λ refusal. first_fault label.now ≡ Some refusal) }
     ensures no_memory { result ≢ Err Refusal.Memory }
 {
+    match plain_a_label(label)? {
+        Some(answer) => Ok(answer),
+        None => encoded_label(label),
+    }
+}
+
+/// The A-label of a label in ASCII whose only fault may be its length. `None` of another label, which has at most 63 code
+/// points.
+#[inline]
+pub(crate) fn plain_a_label(label: &[u32]) -> Result<Option<ALabel>, Refusal>
+    requires { fault_but_length label.now ≡ None }
+    ensures plain { IfOk result (λ answer. MatchOption answer
+        ((length label.now ≤ 63) × (is_all_ascii label.now ≡ false))
+        (λ a_label. IsRegistrable label.now × (a_label.bytes ≡ a_label_of label.now))) }
+    ensures fault { IfErr result (λ refusal. first_fault label.now ≡ Some refusal) }
+    ensures no_memory { result ≢ Err Refusal.Memory }
+{
     if label.len() > MAX_LABEL_LEN {
         return Err(Refusal::LabelTooLong);
     }
     if is_all_ascii(label) {
-        return Ok(ascii_text(label));
+        return Ok(Some(ascii_text(label)));
     }
-    encoded_label(label)
+    Ok(None)
 }
 
 /// The prefix and the Punycode of a label, if they are short enough.

@@ -25,18 +25,7 @@ pub fn test_label(alloc: Global, label: &[u32]) -> Result<ALabel, Refusal>
     ensures fault { IfErr result (λ refusal. refusal ≢ Refusal.Memory → first_fault label.now ≡ Some refusal) }
     ensures no_memory { NeedsNoMemory label.now → result ≢ Err Refusal.Memory }
 {
-    test_label_of(alloc, label, Facts::of_label(label))
-}
-
-/// The same of a label of which the facts are known.
-pub fn test_label_of(alloc: Global, label: &[u32], facts: Facts) -> Result<ALabel, Refusal>
-    requires { AreFactsOf facts label.now }
-    ensures registrable { OnOk result (IsRegistrable label.now) }
-    ensures a_label { IfOk result (λ answer. answer.bytes ≡ a_label_of label.now) }
-    ensures fault { IfErr result (λ refusal. refusal ≢ Refusal.Memory → first_fault label.now ≡ Some refusal) }
-    ensures no_memory { NeedsNoMemory label.now → result ≢ Err Refusal.Memory }
-{
-    check_label_of(alloc, label, facts)?;
+    check_label(alloc, label)?;
     measured_a_label(label)
 }
 
@@ -50,7 +39,7 @@ pub(crate) fn check_label(alloc: Global, label: &[u32]) -> Result<(), Refusal>
 }
 
 /// The same of a label of which the facts are known.
-fn check_label_of(alloc: Global, label: &[u32], facts: Facts) -> Result<(), Refusal>
+pub(crate) fn check_label_of(alloc: Global, label: &[u32], facts: Facts) -> Result<(), Refusal>
     requires { AreFactsOf facts label.now }
     ensures passes { OnOk result (fault_but_length label.now ≡ None) }
     ensures fault { IfErr result (λ refusal. refusal ≢ Refusal.Memory → fault_but_length label.now ≡ Some refusal) }

@@ -26,7 +26,7 @@ use crate::session::console::Console;
 use crate::session::stop::Stop;
 use arrayvec::{ArrayString, ArrayVec};
 use idn_class::KeptBeginnings;
-use idn_label::{ALabel, test_label_of};
+use idn_label::{ALabel, KeptALabel};
 use idn_text::{Refusal, Sink};
 use itoa::Buffer;
 use std::alloc::{AllocError, Global};
@@ -49,6 +49,7 @@ pub(crate) fn write_block<W: Sink, E: Sink>(
     let mut cursor = Cursor::new(alloc, net, &options.after)?;
     let mut judge = Registrable {
         beginnings: KeptBeginnings::new(),
+        a_label: KeptALabel::new(),
     };
     let mut tries = options.tries;
     let mut count = 0;
@@ -70,10 +71,11 @@ pub(crate) fn write_block<W: Sink, E: Sink>(
 }
 
 /// Only labels that may be registered are listed (RFC 5891 section 4.2). What a label shares at its start with the one
-/// before is not tested again.
+/// before is neither tested nor taken apart again.
 #[derive(Drop)]
 struct Registrable {
     beginnings: KeptBeginnings,
+    a_label: KeptALabel,
 }
 
 impl Judge for Registrable {
@@ -97,7 +99,8 @@ impl Judge for Registrable {
         if let Some(count) = self.beginnings.shortest_hopeless(label) {
             return Ok(Verdict::Hopeless(count));
         }
-        match test_label_of(alloc, label, self.beginnings.facts()) {
+        let facts = self.beginnings.facts();
+        match self.a_label.test_label(alloc, label, facts) {
             Ok(a_label) => Ok(Verdict::Tested(Some(a_label))),
             Err(Refusal::Memory) => Err(AllocError),
             Err(_) => Ok(Verdict::Tested(None)),

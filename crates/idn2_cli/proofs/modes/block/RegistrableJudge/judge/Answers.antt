@@ -7,8 +7,8 @@ use Rattle.idn2_cli.proofs.modes.block.RegistrableJudge.judge.Goals as goal
 pub returns-in-Some-clause-verdict : goal.returns-in-Some-clause-verdict
 returns-in-Some-clause-verdict c = sym (shortest_hopeless-same c.args.label.now c.shortest_hopeless.result c.shortest_hopeless.ensures.shortest) ∙ c.in-Some.is
 
-pub test_label_of-requires : goal.test_label_of-requires
-test_label_of-requires c = subst (AreFactsOf c.facts.result) (c.shortest_hopeless.ensures.whole c.in_default.is) c.facts.ensures
+pub test_label-requires : goal.test_label-requires
+test_label-requires c = subst (AreFactsOf c.facts-facts.result) (c.shortest_hopeless.ensures.whole c.in_default.is) c.facts-facts.ensures
 
 pub returns-in-Ok-clause-verdict : goal.returns-in-Ok-clause-verdict
 returns-in-Ok-clause-verdict c = (

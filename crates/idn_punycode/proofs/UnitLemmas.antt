@@ -1,0 +1,15 @@
+-- The code points of a label as they are held.
+use Rattle.std.proofs.Common.{◌≡◌, ◌<◌, ℕ, List, map, length, get_or, sym, ap, ◌∙◌, arith}
+use Rattle.std.proofs.Math.ListN.{length-map, get_or-map}
+use Rattle.std.proofs.lemmas.List.{get_or_default}
+
+module _ {T : Type 0} (code : T → ℕ) (codes : List T → List ℕ) (are : (units : List T) → codes units ≡ map code units) (units : List T) where
+  pub codes_length : length (codes units) ≡ length units
+  codes_length = ap length (are units) ∙ length-map units code
+
+  pub codes_at : (at : ℕ) (x : T) → at < length units → x ≡ get_or units at x → code x ≡ get_or (codes units) at 0
+  codes_at at x lt is =
+      ap code is
+      ∙ sym (get_or-map code units at x)
+      ∙ get_or_default (map code units) at (code x) 0 (omega (arith, length-map units code))
+      ∙ ap (λ xs. get_or xs at 0) (sym (are units))
