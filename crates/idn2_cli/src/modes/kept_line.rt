@@ -14,7 +14,7 @@ use std::marker::Model;
 const MAX_LABEL_LEN: usize = 63;
 
 /// The most octets of a line: four for each code point of a label, a tab, an A-label, a field and a line feed.
-const MAX_VARIANT_LINE_LEN: usize = 4 * MAX_LABEL_LEN + 1 + 63 + 16 + 1;
+const MAX_VARIANT_LINE_LEN: usize = 4 * MAX_LABEL_LEN + 1 + MAX_LABEL_LEN + 16 + 1;
 
 /// A line that begins with a label's UTF-8. The next line keeps that of the code points which both labels share at their
 /// start. Contracts see the label and the line.
@@ -48,7 +48,7 @@ impl KeptLine {
 
     /// Begins the line of a label of at most 63 code points.
     pub(crate) fn begin(&mut self, label: &[u32])
-        requires short { length label.now ≤ 63 }
+        requires short { length label.now ≤ MAX_LABEL_LEN }
         requires scalar_values { AreScalarValues label.now }
         ensures { self.new.line ≡ utf8_of label.now }
     {
@@ -59,7 +59,7 @@ impl KeptLine {
 
     /// Appends a text for which there is space.
     pub(crate) fn append(&mut self, text: &[u8])
-        requires { length self.old.line + length text.now ≤ 333 }
+        requires { length self.old.line + length text.now ≤ MAX_VARIANT_LINE_LEN }
         ensures { self.new.line ≡ self.old.line ++ text.now }
     {
         append(&mut self.line, text);
@@ -88,7 +88,7 @@ impl KeptLine {
 
     /// Appends a code point to the label and to the line, which has nothing behind the label.
     fn push(&mut self, point: u32)
-        requires room { length self.old.label < 63 }
+        requires room { length self.old.label < MAX_LABEL_LEN }
         requires scalar_value { IsScalarValue point }
         requires line { self.old.line ≡ utf8_of self.old.label }
         ensures label { self.new.label ≡ self.old.label ++ point ∷ [] }
