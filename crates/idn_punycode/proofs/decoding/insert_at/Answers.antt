@@ -5,8 +5,8 @@ use Rattle.std.proofs.lemmas.Grind.{same_number_lists}
 use Rattle.std.proofs.lemmas.List.{length-set, get_or-set_same, get_or-set_other, get_or-take}
 use Rattle.std.proofs.lemmas.List.Edits.{length-insert, get_or-insert_below, get_or-insert_at, get_or-insert_above}
 use Rattle.std.proofs.lemmas.Simd.{length-put_chunk, get_or-put_chunk_below}
-use Rattle.idn_punycode.proofs.BlockSteps.{inside, above}
-use Rattle.idn_punycode.proofs.decoding.insert_at.Goals.{then-len-place-gt-BLOCK_LEN, else-len-place-gt-BLOCK_LEN}
+use Rattle.idn_punycode.proofs.ChunkSteps.{inside, above}
+use Rattle.idn_punycode.proofs.decoding.insert_at.Goals.{then-len-place-gt-CHUNK_LEN, else-len-place-gt-CHUNK_LEN}
 use Rattle.idn_punycode.proofs.decoding.insert_at.Goals as goal
 
 -- the code points from the place on stand one place further up, and the place is written
@@ -47,15 +47,15 @@ module _ (points old : List ℕ) (len place code_point : ℕ) (same : length poi
       same_number_lists _ _ (omega (arith, written, long, other, front, same, room))
       (λ k lt. get_or-take (len + 1) (set points place code_point) k 0 (omega (arith, lt, written)) ∙ at k (omega (arith, lt, written)))
 
--- and a block at the place, where those behind it were moved already
+-- and a chunk at the place, where those behind it were moved already
 module _ (points old : List ℕ) (len place code_point : ℕ) (same : length points ≡ length old) (room : len + 9 ≤ length old) (within : place ≤ len)
     (below : (k : ℕ) → k ≤ place + 8 → get_or points k 0 ≡ get_or old k 0)
     (far : (k : ℕ) → place + 8 ≤ k → k < len → get_or points (k + 1) 0 ≡ get_or old k 0) where
   fits : place + 9 ≤ length points
   fits = omega (arith, same, room, within)
 
-  with_block : take (len + 1) (set (put_chunk (place + 1) points (chunk place 8 points)) place code_point) ≡ insert (take len old) place code_point
-  with_block =
+  with_chunk : take (len + 1) (set (put_chunk (place + 1) points (chunk place 8 points)) place code_point) ≡ insert (take len old) place code_point
+  with_chunk =
       inserted (put_chunk (place + 1) points (chunk place 8 points)) old len place code_point
       (length-put_chunk (place + 1) points (chunk place 8 points) ∙ same) room within
       (λ k le. get_or-put_chunk_below (place + 1) points (chunk place 8 points) k 0 (omega (arith, le)) ∙ below k (omega (arith, le)))
@@ -68,13 +68,13 @@ pub returns-clause-inserted : goal.returns-clause-inserted
 returns-clause-inserted c =
     let old = c.args.points.now in
     let place = c.args.place in
-    elim c.if-len-place-gt-BLOCK_LEN.branch [
-      | then-len-place-gt-BLOCK_LEN w ↦
+    elim c.if-len-place-gt-CHUNK_LEN.branch [
+      | then-len-place-gt-CHUNK_LEN w ↦
           let moved = w.move_up.ensures in
           rw w.points-is
-          (with_block w.move_up.new.points old c.args.len place c.args.code_point moved.length c.requires.room c.requires.within moved.below moved.moved)
-      | else-len-place-gt-BLOCK_LEN w ↦
+          (with_chunk w.move_up.new.points old c.args.len place c.args.code_point moved.length c.requires.room c.requires.within moved.below moved.moved)
+      | else-len-place-gt-CHUNK_LEN w ↦
           rw w.points-is
-          (with_block old old c.args.len place c.args.code_point refl c.requires.room c.requires.within (λ k le. refl)
-          (λ k le lt. absurd (omega (arith, le, lt, w.if-len-place-gt-BLOCK_LEN.false))))
+          (with_chunk old old c.args.len place c.args.code_point refl c.requires.room c.requires.within (λ k le. refl)
+          (λ k le lt. absurd (omega (arith, le, lt, w.if-len-place-gt-CHUNK_LEN.false))))
     ]

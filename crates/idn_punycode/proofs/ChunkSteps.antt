@@ -1,9 +1,9 @@
--- Blocks of code points that are moved up by one place.
+-- Chunks of code points that are moved up by one place.
 use Rattle.std.proofs.Common.{◌≡◌, ℕ, ◌+◌, ◌-◌, ◌<◌, ◌≤◌, List, length, get_or, ap, ◌∙◌, arith}
 use Rattle.std.specs.Simd.Lanes.{chunk, put_chunk}
 use Rattle.std.proofs.lemmas.Simd.{length-chunk, get_or-chunk, get_or-put_chunk_at, get_or-put_chunk_above}
 
--- a block that is stored one place further up
+-- a chunk that is stored one place further up
 module _ (points : List ℕ) (at : ℕ) (room : at + 9 ≤ length points) where
   pub stored : length (chunk at 8 points) ≡ 8
   stored = length-chunk at 8 points (omega (arith, room))
