@@ -1,7 +1,8 @@
 //! Calls over the whole range of sizes: while there is memory, none fails for want of it.
 use crate::label_calls::{letters, points_of};
 use crate::row::{Given, ROOM, answers, options_of};
-use idn_label::test_label;
+use idn_class::Facts;
+use idn_label::{KeptALabel, test_label};
 use idn_text::Refusal;
 use std::alloc::Global;
 use std::test::Fail;
@@ -19,11 +20,16 @@ const ENDS: [(&str, usize); 4] = [
 #[test]
 fn labels_of_every_length(rt: HostRuntime) -> Result<(), Fail> {
     for (last, most) in ENDS {
+        let mut kept = KeptALabel::new();
         for count in 1..=64usize {
             let label = letters(rt.alloc(), count, last)?;
-            let refusal = test_label(rt.alloc(), &points_of(&label)?).err();
+            let points = points_of(&label)?;
             let want = (count > most).then_some(Refusal::LabelTooLong);
+            let refusal = test_label(rt.alloc(), &points).err();
             assert_eq!(rt; refusal, want, "{label}");
+            let facts = Facts::of_label(&points);
+            let refusal = kept.test_label(rt.alloc(), &points, facts).err();
+            assert_eq!(rt; refusal, want, "{label} behind shorter ones");
         }
     }
     Ok(())

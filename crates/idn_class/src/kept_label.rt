@@ -1,3 +1,4 @@
+//! A label of which a beginning is kept.
 use std::marker::Model;
 
 /// The most code points of a label (RFC 1034, section 3.1).

@@ -1,5 +1,5 @@
 -- The first fault by its parts.
-use Rattle.std.proofs.Common.{◌≡◌, ℕ, ◌+◌, ◌<◌, ◌≤◌, Bool, true, false, not, ◌==◌, ◌||◌, nat_lt, lit<, List, [], ◌∷◌, ◌++◌, length, map, drop, All, Option, Some, None, get_or, refl, sym, ap, ◌∙◌, inl, inr, arith}
+use Rattle.std.proofs.Common.{◌≡◌, ℕ, ◌+◌, ◌<◌, ◌≤◌, Bool, true, false, not, ◌==◌, ◌||◌, nat_lt, lit<, List, [], ◌∷◌, ◌++◌, length, map, drop, All, Option, Some, None, Result, Err, get_or, refl, sym, ap, ◌∙◌, inl, inr, arith}
 use Rattle.std.proofs.lemmas.List.{at_drop_more}
 use Rattle.idn_text.specs.declared.refusal.Refusal.{Refusal}
 use Rattle.idn_class.specs.Class.{class_of}
@@ -180,3 +180,7 @@ code_point_fault-lacks label none = each label (each_lacks MayBeBarred label non
     each (c ∷ label) all =
         let here = no_fault_of_class (class_of c) (class_without c (All-head (λ c. has_fact MayBeBarred c ≡ false) c label all)).0 in
         rw (code_point_fault-cons c label, here, each label (All-tail (λ c. has_fact MayBeBarred c ≡ false) c label all)) refl
+
+-- one refusal in two results
+pub same_refusal : {A B : Type 0} (refusal : Refusal) → ((let r : Result A Refusal = Err refusal in r) ≡ Err refusals.Memory → ⊥) → (let r : Result B Refusal = Err refusal in r) ≡ Err refusals.Memory → ⊥
+same_refusal refusal other memory = other (let same : refusal ≡ refusals.Memory = cc in ap Err same)

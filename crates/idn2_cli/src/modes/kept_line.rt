@@ -10,7 +10,7 @@ use idn_class::{KeptLabel, shared_len};
 use idn_text::push_points;
 use std::marker::Model;
 
-/// The most code points of a label (RFC 1034, section 3.1).
+/// The most code points of a label, and the most octets of an A-label (RFC 1034, section 3.1).
 const MAX_LABEL_LEN: usize = 63;
 
 /// The most octets of a line: four for each code point of a label, a tab, an A-label, a field and a line feed.

@@ -47,7 +47,7 @@ pub(crate) fn ldh_query(name: &[u8], room: &mut [u8]) -> Option<Result<usize, Re
         'labels: while stops != 0 {
             let count = stops.trailing_zeros() as usize;
             let stop = at + count;
-            if is_a_label(room, start, stop) {
+            if has_ace_prefix_at(room, start, stop) {
                 return None;
             }
             have_lengths &= has_label_length(start, stop);
@@ -57,7 +57,7 @@ pub(crate) fn ldh_query(name: &[u8], room: &mut [u8]) -> Option<Result<usize, Re
         }
         at = end;
     }
-    if is_a_label(room, start, name.len()) {
+    if has_ace_prefix_at(room, start, name.len()) {
         return None;
     }
     if have_lengths && may_end(start, name.len()) {
@@ -134,7 +134,7 @@ fn lowercase_lanes(octets: u8x16) -> (u8x16, u64, u64)
 /// Whether the label that stands from `start` to `end` begins with `xn--`. The third octet is asked for first, be it of
 /// the label or behind it: whether a label has so many can't be foretold, but hardly one has a hyphen there.
 #[inline]
-fn is_a_label(name: &[u8], start: usize, end: usize) -> bool
+fn has_ace_prefix_at(name: &[u8], start: usize, end: usize) -> bool
     requires order { start ≤ end }
     requires within { end ≤ length name.now }
     ensures { result ≡ has_ace_prefix (slice_range name.now start end) }

@@ -1,17 +1,11 @@
-use Rattle.std.proofs.Common.{◌≡◌, Result, Err, ap}
 use Rattle.std.proofs.lemmas.Result.{err_from_is_err_and}
-use Rattle.idn_text.specs.declared.refusal.Refusal.{Refusal}
-use Rattle.idn_text.specs.declared.refusal.Refusal.TheVariants.{Memory}
-use Rattle.idn_label.proofs.FaultLemmas.{first_fault-but_length}
+use Rattle.idn_label.proofs.FaultLemmas.{first_fault-but_length, same_refusal}
 use Rattle.idn_label.proofs.first_fault.test_label.Goals as goal
 
 pub returns-in_err-check_label-clause-fault : goal.returns-in_err-check_label-clause-fault
 returns-in_err-check_label-clause-fault c =
     let p = err_from_is_err_and c.from_residual.result c.from_residual.ensures.1 in
     rw (p.1, p.2) (λ other. first_fault-but_length c.args.label.now _ (c.in_err-check_label.ensures.fault other))
-
-same_refusal : {A B : Type 0} (refusal : Refusal) → ((let r : Result A Refusal = Err refusal in r) ≡ Err Memory → ⊥) → (let r : Result B Refusal = Err refusal in r) ≡ Err Memory → ⊥
-same_refusal refusal other memory = other (let same : refusal ≡ Memory = cc in ap Err same)
 
 pub returns-in_err-check_label-clause-no_memory : goal.returns-in_err-check_label-clause-no_memory
 returns-in_err-check_label-clause-no_memory c =

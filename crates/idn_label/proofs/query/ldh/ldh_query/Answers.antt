@@ -56,23 +56,23 @@ labels-init c = record {
   within = (c.chunks.invariant.within.0, omega (arith, c.min-end.ensures, c.chunks-test.true), omega arith);
 }
 
-pub is_a_label-requires-clause-within : goal.is_a_label-requires-clause-within
-is_a_label-requires-clause-within c =
+pub has_ace_prefix_at-requires-clause-within : goal.has_ace_prefix_at-requires-clause-within
+has_ace_prefix_at-requires-clause-within c =
     let name = c.args.name.now in
     let end = c.min-end.result in
     let whole = c.in_ok-stops.ensures.lower in
     let next = next_stop name c.chunks.at c.labels.at end c.labels.stops c.min-end.ensures c.labels.invariant.within.2 c.labels.invariant.within.1 c.labels.invariant.stops c.labels-test.true in
     omega (arith, next.0, ap length whole, length-take end (lowered name), length-map name to_ascii_lowercase, c.min-end.ensures)
 
-pub returns-then-is_a_label-clause-told : goal.returns-then-is_a_label-clause-told
-returns-then-is_a_label-clause-told c ldh =
+pub returns-then-has_ace_prefix_at-clause-told : goal.returns-then-has_ace_prefix_at-clause-told
+returns-then-has_ace_prefix_at-clause-told c ldh =
     let name = c.args.name.now in
     let end = c.min-end.result in
     let whole = c.in_ok-stops.ensures.lower in
     let next = next_stop name c.chunks.at c.labels.at end c.labels.stops c.min-end.ensures c.labels.invariant.within.2 c.labels.invariant.within.1 c.labels.invariant.stops c.labels-test.true in
     let start = c.labels.start in
     let stop = c.labels.at + count_trailing_zeros 64 c.labels.stops in
-    let prefix = ap has_ace_prefix (sym (same_part _ (lowered name) start stop end (omega (arith, c.labels.invariant.within)) (omega (arith, next.0)) whole)) ∙ sym c.is_a_label.ensures ∙ c.if-is_a_label.true in
+    let prefix = ap has_ace_prefix (sym (same_part _ (lowered name) start stop end (omega (arith, c.labels.invariant.within)) (omega (arith, next.0)) whole)) ∙ sym c.has_ace_prefix_at.ensures ∙ c.if-has_ace_prefix_at.true in
     sym ldh.no_a_label
     ∙ part_prefix (lowered name) start stop c.labels.have_lengths c.labels.invariant.labels (omega (arith, c.labels.invariant.within)) (omega (arith, next.0, length-map name to_ascii_lowercase, c.min-end.ensures)) (plain_more (lowered name) start c.labels.at stop c.labels.invariant.without_stops next.1) prefix
 
@@ -92,7 +92,7 @@ labels-preserved c =
     let start = c.labels.start in
     let count = count_trailing_zeros 64 c.labels.stops in
     let stop = c.labels.at + count in
-    let free = ap has_ace_prefix (sym (same_part _ (lowered name) start stop end (omega (arith, c.labels.invariant.within)) (omega (arith, next.0)) whole)) ∙ sym c.is_a_label.ensures ∙ c.if-is_a_label.false in
+    let free = ap has_ace_prefix (sym (same_part _ (lowered name) start stop end (omega (arith, c.labels.invariant.within)) (omega (arith, next.0)) whole)) ∙ sym c.has_ace_prefix_at.ensures ∙ c.if-has_ace_prefix_at.false in
     record {
       labels = stop_more (lowered name) start stop c.labels.have_lengths c.has_label_length-have_lengths.result c.labels.invariant.labels (omega (arith, c.labels.invariant.within)) (omega (arith, next.0, length-map name to_ascii_lowercase, c.min-end.ensures)) (plain_more (lowered name) start c.labels.at stop c.labels.invariant.without_stops next.1) next.2 free c.has_label_length-have_lengths.ensures;
       without_stops = λ k from to. absurd (omega arith);
@@ -115,13 +115,13 @@ chunks-preserved c =
       room = c.in_ok-stops.ensures.length ∙ c.chunks.invariant.room;
     }
 
-pub returns-then-is_a_label-2-clause-told : goal.returns-then-is_a_label-2-clause-told
-returns-then-is_a_label-2-clause-told c ldh =
+pub returns-then-has_ace_prefix_at-2-clause-told : goal.returns-then-has_ace_prefix_at-2-clause-told
+returns-then-has_ace_prefix_at-2-clause-told c ldh =
     let name = c.args.name.now in
     let n = length name in
     let all : c.chunks.at ≡ n = omega (arith, c.chunks-test.false, c.chunks.invariant.within) in
     let same = subst (λ k. take k c.chunks.room ≡ take k (lowered name)) all c.chunks.invariant.lower in
-    let prefix = ap has_ace_prefix (sym (same_part c.chunks.room (lowered name) c.chunks.start n n (omega (arith, c.chunks.invariant.within)) (omega arith) same)) ∙ sym c.is_a_label-2.ensures ∙ c.if-is_a_label-2.true in
+    let prefix = ap has_ace_prefix (sym (same_part c.chunks.room (lowered name) c.chunks.start n n (omega (arith, c.chunks.invariant.within)) (omega arith) same)) ∙ sym c.has_ace_prefix_at-2.ensures ∙ c.if-has_ace_prefix_at-2.true in
     sym ldh.no_a_label
     ∙ part_prefix (lowered name) c.chunks.start n c.chunks.have_lengths c.chunks.invariant.labels (omega (arith, c.chunks.invariant.within)) (omega (arith, length-map name to_ascii_lowercase)) (λ k from to. c.chunks.invariant.without_stops k from (omega arith)) prefix
 
@@ -144,7 +144,7 @@ returns-then-may_end-clause-answer c std3 =
     let count = length-map name to_ascii_lowercase in
     let all : c.chunks.at ≡ length name = omega (arith, c.chunks-test.false, c.chunks.invariant.within) in
     let points = subst (All (λ c. is_name_point (to_ascii_lowercase c) ≡ true)) (take_all c.chunks.at name (omega arith)) c.chunks.invariant.points in
-    let parts = all_labels name c.chunks.room c.chunks.start c.chunks.at c.chunks.have_lengths c.is_a_label-2.result all c.chunks.invariant.within.0 c.chunks.invariant.lower c.chunks.invariant.labels c.chunks.invariant.without_stops c.is_a_label-2.ensures c.if-is_a_label-2.false in
+    let parts = all_labels name c.chunks.room c.chunks.start c.chunks.at c.chunks.have_lengths c.has_ace_prefix_at-2.result all c.chunks.invariant.within.0 c.chunks.invariant.lower c.chunks.invariant.labels c.chunks.invariant.without_stops c.has_ace_prefix_at-2.ensures c.if-has_ace_prefix_at-2.false in
     let given = to_ascii-lowercase_name (deny_list std3) name query points refl (split_free parts.1) in
     let end : may_end c.chunks.start (length query) ≡ true = ap (may_end c.chunks.start) count ∙ sym c.if-may_end.ensures in
     let fits : verify_dns_length query true ≡ true = split_measured parts.1 ∙ rw (c.if-have_lengths.true, end) refl in
@@ -157,7 +157,7 @@ returns-else-have_lengths-clause-answer c std3 =
     let count = length-map name to_ascii_lowercase in
     let all : c.chunks.at ≡ length name = omega (arith, c.chunks-test.false, c.chunks.invariant.within) in
     let points = subst (All (λ c. is_name_point (to_ascii_lowercase c) ≡ true)) (take_all c.chunks.at name (omega arith)) c.chunks.invariant.points in
-    let parts = all_labels name c.chunks.room c.chunks.start c.chunks.at c.chunks.have_lengths c.is_a_label-2.result all c.chunks.invariant.within.0 c.chunks.invariant.lower c.chunks.invariant.labels c.chunks.invariant.without_stops c.is_a_label-2.ensures c.if-is_a_label-2.false in
+    let parts = all_labels name c.chunks.room c.chunks.start c.chunks.at c.chunks.have_lengths c.has_ace_prefix_at-2.result all c.chunks.invariant.within.0 c.chunks.invariant.lower c.chunks.invariant.labels c.chunks.invariant.without_stops c.has_ace_prefix_at-2.ensures c.if-has_ace_prefix_at-2.false in
     let given = to_ascii-lowercase_name (deny_list std3) name query points refl (split_free parts.1) in
     let fits : verify_dns_length query true ≡ false =
     elim c.else-have_lengths.branch [

@@ -3,8 +3,8 @@ use Rattle.std.proofs.lemmas.Bool.{cases_lt, ne_eqb}
 use Rattle.std.proofs.lemmas.List.{get_or-take, get_or-drop}
 use Rattle.idna.specs.Validity.{has_ace_prefix}
 use Rattle.idna.proofs.ValidityLemmas.{has_ace_prefix_by_index}
-use Rattle.idn_label.proofs.query.ldh.is_a_label.Goals as goal
-use Rattle.idn_label.proofs.query.ldh.is_a_label.Goals.{then-start-name-via-then-start-name, then-start-name-via-else-start-name+then-name-start-ne45}
+use Rattle.idn_label.proofs.query.ldh.has_ace_prefix_at.Goals as goal
+use Rattle.idn_label.proofs.query.ldh.has_ace_prefix_at.Goals.{then-start-name-via-then-start-name, then-start-name-via-else-start-name+then-name-start-ne45}
 
 short : (label : List ℕ) → length label ≤ 2 → has_ace_prefix label ≡ false
 short [] few = has_ace_prefix_by_index []
