@@ -1,12 +1,8 @@
 //! A-labels.
-ghost use Rattle.std.specs.Prelude.{◌≡◌, ◌≢◌, ◌<◌, ◌≤◌, ◌++◌, length, codes, None, Some, Err, IfOk, IfErr, OnOk, MatchOption, All, false};
+ghost use Rattle.std.specs.Prelude.{◌≡◌, ◌<◌, ◌≤◌, ◌++◌, length, codes, IfOk, IfErr, OnOk, All};
 ghost use Rattle.idna.specs.Punycode.{encode};
-ghost use Rattle.idna.specs.Validity.{is_all_ascii};
-ghost use Rattle.idn_label.specs.ALabel.{a_label_of};
-ghost use Rattle.idn_label.specs.FirstFault.{first_fault, IsRegistrable};
-ghost use Rattle.idn_label.specs.inner.FaultSteps.{fault_but_length};
 
-use crate::unit::{Unit, is_all_ascii};
+use crate::unit::Unit;
 use arrayvec::ArrayString;
 use idn_punycode::push_encoded;
 use idn_text::Refusal;
@@ -16,40 +12,6 @@ pub(crate) const MAX_LABEL_LEN: usize = 63;
 
 /// An A-label of at most 63 octets. A label in ASCII is its own A-label.
 pub type ALabel = ArrayString<63>;
-
-/// The A-label of a label whose only fault may be its length.
-pub(crate) fn measured_a_label(label: &[u32]) -> Result<ALabel, Refusal>
-    requires { fault_but_length label.now ≡ None }
-    ensures registrable { OnOk result (IsRegistrable label.now) }
-    ensures a_label { IfOk result (λ answer. answer.bytes ≡ a_label_of label.now) }
-    ensures fault { IfErr result (λ refusal. first_fault label.now ≡ Some refusal) }
-    ensures no_memory { result ≢ Err Refusal.Memory }
-{
-    match plain_a_label(label)? {
-        Some(answer) => Ok(answer),
-        None => encoded_label(label),
-    }
-}
-
-/// The A-label of a label in ASCII whose only fault may be its length. `None` of another label, which has at most 63 code
-/// points.
-#[inline]
-pub(crate) fn plain_a_label(label: &[u32]) -> Result<Option<ALabel>, Refusal>
-    requires { fault_but_length label.now ≡ None }
-    ensures plain { IfOk result (λ answer. MatchOption answer
-        ((length label.now ≤ 63) × (is_all_ascii label.now ≡ false))
-        (λ a_label. IsRegistrable label.now × (a_label.bytes ≡ a_label_of label.now))) }
-    ensures fault { IfErr result (λ refusal. first_fault label.now ≡ Some refusal) }
-    ensures no_memory { result ≢ Err Refusal.Memory }
-{
-    if label.len() > MAX_LABEL_LEN {
-        return Err(Refusal::LabelTooLong);
-    }
-    if is_all_ascii(label) {
-        return Ok(Some(ascii_text(label)));
-    }
-    Ok(None)
-}
 
 /// The prefix and the Punycode of a label, if they are short enough.
 pub(crate) fn encoded_label<U: Unit>(label: &[U]) -> Result<ALabel, Refusal>

@@ -8,7 +8,8 @@ ghost use Rattle.idn_label.specs.FirstFault.{code_point_fault, fault_of_class, f
 ghost use Rattle.idn_label.specs.Memory.{NeedsNoMemory};
 ghost use Rattle.idn_label.specs.inner.FaultSteps.{fault_but_length};
 
-use crate::a_label::{ALabel, measured_a_label};
+use crate::a_label::ALabel;
+use crate::kept_a_label::KeptALabel;
 use crate::rules::check_rules;
 use idn_class::{Class, Fact, Facts, class_of};
 use idn_text::Refusal;
@@ -25,8 +26,7 @@ pub fn test_label(alloc: Global, label: &[u32]) -> Result<ALabel, Refusal>
     ensures fault { IfErr result (λ refusal. refusal ≢ Refusal.Memory → first_fault label.now ≡ Some refusal) }
     ensures no_memory { NeedsNoMemory label.now → result ≢ Err Refusal.Memory }
 {
-    check_label(alloc, label)?;
-    measured_a_label(label)
+    KeptALabel::new().test_label(alloc, label, Facts::of_label(label))
 }
 
 /// Returns the first fault of a label, but for its length. Its facts say which tests it needs.

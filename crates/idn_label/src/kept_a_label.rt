@@ -7,8 +7,9 @@ ghost use Rattle.idn_label.specs.FirstFault.{first_fault, IsRegistrable};
 ghost use Rattle.idn_label.specs.Memory.{NeedsNoMemory};
 ghost use Rattle.idn_label.specs.inner.FaultSteps.{fault_but_length};
 
-use crate::a_label::{ALabel, plain_a_label};
+use crate::a_label::{ALabel, MAX_LABEL_LEN, ascii_text};
 use crate::first_fault::check_label_of;
+use crate::unit::is_all_ascii;
 use idn_class::{Facts, shared_len};
 use idn_punycode::KeptParts;
 use idn_text::Refusal;
@@ -55,10 +56,13 @@ impl KeptALabel {
         ensures fault { IfErr result (λ refusal. first_fault label.now ≡ Some refusal) }
         ensures no_memory { result ≢ Err Refusal.Memory }
     {
-        match plain_a_label(label)? {
-            Some(answer) => Ok(answer),
-            None => self.encoded_label(label),
+        if label.len() > MAX_LABEL_LEN {
+            return Err(Refusal::LabelTooLong);
         }
+        if is_all_ascii(label) {
+            return Ok(ascii_text(label));
+        }
+        self.encoded_label(label)
     }
 
     /// The prefix and the Punycode of a label, if they are short enough.
