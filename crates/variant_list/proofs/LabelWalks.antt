@@ -39,8 +39,8 @@ module _ (net : Plan) (old new : BitRows) (row into point within : ℕ) (filled 
   HoldsInside-next is p h = let l = (filled.behind p).0 h in is.laid_out.inside (l.edge).index _ (l.edge).is
 
 -- no code point is left
-pub ReadsFromRow-end : (net : Plan) (rows : BitRows) (row : ℕ) → ReadsFromRow net rows row [] ↔ Holds rows row 0
-ReadsFromRow-end net rows row = (λ h. subst (Holds rows row) h.2 h.1, λ h. (0, h, refl))
+pub ReadsFromRow-end : (net : Plan) (rows : BitRows) (level : ℕ) → ReadsFromRow net rows level [] ↔ Holds rows level 0
+ReadsFromRow-end net rows level = (λ h. subst (Holds rows level) h.2 h.1, λ h. (0, h, refl))
 
 -- an answer that tells whether P holds tells the same of Q
 pub IfOk-same : (answer : Result Bool AllocError) (P Q : Type 0) → P ↔ Q → IfOk answer (λ b. IsTrue b ↔ P) → IfOk answer (λ b. IsTrue b ↔ Q)

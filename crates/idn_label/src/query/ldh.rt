@@ -74,9 +74,9 @@ pub(crate) fn ldh_query(name: &[u8], room: &mut [u8]) -> Option<Result<usize, Re
 fn lowercase_chunk(name: &[u8], at: usize, end: usize, room: &mut [u8]) -> Option<u64>
     requires order { at ≤ end }
     requires within { end ≤ length name.now }
-    requires few { end ≤ at + 16 }
+    requires few { end ≤ at + CHUNK_LEN }
     requires room { length name.now ≤ length room.old }
-    requires wide { 16 ≤ length room.old }
+    requires wide { CHUNK_LEN ≤ length room.old }
     requires begun { take at room.old ≡ take at (map to_ascii_lowercase name.now) }
     requires points { All (λ c. is_name_point (to_ascii_lowercase c) ≡ true) (take at name.now) }
     ensures lower { IfSome result (λ _. take end room.new ≡ take end (map to_ascii_lowercase name.now)) }
@@ -99,7 +99,7 @@ fn lowercase_chunk(name: &[u8], at: usize, end: usize, room: &mut [u8]) -> Optio
 #[inline(always)]
 fn lanes_before(name: &[u8], end: usize) -> u8x16
     requires { end ≤ length name.now }
-    ensures { result ≡ slice_range name.now (end - 16) end ++ replicate (16 - end) 97 }
+    ensures { result ≡ slice_range name.now (end - CHUNK_LEN) end ++ replicate (CHUNK_LEN - end) 97 }
 {
     if end >= CHUNK_LEN {
         return u8x16::from_slice(&name[end - CHUNK_LEN..end]);
