@@ -40,3 +40,9 @@ consumes_nothing (Some xs) = refl
 pub consumes_front : (rest : Option (List ℕ)) (bytes : List ℕ) (n : ℕ) → Consumes (prepend_known bytes rest) (prepend_known (drop n bytes) rest) (take n bytes)
 consumes_front None bytes n = tt
 consumes_front (Some xs) bytes n = ap (λ l. l ++ xs) (sym (take-append-drop n bytes)) ∙ append_assoc (take n bytes) (drop n bytes) xs
+
+-- what was read and is held is still left
+pub keeps_read : (a b : Option (List ℕ)) (held more : List ℕ) → Consumes a b more → Keeps (prepend_known held a) (prepend_known (held ++ more) b)
+keeps_read None b held more taken = tt
+keeps_read (Some xs) None held more taken = absurd taken
+keeps_read (Some xs) (Some ys) held more taken = append_assoc held more ys ∙ ap (λ l. held ++ l) (sym taken)

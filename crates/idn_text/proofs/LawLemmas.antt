@@ -1,5 +1,5 @@
 -- What the laws rest on.
-use Rattle.std.proofs.Common.{◌≡◌, ◌≢◌, ℕ, ◌-◌, ◌≤◌, ◌<◌, List, [], ◌∷◌, ◌++◌, Some, None, Bool, true, false, eqb, ltb, cond, All, take, get_or, length, refl, sym, ap, ◌∙◌, eq-eqb, eqb-true, length-append, arith}
+use Rattle.std.proofs.Common.{◌≡◌, ◌≢◌, ℕ, ◌-◌, ◌<◌, List, [], ◌∷◌, ◌++◌, Some, None, Bool, true, false, eqb, cond, All, take, get_or, length, refl, sym, ap, ◌∙◌, eq-eqb, eqb-true, length-append, arith}
 use Rattle.std.proofs.lemmas.List.{append-nil}
 use Rattle.std.proofs.Math.Seq.{take-append_seam}
 use Rattle.std.specs.List.{onto_first, AllByRecursion}
@@ -7,6 +7,7 @@ use Rattle.std.proofs.lemmas.List.Elements.{All-nil, All-cons, recursion_from_Al
 use Rattle.std.proofs.lemmas.Bool.Decides.{nat_tests}
 use Rattle.std.proofs.lemmas.Grind.{common_steps}
 use Rattle.idn_text.specs.Lines.{raw_lines, ended_lines, body_of, HasNoFeed, EndsInFeed, joined_lines, with_last_feed}
+use Rattle.idn_text.proofs.TakingLemmas.{is_long_line-short, is_long_line-long}
 use Rattle.idn_text.proofs.NumberingLemmas.{raw_lines-some, raw_lines-then, ended_lines-append, ended_lines-no_feed}
 
 onto_no_feed : (c : ℕ) (lines : List (List ℕ)) → c ≢ 10 → AllByRecursion HasNoFeed lines → AllByRecursion HasNoFeed (onto_first c lines)
@@ -60,18 +61,12 @@ last_byte : (line : List ℕ) (last : ℕ) → get_or (line ++ last ∷ []) (len
 last_byte [] last = refl
 last_byte (c ∷ cs) last = grind (arith, common_steps)
 
-short : (n : ℕ) → n ≤ 1024 → ltb 1024 n ≡ false
-short n few = grind (arith, nat_tests)
-
-long : (n : ℕ) → 1024 < n → ltb 1024 n ≡ true
-long n many = grind (arith, nat_tests)
-
 -- a line that does not end in a carriage return is its body
 pub body_of-other : (line : List ℕ) (last : ℕ) → length line < 1024 → last ≢ 13 → body_of (line ++ last ∷ []) ≡ Some (line ++ last ∷ [])
 body_of-other line last few other =
     let whole : List ℕ = line ++ last ∷ [] in
     let count = length-append line (last ∷ []) in
-    let is_short = short (length whole) (omega (arith, count)) in
+    let is_short = is_long_line-short whole (omega (arith, count)) in
     let differs : eqb last 13 ≡ false = grind (arith, nat_tests) in
     let test : eqb (get_or whole (length whole - 1) 0) 13 ≡ false = ap (λ byte. eqb byte 13) (last_byte line last) ∙ differs in
     rw (is_short, test) refl
@@ -81,7 +76,7 @@ pub body_of-carriage_return : (line : List ℕ) → length line < 1024 → body_
 body_of-carriage_return line few =
     let whole : List ℕ = line ++ 13 ∷ [] in
     let count = length-append line (13 ∷ []) in
-    let is_short = short (length whole) (omega (arith, count)) in
+    let is_short = is_long_line-short whole (omega (arith, count)) in
     let test : eqb (get_or whole (length whole - 1) 0) 13 ≡ true = ap (λ byte. eqb byte 13) (last_byte line 13) in
     let less : length whole - 1 ≡ length line = omega (arith, count) in
     let front : take (length whole - 1) whole ≡ line = ap (λ n. take n whole) less ∙ take-append_seam line (13 ∷ []) in
@@ -89,4 +84,4 @@ body_of-carriage_return line few =
 
 -- a longer line has no body
 pub body_of-long : (line : List ℕ) → 1024 < length line → body_of line ≡ None
-body_of-long line many = rw (long (length line) many) refl
+body_of-long line many = rw (is_long_line-long line many) refl

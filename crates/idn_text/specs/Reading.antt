@@ -1,6 +1,8 @@
 -- The numbered lines of what a reader gave.
 use Rattle.std.specs.Prelude.{◌≡◌, ◌≢◌, ℕ, ◌+◌, ◌^◌, ◌⊎◌, ◌<◌, ◌≤◌, List, [], ◌∷◌, length, take, Option, Some, None, Bool, true, false, Result, Ok, Err}
 use Rattle.std.specs.Io.KnownBytes.{Consumes}
+use Rattle.std.specs.Option.{option_map}
+use Rattle.std.specs.Str.Lines.{strip_carriage_return}
 use Rattle.idn_text.specs.declared.lines.Line.{Line}
 use Rattle.idn_text.specs.declared.lines.ReadFault.{ReadFault}
 use Rattle.idn_text.specs.declared.lines.State.{State}
@@ -18,7 +20,7 @@ pub record Reading : Type 0 where
 
 -- the lines of a reader of which none was read yet
 abbrev pub unread : Reader → Reading
-unread reader = record { input = record { held = []; reader = reader; reads = 0 }; number = 0; state = Open }
+unread reader = record { input = record { held = []; line = Some []; reader = reader; reads = 0 }; number = 0; state = Open }
 
 -- none was read yet
 pub record IsUnread (reading : Reading) : Type 0 where
@@ -63,24 +65,28 @@ HasStopped old new =
     Fails old.input.reader new.input.reader
     ⊎ (((new.input.reads ≡ 2 ^ 40) ⊎ (new.number ≡ 2 ^ 32)) × (new.input.reader.faults ≡ old.input.reader.faults))
 
+-- the line that the last call went on to, if it went on to one
+abbrev pub line_at : Reading → Numbered
+line_at reading = record { number = reading.number; body = option_map strip_carriage_return reading.input.line }
+
+-- the lines that a call answered, which says whether it went on to a next line
+abbrev pub answered : Result Bool ReadFault → Reading → List Numbered
+answered (Ok true) new = line_at new ∷ []
+answered (Ok false) new = []
+answered (Err fault) new = []
+
+-- the state that such a call leaves
+abbrev pub IsLeftBy : Result Bool ReadFault → Reading → Type 0
+IsLeftBy (Ok true) new = (new.state ≡ Open) ⊎ (new.state ≡ Ended)
+IsLeftBy (Ok false) new = new.state ≡ Ended
+IsLeftBy (Err fault) new = new.state ≡ Stopped
+
 -- a line as its number and its body
 abbrev pub numbered_line : Line → Numbered
 numbered_line line = record { number = line.number; body = bytes_of line.body }
 
--- the lines that a call answered
-abbrev pub answered : Result (Option Line) ReadFault → List Numbered
-answered (Ok (Some line)) = numbered_line line ∷ []
-answered (Ok None) = []
-answered (Err fault) = []
-
--- what a call that reads into a line answers: that line, where it says that there was one
-abbrev pub read_into : Result Bool ReadFault → Line → Result (Option Line) ReadFault
-read_into (Ok true) line = Ok (Some line)
-read_into (Ok false) line = Ok None
-read_into (Err fault) line = Err fault
-
--- the state that a call leaves
-abbrev pub IsLeftBy : Result (Option Line) ReadFault → Reading → Type 0
-IsLeftBy (Ok (Some line)) new = (new.state ≡ Open) ⊎ (new.state ≡ Ended)
-IsLeftBy (Ok None) new = new.state ≡ Ended
-IsLeftBy (Err fault) new = new.state ≡ Stopped
+-- whether there was a line
+abbrev pub has_line : Result (Option Line) ReadFault → Result Bool ReadFault
+has_line (Ok (Some line)) = Ok true
+has_line (Ok None) = Ok false
+has_line (Err fault) = Err fault

@@ -3,9 +3,11 @@ use Rattle.std.specs.Prelude.{◌≡◌, ℕ, ◌^◌, ◌⊎◌, List, [], Opti
 use Rattle.std.specs.Io.KnownBytes.{IsAtEnd, prepend_known}
 use Rattle.idn_text.specs.Readers.{Reader, Fails}
 
--- a reader, with the bytes that it gave and that no line has taken yet
+-- a reader, with the bytes that it gave and that no line has taken yet, and the line that was taken last, none where that is
+-- too long
 pub record Input : Type 0 where
   pub held : List ℕ
+  pub line : Option (List ℕ)
   pub reader : Reader
   pub reads : ℕ
 

@@ -1,10 +1,7 @@
 //! The bytes of a line.
 
-ghost use Rattle.std.specs.Prelude.{◌≡◌, ◌++◌, ◌↔◌, ℕ, List, [], IsTrue};
-ghost use Rattle.idn_text.specs.Lines.{body_of};
-ghost use Rattle.idn_text.specs.inner.TakenLines.{kept};
+ghost use Rattle.std.specs.Prelude.{◌≡◌, ◌≤◌, length, Some};
 
-use crate::text_lines::without_carriage_return;
 use arrayvec::ArrayVec;
 
 /// The most bytes of a line, a carriage return at its end counted. So no line has more code points.
@@ -21,47 +18,14 @@ pub enum Body {
 impl Body {
     ghost use Rattle.idn_text.specs.Bodies.{bytes_of};
 
-    /// The body of a line of which no byte was read yet.
-    pub(crate) fn new() -> Self
-        ensures { bytes_of result ≡ kept [] }
+    /// The body of a line that is not too long.
+    pub(crate) fn of(text: &[u8]) -> Self
+        requires { length text.now ≤ MAX_LINE_LEN }
+        ensures { bytes_of result ≡ Some text.now }
     {
-        Body::Text(ArrayVec::new())
-    }
-
-    /// Forgets the line.
-    pub(crate) fn clear(&mut self)
-        ensures { bytes_of self.new ≡ kept [] }
-    {
-        match self {
-            Body::Text(text) => text.clear(),
-            Body::TooLong => *self = Body::new(),
-        }
-    }
-
-    /// Adds bytes to the line.
-    pub(crate) fn extend(&mut self, bytes: &[u8])
-        ensures { (line : List ℕ) → bytes_of self.old ≡ kept line → bytes_of self.new ≡ kept (line ++ bytes.now) }
-    {
-        if let Body::Text(text) = self
-            && text.try_extend_from_slice(bytes).is_err()
-        {
-            *self = Body::TooLong;
-        }
-    }
-
-    /// Whether the line has no byte.
-    pub(crate) fn is_empty(&self) -> bool
-        ensures { (line : List ℕ) → bytes_of self.now ≡ kept line → (IsTrue result ↔ (line ≡ [])) }
-    {
-        matches!(self, Body::Text(text) if text.is_empty())
-    }
-
-    /// Drops one carriage return at the end.
-    pub(crate) fn drop_carriage_return(&mut self)
-        ensures { (line : List ℕ) → bytes_of self.old ≡ kept line → bytes_of self.new ≡ body_of line }
-    {
-        if let Body::Text(text) = self {
-            text.truncate(without_carriage_return(text).len());
+        match ArrayVec::try_from(text) {
+            Ok(text) => Body::Text(text),
+            Err(_) => Body::TooLong,
         }
     }
 }

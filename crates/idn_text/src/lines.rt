@@ -1,11 +1,11 @@
 //! The numbered lines of a reader.
 
-ghost use Rattle.std.specs.Prelude.{◌≡◌, ◌⊎◌, ℕ, List, [], ◌++◌, None, Some, Ok, OnErr, IsErr, false};
-ghost use Rattle.idn_text.specs.Bodies.{bytes_of};
+ghost use Rattle.std.specs.Prelude.{◌≡◌, ◌⊎◌, ◌≤◌, ℕ, List, ◌++◌, length, None, Some, Ok, IfOk, OnErr, IsErr, MatchOption, false};
 
-use crate::body::Body;
+use crate::body::{Body, MAX_LINE_LEN};
 use crate::device::Source;
 use crate::input::Input;
+use crate::text_lines::without_carriage_return;
 use std::marker::Model;
 use thiserror::Error;
 
@@ -20,23 +20,10 @@ pub struct ReadFault;
 /// A line and its number, from 1.
 #[derive(Debug, Drop)]
 pub struct Line {
-    /// From 1 to 4,294,967,296; 0 in a new `Line`. A line that is too long counts too.
+    /// From 1 to 4,294,967,296. A line that is too long counts too.
     pub number: u64,
     /// The line without its end, or that it is too long.
     pub body: Body,
-}
-
-impl Line {
-    /// A line to be read into: number 0, and no byte.
-    pub fn new() -> Self
-        ensures number { result.number ≡ 0 }
-        ensures body { bytes_of result.body ≡ Some [] }
-    {
-        Line {
-            number: 0,
-            body: Body::new(),
-        }
-    }
 }
 
 /// How far lines were read: on to a next one, to the end, or to a fault.
@@ -69,7 +56,7 @@ impl<R: Source> Model for Lines<R> {
 
 impl<R: Source> Lines<R> {
     ghost use Rattle.idn_text.specs.Lines.{Numbered};
-    ghost use Rattle.idn_text.specs.Reading.{Reading, HasRead, HasStopped, IsLeftBy, answered, read_into, unread};
+    ghost use Rattle.idn_text.specs.Reading.{Reading, HasRead, HasStopped, IsLeftBy, answered, has_line, line_at, numbered_line, unread};
     ghost use Rattle.idn_text.specs.declared.lines.State.TheVariants.{Open, Ended, Stopped};
 
     /// The lines of what a reader gives from here on. This does not call the reader.
@@ -90,59 +77,39 @@ impl<R: Source> Lines<R> {
         self.input.failed()
     }
 
-    /// The next line, or `None` at the end, for good. A reader that fails, a read call after 2^40 of
-    /// them and a line after 4,294,967,296 of them are a fault, for good.
-    pub fn next_line(&mut self) -> Result<Option<Line>, ReadFault>
+    /// Goes on to the next line, and returns whether there was one. At the end there is none, for good. A
+    /// reader that fails, a read call after 2^40 of them and a line after 4,294,967,296 of them are a
+    /// fault, for good.
+    #[inline(always)]
+    pub fn advance(&mut self) -> Result<bool, ReadFault>
         // Where lines were read of the bytes given so far, they are so with this answer too.
         ensures lines { (start : Reading) (given : List ℕ) (lines : List Numbered) → HasRead start self.old given lines →
-            (more : List ℕ) × HasRead start self.new (given ++ more) (lines ++ answered result) }
+            (more : List ℕ) × HasRead start self.new (given ++ more) (lines ++ answered result self.new) }
         ensures state { IsLeftBy result self.new }
-
-        ensures cause { OnErr result ((self.old.state ≡ Stopped) ⊎ HasStopped self.old self.new) }
-        ensures ended { self.old.state ≡ Ended → (result ≡ Ok None) × (self.new ≡ self.old) }
-        ensures stopped { self.old.state ≡ Stopped → IsErr result × (self.new ≡ self.old) }
-    {
-        let mut line = Line::new();
-        if self.read_line(&mut line)? {
-            Ok(Some(line))
-        } else {
-            Ok(None)
-        }
-    }
-
-    /// Reads the next line into one that is no longer needed, and returns whether there was one. At
-    /// the end and at a fault, which are as `next_line` tells them, nothing is said of what then stands
-    /// in `line`.
-    #[inline(always)]
-    pub fn read_line(&mut self, line: &mut Line) -> Result<bool, ReadFault>
-        ensures lines { (start : Reading) (given : List ℕ) (lines : List Numbered) → HasRead start self.old given lines →
-            (more : List ℕ) × HasRead start self.new (given ++ more) (lines ++ answered (read_into result line.new)) }
-        ensures state { IsLeftBy (read_into result line.new) self.new }
 
         ensures cause { OnErr result ((self.old.state ≡ Stopped) ⊎ HasStopped self.old self.new) }
         ensures ended { self.old.state ≡ Ended → (result ≡ Ok false) × (self.new ≡ self.old) }
         ensures stopped { self.old.state ≡ Stopped → IsErr result × (self.new ≡ self.old) }
     {
         match self.state {
-            State::Open => self.read_open(line),
+            State::Open => self.advance_open(),
             State::Ended => Ok(false),
             State::Stopped => Err(ReadFault),
         }
     }
 
-    /// Reads the next line, where neither the end nor a fault was met yet.
-    fn read_open(&mut self, line: &mut Line) -> Result<bool, ReadFault>
+    /// Goes on to the next line, where neither the end nor a fault was met yet.
+    fn advance_open(&mut self) -> Result<bool, ReadFault>
         requires { self.old.state ≡ Open }
         ensures lines { (start : Reading) (given : List ℕ) (lines : List Numbered) → HasRead start self.old given lines →
-            (more : List ℕ) × HasRead start self.new (given ++ more) (lines ++ answered (read_into result line.new)) }
-        ensures state { IsLeftBy (read_into result line.new) self.new }
+            (more : List ℕ) × HasRead start self.new (given ++ more) (lines ++ answered result self.new) }
+        ensures state { IsLeftBy result self.new }
         ensures cause { OnErr result (HasStopped self.old self.new) }
     {
         // What leaves early below is a fault.
         self.state = State::Stopped;
-        line.body.clear();
-        let has_feed = self.input.take_line(&mut line.body)?;
-        if !has_feed && line.body.is_empty() {
+        let has_feed = self.input.take_line()?;
+        if !has_feed && self.input.has_empty_line() {
             self.state = State::Ended;
             return Ok(false);
         }
@@ -151,8 +118,50 @@ impl<R: Source> Lines<R> {
         }
         self.number += 1;
         self.state = if has_feed { State::Open } else { State::Ended };
-        line.number = self.number;
-        line.body.drop_carriage_return();
         Ok(true)
+    }
+
+    /// The number of the last line that `advance` went on to, from 1; 0 before the first.
+    pub fn number(&self) -> u64
+        ensures { result ≡ self.now.number }
+    {
+        self.number
+    }
+
+    /// The line that `advance` went on to, without its end: a line feed, and one carriage return before
+    /// it. It is `None` where the line has more than 1,024 bytes, a carriage return at its end counted.
+    /// Where the last `advance` went on to none, nothing is said of it.
+    pub fn text(&self) -> Option<&[u8]>
+        ensures body { MatchOption result ((line_at self.now).body ≡ None) (λ text. (line_at self.now).body ≡ Some text.now) }
+        ensures few { MatchOption result (Unit {0}) (λ text. length text.now ≤ MAX_LINE_LEN) }
+    {
+        match self.input.line() {
+            Some(line) => Some(without_carriage_return(line)),
+            None => None,
+        }
+    }
+
+    /// The next line, or `None` at the end, for good; a fault as `advance` tells it.
+    pub fn next_line(&mut self) -> Result<Option<Line>, ReadFault>
+        ensures lines { (start : Reading) (given : List ℕ) (lines : List Numbered) → HasRead start self.old given lines →
+            (more : List ℕ) × HasRead start self.new (given ++ more) (lines ++ answered (has_line result) self.new) }
+        ensures line { IfOk result (λ next. MatchOption next (Unit {0}) (λ line. numbered_line line ≡ line_at self.new)) }
+        ensures state { IsLeftBy (has_line result) self.new }
+
+        ensures cause { OnErr result ((self.old.state ≡ Stopped) ⊎ HasStopped self.old self.new) }
+        ensures ended { self.old.state ≡ Ended → (result ≡ Ok None) × (self.new ≡ self.old) }
+        ensures stopped { self.old.state ≡ Stopped → IsErr result × (self.new ≡ self.old) }
+    {
+        if !self.advance()? {
+            return Ok(None);
+        }
+        let body = match self.text() {
+            Some(text) => Body::of(text),
+            None => Body::TooLong,
+        };
+        Ok(Some(Line {
+            number: self.number(),
+            body,
+        }))
     }
 }

@@ -2,8 +2,7 @@
 
 ghost use Rattle.std.specs.Prelude.{◌≡◌, ◌≢◌, ℕ, List, IfOk, Err};
 ghost use Rattle.std.specs.Result.{is_err};
-ghost use Rattle.idn_text.specs.Bodies.{bytes_of};
-ghost use Rattle.idn_text.specs.Reading.{IsUnread, numbered_line};
+ghost use Rattle.idn_text.specs.Reading.{IsUnread, line_at};
 ghost use Rattle.idn2_cli.specs.inner.Emitting.{Emits};
 ghost use Rattle.idn2_cli.specs.Answers.{line_answer};
 ghost use Rattle.idn2_cli.specs.Transcript.{line_pieces};
@@ -16,7 +15,7 @@ use crate::session::buffers::Buffers;
 use crate::session::console::Console;
 use crate::session::status::Status;
 use crate::session::stop::Stop;
-use idn_text::{Body, Line, Lines, Refusal, Sink, Source};
+use idn_text::{Lines, Refusal, Sink, Source};
 use std::alloc::Global;
 
 /// Answers each line to the end of the input, and gives the status of the run.
@@ -30,11 +29,10 @@ pub(crate) fn serve_lines<M: Answering, R: Source, W: Sink, E: Sink>(
     requires unread { IsUnread input.old }
     ensures { Does (lines_job (M.answer_of mode.now) (M.needs_none mode.now)) input.old input.new console.old console.new result }
 {
-    let mut line = Line::new();
     let mut buffers = Buffers::new();
     let mut has_refused = false;
-    'lines: while input.read_line(&mut line)? {
-        let is_refused = serve_line(alloc, mode, &line, &mut buffers, console)?;
+    'lines: while input.advance()? {
+        let is_refused = serve_line(alloc, mode, input, &mut buffers, console)?;
         has_refused = has_refused || is_refused;
     }
     Ok(if has_refused {
@@ -44,23 +42,24 @@ pub(crate) fn serve_lines<M: Answering, R: Source, W: Sink, E: Sink>(
     })
 }
 
-/// Answers a line, and returns whether it was refused.
+/// Answers the line that the input went on to, and returns whether it was refused.
 #[inline(always)]
-fn serve_line<M: Answering, W: Sink, E: Sink>(
+fn serve_line<M: Answering, R: Source, W: Sink, E: Sink>(
     alloc: Global,
     mode: &M,
-    line: &Line,
+    input: &Lines<R>,
     buffers: &mut Buffers,
     console: &mut Console<'_, '_, W, E>,
 ) -> Result<bool, Stop>
     requires { M.is_ready mode.now }
     ensures written { Emits console.old console.new
-        (line_pieces (M.answer_of mode.now) (numbered_line line.now)) result }
-    ensures refused { IfOk result (λ refused. refused ≡ is_err (line_answer (M.answer_of mode.now) (bytes_of line.now.body))) }
-    ensures no_memory { BodyNeedsNone (M.needs_none mode.now) (bytes_of line.now.body) → result ≢ Err stop.Memory }
+        (line_pieces (M.answer_of mode.now) (line_at input.now)) result }
+    ensures refused { IfOk result (λ refused. refused ≡ is_err (line_answer (M.answer_of mode.now) (line_at input.now).body)) }
+    ensures no_memory { BodyNeedsNone (M.needs_none mode.now) (line_at input.now).body → result ≢ Err stop.Memory }
 {
-    match &line.body {
-        Body::TooLong => refuse(line.number, Refusal::LineTooLong, console),
-        Body::Text(text) => mode.answer(alloc, line.number, text, buffers, console),
+    let number = input.number();
+    match input.text() {
+        Some(text) => mode.answer(alloc, number, text, buffers, console),
+        None => refuse(number, Refusal::LineTooLong, console),
     }
 }

@@ -1,8 +1,10 @@
--- A line taken from what a reader gave, and what is kept of it.
-use Rattle.std.specs.Prelude.{ℕ, ◌+◌, ◌≤◌, List, ◌++◌, length, Option, Some, None, if◌then◌else◌}
+-- A line taken from what a reader gave, what is kept of it, and where that stands.
+use Rattle.std.specs.Prelude.{ℕ, ◌+◌, ◌≤◌, List, ◌++◌, length, slice_range, Option, Some, None, if◌then◌else◌}
 use Rattle.std.specs.Io.KnownBytes.{Consumes}
 use Rattle.idn_text.specs.Lines.{HasNoFeed, is_long_line}
 use Rattle.idn_text.specs.Taking.{Input, left}
+use Rattle.idn_text.specs.declared.input.Place.{Place}
+use Rattle.idn_text.specs.declared.input.Place.TheVariants.{Text, TooLong}
 
 -- these bytes without a line feed, and then these, were taken; of the read calls between, none uncounted, all but so many gave a byte
 pub record Takes (old new : Input) (line feed : List ℕ) (idle : ℕ) : Type 0 where
@@ -14,3 +16,13 @@ pub record Takes (old new : Input) (line feed : List ℕ) (idle : ℕ) : Type 0 
 -- what is kept of a line: its bytes, unless it is too long
 abbrev pub kept : List ℕ → Option (List ℕ)
 kept line = if is_long_line line then None else Some line
+
+-- what stands at a place of the buffer, none where the line is too long
+abbrev pub at_place : List ℕ → Place → Option (List ℕ)
+at_place buffer (Text start stop) = Some (slice_range buffer start stop)
+at_place buffer TooLong = None
+
+-- the place lies in the buffer, and has no more bytes than a line may have
+abbrev pub IsPlaceOfLine : Place → Type 0
+IsPlaceOfLine (Text start stop) = (start ≤ stop) × (stop ≤ 16384) × (stop ≤ start + 1024)
+IsPlaceOfLine TooLong = Unit {0}

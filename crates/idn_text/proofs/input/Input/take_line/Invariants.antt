@@ -1,11 +1,16 @@
-use Rattle.std.proofs.Common.{◌≡◌, ℕ, List, [], ◌-◌, ◌^◌}
-use Rattle.idn_text.specs.Bodies.{bytes_of}
-use Rattle.idn_text.specs.inner.TakenLines.{Takes, kept}
+use Rattle.std.proofs.Common.{◌≡◌, ◌≤◌, [], length, take, ◌-◌, ◌^◌}
+use Rattle.idn_text.specs.Lines.{HasNoFeed}
+use Rattle.idn_text.specs.inner.TakenLines.{Takes}
 use Rattle.idn_text.proofs.input.Input.take_line.Given as goal
 
--- bytes without a line feed were taken, each read call gave some and none failed, and the body has them
+-- nothing was taken, each read call gave bytes and none failed, and those that were searched have no line feed
 abbrev pub invariant-reads : goal.invariant-reads
-invariant-reads g l = (line : List ℕ) × (bytes_of l.body ≡ kept line) × Takes l.initial.self l.self line [] 0 × (l.self.reader.faults ≡ l.initial.self.reader.faults)
+invariant-reads g l = record {
+  takes : Takes l.initial.self l.self [] [] 0;
+  no_fault : l.self.reader.faults ≡ l.initial.self.reader.faults;
+  within : l.searched ≤ length l.self.held;
+  no_feed : HasNoFeed (take l.searched l.self.held);
+}
 
 abbrev pub decreases-reads : goal.decreases-reads
 decreases-reads g l = 2 ^ 40 - l.self.reads
