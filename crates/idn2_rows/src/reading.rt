@@ -20,8 +20,8 @@ const NEVER: Stop = Stop {
     once: false,
 };
 
-/// The lines of an input, each as its body behind a colon, `#` and its length for a long one, `!` for one that is too
-/// long; then `.` at the end or `F` at a fault, each as often as two further calls give it.
+/// The lines of an input, each as its body behind a colon, a long one as its letter, `#` and its length, one that is too
+/// long as `!`; then `.` at the end or `F` at a fault, each as often as two further calls give it.
 fn spelled_lines(alloc: Global, input: &[u8], stop: Stop) -> Result<String, Fail> {
     let reader = StopReader::new(input, stop.piece.max(1), stop.fail_at, stop.once);
     spelled_lines_of(alloc, Device::new(reader))
@@ -47,12 +47,25 @@ fn spelled_lines_of(alloc: Global, reader: Device<StopReader<'_>>) -> Result<Str
 
 fn spell_line(alloc: Global, spelled: &mut String, line: &Line) -> Result<(), AllocError> {
     let text = match &line.body {
-        Body::Text(text) if text.len() < 100 => shown(alloc, text)?,
-        Body::Text(text) => format!(in alloc; "#{}", text.len())?,
+        Body::Text(text) => spelled_text(alloc, text)?,
         Body::TooLong => String::from_str(alloc, "!")?,
     };
     spelled.push(':')?;
     spelled.push_str(text.as_str())
+}
+
+/// A long text has one letter, so often; `?` where it has others.
+fn spelled_text(alloc: Global, text: &[u8]) -> Result<String, AllocError> {
+    match text {
+        [letter, rest @ ..] if rest.len() > 99 => {
+            if rest.iter().all(|byte| byte == letter) {
+                format!(in alloc; "{}#{}", char::from(*letter), text.len())
+            } else {
+                String::from_str(alloc, "?")
+            }
+        }
+        _ => shown(alloc, text),
+    }
 }
 
 #[test]
@@ -84,15 +97,15 @@ fn lines(rt: HostRuntime) -> Result<(), Fail> {
 #[test]
 fn long_lines(rt: HostRuntime) -> Result<(), Fail> {
     let rows = [
-        (1023, "\nb", ":#1023:b..."),
-        (1024, "\nb", ":#1024:b..."),
+        (1023, "\nb", ":a#1023:b..."),
+        (1024, "\nb", ":a#1024:b..."),
         (1025, "\nb", ":!:b..."),
-        (1022, "\r\nb", ":#1022:b..."),
-        (1023, "\r\nb", ":#1023:b..."),
+        (1022, "\r\nb", ":a#1022:b..."),
+        (1023, "\r\nb", ":a#1023:b..."),
         (1024, "\r\nb", ":!:b..."),
-        (1024, "", ":#1024..."),
+        (1024, "", ":a#1024..."),
         (1025, "", ":!..."),
-        (1023, "\r", ":#1023..."),
+        (1023, "\r", ":a#1023..."),
         (1024, "\r", ":!..."),
         (5000, "\nb", ":!:b..."),
         (40000, "\nb", ":!:b..."),
@@ -106,6 +119,69 @@ fn long_lines(rt: HostRuntime) -> Result<(), Fail> {
         }
     }
     Ok(())
+}
+
+/// Lines at the end of 16,384 bytes, which are read at once: 15 lines of 1,024 bytes come before these. Of each there is
+/// how many letters it has, and its end.
+#[test]
+fn lines_across_reads(rt: HostRuntime) -> Result<(), Fail> {
+    let rows: [&[(usize, &str)]; 14] = [
+        // A line feed is the last byte of a read, the last but one, and the first of the next.
+        &[(1022, "\n"), (3, "\n")],
+        &[(1023, "\n"), (3, "\n")],
+        &[(1024, "\n"), (3, "\n")],
+        // A carriage return is the last byte, and so is the line feed behind one.
+        &[(1023, "\r\n"), (3, "\n")],
+        &[(1022, "\r\n"), (3, "\n")],
+        // Lines that are as long as may be begin just before the end of a read, and longer ones.
+        &[(1000, "\n"), (1024, "\n"), (3, "\n")],
+        &[(1022, "\n"), (1024, "\n"), (3, "\n")],
+        &[(1000, "\n"), (1025, "\n"), (3, "\n")],
+        &[(1000, "\n"), (1024, "\r\n"), (3, "\n")],
+        &[(1000, "\n"), (40000, "\n"), (3, "\n")],
+        // The last line has no line feed.
+        &[(1023, "\n"), (3, "")],
+        &[(1022, "\n"), (3, "\r")],
+        &[(1000, "\n"), (1024, "")],
+        // Lines are empty.
+        &[(1022, "\n"), (0, "\n"), (0, "\r\n"), (3, "\n")],
+    ];
+    for row in rows {
+        let mut input = Vec::new(rt.alloc());
+        let mut want = String::new(rt.alloc());
+        for _ in 0..15 {
+            push_line(rt.alloc(), &mut input, &mut want, b'a', (1023, "\n"))?;
+        }
+        for (letter, line) in (b'b'..=b'z').zip(row) {
+            push_line(rt.alloc(), &mut input, &mut want, letter, *line)?;
+        }
+        want.push_str("...")?;
+        for piece in [1, 1000, 65536] {
+            let got = spelled_lines(rt.alloc(), &input, Stop { piece, ..NEVER })?;
+            assert_eq!(rt; got.as_str(), want.as_str(), "{row:?} by {piece}");
+        }
+    }
+    Ok(())
+}
+
+/// Puts a line of so many times a letter behind an input, and how it is spelled behind what is wanted.
+fn push_line(
+    alloc: Global,
+    input: &mut Vec<u8>,
+    want: &mut String,
+    letter: u8,
+    (count, end): (usize, &str),
+) -> Result<(), AllocError> {
+    let text = vec![in alloc; letter; count]?;
+    input.extend_from_slice(&text)?;
+    input.extend_from_slice(end.as_bytes())?;
+    want.push(':')?;
+    // a carriage return at its end is counted
+    if count.saturating_add(end.trim_end_matches('\n').len()) > 1024 {
+        want.push('!')
+    } else {
+        want.push_str(spelled_text(alloc, &text)?.as_str())
+    }
 }
 
 /// A reader that fails has failed for good, also where only one of its calls fails.
