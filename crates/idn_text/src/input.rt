@@ -1,6 +1,6 @@
 //! A reader with a buffer, cut at line feeds.
 
-ghost use Rattle.std.specs.Prelude.{◌≡◌, ◌<◌, ◌≤◌, ◌+◌, ◌^◌, ◌↔◌, ℕ, List, [], ◌∷◌, ◌++◌, length, take, drop, OnErr, OnOk, IfOk, Ok, Some, None, MatchOption, IsTrue, true, false, if◌then◌else◌};
+ghost use Rattle.std.specs.Prelude.{◌≡◌, ◌<◌, ◌≤◌, ◌+◌, ◌^◌, ◌↔◌, ℕ, List, [], ◌∷◌, ◌++◌, length, take, drop, OnErr, OnOk, IfOk, IfSome, Ok, Some, None, MatchOption, IsTrue, true, false, if◌then◌else◌};
 ghost use Rattle.std.specs.Io.KnownBytes.{Consumes, IsAtEnd, Keeps};
 ghost use Rattle.idn_text.specs.Lines.{HasNoFeed};
 ghost use Rattle.idn_text.specs.Taking as seen;
@@ -71,7 +71,8 @@ impl<R: Source> Input<R> {
 
     /// The line that was taken last, without its line feed, unless it is too long.
     pub fn line(&self) -> Option<&[u8]>
-        ensures { MatchOption result (self.now.line ≡ None) (λ line. (self.now.line ≡ Some line.now) × (length line.now ≤ MAX_LINE_LEN)) }
+        ensures line { MatchOption result (self.now.line ≡ None) (λ line. self.now.line ≡ Some line.now) }
+        ensures few { IfSome result (λ line. length line.now ≤ MAX_LINE_LEN) }
     {
         match self.place {
             Place::Text { start, end } => Some(&self.buffer[start..end]),

@@ -1,6 +1,6 @@
 //! The numbered lines of a reader.
 
-ghost use Rattle.std.specs.Prelude.{◌≡◌, ◌⊎◌, ◌≤◌, ℕ, List, ◌++◌, length, None, Some, Ok, IfOk, OnErr, IsErr, MatchOption, false};
+ghost use Rattle.std.specs.Prelude.{◌≡◌, ◌⊎◌, ◌≤◌, ℕ, List, ◌++◌, length, None, Some, Ok, IfOk, IfSome, OnErr, IsErr, MatchOption, false};
 
 use crate::body::{Body, MAX_LINE_LEN};
 use crate::device::Source;
@@ -133,7 +133,7 @@ impl<R: Source> Lines<R> {
     /// Where the last `advance` went on to none, nothing is said of it.
     pub fn text(&self) -> Option<&[u8]>
         ensures body { MatchOption result ((line_at self.now).body ≡ None) (λ text. (line_at self.now).body ≡ Some text.now) }
-        ensures few { MatchOption result (Unit {0}) (λ text. length text.now ≤ MAX_LINE_LEN) }
+        ensures few { IfSome result (λ text. length text.now ≤ MAX_LINE_LEN) }
     {
         match self.input.line() {
             Some(line) => Some(without_carriage_return(line)),
@@ -145,7 +145,7 @@ impl<R: Source> Lines<R> {
     pub fn next_line(&mut self) -> Result<Option<Line>, ReadFault>
         ensures lines { (start : Reading) (given : List ℕ) (lines : List Numbered) → HasRead start self.old given lines →
             (more : List ℕ) × HasRead start self.new (given ++ more) (lines ++ answered (has_line result) self.new) }
-        ensures line { IfOk result (λ next. MatchOption next (Unit {0}) (λ line. numbered_line line ≡ line_at self.new)) }
+        ensures line { IfOk result (λ next. IfSome next (λ line. numbered_line line ≡ line_at self.new)) }
         ensures state { IsLeftBy (has_line result) self.new }
 
         ensures cause { OnErr result ((self.old.state ≡ Stopped) ⊎ HasStopped self.old self.new) }
