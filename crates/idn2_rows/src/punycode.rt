@@ -1,6 +1,6 @@
 //! Punycode of labels, beside the samples of RFC 3492 and the answers of Python's codec.
 use arrayvec::{ArrayString, ArrayVec};
-use idn_punycode::{decode, push_encoded};
+use idn_punycode::{DecodedLabel, push_encoded};
 
 /// The samples of RFC 3492 section 7.1, with I in lower case; H is too long.
 const SAMPLES: [(&str, &str); 18] = [
@@ -115,15 +115,15 @@ fn appended(before: &str, label: &str) -> Option<ArrayString<63>> {
 
 /// What a code of at most 63 octets stands for, or nothing where it is not Punycode.
 fn decoded(code: &str) -> Option<ArrayString<252>> {
-    // What stood there before is no part of the answer.
-    let mut points = ArrayVec::<u32, 63>::new();
-    points.push(0x3F);
     if code.len() > 63 {
         return None;
     }
-    decode(code.as_bytes(), &mut points).ok()?;
+    // What was decoded before is no part of the answer.
+    let mut label = DecodedLabel::new();
+    label.decode(b"fsq-bcher-kva").ok()?;
+    label.decode(code.as_bytes()).ok()?;
     let mut text = ArrayString::<252>::new();
-    for point in points.iter() {
+    for point in label.as_slice() {
         let c = char::from_u32(*point)?;
         text.try_push(c).ok()?;
     }

@@ -57,8 +57,13 @@ const ALL: u32 = 0x7F;
 pub(crate) const END: u32 = 0x11_0000;
 
 impl Facts {
-    /// No fact.
-    pub(crate) const NONE: Facts = Facts { absent: ALL };
+    /// No fact, as of the empty label.
+    #[inline]
+    pub fn none() -> Facts
+        ensures { (fact : Fact) → contains result fact ≡ false }
+    {
+        Facts { absent: ALL }
+    }
 
     /// The facts of a code point, by one look-up. A number past Unicode has each.
     #[inline]
@@ -74,7 +79,7 @@ impl Facts {
     pub fn of_label(label: &[u32]) -> Facts
         ensures { AreFactsOf result label.now }
     {
-        let mut facts = Facts { absent: ALL };
+        let mut facts = Facts::none();
         for c in label {
             // The look-up is faster where it need not ask this itself.
             if *c >= END {

@@ -41,7 +41,7 @@ impl KeptBeginnings {
     {
         KeptBeginnings {
             label: KeptLabel::new(),
-            known: [Known::NOTHING; MAX_LABEL_LEN],
+            known: [Known::nothing(); MAX_LABEL_LEN],
         }
     }
 
@@ -64,7 +64,7 @@ impl KeptBeginnings {
     {
         match self.last_known() {
             Some(known) => known.facts(),
-            None => Facts::of_label(&[]),
+            None => Facts::none(),
         }
     }
 

@@ -19,10 +19,12 @@ impl Known {
     ghost use Rattle.idn_class.specs.inner.Known.{IsKnown};
 
     /// Nothing yet.
-    pub(crate) const NOTHING: Known = Known {
-        facts: Facts::NONE,
-        direction: Direction::Ltr,
-    };
+    pub(crate) fn nothing() -> Known {
+        Known {
+            facts: Facts::none(),
+            direction: Direction::Ltr,
+        }
+    }
 
     /// Of a first code point. `None` where no label may begin with it.
     pub(crate) fn begun(first: u32) -> Option<Known>

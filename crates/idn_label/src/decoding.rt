@@ -14,7 +14,7 @@ ghost use Rattle.idn_label.specs.Steps.{appended};
 use crate::octets::ascii_octets;
 use crate::u_label::u_label_in_any_case;
 use crate::unit::{FULL_STOP, has_ace_prefix_in_any_case, split_first_label};
-use arrayvec::ArrayVec;
+use idn_punycode::DecodedLabel;
 use idn_text::{MAX_LINE_LEN, Refusal};
 use std::alloc::Global;
 
@@ -73,8 +73,8 @@ fn decode_a_label(alloc: Global, label: &[u32], decoded: &mut Vec<u32>) -> Resul
     let Some(octets) = ascii_octets(label) else {
         return Err(Refusal::BadALabel);
     };
-    let mut u_label = ArrayVec::new();
+    let mut u_label = DecodedLabel::new();
     u_label_in_any_case(alloc, &octets, &mut u_label)?;
-    decoded.extend_from_slice(&u_label)?;
+    decoded.extend_from_slice(u_label.as_slice())?;
     Ok(())
 }

@@ -29,16 +29,7 @@ pub fn test_label(alloc: Global, label: &[u32]) -> Result<ALabel, Refusal>
     KeptALabel::new().test_label(alloc, label, Facts::of_label(label))
 }
 
-/// Returns the first fault of a label, but for its length. Its facts say which tests it needs.
-pub(crate) fn check_label(alloc: Global, label: &[u32]) -> Result<(), Refusal>
-    ensures passes { OnOk result (fault_but_length label.now ≡ None) }
-    ensures fault { IfErr result (λ refusal. refusal ≢ Refusal.Memory → fault_but_length label.now ≡ Some refusal) }
-    ensures no_memory { NeedsNoMemory label.now → result ≢ Err Refusal.Memory }
-{
-    check_label_of(alloc, label, Facts::of_label(label))
-}
-
-/// The same of a label of which the facts are known.
+/// Returns the first fault of a label, but for its length. Its facts, which are known, say which tests it needs.
 pub(crate) fn check_label_of(alloc: Global, label: &[u32], facts: Facts) -> Result<(), Refusal>
     requires { AreFactsOf facts label.now }
     ensures passes { OnOk result (fault_but_length label.now ≡ None) }

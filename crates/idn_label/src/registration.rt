@@ -14,7 +14,7 @@ use crate::first_fault::test_label;
 use crate::octets::ascii_octets;
 use crate::u_label::u_label;
 use crate::unit::has_ace_prefix;
-use arrayvec::ArrayVec;
+use idn_punycode::DecodedLabel;
 use idn_text::{MAX_LINE_LEN, Refusal};
 use std::alloc::Global;
 
@@ -49,6 +49,6 @@ fn register_a_label(alloc: Global, label: &[u32]) -> Result<ALabel, Refusal>
     let Some(octets) = ascii_octets(label) else {
         return Err(Refusal::BadALabel);
     };
-    u_label(alloc, &octets, &mut ArrayVec::new())?;
+    u_label(alloc, &octets, &mut DecodedLabel::new())?;
     Ok(ascii_text(label))
 }

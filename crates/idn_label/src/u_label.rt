@@ -11,11 +11,10 @@ ghost use Rattle.idn_label.specs.Register.{decoded_code, u_label_answer};
 
 use crate::a_label::{ALabel, MAX_LABEL_LEN};
 use crate::code_points::points_of;
-use crate::first_fault::{check_label, test_label};
+use crate::first_fault::{check_label_of, test_label};
 use crate::octets::lowercase_of;
 use crate::unit::is_all_ascii;
-use arrayvec::ArrayVec;
-use idn_punycode::decode;
+use idn_punycode::DecodedLabel;
 use idn_text::{MAX_LINE_LEN, Refusal};
 use idna::{Errors, punycode};
 use std::alloc::Global;
@@ -26,13 +25,13 @@ use std::str;
 pub(crate) fn u_label_in_any_case(
     alloc: Global,
     given: &[u8],
-    label: &mut ArrayVec<u32, 63>,
+    label: &mut DecodedLabel,
 ) -> Result<(), Refusal>
     requires prefix { has_ace_prefix (map to_ascii_lowercase given.now) ≡ true }
     requires ascii { is_all_ascii given.now ≡ true }
     requires short { length given.now ≤ MAX_LINE_LEN }
-    ensures answer { Gives (λ _. label.new.items) result (u_label_answer (map to_ascii_lowercase given.now)) }
-    ensures shorter { OnOk result (length label.new.items < length given.now) }
+    ensures answer { Gives (λ _. label.new) result (u_label_answer (map to_ascii_lowercase given.now)) }
+    ensures shorter { OnOk result (length label.new < length given.now) }
     ensures no_memory { NeedsNoMemoryDecoded (map to_ascii_lowercase given.now) → result ≢ Err Refusal.Memory }
 {
     match tested_u_label(alloc, given, label) {
@@ -50,12 +49,12 @@ pub(crate) fn u_label_in_any_case(
 pub(crate) fn u_label(
     alloc: Global,
     given: &[u8],
-    label: &mut ArrayVec<u32, 63>,
+    label: &mut DecodedLabel,
 ) -> Result<(), Refusal>
     requires prefix { has_ace_prefix given.now ≡ true }
     requires ascii { is_all_ascii given.now ≡ true }
     requires short { length given.now ≤ MAX_LINE_LEN }
-    ensures answer { Gives (λ _. label.new.items) result (u_label_answer given.now) }
+    ensures answer { Gives (λ _. label.new) result (u_label_answer given.now) }
     ensures no_memory { list_all (λ c. not (is_ascii_uppercase c)) given.now ≡ true → NeedsNoMemoryDecoded given.now → result ≢ Err Refusal.Memory }
 {
     if has_no_capital(given) {
@@ -79,14 +78,14 @@ pub(crate) fn has_no_capital(text: &[u8]) -> bool
 /// `u_label` of an A-label put into lower case; if it is refused, this is why where it has no capital. One that is short
 /// need not be encoded again to be compared: Punycode in lower case is the only one of what it stands for (RFC 3492
 /// sections 1.1 and 5).
-fn tested_u_label(alloc: Global, given: &[u8], label: &mut ArrayVec<u32, 63>) -> Result<(), Refusal>
+fn tested_u_label(alloc: Global, given: &[u8], label: &mut DecodedLabel) -> Result<(), Refusal>
     requires prefix { has_ace_prefix (map to_ascii_lowercase given.now) ≡ true }
     requires ascii { is_all_ascii given.now ≡ true }
     requires short { length given.now ≤ MAX_LINE_LEN }
-    ensures passes { OnOk result (u_label_answer (map to_ascii_lowercase given.now) ≡ Ok label.new.items) }
+    ensures passes { OnOk result (u_label_answer (map to_ascii_lowercase given.now) ≡ Ok label.new) }
     ensures fault { IfErr result (λ refusal. list_all (λ c. not (is_ascii_uppercase c)) given.now ≡ true
         → refusal ≢ Refusal.Memory → u_label_answer given.now ≡ Err refusal) }
-    ensures shorter { OnOk result (length label.new.items < length given.now) }
+    ensures shorter { OnOk result (length label.new < length given.now) }
     ensures no_memory { NeedsNoMemoryDecoded given.now → result ≢ Err Refusal.Memory }
 {
     // The A-label of a label that may be registered is short.
@@ -94,13 +93,13 @@ fn tested_u_label(alloc: Global, given: &[u8], label: &mut ArrayVec<u32, 63>) ->
         return Err(refusal_of(alloc, given));
     }
     let (_, code) = given.split_at(4);
-    let Ok(()) = decode(code, label) else {
+    let Ok(facts) = label.decode(code) else {
         return Err(Refusal::BadALabel);
     };
-    if is_all_ascii(label) {
+    if is_all_ascii(label.as_slice()) {
         return Err(refusal_of(alloc, given));
     }
-    check_label(alloc, label)
+    check_label_of(alloc, label.as_slice(), facts)
 }
 
 /// Why an A-label is refused that no label which may be registered has.

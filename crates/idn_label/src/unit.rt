@@ -6,6 +6,7 @@ ghost use Rattle.idna.specs.Labels.{labels_of};
 ghost use Rattle.idna.specs.Validity.{is_all_ascii, has_ace_prefix, has_hyphens_third_and_fourth};
 ghost use Rattle.idn_label.specs.FirstFault.{has_hyphen_out_of_place};
 
+use crate::full_stops::FullStops;
 pub(crate) use idn_punycode::Unit;
 
 const HYPHEN: u32 = 0x2D;
@@ -26,7 +27,7 @@ fn code_point_at<U: Unit>(label: &[U], place: usize) -> u32
 
 /// What stands before the first full stop, and what stands behind it if there is one.
 #[inline]
-pub(crate) fn split_first_label<U: Unit>(name: &[U]) -> (&[U], Option<&[U]>)
+pub(crate) fn split_first_label<U: FullStops>(name: &[U]) -> (&[U], Option<&[U]>)
     ensures labels { labels_of (U.codes name.now)
         ≡ U.codes result.0.now ∷ option_map_or (λ others. labels_of (U.codes others.now)) result.1 [] }
     ensures last { result.1 ≡ None → result.0.now ≡ name.now }
@@ -34,12 +35,10 @@ pub(crate) fn split_first_label<U: Unit>(name: &[U]) -> (&[U], Option<&[U]>)
     ensures label_length { length result.0.now ≤ length name.now }
     ensures others_length { IfSome result.1 (λ others. length others.now < length name.now) }
 {
-    for at in 0..name.len() {
-        if code_point_at(name, at) == FULL_STOP {
-            return (&name[..at], Some(&name[at + 1..]));
-        }
+    match U::first_full_stop(name) {
+        Some(at) => (&name[..at], Some(&name[at + 1..])),
+        None => (name, None),
     }
-    (name, None)
 }
 
 /// Whether each code point is ASCII.

@@ -1,6 +1,6 @@
 //! Code points and their UTF-8.
 
-ghost use Rattle.std.specs.Prelude.{◌≡◌, ◌≤◌, ◌+◌, ◌*◌, ◌%◌, ◌++◌, ℕ, List, [], length, encode_utf8, OnOk, OnErr};
+ghost use Rattle.std.specs.Prelude.{◌≡◌, ◌≤◌, ◌+◌, ◌*◌, ◌%◌, ◌++◌, ℕ, List, [], length, take, encode_utf8, OnOk, OnErr};
 ghost use Rattle.arrayvec.specs.ArrayVec.{array_vec_len};
 ghost use Rattle.idn_text.specs.Points.{AreScalarValues, IsScalarValue, IsUtf8Of, utf8_of};
 
@@ -78,6 +78,53 @@ fn push_point<const N: usize>(point: u32, utf8: &mut ArrayVec<u8, N>)
         utf8.push(later_byte(point / 0x1000));
         utf8.push(later_byte(point / 0x40));
         utf8.push(later_byte(point));
+    }
+}
+
+/// Writes the UTF-8 (RFC 3629) of scalar values into `room` from the place `at` on, and returns the
+/// place behind it. There must be room for four bytes for each.
+pub fn put_points(points: &[u32], room: &mut [u8], at: usize) -> usize
+    requires scalar_values { AreScalarValues points.now }
+    requires room { at + 4 * length points.now ≤ length room.old }
+    ensures written { take result room.new ≡ take at room.old ++ utf8_of points.now }
+    ensures end { result ≤ at + 4 * length points.now }
+    ensures length { length room.new ≡ length room.old }
+{
+    let mut end = at;
+    for point in points {
+        end = put_point(*point, room, end);
+    }
+    end
+}
+
+/// Writes the one to four bytes of a scalar value (RFC 3629 section 3) into `room` from the place `at`
+/// on, and returns the place behind them. There must be room for four.
+#[inline]
+fn put_point(point: u32, room: &mut [u8], at: usize) -> usize
+    requires scalar_value { IsScalarValue point }
+    requires room { at + 4 ≤ length room.old }
+    ensures written { take result room.new ≡ take at room.old ++ encode_utf8 point }
+    ensures end { result ≤ at + 4 }
+    ensures length { length room.new ≡ length room.old }
+{
+    if point < 0x80 {
+        room[at] = point as u8;
+        at + 1
+    } else if point < 0x800 {
+        room[at] = (0xC0 + point / 0x40) as u8;
+        room[at + 1] = later_byte(point);
+        at + 2
+    } else if point < 0x1_0000 {
+        room[at] = (0xE0 + point / 0x1000) as u8;
+        room[at + 1] = later_byte(point / 0x40);
+        room[at + 2] = later_byte(point);
+        at + 3
+    } else {
+        room[at] = (0xF0 + point / 0x4_0000) as u8;
+        room[at + 1] = later_byte(point / 0x1000);
+        room[at + 2] = later_byte(point / 0x40);
+        room[at + 3] = later_byte(point);
+        at + 4
     }
 }
 

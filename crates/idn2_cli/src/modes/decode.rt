@@ -1,6 +1,6 @@
 //! Decoding: a name is answered with U-labels in place of its A-labels.
 
-ghost use Rattle.std.specs.Prelude.{◌≡◌, ◌≢◌, ◌≤◌, ◌++◌, [], length, string_bytes, Err, OnOk, All, IsAscii};
+ghost use Rattle.std.specs.Prelude.{◌≡◌, ◌≢◌, ◌≤◌, ◌++◌, length, take, string_bytes, Err, IfOk, OnOk, All, IsAscii};
 ghost use Rattle.idn_text.specs.Points.{AreScalarValues, utf8_of};
 ghost use Rattle.idn_label.specs.Answers.{Gives};
 ghost use Rattle.idn_label.specs.Decode.{decode_answer};
@@ -16,7 +16,6 @@ use crate::modes::code_points::{ByPoints, PointAnswering};
 use crate::session::buffers::{Buffers, MAX_ANSWER_LEN};
 use crate::session::console::Console;
 use crate::session::stop::Stop;
-use arrayvec::ArrayVec;
 use idn_label::{decode_ascii, decode_name};
 use idn_text::{MAX_LINE_LEN, Refusal, Sink};
 use std::alloc::{AllocError, Global};
@@ -46,28 +45,26 @@ impl Answering for Decode {
             return ByPoints { mode: self }.answer(alloc, number, text, buffers, console);
         }
         match fill_line(alloc, text, &mut buffers.answer) {
-            Ok(()) => reply(buffers.answer.as_slice(), console),
+            Ok(len) => reply(&buffers.answer[..len], console),
             Err(refusal) => refuse(number, refusal, console),
         }
     }
 }
 
-/// Leaves in `line` a name in ASCII with U-labels in place of its A-labels and a line feed, in place of what stood
-/// there. Where the name is refused, what is left says nothing.
-fn fill_line(
-    alloc: Global,
-    name: &[u8],
-    line: &mut ArrayVec<u8, MAX_ANSWER_LEN>,
-) -> Result<(), Refusal>
+/// Writes into `line` a name in ASCII with U-labels in place of its A-labels and a line feed, and returns the length of
+/// that. Where the name is refused, what is left says nothing.
+fn fill_line(alloc: Global, name: &[u8], line: &mut [u8]) -> Result<usize, Refusal>
     requires ascii { IsAscii name.now }
     requires short { length name.now ≤ MAX_LINE_LEN }
-    ensures answer { Gives (λ _. line.new.items) result (with_feed (in_utf8 (decode_answer name.now))) }
+    requires room { length line.old ≡ MAX_ANSWER_LEN }
+    ensures answer { Gives (λ len. take len line.new) result (with_feed (in_utf8 (decode_answer name.now))) }
+    ensures short { IfOk result (λ len. len ≤ MAX_ANSWER_LEN) }
+    ensures length { length line.new ≡ MAX_ANSWER_LEN }
     ensures no_memory { All DecodesWithoutMemory (labels_of name.now) → result ≢ Err Refusal.Memory }
 {
-    line.clear();
-    decode_ascii(alloc, name, line)?;
-    line.push(b'\n');
-    Ok(())
+    let len = decode_ascii(alloc, name, line)?;
+    line[len] = b'\n';
+    Ok(len + 1)
 }
 
 impl PointAnswering for Decode {

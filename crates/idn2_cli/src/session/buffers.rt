@@ -18,19 +18,18 @@ pub(crate) struct Buffers {
     /// The code points of a line.
     pub points: ArrayVec<u32, MAX_LINE_LEN>,
     /// The answer of decoding in UTF-8, and a line feed.
-    pub answer: ArrayVec<u8, MAX_ANSWER_LEN>,
+    pub answer: [u8; MAX_ANSWER_LEN],
     /// The answer of lookup, and a line feed.
     pub query: [u8; MAX_QUERY_LINE_LEN],
 }
 
 impl Buffers {
     pub(crate) fn new() -> Buffers
-        ensures points { result.points.items ≡ [] }
-        ensures answer { result.answer.items ≡ [] }
+        ensures { result.points.items ≡ [] }
     {
         Buffers {
             points: ArrayVec::new(),
-            answer: ArrayVec::new(),
+            answer: [0; MAX_ANSWER_LEN],
             query: [0; MAX_QUERY_LINE_LEN],
         }
     }

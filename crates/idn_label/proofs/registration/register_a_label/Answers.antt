@@ -21,16 +21,16 @@ returns-in_err-u_label-clause-answer c =
 pub ascii_text-requires : goal.ascii_text-requires
 ascii_text-requires c =
     let same = c.deref.ensures.0 ∙ c.in-Some.ensures.same in
-    let parts = u_label_answer-from c.args.label.now c.u_label.new.label.items (ap u_label_answer (sym same) ∙ c.in_ok-u_label.ensures.answer) in (
+    let parts = u_label_answer-from c.args.label.now c.u_label.new.label (ap u_label_answer (sym same) ∙ c.in_ok-u_label.ensures.answer) in (
       lit< tt,
       (
-        subst (λ (text : List ℕ). length text ≤ 63) parts.1 (short_a_label c.u_label.new.label.items parts.0),
-        subst (All (λ c. c < 128)) parts.1 (ascii_a_label c.u_label.new.label.items parts.0),
+        subst (λ (text : List ℕ). length text ≤ 63) parts.1 (short_a_label c.u_label.new.label parts.0),
+        subst (All (λ c. c < 128)) parts.1 (ascii_a_label c.u_label.new.label parts.0),
       ),
     )
 
 pub returns-clause-answer : goal.returns-clause-answer
 returns-clause-answer c =
     let same = c.deref.ensures.0 ∙ c.in-Some.ensures.same in
-    register_answer-coded c.args.label.now c.u_label.new.label.items c.requires.prefix (ap u_label_answer (sym same) ∙ c.in_ok-u_label.ensures.answer)
+    register_answer-coded c.args.label.now c.u_label.new.label c.requires.prefix (ap u_label_answer (sym same) ∙ c.in_ok-u_label.ensures.answer)
     ∙ ap Ok (sym c.ascii_text.ensures)

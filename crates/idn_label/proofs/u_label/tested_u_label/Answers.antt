@@ -31,28 +31,28 @@ pub refusal_of-requires-then-is_all_ascii-clause-of_none : goal.refusal_of-requi
 refusal_of-requires-then-is_all_ascii-clause-of_none c =
     λ other decoded registrable.
     let given = c.args.given.now in
-    let label = c.decode.new.label.items in
+    let label = c.decode.new.self in
     let one = ap decode (sym c.split_at.ensures.back) ∙ c.in-Ok.ensures.decoded in
     let same = decoded_code-same _ label other one decoded in
-    of_none-ascii_any given other c.requires.prefix (ap is_all_ascii (sym same ∙ sym c.deref.ensures.0) ∙ sym c.if-is_all_ascii.ensures) registrable
+    of_none-ascii_any given other c.requires.prefix (ap is_all_ascii (sym same ∙ sym c.as_slice.ensures.value) ∙ sym c.if-is_all_ascii.ensures) registrable
 
 pub returns-clause-passes : goal.returns-clause-passes
 returns-clause-passes c =
     let given = c.args.given.now in
-    let label = c.decode.new.label.items in
+    let label = c.decode.new.self in
     let one = ap decode (sym c.split_at.ensures.back) ∙ c.in-Ok.ensures.decoded in
-    let coded = ap is_all_ascii (sym c.deref.ensures.0) ∙ sym c.if-is_all_ascii.ensures in
-    let few : length label ≤ 63 = omega (arith, c.deref.ensures.1, ap length c.deref.ensures.0) in
-    on_ok_weaker c.check_label.result
-    (λ faultless. answered-tested given label c.requires.prefix c.requires.ascii c.if-given-gt-MAX_LABEL_LEN.false one coded few (ap fault_but_length (sym c.deref-2.ensures.0) ∙ faultless))
-    c.check_label.ensures.passes
+    let coded = ap is_all_ascii (sym c.as_slice.ensures.value) ∙ sym c.if-is_all_ascii.ensures in
+    let few : length label ≤ 63 = omega (arith, c.as_slice.ensures.short, ap length c.as_slice.ensures.value) in
+    on_ok_weaker c.check_label_of.result
+    (λ faultless. answered-tested given label c.requires.prefix c.requires.ascii c.if-given-gt-MAX_LABEL_LEN.false one coded few (ap fault_but_length (sym c.as_slice-2.ensures.value) ∙ faultless))
+    c.check_label_of.ensures.passes
 
 pub returns-clause-fault : goal.returns-clause-fault
 returns-clause-fault c =
     let given = c.args.given.now in
-    let label = c.decode.new.label.items in
+    let label = c.decode.new.self in
     let one = ap decode (sym c.split_at.ensures.back) ∙ c.in-Ok.ensures.decoded in
-    let coded = ap is_all_ascii (sym c.deref.ensures.0) ∙ sym c.if-is_all_ascii.ensures in
+    let coded = ap is_all_ascii (sym c.as_slice.ensures.value) ∙ sym c.if-is_all_ascii.ensures in
     let decoded = decoded_coded given label c.requires.ascii one coded in
-    MatchResult-weaker c.check_label.result c.check_label.ensures.fault (λ _ t. t)
-    (λ refusal told _ other. refused-fault given label refusal decoded (first_fault-but_length label refusal (ap fault_but_length (sym c.deref-2.ensures.0) ∙ told other)))
+    MatchResult-weaker c.check_label_of.result c.check_label_of.ensures.fault (λ _ t. t)
+    (λ refusal told _ other. refused-fault given label refusal decoded (first_fault-but_length label refusal (ap fault_but_length (sym c.as_slice-2.ensures.value) ∙ told other)))

@@ -10,7 +10,7 @@ tested_u_label-requires-clause-prefix c = ap has_ace_prefix (lowercase_of-lower 
 
 pub returns-then-has_no_capital-clause-answer : goal.returns-then-has_no_capital-clause-answer
 returns-then-has_no_capital-clause-answer c =
-    Gives-tested c.tested_u_label.result c.args.given.now c.tested_u_label.new.label.items (sym c.if-has_no_capital.ensures) c.tested_u_label.ensures.passes c.tested_u_label.ensures.fault
+    Gives-tested c.tested_u_label.result c.args.given.now c.tested_u_label.new.label (sym c.if-has_no_capital.ensures) c.tested_u_label.ensures.passes c.tested_u_label.ensures.fault
 
 pub refusal_of-requires-clause-prefix : goal.refusal_of-requires-clause-prefix
 refusal_of-requires-clause-prefix c = (ace_parts c.args.given.now c.requires.prefix).1

@@ -40,7 +40,7 @@ returns-in-Err-2-clause-answer c =
     let given = c.args.given.now in
     let is = c.deref.ensures.0 ∙ c.lowercase_of-lower.ensures in
     let lower = ap (list_all (λ c. not (is_ascii_uppercase c))) is ∙ has_no_capital-lower given in
-    let label = c.tested_u_label-in-Err-2.new.label.items in
+    let label = c.tested_u_label-in-Err-2.new.label in
     let r = c.tested_u_label-in-Err-2.result in
     Gives-same (λ (_ : Unit {0}). label) r (u_label_answer c.deref.result.now) _ (ap u_label_answer is)
     (Gives-tested r c.deref.result.now label lower c.tested_u_label-in-Err-2.ensures.passes c.tested_u_label-in-Err-2.ensures.fault)

@@ -1,8 +1,10 @@
 use Rattle.std.proofs.Common.{◌≡◌, true, length, take}
 use Rattle.std.specs.Char.{is_ascii}
 use Rattle.std.specs.List.{list_all}
+use Rattle.idn_class.specs.Facts.{AreFactsOf}
 use Rattle.idn_punycode.proofs.decoding.copy_basic.Given as goal
 
 abbrev pub invariant-loop-place : goal.invariant-loop-place
 invariant-loop-place l =
-    (take l.place l.points ≡ take l.place l.basic) × (length l.points ≡ length l.fn.points) × (list_all is_ascii (take l.place l.basic) ≡ true)
+    (take l.at l.points ≡ take l.at l.basic) × (length l.points ≡ length l.fn.points) × (list_all is_ascii (take l.at l.basic) ≡ true)
+    × AreFactsOf l.facts (take l.at l.basic)

@@ -7,7 +7,7 @@ use Rattle.idn_class.proofs.FactLemmas.{none-all}
 use Rattle.idn_class.proofs.facts.Facts.of_label.Goals as goal
 
 pub loop-c-init : goal.loop-c-init
-loop-c-init c = none-all
+loop-c-init c = c.none-facts.ensures
 
 pub loop-c-preserved : goal.loop-c-preserved
 loop-c-preserved c = λ fact.

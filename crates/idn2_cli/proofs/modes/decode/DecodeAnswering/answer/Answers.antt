@@ -1,4 +1,4 @@
-use Rattle.std.proofs.Common.{Ok, IsAscii, sym, ap, ◌∙◌, rules}
+use Rattle.std.proofs.Common.{IsAscii, sym, ◌∙◌, rules}
 use Rattle.idn_label.specs.Decode.{decode_answer}
 use Rattle.idn2_cli.specs.Answers.{one_line}
 use Rattle.idn_label.specs.Steps.{in_utf8}
@@ -22,7 +22,7 @@ returns-in-Ok-clause-written g c =
     let answer = in_utf8 (decode_answer text) in
     let some = sym c.is_empty.ensures ∙ c.if-is_empty.false in
     let ascii : IsAscii text = search rules in
-    rw (text_answer-ascii (λ name. one_line (in_utf8 (decode_answer name))) text ascii some, pieces_for-line c.args.number answer c.as_slice.result.now (c.in-Ok.ensures.answer ∙ ap Ok (sym c.as_slice.ensures.value)))
+    rw (text_answer-ascii (λ name. one_line (in_utf8 (decode_answer name))) text ascii some, pieces_for-line c.args.number answer _ c.in-Ok.ensures.answer)
     c.reply.ensures.written
 
 pub returns-in-Ok-clause-refused : goal.returns-in-Ok-clause-refused
