@@ -4,7 +4,7 @@ use Rattle.std.specs.List.{list_all}
 use Rattle.idn_class.specs.Facts.{AreFactsOf}
 use Rattle.idn_punycode.proofs.decoding.copy_basic.Given as goal
 
-abbrev pub invariant-loop-place : goal.invariant-loop-place
-invariant-loop-place l =
+abbrev pub invariant-loop-at : goal.invariant-loop-at
+invariant-loop-at l =
     (take l.at l.points ≡ take l.at l.basic) × (length l.points ≡ length l.fn.points) × (list_all is_ascii (take l.at l.basic) ≡ true)
     × AreFactsOf l.facts (take l.at l.basic)
