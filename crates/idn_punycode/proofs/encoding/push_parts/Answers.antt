@@ -2,8 +2,8 @@ use Rattle.std.proofs.Common.{◌≡◌, ◌-◌, ◌++◌, ◌∷◌, [], List,
 use Rattle.idna.specs.Punycode.{below, encode}
 use Rattle.idn_punycode.proofs.ResultLemmas.{OnErr-always}
 use Rattle.idn_punycode.proofs.EncodingSteps.{Encodes-basic, Encodes-no_basic, encode-longer, encode-basic_le}
-use Rattle.idn_punycode.proofs.KeySteps.{rounds_fit, Selects-counted, Chosen-length, Chosen-counted}
-use Rattle.idn_punycode.proofs.OrderSteps.{HasPlaces-none, Turns-start, Turns-end, Turns-chosen, Turns-from, Turns-more}
+use Rattle.idn_punycode.proofs.KeySteps.{Chosen-length}
+use Rattle.idn_punycode.proofs.OrderSteps.{HasPlaces-none, Turns-start, Turns-end, Turns-chosen, Turns-next, Turns-more}
 use Rattle.idn_punycode.proofs.encoding.push_parts.Goals as goal
 use Rattle.idn_punycode.proofs.encoding.push_parts.Goals.{then-places-ne0+in_ok-push_basic, else-places-ne0, then-basic-gt0+in_ok-push_ascii, else-basic-gt0}
 
@@ -50,7 +50,7 @@ loop-key-init g c =
     let basic : c.len.result - c.len-2.result ≡ length code = omega (arith, c.len.ensures.value, c.len-2.ensures.value) in
     elim c.if-basic-gt0.branch [
       | then-basic-gt0+in_ok-push_ascii w ↦
-          rw (c.keys-key-items.ensures, c.places-places.ensures, basic) (
+          rw (c.behind_basic-progress.ensures, c.keys-key-items.ensures, c.places-2.ensures, basic) (
             code ++ 45 ∷ [],
             ap (λ t. t.bytes) w.longer-is ∙ w.in_ok-push_ascii.ensures.ok ∙ ap (λ xs. xs ++ 45 ∷ []) text ∙ append_assoc before code (45 ∷ []),
             Turns-start (Encodes-basic _ _ refl (omega (arith, w.if-basic-gt0.true))) c.requires.short c.requires.keys c.requires.places,
@@ -59,7 +59,7 @@ loop-key-init g c =
             omega (arith, ap (λ t. length t.bytes) w.longer-is, w.in_ok-push_ascii.ensures.short),
           )
       | else-basic-gt0 w ↦
-          rw (c.keys-key-items.ensures, c.places-places.ensures, basic) (
+          rw (c.behind_basic-progress.ensures, c.keys-key-items.ensures, c.places-2.ensures, basic) (
             code,
             ap (λ t. t.bytes) w.longer-is ∙ text,
             Turns-start (Encodes-no_basic _ _ refl (omega (arith, w.if-basic-gt0.false))) c.requires.short c.requires.keys c.requires.places,
@@ -69,76 +69,27 @@ loop-key-init g c =
           )
     ]
 
-pub overflow_add-delta : goal.overflow_add-delta
-overflow_add-delta g c =
-    omega (arith, Selects-counted c.loop-key.invariant.2.selects)
+pub write_key-requires : goal.write_key-requires
+write_key-requires g c =
+    let i = c.loop-key.invariant in Turns-next i.2 c.requires.short i.3 c.loop-key-test.true _ refl i.4
 
-pub overflow_mul-delta : goal.overflow_mul-delta
-overflow_mul-delta g c =
+pub returns-in_err-progress-clause-too_long : goal.returns-in_err-progress-clause-too_long
+returns-in_err-progress-clause-too_long g c =
     let i = c.loop-key.invariant in
-    omega (arith, rounds_fit i.2.selects c.requires.short i.2.some (Turns-from i.2 c.requires.short i.3 c.loop-key-test.true _ refl).1)
-
-pub overflow_add-delta-in-loop-key : goal.overflow_add-delta-in-loop-key
-overflow_add-delta-in-loop-key g c =
-    let i = c.loop-key.invariant in
-    let t = Turns-chosen i.2 c.requires.short i.3 c.loop-key-test.true _ refl _ c.count_before-before.ensures in
-    omega (arith, t.fits)
-
-pub overflow_sub-delta-in-loop-key : goal.overflow_sub-delta-in-loop-key
-overflow_sub-delta-in-loop-key g c =
-    let i = c.loop-key.invariant in
-    let t = Turns-chosen i.2 c.requires.short i.3 c.loop-key-test.true _ refl _ c.count_before-before.ensures in
-    omega (arith, t.delta)
-
-pub write_integer-requires : goal.write_integer-requires
-write_integer-requires g c =
-    let i = c.loop-key.invariant in
-    let t = Turns-chosen i.2 c.requires.short i.3 c.loop-key-test.true _ refl _ c.count_before-before.ensures in
-    omega (arith, t.fits)
-
-pub returns-in_err-write_integer-clause-too_long : goal.returns-in_err-write_integer-clause-too_long
-returns-in_err-write_integer-clause-too_long g c =
-    let i = c.loop-key.invariant in
-    let before = c.args.text.now.bytes in
-    let t = Turns-chosen i.2 c.requires.short i.3 c.loop-key-test.true _ refl _ c.count_before-before.ensures in
-    OnErr-always c.from_residual-in_err-write_integer.result
-    (omega (arith, c.in_err-write_integer.ensures.full, Chosen-length t i.4, ap length i.1, length-append {A = ℕ}))
-
-pub overflow_add-handled : goal.overflow_add-handled
-overflow_add-handled g c =
-    let i = c.loop-key.invariant in
-    let t = Turns-chosen i.2 c.requires.short i.3 c.loop-key-test.true _ refl _ c.count_before-before.ensures in
-    omega (arith, Chosen-counted t i.4)
-
-pub adapt-bias-requires-clause-fits : goal.adapt-bias-requires-clause-fits
-adapt-bias-requires-clause-fits g c =
-    let i = c.loop-key.invariant in
-    let t = Turns-chosen i.2 c.requires.short i.3 c.loop-key-test.true _ refl _ c.count_before-before.ensures in
-    omega (arith, t.fits)
-
-pub adapt-bias-requires-clause-few : goal.adapt-bias-requires-clause-few
-adapt-bias-requires-clause-few g c =
-    let i = c.loop-key.invariant in
-    let t = Turns-chosen i.2 c.requires.short i.3 c.loop-key-test.true _ refl _ c.count_before-before.ensures in
-    omega (arith, Chosen-counted t i.4)
-
-pub overflow_add-handled-in-loop-key : goal.overflow_add-handled-in-loop-key
-overflow_add-handled-in-loop-key g c =
-    let i = c.loop-key.invariant in
-    let t = Turns-chosen i.2 c.requires.short i.3 c.loop-key-test.true _ refl _ c.count_before-before.ensures in
-    omega (arith, Chosen-counted t i.4)
+    let t = Turns-chosen i.2 c.requires.short i.3 c.loop-key-test.true _ refl _ refl in
+    OnErr-always c.from_residual-in_err-progress.result
+    (omega (arith, c.in_err-progress.ensures.full, Chosen-length t i.4, ap length i.1, length-append {A = ℕ}))
 
 pub loop-key-preserved : goal.loop-key-preserved
 loop-key-preserved g c =
     let i = c.loop-key.invariant in
-    let before = c.args.text.now.bytes in
-    rw c.adapt-bias.ensures (
+    rw c.in_ok-progress.ensures.behind (
       _,
-      Appends-more _ _ _ i.1 c.in_ok-write_integer.ensures.ok,
-      Turns-more i.2 c.requires.short i.3 c.loop-key-test.true _ refl _ c.count_before-before.ensures i.4,
+      Appends-more _ _ _ i.1 c.in_ok-progress.ensures.ok,
+      Turns-more i.2 c.requires.short i.3 c.loop-key-test.true _ refl _ refl i.4,
       i.3,
       omega arith,
-      c.in_ok-write_integer.ensures.short,
+      c.in_ok-progress.ensures.short,
     )
 
 pub returns-clause-ok : goal.returns-clause-ok
