@@ -26,7 +26,9 @@ pub fn test_label(alloc: Global, label: &[u32]) -> Result<ALabel, Refusal>
     ensures fault { IfErr result (λ refusal. refusal ≢ Refusal.Memory → first_fault label.now ≡ Some refusal) }
     ensures no_memory { NeedsNoMemory label.now → result ≢ Err Refusal.Memory }
 {
-    KeptALabel::new().test_label(alloc, label, Facts::of_label(label))
+    let mut kept = KeptALabel::new();
+    kept.test_label(alloc, label, Facts::of_label(label))?;
+    Ok(*kept.a_label())
 }
 
 /// Returns the first fault of a label, but for its length. Its facts, which are known, say which tests it needs.

@@ -1,5 +1,5 @@
-//! The test of one label after another, whose Punycode keeps what both share.
-ghost use Rattle.std.specs.Prelude.{◌≡◌, ◌≢◌, ◌<◌, ◌≤◌, ◌++◌, length, codes, None, Some, Err, IfOk, IfErr, OnOk};
+//! The test of one label after another, which keeps the A-label, and of the Punycode what both labels share.
+ghost use Rattle.std.specs.Prelude.{◌≡◌, ◌≢◌, ◌<◌, ◌≤◌, ◌++◌, [], length, codes, None, Some, Err, IfErr, OnOk};
 ghost use Rattle.idna.specs.Punycode.{encode};
 ghost use Rattle.idn_class.specs.Facts.{AreFactsOf};
 ghost use Rattle.idn_label.specs.ALabel.{a_label_of};
@@ -14,45 +14,62 @@ use idn_class::{Facts, shared_len};
 use idn_punycode::KeptParts;
 use idn_text::Refusal;
 use std::alloc::Global;
+use std::marker::Model;
 
-/// Tests labels for registration. Where it goes from one label to another, only the code points behind those that both
-/// share at their start are taken apart for the Punycode.
+/// Tests labels for registration, and keeps the A-label of the last one. Where it goes from one label to another, only the
+/// code points behind those that both share at their start are taken apart for the Punycode. Contracts see the A-label.
 #[derive(Drop)]
 pub struct KeptALabel {
     parts: KeptParts,
+    text: ALabel,
+}
+
+impl Model for KeptALabel {
+    ghost use Rattle.std.specs.Prelude.{ℕ, List};
+
+    ghost Value = { List ℕ };
+
+    ghost view = { λ kept. kept.text.bytes };
+
+    ghost invariant = { λ kept. Unit {0} };
 }
 
 impl KeptALabel {
     /// Of the empty label.
-    pub fn new() -> KeptALabel {
+    pub fn new() -> KeptALabel
+        ensures { result ≡ [] }
+    {
         KeptALabel {
             parts: KeptParts::new(),
+            text: ALabel::new(),
         }
     }
 
-    /// The A-label of a label that may be registered, else its first fault, as `test_label` tells it. The facts of the label
-    /// are known.
-    pub fn test_label(
-        &mut self,
-        alloc: Global,
-        label: &[u32],
-        facts: Facts,
-    ) -> Result<ALabel, Refusal>
+    /// The A-label of the last label, if it may be registered.
+    pub fn a_label(&self) -> &ALabel
+        ensures { result.now.bytes ≡ self.now }
+    {
+        &self.text
+    }
+
+    /// Keeps the A-label of a label that may be registered, else tells its first fault, as the function `test_label` does.
+    /// The facts of the label are known. At a fault nothing is said of the A-label that is then kept.
+    pub fn test_label(&mut self, alloc: Global, label: &[u32], facts: Facts) -> Result<(), Refusal>
         requires { AreFactsOf facts label.now }
         ensures registrable { OnOk result (IsRegistrable label.now) }
-        ensures a_label { IfOk result (λ answer. answer.bytes ≡ a_label_of label.now) }
+        ensures a_label { OnOk result (self.new ≡ a_label_of label.now) }
         ensures fault { IfErr result (λ refusal. refusal ≢ Refusal.Memory → first_fault label.now ≡ Some refusal) }
         ensures no_memory { NeedsNoMemory label.now → result ≢ Err Refusal.Memory }
     {
         check_label_of(alloc, label, facts)?;
-        self.measured_a_label(label)
+        self.keep_measured(label)
     }
 
-    /// The A-label of a label whose only fault may be its length.
-    fn measured_a_label(&mut self, label: &[u32]) -> Result<ALabel, Refusal>
+    /// Keeps the A-label of a label whose only fault may be its length.
+    fn keep_measured(&mut self, label: &[u32]) -> Result<(), Refusal>
         requires { fault_but_length label.now ≡ None }
         ensures registrable { OnOk result (IsRegistrable label.now) }
-        ensures a_label { IfOk result (λ answer. answer.bytes ≡ a_label_of label.now) }
+        ensures a_label { OnOk result (self.new ≡ a_label_of label.now) }
         ensures fault { IfErr result (λ refusal. first_fault label.now ≡ Some refusal) }
         ensures no_memory { result ≢ Err Refusal.Memory }
     {
@@ -60,23 +77,24 @@ impl KeptALabel {
             return Err(Refusal::LabelTooLong);
         }
         if is_all_ascii(label) {
-            return Ok(ascii_text(label));
+            self.text = ascii_text(label);
+            return Ok(());
         }
-        self.encoded_label(label)
+        self.keep_encoded(label)
     }
 
-    /// The prefix and the Punycode of a label, if they are short enough.
-    fn encoded_label(&mut self, label: &[u32]) -> Result<ALabel, Refusal>
+    /// Keeps the prefix and the Punycode of a label, if they are short enough.
+    fn keep_encoded(&mut self, label: &[u32]) -> Result<(), Refusal>
         requires { length label.now ≤ 63 }
-        ensures ok { IfOk result (λ answer. answer.bytes ≡ codes "xn--" ++ encode label.now) }
+        ensures ok { OnOk result (self.new ≡ codes "xn--" ++ encode label.now) }
         ensures short { OnOk result (length (codes "xn--" ++ encode label.now) ≤ 63) }
         ensures too_long { IfErr result (λ refusal. (refusal ≡ Refusal.LabelTooLong) × (63 < length (codes "xn--" ++ encode label.now))) }
     {
-        let mut answer = ALabel::new();
-        answer.push_str("xn--");
+        self.text.clear();
+        self.text.push_str("xn--");
         let shared = shared_len(self.parts.label(), label);
-        match self.parts.push_encoded(label, shared, &mut answer) {
-            Ok(()) => Ok(answer),
+        match self.parts.push_encoded(label, shared, &mut self.text) {
+            Ok(()) => Ok(()),
             Err(_) => Err(Refusal::LabelTooLong),
         }
     }

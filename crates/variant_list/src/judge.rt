@@ -1,4 +1,4 @@
-//! A test of labels that also gives what it found out.
+//! A test of labels that also keeps what it found out.
 ghost use Rattle.std.specs.Prelude.{◌≡◌, ◌≤◌, ◌++◌, ℕ, Bool, false, List, length, IsTrue, None, IfOk, OnErr};
 ghost use Rattle.variant_list.specs.Beginnings.{shortest_hopeless};
 ghost use Rattle.variant_list.specs.Verdicts.{IsVerdict};
@@ -7,27 +7,23 @@ use crate::filter::Filter;
 use crate::verdict::Verdict;
 use std::alloc::{AllocError, Global};
 
-/// A test of labels that gives, for an accepted one, what it found out. It is called for one label after another, and
-/// may keep what it knows of the last one; this does not change which labels are accepted and which lists are
-/// hopeless. So a listing gives the same labels whenever it is resumed.
+/// A test of labels that keeps what it found out of the last one. It is called for one label after another; what it
+/// keeps does not change which labels are accepted and which lists are hopeless. So a listing gives the same labels whenever it is resumed.
 pub trait Judge {
-    /// What is given for an accepted label.
-    type Told: Drop;
-
     /// Which labels are accepted.
     ghost accepted: { Self → List ℕ → Bool };
 
     /// Which lists are hopeless: no accepted label begins with one.
     ghost lost: { Self → List ℕ → Bool };
 
-    /// What may be given for an accepted label.
-    ghost tells: { List ℕ → Self.Told → Type 0 };
+    /// What the judge, once it accepted a label, tells of it.
+    ghost tells: { Self → List ℕ → Type 0 };
 
     /// The verdict on a label of at most 63 code points. Memory is needed only for a label without a hopeless
     /// beginning.
-    fn judge(&mut self, alloc: Global, label: &[u32]) -> Result<Verdict<Self::Told>, AllocError>
+    fn judge(&mut self, alloc: Global, label: &[u32]) -> Result<Verdict, AllocError>
         requires { length label.now ≤ 63 }
-        ensures verdict { IfOk result (IsVerdict (accepted self.old) (lost self.old) tells label.now) }
+        ensures verdict { IfOk result (IsVerdict (accepted self.old) (lost self.old) (tells self.new) label.now) }
         ensures memory { OnErr result (shortest_hopeless (lost self.old) label.now ≡ None) }
         ensures same_labels { accepted self.new ≡ accepted self.old }
         ensures same_beginnings { lost self.new ≡ lost self.old };
@@ -36,10 +32,8 @@ pub trait Judge {
     ghost lost_for_good: { (judge : Self) (w z : List ℕ) → IsTrue (lost judge w) → accepted judge (w ++ z) ≡ false };
 }
 
-/// A filter says only that a label is accepted.
+/// A filter tells nothing of a label that it accepted.
 impl<F: Filter> Judge for &F {
-    type Told = ();
-
     ghost accepted = { λ filter. F.accepted filter.now };
 
     ghost lost = { λ filter. F.lost filter.now };
@@ -48,14 +42,14 @@ impl<F: Filter> Judge for &F {
 
     ghost lost_for_good = { λ filter w z. F.lost_for_good filter.now w z };
 
-    fn judge(&mut self, alloc: Global, label: &[u32]) -> Result<Verdict<()>, AllocError> {
+    fn judge(&mut self, alloc: Global, label: &[u32]) -> Result<Verdict, AllocError> {
         if let Some(count) = self.shortest_hopeless(label) {
             return Ok(Verdict::Hopeless(count));
         }
         if self.accepts(alloc, label)? {
-            Ok(Verdict::Tested(Some(())))
+            Ok(Verdict::Accepted)
         } else {
-            Ok(Verdict::Tested(None))
+            Ok(Verdict::NotAccepted)
         }
     }
 }

@@ -49,20 +49,20 @@ pub(crate) fn write_block<W: Sink, E: Sink>(
     let mut cursor = Cursor::new(alloc, net, &options.after)?;
     let mut judge = Registrable {
         beginnings: KeptBeginnings::new(),
-        a_label: KeptALabel::new(),
+        test: KeptALabel::new(),
     };
     let mut tries = options.tries;
     let mut count = 0;
     let mut line = KeptLine::new();
     'variants: loop {
-        let a_label = match cursor.seek(alloc, &mut judge, &mut tries)? {
-            Outcome::Found(a_label) => a_label,
+        match cursor.seek(alloc, &mut judge, &mut tries)? {
+            Outcome::Found => {}
             Outcome::Spent => return write_stop(count, cursor.last(), &mut line, console),
             Outcome::Ended => return write_end(count, console),
-        };
+        }
         let variant = cursor.last();
         let field = dispositions.field(alloc, variant)?;
-        write_variant(variant, &a_label, field, &mut line, console)?;
+        write_variant(variant, judge.test.a_label(), field, &mut line, console)?;
         count += 1;
         if is_reached(options.limit, count) {
             return write_stop(count, cursor.last(), &mut line, console);
@@ -75,24 +75,22 @@ pub(crate) fn write_block<W: Sink, E: Sink>(
 #[derive(Drop)]
 struct Registrable {
     beginnings: KeptBeginnings,
-    a_label: KeptALabel,
+    test: KeptALabel,
 }
 
 impl Judge for Registrable {
-    type Told = ALabel;
-
     ghost accepted = { λ _ label. is_registrable label };
 
     ghost lost = { λ _ label. hopeless label };
 
-    ghost tells = { λ label a_label. a_label.bytes ≡ a_label_of label };
+    ghost tells = { λ judge label. judge.test ≡ a_label_of label };
 
     ghost lost_for_good = { λ _ w z lost. none_hopeless w z lost };
 
     /// It takes no memory for a label of which the test needs none.
-    fn judge(&mut self, alloc: Global, label: &[u32]) -> Result<Verdict<ALabel>, AllocError>
+    fn judge(&mut self, alloc: Global, label: &[u32]) -> Result<Verdict, AllocError>
         requires { length label.now ≤ 63 }
-        ensures verdict { IfOk result (IsVerdict is_registrable hopeless (λ v a_label. a_label.bytes ≡ a_label_of v) label.now) }
+        ensures verdict { IfOk result (IsVerdict is_registrable hopeless (λ v. self.new.test ≡ a_label_of v) label.now) }
         ensures memory { OnErr result (shortest_hopeless hopeless label.now ≡ None) }
         ensures no_memory { NeedsNoMemory label.now → IsOk result }
     {
@@ -100,10 +98,10 @@ impl Judge for Registrable {
             return Ok(Verdict::Hopeless(count));
         }
         let facts = self.beginnings.facts();
-        match self.a_label.test_label(alloc, label, facts) {
-            Ok(a_label) => Ok(Verdict::Tested(Some(a_label))),
+        match self.test.test_label(alloc, label, facts) {
+            Ok(()) => Ok(Verdict::Accepted),
             Err(Refusal::Memory) => Err(AllocError),
-            Err(_) => Ok(Verdict::Tested(None)),
+            Err(_) => Ok(Verdict::NotAccepted),
         }
     }
 }

@@ -44,13 +44,13 @@ pub record FindsNone (hopeless : List ℕ → Bool) (old new : Position) : Type 
   pub looks : new.edge_tests ≤ old.edge_tests + 126 * (edges_of_net old * (length (dead_ends hopeless None (candidates_ahead old)) + 1))
 
 -- the answer to a candidate that has hope; or none; where memory was refused, it was for a candidate that has hope
-abbrev pub Finds : {A : Type 0} → (List ℕ → Bool) → Position → Result (Option A) AllocError → Position → Type 0
+abbrev pub Finds : (List ℕ → Bool) → Position → Result (Option Bool) AllocError → Position → Type 0
 Finds hopeless old (Ok (Some answer)) new = FindsHope hopeless old new
 Finds hopeless old (Ok None) new = FindsNone hopeless old new
 Finds hopeless old (Err e) new = FindsHope hopeless old new
 
 -- P holds of the answer, if there is one
-abbrev pub IfTested : {A : Type 0} → Result (Option A) AllocError → (A → Type 0) → Type 0
+abbrev pub IfTested : Result (Option Bool) AllocError → (Bool → Type 0) → Type 0
 IfTested (Ok (Some answer)) P = P answer
 IfTested (Ok None) P = Unit {0}
 IfTested (Err e) P = Unit {0}

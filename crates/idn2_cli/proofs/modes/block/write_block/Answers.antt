@@ -30,19 +30,19 @@ write_stop-requires-clause-scalar_values g c =
 
 pub returns-in-Spent : goal.returns-in-Spent
 returns-in-Spent g c =
-    let spent = spent-from c.variants.cursor _ c.variants.tries c.seek.new.tries c.seek.result c.in_ok-a_label.field-0 c.in_ok-a_label.was c.seek.ensures.decided c.in-Spent.is in
+    let spent = spent-from c.variants.cursor _ c.variants.tries c.seek.new.tries c.seek.result c.in_ok-seek.field-0 c.in_ok-seek.was c.seek.ensures.decided c.in-Spent.is in
     listing-spent (field_by c.args.dispositions.now) _ _ _ _ _ c.variants.cursor c.seek.new.self _ _ _ _ c.last.result.now c.write_stop.result c.variants.invariant.listing spent c.seek.ensures.moves.last c.last.ensures.value c.write_stop.ensures.written
 
 pub returns-in-Ended : goal.returns-in-Ended
 returns-in-Ended g c =
-    let ended = ended-from c.variants.cursor _ c.variants.tries c.seek.new.tries c.seek.result c.in_ok-a_label.field-0 c.in_ok-a_label.was c.seek.ensures.decided c.in-Ended.is in
+    let ended = ended-from c.variants.cursor _ c.variants.tries c.seek.new.tries c.seek.result c.in_ok-seek.field-0 c.in_ok-seek.was c.seek.ensures.decided c.in-Ended.is in
     listing-ended (field_by c.args.dispositions.now) _ _ _ _ _ c.variants.cursor _ _ _ _ c.write_end.result c.variants.invariant.listing ended c.write_end.ensures.written
 
 pub returns-in_err-write_variant : goal.returns-in_err-write_variant
 returns-in_err-write_variant g c =
     let p = err_from_is_err_and c.from_residual-in_err-write_variant.result c.from_residual-in_err-write_variant.ensures.1 in
-    let found = found-from c.variants.cursor _ c.variants.tries c.seek.new.tries c.seek.result c.in_ok-a_label.field-0 c.in_ok-a_label.was c.seek.ensures.decided
-    c.in-Found.a_label c.last-variant.result.now c.in-Found.is (c.last-variant.ensures.value ∙ c.seek.ensures.moves.last) in
+    let found = found-from c.variants.cursor _ c.variants.tries c.seek.new.tries c.seek.result c.in_ok-seek.field-0 c.in_ok-seek.was c.seek.ensures.decided
+    c.last-variant.result.now c.in-Found.is (c.last-variant.ensures.value ∙ c.seek.ensures.moves.last) in
     rw p.1 (listing-broken (field_by c.args.dispositions.now) _ _ _ _ _ c.variants.cursor _ c.variants.tries c.seek.new.tries c.last-variant.result.now c.write_variant.result p.0 c.variants.invariant.listing found (emits_as _ _ Output _ _ c.write_variant.result (line_is c.last-variant.result.now c.in_ok-field.ensures.field) c.write_variant.ensures) (c.in_err-write_variant.was ∙ ap Err (sym p.2)))
 
 pub write_stop-requires-then-is_reached-clause-scalar_values : goal.write_stop-requires-then-is_reached-clause-scalar_values
@@ -51,16 +51,16 @@ write_stop-requires-then-is_reached-clause-scalar_values g c =
 
 pub returns-then-is_reached : goal.returns-then-is_reached
 returns-then-is_reached g c =
-    let found = found-from c.variants.cursor _ c.variants.tries c.seek.new.tries c.seek.result c.in_ok-a_label.field-0 c.in_ok-a_label.was c.seek.ensures.decided
-    c.in-Found.a_label c.last-variant.result.now c.in-Found.is (c.last-variant.ensures.value ∙ c.seek.ensures.moves.last) in
+    let found = found-from c.variants.cursor _ c.variants.tries c.seek.new.tries c.seek.result c.in_ok-seek.field-0 c.in_ok-seek.was c.seek.ensures.decided
+    c.last-variant.result.now c.in-Found.is (c.last-variant.ensures.value ∙ c.seek.ensures.moves.last) in
     let reached = sym (ap (λ (o : Settings). reaches o.limit (c.variants.count + 1)) c.options.view_is) ∙ sym c.is_reached.ensures ∙ c.if-is_reached.true in
     listing-reached (field_by c.args.dispositions.now) _ _ _ _ _ _ c.variants.cursor c.seek.new.self _ c.variants.tries c.seek.new.tries c.last-variant.result.now c.last-then-is_reached.result.now c.write_stop-then-is_reached.result c.variants.invariant.listing
     c.seek.ensures.moves.net c.seek.ensures.moves.last found (writes_as _ _ Output _ _ (line_is c.last-variant.result.now c.in_ok-field.ensures.field) c.in_ok-write_variant.ensures) reached c.last-then-is_reached.ensures.value c.write_stop-then-is_reached.ensures.written
 
 pub variants-preserved : goal.variants-preserved
 variants-preserved g c =
-    let found = found-from c.variants.cursor _ c.variants.tries c.seek.new.tries c.seek.result c.in_ok-a_label.field-0 c.in_ok-a_label.was c.seek.ensures.decided
-    c.in-Found.a_label c.last-variant.result.now c.in-Found.is (c.last-variant.ensures.value ∙ c.seek.ensures.moves.last) in
+    let found = found-from c.variants.cursor _ c.variants.tries c.seek.new.tries c.seek.result c.in_ok-seek.field-0 c.in_ok-seek.was c.seek.ensures.decided
+    c.last-variant.result.now c.in-Found.is (c.last-variant.ensures.value ∙ c.seek.ensures.moves.last) in
     let going = sym (ap (λ (o : Settings). reaches o.limit (c.variants.count + 1)) c.options.view_is) ∙ sym c.is_reached.ensures ∙ c.if-is_reached.false in
     record {
       listing = listing-found (field_by c.args.dispositions.now) _ _ _ _ _ c.variants.cursor c.seek.new.self _ c.variants.tries c.seek.new.tries c.last-variant.result.now c.requires.table c.variants.invariant.listing

@@ -28,7 +28,7 @@ beginnings-smaller g c =
 pub beginnings-preserved : goal.beginnings-preserved
 beginnings-preserved g c =
     let lost = g.J.Judge.lost c.args.judge.now in
-    let told = subst (IsVerdict (g.J.Judge.accepted c.beginnings.judge) (g.J.Judge.lost c.beginnings.judge) g.J.Judge.tells c.last-in-beginnings.result.now) c.in-Hopeless.is c.in_ok-count.ensures.verdict in
+    let told = subst (IsVerdict (g.J.Judge.accepted c.beginnings.judge) (g.J.Judge.lost c.beginnings.judge) (g.J.Judge.tells c.judge.new.self) c.last-in-beginnings.result.now) c.in-Hopeless.is c.in_ok-count.ensures.verdict in
     let hopeless : shortest_hopeless lost c.pass_over.new.self.last ≡ Some c.in-Hopeless.count =
     ap (λ h. shortest_hopeless h c.pass_over.new.self.last) (sym c.beginnings.invariant.same_beginnings)
     ∙ ap (shortest_hopeless (g.J.Judge.lost c.beginnings.judge)) (sym c.last-in-beginnings.ensures.value) ∙ told in
@@ -38,10 +38,19 @@ beginnings-preserved g c =
       same_beginnings = c.judge.ensures.same_beginnings ∙ c.beginnings.invariant.same_beginnings;
     }
 
-pub returns-in-Tested-clause-finds : goal.returns-in-Tested-clause-finds
-returns-in-Tested-clause-finds g c =
+pub returns-in-Accepted-clause-finds : goal.returns-in-Accepted-clause-finds
+returns-in-Accepted-clause-finds g c =
     let lost = g.J.Judge.lost c.args.judge.now in
-    let told = subst (IsVerdict (g.J.Judge.accepted c.beginnings.judge) (g.J.Judge.lost c.beginnings.judge) g.J.Judge.tells c.last-in-beginnings.result.now) c.in-Tested.is c.in_ok-count.ensures.verdict in
+    let told = subst (IsVerdict (g.J.Judge.accepted c.beginnings.judge) (g.J.Judge.lost c.beginnings.judge) (g.J.Judge.tells c.judge.new.self) c.last-in-beginnings.result.now) c.in-Accepted.is c.in_ok-count.ensures.verdict in
+    let hope : shortest_hopeless lost c.pass_over.new.self.last ≡ None =
+    ap (λ h. shortest_hopeless h c.pass_over.new.self.last) (sym c.beginnings.invariant.same_beginnings)
+    ∙ ap (shortest_hopeless (g.J.Judge.lost c.beginnings.judge)) (sym c.last-in-beginnings.ensures.value) ∙ told.0 in
+    FindsHope-found lost c.args.self.now c.beginnings.top c.beginnings.self c.pass_over.new.self c.beginnings.invariant.skips c.beginnings-test.ensures hope
+
+pub returns-in-NotAccepted-clause-finds : goal.returns-in-NotAccepted-clause-finds
+returns-in-NotAccepted-clause-finds g c =
+    let lost = g.J.Judge.lost c.args.judge.now in
+    let told = subst (IsVerdict (g.J.Judge.accepted c.beginnings.judge) (g.J.Judge.lost c.beginnings.judge) (g.J.Judge.tells c.judge.new.self) c.last-in-beginnings.result.now) c.in-NotAccepted.is c.in_ok-count.ensures.verdict in
     let hope : shortest_hopeless lost c.pass_over.new.self.last ≡ None =
     ap (λ h. shortest_hopeless h c.pass_over.new.self.last) (sym c.beginnings.invariant.same_beginnings)
     ∙ ap (shortest_hopeless (g.J.Judge.lost c.beginnings.judge)) (sym c.last-in-beginnings.ensures.value) ∙ told.0 in
