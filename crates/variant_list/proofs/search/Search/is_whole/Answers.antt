@@ -14,5 +14,5 @@ returns-then-is_left_by_none c =
     let whole : Standing → Type 0 = λ (p : Standing). NoneBetween (Step p.net) (first_place p.net) 0 p.last (length p.last) (length p.last + 1) in
     subst (λ (p : Standing). OnTrue c.is_zero_alone.result (whole p)) c.self.view_is
     (OnTrue_from c.is_zero_alone.result (whole inside) (λ yes.
-        let alone : (p : ℕ) → Holds inside.rows (length inside.last) p → p ≡ 0 = subst (λ n. (p : ℕ) → Holds inside.rows n p → p ≡ 0) c.len.ensures.value (OnTrue_at yes c.is_zero_alone.ensures) in
-        NoneBetween-whole inside 0 c.self.invariant alone c.if-is_left_by_none.ensures))
+    let alone : (p : ℕ) → Holds inside.rows (length inside.last) p → p ≡ 0 = subst (λ n. (p : ℕ) → Holds inside.rows n p → p ≡ 0) c.len.ensures.value (OnTrue_at yes c.is_zero_alone.ensures) in
+    NoneBetween-whole inside 0 c.self.invariant alone c.if-is_left_by_none.ensures))
