@@ -13,7 +13,7 @@ use arrayvec::{ArrayString, CapacityError};
 #[derive(Clone, Copy)]
 pub(crate) struct Progress {
     /// How many code points are handled.
-    pub(crate) handled: u32,
+    handled: u32,
     /// The code point that was handled last.
     code_point: u32,
     position: u32,
