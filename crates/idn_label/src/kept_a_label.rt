@@ -16,8 +16,9 @@ use idn_text::Refusal;
 use std::alloc::Global;
 use std::marker::Model;
 
-/// Tests labels for registration, and keeps the A-label of the last one. Where it goes from one label to another, only the
-/// code points behind those that both share at their start are taken apart for the Punycode. Contracts see the A-label.
+/// Tests labels for registration, and keeps the A-label of the last one. Where it goes from one label to another, only
+/// the code points behind those that both share at their start are taken apart for the Punycode. Contracts see the
+/// A-label.
 #[derive(Drop)]
 pub struct KeptALabel {
     parts: KeptParts,
@@ -52,8 +53,8 @@ impl KeptALabel {
         &self.text
     }
 
-    /// Keeps the A-label of a label that may be registered, else tells its first fault, as the function `test_label` does.
-    /// The facts of the label are known. At a fault nothing is said of the A-label that is then kept.
+    /// Keeps the A-label of a label that may be registered, else tells its first fault, as the function `test_label`
+    /// does. The facts of the label are known. At a fault nothing is said of the A-label that is then kept.
     pub fn test_label(&mut self, alloc: Global, label: &[u32], facts: Facts) -> Result<(), Refusal>
         requires { AreFactsOf facts label.now }
         ensures registrable { OnOk result (IsRegistrable label.now) }

@@ -8,7 +8,8 @@ use crate::verdict::Verdict;
 use std::alloc::{AllocError, Global};
 
 /// A test of labels that keeps what it found out of the last one. It is called for one label after another; what it
-/// keeps does not change which labels are accepted and which lists are hopeless. So a listing gives the same labels whenever it is resumed.
+/// keeps does not change which labels are accepted and which lists are hopeless. So a listing gives the same labels
+/// whenever it is resumed.
 pub trait Judge {
     /// Which labels are accepted.
     ghost accepted: { Self → List ℕ → Bool };
