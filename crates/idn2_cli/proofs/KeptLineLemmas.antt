@@ -27,6 +27,13 @@ module _ (line label ends : List ℕ) (begins : BeginsWith line label ends) wher
   pub BeginsWith-append : (text : List ℕ) → BeginsWith (line ++ text) label ends
   BeginsWith-append text = record { text = take-append-le (length (utf8_of label)) line text whole_inside ∙ begins.text; ends = begins.ends }
 
+  -- the beginning of the label is written inside
+  pub cut_inside : (count : ℕ) → length (utf8_of (take count label)) ≤ length line
+  cut_inside count =
+      let first = utf8_of (take count label) in
+      let parts : utf8_of label ≡ first ++ utf8_of (drop count label) = ap utf8_of (sym (take-append-drop count label)) ∙ encodes-append (take count label) (drop count label) in
+      omega (arith, ap length parts, length-append first (utf8_of (drop count label)), whole_inside)
+
   -- what is left where the label is cut
   pub line-cut : (count : ℕ) → take (length (utf8_of (take count label))) line ≡ utf8_of (take count label)
   line-cut count =

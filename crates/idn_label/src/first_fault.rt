@@ -32,7 +32,7 @@ pub fn test_label(alloc: Global, label: &[u32]) -> Result<ALabel, Refusal>
 }
 
 /// Returns the first fault of a label, but for its length. Its facts, which are known, say which tests it needs.
-pub(crate) fn check_label_of(alloc: Global, label: &[u32], facts: Facts) -> Result<(), Refusal>
+pub(crate) fn check_label(alloc: Global, label: &[u32], facts: Facts) -> Result<(), Refusal>
     requires { AreFactsOf facts label.now }
     ensures passes { OnOk result (fault_but_length label.now ≡ None) }
     ensures fault { IfErr result (λ refusal. refusal ≢ Refusal.Memory → fault_but_length label.now ≡ Some refusal) }

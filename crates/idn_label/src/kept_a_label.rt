@@ -8,7 +8,7 @@ ghost use Rattle.idn_label.specs.Memory.{NeedsNoMemory};
 ghost use Rattle.idn_label.specs.inner.FaultSteps.{fault_but_length};
 
 use crate::a_label::{ALabel, MAX_LABEL_LEN, ascii_text};
-use crate::first_fault::check_label_of;
+use crate::first_fault::check_label;
 use crate::unit::is_all_ascii;
 use idn_class::{Facts, shared_len};
 use idn_punycode::KeptParts;
@@ -62,7 +62,7 @@ impl KeptALabel {
         ensures fault { IfErr result (λ refusal. refusal ≢ Refusal.Memory → first_fault label.now ≡ Some refusal) }
         ensures no_memory { NeedsNoMemory label.now → result ≢ Err Refusal.Memory }
     {
-        check_label_of(alloc, label, facts)?;
+        check_label(alloc, label, facts)?;
         self.keep_measured(label)
     }
 

@@ -11,7 +11,7 @@ ghost use Rattle.idn_label.specs.Register.{decoded_code, u_label_answer};
 
 use crate::a_label::{ALabel, MAX_LABEL_LEN};
 use crate::code_points::points_of;
-use crate::first_fault::{check_label_of, test_label};
+use crate::first_fault::{check_label, test_label};
 use crate::octets::lowercase_of;
 use crate::unit::is_all_ascii;
 use idn_punycode::DecodedLabel;
@@ -99,7 +99,7 @@ fn tested_u_label(alloc: Global, given: &[u8], label: &mut DecodedLabel) -> Resu
     if is_all_ascii(label.as_slice()) {
         return Err(refusal_of(alloc, given));
     }
-    check_label_of(alloc, label.as_slice(), facts)
+    check_label(alloc, label.as_slice(), facts)
 }
 
 /// Why an A-label is refused that no label which may be registered has.

@@ -23,5 +23,5 @@ pub use lines::{Line, Lines, ReadFault};
 pub use point::{hex_point, is_point};
 pub use refusal::Refusal;
 pub use text_lines::{TextLines, without_carriage_return};
-pub use utf8::{NotUtf8, decode_points, push_points, put_points, write_points};
+pub use utf8::{NotUtf8, decode_points, put_points, write_points};
 pub use write::{WriteFault, write_text};

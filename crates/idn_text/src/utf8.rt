@@ -1,7 +1,6 @@
 //! Code points and their UTF-8.
 
 ghost use Rattle.std.specs.Prelude.{◌≡◌, ◌≤◌, ◌+◌, ◌*◌, ◌%◌, ◌++◌, ℕ, List, [], length, take, encode_utf8, OnOk, OnErr};
-ghost use Rattle.arrayvec.specs.ArrayVec.{array_vec_len};
 ghost use Rattle.idn_text.specs.Points.{AreScalarValues, IsScalarValue, IsUtf8Of, utf8_of};
 
 use crate::body::MAX_LINE_LEN;
@@ -40,45 +39,12 @@ pub fn write_points(points: &[u32], utf8: &mut ArrayVec<u8, 4096>)
     requires scalar_values { AreScalarValues points.now }
     ensures { utf8.new.items ≡ utf8_of points.now }
 {
+    let mut room = [0; 4096];
+    let len = put_points(points, &mut room, 0);
     utf8.clear();
-    push_points(points, utf8);
-}
-
-/// Appends the UTF-8 (RFC 3629) of scalar values. There must be space for four bytes for each.
-pub fn push_points<const N: usize>(points: &[u32], utf8: &mut ArrayVec<u8, N>)
-    requires scalar_values { AreScalarValues points.now }
-    requires room { array_vec_len utf8.old + 4 * length points.now ≤ N }
-    ensures written { utf8.new.items ≡ utf8.old.items ++ utf8_of points.now }
-    ensures grown { array_vec_len utf8.new ≤ array_vec_len utf8.old + 4 * length points.now }
-{
-    for point in points {
-        push_point(*point, utf8);
-    }
-}
-
-/// Appends the one to four bytes of a scalar value (RFC 3629 section 3). There must be space for four.
-#[inline]
-fn push_point<const N: usize>(point: u32, utf8: &mut ArrayVec<u8, N>)
-    requires scalar_value { IsScalarValue point }
-    requires room { array_vec_len utf8.old + 4 ≤ N }
-    ensures written { utf8.new.items ≡ utf8.old.items ++ encode_utf8 point }
-    ensures grown { array_vec_len utf8.new ≤ array_vec_len utf8.old + 4 }
-{
-    if point < 0x80 {
-        utf8.push(point as u8);
-    } else if point < 0x800 {
-        utf8.push((0xC0 + point / 0x40) as u8);
-        utf8.push(later_byte(point));
-    } else if point < 0x1_0000 {
-        utf8.push((0xE0 + point / 0x1000) as u8);
-        utf8.push(later_byte(point / 0x40));
-        utf8.push(later_byte(point));
-    } else {
-        utf8.push((0xF0 + point / 0x4_0000) as u8);
-        utf8.push(later_byte(point / 0x1000));
-        utf8.push(later_byte(point / 0x40));
-        utf8.push(later_byte(point));
-    }
+    let Ok(()) = utf8.try_extend_from_slice(&room[..len]) else {
+        unreachable!()
+    };
 }
 
 /// Writes the UTF-8 (RFC 3629) of scalar values into `room` from the place `at` on, and returns the

@@ -4,10 +4,8 @@ ghost use Rattle.std.specs.Prelude.{◌≡◌, ◌≤◌, ◌<◌, ◌+◌, ◌�
 ghost use Rattle.idn_text.specs.Points.{AreScalarValues, IsScalarValue, utf8_of};
 ghost use Rattle.idn_class.specs.Shared.{IsLongestShared};
 
-use crate::session::buffers::append;
-use arrayvec::ArrayVec;
 use idn_class::{KeptLabel, shared_len};
-use idn_text::push_points;
+use idn_text::put_points;
 use std::marker::Model;
 
 /// The most code points of a label, and the most octets of an A-label (RFC 1034, section 3.1).
@@ -23,17 +21,20 @@ pub(crate) struct KeptLine {
     label: KeptLabel,
     /// How many octets of UTF-8 the first code points of the label have, from none of them to all.
     ends: [u8; MAX_LABEL_LEN + 1],
-    line: ArrayVec<u8, MAX_VARIANT_LINE_LEN>,
+    line: [u8; MAX_VARIANT_LINE_LEN],
+    /// How many octets the line has. What an earlier line left behind them stays there.
+    len: usize,
 }
 
 impl Model for KeptLine {
+    ghost use Rattle.std.specs.Prelude.{◌≤◌, take};
     ghost use Rattle.idn2_cli.specs.inner.KeptLines.{Begun, BeginsWith};
 
     ghost Value = { Begun };
 
-    ghost view = { λ kept. record { label = kept.label; line = kept.line.items } };
+    ghost view = { λ kept. record { label = kept.label; line = take kept.len kept.line } };
 
-    ghost invariant = { λ kept. BeginsWith kept.line.items kept.label kept.ends };
+    ghost invariant = { λ kept. (kept.len ≤ 333) × BeginsWith (take kept.len kept.line) kept.label kept.ends };
 }
 
 impl KeptLine {
@@ -42,7 +43,8 @@ impl KeptLine {
         KeptLine {
             label: KeptLabel::new(),
             ends: [0; MAX_LABEL_LEN + 1],
-            line: ArrayVec::new(),
+            line: [0; MAX_VARIANT_LINE_LEN],
+            len: 0,
         }
     }
 
@@ -62,14 +64,16 @@ impl KeptLine {
         requires { length self.old.line + length text.now ≤ MAX_VARIANT_LINE_LEN }
         ensures { self.new.line ≡ self.old.line ++ text.now }
     {
-        append(&mut self.line, text);
+        let end = self.len + text.len();
+        self.line[self.len..end].copy_from_slice(text);
+        self.len = end;
     }
 
     /// The line.
     pub(crate) fn as_slice(&self) -> &[u8]
         ensures { result.now ≡ self.now.line }
     {
-        self.line.as_slice()
+        &self.line[..self.len]
     }
 
     /// Keeps what the label shares at its start with the one before, and tells how many code points that are.
@@ -80,9 +84,8 @@ impl KeptLine {
         ensures longest { IsLongestShared self.old.label label.now result }
     {
         let count = shared_len(self.label.as_slice(), label);
-        let end = usize::from(self.ends[count]);
         self.label.keep(count);
-        self.line.truncate(end);
+        self.len = usize::from(self.ends[count]);
         count
     }
 
@@ -94,8 +97,8 @@ impl KeptLine {
         ensures label { self.new.label ≡ self.old.label ++ point ∷ [] }
         ensures line { self.new.line ≡ utf8_of (self.old.label ++ point ∷ []) }
     {
-        push_points(&[point], &mut self.line);
+        self.len = put_points(&[point], &mut self.line, self.len);
         self.label.push(point);
-        self.ends[self.label.len()] = self.line.len() as u8;
+        self.ends[self.label.len()] = self.len as u8;
     }
 }

@@ -43,9 +43,9 @@ returns-clause-passes c =
     let one = ap decode (sym c.split_at.ensures.back) ∙ c.in-Ok.ensures.decoded in
     let coded = ap is_all_ascii (sym c.as_slice.ensures.value) ∙ sym c.if-is_all_ascii.ensures in
     let few : length label ≤ 63 = omega (arith, c.as_slice.ensures.short, ap length c.as_slice.ensures.value) in
-    on_ok_weaker c.check_label_of.result
+    on_ok_weaker c.check_label.result
     (λ faultless. answered-tested given label c.requires.prefix c.requires.ascii c.if-given-gt-MAX_LABEL_LEN.false one coded few (ap fault_but_length (sym c.as_slice-2.ensures.value) ∙ faultless))
-    c.check_label_of.ensures.passes
+    c.check_label.ensures.passes
 
 pub returns-clause-fault : goal.returns-clause-fault
 returns-clause-fault c =
@@ -54,5 +54,5 @@ returns-clause-fault c =
     let one = ap decode (sym c.split_at.ensures.back) ∙ c.in-Ok.ensures.decoded in
     let coded = ap is_all_ascii (sym c.as_slice.ensures.value) ∙ sym c.if-is_all_ascii.ensures in
     let decoded = decoded_coded given label c.requires.ascii one coded in
-    MatchResult-weaker c.check_label_of.result c.check_label_of.ensures.fault (λ _ t. t)
+    MatchResult-weaker c.check_label.result c.check_label.ensures.fault (λ _ t. t)
     (λ refusal told _ other. refused-fault given label refusal decoded (first_fault-but_length label refusal (ap fault_but_length (sym c.as_slice-2.ensures.value) ∙ told other)))

@@ -3,8 +3,8 @@ use Rattle.std.proofs.lemmas.Result.{err_from_is_err_and, on_ok_weaker, MatchRes
 use Rattle.idn_class.specs.declared.facts.Fact.TheVariants.{MayBeBarred, MayCompose}
 use Rattle.idn_label.specs.FirstFault.{code_point_fault}
 use Rattle.idn_label.proofs.FaultLemmas.{permitted_scalars, code_point_fault-lacks, fault_but_length-empty, fault_but_length-points, fault_but_length-rules}
-use Rattle.idn_label.proofs.first_fault.check_label_of.Goals as goal
-use Rattle.idn_label.proofs.first_fault.check_label_of.Goals.{then-contains+in_ok-check_code_points, else-contains}
+use Rattle.idn_label.proofs.first_fault.check_label.Goals as goal
+use Rattle.idn_label.proofs.first_fault.check_label.Goals.{then-contains+in_ok-check_code_points, else-contains}
 
 pub returns-then-is_empty-clause-fault : goal.returns-then-is_empty-clause-fault
 returns-then-is_empty-clause-fault c = λ _. fault_but_length-empty c.args.label.now (sym c.if-is_empty.ensures)
