@@ -101,8 +101,8 @@ const APPENDED: [(&str, &str, Option<&str>); 11] = [
     ),
 ];
 
-/// The text with the Punycode of a label after it, or nothing where it does not fit. The text has no more than 63 octets,
-/// and the label no more than 63 characters.
+/// The text with the Punycode of a label after it, or nothing where it does not fit. The text has no more than 63
+/// octets, and the label no more than 63 characters.
 fn appended(before: &str, label: &str) -> Option<ArrayString<63>> {
     let mut chars = ArrayVec::<char, 63>::new();
     for c in label.chars() {

@@ -20,8 +20,8 @@ const NEVER: Stop = Stop {
     once: false,
 };
 
-/// The lines of an input, each as its body behind a colon, a long one as its letter, `#` and its length, one that is too
-/// long as `!`; then `.` at the end or `F` at a fault, each as often as two further calls give it.
+/// The lines of an input, each as its body behind a colon, a long one as its letter, `#` and its length, one that is
+/// too long as `!`; then `.` at the end or `F` at a fault, each as often as two further calls give it.
 fn spelled_lines(alloc: Global, input: &[u8], stop: Stop) -> Result<String, Fail> {
     let reader = StopReader::new(input, stop.piece.max(1), stop.fail_at, stop.once);
     spelled_lines_of(alloc, Device::new(reader))
@@ -121,8 +121,8 @@ fn long_lines(rt: HostRuntime) -> Result<(), Fail> {
     Ok(())
 }
 
-/// Lines at the end of 16,384 bytes, which are read at once: 15 lines of 1,024 bytes come before these. Of each there is
-/// how many letters it has, and its end.
+/// Lines at the end of 16,384 bytes, which are read at once: 15 lines of 1,024 bytes come before these. Of each there
+/// is how many letters it has, and its end.
 #[test]
 fn lines_across_reads(rt: HostRuntime) -> Result<(), Fail> {
     let rows: [&[(usize, &str)]; 14] = [

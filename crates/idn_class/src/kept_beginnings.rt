@@ -7,8 +7,8 @@ use crate::kept_label::{KeptLabel, MAX_LABEL_LEN};
 use crate::known::Known;
 use std::marker::Model;
 
-/// What is known of each beginning of a label. Where it goes from one label to another, it looks only at the code points
-/// behind those that both share at their start. Contracts see the label.
+/// What is known of each beginning of a label. Where it goes from one label to another, it looks only at the code
+/// points behind those that both share at their start. Contracts see the label.
 #[derive(Drop)]
 pub struct KeptBeginnings {
     label: KeptLabel,
@@ -46,8 +46,8 @@ impl KeptBeginnings {
     }
 
     /// How many code points the shortest hopeless beginning of a label of at most 63 code points has, as
-    /// `shortest_hopeless` tells it. What is kept is then of this label; where a beginning is hopeless, it may be of part
-    /// of it alone.
+    /// `shortest_hopeless` tells it. What is kept is then of this label; where a beginning is hopeless, it may be of
+    /// part of it alone.
     pub fn shortest_hopeless(&mut self, label: &[u32]) -> Option<usize>
         requires { length label.now ≤ 63 }
         ensures shortest { MatchOption result (HasHope label.now) (IsShortestHopeless label.now) }

@@ -35,17 +35,6 @@ impl KeptLabel {
         }
     }
 
-    /// The same label once more.
-    #[inline]
-    pub fn copied(&self) -> KeptLabel
-        ensures { result ≡ self.now }
-    {
-        KeptLabel {
-            points: self.points,
-            len: self.len,
-        }
-    }
-
     /// How many code points there are.
     #[inline]
     pub fn len(&self) -> usize
@@ -80,5 +69,15 @@ impl KeptLabel {
     {
         self.points[self.len] = point;
         self.len += 1;
+    }
+
+    /// Puts these code points in place of all others.
+    #[inline]
+    pub fn replace(&mut self, label: &[u32])
+        requires { length label.now ≤ 63 }
+        ensures { self.new ≡ label.now }
+    {
+        self.points[..label.len()].copy_from_slice(label);
+        self.len = label.len();
     }
 }

@@ -12,10 +12,11 @@ use idn_punycode::DecodedLabel;
 use idn_text::{MAX_LINE_LEN, Refusal, put_points};
 use std::alloc::Global;
 
-/// Writes into `room` the UTF-8 of what `decode_name` makes of a name in ASCII, and returns how many octets these are. There
-/// must be room for four octets for each of the name. A name without A-labels takes no memory, nor does an A-label in most
-/// cases: one of more than 63 octets does, one of a label in ASCII, and one of a label with a code point of which no look-up
-/// says the class, or for which the quick check of NFC is Maybe. Where the name is refused, what is left says nothing.
+/// Writes into `room` the UTF-8 of what `decode_name` makes of a name in ASCII, and returns how many octets these are.
+/// There must be room for four octets for each of the name. A name without A-labels takes no memory, nor does an
+/// A-label in most cases: one of more than 63 octets does, one of a label in ASCII, and one of a label with a code
+/// point of which no look-up says the class, or for which the quick check of NFC is Maybe. Where the name is refused,
+/// what is left says nothing.
 pub fn decode_ascii(alloc: Global, name: &[u8], room: &mut [u8]) -> Result<usize, Refusal>
     requires ascii { IsAscii name.now }
     requires short { length name.now ≤ MAX_LINE_LEN }
@@ -40,8 +41,8 @@ pub fn decode_ascii(alloc: Global, name: &[u8], room: &mut [u8]) -> Result<usize
     }
 }
 
-/// Writes the UTF-8 of a label, decoded if it begins with `xn--` in any ASCII case, into `room` from the place `at` on, and
-/// returns the place behind it. `u_label` is room for what an A-label stands for.
+/// Writes the UTF-8 of a label, decoded if it begins with `xn--` in any ASCII case, into `room` from the place `at` on,
+/// and returns the place behind it. `u_label` is room for what an A-label stands for.
 fn decode_label(
     alloc: Global,
     label: &[u8],

@@ -18,9 +18,9 @@ use idn_punycode::DecodedLabel;
 use idn_text::{MAX_LINE_LEN, Refusal};
 use std::alloc::Global;
 
-/// The name with each A-label turned into what it stands for (RFC 5891 section 5.3). A label that begins with `xn--`
-/// in any ASCII case is put into lower case and decoded, or refuses the name as `BadALabel` or by the first fault of
-/// what it stands for; any other label stays as it is. The first refused label decides. `Memory` says nothing of the name.
+/// The name with each A-label turned into what it stands for (RFC 5891 section 5.3). A label that begins with `xn--` in
+/// any ASCII case is put into lower case and decoded, or refuses the name as `BadALabel` or by the first fault of what
+/// it stands for; any other label stays as it is. The first refused label decides. `Memory` says nothing of the name.
 pub fn decode_name(alloc: Global, name: &[u32]) -> Result<Vec<u32>, Refusal>
     requires { length name.now ≤ MAX_LINE_LEN }
     ensures answer { Gives (λ decoded. decoded.items) result (decode_answer name.now) }

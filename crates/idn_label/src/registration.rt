@@ -18,11 +18,11 @@ use idn_punycode::DecodedLabel;
 use idn_text::{MAX_LINE_LEN, Refusal};
 use std::alloc::Global;
 
-/// The A-label of a label that may be registered (RFC 5891 section 4), else its first fault, as `test_label` reports it.
-/// A label that begins with `xn--` is decoded first, and is the answer if it is the A-label of what it stands for;
+/// The A-label of a label that may be registered (RFC 5891 section 4), else its first fault, as `test_label` reports
+/// it. A label that begins with `xn--` is decoded first, and is the answer if it is the A-label of what it stands for;
 /// else it is refused as `BadALabel`, or by the first fault of what it stands for. `Memory` says nothing of the label.
-/// Any other label takes no memory where `test_label` takes none. Nor does one that begins with `xn--` and has at most 63
-/// code points and no capital, where what it stands for is not all ASCII and `test_label` takes none for that.
+/// Any other label takes no memory where `test_label` takes none. Nor does one that begins with `xn--` and has at most
+/// 63 code points and no capital, where what it stands for is not all ASCII and `test_label` takes none for that.
 pub fn register(alloc: Global, label: &[u32]) -> Result<ALabel, Refusal>
     requires { length label.now ≤ MAX_LINE_LEN }
     ensures answer { Gives (λ answer. answer.bytes) result (register_answer label.now) }

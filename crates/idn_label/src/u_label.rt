@@ -20,8 +20,8 @@ use idna::{Errors, punycode};
 use std::alloc::Global;
 use std::str;
 
-/// Leaves in `label` what an A-label in any ASCII case stands for, in place of what stood there. A label that passes the
-/// test has no capital, so its code need not be put into lower case first.
+/// Leaves in `label` what an A-label in any ASCII case stands for, in place of what stood there. A label that passes
+/// the test has no capital, so its code need not be put into lower case first.
 pub(crate) fn u_label_in_any_case(
     alloc: Global,
     given: &[u8],
@@ -44,13 +44,9 @@ pub(crate) fn u_label_in_any_case(
     }
 }
 
-/// Leaves in `label` the label that an A-label stands for, which may be registered and has that A-label, in place of what
-/// stood there.
-pub(crate) fn u_label(
-    alloc: Global,
-    given: &[u8],
-    label: &mut DecodedLabel,
-) -> Result<(), Refusal>
+/// Leaves in `label` the label that an A-label stands for, which may be registered and has that A-label, in place of
+/// what stood there.
+pub(crate) fn u_label(alloc: Global, given: &[u8], label: &mut DecodedLabel) -> Result<(), Refusal>
     requires prefix { has_ace_prefix given.now ≡ true }
     requires ascii { is_all_ascii given.now ≡ true }
     requires short { length given.now ≤ MAX_LINE_LEN }
@@ -75,9 +71,9 @@ pub(crate) fn has_no_capital(text: &[u8]) -> bool
     has_none
 }
 
-/// `u_label` of an A-label put into lower case; if it is refused, this is why where it has no capital. One that is short
-/// need not be encoded again to be compared: Punycode in lower case is the only one of what it stands for (RFC 3492
-/// sections 1.1 and 5).
+/// `u_label` of an A-label put into lower case; if it is refused, this is why where it has no capital. One that is
+/// short need not be encoded again to be compared: Punycode in lower case is the only one of what it stands for (RFC
+/// 3492 sections 1.1 and 5).
 fn tested_u_label(alloc: Global, given: &[u8], label: &mut DecodedLabel) -> Result<(), Refusal>
     requires prefix { has_ace_prefix (map to_ascii_lowercase given.now) ≡ true }
     requires ascii { is_all_ascii given.now ≡ true }

@@ -1,4 +1,5 @@
-//! What is asked of labels that are held as octets, numbers or characters alike: ASCII, the prefix, hyphens, full stops.
+//! What is asked of labels that are held as octets, numbers or characters alike: ASCII, the prefix, hyphens, full
+//! stops.
 ghost use Rattle.std.specs.Prelude.{◌≡◌, ◌<◌, ◌≤◌, [], ◌∷◌, ◌++◌, length, map, slice_index, IfSome};
 ghost use Rattle.std.specs.Option.{option_map_or};
 ghost use Rattle.std.specs.Char.{to_ascii_lowercase};

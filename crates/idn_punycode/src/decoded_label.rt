@@ -49,9 +49,9 @@ impl DecodedLabel {
         &self.points[..self.len]
     }
 
-    /// Puts what at most 63 octets of Punycode stand for (RFC 3492 section 6.2) in place of the label, and tells the facts of
-    /// its code points. Capital letters are digits too. Where the octets are not Punycode of scalar values, as where one is past
-    /// ASCII, what label is then left says nothing.
+    /// Puts what at most 63 octets of Punycode stand for (RFC 3492 section 6.2) in place of the label, and tells the
+    /// facts of its code points. Capital letters are digits too. Where the octets are not Punycode of scalar values, as
+    /// where one is past ASCII, what label is then left says nothing.
     #[inline]
     pub fn decode(&mut self, code: &[u8]) -> Result<Facts, NotPunycode>
         requires { length code.now ≤ 63 }

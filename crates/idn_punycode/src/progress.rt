@@ -37,11 +37,11 @@ impl Progress {
         }
     }
 
-    /// Writes the digits of the next key behind a text, and goes on behind it. Where they do not fit, some of them may have
-    /// been appended. `basic` code points are of ASCII.
+    /// Writes the digits of the next key behind a text, and goes on behind it. Where they do not fit, some of them may
+    /// have been appended. `basic` code points are of ASCII.
     ///
-    /// A decoder takes `handled + 1` steps for each code point on the way to the next one, and then those from the start
-    /// to the position of that one, less those up to `position`.
+    /// A decoder takes `handled + 1` steps for each code point on the way to the next one, and then those from the
+    /// start to the position of that one, less those up to `position`.
     ///
     /// Always inline: what a turn changes then stays in registers.
     #[inline(always)]

@@ -25,7 +25,7 @@ impl Body {
     {
         match ArrayVec::try_from(text) {
             Ok(text) => Body::Text(text),
-            Err(_) => Body::TooLong,
+            Err(_) => unreachable!(),
         }
     }
 }

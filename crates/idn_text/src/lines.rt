@@ -121,16 +121,16 @@ impl<R: Source> Lines<R> {
         Ok(true)
     }
 
-    /// The number of the last line that `advance` went on to, from 1; 0 before the first.
+    /// The number of the last line that `advance` or `next_line` went on to, from 1; 0 before the first.
     pub fn number(&self) -> u64
         ensures { result ≡ self.now.number }
     {
         self.number
     }
 
-    /// The line that `advance` went on to, without its end: a line feed, and one carriage return before
-    /// it. It is `None` where the line has more than 1,024 bytes, a carriage return at its end counted.
-    /// Where the last `advance` went on to none, nothing is said of it.
+    /// The line that `advance` or `next_line` went on to, without its end: a line feed, and one carriage
+    /// return before it. It is `None` where the line has more than 1,024 bytes, a carriage return at its
+    /// end counted. Where the last call went on to none, nothing is said of it.
     pub fn text(&self) -> Option<&[u8]>
         ensures body { MatchOption result ((line_at self.now).body ≡ None) (λ text. (line_at self.now).body ≡ Some text.now) }
         ensures few { IfSome result (λ text. length text.now ≤ MAX_LINE_LEN) }

@@ -48,7 +48,8 @@ pub fn write_points(points: &[u32], utf8: &mut ArrayVec<u8, 4096>)
 }
 
 /// Writes the UTF-8 (RFC 3629) of scalar values into `room` from the place `at` on, and returns the
-/// place behind it. There must be room for four bytes for each.
+/// place behind it. What stands before `at` stays; of what stands behind the UTF-8 nothing is said.
+/// There must be room for four bytes for each.
 pub fn put_points(points: &[u32], room: &mut [u8], at: usize) -> usize
     requires scalar_values { AreScalarValues points.now }
     requires room { at + 4 * length points.now ≤ length room.old }

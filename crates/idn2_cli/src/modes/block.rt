@@ -137,7 +137,8 @@ fn write_variant<W: Sink, E: Sink>(
     console.output(line.as_slice())
 }
 
-/// Writes the trailer of a listing that stops at a label of at most 63 code points. `kept` gives the UTF-8 of the label.
+/// Writes the trailer of a listing that stops at a label of at most 63 code points. `kept` gives the UTF-8 of the
+/// label.
 fn write_stop<W: Sink, E: Sink>(
     count: u64,
     last: &[u32],

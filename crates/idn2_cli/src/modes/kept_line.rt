@@ -14,8 +14,8 @@ const MAX_LABEL_LEN: usize = 63;
 /// The most octets of a line: four for each code point of a label, a tab, an A-label, a field and a line feed.
 const MAX_VARIANT_LINE_LEN: usize = 4 * MAX_LABEL_LEN + 1 + MAX_LABEL_LEN + 16 + 1;
 
-/// A line that begins with a label's UTF-8. The next line keeps that of the code points which both labels share at their
-/// start. Contracts see the label and the line.
+/// A line that begins with a label's UTF-8. The next line keeps that of the code points which both labels share at
+/// their start. Contracts see the label and the line.
 #[derive(Drop)]
 pub(crate) struct KeptLine {
     label: KeptLabel,

@@ -21,8 +21,8 @@ invariant_of-self c =
     let is = cut line label c.self.inside.ends c.self.inside.len count c.from-self-inside.result c.self.invariant.1 end in (
       omega (arith, is.0, c.self.invariant.0),
       subst (λ l. BeginsWith (take c.from-self-inside.result line) l c.self.inside.ends) (sym c.keep.ensures)
-      (subst (λ l. BeginsWith l (take count label) c.self.inside.ends) (sym is.1)
-      (BeginsWith-cut (take c.self.inside.len line) label c.self.inside.ends c.self.invariant.1 count)),
+          (subst (λ l. BeginsWith l (take count label) c.self.inside.ends) (sym is.1)
+          (BeginsWith-cut (take c.self.inside.len line) label c.self.inside.ends c.self.invariant.1 count)),
     )
 
 pub returns-clause-line : goal.returns-clause-line

@@ -39,8 +39,8 @@ invariant_of-self c =
     let place : c.len.result ≡ length old + 1 = omega (arith, c.len.ensures.value, ap length c.push.ensures, length-append old added) in (
       within,
       subst (λ l. BeginsWith new l (set ends c.len.result end)) (sym c.push.ensures)
-      (subst (λ n. BeginsWith new (old ++ added) (set ends n end)) (sym place)
-      (BeginsWith-push (take c.self.inside.len c.self.inside.line) old ends c.self.invariant.1 c.args.point end new room longer count)),
+          (subst (λ n. BeginsWith new (old ++ added) (set ends n end)) (sym place)
+          (BeginsWith-push (take c.self.inside.len c.self.inside.line) old ends c.self.invariant.1 c.args.point end new room longer count)),
     )
 
 pub returns-clause-line : goal.returns-clause-line
