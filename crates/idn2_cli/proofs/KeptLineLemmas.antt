@@ -7,14 +7,6 @@ use Rattle.std.proofs.lemmas.Str.{encodes-append}
 use Rattle.idn_text.specs.Points.{utf8_of, IsScalarValue, AreScalarValues}
 use Rattle.idn2_cli.specs.inner.KeptLines.{BeginsWith}
 
-pub BeginsWith-nothing : (ends : List ℕ) → ((e : ℕ) → get_or ends 0 e ≡ 0) → BeginsWith [] [] ends
-BeginsWith-nothing ends none = record {
-  text = refl;
-  ends = λ i e within.
-      let zero : i ≡ 0 = omega (arith, within) in
-      ap (λ n. get_or ends n e) zero ∙ none e ∙ sym (ap (λ n. length (utf8_of (take n []))) zero);
-}
-
 -- one scalar value
 pub scalar_value-alone : (c : ℕ) → IsScalarValue c → AreScalarValues (c ∷ [])
 scalar_value-alone c is k d within = let zero : 0 ≡ k = omega (arith, within) in subst (λ j. IsScalarValue (get_or (c ∷ []) j d)) zero is

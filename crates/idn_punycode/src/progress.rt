@@ -8,15 +8,16 @@ use crate::key::{PLACE_LIMIT, count_before};
 use crate::parameters::{INITIAL_BIAS, INITIAL_CODE_POINT};
 use arrayvec::{ArrayString, CapacityError};
 
-/// What the writer has come to: the code points past ASCII are taken in the order of their keys. Among the code points
-/// that are handled, a decoder has come to `position`.
+/// What the writer has come to: the code points past ASCII are taken in the order of their keys.
 #[derive(Clone, Copy)]
 pub(crate) struct Progress {
     /// How many code points are handled.
     handled: u32,
     /// The code point that was handled last.
     code_point: u32,
+    /// The place that a decoder has come to, among the code points that are handled.
     position: u32,
+    /// The bias of the next integer.
     bias: u32,
     /// Where the code points that are handled stand, each as a bit.
     places: u64,

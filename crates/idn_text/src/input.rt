@@ -15,9 +15,13 @@ use std::marker::Model;
 /// The most read calls.
 const READ_LIMIT: u64 = 1 << 40;
 
+/// How many bytes are held, at most.
+const BUFFER_LEN: usize = 16384;
+
 /// Where a line stands in the buffer.
 #[derive(Clone, Copy)]
 pub enum Place {
+    /// From `start` to before `end`.
     Text { start: usize, end: usize },
     /// Nowhere, since it has more bytes than a line may have.
     TooLong,
@@ -28,7 +32,7 @@ pub enum Place {
 #[derive(Drop)]
 pub struct Input<R: Source> {
     reader: R,
-    buffer: [u8; 16384],
+    buffer: [u8; BUFFER_LEN],
     place: Place,
     start: usize,
     end: usize,
@@ -54,7 +58,7 @@ impl<R: Source> Input<R> {
     {
         Input {
             reader,
-            buffer: [0; 16384],
+            buffer: [0; BUFFER_LEN],
             place: Place::Text { start: 0, end: 0 },
             start: 0,
             end: 0,

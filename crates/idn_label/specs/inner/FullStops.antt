@@ -1,5 +1,5 @@
 -- The full stop behind the first label of a name.
-use Rattle.std.specs.Prelude.{◌≡◌, ◌<◌, ℕ, false, true, List, length, take, slice_index, All}
+use Rattle.std.specs.Prelude.{◌≡◌, ◌<◌, ℕ, false, List, length, take, slice_index, All}
 use Rattle.idna.specs.Labels.{is_full_stop}
 
 -- there is no full stop

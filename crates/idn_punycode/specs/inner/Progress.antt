@@ -3,7 +3,7 @@ use Rattle.std.specs.Prelude.{ℕ, ◌+◌, ◌-◌, ◌*◌, ◌/◌, ◌%◌, 
 use Rattle.idna.specs.Punycode.{adapt, write_integer}
 use Rattle.idn_punycode.specs.declared.progress.Progress.{Progress}
 
--- behind the code points of ASCII, whose places are given as bits
+-- behind the code points of ASCII, whose places are given as bits: the first code point that may come is 128, the first bias 72
 abbrev pub behind_basic : ℕ → ℕ → Progress
 behind_basic basic places = record { handled = basic; code_point = 128; position = 0; bias = 72; places = places }
 
@@ -15,9 +15,11 @@ handled_before p key = count_ones (p.places % 2 ^ (key % 64))
 abbrev pub steps_to : Progress → ℕ → ℕ
 steps_to p key = (key / 64 - p.code_point) * (p.handled + 1) + handled_before p key
 
+-- and from what the decoder has come to
 abbrev pub delta_to : Progress → ℕ → ℕ
 delta_to p key = steps_to p key - p.position
 
+-- the integer of those steps, whose first digit has the weight place 36, the base
 abbrev pub digits_of_key : Progress → ℕ → List ℕ
 digits_of_key p key = write_integer (delta_to p key) p.bias 36 (delta_to p key)
 

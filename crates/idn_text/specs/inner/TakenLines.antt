@@ -22,7 +22,7 @@ abbrev pub at_place : List ℕ → Place → Option (List ℕ)
 at_place buffer (Text start stop) = Some (slice_range buffer start stop)
 at_place buffer TooLong = None
 
--- the place lies in the buffer, and has no more bytes than a line may have
+-- the place lies in the buffer (BUFFER_LEN bytes), and has no more bytes than a line may have (MAX_LINE_LEN)
 abbrev pub IsPlaceOfLine : Place → Type 0
 IsPlaceOfLine (Text start stop) = (start ≤ stop) × (stop ≤ 16384) × (stop ≤ start + 1024)
 IsPlaceOfLine TooLong = Unit {0}
