@@ -1,6 +1,5 @@
 //! The test of one label after another, which keeps the A-label, and of the Punycode what both labels share.
-ghost use Rattle.std.specs.Prelude.{◌≡◌, ◌≢◌, ◌<◌, ◌≤◌, ◌++◌, [], length, codes, None, Some, Err, IfErr, OnOk};
-ghost use Rattle.idna.specs.Punycode.{encode};
+ghost use Rattle.std.specs.Prelude.{◌≡◌, ◌≢◌, [], None, Some, Err, IfErr, OnOk};
 ghost use Rattle.idn_class.specs.Facts.{AreFactsOf};
 ghost use Rattle.idn_label.specs.ALabel.{a_label_of};
 ghost use Rattle.idn_label.specs.FirstFault.{first_fault, IsRegistrable};
@@ -10,19 +9,17 @@ ghost use Rattle.idn_label.specs.inner.FaultSteps.{fault_but_length};
 use crate::a_label::{ALabel, MAX_LABEL_LEN, ascii_text};
 use crate::first_fault::check_label;
 use crate::unit::is_all_ascii;
-use idn_class::{Facts, shared_len};
-use idn_punycode::KeptParts;
+use idn_class::Facts;
+use idn_punycode::KeptPunycode;
 use idn_text::Refusal;
 use std::alloc::Global;
 use std::marker::Model;
 
-/// Tests labels for registration, and keeps the A-label of the last one. Where it goes from one label to another, only
-/// the code points behind those that both share at their start are taken apart for the Punycode. Contracts see the
-/// A-label.
+/// Tests labels for registration, and keeps the A-label of the last one. Of the Punycode of the next one only what changed
+/// is made anew. Contracts see the A-label.
 #[derive(Drop)]
 pub struct KeptALabel {
-    parts: KeptParts,
-    text: ALabel,
+    a_label: KeptPunycode,
 }
 
 impl Model for KeptALabel {
@@ -30,7 +27,7 @@ impl Model for KeptALabel {
 
     ghost Value = { List ℕ };
 
-    ghost view = { λ kept. kept.text.bytes };
+    ghost view = { λ kept. kept.a_label };
 
     ghost invariant = { λ kept. Unit {0} };
 }
@@ -41,8 +38,7 @@ impl KeptALabel {
         ensures { result ≡ [] }
     {
         KeptALabel {
-            parts: KeptParts::new(),
-            text: ALabel::new(),
+            a_label: KeptPunycode::new(),
         }
     }
 
@@ -50,7 +46,7 @@ impl KeptALabel {
     pub fn a_label(&self) -> &ALabel
         ensures { result.now.bytes ≡ self.now }
     {
-        &self.text
+        self.a_label.text()
     }
 
     /// Keeps the A-label of a label that may be registered, else tells its first fault, as the function `test_label`
@@ -78,23 +74,10 @@ impl KeptALabel {
             return Err(Refusal::LabelTooLong);
         }
         if is_all_ascii(label) {
-            self.text = ascii_text(label);
+            self.a_label.put(ascii_text(label));
             return Ok(());
         }
-        self.keep_encoded(label)
-    }
-
-    /// Keeps the prefix and the Punycode of a label, if they are short enough.
-    fn keep_encoded(&mut self, label: &[u32]) -> Result<(), Refusal>
-        requires { length label.now ≤ 63 }
-        ensures ok { OnOk result (self.new ≡ codes "xn--" ++ encode label.now) }
-        ensures short { OnOk result (length (codes "xn--" ++ encode label.now) ≤ 63) }
-        ensures too_long { IfErr result (λ refusal. (refusal ≡ Refusal.LabelTooLong) × (63 < length (codes "xn--" ++ encode label.now))) }
-    {
-        self.text.clear();
-        self.text.push_str("xn--");
-        let shared = shared_len(self.parts.label(), label);
-        match self.parts.push_encoded(label, shared, &mut self.text) {
+        match self.a_label.encode(label) {
             Ok(()) => Ok(()),
             Err(_) => Err(Refusal::LabelTooLong),
         }

@@ -1,3 +1,4 @@
 -- Words of inner functions and of private fields. No public contract cites them.
+pub mod Digits
 pub mod Keys
 pub mod Progress

@@ -61,15 +61,34 @@ impl Progress {
         let code_point = key / PLACE_LIMIT;
         let place = key % PLACE_LIMIT;
         let before = count_before(self.places, place);
-        let handled = self.handled + 1;
-        let delta = (code_point - self.code_point) * handled + before - self.position;
+        let steps = (key / PLACE_LIMIT - self.code_point) * (self.handled + 1);
+        let delta = steps + count_before(self.places, key % PLACE_LIMIT) - self.position;
         write_integer(delta, self.bias, text)?;
-        Ok(Progress {
-            handled,
-            code_point,
-            position: before + 1,
-            bias: adapt(delta, handled, self.handled == basic),
+        let bias = adapt(delta, self.handled + 1, self.handled == basic);
+        Ok(self.behind(key, bias))
+    }
+
+    /// Behind the next key, whose digits leave this bias.
+    #[inline(always)]
+    pub(crate) fn behind(self, key: u32, bias: u32) -> Progress
+        requires { self.handled ≤ 63 }
+        ensures { result ≡ record (behind_key 0 self key) { bias = bias } }
+    {
+        let place = key % PLACE_LIMIT;
+        Progress {
+            handled: self.handled + 1,
+            code_point: key / PLACE_LIMIT,
+            position: count_before(self.places, place) + 1,
+            bias,
             places: self.places | 1 << place,
-        })
+        }
+    }
+
+    /// The bias of the next integer.
+    #[inline]
+    pub(crate) fn bias(&self) -> u32
+        ensures { result ≡ self.now.bias }
+    {
+        self.bias
     }
 }

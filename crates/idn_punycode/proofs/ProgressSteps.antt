@@ -1,0 +1,139 @@
+-- The digits of keys, one key after the other, and what the writer has come to behind them.
+use Rattle.std.proofs.Common.{◌≡◌, ℕ, zero, suc, ◌+◌, ◌<◌, ◌≤◌, List, [], ◌∷◌, ◌++◌, length, get_or, set, take, drop, inl, inr, refl, sym, ap, ◌∙◌, subst, append_assoc, append-nil, length-append, length-take, arith}
+use Rattle.std.proofs.lemmas.Bool.{cases_order}
+use Rattle.std.proofs.lemmas.List.{take_more, take_all, take-take, take-append-drop, get_or-set_other}
+use Rattle.std.proofs.lemmas.Grind.{get_or-set_at}
+use Rattle.std.proofs.Math.Seq.{take-append_seam}
+use Rattle.std.specs.Str.{IsAscii}
+use Rattle.idna.specs.Punycode.{encode}
+use Rattle.idna.proofs.PunycodeLemmas.{IsAscii-encode}
+use Rattle.idn_punycode.specs.declared.progress.Progress.{Progress}
+use Rattle.idn_punycode.specs.inner.Keys.{HasKeys, HasPlaces}
+use Rattle.idn_punycode.specs.inner.Digits.{behind_keys, digits_of_keys, all_digits, behind_all, end_behind, AreOfKeys, AreWritable}
+use Rattle.idn_punycode.specs.inner.Progress.{behind_basic, behind_key, digits_of_key, IsNextKey}
+use Rattle.idn_punycode.proofs.EncodingSteps.{Encodes, Encodes-no_basic}
+use Rattle.idn_punycode.proofs.OrderSteps.{HasPlaces-none, Turns, Turns-start, Turns-more, Turns-next, Turns-end}
+
+pub behind_keys-none : (basic : ℕ) (p : Progress) → behind_keys basic p [] ≡ p
+unfolding behind_keys
+behind_keys-none basic p = refl
+
+pub digits_of_keys-none : (basic : ℕ) (p : Progress) → digits_of_keys basic p [] ≡ []
+unfolding digits_of_keys
+digits_of_keys-none basic p = refl
+
+pub behind_keys-more : (basic : ℕ) (p : Progress) (keys : List ℕ) (key : ℕ) → behind_keys basic p (keys ++ key ∷ []) ≡ behind_key basic (behind_keys basic p keys) key
+unfolding behind_keys
+behind_keys-more basic p [] key = refl
+behind_keys-more basic p (k ∷ keys) key = behind_keys-more basic (behind_key basic p k) keys key
+
+pub digits_of_keys-more : (basic : ℕ) (p : Progress) (keys : List ℕ) (key : ℕ) → digits_of_keys basic p (keys ++ key ∷ []) ≡ digits_of_keys basic p keys ++ digits_of_key (behind_keys basic p keys) key
+unfolding behind_keys digits_of_keys
+digits_of_keys-more basic p [] key = append-nil (digits_of_key p key)
+digits_of_keys-more basic p (k ∷ keys) key =
+    ap (λ xs. digits_of_key p k ++ xs) (digits_of_keys-more basic (behind_key basic p k) keys key)
+    ∙ sym (append_assoc (digits_of_key p k) (digits_of_keys basic (behind_key basic p k) keys) (digits_of_key (behind_keys basic (behind_key basic p k) keys) key))
+
+-- the digits of the first keys come first
+digits_of_keys-append : (basic : ℕ) (p : Progress) (keys others : List ℕ) → digits_of_keys basic p (keys ++ others) ≡ digits_of_keys basic p keys ++ digits_of_keys basic (behind_keys basic p keys) others
+unfolding behind_keys digits_of_keys
+digits_of_keys-append basic p [] others = refl
+digits_of_keys-append basic p (k ∷ keys) others =
+    ap (λ xs. digits_of_key p k ++ xs) (digits_of_keys-append basic (behind_key basic p k) keys others)
+    ∙ sym (append_assoc (digits_of_key p k) (digits_of_keys basic (behind_key basic p k) keys) (digits_of_keys basic (behind_keys basic (behind_key basic p k) keys) others))
+
+all_digits-parts : (n : ℕ) (keys : List ℕ) → all_digits keys ≡ all_digits (take n keys) ++ digits_of_keys 0 (behind_all (take n keys)) (drop n keys)
+all_digits-parts n keys =
+    ap all_digits (sym (take-append-drop n keys)) ∙ digits_of_keys-append 0 (behind_basic 0 0) (take n keys) (drop n keys)
+
+pub end_behind-le : (n : ℕ) (keys : List ℕ) → end_behind (take n keys) ≤ end_behind keys
+end_behind-le n keys =
+    omega (arith, ap length (all_digits-parts n keys), length-append (all_digits (take n keys)) (digits_of_keys 0 (behind_all (take n keys)) (drop n keys)))
+
+pub take-digits : (n : ℕ) (keys : List ℕ) → take (length (all_digits (take n keys))) (all_digits keys) ≡ all_digits (take n keys)
+take-digits n keys =
+    let digits = all_digits (take n keys) in
+    ap (take (length digits)) (all_digits-parts n keys) ∙ take-append_seam digits (digits_of_keys 0 (behind_all (take n keys)) (drop n keys))
+
+pub all_digits-turn : (n : ℕ) (keys : List ℕ) → n < length keys → all_digits (take (n + 1) keys) ≡ all_digits (take n keys) ++ digits_of_key (behind_all (take n keys)) (get_or keys n 0)
+all_digits-turn n keys lt = ap all_digits (take_more keys n 0 lt) ∙ digits_of_keys-more 0 (behind_basic 0 0) (take n keys) (get_or keys n 0)
+
+pub behind_all-turn : (n : ℕ) (keys : List ℕ) → n < length keys → behind_all (take (n + 1) keys) ≡ behind_key 0 (behind_all (take n keys)) (get_or keys n 0)
+behind_all-turn n keys lt = ap behind_all (take_more keys n 0 lt) ∙ behind_keys-more 0 (behind_basic 0 0) (take n keys) (get_or keys n 0)
+
+-- ---- what is kept for each key
+
+pub AreOfKeys-take : (f : List ℕ → ℕ) (keys xs : List ℕ) (n : ℕ) → AreOfKeys f keys xs → AreOfKeys f (take n keys) xs
+AreOfKeys-take f keys xs n h i x lt =
+    let short = length-take n keys in
+    h i x (omega (arith, short)) ∙ ap f (sym (take-take (i + 1) n keys (omega (arith, short))))
+
+pub AreOfKeys-more : (f : List ℕ → ℕ) (keys xs : List ℕ) (n y : ℕ) → AreOfKeys f (take n keys) xs → n < length keys → n < length xs → y ≡ f (take (n + 1) keys) → AreOfKeys f (take (n + 1) keys) (set xs n y)
+AreOfKeys-more f keys xs n y h within room is i x lt =
+    let short = length-take (n + 1) keys in
+    let before = length-take n keys in
+    elim (cases_order i n) [
+      | inl last ↦ get_or-set_at xs n i y x last room ∙ is ∙ ap (λ k. f (take (k + 1) keys)) (sym last)
+      | inr (inl less) ↦
+          get_or-set_other xs n i y x (λ same. omega (arith, same, less))
+          ∙ h i x (omega (arith, before))
+          ∙ ap f (take-take (i + 1) n keys (omega (arith, less)))
+      | inr (inr more) ↦ absurd (omega (arith, short))
+    ]
+    ∙ ap f (sym (take-take (i + 1) (n + 1) keys (omega (arith, short))))
+
+-- ---- the keys of a label
+
+-- the turn of the key at the place i, where the writer has come to p
+abbrev TurnsAt : List ℕ → List ℕ → List ℕ → ℕ → Progress → ℕ → Type 0
+TurnsAt label keys code basic p i =
+    Turns label keys code basic p.handled p.code_point p.position p.bias p.places i × (basic ≤ p.handled)
+
+module _ (label keys start : List ℕ) (basic places : ℕ) (begun : Encodes label start basic basic 128 0 72) (short : length label ≤ 63) (h : HasKeys label keys (length label)) (marks : HasPlaces label places (length label)) where
+  -- behind the digits of the keys before it
+  turns_at : (i : ℕ) → i ≤ length keys → TurnsAt label keys (start ++ digits_of_keys basic (behind_basic basic places) (take i keys)) basic (behind_keys basic (behind_basic basic places) (take i keys)) i
+  turns_at zero le =
+      let p = behind_basic basic places in
+      subst (λ q. TurnsAt label keys (start ++ digits_of_keys basic p []) basic q 0) (sym (behind_keys-none basic p))
+      (subst (λ code. TurnsAt label keys code basic p 0) (sym (append-nil start) ∙ ap (λ xs. start ++ xs) (sym (digits_of_keys-none basic p)))
+      (Turns-start begun short h marks, omega arith))
+  turns_at (suc i) le =
+      let p = behind_basic basic places in
+      let t = turns_at i (omega arith) in
+      let e : i + 1 ≡ suc i = omega arith in
+      let key = get_or keys i 0 in
+      let q = behind_keys basic p (take i keys) in
+      let code = start ++ digits_of_keys basic p (take i keys) in
+      let keys_are : take i keys ++ key ∷ [] ≡ take (suc i) keys = sym (take_more keys i 0 (omega arith)) ∙ ap (λ n. take n keys) e in
+      let behind : behind_key basic q key ≡ behind_keys basic p (take (suc i) keys) = sym (behind_keys-more basic p (take i keys) key) ∙ ap (behind_keys basic p) keys_are in
+      let longer : code ++ digits_of_key q key ≡ start ++ digits_of_keys basic p (take (suc i) keys) =
+      append_assoc start (digits_of_keys basic p (take i keys)) (digits_of_key q key)
+      ∙ ap (λ xs. start ++ xs) (sym (digits_of_keys-more basic p (take i keys) key) ∙ ap (digits_of_keys basic p) keys_are) in
+      let more : TurnsAt label keys (code ++ digits_of_key q key) basic (behind_key basic q key) (i + 1) = (Turns-more t.0 short h (omega arith) key refl _ refl t.1, omega (arith, t.1)) in
+      subst (λ n. TurnsAt label keys (start ++ digits_of_keys basic p (take (suc i) keys)) basic (behind_keys basic p (take (suc i) keys)) n) e
+      (subst (λ r. TurnsAt label keys (start ++ digits_of_keys basic p (take (suc i) keys)) basic r (i + 1)) behind
+      (subst (λ xs. TurnsAt label keys xs basic (behind_key basic q key) (i + 1)) longer more))
+
+  -- each key comes next behind those before it
+  keys_next : (i : ℕ) → i < length keys → IsNextKey (behind_keys basic (behind_basic basic places) (take i keys)) (get_or keys i 0)
+  keys_next i lt =
+      let t = turns_at i (omega arith) in Turns-next t.0 short h lt (get_or keys i 0) refl t.1
+
+  -- the digits of all keys are what is left of the Punycode
+  digits-whole : start ++ digits_of_keys basic (behind_basic basic places) keys ≡ encode label
+  digits-whole =
+      let all : length keys ≤ length keys = omega arith in
+      ap (λ xs. start ++ digits_of_keys basic (behind_basic basic places) xs) (sym (take_all (length keys) keys all))
+      ∙ Turns-end (turns_at (length keys) all).0 short all
+
+-- a label without a code point of ASCII
+module _ {label keys : List ℕ} (short : length label ≤ 63) (h : HasKeys label keys (length label)) (marks : HasPlaces label 0 (length label)) where
+  begun : Encodes label [] 0 0 128 0 72
+  begun = Encodes-no_basic label [] (sym (HasPlaces-none marks refl)) refl
+
+  pub all_digits-whole : all_digits keys ≡ encode label
+  all_digits-whole = digits-whole label keys [] 0 0 begun short h marks
+
+  pub AreWritable-keys : AreWritable keys
+  AreWritable-keys =
+      record { next = keys_next label keys [] 0 0 begun short h marks; ascii = subst IsAscii (sym all_digits-whole) (IsAscii-encode label) }
