@@ -4,10 +4,11 @@ ghost use Rattle.idna.specs.Punycode.{decode};
 ghost use Rattle.idn_class.specs.Facts.{AreFactsOf};
 
 use crate::decoding::{ROOM, decode_into};
+use crate::unit::Unit;
 use idn_class::Facts;
 use std::marker::Model;
 
-/// That octets are not Punycode of scalar values (RFC 3492).
+/// That code points are not Punycode of scalar values (RFC 3492).
 #[derive(Clone, Copy, Debug, PartialEq, Eq)]
 pub struct NotPunycode;
 
@@ -49,14 +50,14 @@ impl DecodedLabel {
         &self.points[..self.len]
     }
 
-    /// Puts what at most 63 octets of Punycode stand for (RFC 3492 section 6.2) in place of the label, and tells the
-    /// facts of its code points. Capital letters are digits too. Where the octets are not Punycode of scalar values, as
-    /// where one is past ASCII, what label is then left says nothing.
+    /// Puts what at most 63 code points of Punycode stand for (RFC 3492 section 6.2) in place of the label, and tells
+    /// the facts of its code points. Capital letters are digits too. Where the code is not Punycode of scalar values,
+    /// as where a code point of it is past ASCII, what label is then left says nothing.
     #[inline]
-    pub fn decode(&mut self, code: &[u8]) -> Result<Facts, NotPunycode>
+    pub fn decode<U: Unit>(&mut self, code: &[U]) -> Result<Facts, NotPunycode>
         requires { length code.now ≤ 63 }
-        ensures decoded { OnOk result (decode code.now ≡ Some self.new) }
-        ensures refused { OnErr result (decode code.now ≡ None) }
+        ensures decoded { OnOk result (decode (U.codes code.now) ≡ Some self.new) }
+        ensures refused { OnErr result (decode (U.codes code.now) ≡ None) }
         ensures facts { IfOk result (λ facts. AreFactsOf facts self.new) }
         ensures short { OnOk result (length self.new ≤ length code.now) }
     {

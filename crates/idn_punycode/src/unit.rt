@@ -1,5 +1,5 @@
 //! What octets, numbers and characters share, as the code points of a label.
-ghost use Rattle.std.specs.Prelude.{◌≡◌, ℕ, List, map};
+ghost use Rattle.std.specs.Prelude.{◌≡◌, ℕ, List, map, IfSome};
 ghost use Rattle.std.proofs.Common.{map-id, sym};
 
 /// A code point of a label as it is held: an octet of ASCII, a number, or a character.
@@ -11,6 +11,14 @@ pub trait Unit: Copy {
 
     fn code_point(self) -> u32
         ensures { result ≡ code self };
+
+    /// The units themselves, where they are octets: these can be searched in vectors.
+    #[inline]
+    fn as_octets(units: &[Self]) -> Option<&[u8]>
+        ensures { IfSome result (λ octets. octets.now ≡ codes units.now) }
+    {
+        None
+    }
 
     ghost codes_are: { (units : List Self) → codes units ≡ map code units };
 }
@@ -25,6 +33,11 @@ impl Unit for u8 {
     #[inline]
     fn code_point(self) -> u32 {
         u32::from(self)
+    }
+
+    #[inline]
+    fn as_octets(units: &[u8]) -> Option<&[u8]> {
+        Some(units)
     }
 }
 

@@ -5,6 +5,7 @@ use Rattle.idn_class.specs.Facts.{AreFactsOf}
 use Rattle.idn_punycode.proofs.decoding.copy_basic.Given as goal
 
 abbrev pub invariant-loop-at : goal.invariant-loop-at
-invariant-loop-at l =
-    (take l.at l.points ≡ take l.at l.basic) × (length l.points ≡ length l.fn.points) × (list_all is_ascii (take l.at l.basic) ≡ true)
-    × AreFactsOf l.facts (take l.at l.basic)
+invariant-loop-at g l =
+    let basic = g.U.Unit.codes l.basic in
+    (take l.at l.points ≡ take l.at basic) × (length l.points ≡ length l.fn.points) × (list_all is_ascii (take l.at basic) ≡ true)
+    × AreFactsOf l.facts (take l.at basic)
