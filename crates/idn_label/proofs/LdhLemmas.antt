@@ -1,7 +1,7 @@
 -- Code points and labels in ASCII.
-use Rattle.std.proofs.Common.{◌≡◌, ℕ, ◌<◌, Bool, true, false, not, ◌||◌, ◌==◌, nat_lt, cond, List, [], ◌∷◌, ◌++◌, codes, length, All, Option, Some, None, refl, sym, ap, ◌∙◌, arith}
+use Rattle.std.proofs.Common.{◌≡◌, ℕ, ◌<◌, Bool, true, false, not, ◌||◌, ◌==◌, nat_lt, cond, List, [], ◌∷◌, ◌++◌, codes, length, get_or, All, Option, Some, None, refl, sym, ap, ◌∙◌, arith}
 use Rattle.std.specs.List.{list_all}
-use Rattle.std.proofs.lemmas.Bool.{and_parts, cond-true, cond-false}
+use Rattle.std.proofs.lemmas.Bool.{and_parts, cond-true, cond-false, ltb-true}
 use Rattle.std.proofs.lemmas.Bool.Decides.{nat_tests}
 use Rattle.idn_class.proofs.ComputedLabels.{rules, in_table, class_of-in_table}
 use Rattle.idn_class.specs.declared.class.Class.{Class}
@@ -10,7 +10,7 @@ use Rattle.idn_class.specs.Class.{class_of}
 use Rattle.idn_class.specs.Tests.{all_places}
 use Rattle.idn_class.proofs.TestLemmas.{all_places-at}
 use Rattle.std.specs.Char.{is_ascii}
-use Rattle.std.proofs.lemmas.List.Elements.{All-weaker}
+use Rattle.std.proofs.lemmas.List.Elements.{All-weaker, All-get_or}
 use Rattle.std.proofs.lemmas.List.Folds.{list_any_none}
 use Rattle.std.proofs.lemmas.List.Sums.{AllPass-from_list_all, list_all-from_AllPass}
 use Rattle.idna.specs.Punycode.{encode}
@@ -69,6 +69,10 @@ ascii_points label ldh = All-weaker (λ c. is_ldh_point c ≡ true) (λ c. c < 1
 pub is_all_ascii-points : (label : List ℕ) → All (λ c. c < 128) label → is_all_ascii label ≡ true
 is_all_ascii-points label ascii =
     list_all-from_AllPass is_ascii label (All-weaker (λ c. c < 128) (λ c. is_ascii c ≡ true) (λ c lt. grind (arith, nat_tests)) label ascii)
+
+-- each code point of a label in ASCII is below 128
+pub is_all_ascii-at : (label : List ℕ) (at : ℕ) → is_all_ascii label ≡ true → at < length label → get_or label at 0 < 128
+is_all_ascii-at label at ascii lt = ltb-true _ 128 (All-get_or (λ c. is_ascii c ≡ true) label at 0 lt (AllPass-from_list_all is_ascii label ascii))
 
 pub a_label_of-ldh : (label : List ℕ) → list_all is_ldh_point label ≡ true → a_label_of label ≡ label
 unfolding a_label_of

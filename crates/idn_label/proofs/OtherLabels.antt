@@ -1,20 +1,18 @@
 -- A-labels that no label has which may be registered: those that are long, those with a capital, and the codes of ASCII.
-use Rattle.std.proofs.Common.{◌≡◌, ◌≢◌, ℕ, Result, OnOk, IfErr, ◌<◌, ◌≤◌, true, false, not, ◌==◌, List, [], ◌∷◌, codes, map, drop, length, Some, None, Ok, Err, refl, sym, ap, ◌∙◌, inl, inr, arith}
+use Rattle.std.proofs.Common.{◌≡◌, ◌≢◌, ℕ, Result, OnOk, IfErr, ◌<◌, ◌≤◌, true, false, not, ◌==◌, ◌||◌, List, [], ◌∷◌, codes, map, drop, length, All, Some, None, Ok, Err, refl, sym, ap, ◌∙◌, inl, inr, arith}
 use Rattle.std.specs.Char.{is_ascii_uppercase, to_ascii_lowercase}
 use Rattle.std.specs.List.{list_all}
-use Rattle.std.proofs.lemmas.Bool.{cases_Bool, cases_lt, cond-true}
+use Rattle.std.proofs.lemmas.Bool.{cases_Bool, cases_lt, cond-true, not-true}
 use Rattle.std.proofs.lemmas.Bool.Decides.{nat_tests}
 use Rattle.std.specs.Char.{is_ascii}
 use Rattle.std.proofs.lemmas.List.{length-map, drop-map}
 use Rattle.std.proofs.lemmas.List.Elements.{All-weaker, All-drop}
 use Rattle.std.proofs.lemmas.List.Folds.{list_all-append}
 use Rattle.std.proofs.lemmas.List.Sums.{AllPass-from_list_all, list_all-from_AllPass}
-use Rattle.std.specs.Str.{IsAscii, IsUtf8}
-use Rattle.std.proofs.lemmas.Str.{IsUtf8-from_ascii}
-use Rattle.std.proofs.lemmas.Str.Ascii.{All-from_ascii, IsAscii-from_all}
 use Rattle.idna.specs.Punycode.{decode}
 use Rattle.idna.specs.Validity.{is_all_ascii, has_ace_prefix}
 use Rattle.idna.proofs.Computing.{idna}
+use Rattle.idna.proofs.PunycodeCanonical.{encode-decode}
 use Rattle.idna.proofs.Uts46Lemmas.{ace_parts}
 use Rattle.idn_punycode.proofs.CaseSteps.{decode-lower}
 use Rattle.idn_text.specs.declared.refusal.Refusal.{Refusal}
@@ -26,11 +24,10 @@ use Rattle.idn_label.specs.Register.{decoded_code, u_label_answer}
 use Rattle.idn_label.specs.Steps.{is_ldh_point}
 use Rattle.idn_label.specs.inner.FaultSteps.{fault_but_length}
 use Rattle.idn_label.proofs.AnswerLemmas.{tested_answer-ok, tested_answer-fault, confirmed-same, confirmed-other, confirmed-fault, decoded_code-as, decoded_code-other, decoded_code-from, u_label_answer-code_fault, u_label_answer-confirmed, ace_label-again, a_label_of-not_ascii}
-use Rattle.idn_label.proofs.DecodeLemmas.{lowercase_of-lower, is_all_ascii-lower, has_no_capital-lower}
+use Rattle.idn_label.proofs.DecodeLemmas.{lowercase_of-lower, has_no_capital-lower}
 use Rattle.idn_label.proofs.FaultLemmas.{permitted-faultless, first_fault-short}
-use Rattle.idn_label.proofs.LdhLemmas.{is_all_ascii-points}
 use Rattle.idn_label.proofs.RequirementLemmas.{MeetsRequirements-registrable}
-use Rattle.idn_label.proofs.RoundTrips.{ldh_ascii_points, ldh_a_label, short_a_label, no_prefix}
+use Rattle.idn_label.proofs.RoundTrips.{ascii_code, ldh_ascii_points, ldh_a_label, short_a_label, no_prefix}
 
 -- ---- no label that may be registered has such an A-label
 
@@ -64,9 +61,13 @@ of_none-ascii given label prefix ascii registrable = λ same.
 
 -- ---- what is decoded
 
-pub is_all_ascii-code : (given : List ℕ) → is_all_ascii given ≡ true → is_all_ascii (drop 4 given) ≡ true
-is_all_ascii-code given ascii =
-    list_all-from_AllPass is_ascii (drop 4 given) (All-drop (λ c. is_ascii c ≡ true) 4 given (AllPass-from_list_all is_ascii given ascii))
+-- a code without capitals is the one that is written for its label
+is_all_ascii-code : (given label : List ℕ) → list_all (λ c. not (is_ascii_uppercase c)) given ≡ true → decode (drop 4 given) ≡ Some label → is_all_ascii (drop 4 given) ≡ true
+is_all_ascii-code given label lower decoded =
+    let small : All (λ c. is_ascii_uppercase c ≡ false) (drop 4 given) =
+    All-drop (λ c. is_ascii_uppercase c ≡ false) 4 given
+    (All-weaker _ _ (λ c h. not-true (is_ascii_uppercase c) h) given (AllPass-from_list_all (λ c. not (is_ascii_uppercase c)) given lower)) in
+    ap is_all_ascii (sym (encode-decode (drop 4 given) label small decoded)) ∙ ascii_code label
 
 decode-nil : decode [] ≡ Some []
 unfolding idna
@@ -81,17 +82,17 @@ some_code-coded [] label decoded coded =
 some_code-coded (c ∷ code) label decoded coded = grind (arith, nat_tests)
 
 -- the code behind the prefix, where what it stands for is not all ASCII
-pub decoded_coded : (given label : List ℕ) → is_all_ascii given ≡ true → decode (drop 4 given) ≡ Some label → is_all_ascii label ≡ false → decoded_code (drop 4 given) ≡ Ok label
-decoded_coded given label ascii decoded coded =
+pub decoded_coded : (given label : List ℕ) → list_all (λ c. not (is_ascii_uppercase c)) given ≡ true → decode (drop 4 given) ≡ Some label → is_all_ascii label ≡ false → decoded_code (drop 4 given) ≡ Ok label
+decoded_coded given label lower decoded coded =
     let code = drop 4 given in
-    decoded_code-as code code (Some label) (some_code-coded code label decoded coded) (is_all_ascii-code given ascii) refl decoded
+    decoded_code-as code code (Some label) (some_code-coded code label decoded coded) (is_all_ascii-code given label lower decoded) refl decoded
 
-pub decoded_code-none : (code : List ℕ) → is_all_ascii code ≡ true → decode code ≡ None → decoded_code code ≡ Err BadALabel
+pub decoded_code-none : (code : List ℕ) → decode code ≡ None → decoded_code code ≡ Err BadALabel
 unfolding decoded_code
-decoded_code-none code ascii none =
-    elim (cases_Bool (length code == 0)) [
-      | inl empty ↦ rw empty refl
-      | inr some ↦ rw (some, ascii, none) refl
+decoded_code-none code none =
+    elim (cases_Bool (length code == 0 || not (is_all_ascii code))) [
+      | inl other ↦ rw other refl
+      | inr good ↦ rw (good, none) refl
     ]
 
 -- the label that is decoded is the only one
@@ -139,12 +140,12 @@ pub prefix_long : (given : List ℕ) → has_ace_prefix (map to_ascii_lowercase 
 prefix_long given prefix = omega (arith, (ace_parts (map to_ascii_lowercase given) prefix).1, length-map given to_ascii_lowercase)
 
 -- what is decoded from a code in any case, where it passes the test, is the answer for the code in lower case
-pub answered-tested : (given label : List ℕ) → has_ace_prefix (map to_ascii_lowercase given) ≡ true → is_all_ascii given ≡ true → length given ≤ 63 → decode (drop 4 given) ≡ Some label → is_all_ascii label ≡ false → length label ≤ 63 → fault_but_length label ≡ None → u_label_answer (map to_ascii_lowercase given) ≡ Ok label
-answered-tested given label prefix ascii short decoded coded few faultless =
+pub answered-tested : (given label : List ℕ) → has_ace_prefix (map to_ascii_lowercase given) ≡ true → length given ≤ 63 → decode (drop 4 given) ≡ Some label → is_all_ascii label ≡ false → length label ≤ 63 → fault_but_length label ≡ None → u_label_answer (map to_ascii_lowercase given) ≡ Ok label
+answered-tested given label prefix short decoded coded few faultless =
     let lower = map to_ascii_lowercase given in
     let is : decode (drop 4 lower) ≡ Some label =
     ap decode (drop-map to_ascii_lowercase 4 given) ∙ decode-lower (drop 4 given) label decoded (permitted_lower label (permitted-faultless label faultless)) in
-    let code = decoded_coded lower label (is_all_ascii-lower given ∙ ascii) is coded in
+    let code = decoded_coded lower label (has_no_capital-lower given) is coded in
     let same : a_label_of label ≡ lower = a_label_of-not_ascii label coded ∙ ace_label-again lower label prefix code (has_no_capital-lower given) in
     let count : length (a_label_of label) ≡ length given = ap length same ∙ length-map given to_ascii_lowercase in
     answered-registrable lower label code same (first_fault-short label faultless few (omega (arith, count, short)))
@@ -164,24 +165,13 @@ Gives-tested (Err refusal) given label lower passes fault = fault lower
 
 -- ---- code points past ASCII
 
+pub decoded_code-past : (code : List ℕ) → is_all_ascii code ≡ false → decoded_code code ≡ Err BadALabel
+decoded_code-past [] past = absurd (let clash : true ≡ false = past in cc)
+decoded_code-past (c ∷ code) past = decoded_code-other (c ∷ code) (grind (arith, nat_tests)) past
+
 pub u_label_answer-past_ascii : (given : List ℕ) → has_ace_prefix given ≡ true → is_all_ascii given ≡ false → u_label_answer given ≡ Err BadALabel
 u_label_answer-past_ascii given prefix other =
     let code = drop 4 given in
     let parts : is_all_ascii given ≡ is_all_ascii code =
     ap is_all_ascii (sym (ace_parts given prefix).0) ∙ list_all-append is_ascii (codes "xn--") code in
     u_label_answer-code_fault given code BadALabel refl (decoded_code-past code (sym parts ∙ other))
-  where
-    decoded_code-past : (code : List ℕ) → is_all_ascii code ≡ false → decoded_code code ≡ Err BadALabel
-    decoded_code-past [] past = absurd (let clash : true ≡ false = past in cc)
-    decoded_code-past (c ∷ code) past = decoded_code-other (c ∷ code) (grind (arith, nat_tests)) past
-
--- ---- octets
-
-pub is_all_ascii-bytes : (text : List ℕ) → IsAscii text → is_all_ascii text ≡ true
-is_all_ascii-bytes text ascii = is_all_ascii-points text (All-from_ascii text ascii)
-
-pub utf8_of-ascii : (text : List ℕ) → is_all_ascii text ≡ true → IsUtf8 text
-utf8_of-ascii text ascii = IsUtf8-from_ascii text (IsAscii-from_all text (All-weaker (λ c. is_ascii c ≡ true) (λ c. c < 128) low text (AllPass-from_list_all is_ascii text ascii)))
-  where
-    low : (c : ℕ) → is_ascii c ≡ true → c < 128
-    low c h = grind (arith, nat_tests)

@@ -128,7 +128,7 @@ some_code label coded back = by_code (encode label) refl
         let empty : [] ≡ label = cc in
         let clash : true ≡ false = ap (list_all is_ldh_point) empty ∙ coded in cc
 
-ascii_code : (label : List ℕ) → is_all_ascii (encode label) ≡ true
+pub ascii_code : (label : List ℕ) → is_all_ascii (encode label) ≡ true
 ascii_code label =
     is_all_ascii-points (encode label)
     (All-encode (λ c. c < 128) label (λ k d lt low. low) (lit< tt) (λ c digit. is_ldh_point-ascii c (ldh_digit c digit)))

@@ -1,6 +1,7 @@
 //! A-labels.
-ghost use Rattle.std.specs.Prelude.{◌≡◌, ◌<◌, ◌≤◌, ◌++◌, length, codes, IfOk, IfErr, OnOk, All};
+ghost use Rattle.std.specs.Prelude.{◌≡◌, ◌<◌, ◌≤◌, ◌++◌, length, codes, true, IfOk, IfErr, OnOk};
 ghost use Rattle.idna.specs.Punycode.{encode};
+ghost use Rattle.idna.specs.Validity.{is_all_ascii};
 
 use crate::unit::Unit;
 use arrayvec::ArrayString;
@@ -28,15 +29,15 @@ pub(crate) fn encoded_label<U: Unit>(label: &[U]) -> Result<ALabel, Refusal>
     }
 }
 
-/// ASCII code points as text. There must be space for them.
-pub(crate) fn ascii_text<const N: usize>(points: &[u32]) -> ArrayString<N>
-    requires short { length points.now ≤ N }
-    requires ascii { All (λ c. c < 128) points.now }
-    ensures { result.bytes ≡ points.now }
+/// A label in ASCII as text. There must be space for it.
+pub(crate) fn ascii_text<U: Unit, const N: usize>(label: &[U]) -> ArrayString<N>
+    requires short { length label.now ≤ N }
+    requires ascii { is_all_ascii (U.codes label.now) ≡ true }
+    ensures { result.bytes ≡ U.codes label.now }
 {
     let mut text = ArrayString::new();
-    for c in points {
-        text.push(char::from(*c as u8));
+    for unit in label {
+        text.push(char::from(unit.code_point() as u8));
     }
     text
 }

@@ -11,7 +11,6 @@ ghost use Rattle.idn_label.specs.FirstFault.{IsRegistrable};
 ghost use Rattle.idn_label.specs.Register.{u_label_answer};
 ghost use Rattle.idn_label.specs.Steps.{appended};
 
-use crate::octets::ascii_octets;
 use crate::u_label::u_label_in_any_case;
 use crate::unit::{FULL_STOP, has_ace_prefix_in_any_case, split_first_label};
 use idn_punycode::DecodedLabel;
@@ -39,10 +38,11 @@ fn decode_labels(alloc: Global, name: &[u32], decoded: &mut Vec<u32>) -> Result<
     requires { length name.now ≤ MAX_LINE_LEN }
     ensures { Gives (λ _. decoded.new.items) result (appended decoded.old.items (decode_answer name.now)) }
 {
+    let mut u_label = DecodedLabel::new();
     let mut rest = name;
     'labels: loop {
         let (label, others) = split_first_label(rest);
-        decode_label(alloc, label, decoded)?;
+        decode_label(alloc, label, &mut u_label, decoded)?;
         let Some(others) = others else {
             return Ok(());
         };
@@ -51,30 +51,21 @@ fn decode_labels(alloc: Global, name: &[u32], decoded: &mut Vec<u32>) -> Result<
     }
 }
 
-/// Appends a label, decoded if it begins with `xn--` in any ASCII case.
-fn decode_label(alloc: Global, label: &[u32], decoded: &mut Vec<u32>) -> Result<(), Refusal>
+/// Appends a label, decoded if it begins with `xn--` in any ASCII case. `u_label` is room for what an A-label stands for.
+fn decode_label(
+    alloc: Global,
+    label: &[u32],
+    u_label: &mut DecodedLabel,
+    decoded: &mut Vec<u32>,
+) -> Result<(), Refusal>
     requires { length label.now ≤ MAX_LINE_LEN }
     ensures { Gives (λ _. decoded.new.items) result (appended decoded.old.items (decoded_label label.now)) }
 {
     if has_ace_prefix_in_any_case(label) {
-        decode_a_label(alloc, label, decoded)
+        u_label_in_any_case(alloc, label, u_label)?;
+        decoded.extend_from_slice(u_label.as_slice())?;
     } else {
         decoded.extend_from_slice(label)?;
-        Ok(())
     }
-}
-
-/// Appends what an A-label in any ASCII case stands for.
-fn decode_a_label(alloc: Global, label: &[u32], decoded: &mut Vec<u32>) -> Result<(), Refusal>
-    requires prefix { has_ace_prefix (map to_ascii_lowercase label.now) ≡ true }
-    requires short { length label.now ≤ MAX_LINE_LEN }
-    ensures { Gives (λ _. decoded.new.items) result (appended decoded.old.items (u_label_answer (map to_ascii_lowercase label.now))) }
-{
-    let Some(octets) = ascii_octets(label) else {
-        return Err(Refusal::BadALabel);
-    };
-    let mut u_label = DecodedLabel::new();
-    u_label_in_any_case(alloc, &octets, &mut u_label)?;
-    decoded.extend_from_slice(u_label.as_slice())?;
     Ok(())
 }

@@ -11,7 +11,6 @@ ghost use Rattle.idn_label.specs.Register.{register_answer};
 
 use crate::a_label::{ALabel, ascii_text};
 use crate::first_fault::test_label;
-use crate::octets::ascii_octets;
 use crate::u_label::u_label;
 use crate::unit::has_ace_prefix;
 use idn_punycode::DecodedLabel;
@@ -46,9 +45,6 @@ fn register_a_label(alloc: Global, label: &[u32]) -> Result<ALabel, Refusal>
     ensures answer { Gives (λ answer. answer.bytes) result (register_answer label.now) }
     ensures no_memory { list_all (λ c. not (is_ascii_uppercase c)) label.now ≡ true → NeedsNoMemoryDecoded label.now → result ≢ Err Refusal.Memory }
 {
-    let Some(octets) = ascii_octets(label) else {
-        return Err(Refusal::BadALabel);
-    };
-    u_label(alloc, &octets, &mut DecodedLabel::new())?;
+    u_label(alloc, label, &mut DecodedLabel::new())?;
     Ok(ascii_text(label))
 }

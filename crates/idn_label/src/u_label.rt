@@ -9,49 +9,48 @@ ghost use Rattle.idn_label.specs.FirstFault.{first_fault, IsRegistrable};
 ghost use Rattle.idn_label.specs.Memory.{NeedsNoMemoryDecoded};
 ghost use Rattle.idn_label.specs.Register.{decoded_code, u_label_answer};
 
-use crate::a_label::{ALabel, MAX_LABEL_LEN};
+use crate::a_label::{ALabel, MAX_LABEL_LEN, ascii_text};
 use crate::code_points::points_of;
 use crate::first_fault::{check_label, test_label};
-use crate::octets::lowercase_of;
-use crate::unit::is_all_ascii;
+use crate::unit::{Unit, is_all_ascii, is_capital, to_lowercase};
+use arrayvec::{ArrayString, ArrayVec};
 use idn_punycode::DecodedLabel;
 use idn_text::{MAX_LINE_LEN, Refusal};
 use idna::{Errors, punycode};
 use std::alloc::Global;
-use std::str;
 
 /// Leaves in `label` what an A-label in any ASCII case stands for, in place of what stood there. A label that passes
 /// the test has no capital, so its code need not be put into lower case first.
-pub(crate) fn u_label_in_any_case(
+pub(crate) fn u_label_in_any_case<U: Unit>(
     alloc: Global,
-    given: &[u8],
+    given: &[U],
     label: &mut DecodedLabel,
 ) -> Result<(), Refusal>
-    requires prefix { has_ace_prefix (map to_ascii_lowercase given.now) ≡ true }
-    requires ascii { is_all_ascii given.now ≡ true }
+    requires prefix { has_ace_prefix (map to_ascii_lowercase (U.codes given.now)) ≡ true }
     requires short { length given.now ≤ MAX_LINE_LEN }
-    ensures answer { Gives (λ _. label.new) result (u_label_answer (map to_ascii_lowercase given.now)) }
+    ensures answer { Gives (λ _. label.new) result (u_label_answer (map to_ascii_lowercase (U.codes given.now))) }
     ensures shorter { OnOk result (length label.new < length given.now) }
-    ensures no_memory { NeedsNoMemoryDecoded (map to_ascii_lowercase given.now) → result ≢ Err Refusal.Memory }
+    ensures no_memory { NeedsNoMemoryDecoded (map to_ascii_lowercase (U.codes given.now)) → result ≢ Err Refusal.Memory }
 {
     match tested_u_label(alloc, given, label) {
         Ok(()) => Ok(()),
         Err(refusal) if has_no_capital(given) => Err(refusal),
-        Err(_) => {
-            let lower = lowercase_of(given);
-            tested_u_label(alloc, &lower, label)
-        }
+        Err(_) if !is_all_ascii(given) => Err(Refusal::BadALabel),
+        Err(_) => tested_u_label(alloc, &lowercase_of(given), label),
     }
 }
 
 /// Leaves in `label` the label that an A-label stands for, which may be registered and has that A-label, in place of
 /// what stood there.
-pub(crate) fn u_label(alloc: Global, given: &[u8], label: &mut DecodedLabel) -> Result<(), Refusal>
-    requires prefix { has_ace_prefix given.now ≡ true }
-    requires ascii { is_all_ascii given.now ≡ true }
+pub(crate) fn u_label<U: Unit>(
+    alloc: Global,
+    given: &[U],
+    label: &mut DecodedLabel,
+) -> Result<(), Refusal>
+    requires prefix { has_ace_prefix (U.codes given.now) ≡ true }
     requires short { length given.now ≤ MAX_LINE_LEN }
-    ensures answer { Gives (λ _. label.new) result (u_label_answer given.now) }
-    ensures no_memory { list_all (λ c. not (is_ascii_uppercase c)) given.now ≡ true → NeedsNoMemoryDecoded given.now → result ≢ Err Refusal.Memory }
+    ensures answer { Gives (λ _. label.new) result (u_label_answer (U.codes given.now)) }
+    ensures no_memory { list_all (λ c. not (is_ascii_uppercase c)) (U.codes given.now) ≡ true → NeedsNoMemoryDecoded (U.codes given.now) → result ≢ Err Refusal.Memory }
 {
     if has_no_capital(given) {
         return tested_u_label(alloc, given, label);
@@ -60,29 +59,45 @@ pub(crate) fn u_label(alloc: Global, given: &[u8], label: &mut DecodedLabel) -> 
     Err(refusal_of(alloc, given))
 }
 
-/// Whether a text has no ASCII capital. It looks at each octet, which is faster than to stop at the first capital.
-pub(crate) fn has_no_capital(text: &[u8]) -> bool
-    ensures { result ≡ list_all (λ c. not (is_ascii_uppercase c)) text.now }
+/// Whether a label has no ASCII capital. It looks at each code point, which is faster than to stop at the first capital.
+fn has_no_capital<U: Unit>(label: &[U]) -> bool
+    ensures { result ≡ list_all (λ c. not (is_ascii_uppercase c)) (U.codes label.now) }
 {
     let mut has_none = true;
-    for c in text {
-        has_none &= !c.is_ascii_uppercase();
+    for unit in label {
+        has_none &= !is_capital(unit.code_point());
     }
     has_none
+}
+
+/// A label in ASCII, in lower case.
+fn lowercase_of<U: Unit>(label: &[U]) -> ArrayVec<u8, MAX_LINE_LEN>
+    requires ascii { is_all_ascii (U.codes label.now) ≡ true }
+    requires short { length label.now ≤ MAX_LINE_LEN }
+    ensures { result.items ≡ map to_ascii_lowercase (U.codes label.now) }
+{
+    let mut lower = ArrayVec::new();
+    for unit in label {
+        lower.push(to_lowercase(unit.code_point()) as u8);
+    }
+    lower
 }
 
 /// `u_label` of an A-label put into lower case; if it is refused, this is why where it has no capital. One that is
 /// short need not be encoded again to be compared: Punycode in lower case is the only one of what it stands for (RFC
 /// 3492 sections 1.1 and 5).
-fn tested_u_label(alloc: Global, given: &[u8], label: &mut DecodedLabel) -> Result<(), Refusal>
-    requires prefix { has_ace_prefix (map to_ascii_lowercase given.now) ≡ true }
-    requires ascii { is_all_ascii given.now ≡ true }
+fn tested_u_label<U: Unit>(
+    alloc: Global,
+    given: &[U],
+    label: &mut DecodedLabel,
+) -> Result<(), Refusal>
+    requires prefix { has_ace_prefix (map to_ascii_lowercase (U.codes given.now)) ≡ true }
     requires short { length given.now ≤ MAX_LINE_LEN }
-    ensures passes { OnOk result (u_label_answer (map to_ascii_lowercase given.now) ≡ Ok label.new) }
-    ensures fault { IfErr result (λ refusal. list_all (λ c. not (is_ascii_uppercase c)) given.now ≡ true
-        → refusal ≢ Refusal.Memory → u_label_answer given.now ≡ Err refusal) }
+    ensures passes { OnOk result (u_label_answer (map to_ascii_lowercase (U.codes given.now)) ≡ Ok label.new) }
+    ensures fault { IfErr result (λ refusal. list_all (λ c. not (is_ascii_uppercase c)) (U.codes given.now) ≡ true
+        → refusal ≢ Refusal.Memory → u_label_answer (U.codes given.now) ≡ Err refusal) }
     ensures shorter { OnOk result (length label.new < length given.now) }
-    ensures no_memory { NeedsNoMemoryDecoded given.now → result ≢ Err Refusal.Memory }
+    ensures no_memory { NeedsNoMemoryDecoded (U.codes given.now) → result ≢ Err Refusal.Memory }
 {
     // The A-label of a label that may be registered is short.
     if given.len() > MAX_LABEL_LEN {
@@ -99,12 +114,11 @@ fn tested_u_label(alloc: Global, given: &[u8], label: &mut DecodedLabel) -> Resu
 }
 
 /// Why an A-label is refused that no label which may be registered has.
-fn refusal_of(alloc: Global, given: &[u8]) -> Refusal
+fn refusal_of<U: Unit>(alloc: Global, given: &[U]) -> Refusal
     requires prefix { 4 ≤ length given.now }
-    requires ascii { is_all_ascii given.now ≡ true }
     requires short { length given.now ≤ MAX_LINE_LEN }
-    requires of_none { (label : List ℕ) → decoded_code (drop 4 given.now) ≡ Ok label → IsRegistrable label → a_label_of label ≢ given.now }
-    ensures { result ≢ Refusal.Memory → u_label_answer given.now ≡ Err result }
+    requires of_none { (label : List ℕ) → decoded_code (drop 4 (U.codes given.now)) ≡ Ok label → IsRegistrable label → a_label_of label ≢ U.codes given.now }
+    ensures { result ≢ Refusal.Memory → u_label_answer (U.codes given.now) ≡ Err result }
 {
     let (_, code) = given.split_at(4);
     let label = match decode_code(alloc, code) {
@@ -118,18 +132,15 @@ fn refusal_of(alloc: Global, given: &[u8]) -> Refusal
 }
 
 /// Decodes what stands after the prefix, which may be long.
-fn decode_code(alloc: Global, code: &[u8]) -> Result<Vec<char>, Refusal>
-    requires ascii { is_all_ascii code.now ≡ true }
-    requires short { length code.now ≤ MAX_LINE_LEN }
-    ensures { Gives (λ label. label.items) result (decoded_code code.now) }
+fn decode_code<U: Unit>(alloc: Global, code: &[U]) -> Result<Vec<char>, Refusal>
+    requires { length code.now ≤ MAX_LINE_LEN }
+    ensures { Gives (λ label. label.items) result (decoded_code (U.codes code.now)) }
 {
-    if code.is_empty() {
+    if code.is_empty() || !is_all_ascii(code) {
         return Err(Refusal::BadALabel);
     }
-    let Ok(text) = str::from_utf8(code) else {
-        unreachable!()
-    };
-    match punycode::decode(alloc, text) {
+    let text: ArrayString<MAX_LINE_LEN> = ascii_text(code);
+    match punycode::decode(alloc, text.as_str()) {
         Ok(label) => Ok(label),
         Err(Errors::Invalid) => Err(Refusal::BadALabel),
         Err(Errors::OutOfMemory) => Err(Refusal::Memory),

@@ -2,12 +2,12 @@
 //! stops.
 ghost use Rattle.std.specs.Prelude.{◌≡◌, ◌<◌, ◌≤◌, [], ◌∷◌, ◌++◌, length, map, slice_index, IfSome};
 ghost use Rattle.std.specs.Option.{option_map_or};
-ghost use Rattle.std.specs.Char.{to_ascii_lowercase};
+ghost use Rattle.std.specs.Char.{is_ascii_uppercase, to_ascii_lowercase};
 ghost use Rattle.idna.specs.Labels.{labels_of};
 ghost use Rattle.idna.specs.Validity.{is_all_ascii, has_ace_prefix, has_hyphens_third_and_fourth};
 ghost use Rattle.idn_label.specs.FirstFault.{has_hyphen_out_of_place};
 
-use crate::full_stops::FullStops;
+use crate::full_stops::first_full_stop;
 pub(crate) use idn_punycode::Unit;
 
 const HYPHEN: u32 = 0x2D;
@@ -28,7 +28,7 @@ fn code_point_at<U: Unit>(label: &[U], place: usize) -> u32
 
 /// What stands before the first full stop, and what stands behind it if there is one.
 #[inline]
-pub(crate) fn split_first_label<U: FullStops>(name: &[U]) -> (&[U], Option<&[U]>)
+pub(crate) fn split_first_label<U: Unit>(name: &[U]) -> (&[U], Option<&[U]>)
     ensures labels { labels_of (U.codes name.now)
         ≡ U.codes result.0.now ∷ option_map_or (λ others. labels_of (U.codes others.now)) result.1 [] }
     ensures last { result.1 ≡ None → result.0.now ≡ name.now }
@@ -36,7 +36,7 @@ pub(crate) fn split_first_label<U: FullStops>(name: &[U]) -> (&[U], Option<&[U]>
     ensures label_length { length result.0.now ≤ length name.now }
     ensures others_length { IfSome result.1 (λ others. length others.now < length name.now) }
 {
-    match U::first_full_stop(name) {
+    match first_full_stop(name) {
         Some(at) => (&name[..at], Some(&name[at + 1..])),
         None => (name, None),
     }
@@ -82,15 +82,20 @@ fn lowercase_at<U: Unit>(label: &[U], place: usize) -> u32
     to_lowercase(code_point_at(label, place))
 }
 
+/// A code point in lower case, if it is an ASCII capital.
 #[inline]
-fn to_lowercase(c: u32) -> u32
+pub(crate) fn to_lowercase(c: u32) -> u32
     ensures { result ≡ to_ascii_lowercase c }
 {
-    if matches!(c, 0x41..=0x5A) {
-        c + 0x20
-    } else {
-        c
-    }
+    if is_capital(c) { c + 0x20 } else { c }
+}
+
+/// Whether a code point is an ASCII capital.
+#[inline]
+pub(crate) fn is_capital(c: u32) -> bool
+    ensures { result ≡ is_ascii_uppercase c }
+{
+    matches!(c, 0x41..=0x5A)
 }
 
 /// Whether a hyphen stands first, last, or in both the third and the fourth places (RFC 5891 section 4.2.3.1).

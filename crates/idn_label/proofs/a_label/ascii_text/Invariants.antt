@@ -1,5 +1,5 @@
 use Rattle.std.proofs.Common.{◌≡◌, take}
 use Rattle.idn_label.proofs.a_label.ascii_text.Given as goal
 
-abbrev pub invariant-loop-c : goal.invariant-loop-c
-invariant-loop-c g l = l.text.bytes ≡ take l.c-index l.points
+abbrev pub invariant-loop-unit : goal.invariant-loop-unit
+invariant-loop-unit g l = l.text.bytes ≡ take l.unit-index (g.U.Unit.codes l.label)

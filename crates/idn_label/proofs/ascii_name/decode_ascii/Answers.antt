@@ -1,4 +1,4 @@
-use Rattle.std.proofs.Common.{◌∷◌, [], take, length, IsAscii, sym, ap, subst, ◌∙◌, arith, length-append, length-set, refl}
+use Rattle.std.proofs.Common.{◌∷◌, take, length, IsAscii, sym, ap, subst, ◌∙◌, arith, length-append, length-set, refl}
 use Rattle.std.proofs.lemmas.Grind.{take-set_at}
 use Rattle.std.proofs.lemmas.Result.{err_from_is_err_and}
 use Rattle.idn_label.specs.Decode.{decode_answer}

@@ -7,12 +7,8 @@ use Rattle.idn_text.specs.Points.{AreScalarValues}
 use Rattle.idn_label.proofs.AnswerLemmas.{u_label_answer-from}
 use Rattle.idn_label.proofs.RoundTrips.{registrable_scalars}
 use Rattle.idn_label.proofs.DecodeLemmas.{decoded_label-other, decoded_label-coded}
-use Rattle.idn_label.proofs.OtherLabels.{is_all_ascii-bytes}
 use Rattle.idn_label.proofs.Utf8Decoding.{utf8_of-ascii_text}
 use Rattle.idn_label.proofs.ascii_name.decode_label.Goals as goal
-
-pub u_label_in_any_case-requires-clause-ascii : goal.u_label_in_any_case-requires-clause-ascii
-u_label_in_any_case-requires-clause-ascii c = is_all_ascii-bytes c.args.label.now c.requires.ascii
 
 pub put_points-requires : goal.put_points-requires
 put_points-requires c =

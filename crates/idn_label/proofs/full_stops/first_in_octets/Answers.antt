@@ -1,4 +1,4 @@
-use Rattle.std.proofs.Common.{◌≡◌, ◌≢◌, ℕ, ◌+◌, ◌-◌, ◌<◌, ◌≤◌, ◌^◌, ◌%◌, cond, eqb, false, List, length, map, take, get_or, replicate, w8, sym, ap, subst, ◌∙◌, length-take, take_all, inl, inr, arith}
+use Rattle.std.proofs.Common.{◌≡◌, ℕ, ◌+◌, ◌-◌, ◌<◌, ◌≤◌, ◌^◌, ◌%◌, cond, eqb, false, List, length, map, take, get_or, replicate, w8, sym, ap, subst, ◌∙◌, length-take, take_all, inl, inr, arith}
 use Rattle.std.specs.Simd.Lanes.{chunk, mask_l}
 use lib.Lanes as lanes
 use Rattle.std.proofs.lemmas.Bool.{cases_lt, eqb-true}
@@ -9,7 +9,7 @@ use Rattle.idna.specs.Labels.{is_full_stop}
 use Rattle.idn_label.specs.inner.FullStops.{HasNone, IsFirst}
 use Rattle.idn_label.proofs.DecodeLemmas.{no_stop}
 use Rattle.idn_label.proofs.LaneLemmas.{IsNext, next_lane}
-use Rattle.idn_label.proofs.full_stops.U8FullStops.first_full_stop.Goals as goal
+use Rattle.idn_label.proofs.full_stops.first_in_octets.Goals as goal
 
 -- the mask of a chunk
 masked : (name : List ℕ) (at : ℕ) → at + 16 ≤ length name

@@ -1,6 +1,6 @@
 use Rattle.std.proofs.Common.{◌≤◌, ◌-◌, length, take}
 use Rattle.idn_label.specs.inner.FullStops.{HasNone}
-use Rattle.idn_label.proofs.full_stops.U8FullStops.first_full_stop.Given as goal
+use Rattle.idn_label.proofs.full_stops.first_in_octets.Given as goal
 
 abbrev pub invariant-loop-at : goal.invariant-loop-at
 invariant-loop-at l = (l.at ≤ length l.name) × HasNone (take l.at l.name)
