@@ -10,7 +10,7 @@ use std::process::Abort;
 use std::test::Fail;
 
 /// Names with their U-labels, or their first refusal.
-const CASES: [(&str, Result<&str, Refusal>); 28] = [
+const CASES: [(&str, Result<&str, Refusal>); 31] = [
     // A-labels beside other labels, empty ones too.
     ("xn--fiqs8s.example", Ok("中国.example")),
     ("www.xn--fa-hia.xn--fiqs8s", Ok("www.faß.中国")),
@@ -37,6 +37,10 @@ const CASES: [(&str, Result<&str, Refusal>); 28] = [
     ("xn--abc-", Err(Refusal::BadALabel)),
     ("a.XN--ABC-.de", Err(Refusal::BadALabel)),
     ("xn--99999999", Err(Refusal::BadALabel)),
+    // Past ASCII behind the prefix, and letters whose last eight bits are those of a letter of ASCII.
+    ("xn--\u{161}", Err(Refusal::BadALabel)),
+    ("xn--fa-hi\u{161}.de", Err(Refusal::BadALabel)),
+    ("a.XN--FA-HI\u{161}", Err(Refusal::BadALabel)),
     // What is decoded is not registrable; the first such label decides.
     ("xn--a", Err(Refusal::Disallowed)),
     ("a.xn--a.xn--", Err(Refusal::Disallowed)),

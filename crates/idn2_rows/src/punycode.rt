@@ -1,6 +1,8 @@
 //! Punycode of labels, beside the samples of RFC 3492 and the answers of Python's codec.
+use crate::label_calls::points_of;
 use arrayvec::{ArrayString, ArrayVec};
-use idn_punycode::{DecodedLabel, push_encoded};
+use idn_punycode::{DecodedLabel, Unit, push_encoded};
+use std::test::Fail;
 
 /// The samples of RFC 3492 section 7.1, with I in lower case; H is too long.
 const SAMPLES: [(&str, &str); 18] = [
@@ -46,7 +48,7 @@ const SAMPLES: [(&str, &str); 18] = [
 ];
 
 /// Codes, and what they stand for, if they are Punycode of scalar values.
-const DECODED: [(&str, Option<&str>); 18] = [
+const DECODED: [(&str, Option<&str>); 20] = [
     ("", Some("")),
     ("abc-", Some("abc")),
     ("--", Some("-")),
@@ -68,6 +70,9 @@ const DECODED: [(&str, Option<&str>); 18] = [
     ("a_b", None),
     ("b\u{FC}cher-kva", None),
     ("bcher-kv\u{E0}", None),
+    // Letters past ASCII whose last eight bits are those of a letter of ASCII.
+    ("bcher-kv\u{161}", None),
+    ("\u{162}cher-kva", None),
 ];
 
 /// What a text holds, a label, and the text with the label's Punycode after it, if it fits.
@@ -113,21 +118,35 @@ fn appended(before: &str, label: &str) -> Option<ArrayString<63>> {
     Some(text)
 }
 
-/// What a code of at most 63 octets stands for, or nothing where it is not Punycode.
-fn decoded(code: &str) -> Option<ArrayString<252>> {
+/// What a code of at most 63 code points stands for, or nothing where it is not Punycode.
+fn decoded<U: Unit>(code: &[U]) -> Option<ArrayString<252>> {
     if code.len() > 63 {
         return None;
     }
     // What was decoded before is no part of the answer.
     let mut label = DecodedLabel::new();
     label.decode(b"fsq-bcher-kva").ok()?;
-    label.decode(code.as_bytes()).ok()?;
+    label.decode(code).ok()?;
     let mut text = ArrayString::<252>::new();
     for point in label.as_slice() {
         let c = char::from_u32(*point)?;
         text.try_push(c).ok()?;
     }
     Some(text)
+}
+
+/// What a code stands for, read from octets, from numbers and from characters.
+fn decoded_from_each(code: &str) -> Result<[Option<ArrayString<252>>; 3], Fail> {
+    let points = points_of(code)?;
+    let mut chars = ArrayVec::<char, 1024>::new();
+    for c in code.chars() {
+        chars.try_push(c)?;
+    }
+    Ok([
+        decoded(code.as_bytes()),
+        decoded(points.as_slice()),
+        decoded(chars.as_slice()),
+    ])
 }
 
 /// The text in an answer.
@@ -139,18 +158,24 @@ fn shown<const N: usize>(answer: &Option<ArrayString<N>>) -> Option<&str> {
 }
 
 #[test]
-fn samples_are_encoded_and_decoded(rt: HostRuntime) {
+fn samples_are_encoded_and_decoded(rt: HostRuntime) -> Result<(), Fail> {
     for (label, code) in SAMPLES.iter() {
         assert_eq!(rt; shown(&appended("", label)), Some(*code), "{label}");
-        assert_eq!(rt; shown(&decoded(code)), Some(*label), "{code}");
+        for answer in decoded_from_each(code)?.iter() {
+            assert_eq!(rt; shown(answer), Some(*label), "{code}");
+        }
     }
+    Ok(())
 }
 
 #[test]
-fn codes_are_decoded_or_refused(rt: HostRuntime) {
+fn codes_are_decoded_or_refused(rt: HostRuntime) -> Result<(), Fail> {
     for (code, label) in DECODED.iter() {
-        assert_eq!(rt; shown(&decoded(code)), *label, "{code}");
+        for answer in decoded_from_each(code)?.iter() {
+            assert_eq!(rt; shown(answer), *label, "{code}");
+        }
     }
+    Ok(())
 }
 
 #[test]

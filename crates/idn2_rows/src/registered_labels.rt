@@ -7,7 +7,7 @@ use idn_text::Refusal;
 use std::test::Fail;
 
 /// Labels with their A-labels or their first faults.
-const CASES: [(&str, Result<&str, Refusal>); 37] = [
+const CASES: [(&str, Result<&str, Refusal>); 39] = [
     // A U-label, an A-label, a label in ASCII; a capital (RFC 5891, sections 4.1 and 4.2.2).
     ("faß", Ok("xn--fa-hia")),
     ("xn--fa-hia", Ok("xn--fa-hia")),
@@ -48,6 +48,8 @@ const CASES: [(&str, Result<&str, Refusal>); 37] = [
     ("xn---", Err(Refusal::BadALabel)),
     ("xn----", Err(Refusal::Hyphen)),
     ("xn--ü", Err(Refusal::BadALabel)),
+    ("xn--fa-hi\u{161}", Err(Refusal::BadALabel)),
+    ("xn--FA-hi\u{161}", Err(Refusal::BadALabel)),
     ("xn--fa-HIA", Err(Refusal::BadALabel)),
     ("xn--FA-hia", Err(Refusal::Disallowed)),
     ("XN--FA-HIA", Err(Refusal::Disallowed)),

@@ -18,9 +18,6 @@ behind_none : (labels : List (List ℕ)) → have_lengths_behind 0 labels ≡ li
 behind_none [] = refl
 behind_none (label ∷ labels) = let same : 0 + length label ≡ length label = omega arith in ap (λ n. is_in_range 1 63 n && list_all has_length labels) same
 
-pub lengths-start : (name : List ℕ) → list_all has_length (labels_of name) ≡ have_lengths_behind 0 (labels_of (drop 0 name))
-lengths-start name = sym (behind_none (labels_of name))
-
 behind_stop : (n c : ℕ) (rest : List ℕ) → is_full_stop c ≡ true → have_lengths_behind n (labels_of (c ∷ rest)) ≡ (is_in_range 1 63 n && list_all has_length (labels_of rest))
 behind_stop n c rest stop =
     let same : n + 0 ≡ n = omega arith in
@@ -41,16 +38,3 @@ lengths-stop name i n within stop measured =
     ∙ behind_stop n (get_or name i 0) (drop (i + 1) name) (eq-eqb (get_or name i 0) 0x2E stop)
     ∙ ap (λ b. b && list_all has_length (labels_of (drop (i + 1) name))) measured
     ∙ sym (behind_none (labels_of (drop (i + 1) name)))
-
-pub lengths-short : (name : List ℕ) (i n : ℕ) → i < length name → get_or name i 0 ≡ 0x2E → is_in_range 1 63 n ≡ false → have_lengths_behind n (labels_of (drop i name)) ≡ false
-lengths-short name i n within stop fails =
-    ap (λ x. have_lengths_behind n (labels_of x)) (drop_more name i 0 within)
-    ∙ behind_stop n (get_or name i 0) (drop (i + 1) name) (eq-eqb (get_or name i 0) 0x2E stop)
-    ∙ ap (λ b. b && list_all has_length (labels_of (drop (i + 1) name))) fails
-
-and-true : (b : Bool) → (b && true) ≡ b
-and-true true = refl
-and-true false = refl
-
-pub lengths-end : (n : ℕ) → have_lengths_behind n (labels_of []) ≡ is_in_range 1 63 n
-lengths-end n = let same : n + 0 ≡ n = omega arith in ap (λ k. is_in_range 1 63 k && true) same ∙ and-true (is_in_range 1 63 n)

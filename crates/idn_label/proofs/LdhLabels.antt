@@ -46,23 +46,7 @@ split_nothing = record {
   lengths = refl;
 }
 
-pub same_split : {query query' : List ℕ} {start start' : ℕ} {fit fit' : Bool} → query ≡ query' → start ≡ start' → fit ≡ fit' → IsSplit query start fit → IsSplit query' start' fit'
-same_split q s f r = record {
-  whole = r.whole;
-  last = r.last;
-  parts = sym q ∙ r.parts;
-  begins = sym s ∙ r.begins;
-  without_stops = r.without_stops;
-  last_without_stop = r.last_without_stop;
-  free = r.free;
-  last_free = r.last_free;
-  lengths = sym f ∙ r.lengths;
-}
-
 -- ---- one more label
-
-pub split_within : {query : List ℕ} {start : ℕ} {fit : Bool} → IsSplit query start fit → start ≤ length query
-split_within r = let parts = ap length r.parts ∙ length-append (terminated r.whole) r.last in omega (arith, parts, r.begins)
 
 last_length : {query : List ℕ} {start : ℕ} {fit : Bool} → (r : IsSplit query start fit) → length query ≡ start + length r.last
 last_length r = ap length r.parts ∙ length-append (terminated r.whole) r.last ∙ ap (λ n. n + length r.last) (sym r.begins)
