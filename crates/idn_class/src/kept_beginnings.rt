@@ -1,10 +1,8 @@
-ghost use Rattle.std.specs.Prelude.{◌≡◌, ◌≤◌, length, take};
-ghost use Rattle.idn_class.specs.Shared.{IsLongestShared};
-
 use crate::beginning::with_hyphens;
 use crate::facts::Facts;
 use crate::kept_label::{KeptLabel, MAX_LABEL_LEN};
 use crate::known::Known;
+use crate::shared::shared_len;
 use std::marker::Model;
 
 /// What is known of each beginning of a label. Where it goes from one label to another, it looks only at the code
@@ -133,20 +131,4 @@ impl KeptBeginnings {
         self.known[self.label.len()] = known;
         self.label.push(c);
     }
-}
-
-/// How many code points two labels share at their start.
-pub fn shared_len(a: &[u32], b: &[u32]) -> usize
-    ensures same { take result a.now ≡ take result b.now }
-    ensures within_a { result ≤ length a.now }
-    ensures within_b { result ≤ length b.now }
-    ensures longest { IsLongestShared a.now b.now result }
-{
-    let len = a.len().min(b.len());
-    for index in 0..len {
-        if a[index] != b[index] {
-            return index;
-        }
-    }
-    len
 }

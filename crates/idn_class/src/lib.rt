@@ -21,6 +21,7 @@ mod known;
 mod laws;
 mod mark;
 mod neighbor;
+mod shared;
 mod stability;
 
 pub use beginning::{hopeless, shortest_hopeless};
@@ -31,10 +32,11 @@ pub use contextj::contextj_ok;
 pub use contexto::contexto_ok;
 pub use facts::{Fact, Facts};
 pub use joining_type::JoiningType;
-pub use kept_beginnings::{KeptBeginnings, shared_len};
+pub use kept_beginnings::KeptBeginnings;
 pub use kept_label::KeptLabel;
 pub use laws::{
     bidi_rows, class_rows, hopeless_for_good, hopeless_rows, joiner_rows, mark_rows,
     only_rtl_labels_pass, other_rows, tests_are_rules,
 };
 pub use mark::leading_mark;
+pub use shared::shared_len;

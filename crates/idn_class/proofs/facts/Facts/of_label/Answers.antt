@@ -3,7 +3,6 @@ use Rattle.std.specs.List.{list_any}
 use Rattle.std.proofs.lemmas.List.Folds.{list_any_at, list_any_more}
 use Rattle.std.proofs.lemmas.Nat.Bits.{bit_at-zero}
 use Rattle.idn_class.specs.Facts.{contains, has_fact, is_so, place_of}
-use Rattle.idn_class.proofs.FactLemmas.{none-all}
 use Rattle.idn_class.proofs.facts.Facts.of_label.Goals as goal
 
 pub loop-c-init : goal.loop-c-init
