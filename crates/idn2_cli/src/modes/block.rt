@@ -132,7 +132,10 @@ fn write_variant<W: Sink, E: Sink>(
     line.begin(label);
     line.append(b"\t");
     line.append(a_label.as_str().as_bytes());
-    line.append(field.as_bytes());
+    // Most tables have no dispositions, so no field.
+    if !field.is_empty() {
+        line.append(field.as_bytes());
+    }
     line.append(b"\n");
     console.output(line.as_slice())
 }
