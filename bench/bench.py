@@ -41,7 +41,7 @@ from runs import Failed, Run, found, in_turn, version
 
 HERE = pathlib.Path(__file__).resolve().parent
 OURS = HERE.parent / "crates/idn2/out/idn2"
-# Lines that callgrind is given of each input, since it takes fifty times as long.
+# Lines that callgrind is given of each input, since it takes fifty times as long. The input of the listing has fewer.
 LINES_COUNTED = 2_000
 
 
@@ -149,7 +149,7 @@ def show_peak_of_listing(run, limit, gnu_time):
         cells("listing of 2^62", f"{limit:,}", "failed", "-", f"  {failure}")
 
 
-def show_instructions(rows):
+def show_instructions(rows, counts):
     if not found("valgrind"):
         print("\ninstructions: no valgrind here (Debian's package valgrind)")
         return
@@ -158,16 +158,10 @@ def show_instructions(rows):
     for source, row in rows.items():
         if source == "nothing":
             continue
-        lines = 1 if source == "sources" else LINES_COUNTED
-        counted = lines if source != "sources" else listed_of_first(row.ours)
-        figures = [run.instructions_a_line(lines, counted) for run in row.runs()]
+        counted = counts[source] if source == "sources" else LINES_COUNTED
+        figures = [run.instructions_a_line(LINES_COUNTED, counted) for run in row.runs()]
         ratio = f"{figures[1] / figures[0]:.1f}" if len(figures) > 1 else "-"
         cells(row.name, *[f"{figure:,.0f}" for figure in figures], ratio)
-
-
-def listed_of_first(run):
-    """How many variants the first label has."""
-    return int(run.output().split("#end ")[1].split("\n")[0])
 
 
 def read_options():
@@ -200,7 +194,7 @@ def measure(options, folder):
     show_times(options, rows, counts)
     show_memory(options, files, counts)
     if options.instructions:
-        show_instructions(rows)
+        show_instructions(rows, counts)
 
 
 def main():
