@@ -1,5 +1,5 @@
 -- Code points and labels in ASCII.
-use Rattle.std.proofs.Common.{◌≡◌, ℕ, ◌<◌, Bool, true, false, not, ◌||◌, ◌==◌, nat_lt, cond, List, [], ◌∷◌, ◌++◌, codes, length, get_or, All, Option, Some, None, refl, sym, ap, ◌∙◌, arith}
+use Rattle.std.proofs.Common.{◌≡◌, ℕ, ◌<◌, Bool, true, false, not, ◌||◌, ◌==◌, nat_lt, cond, List, [], ◌∷◌, ◌++◌, codes, map, length, get_or, All, Option, Some, None, refl, sym, ap, ◌∙◌, arith}
 use Rattle.std.specs.List.{list_all}
 use Rattle.std.proofs.lemmas.Bool.{and_parts, cond-true, cond-false, ltb-true}
 use Rattle.std.proofs.lemmas.Bool.Decides.{nat_tests}
@@ -15,6 +15,7 @@ use Rattle.std.proofs.lemmas.List.Folds.{list_any_none}
 use Rattle.std.proofs.lemmas.List.Sums.{AllPass-from_list_all, list_all-from_AllPass}
 use Rattle.idna.specs.Punycode.{encode}
 use Rattle.idna.specs.Validity.{is_all_ascii}
+use Rattle.idn_punycode.proofs.UnitLemmas.{codes_length, codes_at}
 use Rattle.idn_text.specs.declared.refusal.Refusal.TheVariants.{Empty, Hyphen, LabelTooLong}
 use Rattle.idn_label.specs.ALabel.{a_label_of}
 use Rattle.idn_label.specs.FirstFault.{first_of, fault_if, fault_of_class, code_point_fault, has_hyphen_out_of_place, is_too_long, first_fault}
@@ -70,9 +71,12 @@ pub is_all_ascii-points : (label : List ℕ) → All (λ c. c < 128) label → i
 is_all_ascii-points label ascii =
     list_all-from_AllPass is_ascii label (All-weaker (λ c. c < 128) (λ c. is_ascii c ≡ true) (λ c lt. grind (arith, nat_tests)) label ascii)
 
--- each code point of a label in ASCII is below 128
-pub is_all_ascii-at : (label : List ℕ) (at : ℕ) → is_all_ascii label ≡ true → at < length label → get_or label at 0 < 128
-is_all_ascii-at label at ascii lt = ltb-true _ 128 (All-get_or (λ c. is_ascii c ≡ true) label at 0 lt (AllPass-from_list_all is_ascii label ascii))
+-- each code point of a label in ASCII is below 128, however the label is held
+pub is_all_ascii-unit : {T : Type 0} (code : T → ℕ) (codes : List T → List ℕ) (are : (units : List T) → codes units ≡ map code units) (units : List T) (at : ℕ) (x : T) (c : ℕ) → is_all_ascii (codes units) ≡ true → at < length units → x ≡ get_or units at x → c ≡ code x → c < 128
+is_all_ascii-unit code codes are units at x c ascii lt is told =
+    let within : at < length (codes units) = omega (arith, codes_length code codes are units, lt) in
+    let low = ltb-true _ 128 (All-get_or (λ c. is_ascii c ≡ true) (codes units) at 0 within (AllPass-from_list_all is_ascii (codes units) ascii)) in
+    omega (arith, told ∙ codes_at code codes are units at x lt is, low)
 
 pub a_label_of-ldh : (label : List ℕ) → list_all is_ldh_point label ≡ true → a_label_of label ≡ label
 unfolding a_label_of

@@ -1,33 +1,29 @@
-use Rattle.std.proofs.Common.{◌≡◌, ◌&&◌, ◌+◌, Bool, true, false, drop, ap, sym, ◌∙◌, arith}
-use Rattle.std.specs.List.{list_all}
+use Rattle.std.proofs.Common.{◌≡◌, false, get_or, take_all, ap, sym, ◌∙◌, arith}
 use Rattle.std.specs.Char.{is_ascii}
 use Rattle.std.proofs.lemmas.Bool.Decides.{nat_tests}
-use Rattle.std.proofs.lemmas.List.{at_drop_more, at_drop_all}
-use Rattle.std.proofs.lemmas.List.Folds.{list_all-map}
+use Rattle.std.proofs.lemmas.Grind.{common_steps}
+use Rattle.std.proofs.lemmas.List.Folds.{list_all_at}
 use Rattle.idna.specs.Validity.{is_all_ascii}
+use Rattle.idn_punycode.proofs.UnitLemmas.{codes_length, codes_at, codes_next}
 use Rattle.idn_label.proofs.unit.is_all_ascii.Goals as goal
 
 pub loop-unit-preserved : goal.loop-unit-preserved
 loop-unit-preserved g c =
-    let p : g.row.U.Denot → Bool = λ unit. is_ascii (g.U.Unit.code unit) in
-    let here : p c.unit-item.result ≡ true = grind (arith, nat_tests, c.code_point.ensures) in
-    c.loop-unit.invariant
-    ∙ at_drop_more (list_all p) c.args.label.now c.loop-unit.unit-index c.unit-item.result c.loop-unit-test.true
-    ∙ ap (λ b. b && list_all p (drop (c.loop-unit.unit-index + 1) c.args.label.now)) (ap p (sym c.unit-item.is) ∙ here)
+    let next = codes_next g.U.Unit.code g.U.Unit.codes g.met.U.Unit.codes_are c.args.label.now c.loop-unit.unit-index c.unit-item.result c.code_point.result c.loop-unit-test.true c.unit-item.is c.code_point.ensures in
+    grind (arith, common_steps, next)
 
 pub returns-then-code_point-ge128 : goal.returns-then-code_point-ge128
 returns-then-code_point-ge128 g c =
-    let p : g.row.U.Denot → Bool = λ unit. is_ascii (g.U.Unit.code unit) in
     let units = c.args.label.now in
-    let here : p c.unit-item.result ≡ false = grind (arith, nat_tests, c.code_point.ensures) in
-    let told : list_all p units ≡ false =
-    c.loop-unit.invariant
-    ∙ at_drop_more (list_all p) units c.loop-unit.unit-index c.unit-item.result c.loop-unit-test.true
-    ∙ ap (λ b. b && list_all p (drop (c.loop-unit.unit-index + 1) units)) (ap p (sym c.unit-item.is) ∙ here) in
-    sym told ∙ sym (list_all-map is_ascii g.U.Unit.code units) ∙ ap is_all_ascii (sym (g.met.U.Unit.codes_are units))
+    let label = g.U.Unit.codes units in
+    let at = c.loop-unit.unit-index in
+    let many = codes_length g.U.Unit.code g.U.Unit.codes g.met.U.Unit.codes_are units in
+    let is = c.code_point.ensures ∙ codes_at g.U.Unit.code g.U.Unit.codes g.met.U.Unit.codes_are units at c.unit-item.result c.loop-unit-test.true c.unit-item.is in
+    let past : is_ascii (get_or label at 0) ≡ false = grind (arith, nat_tests, is) in
+    sym (list_all_at is_ascii label at 0 (omega (arith, many, c.loop-unit-test.true)) past)
 
 pub returns : goal.returns
 returns g c =
-    let units = c.args.label.now in
-    sym (c.loop-unit.invariant ∙ at_drop_all (list_all (λ unit. is_ascii (g.U.Unit.code unit))) units c.loop-unit.unit-index c.loop-unit-test.false)
-    ∙ sym (list_all-map is_ascii g.U.Unit.code units) ∙ ap is_all_ascii (sym (g.met.U.Unit.codes_are units))
+    let label = g.U.Unit.codes c.args.label.now in
+    let many = codes_length g.U.Unit.code g.U.Unit.codes g.met.U.Unit.codes_are c.args.label.now in
+    sym (ap is_all_ascii (sym (take_all c.loop-unit.unit-index label (omega (arith, many, c.loop-unit-test.false)))) ∙ c.loop-unit.invariant)
