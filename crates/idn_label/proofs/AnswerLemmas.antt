@@ -1,5 +1,5 @@
 -- Answers, and what a result says of them.
-use Rattle.std.proofs.Common.{◌≡◌, ◌≢◌, ℕ, ◌==◌, ◌||◌, not, List, ◌++◌, length, drop, codes, All, Option, Some, None, Result, Ok, Err, OnOk, IfOk, IfErr, cond, bytes_eq, true, false, refl, sym, ap, subst, ◌∙◌, inl, inr}
+use Rattle.std.proofs.Common.{◌≡◌, ◌≢◌, ℕ, ◌==◌, ◌||◌, not, List, ◌++◌, length, drop, codes, Option, Some, None, Result, Ok, Err, OnOk, IfOk, IfErr, cond, bytes_eq, true, false, refl, sym, ap, subst, ◌∙◌, inl, inr}
 use Rattle.std.specs.Char.{is_ascii_uppercase}
 use Rattle.std.specs.List.{list_all}
 use Rattle.std.proofs.lemmas.List.Elements.{All-weaker, All-drop}
@@ -153,13 +153,17 @@ decoded_code-from code label e =
       | inr good ↦ some_from_ok (decode code) label (sym (cond-false _ _ _ good) ∙ e)
     ]
 
+-- a code without capitals is the one that is written for its label
+pub encode-again : (given label : List ℕ) → list_all (λ c. not (is_ascii_uppercase c)) given ≡ true → decode (drop 4 given) ≡ Some label → encode label ≡ drop 4 given
+encode-again given label lower decoded =
+    encode-decode (drop 4 given) label
+    (All-drop (λ c. is_ascii_uppercase c ≡ false) 4 given
+    (All-weaker _ _ (λ c h. not-true (is_ascii_uppercase c) h) given (AllPass-from_list_all (λ c. not (is_ascii_uppercase c)) given lower))) decoded
+
 -- a lower-case A-label is the one of the label that is decoded from it, where that is not all ASCII
 pub ace_label-again : (given label : List ℕ) → has_ace_prefix given ≡ true → decoded_code (drop 4 given) ≡ Ok label → list_all (λ c. not (is_ascii_uppercase c)) given ≡ true → codes "xn--" ++ encode label ≡ given
 ace_label-again given label ace decoded lower =
-    let small : All (λ c. is_ascii_uppercase c ≡ false) (drop 4 given) =
-    All-drop (λ c. is_ascii_uppercase c ≡ false) 4 given
-    (All-weaker _ _ (λ c h. not-true (is_ascii_uppercase c) h) given (AllPass-from_list_all (λ c. not (is_ascii_uppercase c)) given lower)) in
-    ap (λ x. codes "xn--" ++ x) (encode-decode (drop 4 given) label small (decoded_code-from (drop 4 given) label decoded))
+    ap (λ x. codes "xn--" ++ x) (encode-again given label lower (decoded_code-from (drop 4 given) label decoded))
     ∙ (ace_parts given ace).0
 
 pub a_label_of-not_ascii : (label : List ℕ) → is_all_ascii label ≡ false → a_label_of label ≡ codes "xn--" ++ encode label

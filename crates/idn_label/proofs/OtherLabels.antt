@@ -1,18 +1,17 @@
 -- A-labels that no label has which may be registered: those that are long, those with a capital, and the codes of ASCII.
-use Rattle.std.proofs.Common.{◌≡◌, ◌≢◌, ℕ, Result, OnOk, IfErr, ◌<◌, ◌≤◌, true, false, not, ◌==◌, ◌||◌, List, [], ◌∷◌, codes, map, drop, length, All, Some, None, Ok, Err, refl, sym, ap, ◌∙◌, inl, inr, arith}
+use Rattle.std.proofs.Common.{◌≡◌, ◌≢◌, ℕ, Result, OnOk, IfErr, ◌<◌, ◌≤◌, true, false, not, ◌==◌, ◌||◌, List, [], ◌∷◌, codes, map, drop, length, Some, None, Ok, Err, refl, sym, ap, ◌∙◌, inl, inr, arith}
 use Rattle.std.specs.Char.{is_ascii_uppercase, to_ascii_lowercase}
 use Rattle.std.specs.List.{list_all}
-use Rattle.std.proofs.lemmas.Bool.{cases_Bool, cases_lt, cond-true, not-true}
+use Rattle.std.proofs.lemmas.Bool.{cases_Bool, cases_lt, cond-true}
 use Rattle.std.proofs.lemmas.Bool.Decides.{nat_tests}
 use Rattle.std.specs.Char.{is_ascii}
 use Rattle.std.proofs.lemmas.List.{length-map, drop-map}
-use Rattle.std.proofs.lemmas.List.Elements.{All-weaker, All-drop}
+use Rattle.std.proofs.lemmas.List.Elements.{All-weaker}
 use Rattle.std.proofs.lemmas.List.Folds.{list_all-append}
-use Rattle.std.proofs.lemmas.List.Sums.{AllPass-from_list_all, list_all-from_AllPass}
+use Rattle.std.proofs.lemmas.List.Sums.{list_all-from_AllPass}
 use Rattle.idna.specs.Punycode.{decode}
 use Rattle.idna.specs.Validity.{is_all_ascii, has_ace_prefix}
 use Rattle.idna.proofs.Computing.{idna}
-use Rattle.idna.proofs.PunycodeCanonical.{encode-decode}
 use Rattle.idna.proofs.Uts46Lemmas.{ace_parts}
 use Rattle.idn_punycode.proofs.CaseSteps.{decode-lower}
 use Rattle.idn_text.specs.declared.refusal.Refusal.{Refusal}
@@ -23,7 +22,7 @@ use Rattle.idn_label.specs.FirstFault.{code_point_fault, first_fault, IsRegistra
 use Rattle.idn_label.specs.Register.{decoded_code, u_label_answer}
 use Rattle.idn_label.specs.Steps.{is_ldh_point}
 use Rattle.idn_label.specs.inner.FaultSteps.{fault_but_length}
-use Rattle.idn_label.proofs.AnswerLemmas.{tested_answer-ok, tested_answer-fault, confirmed-same, confirmed-other, confirmed-fault, decoded_code-as, decoded_code-other, decoded_code-from, u_label_answer-code_fault, u_label_answer-confirmed, ace_label-again, a_label_of-not_ascii}
+use Rattle.idn_label.proofs.AnswerLemmas.{tested_answer-ok, tested_answer-fault, confirmed-same, confirmed-other, confirmed-fault, decoded_code-as, decoded_code-other, decoded_code-from, u_label_answer-code_fault, u_label_answer-confirmed, encode-again, ace_label-again, a_label_of-not_ascii}
 use Rattle.idn_label.proofs.DecodeLemmas.{lowercase_of-lower, has_no_capital-lower}
 use Rattle.idn_label.proofs.FaultLemmas.{permitted-faultless, first_fault-short}
 use Rattle.idn_label.proofs.RequirementLemmas.{MeetsRequirements-registrable}
@@ -61,14 +60,6 @@ of_none-ascii given label prefix ascii registrable = λ same.
 
 -- ---- what is decoded
 
--- a code without capitals is the one that is written for its label
-is_all_ascii-code : (given label : List ℕ) → list_all (λ c. not (is_ascii_uppercase c)) given ≡ true → decode (drop 4 given) ≡ Some label → is_all_ascii (drop 4 given) ≡ true
-is_all_ascii-code given label lower decoded =
-    let small : All (λ c. is_ascii_uppercase c ≡ false) (drop 4 given) =
-    All-drop (λ c. is_ascii_uppercase c ≡ false) 4 given
-    (All-weaker _ _ (λ c h. not-true (is_ascii_uppercase c) h) given (AllPass-from_list_all (λ c. not (is_ascii_uppercase c)) given lower)) in
-    ap is_all_ascii (sym (encode-decode (drop 4 given) label small decoded)) ∙ ascii_code label
-
 decode-nil : decode [] ≡ Some []
 unfolding idna
 decode-nil = refl
@@ -85,7 +76,8 @@ some_code-coded (c ∷ code) label decoded coded = grind (arith, nat_tests)
 pub decoded_coded : (given label : List ℕ) → list_all (λ c. not (is_ascii_uppercase c)) given ≡ true → decode (drop 4 given) ≡ Some label → is_all_ascii label ≡ false → decoded_code (drop 4 given) ≡ Ok label
 decoded_coded given label lower decoded coded =
     let code = drop 4 given in
-    decoded_code-as code code (Some label) (some_code-coded code label decoded coded) (is_all_ascii-code given label lower decoded) refl decoded
+    let ascii = ap is_all_ascii (sym (encode-again given label lower decoded)) ∙ ascii_code label in
+    decoded_code-as code code (Some label) (some_code-coded code label decoded coded) ascii refl decoded
 
 pub decoded_code-none : (code : List ℕ) → decode code ≡ None → decoded_code code ≡ Err BadALabel
 unfolding decoded_code

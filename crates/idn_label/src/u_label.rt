@@ -36,7 +36,7 @@ pub(crate) fn u_label_in_any_case<U: Unit>(
         Ok(()) => Ok(()),
         Err(refusal) if has_no_capital(given) => Err(refusal),
         Err(_) if !is_all_ascii(given) => Err(Refusal::BadALabel),
-        Err(_) => tested_u_label(alloc, &lowercase_of(given), label),
+        Err(_) => u_label(alloc, &lowercase_of(given), label),
     }
 }
 
@@ -50,6 +50,7 @@ pub(crate) fn u_label<U: Unit>(
     requires prefix { has_ace_prefix (U.codes given.now) ≡ true }
     requires short { length given.now ≤ MAX_LINE_LEN }
     ensures answer { Gives (λ _. label.new) result (u_label_answer (U.codes given.now)) }
+    ensures shorter { OnOk result (length label.new < length given.now) }
     ensures no_memory { list_all (λ c. not (is_ascii_uppercase c)) (U.codes given.now) ≡ true → NeedsNoMemoryDecoded (U.codes given.now) → result ≢ Err Refusal.Memory }
 {
     if has_no_capital(given) {

@@ -1,19 +1,16 @@
-use Rattle.std.proofs.Common.{not, map, ap, subst, sym, ◌∙◌}
-use Rattle.std.specs.Char.{is_ascii_uppercase, to_ascii_lowercase}
+use Rattle.std.proofs.Common.{not, ap, subst, sym, ◌∙◌}
+use Rattle.std.specs.Char.{is_ascii_uppercase}
 use Rattle.std.specs.List.{list_all}
 use Rattle.idna.specs.Validity.{has_ace_prefix}
 use Rattle.idn_label.specs.Memory.{NeedsNoMemoryDecoded}
 use Rattle.idn_label.specs.Register.{u_label_answer}
 use Rattle.idn_label.proofs.AnswerLemmas.{Gives-same}
 use Rattle.idn_label.proofs.DecodeLemmas.{lowercase_of-lower, is_all_ascii-lower, has_no_capital-lower}
-use Rattle.idn_label.proofs.OtherLabels.{Gives-tested, u_label_answer-past_ascii}
+use Rattle.idn_label.proofs.OtherLabels.{u_label_answer-past_ascii}
 use Rattle.idn_label.proofs.u_label.u_label_in_any_case.Goals as goal
 
-pub tested_u_label-requires-in-Err-3-clause-prefix : goal.tested_u_label-requires-in-Err-3-clause-prefix
-tested_u_label-requires-in-Err-3-clause-prefix g c =
-    let given = g.U.Unit.codes c.args.given.now in
-    let twice = lowercase_of-lower (map to_ascii_lowercase given) (has_no_capital-lower given) in
-    ap (λ label. has_ace_prefix (map to_ascii_lowercase label)) (c.deref.ensures.0 ∙ c.lowercase_of.ensures) ∙ ap has_ace_prefix twice ∙ c.requires.prefix
+pub u_label-requires-clause-prefix : goal.u_label-requires-clause-prefix
+u_label-requires-clause-prefix g c = ap has_ace_prefix (c.deref.ensures.0 ∙ c.lowercase_of.ensures) ∙ c.requires.prefix
 
 pub returns-in-Err-clause-no_memory : goal.returns-in-Err-clause-no_memory
 returns-in-Err-clause-no_memory g c =
@@ -32,14 +29,11 @@ returns-in-Err-2-clause-answer g c =
 
 pub returns-in-Err-3-clause-no_memory : goal.returns-in-Err-3-clause-no_memory
 returns-in-Err-3-clause-no_memory g c =
-    λ needs. c.tested_u_label-in-Err-3.ensures.no_memory (subst NeedsNoMemoryDecoded (sym (c.deref.ensures.0 ∙ c.lowercase_of.ensures)) needs)
+    λ needs.
+    let is = c.deref.ensures.0 ∙ c.lowercase_of.ensures in
+    let lower = ap (list_all (λ c. not (is_ascii_uppercase c))) is ∙ has_no_capital-lower (g.U.Unit.codes c.args.given.now) in
+    c.u_label.ensures.no_memory lower (subst NeedsNoMemoryDecoded (sym is) needs)
 
 pub returns-in-Err-3-clause-answer : goal.returns-in-Err-3-clause-answer
 returns-in-Err-3-clause-answer g c =
-    let given = g.U.Unit.codes c.args.given.now in
-    let is = c.deref.ensures.0 ∙ c.lowercase_of.ensures in
-    let lower = ap (list_all (λ c. not (is_ascii_uppercase c))) is ∙ has_no_capital-lower given in
-    let label = c.tested_u_label-in-Err-3.new.label in
-    let r = c.tested_u_label-in-Err-3.result in
-    Gives-same (λ (_ : Unit {0}). label) r (u_label_answer c.deref.result.now) _ (ap u_label_answer is)
-    (Gives-tested r c.deref.result.now label lower c.tested_u_label-in-Err-3.ensures.passes c.tested_u_label-in-Err-3.ensures.fault)
+    Gives-same (λ (_ : Unit {0}). c.u_label.new.label) c.u_label.result _ _ (ap u_label_answer (c.deref.ensures.0 ∙ c.lowercase_of.ensures)) c.u_label.ensures.answer
