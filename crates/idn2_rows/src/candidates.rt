@@ -1,11 +1,14 @@
 //! The candidates of a net, step by step: which ones come, after which text, and what a step costs.
-use crate::nets::{BLIND, DOUBLED, HYPHENS, SHARP_S, net, net_of, points};
+use crate::nets::{BLIND, DOUBLED, HYPHENS, SHARP_S, net, net_of_times, points};
 use std::alloc::Global;
+use std::process::Abort;
 use std::test::Fail;
 use variant_list::{Cursor, Net};
-use variant_table::Table;
 
 const CHINA: &[u8] = b"4E2D\n56FD|570B\n570B|56FD\n";
+
+/// 63 times s.
+const LONG: &str = "sssssssssssssssssssssssssssssssssssssssssssssssssssssssssssssss";
 
 /// All candidates of the label after the text, each with a comma after it.
 fn listed(alloc: Global, net: &Net, after: &str) -> Result<Vec<u32>, Fail> {
@@ -35,21 +38,32 @@ const FROM_TEXTS: [(&[u8], &str, &str, &str); 10] = [
     (BLIND, "ab", "b", "c,"),
 ];
 
+/// These candidates come after a text.
+fn assert_listed(
+    rt: &impl Abort,
+    alloc: Global,
+    net: &Net,
+    after: &str,
+    want: &str,
+) -> Result<(), Fail> {
+    let got = listed(alloc, net, after)?;
+    let want = points(alloc, want)?;
+    assert_eq!(rt; got.as_slice(), want.as_slice(), "behind {after}");
+    Ok(())
+}
+
 #[test]
 fn each_candidate_once_from_any_text_on(rt: HostRuntime) -> Result<(), Fail> {
-    for (table, label, after, want) in FROM_TEXTS {
+    for (table, label, after, want) in FROM_TEXTS.iter() {
         let net = net(rt.alloc(), table, label)?;
-        let got = listed(rt.alloc(), &net, after)?;
-        assert_eq!(&rt; got, points(rt.alloc(), want)?, "{label} behind {after}");
+        assert_listed(&rt, rt.alloc(), &net, after, want)?;
     }
     Ok(())
 }
 
-/// The lengths of the candidates of a label of `count` letters a.
-fn lengths(alloc: Global, count: usize) -> Result<Vec<usize>, Fail> {
-    let label: Vec<u32> = vec![in alloc; 97; count]?;
-    let net = net_of(alloc, &Table::read(alloc, DOUBLED)?, &label)?;
-    let mut cursor = Cursor::new(alloc, &net, &[])?;
+/// The lengths of all candidates.
+fn lengths(alloc: Global, net: &Net) -> Result<Vec<usize>, Fail> {
+    let mut cursor = Cursor::new(alloc, net, &[])?;
     let mut lengths = Vec::new(alloc);
     for _ in 0..100 {
         match cursor.next_candidate() {
@@ -63,8 +77,11 @@ fn lengths(alloc: Global, count: usize) -> Result<Vec<usize>, Fail> {
 /// A candidate has at most 63 code points, whatever else a label spells.
 #[test]
 fn the_longest_candidates(rt: HostRuntime) -> Result<(), Fail> {
-    assert_eq!(&rt; lengths(rt.alloc(), 62)?.as_slice(), [62, 63].as_slice());
-    assert_eq!(&rt; lengths(rt.alloc(), 63)?.as_slice(), [63].as_slice());
+    for (count, want) in [(62, [62, 63].as_slice()), (63, [63].as_slice())] {
+        let net = net_of_times(rt.alloc(), DOUBLED, 0x61, count)?;
+        let got = lengths(rt.alloc(), &net)?;
+        assert_eq!(&rt; got.as_slice(), want, "{count} times a");
+    }
     Ok(())
 }
 
@@ -80,80 +97,118 @@ fn behind(alloc: Global, net: &Net, count: u64) -> Result<(Vec<u32>, u64), Fail>
     Ok((cursor.last().to_vec(alloc)?, given))
 }
 
+/// Behind so many steps stands this candidate, and so many were given.
+fn assert_behind(
+    rt: &impl Abort,
+    alloc: Global,
+    net: &Net,
+    (count, want, want_given): (u64, &str, u64),
+) -> Result<(), Fail> {
+    let (last, given) = behind(alloc, net, count)?;
+    let want = points(alloc, want)?;
+    assert_eq!(rt;
+        (last.as_slice(), given),
+        (want.as_slice(), want_given),
+        "{count}"
+    );
+    Ok(())
+}
+
 /// So many times s under the table of the sharp s spell more labels than a memory can hold.
 #[test]
 fn labels_that_spell_more_than_a_memory_holds(rt: HostRuntime) -> Result<(), Fail> {
-    let alloc = rt.alloc();
-    let label: Vec<u32> = vec![in alloc; 0x73; 63]?;
-    let net = net_of(alloc, &Table::read(alloc, SHARP_S)?, &label)?;
-    let mut second: Vec<u32> = vec![in alloc; 0x73; 61]?;
-    second.push(0xDF)?;
-    assert_eq!(&rt; behind(alloc, &net, 1)?, (label, 1));
-    assert_eq!(&rt; behind(alloc, &net, 2)?, (second, 2));
-    assert_eq!(&rt; behind(alloc, &net, 1000)?.1, 1000);
-    assert_eq!(&rt; net.shortest(), 32);
+    let net = net(rt.alloc(), SHARP_S, LONG)?;
+    let second = "sssssssssssssssssssssssssssssssssssssssssssssssssssssssssssssß";
+    for (count, last) in [(1, LONG), (2, second)] {
+        assert_behind(&rt, rt.alloc(), &net, (count, last, count))?;
+    }
+    Ok(())
+}
+
+/// The same label has a thousand candidates and more, of which the shortest has 32 code points.
+#[test]
+fn a_thousand_candidates(rt: HostRuntime) -> Result<(), Fail> {
+    let net = net(rt.alloc(), SHARP_S, LONG)?;
+    let (_last, given) = behind(rt.alloc(), &net, 1000)?;
+    assert_eq!(&rt; (given, net.shortest()), (1000, 32));
     Ok(())
 }
 
 #[test]
 fn an_ended_listing_stays_ended(rt: HostRuntime) -> Result<(), Fail> {
-    let alloc = rt.alloc();
-    let net = net(alloc, SHARP_S, "sss")?;
+    let net = net(rt.alloc(), SHARP_S, "sss")?;
     for count in 3..6 {
-        assert_eq!(&rt;
-            behind(alloc, &net, count)?,
-            (points(alloc, "ßs")?, 3),
-            "{count}"
-        );
+        assert_behind(&rt, rt.alloc(), &net, (count, "ßs", 3))?;
     }
     Ok(())
 }
 
 /// For each candidate some edges are tested, and at most 256 times as many as there are. The rows keep their size.
-#[test]
-fn looks_at_edges_are_counted(rt: HostRuntime) -> Result<(), Fail> {
-    let alloc = rt.alloc();
-    let long = "sssssssssssssssssssssssssssssssssssssssssssssssssssssssssssssss";
-    for (table, label) in [
-        (SHARP_S, "sss"),
-        (DOUBLED, "aa"),
-        (HYPHENS, "aaa"),
-        (BLIND, "ab"),
-        (CHINA, "中国"),
-        (SHARP_S, long),
-        (
-            DOUBLED,
-            "aaaaaaaaaaaaaaaaaaaaaaaaaaaaaaaaaaaaaaaaaaaaaaaaaaaaaaaaaaaaaa",
-        ),
-        (
-            DOUBLED,
-            "aaaaaaaaaaaaaaaaaaaaaaaaaaaaaaaaaaaaaaaaaaaaaaaaaaaaaaaaaaaaaaa",
-        ),
-    ] {
-        let net = net(alloc, table, label)?;
-        let mut cursor = Cursor::new(alloc, &net, &[])?;
-        let bits = cursor.row_bits();
-        assert_eq!(&rt; cursor.edge_tests(), 0, "{label}");
-        assert!(&rt; bits >= 4096, "{label}: {bits}");
-        for _ in 0..100 {
-            let found = cursor.next_candidate().is_some();
-            let tests = cursor.edge_tests();
-            assert!(&rt; !found || tests >= 1, "{label}: {tests}");
-            assert!(&rt; tests <= net.edges() * 256, "{label}: {tests}");
-            assert_eq!(&rt; cursor.row_bits(), bits, "{label}");
-        }
+fn assert_counted(rt: &impl Abort, alloc: Global, net: &Net, label: &str) -> Result<(), Fail> {
+    let mut cursor = Cursor::new(alloc, net, &[])?;
+    let bits = cursor.row_bits();
+    assert_eq!(rt;
+        (cursor.edge_tests(), bits >= 4096),
+        (0, true),
+        "{label}: {bits}"
+    );
+    for _ in 0..100 {
+        let found = cursor.next_candidate().is_some();
+        let tests = cursor.edge_tests();
+        let is_counted = !found || tests >= 1;
+        let is_bounded = tests <= net.edges() * 256;
+        assert_eq!(rt;
+            (is_counted, is_bounded, cursor.row_bits()),
+            (true, true, bits),
+            "{label}: {tests}"
+        );
     }
     Ok(())
+}
+
+/// The tables, and a label of each.
+const COUNTED: [(&[u8], &str); 8] = [
+    (SHARP_S, "sss"),
+    (DOUBLED, "aa"),
+    (HYPHENS, "aaa"),
+    (BLIND, "ab"),
+    (CHINA, "中国"),
+    (SHARP_S, LONG),
+    (
+        DOUBLED,
+        "aaaaaaaaaaaaaaaaaaaaaaaaaaaaaaaaaaaaaaaaaaaaaaaaaaaaaaaaaaaaaa",
+    ),
+    (
+        DOUBLED,
+        "aaaaaaaaaaaaaaaaaaaaaaaaaaaaaaaaaaaaaaaaaaaaaaaaaaaaaaaaaaaaaaa",
+    ),
+];
+
+#[test]
+fn looks_at_edges_are_counted(rt: HostRuntime) -> Result<(), Fail> {
+    for (table, label) in COUNTED.iter() {
+        let net = net(rt.alloc(), table, label)?;
+        assert_counted(&rt, rt.alloc(), &net, label)?;
+    }
+    Ok(())
+}
+
+/// How many edges each of the first steps tests.
+fn looks(alloc: Global, net: &Net) -> Result<[u64; 4], Fail> {
+    let mut cursor = Cursor::new(alloc, net, &[])?;
+    let mut looks = [0; 4];
+    for step in 0..4 {
+        let _ = cursor.next_candidate();
+        looks[step] = cursor.edge_tests();
+    }
+    Ok(looks)
 }
 
 /// How many edges each step tests, also the one that finds no label.
 #[test]
 fn looks_of_each_step(rt: HostRuntime) -> Result<(), Fail> {
     let net = net(rt.alloc(), SHARP_S, "sss")?;
-    let mut cursor = Cursor::new(rt.alloc(), &net, &[])?;
-    for looks in [9, 6, 8, 4] {
-        let _ = cursor.next_candidate();
-        assert_eq!(&rt; cursor.edge_tests(), looks);
-    }
+    let looks = looks(rt.alloc(), &net)?;
+    assert_eq!(&rt; looks, [9, 6, 8, 4]);
     Ok(())
 }

@@ -2,7 +2,8 @@
 //! but for capitals after a prefix, which it keeps and this program puts into lower case. The codes of refused labels
 //! are those of Python's codec of Punycode.
 use crate::a_labels_of_others::{LIBIDN2, RFC_3492};
-use crate::label_calls::{letters, points_of};
+use crate::label_calls::{assert_text, letters, points_of};
+use crate::row::shown;
 use idn_label::{decode_ascii, decode_name};
 use idn_text::Refusal;
 use std::alloc::Global;
@@ -53,6 +54,36 @@ const CASES: [(&str, Result<&str, Refusal>); 31] = [
     ),
 ];
 
+/// The text of code points.
+fn text_of(alloc: Global, points: &[u32]) -> Result<String, Fail> {
+    let mut text = String::new(alloc);
+    for point in points {
+        text.push(char::from_u32(*point).ok_or("no scalar value")?)?;
+    }
+    Ok(text)
+}
+
+/// What a name is decoded to by code points.
+fn decoded(alloc: Global, name: &str) -> Result<Result<String, Refusal>, Fail> {
+    let points = points_of(name)?;
+    match decode_name(alloc, &points) {
+        Ok(decoded) => Ok(Ok(text_of(alloc, &decoded)?)),
+        Err(refusal) => Ok(Err(refusal)),
+    }
+}
+
+/// What a name in ASCII is decoded to by octets.
+fn decoded_octets(alloc: Global, name: &str) -> Result<Result<String, Refusal>, Fail> {
+    if !name.is_ascii() || name.len() > 1024 {
+        return Err("a name that is not ASCII, or too long")?;
+    }
+    let mut room = [0; 4096];
+    match decode_ascii(alloc, name.as_bytes(), &mut room) {
+        Ok(len) => Ok(Ok(shown(alloc, &room[..len])?)),
+        Err(refusal) => Ok(Err(refusal)),
+    }
+}
+
 /// By code points and by octets.
 fn decodes(
     rt: &impl Abort,
@@ -60,44 +91,44 @@ fn decodes(
     name: &str,
     expected: Result<&str, Refusal>,
 ) -> Result<(), Fail> {
-    let points = points_of(name)?;
-    let decoded = decode_name(alloc, &points);
-    match (&decoded, expected) {
-        (Ok(decoded), Ok(text)) => {
-            assert_eq!(rt; decoded.as_slice(), points_of(text)?.as_slice(), "{name}");
-        }
-        _ => assert_eq!(rt;
-            decoded.as_ref().err().copied(),
-            expected.err(),
-            "{name}: {decoded:?}"
-        ),
-    }
-    let mut room = [0; 4096];
-    if name.is_ascii() && name.len() <= 1024 {
-        match (decode_ascii(alloc, name.as_bytes(), &mut room), expected) {
-            (Ok(len), Ok(expected)) => {
-                assert_eq!(rt; &room[..len], expected.as_bytes(), "{name}");
-            }
-            (answer, _) => assert_eq!(rt; answer.err(), expected.err(), "{name}"),
-        }
+    let answer = decoded(alloc, name)?;
+    assert_text(rt, &answer, expected, name);
+    if name.is_ascii() {
+        let answer = decoded_octets(alloc, name)?;
+        assert_text(rt, &answer, expected, name);
     }
     Ok(())
 }
 
 #[test]
 fn a_labels_of_many_scripts_are_decoded(rt: HostRuntime) -> Result<(), Fail> {
-    for (label, a_label) in RFC_3492.iter().chain(LIBIDN2.iter()) {
-        decodes(&rt, rt.alloc(), a_label, Ok(*label))?;
+    have_labels(&rt, rt.alloc(), &RFC_3492)?;
+    have_labels(&rt, rt.alloc(), &LIBIDN2)
+}
+
+/// A-labels, each behind the label to which it is decoded.
+fn have_labels(rt: &impl Abort, alloc: Global, pairs: &[(&str, &str)]) -> Result<(), Fail> {
+    for (label, a_label) in pairs {
+        decodes(rt, alloc, a_label, Ok(*label))?;
+    }
+    Ok(())
+}
+
+/// Decodes each name.
+fn decode_all(
+    rt: &impl Abort,
+    alloc: Global,
+    cases: &[(&str, Result<&str, Refusal>)],
+) -> Result<(), Fail> {
+    for (name, expected) in cases {
+        decodes(rt, alloc, name, *expected)?;
     }
     Ok(())
 }
 
 #[test]
 fn names_are_decoded_or_refused(rt: HostRuntime) -> Result<(), Fail> {
-    for (name, expected) in CASES.iter() {
-        decodes(&rt, rt.alloc(), name, *expected)?;
-    }
-    Ok(())
+    decode_all(&rt, rt.alloc(), &CASES)
 }
 
 #[test]

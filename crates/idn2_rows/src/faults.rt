@@ -1,5 +1,7 @@
 //! Runs in which one read, or the write of one byte, fails, each in turn: what then stands on both writers, and the
 //! status.
+ghost use Rattle.idn_text.specs.Reading.{IsUnread};
+
 use crate::row::{Given, ROOM, answers, options_of};
 use idn_text::hostile::{StopReader, StopWriter};
 use idn_text::{Device, Lines, ReadFault};
@@ -265,21 +267,34 @@ fn each_place_of_each_stream_fails(rt: HostRuntime) -> Result<(), Fail> {
     Ok(())
 }
 
+/// Registers the lines of an input, of which none was read yet, and tells the status and how many bytes the output and
+/// the messages took.
+fn registered(
+    alloc: Global,
+    input: &mut Lines<Device<StopReader<'_>>>,
+    told: &mut [u8],
+) -> Result<(u8, usize, usize), Fail>
+    requires { IsUnread input.old }
+{
+    let options = options_of(alloc, REGISTER)?;
+    let mut held = [0u8; 64];
+    let mut out = Device::new(StopWriter::new(&mut held, 1));
+    let mut err = Device::new(StopWriter::new(told, 1));
+    let code = run(alloc, &options, b"", input, &mut out, &mut err).code();
+    Ok((code, out.inner().taken(), err.inner().taken()))
+}
+
 /// A reader that fails once has failed for good.
 #[test]
 fn read_fault_stays(rt: HostRuntime) -> Result<(), Fail> {
-    let options = options_of(rt.alloc(), REGISTER)?;
-    let mut held = [0u8; 64];
     let mut told = [0u8; 64];
-    let mut out = Device::new(StopWriter::new(&mut held, 1));
-    let mut err = Device::new(StopWriter::new(&mut told, 1));
     let mut input = Lines::new(Device::new(StopReader::new(b"fa\xC3\x9F\n", 1, 1, true)));
-    let status = run(rt.alloc(), &options, b"", &mut input, &mut out, &mut err);
-    assert_eq!(rt; status.code(), 3);
-    assert_eq!(rt; out.inner().taken(), 0);
-    let spoken = err.inner().taken();
-    assert_eq!(rt; told.get(..spoken), Some(READ_FAULT));
-    assert_eq!(rt; input.next_line().err(), Some(ReadFault));
+    let (code, written, spoken) = registered(rt.alloc(), &mut input, &mut told)?;
+    let fault = input.next_line().err();
+    assert_eq!(rt;
+        (code, written, told.get(..spoken), fault),
+        (3, 0, Some(READ_FAULT), Some(ReadFault))
+    );
     Ok(())
 }
 

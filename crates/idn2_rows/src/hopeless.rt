@@ -1,5 +1,6 @@
 //! Beginnings after which no label can be registered, whatever follows.
 use idn_class::{hopeless, shortest_hopeless};
+use std::process::Abort;
 
 /// What a list shows, its code points, and how long its shortest hopeless beginning is, if it has one.
 type Case = (&'static str, &'static [u32], Option<usize>);
@@ -56,18 +57,22 @@ const DIRECTIONS: [Case; 15] = [
     ("a number past Unicode", &[0x11_0000, 0x61], None),
 ];
 
-#[test]
-fn hyphens_and_marks(rt: HostRuntime) {
-    for (case, list, want) in HYPHENS_AND_MARKS {
-        assert_eq!(rt; shortest_hopeless(list), want, "{case}");
-        assert_eq!(rt; hopeless(list), want.is_some(), "{case}");
+fn assert_cases(rt: &impl Abort, cases: &[Case]) {
+    for (case, list, want) in cases {
+        assert_eq!(rt;
+            (shortest_hopeless(list), hopeless(list)),
+            (*want, want.is_some()),
+            "{case}"
+        );
     }
 }
 
 #[test]
+fn hyphens_and_marks(rt: HostRuntime) {
+    assert_cases(&rt, &HYPHENS_AND_MARKS);
+}
+
+#[test]
 fn directions(rt: HostRuntime) {
-    for (case, list, want) in DIRECTIONS {
-        assert_eq!(rt; shortest_hopeless(list), want, "{case}");
-        assert_eq!(rt; hopeless(list), want.is_some(), "{case}");
-    }
+    assert_cases(&rt, &DIRECTIONS);
 }

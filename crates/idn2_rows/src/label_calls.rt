@@ -6,6 +6,7 @@ use arrayvec::ArrayVec;
 use idn_label::ALabel;
 use idn_text::{Refusal, decode_points};
 use std::alloc::Global;
+use std::process::Abort;
 use std::test::Fail;
 
 /// The code points of a text of at most 1,024 octets.
@@ -26,6 +27,24 @@ pub fn told(answer: &Result<ALabel, Refusal>) -> Result<&str, Refusal> {
         Ok(a_label) => Ok(a_label.as_str()),
         Err(refusal) => Err(*refusal),
     }
+}
+
+/// An answer as text.
+pub fn texted(answer: &Result<String, Refusal>) -> Result<&str, Refusal> {
+    match answer {
+        Ok(text) => Ok(text.as_str()),
+        Err(refusal) => Err(*refusal),
+    }
+}
+
+/// An answer is the expected one.
+pub fn assert_text(
+    rt: &impl Abort,
+    answer: &Result<String, Refusal>,
+    expected: Result<&str, Refusal>,
+    case: &str,
+) {
+    assert_eq!(rt; texted(answer), expected, "{case}");
 }
 
 /// `count` letters a with `last` after them.

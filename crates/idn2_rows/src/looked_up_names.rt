@@ -1,9 +1,10 @@
 //! Lookup of names, on each way through the code. The answers are those of libidn2's `idn2`, except for the capital
 //! sharp s, which UTS 46 has mapped differently since Unicode 15.1, and for what only one of the programs requires.
-use crate::label_calls::{letters, points_of};
+use crate::label_calls::{assert_text, letters, points_of, texted};
+use crate::row::shown;
 use idn_label::{lookup, lookup_utf8};
 use idn_text::Refusal;
-use std::alloc::Global;
+use std::alloc::{AllocError, Global};
 use std::process::Abort;
 use std::test::Fail;
 
@@ -96,7 +97,31 @@ const LONG: [(usize, &str, Result<(usize, &str), Refusal>); 8] = [
     (64, ".ü", Err(Refusal::LookupLength)),
 ];
 
-/// By code points, and by UTF-8 into a buffer that holds something from before.
+/// The expected answer to a long name as text.
+fn long_query(
+    alloc: Global,
+    expected: &Result<(usize, &str), Refusal>,
+) -> Result<Result<String, Refusal>, Fail> {
+    match expected {
+        Ok((count, last)) => Ok(Ok(letters(alloc, *count, last)?)),
+        Err(refusal) => Ok(Err(*refusal)),
+    }
+}
+
+/// The query of a name in UTF-8, by a buffer that holds something from before.
+fn looked_up_octets(
+    alloc: Global,
+    name: &str,
+    std3: bool,
+) -> Result<Result<String, Refusal>, AllocError> {
+    let mut room = [b'?'; 254];
+    match lookup_utf8(alloc, name.as_bytes(), std3, &mut room) {
+        Ok(len) => Ok(Ok(shown(alloc, &room[..len])?)),
+        Err(refusal) => Ok(Err(refusal)),
+    }
+}
+
+/// By code points and by UTF-8.
 fn looks_up(
     rt: &impl Abort,
     alloc: Global,
@@ -105,23 +130,10 @@ fn looks_up(
     expected: Result<&str, Refusal>,
 ) -> Result<(), Fail> {
     let points = points_of(name)?;
-    let answer = lookup(alloc, &points, std3);
-    match (&answer, expected) {
-        (Ok(query), Ok(text)) => assert_eq!(rt; query.as_str(), text, "{name}"),
-        _ => assert_eq!(rt;
-            answer.as_ref().err().copied(),
-            expected.err(),
-            "{name}: {answer:?}"
-        ),
-    }
-    let mut room = [b'?'; 254];
-    match (
-        lookup_utf8(alloc, name.as_bytes(), std3, &mut room),
-        expected,
-    ) {
-        (Ok(len), Ok(text)) => assert_eq!(rt; &room[..len], text.as_bytes(), "{name}"),
-        (answer, _) => assert_eq!(rt; answer.err(), expected.err(), "{name}: {answer:?}"),
-    }
+    let query = lookup(alloc, &points, std3);
+    assert_text(rt, &query, expected, name);
+    let query = looked_up_octets(alloc, name, std3)?;
+    assert_text(rt, &query, expected, name);
     Ok(())
 }
 
@@ -169,13 +181,8 @@ fn the_ascii_rules_are_asked(rt: HostRuntime) -> Result<(), Fail> {
 fn lengths_are_measured(rt: HostRuntime) -> Result<(), Fail> {
     for (count, last, expected) in LONG.iter() {
         let name = letters(rt.alloc(), *count, last)?;
-        match expected {
-            Ok((count, last)) => {
-                let query = letters(rt.alloc(), *count, last)?;
-                looks_up(&rt, rt.alloc(), &name, false, Ok(query.as_str()))?;
-            }
-            Err(refusal) => looks_up(&rt, rt.alloc(), &name, false, Err(*refusal))?,
-        }
+        let query = long_query(rt.alloc(), expected)?;
+        looks_up(&rt, rt.alloc(), &name, false, texted(&query))?;
     }
     Ok(())
 }

@@ -38,6 +38,12 @@ pub fn net(alloc: Global, table: &[u8], label: &str) -> Result<Net, Fail> {
     net_of(alloc, &Table::read(alloc, table)?, &points(alloc, label)?)
 }
 
+/// The same of a label of so many times a code point.
+pub fn net_of_times(alloc: Global, table: &[u8], point: u32, count: usize) -> Result<Net, Fail> {
+    let label: Vec<u32> = vec![in alloc; point; count]?;
+    net_of(alloc, &Table::read(alloc, table)?, &label)
+}
+
 /// Labels with the number of edges of their nets, and the least length that they spell.
 const MEASURED: [(&[u8], &str, u64, usize); 4] = [
     (DOUBLED, "aa", 6, 2),
@@ -90,23 +96,34 @@ const SPELLED: [(&[u8], &str, &str, bool); 24] = [
     (SHARP_S, "sss", "ßß", false),
 ];
 
+/// Whether a label spells another one by the table of a text.
+fn spells(alloc: Global, table: &[u8], label: &str, other: &str) -> Result<bool, Fail> {
+    let net = net(alloc, table, label)?;
+    let other = points(alloc, other)?;
+    Ok(net.spells(alloc, &other)?)
+}
+
 #[test]
 fn labels_that_are_spelled(rt: HostRuntime) -> Result<(), Fail> {
-    let alloc = rt.alloc();
-    for (table, label, other, want) in SPELLED {
-        let net = net(alloc, table, label)?;
-        let spelled = net.spells(alloc, &points(alloc, other)?)?;
-        assert_eq!(&rt; spelled, want, "{label} spells {other}");
+    for (table, label, other, want) in SPELLED.iter() {
+        let is_spelled = spells(rt.alloc(), table, label, other)?;
+        assert_eq!(&rt; is_spelled, *want, "{label} spells {other}");
     }
     Ok(())
+}
+
+/// Whether a label spells so many letters a with these code points behind them.
+fn spells_letters(alloc: Global, net: &Net, count: usize, behind: &[u32]) -> Result<bool, Fail> {
+    let mut other: Vec<u32> = vec![in alloc; 0x61; count]?;
+    other.extend_from_slice(behind)?;
+    Ok(net.spells(alloc, &other)?)
 }
 
 /// A label of 63 letters a, each of which may be doubled, spells from 63 to 126 of them.
 #[test]
 fn spelled_labels_of_more_than_63_code_points(rt: HostRuntime) -> Result<(), Fail> {
     let alloc = rt.alloc();
-    let label: Vec<u32> = vec![in alloc; 0x61; 63]?;
-    let net = net_of(alloc, &Table::read(alloc, DOUBLED)?, &label)?;
+    let net = net_of_times(alloc, DOUBLED, 0x61, 63)?;
     for (count, want) in [
         (0, false),
         (62, false),
@@ -116,13 +133,12 @@ fn spelled_labels_of_more_than_63_code_points(rt: HostRuntime) -> Result<(), Fai
         (127, false),
         (1024, false),
     ] {
-        let mut other: Vec<u32> = vec![in alloc; 0x61; count]?;
-        assert_eq!(&rt; net.spells(alloc, &other)?, want, "{count} times a");
-        other.push(0x62)?;
+        let alone = spells_letters(alloc, &net, count, &[])?;
+        let with_b = spells_letters(alloc, &net, count, &[0x62])?;
         assert_eq!(&rt;
-            net.spells(alloc, &other)?,
-            false,
-            "b after {count} times a"
+            (alone, with_b),
+            (want, false),
+            "{count} times a, and b after them"
         );
     }
     Ok(())

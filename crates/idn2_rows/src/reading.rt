@@ -3,6 +3,7 @@ use crate::row::shown;
 use idn_text::hostile::StopReader;
 use idn_text::{Body, Device, DeviceFault, Line, Lines, ReadFault, Source};
 use std::alloc::{AllocError, Global};
+use std::process::Abort;
 use std::test::Fail;
 
 /// Where a reader fails.
@@ -68,6 +69,22 @@ fn spelled_text(alloc: Global, text: &[u8]) -> Result<String, AllocError> {
     }
 }
 
+/// The lines of an input, where reads give so many bytes at most and none fails.
+fn assert_spelled(
+    rt: &impl Abort,
+    alloc: Global,
+    input: &[u8],
+    pieces: &[usize],
+    want: &str,
+) -> Result<(), Fail> {
+    for piece in pieces {
+        let piece = *piece;
+        let got = spelled_lines(alloc, input, Stop { piece, ..NEVER })?;
+        assert_eq!(rt; got.as_str(), want, "{} bytes by {piece}", input.len());
+    }
+    Ok(())
+}
+
 #[test]
 fn lines(rt: HostRuntime) -> Result<(), Fail> {
     let rows = [
@@ -84,10 +101,7 @@ fn lines(rt: HostRuntime) -> Result<(), Fail> {
         ("a\0b\n\0", ":a\0b:\0..."),
     ];
     for (input, want) in rows {
-        for piece in [1, 2, 4096] {
-            let got = spelled_lines(rt.alloc(), input.as_bytes(), Stop { piece, ..NEVER })?;
-            assert_eq!(rt; got.as_str(), want, "{input:?} by {piece}");
-        }
+        assert_spelled(&rt, rt.alloc(), input.as_bytes(), &[1, 2, 4096], want)?;
     }
     Ok(())
 }
@@ -111,12 +125,9 @@ fn long_lines(rt: HostRuntime) -> Result<(), Fail> {
         (40000, "\nb", ":!:b..."),
     ];
     for (length, end, want) in rows {
-        for piece in [1, 4096] {
-            let mut input = vec![in rt.alloc(); b'a'; length]?;
-            input.extend_from_slice(end.as_bytes())?;
-            let got = spelled_lines(rt.alloc(), &input, Stop { piece, ..NEVER })?;
-            assert_eq!(rt; got.as_str(), want, "{length} and {end:?} by {piece}");
-        }
+        let mut input = vec![in rt.alloc(); b'a'; length]?;
+        input.extend_from_slice(end.as_bytes())?;
+        assert_spelled(&rt, rt.alloc(), &input, &[1, 4096], want)?;
     }
     Ok(())
 }
@@ -149,19 +160,27 @@ fn lines_across_reads(rt: HostRuntime) -> Result<(), Fail> {
     for row in rows {
         let mut input = Vec::new(rt.alloc());
         let mut want = String::new(rt.alloc());
-        for _ in 0..15 {
-            push_line(rt.alloc(), &mut input, &mut want, b'a', (1023, "\n"))?;
-        }
-        for (letter, line) in (b'b'..=b'z').zip(row) {
-            push_line(rt.alloc(), &mut input, &mut want, letter, *line)?;
-        }
-        want.push_str("...")?;
-        for piece in [1, 1000, 65536] {
-            let got = spelled_lines(rt.alloc(), &input, Stop { piece, ..NEVER })?;
-            assert_eq!(rt; got.as_str(), want.as_str(), "{row:?} by {piece}");
-        }
+        push_lines(rt.alloc(), &mut input, &mut want, row)?;
+        assert_spelled(&rt, rt.alloc(), &input, &[1, 1000, 65536], &want)?;
     }
     Ok(())
+}
+
+/// Puts 15 lines of 1,024 bytes behind an input and these lines behind them, and how they are spelled behind what is
+/// wanted.
+fn push_lines(
+    alloc: Global,
+    input: &mut Vec<u8>,
+    want: &mut String,
+    row: &[(usize, &str)],
+) -> Result<(), AllocError> {
+    for _ in 0..15 {
+        push_line(alloc, input, want, b'a', (1023, "\n"))?;
+    }
+    for (letter, line) in (b'b'..=b'z').zip(row) {
+        push_line(alloc, input, want, letter, *line)?;
+    }
+    want.push_str("...")
 }
 
 /// Puts a line of so many times a letter behind an input, and how it is spelled behind what is wanted.

@@ -4,6 +4,8 @@ use crate::a_labels_of_others::{LIBIDN2, RFC_3492};
 use crate::label_calls::{letters, points_of, told};
 use idn_label::{register, test_label};
 use idn_text::Refusal;
+use std::alloc::Global;
+use std::process::Abort;
 use std::test::Fail;
 
 /// Labels with their A-labels or their first faults.
@@ -75,37 +77,72 @@ const LONG: [(usize, &str, Result<&str, Refusal>); 6] = [
 
 #[test]
 fn labels_of_many_scripts_have_the_known_a_labels(rt: HostRuntime) -> Result<(), Fail> {
-    for (label, a_label) in RFC_3492.iter().chain(LIBIDN2.iter()) {
-        let tested = test_label(rt.alloc(), &points_of(label)?);
-        assert_eq!(rt; told(&tested), Ok(*a_label), "{label}");
-        let registered = register(rt.alloc(), &points_of(a_label)?);
-        assert_eq!(rt; told(&registered), Ok(*a_label), "{a_label}");
+    have_a_labels(&rt, rt.alloc(), &RFC_3492)?;
+    have_a_labels(&rt, rt.alloc(), &LIBIDN2)
+}
+
+/// Labels with their A-labels, which are registered as they stand.
+fn have_a_labels(rt: &impl Abort, alloc: Global, pairs: &[(&str, &str)]) -> Result<(), Fail> {
+    for (label, a_label) in pairs {
+        passes(rt, alloc, label, Ok(*a_label))?;
+        registers(rt, alloc, a_label, Ok(*a_label))?;
+    }
+    Ok(())
+}
+
+/// Tests a label as it stands, and asserts the answer.
+fn passes(
+    rt: &impl Abort,
+    alloc: Global,
+    label: &str,
+    expected: Result<&str, Refusal>,
+) -> Result<(), Fail> {
+    let points = points_of(label)?;
+    let tested = test_label(alloc, &points);
+    assert_eq!(rt; told(&tested), expected, "{label}");
+    Ok(())
+}
+
+/// Registers a label, and asserts the answer.
+fn registers(
+    rt: &impl Abort,
+    alloc: Global,
+    label: &str,
+    expected: Result<&str, Refusal>,
+) -> Result<(), Fail> {
+    let points = points_of(label)?;
+    let registered = register(alloc, &points);
+    assert_eq!(rt; told(&registered), expected, "{label}");
+    Ok(())
+}
+
+/// Registers each label.
+fn register_all(
+    rt: &impl Abort,
+    alloc: Global,
+    cases: &[(&str, Result<&str, Refusal>)],
+) -> Result<(), Fail> {
+    for (label, expected) in cases {
+        registers(rt, alloc, label, *expected)?;
     }
     Ok(())
 }
 
 #[test]
 fn the_first_fault_is_told(rt: HostRuntime) -> Result<(), Fail> {
-    for (label, expected) in CASES.iter() {
-        let registered = register(rt.alloc(), &points_of(label)?);
-        assert_eq!(rt; told(&registered), *expected, "{label}");
-    }
-    Ok(())
+    register_all(&rt, rt.alloc(), &CASES)
 }
 
 #[test]
 fn a_long_label_is_told_last(rt: HostRuntime) -> Result<(), Fail> {
     for (count, last, expected) in LONG.iter() {
         let label = letters(rt.alloc(), *count, last)?;
-        let registered = register(rt.alloc(), &points_of(&label)?);
-        assert_eq!(rt; told(&registered), *expected, "{label}");
+        registers(&rt, rt.alloc(), &label, *expected)?;
     }
     Ok(())
 }
 
 #[test]
 fn a_label_to_be_tested_is_taken_as_it_stands(rt: HostRuntime) -> Result<(), Fail> {
-    let tested = test_label(rt.alloc(), &points_of("xn--s-qfa")?);
-    assert_eq!(rt; told(&tested), Err(Refusal::Hyphen));
-    Ok(())
+    passes(&rt, rt.alloc(), "xn--s-qfa", Err(Refusal::Hyphen))
 }

@@ -91,6 +91,51 @@ pub fn hold(rt: &impl Abort, alloc: Global, rows: &[Row]) -> Result<(), Fail> {
     Ok(())
 }
 
+/// What a case is given, as a failed assertion shows it.
+fn case_of(alloc: Global, given: &Given<'_>) -> Result<String, AllocError> {
+    let Given {
+        words,
+        piece,
+        fail_at,
+        once,
+        room,
+        ..
+    } = *given;
+    let lines = shown(alloc, given.input)?;
+    format!(in alloc;
+        "{words:?} on {lines:?} by {piece}, read fault at {fail_at} (once: {once}), room {room:?}"
+    )
+}
+
+/// Runs with these rooms for the output and the messages, and tells how many bytes each has then, and the status.
+fn served(
+    alloc: Global,
+    given: &Given<'_>,
+    held: &mut [u8],
+    told: &mut [u8],
+) -> Result<(usize, usize, u8), Fail> {
+    let options = options_of(alloc, given.words)?;
+    let piece = given.piece.max(1);
+    let mut out = Device::new(StopWriter::new(held, piece));
+    let mut err = Device::new(StopWriter::new(told, piece));
+    let reader = StopReader::new(given.input, piece, given.fail_at, given.once);
+    let mut input = Lines::new(Device::new(reader));
+    let code = run(alloc, &options, given.table, &mut input, &mut out, &mut err).code();
+    Ok((out.inner().taken(), err.inner().taken(), code))
+}
+
+/// What stands on the output and on the messages, and the status, in one text.
+fn summary(
+    alloc: Global,
+    output: &[u8],
+    messages: &[u8],
+    status: u8,
+) -> Result<String, AllocError> {
+    let output = shown(alloc, output)?;
+    let messages = shown(alloc, messages)?;
+    format!(in alloc; "status {status}, output {output:?}, messages {messages:?}")
+}
+
 /// Runs, and asserts what then stands on the output and on the messages, and the status.
 pub fn answers(
     rt: &impl Abort,
@@ -100,33 +145,25 @@ pub fn answers(
     messages: &[u8],
     status: u8,
 ) -> Result<(), Fail> {
-    let options = options_of(alloc, given.words)?;
+    let got = summary_of_run(alloc, given)?;
+    let want = summary(alloc, output, messages, status)?;
+    let case = case_of(alloc, given)?;
+    assert_eq!(rt; got.as_str(), want.as_str(), "{case}");
+    Ok(())
+}
+
+/// Runs, and tells what then stands, and the status.
+fn summary_of_run(alloc: Global, given: &Given<'_>) -> Result<String, Fail> {
     let mut held = [0u8; ROOM];
     let mut told = [0u8; ROOM];
-    let piece = given.piece.max(1);
-    let mut out = Device::new(StopWriter::new(&mut held[..given.room.0.min(ROOM)], piece));
-    let mut err = Device::new(StopWriter::new(&mut told[..given.room.1.min(ROOM)], piece));
-    let reader = StopReader::new(given.input, piece, given.fail_at, given.once);
-    let mut input = Lines::new(Device::new(reader));
-    let code = run(alloc, &options, given.table, &mut input, &mut out, &mut err).code();
-    let written = out.inner().taken();
-    let spoken = err.inner().taken();
-    let held = shown(alloc, held.get(..written).unwrap_or(b""))?;
-    let told = shown(alloc, told.get(..spoken).unwrap_or(b""))?;
-    let output = shown(alloc, output)?;
-    let messages = shown(alloc, messages)?;
-    let Given {
-        words,
-        fail_at,
-        once,
-        room,
-        ..
-    } = *given;
-    let lines = shown(alloc, given.input)?;
-    assert_eq!(rt;
-        (held.as_str(), told.as_str(), code),
-        (output.as_str(), messages.as_str(), status),
-        "{words:?} on {lines:?} by {piece}, read fault at {fail_at} (once: {once}), room {room:?}"
-    );
-    Ok(())
+    let (output_room, message_room) = (given.room.0.min(ROOM), given.room.1.min(ROOM));
+    let (written, spoken, code) = served(
+        alloc,
+        given,
+        &mut held[..output_room],
+        &mut told[..message_room],
+    )?;
+    let output = held.get(..written).unwrap_or(b"");
+    let messages = told.get(..spoken).unwrap_or(b"");
+    Ok(summary(alloc, output, messages, code)?)
 }

@@ -99,6 +99,24 @@ fn tables_of_many_sizes(rt: HostRuntime) -> Result<(), Fail> {
     Ok(())
 }
 
+/// Puts a variant of eight times a letter behind others, with a mark before it.
+fn push_variant(alloc: Global, text: &mut String, letter: char, mark: char) -> Result<(), Fail> {
+    let number = format!(in alloc; "{:04X}", letter as u32)?;
+    let seven = format!(in alloc; "-{number}")?.repeat(alloc, 7)?;
+    text.push(mark)?;
+    text.push_str(&number)?;
+    text.push_str(&seven)?;
+    Ok(())
+}
+
+/// Puts the line of a listed label of eight times a letter behind others.
+fn push_block_line(alloc: Global, block: &mut String, letter: char) -> Result<(), Fail> {
+    let eight = format!(in alloc; "{letter}")?.repeat(alloc, 8)?;
+    let line = format!(in alloc; "{eight}\t{eight}\n")?;
+    block.push_str(&line)?;
+    Ok(())
+}
+
 /// A table of 4,096 entries, each with six variants of eight code points: 1,003,520 bytes.
 #[test]
 fn the_largest_table(rt: HostRuntime) -> Result<(), Fail> {
@@ -113,11 +131,8 @@ fn the_largest_table(rt: HostRuntime) -> Result<(), Fail> {
         ('e', ':'),
         ('f', ':'),
     ] {
-        let number = format!(in alloc; "{:04X}", letter as u32)?;
-        let seven = format!(in alloc; "-{number}")?.repeat(alloc, 7)?;
-        variants.push_str(format!(in alloc; "{mark}{number}{seven}")?.as_str())?;
-        let eight = format!(in alloc; "{letter}")?.repeat(alloc, 8)?;
-        block.push_str(format!(in alloc; "{eight}\t{eight}\n")?.as_str())?;
+        push_variant(alloc, &mut variants, letter, mark)?;
+        push_block_line(alloc, &mut block, letter)?;
     }
     block.push_str("一\txn--4gq\n#end 7\n")?;
     let text = table_text(alloc, 4096, &variants)?;

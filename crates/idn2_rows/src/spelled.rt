@@ -69,8 +69,32 @@ impl Numbers {
     }
 }
 
-/// The candidates that a net gives after the text are those of the plain lister, which also has its shortest label;
-/// and a step costs no more than is told. The answer is how many candidates there are.
+/// The next candidate is this one, and the step costs no more than is told.
+fn assert_next(
+    rt: &impl Abort,
+    net: &Net,
+    cursor: &mut Cursor<'_>,
+    want: Option<&[u32]>,
+    after: &[u32],
+) {
+    let given = cursor.next_candidate();
+    assert_eq!(rt; given, want, "behind {after:?}");
+    let tests = cursor.edge_tests();
+    let few = tests <= net.edges() * 256;
+    assert!(rt; few, "{tests} edges at {want:?} behind {after:?}");
+}
+
+/// The length of the shortest label. 64 where each is longer.
+fn shortest_of(labels: &BTreeSet<Vec<u32>>) -> usize {
+    let mut shortest = 64;
+    for label in labels {
+        shortest = shortest.min(label.len());
+    }
+    shortest
+}
+
+/// The candidates that a net gives after the text are those of the plain lister, which also has its shortest label. The
+/// answer is how many candidates there are.
 fn assert_listed(
     rt: &impl Abort,
     net: &Net,
@@ -78,32 +102,38 @@ fn assert_listed(
     cursor: &mut Cursor<'_>,
     after: &[u32],
 ) -> u64 {
-    let mut shortest = 64;
     let mut listed: u64 = 0;
     for spelled in labels {
-        shortest = shortest.min(spelled.len());
         if spelled.len() <= 63 && spelled.as_slice() > after {
-            let given = cursor.next_candidate();
-            assert_eq!(rt; given, Some(spelled.as_slice()), "behind {after:?}");
-            let tests = cursor.edge_tests();
-            assert!(rt;
-                tests <= net.edges() * 256,
-                "{tests} at {spelled:?} behind {after:?}"
-            );
+            assert_next(rt, net, cursor, Some(spelled.as_slice()), after);
             listed = listed.saturating_add(1);
         }
     }
-    assert_eq!(rt;
-        cursor.next_candidate(),
-        None,
-        "at the end, behind {after:?}"
-    );
-    assert_eq!(rt; net.shortest(), shortest, "the shortest label");
+    assert_next(rt, net, cursor, None, after);
+    assert_eq!(rt; net.shortest(), shortest_of(labels), "the shortest label");
     listed
 }
 
-/// The same for a table and a label, which spells the labels of the plain lister and the text only where it is one of
-/// them. Where the plain lister has no label, there is no net.
+/// A net spells the labels of the plain lister, and the text only where it is one of them.
+fn assert_spelled(
+    rt: &impl Abort,
+    alloc: Global,
+    net: &Net,
+    labels: &BTreeSet<Vec<u32>>,
+    after: &[u32],
+) -> Result<(), Fail> {
+    let mut among = false;
+    for label in labels {
+        let is_spelled = net.spells(alloc, label)?;
+        assert!(rt; is_spelled, "{label:?}");
+        among = among || label.as_slice() == after;
+    }
+    let is_spelled = net.spells(alloc, after)?;
+    assert_eq!(rt; is_spelled, among, "{after:?}");
+    Ok(())
+}
+
+/// The same for a table and a label. There is no net exactly where the plain lister has no label.
 fn assert_case(
     rt: &impl Abort,
     alloc: Global,
@@ -115,22 +145,15 @@ fn assert_case(
     requires short { length label.now ≤ 63 }
 {
     let labels = all_labels(alloc, table, label)?;
-    if labels.is_empty() {
-        let fault = Net::build(alloc, table, label).err();
-        assert_eq!(rt; fault, Some(NetFault::NotInTable), "{label:?}");
-        return Ok(0);
-    }
-    let net = Net::build(alloc, table, label)?;
-    let mut among = false;
-    for spelled in &labels {
-        assert!(rt; net.spells(alloc, spelled)?, "{label:?} spells {spelled:?}");
-        among = among || spelled.as_slice() == after;
-    }
-    assert_eq!(rt;
-        net.spells(alloc, after)?,
-        among,
-        "{label:?} spells {after:?}"
-    );
+    let net = match Net::build(alloc, table, label) {
+        Ok(net) => net,
+        Err(fault) => {
+            let told = (fault, labels.len());
+            assert_eq!(rt; told, (NetFault::NotInTable, 0), "{label:?}");
+            return Ok(0);
+        }
+    };
+    assert_spelled(rt, alloc, &net, &labels, after)?;
     let mut cursor = Cursor::new(alloc, &net, after)?;
     Ok(assert_listed(rt, &net, &labels, &mut cursor, after))
 }

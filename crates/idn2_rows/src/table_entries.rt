@@ -2,6 +2,7 @@
 ghost use Rattle.std.specs.Prelude.{◌≤◌, length};
 
 use std::alloc::Global;
+use std::process::Abort;
 use std::test::Fail;
 use variant_table::Table;
 
@@ -46,19 +47,28 @@ const PLACES: [(&str, &[u32], &[&str]); 5] = [
     ("0061\n0061-0062-0063\n", &[0x61, 0x62], &["0061", "", ""]),
 ];
 
+/// At each place of the label, its end too, these entries stand.
+fn assert_entries(
+    rt: &impl Abort,
+    alloc: Global,
+    table: &Table,
+    label: &[u32],
+    want: &[&str],
+) -> Result<(), Fail> {
+    assert_eq!(rt; want.len(), label.len() + 1, "{label:?}");
+    for place in 0..=label.len() {
+        let found = entries_at(alloc, table, label, place)?;
+        let want = *want.get(place).unwrap_or(&"?");
+        assert_eq!(rt; found.as_str(), want, "{label:?}, place {place}");
+    }
+    Ok(())
+}
+
 #[test]
 fn at_places(rt: HostRuntime) -> Result<(), Fail> {
     for (text, label, want) in PLACES {
         let table = Table::read(rt.alloc(), text.as_bytes())?;
-        assert_eq!(&rt; want.len(), label.len() + 1, "{text:?}");
-        for place in 0..=label.len() {
-            let found = entries_at(rt.alloc(), &table, label, place)?;
-            assert_eq!(&rt;
-                Some(&found.as_str()),
-                want.get(place),
-                "{text:?}, place {place}"
-            );
-        }
+        assert_entries(&rt, rt.alloc(), &table, label, want)?;
     }
     Ok(())
 }

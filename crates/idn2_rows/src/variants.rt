@@ -7,7 +7,7 @@ use crate::nets::{HYPHENS, net, points};
 use std::alloc::{AllocError, Global};
 use std::process::Abort;
 use std::test::Fail;
-use variant_list::{Cursor, Filter, Step};
+use variant_list::{Cursor, Filter, Net, Step};
 
 /// Accepts the labels that begin with this code point, and calls no list hopeless.
 struct BeginsWith(u32);
@@ -102,27 +102,39 @@ fn accepted<F: Filter>(
     Ok(listed)
 }
 
-/// What is found with so many tries after a text, how many are left, and the text after which the listing
-/// then stands.
+/// What is found with so many tries from where a listing stands, how many are left, and the text after which it then
+/// stands.
+fn assert_goes_on<F: Filter>(
+    rt: &impl Abort,
+    alloc: Global,
+    cursor: &mut Cursor<'_>,
+    (filter, given): (&F, u64),
+    (want, left, last): (&str, u64, &str),
+) -> Result<(), Fail> {
+    let mut tries = given;
+    let got = accepted(alloc, cursor, filter, &mut tries)?;
+    let want = points(alloc, want)?;
+    let last = points(alloc, last)?;
+    assert_eq!(rt;
+        (got.as_slice(), tries, cursor.last()),
+        (want.as_slice(), left, last.as_slice()),
+        "{given} tries"
+    );
+    Ok(())
+}
+
+/// The same after a text.
 fn assert_found<F: Filter>(
     rt: &impl Abort,
     alloc: Global,
     filter: &F,
     (after, given): (&str, u64),
-    (want, left, last): (&str, u64, &str),
+    want: (&str, u64, &str),
 ) -> Result<(), Fail> {
     let net = net(alloc, HYPHENS, "aaa")?;
-    let mut cursor = Cursor::new(alloc, &net, &points(alloc, after)?)?;
-    let mut tries = given;
-    let got = accepted(alloc, &mut cursor, filter, &mut tries)?;
-    assert_eq!(rt; got, points(alloc, want)?, "{given} tries behind {after}");
-    assert_eq!(rt; tries, left, "{given} tries behind {after}");
-    assert_eq!(rt;
-        cursor.last(),
-        points(alloc, last)?.as_slice(),
-        "{given} tries behind {after}"
-    );
-    Ok(())
+    let after = points(alloc, after)?;
+    let mut cursor = Cursor::new(alloc, &net, &after)?;
+    assert_goes_on(rt, alloc, &mut cursor, (filter, given), want)
 }
 
 #[test]
@@ -164,34 +176,41 @@ fn hopeless_beginnings_are_passed_over(rt: HostRuntime) -> Result<(), Fail> {
     Ok(())
 }
 
+/// The first label that does not begin with a hyphen is found by two searches.
+fn assert_few_looks(rt: &impl Abort, alloc: Global, net: &Net) -> Result<(), Fail> {
+    let mut cursor = Cursor::new(alloc, net, &[])?;
+    let found = (
+        "a--------------------------------------------------------------,spent",
+        0,
+        "a--------------------------------------------------------------",
+    );
+    assert_goes_on(rt, alloc, &mut cursor, (&OnlyBehind(97), 1), found)?;
+    let few = cursor.edge_tests() <= 256 * net.edges() * 3;
+    assert!(rt; few, "{} edges were looked at", cursor.edge_tests());
+    Ok(())
+}
+
 /// Of 2 to the power of 63 labels, half of which begin with a hyphen, the first other one is found by two searches.
 #[test]
 fn all_behind_one_beginning_cost_one_search(rt: HostRuntime) -> Result<(), Fail> {
-    let alloc = rt.alloc();
     let label = "aaaaaaaaaaaaaaaaaaaaaaaaaaaaaaaaaaaaaaaaaaaaaaaaaaaaaaaaaaaaaaa";
-    let net = net(alloc, HYPHENS, label)?;
-    let mut cursor = Cursor::new(alloc, &net, &[])?;
-    let mut tries = 1;
-    let got = accepted(alloc, &mut cursor, &OnlyBehind(97), &mut tries)?;
-    let first = "a--------------------------------------------------------------,spent";
-    assert_eq!(&rt; got, points(alloc, first)?);
-    let few = cursor.edge_tests() <= 256 * net.edges() * 3;
-    assert!(&rt; few, "{} edges were looked at", cursor.edge_tests());
-    Ok(())
+    let net = net(rt.alloc(), HYPHENS, label)?;
+    assert_few_looks(&rt, rt.alloc(), &net)
+}
+
+/// There is no memory for the fifth of eight tries, at the labels that begin with a. Those before it stay counted.
+fn assert_undecided(rt: &impl Abort, alloc: Global, cursor: &mut Cursor<'_>) {
+    let mut tries = 8;
+    let refused = cursor.next_variant(alloc, &RefusedAt(97), &mut tries).err();
+    assert_eq!(rt; (refused, tries), (Some(AllocError), 4));
 }
 
 /// The candidate for which there was no memory comes next, and those before it stay counted.
 #[test]
 fn what_could_not_be_decided_comes_next(rt: HostRuntime) -> Result<(), Fail> {
-    let alloc = rt.alloc();
-    let net = net(alloc, HYPHENS, "aaa")?;
-    let mut cursor = Cursor::new(alloc, &net, &[])?;
-    let mut tries = 8;
-    let refused = cursor.next_variant(alloc, &RefusedAt(97), &mut tries).err();
-    assert_eq!(&rt; refused, Some(AllocError));
-    assert_eq!(&rt; tries, 4);
-    let got = accepted(alloc, &mut cursor, &BeginsWith(97), &mut tries)?;
-    assert_eq!(&rt; got, points(alloc, "a--,a-a,aa-,aaa,spent")?);
-    assert_eq!(&rt; tries, 0);
-    Ok(())
+    let net = net(rt.alloc(), HYPHENS, "aaa")?;
+    let mut cursor = Cursor::new(rt.alloc(), &net, &[])?;
+    assert_undecided(&rt, rt.alloc(), &mut cursor);
+    let rest = ("a--,a-a,aa-,aaa,spent", 0, "aaa");
+    assert_goes_on(&rt, rt.alloc(), &mut cursor, (&BeginsWith(97), 4), rest)
 }

@@ -1,5 +1,7 @@
 //! Tables of version 2: ranges and blocked variants, and runs by such tables.
 use crate::row::{Row, hold};
+use std::alloc::Global;
+use std::process::Abort;
 use std::test::Fail;
 use variant_table::{Table, TableFault};
 
@@ -19,16 +21,32 @@ const TEXTS: [(&str, &str); 6] = [
     ),
 ];
 
+/// The canonical text of the table that a text spells.
+fn canonical(alloc: Global, text: &[u8]) -> Result<Vec<u8>, Fail> {
+    let table = Table::read(alloc, text)?;
+    Ok(table.write_table(alloc)?)
+}
+
+/// What the table of a text is written as, also where that is read again.
+fn assert_written(rt: &impl Abort, alloc: Global, text: &str, want: &str) -> Result<(), Fail> {
+    let written = canonical(alloc, text.as_bytes())?;
+    let again = canonical(alloc, &written)?;
+    let want = want.as_bytes();
+    assert_eq!(rt;
+        (written.as_slice(), again.as_slice()),
+        (want, want),
+        "{text:?}"
+    );
+    Ok(())
+}
+
 #[test]
 fn tables(rt: HostRuntime) -> Result<(), Fail> {
     let alloc = rt.alloc();
     for (body, want) in TEXTS {
-        let table = Table::read(alloc, format!(in alloc; "%version 2\n{body}")?.as_bytes())?;
-        let written = table.write_table(alloc)?;
-        let text = format!(in alloc; "%version 2\n{want}")?;
-        assert_eq!(&rt; written.as_slice(), text.as_bytes(), "{body:?}");
-        let again = Table::read(alloc, &written)?.write_table(alloc)?;
-        assert_eq!(&rt; again.as_slice(), written.as_slice(), "{body:?}");
+        let text = format!(in alloc; "%version 2\n{body}")?;
+        let want = format!(in alloc; "%version 2\n{want}")?;
+        assert_written(&rt, alloc, &text, &want)?;
     }
     Ok(())
 }
@@ -68,9 +86,14 @@ fn faults(rt: HostRuntime) -> Result<(), Fail> {
         let fault = Table::read(alloc, text.as_bytes()).err();
         assert_eq!(&rt; fault, Some(want), "{body:?}");
     }
-    let later = Table::read(alloc, b"0061\n%version 2\n").err();
-    assert_eq!(&rt; later, Some(TableFault::Syntax { line: 2 }));
     Ok(())
+}
+
+/// A version line that is not the first line.
+#[test]
+fn late_version(rt: HostRuntime) {
+    let fault = Table::read(rt.alloc(), b"0061\n%version 2\n").err();
+    assert_eq!(rt; fault, Some(TableFault::Syntax { line: 2 }));
 }
 
 /// A range may have as many code points as a table has entries.
@@ -83,41 +106,83 @@ fn long_ranges(rt: HostRuntime) -> Result<(), Fail> {
     Ok(())
 }
 
-/// Which variants are blocked, and the table without them.
+/// Which replacements of the entry at the start of the label are blocked.
+fn blocked(alloc: Global, table: &Table, label: &[u32]) -> Result<Vec<bool>, Fail> {
+    let mut blocked = Vec::new(alloc);
+    for entry in table.entries_at(label, 0) {
+        for number in 0..entry.replacements() {
+            blocked.push(entry.blocked(number))?;
+        }
+    }
+    Ok(blocked)
+}
+
+/// Which variants are blocked.
 #[test]
 fn blocked_variants(rt: HostRuntime) -> Result<(), Fail> {
-    let alloc = rt.alloc();
-    let table = Table::read(alloc, b"%version 2\n0061\n0078|!0079:007A:!0031")?;
-    assert_eq!(&rt; table.version(), 2);
-    let entry = table.entries_at(&[0x78], 0).next().expect(&rt, "an entry");
-    let mut blocked = Vec::new(alloc);
-    for number in 0..entry.replacements() {
-        blocked.push(entry.blocked(number))?;
-    }
-    let marks = [false, true, false, true];
-    assert_eq!(&rt; blocked.as_slice(), marks.as_slice());
-    let unblocked = table.unblocked(alloc)?;
-    assert_eq!(&rt; unblocked.version(), 2);
-    let written = unblocked.write_table(alloc)?;
-    assert_eq!(&rt;
-        written.as_slice(),
-        b"%version 2\n0061\n0078|007A\n".as_slice()
-    );
-    let version_one = Table::read(alloc, b"0061|0062")?;
-    assert_eq!(&rt; version_one.version(), 1);
-    let same = version_one.unblocked(alloc)?.write_table(alloc)?;
-    assert_eq!(&rt; same.as_slice(), b"0061|0062\n".as_slice());
+    let table = Table::read(rt.alloc(), b"%version 2\n0061\n0078|!0079:007A:!0031")?;
+    let got = blocked(rt.alloc(), &table, &[0x78])?;
+    assert_eq!(&rt; got.as_slice(), [false, true, false, true].as_slice());
     Ok(())
+}
+
+/// Tables with their version, and the text of the same table without its blocked variants.
+const UNBLOCKED: [(&str, u8, &str); 2] = [
+    (
+        "%version 2\n0061\n0078|!0079:007A:!0031",
+        2,
+        "%version 2\n0061\n0078|007A\n",
+    ),
+    ("0061|0062", 1, "0061|0062\n"),
+];
+
+/// The version of the table of a text, and that of the table without its blocked variants, and what that is written as.
+fn without_blocked(alloc: Global, text: &str) -> Result<(u8, u8, Vec<u8>), Fail> {
+    let table = Table::read(alloc, text.as_bytes())?;
+    let unblocked = table.unblocked(alloc)?;
+    let written = unblocked.write_table(alloc)?;
+    Ok((table.version(), unblocked.version(), written))
+}
+
+/// Both tables are of this version, and without its blocked variants the table is written as this.
+fn assert_unblocked(
+    rt: &impl Abort,
+    alloc: Global,
+    text: &str,
+    version: u8,
+    want: &str,
+) -> Result<(), Fail> {
+    let (given, left, written) = without_blocked(alloc, text)?;
+    let versions = (given, left);
+    assert_eq!(rt; versions, (version, version), "{text:?}");
+    assert_eq!(rt; written.as_slice(), want.as_bytes(), "{text:?}");
+    Ok(())
+}
+
+#[test]
+fn tables_without_their_blocked_variants(rt: HostRuntime) -> Result<(), Fail> {
+    for (text, version, want) in UNBLOCKED {
+        assert_unblocked(&rt, rt.alloc(), text, version, want)?;
+    }
+    Ok(())
+}
+
+/// How many gaps the table of a text has.
+fn gap_count(alloc: Global, text: &str) -> Result<usize, Fail> {
+    let table = Table::read(alloc, text.as_bytes())?;
+    Ok(table.gaps(alloc)?.len())
 }
 
 /// The gaps of a table, blocked or not.
 #[test]
 fn gaps(rt: HostRuntime) -> Result<(), Fail> {
-    let alloc = rt.alloc();
-    let table = Table::read(alloc, b"%version 2\n0061|!0062\n0062|0061")?;
-    assert_eq!(&rt; table.gaps(alloc)?.len(), 0);
-    let table = Table::read(alloc, b"%version 2\n0061|!0062\n0062")?;
-    assert_eq!(&rt; table.gaps(alloc)?.len(), 1);
+    for (text, count) in [
+        ("%version 2\n0061|!0062\n0062|0061", 0),
+        ("%version 2\n0061|!0062\n0062", 1),
+    ] {
+        let got = gap_count(rt.alloc(), text)?;
+        assert_eq!(&rt; got, count, "{text:?}");
+    }
     Ok(())
 }
 
