@@ -1,5 +1,6 @@
 //! The test of one label after another, which keeps the A-label, and of the Punycode what both labels share.
-ghost use Rattle.std.specs.Prelude.{◌≡◌, ◌≢◌, [], None, Some, Err, IfErr, OnOk};
+ghost use Rattle.std.specs.Prelude.{◌≡◌, ◌≢◌, ◌≤◌, [], length, true, None, Some, Err, IfErr, OnOk};
+ghost use Rattle.idna.specs.Validity.{is_all_ascii};
 ghost use Rattle.idn_class.specs.Facts.{AreFactsOf};
 ghost use Rattle.idn_label.specs.ALabel.{a_label_of};
 ghost use Rattle.idn_label.specs.FirstFault.{first_fault, IsRegistrable};
@@ -74,12 +75,21 @@ impl KeptALabel {
             return Err(Refusal::LabelTooLong);
         }
         if is_all_ascii(label) {
-            self.a_label.put(ascii_text(label));
+            self.keep_ascii(label);
             return Ok(());
         }
         match self.a_label.encode(label) {
             Ok(()) => Ok(()),
             Err(_) => Err(Refusal::LabelTooLong),
         }
+    }
+    /// Keeps a label in ASCII, which is its own A-label. It stands apart, so that other labels don't make room for it.
+    #[inline(never)]
+    fn keep_ascii(&mut self, label: &[u32])
+        requires short { length label.now ≤ 63 }
+        requires ascii { is_all_ascii label.now ≡ true }
+        ensures { self.new ≡ label.now }
+    {
+        self.a_label.put(ascii_text(label));
     }
 }

@@ -1,4 +1,4 @@
-use Rattle.std.proofs.Common.{◌≤◌, ◌<◌, length, Some, sym, ap, subst, ◌∙◌}
+use Rattle.std.proofs.Common.{◌≤◌, ◌<◌, length, sym, subst, ◌∙◌}
 use Rattle.idn_label.proofs.FaultLemmas.{first_fault-short, first_fault-many, first_fault-long}
 use Rattle.idn_label.proofs.SimpleNames.{a_label_of-ascii, a_label_of-other}
 use Rattle.idn_label.proofs.kept_a_label.KeptALabel.keep_measured.Goals as goal
@@ -14,7 +14,7 @@ returns-then-is_all_ascii-clause-registrable c =
     first_fault-short label c.requires c.if-label-gt-MAX_LABEL_LEN.false (subst (λ l. length l ≤ 63) (sym same) c.if-label-gt-MAX_LABEL_LEN.false)
 
 pub returns-then-is_all_ascii-clause-a_label : goal.returns-then-is_all_ascii-clause-a_label
-returns-then-is_all_ascii-clause-a_label c = c.put.ensures ∙ c.ascii_text.ensures ∙ sym (a_label_of-ascii c.args.label.now (sym c.if-is_all_ascii.ensures))
+returns-then-is_all_ascii-clause-a_label c = c.keep_ascii.ensures ∙ sym (a_label_of-ascii c.args.label.now (sym c.if-is_all_ascii.ensures))
 
 pub returns-clause-registrable : goal.returns-clause-registrable
 returns-clause-registrable c =
