@@ -97,8 +97,10 @@ impl KeptLine {
         ensures label { self.new.label ≡ self.old.label ++ point ∷ [] }
         ensures line { self.new.line ≡ utf8_of (self.old.label ++ point ∷ []) }
     {
-        self.len = put_points(&[point], &mut self.line, self.len);
+        let count = self.label.len() + 1;
+        let end = put_points(&[point], &mut self.line, self.len);
         self.label.push(point);
-        self.ends[self.label.len()] = self.len as u8;
+        self.ends[count] = end as u8;
+        self.len = end;
     }
 }
