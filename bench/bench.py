@@ -41,7 +41,8 @@ from runs import Failed, Run, found, in_turn, version
 
 HERE = pathlib.Path(__file__).resolve().parent
 OURS = HERE.parent / "crates/idn2/out/idn2"
-# Lines that callgrind is given of each input, since it takes fifty times as long. The input of the listing has fewer.
+# Lines that callgrind is given of each input, since it takes fifty times as long. The input of the listing has
+# fewer, up to half a million variants.
 LINES_COUNTED = 2_000
 
 

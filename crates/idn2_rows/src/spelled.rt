@@ -153,6 +153,7 @@ fn assert_case(
             return Ok(0);
         }
     };
+    assert!(rt; !labels.is_empty(), "{label:?}");
     assert_spelled(rt, alloc, &net, &labels, after)?;
     let mut cursor = Cursor::new(alloc, &net, after)?;
     Ok(assert_listed(rt, &net, &labels, &mut cursor, after))

@@ -5,7 +5,7 @@ ghost use Rattle.idna.specs.Validity.{is_all_ascii};
 
 use crate::unit::Unit;
 use arrayvec::ArrayString;
-use idn_punycode::push_encoded;
+use idn_punycode::{ACE_PREFIX, push_encoded};
 use idn_text::Refusal;
 
 /// The most octets that a label has in the DNS (RFC 1035 section 2.3.4). No label has more code points either.
@@ -22,7 +22,7 @@ pub(crate) fn encoded_label<U: Unit>(label: &[U]) -> Result<ALabel, Refusal>
     ensures too_long { IfErr result (λ refusal. (refusal ≡ Refusal.LabelTooLong) × (63 < length (codes "xn--" ++ encode (U.codes label.now)))) }
 {
     let mut answer = ALabel::new();
-    answer.push_str("xn--");
+    answer.push_str(ACE_PREFIX);
     match push_encoded(label, &mut answer) {
         Ok(()) => Ok(answer),
         Err(_) => Err(Refusal::LabelTooLong),

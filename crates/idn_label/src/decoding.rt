@@ -1,14 +1,9 @@
 //! Decoding of the A-labels of a name (RFC 5891 section 5.3).
-ghost use Rattle.std.specs.Prelude.{◌≡◌, ◌<◌, ◌≤◌, ℕ, List, [], ◌∷◌, ◌++◌, length, map, true, Ok, IfOk, OnOk, IfSome};
-ghost use Rattle.std.specs.Char.{to_ascii_lowercase};
-ghost use Rattle.std.specs.Option.{option_map_or};
-ghost use Rattle.idna.specs.Labels.{labels_of};
-ghost use Rattle.idna.specs.Validity.{has_ace_prefix};
+ghost use Rattle.std.specs.Prelude.{◌≡◌, ◌<◌, ◌≤◌, ℕ, List, length, Ok};
 ghost use Rattle.idn_label.specs.ALabel.{a_label_of};
 ghost use Rattle.idn_label.specs.Answers.{Gives};
 ghost use Rattle.idn_label.specs.Decode.{decoded_label, decode_answer};
 ghost use Rattle.idn_label.specs.FirstFault.{IsRegistrable};
-ghost use Rattle.idn_label.specs.Register.{u_label_answer};
 ghost use Rattle.idn_label.specs.Steps.{appended};
 
 use crate::u_label::u_label_in_any_case;

@@ -1,5 +1,5 @@
 //! The search for the full stop behind the first label of a name.
-ghost use Rattle.std.specs.Prelude.{◌≡◌, ◌<◌, ◌≤◌, length, MatchOption};
+ghost use Rattle.std.specs.Prelude.{◌<◌, MatchOption};
 ghost use Rattle.idn_label.specs.inner.FullStops.{HasNone, IsFirst};
 
 use crate::unit::{FULL_STOP, Unit};
@@ -24,7 +24,8 @@ pub(crate) fn first_full_stop<U: Unit>(name: &[U]) -> Option<usize>
     None
 }
 
-/// The same in octets. How many a label has can't be foretold: it is searched in chunks, which takes few turns.
+/// The same in octets. How many of them a label has can't be foretold: they are searched in chunks, which takes few
+/// turns.
 fn first_in_octets(name: &[u8]) -> Option<usize>
     ensures { MatchOption result (HasNone name.now) (IsFirst name.now) }
 {

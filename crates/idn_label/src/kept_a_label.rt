@@ -16,8 +16,8 @@ use idn_text::Refusal;
 use std::alloc::Global;
 use std::marker::Model;
 
-/// Tests labels for registration, and keeps the A-label of the last one. Of the Punycode of the next one only what changed
-/// is made anew. Contracts see the A-label.
+/// Tests labels for registration, and keeps the A-label of the last one. The digits that the next one's begins with too
+/// are not written again. Contracts see the A-label.
 #[derive(Drop)]
 pub struct KeptALabel {
     a_label: KeptPunycode,
@@ -83,6 +83,7 @@ impl KeptALabel {
             Err(_) => Err(Refusal::LabelTooLong),
         }
     }
+
     /// Keeps a label in ASCII, which is its own A-label. It stands apart, so that other labels don't make room for it.
     #[inline(never)]
     fn keep_ascii(&mut self, label: &[u32])

@@ -9,8 +9,9 @@ use crate::parameters::ACE_PREFIX;
 use arrayvec::{ArrayString, CapacityError};
 use std::marker::Model;
 
-/// A text, as a rule the Punycode of the last label behind the prefix of A-labels. Of the next label only the code points
-/// that changed are taken apart, and the digits stay that come before the first of them. Contracts see the text.
+/// A text, as a rule the Punycode of the last label behind the prefix of A-labels. Of the next label what both share at
+/// their start is not taken apart again; and where no code point is of ASCII, the digits of the first keys that both have
+/// stay. Contracts see the text.
 #[derive(Drop)]
 pub struct KeptPunycode {
     parts: KeptParts,

@@ -58,11 +58,9 @@ impl Progress {
         ensures behind { IfOk result (λ next. next ≡ behind_key basic self key) }
         ensures full { OnErr result (63 < length (text.old.bytes ++ digits_of_key self key)) }
     {
-        let code_point = key / PLACE_LIMIT;
-        let place = key % PLACE_LIMIT;
-        let before = count_before(self.places, place);
-        let steps = (key / PLACE_LIMIT - self.code_point) * (self.handled + 1);
-        let delta = steps + count_before(self.places, key % PLACE_LIMIT) - self.position;
+        let before = count_before(self.places, key % PLACE_LIMIT);
+        let steps = (key / PLACE_LIMIT - self.code_point) * (self.handled + 1) + before;
+        let delta = steps - self.position;
         write_integer(delta, self.bias, text)?;
         let bias = adapt(delta, self.handled + 1, self.handled == basic);
         Ok(self.behind(key, bias))

@@ -1,6 +1,6 @@
 //! The block of a label: a line for each of its variants, and a trailer.
 
-ghost use Rattle.std.specs.Prelude.{◌≡◌, ◌≤◌, ◌∷◌, [], ◌++◌, ℕ, Bool, List, length, codes, decimal, None, Some, IfOk, IfErr, IsOk, OnErr};
+ghost use Rattle.std.specs.Prelude.{◌≡◌, ◌≤◌, ◌∷◌, [], ◌++◌, length, codes, decimal, None, Some, IfOk, IfErr, IsOk, OnErr};
 ghost use Rattle.idn_text.specs.Points.{AreScalarValues};
 ghost use Rattle.idn_class.specs.Hopeless.{hopeless};
 ghost use Rattle.idn_label.specs.ALabel.{a_label_of};

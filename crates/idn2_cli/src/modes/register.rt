@@ -1,6 +1,6 @@
 //! Registration: a label is answered by its A-label.
 
-ghost use Rattle.std.specs.Prelude.{◌≡◌, ◌≢◌, ◌≤◌, length, Err};
+ghost use Rattle.std.specs.Prelude.{◌≢◌, ◌≤◌, length, Err};
 ghost use Rattle.idn_label.specs.Answers.{Gives};
 ghost use Rattle.idn_label.specs.Memory.{RegistersWithoutMemory};
 ghost use Rattle.idn_label.specs.Register.{register_answer};

@@ -1,6 +1,6 @@
 //! The lines of the input, one after another.
 
-ghost use Rattle.std.specs.Prelude.{◌≡◌, ◌≢◌, ℕ, List, IfOk, Err};
+ghost use Rattle.std.specs.Prelude.{◌≡◌, ◌≢◌, IfOk, Err};
 ghost use Rattle.std.specs.Result.{is_err};
 ghost use Rattle.idn_text.specs.Reading.{IsUnread, line_at};
 ghost use Rattle.idn2_cli.specs.inner.Emitting.{Emits};

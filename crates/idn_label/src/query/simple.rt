@@ -1,6 +1,6 @@
 //! Names of which UTS 46 keeps or maps each code point, and of which NFC changes nothing, by the facts of each. Most names
 //! past ASCII are such: they are read once, and their lookup takes neither memory nor a normalization.
-ghost use Rattle.std.specs.Prelude.{◌≡◌, ◌≢◌, ◌<◌, ◌≤◌, ◌++◌, Bool, [], ◌∷◌, length, drop, false, true, Some, OnSome, IfSome, IsTrue, All};
+ghost use Rattle.std.specs.Prelude.{◌≡◌, ◌≢◌, ◌<◌, ◌≤◌, ◌++◌, Bool, [], ◌∷◌, length, false, true, Some, OnSome, IfSome, IsTrue, All};
 ghost use Rattle.std.specs.Int.{is_in_range};
 ghost use Rattle.idna.specs.declared.options.Hyphens.TheVariants.{Allow};
 ghost use Rattle.idna.specs.declared.options.DnsLength.TheVariants.{Ignore};
