@@ -49,6 +49,9 @@ impl KeptLine {
     }
 
     /// Begins the line of a label of at most 63 code points.
+    ///
+    /// Always inline: it is called once for each variant.
+    #[inline(always)]
     pub(crate) fn begin(&mut self, label: &[u32])
         requires short { length label.now ≤ MAX_LABEL_LEN }
         requires scalar_values { AreScalarValues label.now }
