@@ -17,8 +17,10 @@ use Rattle.idna.specs.Validity.{hyphen, has_ace_prefix}
 use Rattle.idna.proofs.LabelsLemmas.{HasNoFullStop, labels_of_cons, slice_split-no, labels_of-join_labels, terminated, terminated-cons, terminated-push}
 use Rattle.idna.proofs.ValidityLemmas.{has_ace_prefix_by_index, list_any_push}
 use Rattle.idn_label.specs.LdhNames.{may_end}
-use Rattle.idn_label.proofs.LabelLengths.{has_length}
 use Rattle.idn_label.proofs.LookupLemmas.{verify_dns_length-stop, verify_dns_length-no_stop, verify_dns_length-empty}
+
+abbrev has_length : List ℕ → Bool
+has_length label = is_in_range 1 63 (length label)
 
 -- the labels of the octets so far: whole ones with a full stop behind each, and one that begins at `start`; no label begins with the prefix; and whether the whole ones have lengths that the DNS allows
 pub record IsSplit (query : List ℕ) (start : ℕ) (fit : Bool) : Type 0 where

@@ -10,7 +10,6 @@ ghost use Rattle.idn_label.specs.Memory.{LooksUpWithoutMemory};
 mod bidi;
 mod full;
 mod ldh;
-mod lengths;
 mod simple;
 
 use crate::code_points::to_char;
@@ -18,7 +17,6 @@ use arrayvec::ArrayVec;
 use full::full_lookup;
 use idn_text::Refusal;
 use ldh::{MAX_QUERY_LEN, ldh_query};
-use lengths::verify;
 use simple::simple_query;
 use std::alloc::{AllocError, Global};
 use std::str;

@@ -6,9 +6,9 @@ ghost use Rattle.idna.specs.declared.options.Hyphens.TheVariants.{Allow};
 ghost use Rattle.idn_label.specs.Answers.{Gives};
 ghost use Rattle.idn_label.specs.Lookup.{deny_list, utf8_answer};
 
-use crate::query::lengths::verify;
 use arrayvec::ArrayVec;
 use idn_text::Refusal;
+use idna::uts46::verify_dns_length;
 use idna::{AsciiDenyList, Errors, domain_to_ascii_cow};
 use std::alloc::Global;
 use std::str;
@@ -32,10 +32,12 @@ pub(crate) fn full_lookup<const N: usize>(
         Err(Errors::Invalid) => return Err(refusal_of(name)),
         Err(Errors::OutOfMemory) => return Err(Refusal::Memory),
     };
-    let octets = ascii.as_str().as_bytes();
-    verify(octets)?;
+    let text = ascii.as_str();
+    if !verify_dns_length(text, true) {
+        return Err(Refusal::LookupLength);
+    }
     query.clear();
-    let Ok(()) = query.try_extend_from_slice(octets) else {
+    let Ok(()) = query.try_extend_from_slice(text.as_bytes()) else {
         unreachable!()
     };
     Ok(())

@@ -11,12 +11,14 @@ ghost use Rattle.idn_label.specs.Lookup.{utf8_answer};
 ghost use Rattle.idn_label.specs.LdhNames.{IsLdhName, is_name_point, may_end};
 
 use crate::a_label::MAX_LABEL_LEN;
-use crate::query::lengths::MAX_NAME_LEN;
 use crate::unit::has_ace_prefix;
 use idn_text::Refusal;
 use std::simd::prelude::*;
 
-/// The most octets of a name in the DNS, with a full stop at its end (RFC 1035 section 2.3.4).
+/// The most octets of a name in the DNS, a full stop at its end put aside (RFC 1035 section 2.3.4).
+const MAX_NAME_LEN: usize = 253;
+
+/// The same with that full stop.
 pub(crate) const MAX_QUERY_LEN: usize = 254;
 
 /// How many octets of a name are read at once.
