@@ -1,6 +1,6 @@
 //! Names of letters, digits and hyphens of ASCII (LDH, RFC 5890 section 2.3.1). Most names are such, and their lookup
 //! takes no memory and one pass.
-ghost use Rattle.std.specs.Prelude.{◌≡◌, ◌≢◌, ◌≤◌, ◌+◌, ◌-◌, ◌++◌, ◌↔◌, Bool, not, true, length, map, take, replicate, slice_range, All, Err, IfOk, IfSome, IsSome};
+ghost use Rattle.std.specs.Prelude.{◌≡◌, ◌≢◌, ◌<◌, ◌≤◌, ◌+◌, ◌-◌, ◌++◌, ◌↔◌, Bool, not, true, length, map, take, replicate, slice_range, All, Err, IfOk, IfSome, IsSome};
 ghost use Rattle.std.specs.Char.{to_ascii_lowercase};
 ghost use Rattle.std.specs.Int.{is_in_range};
 ghost use Rattle.std.specs.Simd.Lanes.{chunk, mask_l};
@@ -23,6 +23,9 @@ pub(crate) const MAX_QUERY_LEN: usize = 254;
 
 /// How many octets of a name are read at once.
 const CHUNK_LEN: usize = 16;
+
+/// Half of them.
+const HALF_LEN: usize = 8;
 
 /// Writes into `room` what `lookup_utf8` answers of such a name, the name in lower case, and returns its length; or
 /// `LookupLength`. `None` says nothing of the name, and another way then gives the answer: an octet is no ASCII letter,
@@ -96,8 +99,7 @@ fn lowercase_chunk(name: &[u8], at: usize, end: usize, room: &mut [u8]) -> Optio
     Some(stops >> (at - start))
 }
 
-/// The 16 octets of a name before `end`. Where there are fewer, letters stand behind them: a name of 16 octets and more is
-/// read where it lies, without a copy.
+/// The 16 octets of a name before `end`. Where there are fewer, letters stand behind them.
 #[inline(always)]
 fn lanes_before(name: &[u8], end: usize) -> u8x16
     requires { end ≤ length name.now }
@@ -106,8 +108,24 @@ fn lanes_before(name: &[u8], end: usize) -> u8x16
     if end >= CHUNK_LEN {
         return u8x16::from_slice(&name[end - CHUNK_LEN..end]);
     }
+    lanes_of_short(&name[..end])
+}
+
+/// A name of fewer than 16 octets, with letters behind it. Most have eight: these are copied by two moves of eight, which
+/// overlap, since a copy of a length that can't be foretold takes far longer.
+#[inline(always)]
+fn lanes_of_short(name: &[u8]) -> u8x16
+    requires { length name.now < CHUNK_LEN }
+    ensures { result ≡ name.now ++ replicate (CHUNK_LEN - length name.now) 97 }
+{
     let mut octets = [b'a'; CHUNK_LEN];
-    octets[..end].copy_from_slice(&name[..end]);
+    let len = name.len();
+    if len < HALF_LEN {
+        octets[..len].copy_from_slice(name);
+    } else {
+        octets[..HALF_LEN].copy_from_slice(&name[..HALF_LEN]);
+        octets[len - HALF_LEN..len].copy_from_slice(&name[len - HALF_LEN..]);
+    }
     u8x16::from_array(octets)
 }
 
