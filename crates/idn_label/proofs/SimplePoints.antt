@@ -1,5 +1,5 @@
 -- Code points that pass in a label of lookup, by their facts.
-use Rattle.std.proofs.Common.{inl, inr, ◌≡◌, ℕ, ◌<◌, ◌≤◌, Bool, true, false, not, ◌==◌, bytes_eq, List, [], ◌∷◌, All, cond, refl, sym, ap, subst, ◌∙◌, arith}
+use Rattle.std.proofs.Common.{inl, inr, ◌≡◌, ℕ, ◌<◌, ◌≤◌, Bool, true, false, not, ◌==◌, bytes_eq, List, [], ◌∷◌, All, cond, refl, sym, ap, ◌∙◌, arith}
 use Rattle.std.specs.Char.{is_ascii, to_ascii_lowercase}
 use Rattle.std.specs.Cmp.Lexicographic.{bytes_decides}
 use Rattle.std.proofs.lemmas.Bool.{cases_lt, ne_eqb, false≢true}
@@ -143,22 +143,10 @@ kept_maps Valid c h = refl
 kept_maps Deviation c h = refl
 kept_maps _ c h = cc
 
-map_char-passes : (c : ℕ) → PassesInLabel c → map_char c ≡ c ∷ []
+-- what passes is mapped to itself
+pub map_char-passes : (c : ℕ) → PassesInLabel c → map_char c ≡ c ∷ []
 unfolding map_char
 map_char-passes c passes = kept_maps (idna_status c) c passes.valid
-
-lowercase-high : (c : ℕ) → 128 ≤ c → to_ascii_lowercase c ≡ c
-lowercase-high c high = grind (arith, nat_tests)
-
--- what passes and is the lower case of a code point is what that is mapped to
-pub map_char-lower : (c lower : ℕ) → lower ≡ to_ascii_lowercase c → PassesInLabel lower → map_char c ≡ lower ∷ []
-map_char-lower c lower is passes =
-    elim (cases_lt c 128) [
-      | inl low ↦ map_char-ascii c low ∙ ap (λ x. x ∷ []) (sym is)
-      | inr high ↦
-          let same : lower ≡ c = is ∙ lowercase-high c high in
-          map_char-passes c (subst PassesInLabel same passes) ∙ ap (λ x. x ∷ []) (sym same)
-    ]
 
 pub map_char-mapped : (c : ℕ) → idna_status c ≡ Mapped → map_char c ≡ idna_mapping c
 unfolding map_char

@@ -71,15 +71,9 @@ fn push_mapped(c: char, start: usize, mapped: &mut Mapped) -> Option<Facts>
     ensures right_to_left { IfSome result (λ facts. TellsRightToLeft facts (map_char c)) }
     ensures composing { IfSome result (λ facts. TellsComposing facts (map_char c)) }
 {
-    // Most code points are mapped to themselves, and most others are capitals of ASCII.
-    let lower = c.to_ascii_lowercase();
-    let facts = Facts::of(lower as u32);
-    if facts.is_empty() {
-        mapped.try_push(lower).ok()?;
-        return Some(facts);
-    }
+    let facts = Facts::of(c as u32);
     if !facts.contains(Fact::NotKept) {
-        push_kept(lower, facts, start, mapped)?;
+        push_kept(c, facts, start, mapped)?;
         return Some(facts);
     }
     match IdnaStatus::for_char(c) {
@@ -102,8 +96,9 @@ fn push_simple(points: &[char], mapped: &mut Mapped) -> Option<Facts>
     Some(Facts::of_label(&[]))
 }
 
-/// Appends a code point past ASCII that UTS 46 keeps, if it passes in any label, or behind another as marks do, and there
-/// is room.
+/// Appends a code point that UTS 46 keeps, if it passes in any label, or behind another as marks do, and there is room.
+/// Most are simple; of ASCII no other passes.
+#[inline]
 fn push_kept(c: char, facts: Facts, start: usize, mapped: &mut Mapped) -> Option<()>
     requires facts { (fact : Fact) → contains facts fact ≡ has_fact fact c }
     requires kept { contains facts Fact.NotKept ≡ false }
@@ -111,11 +106,13 @@ fn push_kept(c: char, facts: Facts, start: usize, mapped: &mut Mapped) -> Option
     ensures passes { OnSome result (PassesInLabel c) }
     ensures first { OnSome result (length mapped.old.items ≤ start → is_mark c ≡ false) }
 {
-    if c.is_ascii() || facts.contains(Fact::Contextj) {
-        return None;
-    }
-    if facts.contains(Fact::Mark) && mapped.len() <= start {
-        return None;
+    if !facts.is_empty() {
+        if c.is_ascii() || facts.contains(Fact::Contextj) {
+            return None;
+        }
+        if facts.contains(Fact::Mark) && mapped.len() <= start {
+            return None;
+        }
     }
     mapped.try_push(c).ok()
 }
