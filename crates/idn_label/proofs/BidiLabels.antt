@@ -1,10 +1,12 @@
 -- The labels of a name, cut at its full stops place by place.
-use Rattle.std.proofs.Common.{◌≡◌, ◌≢◌, ℕ, ◌+◌, ◌-◌, ◌<◌, ◌≤◌, ◌&&◌, Bool, true, false, List, [], ◌∷◌, take, drop, get_or, length, All, refl, sym, ap, subst, ◌∙◌, take_all, ne_eqb, length-drop, arith}
+use Rattle.std.proofs.Common.{◌≡◌, ◌≢◌, ℕ, ◌+◌, ◌-◌, ◌<◌, ◌≤◌, ◌&&◌, Bool, true, false, List, [], ◌∷◌, take, drop, get_or, length, slice_range, All, refl, sym, ap, ap₂, subst, ◌∙◌, take_all, eq-eqb, ne_eqb, length-drop, arith}
 use Rattle.std.specs.List.{list_all}
 use Rattle.std.proofs.lemmas.List.{get_or_default, get_or-drop, drop-drop, take_rest}
+use Rattle.std.proofs.lemmas.Bool.{cond-true, cond-false}
 use Rattle.std.proofs.lemmas.List.Elements.{All-nil, All-more}
 use Rattle.std.proofs.lemmas.List.Splits.{slice_split_none}
 use Rattle.idna.specs.Labels.{is_full_stop, labels_of}
+use Rattle.idn_label.specs.inner.FullStops.{EndsLabel}
 use Rattle.idn_label.proofs.DecodeLemmas.{labels_of-stop}
 
 -- the label that begins at a place, where no full stop stands before another place
@@ -41,6 +43,30 @@ labels_at-end name start at all none =
 
 pub item_at : (name : List ℕ) (at c : ℕ) → at < length name → c ≡ get_or name at c → get_or name at 0 ≡ c
 item_at name at c within is = get_or_default name at 0 c within ∙ sym is
+
+-- ---- where a label ends
+
+pub ends_at_stop : (name : List ℕ) (start at : ℕ) → start ≤ at → at < length name → IsWithoutStop name start at → get_or name at 0 ≡ 0x2E → EndsLabel name start at
+ends_at_stop name start at begun within none stop = record {
+  order = begun;
+  within = omega arith;
+  labels = labels_at-stop name start at begun within none stop ∙ ap (λ others. slice_range name start at ∷ others) (sym (cond-false _ _ _ (ne_eqb at (length name) (omega arith))));
+}
+
+pub ends_with_name : (name : List ℕ) (start end : ℕ) → start ≤ end → end ≡ length name → IsWithoutStop name start end → EndsLabel name start end
+ends_with_name name start end begun is none = record {
+  order = begun;
+  within = omega arith;
+  labels =
+      labels_at-end name start end (omega arith) none
+      ∙ ap₂ (λ n others. take (n - start) (drop start name) ∷ others) (sym is) (sym (cond-true _ _ _ (eq-eqb end (length name) is)));
+}
+
+pub label_last : (name : List ℕ) (start end : ℕ) → EndsLabel name start end → end ≡ length name → labels_of (drop start name) ≡ slice_range name start end ∷ []
+label_last name start end ends is = ends.labels ∙ ap (λ others. slice_range name start end ∷ others) (cond-true _ _ _ (eq-eqb end (length name) is))
+
+pub label_before : (name : List ℕ) (start end : ℕ) → EndsLabel name start end → end ≢ length name → labels_of (drop start name) ≡ slice_range name start end ∷ labels_of (drop (end + 1) name)
+label_before name start end ends other = ends.labels ∙ ap (λ others. slice_range name start end ∷ others) (cond-false _ _ _ (ne_eqb end (length name) other))
 
 -- ---- a test of each label
 

@@ -1,5 +1,5 @@
 -- How the answer of decoding grows label by label.
-use Rattle.std.proofs.Common.{◌≡◌, ◌≢◌, ℕ, ◌+◌, ◌<◌, true, false, not, ◌&&◌, Option, Some, None, IfSome, List, [], ◌∷◌, ◌++◌, map, take, drop, get_or, length, All, Result, Ok, Err, refl, sym, ap, ap₂, subst, ◌∙◌, append_assoc, take-append-drop, eq-eqb, arith}
+use Rattle.std.proofs.Common.{◌≡◌, ℕ, ◌+◌, ◌<◌, true, false, not, ◌&&◌, List, [], ◌∷◌, ◌++◌, map, take, drop, get_or, length, All, Result, Ok, Err, refl, sym, ap, ap₂, ◌∙◌, append_assoc, take-append-drop, eq-eqb, arith}
 use Rattle.std.specs.Char.{is_ascii, is_ascii_uppercase, to_ascii_lowercase}
 use Rattle.std.specs.List.{list_all}
 use Rattle.std.proofs.lemmas.List.Elements.{All-weaker}
@@ -7,8 +7,6 @@ use Rattle.std.proofs.lemmas.List.Sums.{AllPass-from_list_all}
 use Rattle.std.proofs.lemmas.Bool.{cond-true, cond-false, not-true}
 use Rattle.std.proofs.lemmas.Bool.Decides.{nat_tests}
 use Rattle.std.proofs.lemmas.List.{drop_more}
-use Rattle.std.specs.Borrow.{Bor}
-use Rattle.std.specs.Option.{option_map_or}
 use Rattle.std.proofs.lemmas.List.Splits.{slice_split_at}
 use Rattle.idna.specs.Labels.{is_full_stop, labels_of, join_labels}
 use Rattle.idna.specs.Validity.{is_all_ascii, has_ace_prefix}
@@ -124,16 +122,3 @@ turn_more before name label others after parts is =
     ap (appended before) one
     ∙ appended_twice before (step.0 ++ 0x2E ∷ []) (decode_answer others)
     ∙ ap (λ front. appended front (decode_answer others)) (sym (append_assoc before step.0 (0x2E ∷ [])) ∙ ap (λ front. front ++ 0x2E ∷ []) (sym step.2))
-
-pub no_stop : (c : ℕ) → c ≢ 0x2E → is_full_stop c ≡ false
-no_stop c other = grind (arith, nat_tests)
-
--- the labels of a name, by what stands behind its first one
-pub labels_of-none : (name label : List ℕ) (others : Option (Bor (List ℕ))) → labels_of name ≡ label ∷ option_map_or (λ rest. labels_of rest.now) others [] → others ≡ None → labels_of name ≡ label ∷ []
-labels_of-none name label others parts none = parts ∙ ap (λ o. label ∷ option_map_or (λ (rest : Bor (List ℕ)). labels_of rest.now) o []) none
-
-pub labels_of-some : (name label : List ℕ) (others : Option (Bor (List ℕ))) (rest : Bor (List ℕ)) → labels_of name ≡ label ∷ option_map_or (λ rest. labels_of rest.now) others [] → others ≡ Some rest → labels_of name ≡ label ∷ labels_of rest.now
-labels_of-some name label others rest parts some = parts ∙ ap (λ o. label ∷ option_map_or (λ (rest : Bor (List ℕ)). labels_of rest.now) o []) some
-
-pub shorter_rest : (n : ℕ) (others : Option (Bor (List ℕ))) (rest : Bor (List ℕ)) → IfSome others (λ rest. length rest.now < n) → others ≡ Some rest → length rest.now < n
-shorter_rest n others rest shorter some = subst (λ (o : Option (Bor (List ℕ))). IfSome o (λ rest. length rest.now < n)) some shorter

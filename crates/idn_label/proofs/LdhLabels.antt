@@ -212,7 +212,7 @@ split_measured {query} {start} {fit} r = measured_by query start fit r r.last re
 pub part_more : (q : List ℕ) (start stop : ℕ) → start ≤ stop → take start q ++ slice_range q start stop ≡ take stop q
 part_more q start stop le = sym (take-add start (stop - start) q) ∙ ap (λ n. take n q) (let e : start + (stop - start) ≡ stop = omega arith in e)
 
-part_plain : (q : List ℕ) (start stop : ℕ) → ((k : ℕ) → start ≤ k → k < stop → is_full_stop (get_or q k 0) ≡ false) → HasNoFullStop (slice_range q start stop)
+pub part_plain : (q : List ℕ) (start stop : ℕ) → ((k : ℕ) → start ≤ k → k < stop → is_full_stop (get_or q k 0) ≡ false) → HasNoFullStop (slice_range q start stop)
 part_plain q start stop without_stops =
     All-from_get_or (λ c. is_full_stop c ≡ false) (slice_range q start stop) 0 (λ k lt.
     let short = length-take (stop - start) (drop start q) in

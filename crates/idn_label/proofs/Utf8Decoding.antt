@@ -1,11 +1,9 @@
 -- How the UTF-8 of a decoded name grows label by label.
-use Rattle.std.proofs.Common.{◌≡◌, ℕ, length, take, Option, Some, None, IfSome, ◌≤◌, take_all, length-append, List, [], ◌∷◌, ◌++◌, Ok, Err, ◌<◌, lit<, refl, sym, subst, ap, ap₂, ◌∙◌, append_assoc, arith}
-use Rattle.std.specs.Borrow.{Bor}
-use Rattle.std.proofs.lemmas.Str.{encodes-append, IsAscii-drop, IsAscii-take}
+use Rattle.std.proofs.Common.{◌≡◌, ℕ, List, [], ◌∷◌, ◌++◌, Ok, Err, ◌<◌, lit<, refl, sym, ap, ap₂, ◌∙◌, append_assoc}
+use Rattle.std.proofs.lemmas.Str.{encodes-append}
 use Rattle.std.specs.Str.{IsAscii}
 use Rattle.std.proofs.lemmas.Str.Ascii.{IsAscii-from_all}
 use Rattle.std.proofs.lemmas.List.Elements.{All-nil, All-cons}
-use Rattle.std.proofs.lemmas.List.{take-append-le}
 use Rattle.idna.specs.Labels.{labels_of}
 use Rattle.idn_text.proofs.Utf8Lemmas.{ascii_points}
 use Rattle.idn_text.specs.Points.{utf8_of}
@@ -57,21 +55,3 @@ utf8_turn_more before name label others after parts is =
     ∙ appended_twice before (utf8_of (points.0 ++ 0x2E ∷ [])) (in_utf8 (decode_answer others))
     ∙ ap (λ text. appended (before ++ text) (in_utf8 (decode_answer others))) stop
     ∙ ap (λ front. appended front (in_utf8 (decode_answer others))) (sym (append_assoc before step.0 (0x2E ∷ [])) ∙ ap (λ front. front ++ 0x2E ∷ []) (sym step.2))
-
--- ---- what stands behind the first full stop
-
-pub rest_parts : (name first : List ℕ) (others : Option (Bor (List ℕ))) (rest : Bor (List ℕ)) → IfSome others (λ rest. name ≡ first ++ 0x2E ∷ rest.now) → others ≡ Some rest → name ≡ first ++ 0x2E ∷ rest.now
-rest_parts name first others rest parts some = subst (λ (o : Option (Bor (List ℕ))). IfSome o (λ rest. name ≡ first ++ 0x2E ∷ rest.now)) some parts
-
-pub rest_ascii : (first : List ℕ) (c : ℕ) (rest : List ℕ) → IsAscii (first ++ c ∷ rest) → IsAscii rest
-rest_ascii [] c rest h = IsAscii-drop (c ∷ rest) 1 h
-rest_ascii (x ∷ first) c rest h = rest_ascii first c rest (IsAscii-drop (x ∷ first ++ c ∷ rest) 1 h)
-
--- the first label is ASCII where the name is, and not longer
-pub label_ascii : (name first : List ℕ) (others : Option (Bor (List ℕ))) → (others ≡ None → first ≡ name) → IfSome others (λ rest. name ≡ first ++ 0x2E ∷ rest.now) → IsAscii name → IsAscii first × (length first ≤ length name)
-label_ascii name first None last parts ascii = (subst IsAscii (sym (last refl)) ascii, omega (arith, ap length (last refl)))
-label_ascii name first (Some rest) last parts ascii =
-    let split : take (length first) name ≡ first = ap (take (length first)) parts ∙ take-append-le (length first) first (0x2E ∷ rest.now) (omega arith) ∙ take_all (length first) first (omega arith) in
-    let count = ap length parts in
-    let both = length-append first (0x2E ∷ rest.now) in
-    (subst IsAscii split (IsAscii-take name (length first) ascii), omega (arith, count, both))

@@ -6,8 +6,9 @@ ghost use Rattle.idn_label.specs.Decode.{decoded_label, decode_answer};
 ghost use Rattle.idn_label.specs.Memory.{DecodesWithoutMemory};
 ghost use Rattle.idn_label.specs.Steps.{appended, in_utf8};
 
+use crate::full_stops::label_end;
 use crate::u_label::u_label_in_any_case;
-use crate::unit::{has_ace_prefix_in_any_case, split_first_label};
+use crate::unit::has_ace_prefix_in_any_case;
 use idn_punycode::DecodedLabel;
 use idn_text::{MAX_LINE_LEN, Refusal, put_points};
 use std::alloc::Global;
@@ -28,16 +29,16 @@ pub fn decode_ascii(alloc: Global, name: &[u8], room: &mut [u8]) -> Result<usize
 {
     let mut u_label = DecodedLabel::new();
     let mut len = 0;
-    let mut rest = name;
+    let mut start = 0;
     'labels: loop {
-        let (label, others) = split_first_label(rest);
-        len = decode_label(alloc, label, &mut u_label, room, len)?;
-        let Some(others) = others else {
+        let end = label_end(name, start);
+        len = decode_label(alloc, &name[start..end], &mut u_label, room, len)?;
+        if end == name.len() {
             return Ok(len);
-        };
+        }
         room[len] = b'.';
         len += 1;
-        rest = others;
+        start = end + 1;
     }
 }
 

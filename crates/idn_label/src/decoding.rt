@@ -6,8 +6,9 @@ ghost use Rattle.idn_label.specs.Decode.{decoded_label, decode_answer};
 ghost use Rattle.idn_label.specs.FirstFault.{IsRegistrable};
 ghost use Rattle.idn_label.specs.Steps.{appended};
 
+use crate::full_stops::label_end;
 use crate::u_label::u_label_in_any_case;
-use crate::unit::{FULL_STOP, has_ace_prefix_in_any_case, split_first_label};
+use crate::unit::{FULL_STOP, has_ace_prefix_in_any_case};
 use idn_punycode::DecodedLabel;
 use idn_text::{MAX_LINE_LEN, Refusal};
 use std::alloc::Global;
@@ -34,15 +35,15 @@ fn decode_labels(alloc: Global, name: &[u32], decoded: &mut Vec<u32>) -> Result<
     ensures { Gives (λ _. decoded.new.items) result (appended decoded.old.items (decode_answer name.now)) }
 {
     let mut u_label = DecodedLabel::new();
-    let mut rest = name;
+    let mut start = 0;
     'labels: loop {
-        let (label, others) = split_first_label(rest);
-        decode_label(alloc, label, &mut u_label, decoded)?;
-        let Some(others) = others else {
+        let end = label_end(name, start);
+        decode_label(alloc, &name[start..end], &mut u_label, decoded)?;
+        if end == name.len() {
             return Ok(());
-        };
+        }
         decoded.push(FULL_STOP)?;
-        rest = others;
+        start = end + 1;
     }
 }
 

@@ -1,6 +1,6 @@
-//! The search for the full stop behind the first label of a name.
-ghost use Rattle.std.specs.Prelude.{◌<◌, MatchOption};
-ghost use Rattle.idn_label.specs.inner.FullStops.{HasNone, IsFirst};
+//! The search for the full stop behind a label of a name.
+ghost use Rattle.std.specs.Prelude.{◌≤◌, length};
+ghost use Rattle.idn_label.specs.inner.FullStops.{EndsLabel};
 
 use crate::unit::{FULL_STOP, Unit};
 use std::simd::prelude::*;
@@ -8,41 +8,42 @@ use std::simd::prelude::*;
 /// How many octets are searched at once.
 const CHUNK_LEN: usize = 16;
 
-/// The place of the first full stop, if there is one.
+/// The place where the label that begins at `start` ends: at the first full stop from there on, or with the name.
 #[inline]
-pub(crate) fn first_full_stop<U: Unit>(name: &[U]) -> Option<usize>
-    ensures { MatchOption result (HasNone (U.codes name.now)) (IsFirst (U.codes name.now)) }
+pub(crate) fn label_end<U: Unit>(name: &[U], start: usize) -> usize
+    requires { start ≤ length name.now }
+    ensures { EndsLabel (U.codes name.now) start result }
 {
-    if let Some(octets) = U::as_octets(name) {
-        return first_in_octets(octets);
-    }
-    for at in 0..name.len() {
-        if name[at].code_point() == FULL_STOP {
-            return Some(at);
+    if name.len() >= CHUNK_LEN {
+        if let Some(octets) = U::as_octets(name) {
+            return end_in_octets(octets, start);
         }
     }
-    None
+    for at in start..name.len() {
+        if name[at].code_point() == FULL_STOP {
+            return at;
+        }
+    }
+    name.len()
 }
 
 /// The same in octets. How many of them a label has can't be foretold: they are searched in chunks, which takes few
 /// turns.
-fn first_in_octets(name: &[u8]) -> Option<usize>
-    ensures { MatchOption result (HasNone name.now) (IsFirst name.now) }
+fn end_in_octets(name: &[u8], start: usize) -> usize
+    requires begins { start ≤ length name.now }
+    requires wide { CHUNK_LEN ≤ length name.now }
+    ensures { EndsLabel name.now start result }
 {
-    let mut at = 0;
-    while name.len() - at >= CHUNK_LEN {
-        let octets = u8x16::from_slice(&name[at..]);
-        let stops = octets.simd_eq(u8x16::splat(b'.')).to_bitmask();
-        if stops != 0 {
-            return Some(at + stops.trailing_zeros() as usize);
-        }
-        at += CHUNK_LEN;
-    }
+    let mut at = start;
     while at < name.len() {
-        if name[at] == b'.' {
-            return Some(at);
+        // The last chunk is that of the last octets, also where some of these stand before `at`.
+        let from = at.min(name.len() - CHUNK_LEN);
+        let octets = u8x16::from_slice(&name[from..]);
+        let stops = octets.simd_eq(u8x16::splat(b'.')).to_bitmask() >> (at - from);
+        if stops != 0 {
+            return at + stops.trailing_zeros() as usize;
         }
-        at += 1;
+        at = from + CHUNK_LEN;
     }
-    None
+    name.len()
 }

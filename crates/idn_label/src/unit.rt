@@ -1,13 +1,9 @@
-//! What is asked of labels that are held as octets, numbers or characters alike: ASCII, the prefix, hyphens, full
-//! stops.
-ghost use Rattle.std.specs.Prelude.{◌≡◌, ◌<◌, ◌≤◌, [], ◌∷◌, ◌++◌, length, map, slice_index, IfSome};
-ghost use Rattle.std.specs.Option.{option_map_or};
+//! What is asked of labels that are held as octets, numbers or characters alike: ASCII, the prefix, hyphens.
+ghost use Rattle.std.specs.Prelude.{◌≡◌, map, slice_index};
 ghost use Rattle.std.specs.Char.{is_ascii_uppercase, to_ascii_lowercase};
-ghost use Rattle.idna.specs.Labels.{labels_of};
 ghost use Rattle.idna.specs.Validity.{is_all_ascii, has_ace_prefix, has_hyphens_third_and_fourth};
 ghost use Rattle.idn_label.specs.FirstFault.{has_hyphen_out_of_place};
 
-use crate::full_stops::first_full_stop;
 pub(crate) use idn_punycode::Unit;
 
 const HYPHEN: u32 = 0x2D;
@@ -23,22 +19,6 @@ fn code_point_at<U: Unit>(label: &[U], place: usize) -> u32
         label[place].code_point()
     } else {
         0
-    }
-}
-
-/// What stands before the first full stop, and what stands behind it if there is one.
-#[inline]
-pub(crate) fn split_first_label<U: Unit>(name: &[U]) -> (&[U], Option<&[U]>)
-    ensures labels { labels_of (U.codes name.now)
-        ≡ U.codes result.0.now ∷ option_map_or (λ others. labels_of (U.codes others.now)) result.1 [] }
-    ensures last { result.1 ≡ None → result.0.now ≡ name.now }
-    ensures others { IfSome result.1 (λ others. U.codes name.now ≡ U.codes result.0.now ++ 0x2E ∷ U.codes others.now) }
-    ensures label_length { length result.0.now ≤ length name.now }
-    ensures others_length { IfSome result.1 (λ others. length others.now < length name.now) }
-{
-    match first_full_stop(name) {
-        Some(at) => (&name[..at], Some(&name[at + 1..])),
-        None => (name, None),
     }
 }
 

@@ -1,11 +1,13 @@
--- The full stop behind the first label of a name.
-use Rattle.std.specs.Prelude.{◌≡◌, ◌<◌, ℕ, false, List, length, take, slice_index, All}
-use Rattle.idna.specs.Labels.{is_full_stop}
+-- The labels of a name, by the place where one of them ends.
+use Rattle.std.specs.Prelude.{◌≡◌, ◌+◌, ◌≤◌, ◌==◌, ℕ, List, [], ◌∷◌, length, drop, slice_range, if◌then◌else◌}
+use Rattle.idna.specs.Labels.{labels_of}
 
--- there is no full stop
-abbrev pub HasNone : List ℕ → Type 0
-HasNone name = All (λ c. is_full_stop c ≡ false) name
+-- the labels behind the one that ends at a place
+abbrev pub labels_behind : List ℕ → ℕ → List (List ℕ)
+labels_behind name end = if end == length name then [] else labels_of (drop (end + 1) name)
 
--- the first full stop stands at this place
-abbrev pub IsFirst : List ℕ → ℕ → Type 0
-IsFirst name at = (at < length name) × (slice_index name at ≡ 0x2E) × HasNone (take at name)
+-- of the labels from a place on, the first one ends here
+pub record EndsLabel (name : List ℕ) (start end : ℕ) : Type 0 where
+  pub order : start ≤ end
+  pub within : end ≤ length name
+  pub labels : labels_of (drop start name) ≡ slice_range name start end ∷ labels_behind name end

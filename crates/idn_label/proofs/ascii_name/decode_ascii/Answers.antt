@@ -1,63 +1,73 @@
-use Rattle.std.proofs.Common.{◌∷◌, take, length, IsAscii, sym, ap, subst, ◌∙◌, arith, length-append, length-set, refl}
+use Rattle.std.proofs.Common.{◌+◌, ◌-◌, drop, take, slice_range, sym, ap, ◌∙◌, arith, length-set, length-take, refl}
 use Rattle.std.proofs.lemmas.Grind.{take-set_at}
 use Rattle.std.proofs.lemmas.Result.{err_from_is_err_and}
+use Rattle.std.proofs.lemmas.Str.{IsAscii-drop, IsAscii-take}
 use Rattle.idn_label.specs.Decode.{decode_answer}
 use Rattle.idna.specs.Labels.{labels_of}
 use Rattle.idn_label.specs.Memory.{DecodesWithoutMemory}
 use Rattle.idn_label.specs.Steps.{appended, in_utf8}
+use Rattle.idn_label.proofs.BidiLabels.{label_last, label_before}
 use Rattle.idn_label.proofs.LdhNames.{all_labels}
-use Rattle.idn_label.proofs.DecodeLemmas.{appended-nil, labels_of-none, labels_of-some}
-use Rattle.idn_label.proofs.Utf8Decoding.{utf8_turn_err, utf8_turn_last, utf8_turn_more, rest_parts, rest_ascii, label_ascii}
+use Rattle.idn_label.proofs.DecodeLemmas.{appended-nil}
+use Rattle.idn_label.proofs.Utf8Decoding.{utf8_turn_err, utf8_turn_last, utf8_turn_more}
 use Rattle.idn_label.proofs.ascii_name.decode_ascii.Goals as goal
 
 pub labels-init : goal.labels-init
-labels-init c = (sym (appended-nil (in_utf8 (decode_answer c.args.name.now))), c.requires.ascii, omega arith, omega arith, refl, λ all. all)
+labels-init c = (sym (appended-nil (in_utf8 (decode_answer c.args.name.now))), omega arith, omega arith, refl, λ all. all)
 
 pub decode_label-requires : goal.decode_label-requires
 decode_label-requires c =
-    let first = label_ascii c.labels.rest.now c.split_first_label.result.0.now c.split_first_label.result.1 c.split_first_label.ensures.last c.split_first_label.ensures.others c.labels.invariant.1 in record {
-      ascii = first.0;
-      short = omega (arith, first.1, c.labels.invariant.2, c.requires.short);
-      room = omega (arith, first.1, c.labels.invariant.3, c.labels.invariant.4, c.requires.room);
+    let name = c.args.name.now in
+    let start = c.labels.start in
+    let end = c.label_end-end.result in
+    let ends = c.label_end-end.ensures in
+    let i = c.labels.invariant in
+    let long = length-take (end - start) (drop start name) in record {
+      ascii = IsAscii-take (drop start name) (end - start) (IsAscii-drop name start c.requires.ascii);
+      short = omega (arith, long, ends.within, c.requires.short);
+      room = omega (arith, long, ends.order, ends.within, i.2, i.3, c.requires.room);
     }
 
 pub returns-in_err-len-clause-answer : goal.returns-in_err-len-clause-answer
 returns-in_err-len-clause-answer c =
+    let name = c.args.name.now in
     let p = err_from_is_err_and c.from_residual.result c.from_residual.ensures.1 in
     rw (p.1, p.2)
     (λ other.
     c.labels.invariant.0
-    ∙ utf8_turn_err (take c.labels.len c.labels.room) c.labels.rest.now c.split_first_label.result.0.now _ _ c.split_first_label.ensures.labels (c.in_err-len.ensures.answer other))
-
-pub returns-in_default-clause-answer : goal.returns-in_default-clause-answer
-returns-in_default-clause-answer c =
-    c.labels.invariant.0
-    ∙ utf8_turn_last (take c.labels.len c.labels.room) c.labels.rest.now c.split_first_label.result.0.now _ (labels_of-none c.labels.rest.now c.split_first_label.result.0.now c.split_first_label.result.1 c.split_first_label.ensures.labels c.in_default.is) c.in_ok-len.ensures.answer
-
-pub labels-preserved : goal.labels-preserved
-labels-preserved c =
-    let rest = c.labels.rest.now in
-    let first = c.split_first_label.result.0.now in
-    let others = c.in-Some.others in
-    let parts = rest_parts rest first c.split_first_label.result.1 others c.split_first_label.ensures.others c.in-Some.is in
-    let count = ap length parts in
-    let both = length-append first (0x2E ∷ others.now) in (
-      c.labels.invariant.0
-          ∙ utf8_turn_more (take c.labels.len c.labels.room) rest first others.now _ (labels_of-some rest first c.split_first_label.result.1 others c.split_first_label.ensures.labels c.in-Some.is) c.in_ok-len.ensures.answer
-          ∙ ap (λ front. appended front (in_utf8 (decode_answer others.now))) (sym (take-set_at _ _ _ 0x2E refl (omega (arith, count, both, c.in_ok-len.ensures.end, c.in_ok-len.ensures.length, c.labels.invariant.3, c.labels.invariant.4, c.requires.room)))),
-      rest_ascii first 0x2E others.now (subst IsAscii parts c.labels.invariant.1),
-      omega (arith, count, both, c.labels.invariant.2),
-      omega (arith, count, both, c.labels.invariant.3, c.in_ok-len.ensures.end),
-      length-set _ _ _ ∙ c.in_ok-len.ensures.length ∙ c.labels.invariant.4,
-      (λ all.
-          (all_labels DecodesWithoutMemory rest first (labels_of others.now)
-          (labels_of-some rest first c.split_first_label.result.1 others c.split_first_label.ensures.labels c.in-Some.is) (c.labels.invariant.5 all)).1),
-    )
+    ∙ utf8_turn_err (take c.labels.len c.labels.room) (drop c.labels.start name) (slice_range name c.labels.start c.label_end-end.result) _ _ c.label_end-end.ensures.labels (c.in_err-len.ensures.answer other))
 
 pub returns-in_err-len-clause-no_memory : goal.returns-in_err-len-clause-no_memory
 returns-in_err-len-clause-no_memory c =
     λ all.
+    let name = c.args.name.now in
     let p = err_from_is_err_and c.from_residual.result c.from_residual.ensures.1 in
-    let label = c.split_first_label.result.0.now in
-    let first = (all_labels DecodesWithoutMemory c.labels.rest.now label _ c.split_first_label.ensures.labels (c.labels.invariant.5 all)).0 in
+    let first = (all_labels DecodesWithoutMemory (drop c.labels.start name) (slice_range name c.labels.start c.label_end-end.result) _ c.label_end-end.ensures.labels (c.labels.invariant.4 all)).0 in
     rw (p.1, p.2) (λ e. c.decode_label.ensures.no_memory first (c.in_err-len.was ∙ e))
+
+pub returns-then-end-name-clause-answer : goal.returns-then-end-name-clause-answer
+returns-then-end-name-clause-answer c =
+    let name = c.args.name.now in
+    c.labels.invariant.0
+    ∙ utf8_turn_last (take c.labels.len c.labels.room) (drop c.labels.start name) (slice_range name c.labels.start c.label_end-end.result) _ (label_last name c.labels.start _ c.label_end-end.ensures c.if-end-name.true) c.in_ok-len.ensures.answer
+
+pub labels-preserved : goal.labels-preserved
+labels-preserved c =
+    let name = c.args.name.now in
+    let start = c.labels.start in
+    let end = c.label_end-end.result in
+    let ends = c.label_end-end.ensures in
+    let i = c.labels.invariant in
+    let first = slice_range name start end in
+    let others = drop (end + 1) name in
+    let parts = label_before name start end ends c.if-end-name.false in
+    let long = length-take (end - start) (drop start name) in
+    let behind = c.in_ok-len.ensures.end in (
+      i.0
+          ∙ utf8_turn_more (take c.labels.len c.labels.room) (drop start name) first others _ parts c.in_ok-len.ensures.answer
+          ∙ ap (λ front. appended front (in_utf8 (decode_answer others))) (sym (take-set_at _ _ _ 0x2E refl (omega (arith, long, ends.order, ends.within, c.if-end-name.false, behind, c.in_ok-len.ensures.length, i.2, i.3, c.requires.room)))),
+      omega (arith, ends.within, c.if-end-name.false),
+      omega (arith, long, ends.order, behind, i.2),
+      length-set _ _ _ ∙ c.in_ok-len.ensures.length ∙ i.3,
+      (λ all. (all_labels DecodesWithoutMemory (drop start name) first (labels_of others) parts (i.4 all)).1),
+    )
