@@ -2,7 +2,7 @@
 //! sharp s, which UTS 46 has mapped differently since Unicode 15.1, and for what only one of the programs requires.
 use crate::label_calls::{assert_text, letters, points_of, texted};
 use crate::row::shown;
-use idn_label::{lookup, lookup_utf8};
+use idn_label::{LookupBuffers, lookup, lookup_utf8};
 use idn_text::Refusal;
 use std::alloc::{AllocError, Global};
 use std::process::Abort;
@@ -115,7 +115,7 @@ fn looked_up_octets(
     std3: bool,
 ) -> Result<Result<String, Refusal>, AllocError> {
     let mut room = [b'?'; 254];
-    match lookup_utf8(alloc, name.as_bytes(), std3, &mut room) {
+    match lookup_utf8(alloc, name.as_bytes(), std3, &mut LookupBuffers::new(), &mut room) {
         Ok(len) => Ok(Ok(shown(alloc, &room[..len])?)),
         Err(refusal) => Ok(Err(refusal)),
     }
@@ -189,9 +189,10 @@ fn lengths_are_measured(rt: HostRuntime) -> Result<(), Fail> {
 
 #[test]
 fn bytes_that_are_no_utf8_are_refused(rt: HostRuntime) -> Result<(), Fail> {
+    let mut buffers = LookupBuffers::new();
     let mut room = [0; 254];
     for bytes in [b"\xC3", b"\xFF"] {
-        let answer = lookup_utf8(rt.alloc(), bytes, false, &mut room);
+        let answer = lookup_utf8(rt.alloc(), bytes, false, &mut buffers, &mut room);
         assert_eq!(rt; answer, Err(Refusal::NotUtf8), "{bytes:?}");
     }
     Ok(())

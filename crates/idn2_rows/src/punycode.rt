@@ -1,7 +1,7 @@
 //! Punycode of labels, beside the samples of RFC 3492 and the answers of Python's codec.
 use crate::label_calls::points_of;
 use arrayvec::{ArrayString, ArrayVec};
-use idn_punycode::{DecodedLabel, Unit, push_encoded};
+use idn_punycode::{DecodedLabel, Encoder, Unit};
 use std::test::Fail;
 
 /// The samples of RFC 3492 section 7.1, with I in lower case; H is too long.
@@ -114,7 +114,7 @@ fn appended(before: &str, label: &str) -> Option<ArrayString<63>> {
         chars.try_push(c).ok()?;
     }
     let mut text = ArrayString::from(before).ok()?;
-    push_encoded(&chars, &mut text).ok()?;
+    Encoder::new().push_encoded(&chars, &mut text).ok()?;
     Some(text)
 }
 
@@ -190,7 +190,7 @@ fn a_text_stays_where_nothing_fits(rt: HostRuntime) {
     let mut text = ArrayString::<63>::new();
     text.push_str("a text of 59 octets, which leaves no room for the five more");
     let before = text;
-    let fits = push_encoded(&['\u{10FFFF}'], &mut text).is_ok();
+    let fits = Encoder::new().push_encoded(&['\u{10FFFF}'], &mut text).is_ok();
     assert_eq!(rt; fits, false, "{text}");
     assert_eq!(rt; text.as_str(), before.as_str());
 }

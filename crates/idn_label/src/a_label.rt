@@ -1,12 +1,11 @@
 //! A-labels.
-ghost use Rattle.std.specs.Prelude.{◌≡◌, ◌<◌, ◌≤◌, ◌++◌, length, codes, true, IfOk, IfErr, OnOk};
+ghost use Rattle.std.specs.Prelude.{◌≡◌, ◌<◌, ◌≤◌, ◌++◌, length, codes, true, IfNone, IfSome, OnSome};
 ghost use Rattle.idna.specs.Punycode.{encode};
 ghost use Rattle.idna.specs.Validity.{is_all_ascii};
 
 use crate::unit::Unit;
 use arrayvec::ArrayString;
-use idn_punycode::{ACE_PREFIX, push_encoded};
-use idn_text::Refusal;
+use idn_punycode::{ACE_PREFIX, Encoder};
 
 /// The most octets that a label has in the DNS (RFC 1035 section 2.3.4). No label has more code points either.
 pub(crate) const MAX_LABEL_LEN: usize = 63;
@@ -14,18 +13,32 @@ pub(crate) const MAX_LABEL_LEN: usize = 63;
 /// An A-label of at most 63 octets. A label in ASCII is its own A-label.
 pub type ALabel = ArrayString<63>;
 
-/// The prefix and the Punycode of a label, if they are short enough.
-pub(crate) fn encoded_label<U: Unit>(label: &[U]) -> Result<ALabel, Refusal>
-    requires { length (U.codes label.now) ≤ 63 }
-    ensures ok { IfOk result (λ answer. answer.bytes ≡ codes "xn--" ++ encode (U.codes label.now)) }
-    ensures short { OnOk result (length (codes "xn--" ++ encode (U.codes label.now)) ≤ 63) }
-    ensures too_long { IfErr result (λ refusal. (refusal ≡ Refusal.LabelTooLong) × (63 < length (codes "xn--" ++ encode (U.codes label.now)))) }
-{
-    let mut answer = ALabel::new();
-    answer.push_str(ACE_PREFIX);
-    match push_encoded(label, &mut answer) {
-        Ok(()) => Ok(answer),
-        Err(_) => Err(Refusal::LabelTooLong),
+/// Encodes labels, each into the same text. What is left of one label says nothing of the next.
+#[derive(Drop)]
+pub(crate) struct ALabelEncoder {
+    encoder: Encoder,
+    a_label: ALabel,
+}
+
+impl ALabelEncoder {
+    pub(crate) fn new() -> ALabelEncoder {
+        ALabelEncoder {
+            encoder: Encoder::new(),
+            a_label: ALabel::new(),
+        }
+    }
+
+    /// The prefix and the Punycode of a label, if they are short enough.
+    pub(crate) fn encode<U: Unit>(&mut self, label: &[U]) -> Option<&[u8]>
+        requires { length (U.codes label.now) ≤ 63 }
+        ensures ok { IfSome result (λ answer. answer.now ≡ codes "xn--" ++ encode (U.codes label.now)) }
+        ensures short { OnSome result (length (codes "xn--" ++ encode (U.codes label.now)) ≤ 63) }
+        ensures too_long { IfNone result (63 < length (codes "xn--" ++ encode (U.codes label.now))) }
+    {
+        self.a_label.clear();
+        self.a_label.push_str(ACE_PREFIX);
+        self.encoder.push_encoded(label, &mut self.a_label).ok()?;
+        Some(self.a_label.as_bytes())
     }
 }
 

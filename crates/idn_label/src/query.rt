@@ -1,5 +1,5 @@
 //! Lookup of a name.
-ghost use Rattle.std.specs.Prelude.{◌≡◌, ◌≢◌, ◌≤◌, [], length, take, string_bytes, Err, IfOk};
+ghost use Rattle.std.specs.Prelude.{◌≡◌, ◌≢◌, ◌≤◌, length, take, string_bytes, Err, IfOk};
 ghost use Rattle.idna.specs.Display.{IsPlain};
 ghost use Rattle.idna.specs.declared.options.Hyphens.TheVariants.{Allow};
 ghost use Rattle.idn_text.specs.Points.{AreScalarValues, utf8_of};
@@ -8,12 +8,13 @@ ghost use Rattle.idn_label.specs.Lookup.{deny_list, utf8_answer, lookup_answer};
 ghost use Rattle.idn_label.specs.Memory.{LooksUpWithoutMemory};
 
 mod bidi;
+mod buffers;
 mod full;
 mod ldh;
 mod simple;
 
 use crate::code_points::to_char;
-use arrayvec::ArrayVec;
+pub use buffers::LookupBuffers;
 use full::full_lookup;
 use idn_text::Refusal;
 use ldh::{MAX_QUERY_LEN, ldh_query};
@@ -32,7 +33,7 @@ pub fn lookup(alloc: Global, name: &[u32], std3: bool) -> Result<String, Refusal
 {
     let text = utf8(alloc, name)?;
     let mut room = [0; MAX_QUERY_LEN];
-    let len = lookup_utf8(alloc, &text, std3, &mut room)?;
+    let len = lookup_utf8(alloc, &text, std3, &mut LookupBuffers::new(), &mut room)?;
     let Ok(query) = str::from_utf8(&room[..len]) else {
         unreachable!()
     };
@@ -47,6 +48,7 @@ pub fn lookup_utf8(
     alloc: Global,
     name: &[u8],
     std3: bool,
+    buffers: &mut LookupBuffers,
     room: &mut [u8],
 ) -> Result<usize, Refusal>
     requires { 254 ≤ length room.old }
@@ -58,29 +60,27 @@ pub fn lookup_utf8(
     if let Some(answer) = ldh_query(name, room) {
         return answer;
     }
-    let mut query = ArrayVec::new();
-    other_query(alloc, name, std3, &mut query)?;
-    let len = query.len();
-    room[..len].copy_from_slice(&query);
+    other_query(alloc, name, std3, buffers)?;
+    let len = buffers.query.len();
+    room[..len].copy_from_slice(&buffers.query);
     Ok(len)
 }
 
-/// Leaves in `query`, where nothing stands, what `lookup_utf8` answers of a name that has other code points than letters,
-/// digits and hyphens of ASCII.
+/// Leaves in `buffers.query` what `lookup_utf8` answers of a name that has other code points than letters, digits and
+/// hyphens of ASCII.
 fn other_query(
     alloc: Global,
     name: &[u8],
     std3: bool,
-    query: &mut ArrayVec<u8, MAX_QUERY_LEN>,
+    buffers: &mut LookupBuffers,
 ) -> Result<(), Refusal>
-    requires { query.old.items ≡ [] }
-    ensures answer { Gives (λ _. query.new.items) result (utf8_answer name.now std3) }
+    ensures answer { Gives (λ _. buffers.new.query.items) result (utf8_answer name.now std3) }
     ensures no_memory { IsPlain (deny_list std3) Allow name.now → result ≢ Err Refusal.Memory }
 {
-    if let Some(()) = simple_query(name, query) {
+    if let Some(()) = simple_query(name, buffers) {
         return Ok(());
     }
-    full_lookup(alloc, name, std3, query)
+    full_lookup(alloc, name, std3, &mut buffers.query)
 }
 
 /// The UTF-8 of a name.

@@ -53,7 +53,7 @@ impl KeptPunycode {
         self.digits.put(text);
     }
 
-    /// Puts the Punycode of a label of at most 63 code points in place of it, as `push_encoded` appends it to the prefix
+    /// Puts the Punycode of a label of at most 63 code points in place of it, as `Encoder` appends it to the prefix
     /// of A-labels. Where it does not fit, nothing is said of the text.
     pub fn encode(&mut self, label: &[u32]) -> Result<(), CapacityError>
         requires { length label.now ≤ 63 }

@@ -11,7 +11,7 @@ use crate::modes::answering::{Answering, refuse, reply};
 use crate::session::buffers::Buffers;
 use crate::session::console::Console;
 use crate::session::stop::Stop;
-use idn_label::lookup_utf8;
+use idn_label::{LookupBuffers, lookup_utf8};
 use idn_text::{Refusal, Sink};
 use std::alloc::Global;
 
@@ -35,7 +35,13 @@ impl Answering for Lookup {
         buffers: &mut Buffers,
         console: &mut Console<'_, '_, W, E>,
     ) -> Result<bool, Stop> {
-        match fill_line(alloc, text, self.std3, &mut buffers.query) {
+        match fill_line(
+            alloc,
+            text,
+            self.std3,
+            &mut buffers.lookup,
+            &mut buffers.query,
+        ) {
             Ok(len) => reply(&buffers.query[..len], console),
             Err(refusal) => refuse(number, refusal, console),
         }
@@ -44,7 +50,13 @@ impl Answering for Lookup {
 
 /// Writes into `line` what a name is in a query and a line feed, and returns the length of that. Where the name is
 /// refused, what is left says nothing.
-fn fill_line(alloc: Global, name: &[u8], std3: bool, line: &mut [u8]) -> Result<usize, Refusal>
+fn fill_line(
+    alloc: Global,
+    name: &[u8],
+    std3: bool,
+    buffers: &mut LookupBuffers,
+    line: &mut [u8],
+) -> Result<usize, Refusal>
     requires { length line.old ≡ 255 }
     ensures answer { Gives (λ len. take len line.new) result (with_feed (query_answer name.now std3)) }
     ensures short { IfOk result (λ len. len ≤ 255) }
@@ -54,7 +66,7 @@ fn fill_line(alloc: Global, name: &[u8], std3: bool, line: &mut [u8]) -> Result<
     if name.is_empty() {
         return Err(Refusal::Empty);
     }
-    let len = lookup_utf8(alloc, name, std3, line)?;
+    let len = lookup_utf8(alloc, name, std3, buffers, line)?;
     line[len] = b'\n';
     Ok(len + 1)
 }

@@ -4,6 +4,7 @@ ghost use Rattle.std.specs.Prelude.{◌≡◌, ◌≤◌, ◌+◌, ◌++◌, [],
 ghost use Rattle.arrayvec.specs.ArrayVec.{array_vec_len};
 
 use arrayvec::ArrayVec;
+use idn_label::LookupBuffers;
 use idn_text::MAX_LINE_LEN;
 
 /// The most octets of an answer: four for each of 1,024 code points, and a line feed.
@@ -21,6 +22,8 @@ pub(crate) struct Buffers {
     pub answer: [u8; MAX_ANSWER_LEN],
     /// The answer of lookup, and a line feed.
     pub query: [u8; MAX_QUERY_LINE_LEN],
+    /// The work of lookup on a name.
+    pub lookup: LookupBuffers,
 }
 
 impl Buffers {
@@ -31,6 +34,7 @@ impl Buffers {
             points: ArrayVec::new(),
             answer: [0; MAX_ANSWER_LEN],
             query: [0; MAX_QUERY_LINE_LEN],
+            lookup: LookupBuffers::new(),
         }
     }
 }

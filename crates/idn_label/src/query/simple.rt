@@ -13,8 +13,9 @@ ghost use Rattle.idn_label.specs.ALabel.{a_label_of};
 ghost use Rattle.idn_label.specs.inner.SimpleNames.{PassesInLabel, TellsRightToLeft, TellsComposing};
 ghost use Rattle.idn_label.specs.Lookup.{deny_list};
 
-use crate::a_label::{MAX_LABEL_LEN, encoded_label};
+use crate::a_label::{ALabelEncoder, MAX_LABEL_LEN};
 use crate::query::bidi::pass_bidi_rule;
+use crate::query::buffers::{LookupBuffers, Mapped};
 use crate::query::ldh::MAX_QUERY_LEN;
 use crate::unit::{has_ace_prefix, is_all_ascii};
 use arrayvec::ArrayVec;
@@ -24,20 +25,22 @@ use ucd_idna_map::{IdnaStatus, idna_mapping};
 use unicode_normalization::IsNormalized;
 use unicode_normalization::slice::is_nfc_quick;
 
-/// A name, as it is mapped. It is not longer than its query.
-type Mapped = ArrayVec<char, MAX_QUERY_LEN>;
-
-/// Leaves in `query` what ToASCII (UTS 46 section 4.2) gives of a name in UTF-8, where that has the lengths that the DNS
-/// allows. `None` says nothing of the name, and all of UTS 46 then gives the answer: the name is no UTF-8, a code point
-/// needs more tests, a label begins with `xn--`, or the Bidi rule or a length is not met.
-// Its buffers are not to be made ready for each name that another way answers.
+/// Leaves in `buffers.query` what ToASCII (UTS 46 section 4.2) gives of a name in UTF-8, where that has the lengths that
+/// the DNS allows. `None` says nothing of the name, and all of UTS 46 then gives the answer: the name is no UTF-8, a code
+/// point needs more tests, a label begins with `xn--`, or the Bidi rule or a length is not met.
+// It is long, and most names do not come here.
 #[inline(never)]
-pub(crate) fn simple_query<const N: usize>(name: &[u8], query: &mut ArrayVec<u8, N>) -> Option<()>
-    requires { query.old.items ≡ [] }
-    ensures answer { OnSome result ((std3 : Bool) → to_ascii (deny_list std3) Allow Ignore name.now ≡ Some query.new.items) }
-    ensures lengths { OnSome result (verify_dns_length query.new.items true ≡ true) }
+pub(crate) fn simple_query(name: &[u8], buffers: &mut LookupBuffers) -> Option<()>
+    ensures answer { OnSome result ((std3 : Bool) → to_ascii (deny_list std3) Allow Ignore name.now ≡ Some buffers.new.query.items) }
+    ensures lengths { OnSome result (verify_dns_length buffers.new.query.items true ≡ true) }
 {
-    let mut mapped = Mapped::new();
+    let LookupBuffers {
+        mapped,
+        encoder,
+        query,
+    } = buffers;
+    mapped.clear();
+    query.clear();
     let mut facts = Facts::of_label(&[]);
     // Where the label begins that is read, as it is mapped.
     let mut start = 0;
@@ -46,16 +49,16 @@ pub(crate) fn simple_query<const N: usize>(name: &[u8], query: &mut ArrayVec<u8,
         let (c, next) = character_at(name, at)?;
         at = next;
         if c == '.' {
-            push_a_label(&mapped[start..], facts, query)?;
+            push_a_label(&mapped[start..], facts, encoder, query)?;
             query.try_push(b'.').ok()?;
             mapped.try_push('.').ok()?;
             start = mapped.len();
         } else {
-            facts = facts.joined(push_mapped(c, start, &mut mapped)?);
+            facts = facts.joined(push_mapped(c, start, mapped)?);
         }
     }
-    push_last_a_label(&mapped[start..], facts, query)?;
-    if facts.contains(Fact::RightToLeft) && !pass_bidi_rule(&mapped) {
+    push_last_a_label(&mapped[start..], facts, encoder, query)?;
+    if facts.contains(Fact::RightToLeft) && !pass_bidi_rule(mapped) {
         return None;
     }
     Some(())
@@ -122,6 +125,7 @@ fn push_kept(c: char, facts: Facts, start: usize, mapped: &mut Mapped) -> Option
 fn push_last_a_label<const N: usize>(
     label: &[char],
     facts: Facts,
+    encoder: &mut ALabelEncoder,
     query: &mut ArrayVec<u8, N>,
 ) -> Option<()>
     requires { TellsComposing facts label.now }
@@ -139,7 +143,7 @@ fn push_last_a_label<const N: usize>(
         }
         return Some(());
     }
-    push_a_label(label, facts, query)?;
+    push_a_label(label, facts, encoder, query)?;
     if query.len() < MAX_QUERY_LEN {
         Some(())
     } else {
@@ -152,6 +156,7 @@ fn push_last_a_label<const N: usize>(
 fn push_a_label<const N: usize>(
     label: &[char],
     facts: Facts,
+    encoder: &mut ALabelEncoder,
     query: &mut ArrayVec<u8, N>,
 ) -> Option<()>
     requires { TellsComposing facts label.now }
@@ -170,8 +175,7 @@ fn push_a_label<const N: usize>(
     if is_all_ascii(label) {
         push_ascii(label, query)?;
     } else {
-        let a_label = encoded_label(label).ok()?;
-        query.try_extend_from_slice(a_label.as_bytes()).ok()?;
+        query.try_extend_from_slice(encoder.encode(label)?).ok()?;
     }
     Some(())
 }

@@ -18,9 +18,8 @@ returns-in_ok-push_ascii-clause-length g c =
 pub returns-in_ok-ok-clause-written : goal.returns-in_ok-ok-clause-written
 returns-in_ok-ok-clause-written g c =
     let is : a_label_of c.args.label.now ≡ codes "xn--" ++ encode c.args.label.now = a_label_of-other c.args.label.now (sym c.if-is_all_ascii.ensures) in
-    let pushed : c.try_extend_from_slice.new.self.items ≡ c.args.query.now.items ++ c.as_bytes.result.now = search rules in
-    let ok : c.in_ok-a_label.a_label.bytes ≡ codes "xn--" ++ encode c.args.label.now = search rules in
-    pushed ∙ ap (λ x. c.args.query.now.items ++ x) (c.as_bytes.ensures.value ∙ c.deref.ensures.0 ∙ ok ∙ sym is)
+    let pushed : c.try_extend_from_slice.new.self.items ≡ c.args.query.now.items ++ c.in_ok-encode.field-0.now = search rules in
+    pushed ∙ ap (λ x. c.args.query.now.items ++ x) (c.in_ok-encode.ensures.ok ∙ sym is)
 
 pub returns-in_ok-ok-clause-length : goal.returns-in_ok-ok-clause-length
 returns-in_ok-ok-clause-length g c =

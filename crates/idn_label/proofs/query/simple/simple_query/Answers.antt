@@ -12,6 +12,7 @@ use Rattle.idn_class.specs.declared.facts.Fact.TheVariants.{MayCompose, RightToL
 use Rattle.idn_class.specs.Facts.{contains}
 use Rattle.idn_text.specs.Points.{IsUtf8Of}
 use Rattle.idn_text.proofs.Utf8Lemmas.{IsUtf8-from_points, points_from_utf8, utf8_nothing, utf8_character, utf8_all}
+use Rattle.idn_label.specs.declared.query.buffers.LookupBuffers.{LookupBuffers}
 use Rattle.idn_label.specs.ALabel.{a_label_of}
 use Rattle.idn_label.specs.Lookup.{deny_list}
 use Rattle.idn_label.specs.inner.SimpleNames.{TellsRightToLeft, TellsComposing}
@@ -25,19 +26,19 @@ slice_is : (slice mapped : List ℕ) (start : ℕ) → slice ≡ mapped → take
 slice_is slice mapped start is = take_rest slice start ∙ ap (drop start) is
 
 pub loop-at-init : goal.loop-at-init
-loop-at-init g c = record {
+loop-at-init c = record {
   within = omega arith;
   points = [];
   utf8 = utf8_nothing;
-  mapped = c.new-mapped.ensures;
+  mapped = c.clear.ensures;
   begun = omega arith;
-  read = same_read refl (sym c.new-mapped.ensures) (sym c.requires) read_nothing;
-  tells = subst (λ (points : List ℕ). TellsRightToLeft c.of_label-facts.result points) (sym c.new-mapped.ensures) (tells_nothing c.of_label-facts.result);
-  composing = subst (λ (points : List ℕ). TellsComposing c.of_label-facts.result points) (sym c.new-mapped.ensures) (composing_nothing c.of_label-facts.result);
+  read = same_read refl (sym c.clear.ensures) (sym c.clear-2.ensures) read_nothing;
+  tells = subst (λ (points : List ℕ). TellsRightToLeft c.of_label-facts.result points) (sym c.clear.ensures) (tells_nothing c.of_label-facts.result);
+  composing = subst (λ (points : List ℕ). TellsComposing c.of_label-facts.result points) (sym c.clear.ensures) (composing_nothing c.of_label-facts.result);
 }
 
 pub loop-at-preserved-then-c-eq46 : goal.loop-at-preserved-then-c-eq46
-loop-at-preserved-then-c-eq46 g c =
+loop-at-preserved-then-c-eq46 c =
     let i = c.loop-at.invariant in
     let stop = c.if-c-eq46.true in
     let step = c.in_ok-c.ensures in
@@ -64,7 +65,7 @@ loop-at-preserved-then-c-eq46 g c =
     }
 
 pub loop-at-preserved : goal.loop-at-preserved
-loop-at-preserved g c =
+loop-at-preserved c =
     let i = c.loop-at.invariant in
     let step = c.in_ok-c.ensures in
     let more = c.in_ok-push_mapped.ensures in
@@ -90,7 +91,7 @@ loop-at-preserved g c =
     }
 
 pub returns-clause-answer : goal.returns-clause-answer
-returns-clause-answer g c std3 =
+returns-clause-answer c std3 =
     let i = c.loop-at.invariant in
     let name = c.args.name.now in
     let mapped = c.loop-at.mapped.items in
@@ -107,11 +108,16 @@ returns-clause-answer g c std3 =
     ] in
     let bidi : passes_bidi (labels_of (flat_map map_char i.points)) ≡ true =
     ap (λ m. passes_bidi (labels_of m)) (sym i.mapped) ∙ passes_bidi-tested facts mapped i.tells tested in
+    let kept : c.else-contains.buffers.query.items ≡ c.push_last_a_label.new.query.items =
+    elim c.else-contains.branch [
+      | else-contains-via-then-contains+else-not-pass_bidi_rule w ↦ ap (λ (b : LookupBuffers). b.query.items) w.buffers-is
+      | else-contains-via-else-contains w ↦ ap (λ (b : LookupBuffers). b.query.items) w.buffers-is
+    ] in
     read_all (deny_list std3) name (IsUtf8-from_points name i.points utf8) (points_from_utf8 name i.points utf8) i.read (subst IsEnded same is_ended) bidi
-    ∙ ap Some (ap (λ x. c.loop-at.query.items ++ a_label_of x) (sym same) ∙ sym label.written)
+    ∙ ap Some (ap (λ x. c.loop-at.query.items ++ a_label_of x) (sym same) ∙ sym label.written ∙ sym kept)
 
 pub returns-clause-lengths : goal.returns-clause-lengths
-returns-clause-lengths g c =
+returns-clause-lengths c =
     let i = c.loop-at.invariant in
     let label = c.in_ok-push_last_a_label.ensures in
     let query = c.loop-at.query.items in
@@ -119,17 +125,22 @@ returns-clause-lengths g c =
     let same = slice_is c.deref-2.result.now c.loop-at.mapped.items c.loop-at.start c.deref-2.ensures.0 in
     let is_ended = ended_last _ label.normalized label.no_prefix label.few label.some in
     let written : c.push_last_a_label.new.query.items ≡ query ++ a_label_of last = label.written ∙ ap (λ x. query ++ a_label_of x) same in
-    ap (λ x. verify_dns_length x true) written
+    let kept : c.else-contains.buffers.query.items ≡ c.push_last_a_label.new.query.items =
+    elim c.else-contains.branch [
+      | else-contains-via-then-contains+else-not-pass_bidi_rule w ↦ ap (λ (b : LookupBuffers). b.query.items) w.buffers-is
+      | else-contains-via-else-contains w ↦ ap (λ (b : LookupBuffers). b.query.items) w.buffers-is
+    ] in
+    ap (λ x. verify_dns_length x true) (kept ∙ written)
     ∙ lengths_all last i.read (subst IsEnded same is_ended) (λ empty. label.none (same ∙ empty))
     (λ (some : last ≢ []). subst (λ (l : List ℕ). is_in_range 1 63 (length (a_label_of l)) ≡ true) same (label.some (λ empty. some (sym same ∙ empty))))
     (λ (some : last ≢ []). subst (λ (q : List ℕ). length q < 254) written (label.short (λ empty. some (sym same ∙ empty))))
 
 pub push_a_label-requires : goal.push_a_label-requires
-push_a_label-requires g c =
+push_a_label-requires c =
     let label = slice_is c.deref.result.now c.loop-at.mapped.items c.loop-at.start c.deref.ensures.0 in
     (omega arith, subst (λ (points : List ℕ). TellsComposing c.loop-at.facts points) (sym label) c.loop-at.invariant.composing)
 
 pub push_last_a_label-requires : goal.push_last_a_label-requires
-push_last_a_label-requires g c =
+push_last_a_label-requires c =
     let label = slice_is c.deref-2.result.now c.loop-at.mapped.items c.loop-at.start c.deref-2.ensures.0 in
     (omega arith, subst (λ (points : List ℕ). TellsComposing c.loop-at.facts points) (sym label) c.loop-at.invariant.composing)

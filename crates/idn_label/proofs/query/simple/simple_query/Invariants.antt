@@ -7,7 +7,7 @@ use Rattle.idn_label.proofs.query.simple.simple_query.Given as goal
 
 -- the characters so far are read, and the label that is read begins at its start
 abbrev pub invariant-loop-at : goal.invariant-loop-at
-invariant-loop-at g l = record {
+invariant-loop-at l = record {
   within : l.at ≤ length l.name;
   points : List ℕ;
   utf8 : IsUtf8Of (take l.at l.name) points;
@@ -19,4 +19,4 @@ invariant-loop-at g l = record {
 }
 
 abbrev pub decreases-loop-at : goal.decreases-loop-at
-decreases-loop-at g l = length l.name - l.at
+decreases-loop-at l = length l.name - l.at
