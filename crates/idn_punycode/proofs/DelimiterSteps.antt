@@ -1,5 +1,5 @@
 -- The last delimiter of a code, and the two parts that it divides the code into.
-use Rattle.std.proofs.Common.{◌≡◌, ℕ, ◌-◌, ◌<◌, ◌≤◌, true, false, not, ◌==◌, List, length, drop, get_or, length-take, arith}
+use Rattle.std.proofs.Common.{◌≡◌, ◌≢◌, ℕ, ◌-◌, ◌<◌, ◌≤◌, true, false, not, ◌==◌, List, length, drop, get_or, length-take, arith}
 use Rattle.std.specs.List.{suffix_len}
 use Rattle.std.proofs.lemmas.Bool.{cond-false}
 use Rattle.std.proofs.lemmas.Bool.Decides.{nat_tests}
@@ -13,6 +13,9 @@ Ends code after = (k : ℕ) → after ≤ k → k < length code → not (get_or 
 -- the place behind the last delimiter, or 0
 abbrev pub after_delimiter : List ℕ → ℕ
 after_delimiter code = length code - suffix_len (λ c. not (c == delimiter)) code
+
+pub no_delimiter : (x : ℕ) → x ≢ 0x2D → not (x == delimiter) ≡ true
+no_delimiter x other = grind (arith, nat_tests)
 
 -- nothing from `after` on is a delimiter, and what stands before it is one
 pub is_end : (code : List ℕ) (after : ℕ) → after ≤ length code → Ends code after → (0 < after → not (get_or code (after - 1) 0 == delimiter) ≡ false) → after ≡ after_delimiter code

@@ -1,14 +1,10 @@
-use Rattle.std.proofs.Common.{◌≡◌, ◌≢◌, ℕ, ◌-◌, ◌<◌, true, not, ◌==◌, length, get_or, refl, sym, ap, ◌∙◌, inl, inr, arith}
+use Rattle.std.proofs.Common.{◌≡◌, ◌≢◌, ◌-◌, ◌<◌, not, ◌==◌, length, get_or, refl, sym, ap, ◌∙◌, inl, inr, arith}
 use Rattle.std.specs.List.{suffix_len}
 use Rattle.std.proofs.lemmas.Bool.{cases_lt}
-use Rattle.std.proofs.lemmas.Bool.Decides.{nat_tests}
 use Rattle.idna.specs.Punycode.{delimiter}
-use Rattle.idn_punycode.proofs.DelimiterSteps.{is_end}
+use Rattle.idn_punycode.proofs.DelimiterSteps.{is_end, no_delimiter}
 use Rattle.idn_punycode.proofs.UnitLemmas.{codes_length, codes_at}
 use Rattle.idn_punycode.proofs.decoding.place_after_delimiter.Goals as goal
-
-no_delimiter : (x : ℕ) → x ≢ 0x2D → not (x == delimiter) ≡ true
-no_delimiter x other = grind (arith, nat_tests)
 
 pub loop-after-preserved : goal.loop-after-preserved
 loop-after-preserved g c =
