@@ -4,7 +4,7 @@
 use crate::a_labels_of_others::{LIBIDN2, RFC_3492};
 use crate::label_calls::{assert_text, letters, points_of};
 use crate::row::shown;
-use idn_label::{decode_ascii, decode_name};
+use idn_label::{DecodedLabel, decode_ascii, decode_name};
 use idn_text::Refusal;
 use std::alloc::Global;
 use std::process::Abort;
@@ -78,7 +78,7 @@ fn decoded_octets(alloc: Global, name: &str) -> Result<Result<String, Refusal>, 
         return Err("a name that is not ASCII, or too long")?;
     }
     let mut room = [0; 4096];
-    match decode_ascii(alloc, name.as_bytes(), &mut room) {
+    match decode_ascii(alloc, name.as_bytes(), &mut DecodedLabel::new(), &mut room) {
         Ok(len) => Ok(Ok(shown(alloc, &room[..len])?)),
         Err(refusal) => Ok(Err(refusal)),
     }

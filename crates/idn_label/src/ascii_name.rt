@@ -14,11 +14,16 @@ use idn_text::{MAX_LINE_LEN, Refusal, put_points};
 use std::alloc::Global;
 
 /// Writes into `room` the UTF-8 of what `decode_name` makes of a name in ASCII, and returns how many octets these are.
-/// There must be room for four octets for each of the name. A name without A-labels takes no memory, nor does an
-/// A-label in most cases: one of more than 63 octets does, one of a label in ASCII, and one of a label with a code
-/// point of which no look-up says the class, or for which the quick check of NFC is Maybe. Where the name is refused,
-/// what is left says nothing.
-pub fn decode_ascii(alloc: Global, name: &[u8], room: &mut [u8]) -> Result<usize, Refusal>
+/// There must be room for four octets for each of the name. `u_label` is room for what an A-label stands for, and what
+/// stood there before says nothing. A name without A-labels takes no memory, nor does an A-label in most cases: one of
+/// more than 63 octets does, one of a label in ASCII, and one of a label with a code point of which no look-up says the
+/// class, or for which the quick check of NFC is Maybe. Where the name is refused, what is left says nothing.
+pub fn decode_ascii(
+    alloc: Global,
+    name: &[u8],
+    u_label: &mut DecodedLabel,
+    room: &mut [u8],
+) -> Result<usize, Refusal>
     requires ascii { IsAscii name.now }
     requires short { length name.now ≤ MAX_LINE_LEN }
     requires room { 4 * length name.now ≤ length room.old }
@@ -27,12 +32,11 @@ pub fn decode_ascii(alloc: Global, name: &[u8], room: &mut [u8]) -> Result<usize
     ensures length { length room.new ≡ length room.old }
     ensures no_memory { All DecodesWithoutMemory (labels_of name.now) → result ≢ Err Refusal.Memory }
 {
-    let mut u_label = DecodedLabel::new();
     let mut len = 0;
     let mut start = 0;
     'labels: loop {
         let end = label_end(name, start);
-        len = decode_label(alloc, &name[start..end], &mut u_label, room, len)?;
+        len = decode_label(alloc, &name[start..end], u_label, room, len)?;
         if end == name.len() {
             return Ok(len);
         }

@@ -16,7 +16,7 @@ use crate::modes::code_points::{ByPoints, PointAnswering};
 use crate::session::buffers::{Buffers, MAX_ANSWER_LEN};
 use crate::session::console::Console;
 use crate::session::stop::Stop;
-use idn_label::{decode_ascii, decode_name};
+use idn_label::{DecodedLabel, decode_ascii, decode_name};
 use idn_text::{MAX_LINE_LEN, Refusal, Sink};
 use std::alloc::{AllocError, Global};
 
@@ -44,7 +44,7 @@ impl Answering for Decode {
         if !text.is_ascii() {
             return ByPoints { mode: self }.answer(alloc, number, text, buffers, console);
         }
-        match fill_line(alloc, text, &mut buffers.answer) {
+        match fill_line(alloc, text, &mut buffers.u_label, &mut buffers.answer) {
             Ok(len) => reply(&buffers.answer[..len], console),
             Err(refusal) => refuse(number, refusal, console),
         }
@@ -52,8 +52,13 @@ impl Answering for Decode {
 }
 
 /// Writes into `line` a name in ASCII with U-labels in place of its A-labels and a line feed, and returns the length of
-/// that. Where the name is refused, what is left says nothing.
-fn fill_line(alloc: Global, name: &[u8], line: &mut [u8]) -> Result<usize, Refusal>
+/// that. Where the name is refused, what is left says nothing. `u_label` is room for what an A-label stands for.
+fn fill_line(
+    alloc: Global,
+    name: &[u8],
+    u_label: &mut DecodedLabel,
+    line: &mut [u8],
+) -> Result<usize, Refusal>
     requires ascii { IsAscii name.now }
     requires short { length name.now ≤ MAX_LINE_LEN }
     requires room { length line.old ≡ MAX_ANSWER_LEN }
@@ -62,7 +67,7 @@ fn fill_line(alloc: Global, name: &[u8], line: &mut [u8]) -> Result<usize, Refus
     ensures length { length line.new ≡ MAX_ANSWER_LEN }
     ensures no_memory { All DecodesWithoutMemory (labels_of name.now) → result ≢ Err Refusal.Memory }
 {
-    let len = decode_ascii(alloc, name, line)?;
+    let len = decode_ascii(alloc, name, u_label, line)?;
     line[len] = b'\n';
     Ok(len + 1)
 }

@@ -4,7 +4,7 @@ ghost use Rattle.std.specs.Prelude.{◌≡◌, ◌≤◌, ◌+◌, ◌++◌, [],
 ghost use Rattle.arrayvec.specs.ArrayVec.{array_vec_len};
 
 use arrayvec::ArrayVec;
-use idn_label::LookupBuffers;
+use idn_label::{DecodedLabel, LookupBuffers};
 use idn_text::MAX_LINE_LEN;
 
 /// The most octets of an answer: four for each of 1,024 code points, and a line feed.
@@ -20,6 +20,8 @@ pub(crate) struct Buffers {
     pub points: ArrayVec<u32, MAX_LINE_LEN>,
     /// The answer of decoding in UTF-8, and a line feed.
     pub answer: [u8; MAX_ANSWER_LEN],
+    /// What an A-label stands for.
+    pub u_label: DecodedLabel,
     /// The answer of lookup, and a line feed.
     pub query: [u8; MAX_QUERY_LINE_LEN],
     /// The work of lookup on a name.
@@ -33,6 +35,7 @@ impl Buffers {
         Buffers {
             points: ArrayVec::new(),
             answer: [0; MAX_ANSWER_LEN],
+            u_label: DecodedLabel::new(),
             query: [0; MAX_QUERY_LINE_LEN],
             lookup: LookupBuffers::new(),
         }
