@@ -1,5 +1,5 @@
 -- What the getters of a parse say of the definition's entries.
-use Rattle.std.proofs.Common.{◌≡◌, Bool, List, [], Option, Some, None, true, false, ap, refl, sym, ◌∙◌, codes}
+use Rattle.std.proofs.Common.{◌≡◌, Bool, List, [], Option, Some, None, true, false, ap, refl, sym, ◌∙◌}
 use Rattle.std.specs.Prelude.{option_map, unwrap_or}
 use Rattle.std.specs.Option.{option_map_or}
 use Rattle.std.specs.Str.{bytes_eq}

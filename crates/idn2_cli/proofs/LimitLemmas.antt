@@ -1,6 +1,6 @@
 -- Options that the rules allow are within the limits of a run.
 use Rattle.std.proofs.Common.{◌≡◌, ◌≤◌, ◌&&◌, ℕ, Bool, List, [], ◌∷◌, Option, Some, None, IfSome, true, false, length, refl, subst, arith, nat_le, cond}
-use Rattle.std.specs.Prelude.{IsUtf8, option_and_then, unwrap_or, codes}
+use Rattle.std.specs.Prelude.{IsUtf8, option_and_then, unwrap_or}
 use Rattle.std.specs.Str.{chars}
 use Rattle.std.specs.Str.Parse.{digits_value}
 use Rattle.std.proofs.Math.Utf8.{scalar, scalars}

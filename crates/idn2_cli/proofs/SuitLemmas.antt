@@ -1,5 +1,5 @@
 -- Options that the rules allow suit their mode.
-use Rattle.std.proofs.Common.{◌≡◌, ◌≢◌, ◌≤◌, ◌&&◌, ◌||◌, ◌==◌, ℕ, Bool, List, [], ◌∷◌, Option, Some, None, true, false, cond, length, ap, refl, sym, ◌∙◌, arith, not, is_some, codes}
+use Rattle.std.proofs.Common.{◌≡◌, ◌≢◌, ◌≤◌, ◌&&◌, ◌||◌, ◌==◌, ℕ, Bool, List, [], ◌∷◌, Option, Some, None, true, false, cond, length, ap, refl, sym, ◌∙◌, arith, not, is_some}
 use Rattle.std.specs.Prelude.{count_by, option_and_then, unwrap_or}
 use Rattle.std.specs.Str.{chars}
 use Rattle.std.proofs.lemmas.Bool.{and_parts}

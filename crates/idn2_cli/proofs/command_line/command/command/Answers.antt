@@ -1,4 +1,4 @@
-use Rattle.std.proofs.Common.{ap, codes, true, ◌∙◌}
+use Rattle.std.proofs.Common.{ap, true, ◌∙◌}
 use Rattle.clap.specs.Words.{App}
 use Rattle.clap.specs.Simple.{app_of_fields}
 use Rattle.idn2_cli.specs.CommandLine.{app, strings_rule, with_bounds, with_switches, with_modes}

@@ -1,4 +1,3 @@
-use Rattle.std.proofs.Common.{codes}
 use Rattle.idn2_cli.specs.CommandLine.{flag_rule}
 use Rattle.idn2_cli.proofs.AppLemmas.{IfOk-with_rule, with_rule-after}
 use Rattle.idn2_cli.proofs.command_line.command.with_switches.Goals as goal
