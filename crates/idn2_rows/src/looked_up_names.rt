@@ -115,7 +115,13 @@ fn looked_up_octets(
     std3: bool,
 ) -> Result<Result<String, Refusal>, AllocError> {
     let mut room = [b'?'; 254];
-    match lookup_utf8(alloc, name.as_bytes(), std3, &mut LookupBuffers::new(), &mut room) {
+    match lookup_utf8(
+        alloc,
+        name.as_bytes(),
+        std3,
+        &mut LookupBuffers::new(),
+        &mut room,
+    ) {
         Ok(len) => Ok(Ok(shown(alloc, &room[..len])?)),
         Err(refusal) => Ok(Err(refusal)),
     }

@@ -190,7 +190,9 @@ fn a_text_stays_where_nothing_fits(rt: HostRuntime) {
     let mut text = ArrayString::<63>::new();
     text.push_str("a text of 59 octets, which leaves no room for the five more");
     let before = text;
-    let fits = Encoder::new().push_encoded(&['\u{10FFFF}'], &mut text).is_ok();
+    let fits = Encoder::new()
+        .push_encoded(&['\u{10FFFF}'], &mut text)
+        .is_ok();
     assert_eq!(rt; fits, false, "{text}");
     assert_eq!(rt; text.as_str(), before.as_str());
 }
