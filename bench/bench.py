@@ -1,10 +1,11 @@
 #!/usr/bin/env python3
 """Times this repository's idn2 beside libidn2: python3 bench/bench.py
 
-Both programs are given the same files on their standard input, in turn, for some rounds, and write to /dev/null. The
-times are medians: of the processor, in the program and for it in the kernel, and of the clock. Ratios are libidn2's
-time over ours, so above 1 is in our favour; beside that of processor time stands the one that is wanted. What each line
-of the table compares:
+Both programs are given the same files on their standard input, in turn, for some rounds, and write to /dev/null. Each
+time is the least of all rounds, since other work on a machine only adds to it, and the more the faster a program is:
+that of the processor, in the program and for it in the kernel, and that of the clock. Ratios are libidn2's time over
+ours, so above 1 is in our favour; beside that of processor time stands the one that is wanted. What each line of the
+table compares:
 
     lookup, mixed names   `idn2 -l -N` of both, names of two or three labels in 17 scripts, a part with capitals
     lookup, ASCII names   `idn2 -l -N` of both, names of letters, digits and hyphens, a part with capitals; ten times
@@ -170,7 +171,7 @@ def read_options():
     words.add_argument("--ours", default=OURS, type=pathlib.Path, help="our program")
     words.add_argument("--theirs", default=found("idn2"), help="libidn2's program")
     words.add_argument("--lines", default=100_000, type=int, help="lines of each input, but of ASCII ten times as many")
-    words.add_argument("--rounds", default=5, type=int, help="rounds of which the medians are taken")
+    words.add_argument("--rounds", default=9, type=int, help="rounds of which the least times are taken")
     words.add_argument("--starts", default=101, type=int, help="rounds of a start")
     words.add_argument("--instructions", action="store_true", help="count instructions too, by callgrind")
     options = words.parse_args()
@@ -189,7 +190,7 @@ def measure(options, folder):
     listing_peer, reason = peer(folder)
     if reason:
         print("listing: without the peer over libidn2, " + reason)
-    print(f"medians of {options.rounds} rounds, {options.starts} of the start, seed {SEED}\n")
+    print(f"least of {options.rounds} rounds, {options.starts} of the start, seed {SEED}\n")
     rows = rows_of(options, files, listing_peer)
     compare_answers(rows)
     show_times(options, rows, counts)

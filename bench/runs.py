@@ -4,7 +4,6 @@ import dataclasses
 import os
 import re
 import shutil
-import statistics
 import subprocess
 import time
 
@@ -82,13 +81,13 @@ class Run:
 
 
 def in_turn(runs, rounds):
-    """What each run takes: the medians of all rounds, in each of which all run in turn."""
+    """What each run takes: the least of all rounds, in each of which all run in turn."""
     rounds_of_each = [[] for _ in runs]
     for _ in range(rounds):
         for run, taken in zip(runs, rounds_of_each):
             taken.append(run.taken())
     return [
-        Taken(statistics.median(one.wall for one in taken), statistics.median(one.processor for one in taken))
+        Taken(min(one.wall for one in taken), min(one.processor for one in taken))
         for taken in rounds_of_each
     ]
 

@@ -108,7 +108,7 @@ fn long_query(
     }
 }
 
-/// The query of a name in UTF-8, by a buffer that holds something from before.
+/// The query of a name in UTF-8, written into a room that holds something from before.
 fn looked_up_octets(
     alloc: Global,
     name: &str,

@@ -1,6 +1,6 @@
 //! The search for the full stop behind a label of a name.
 ghost use Rattle.std.specs.Prelude.{◌≤◌, length};
-ghost use Rattle.idn_label.specs.inner.FullStops.{EndsLabel};
+ghost use Rattle.idn_label.specs.inner.LabelEnds.{EndsLabel};
 
 use crate::unit::{FULL_STOP, Unit};
 use std::simd::prelude::*;
@@ -27,8 +27,8 @@ pub(crate) fn label_end<U: Unit>(name: &[U], start: usize) -> usize
     name.len()
 }
 
-/// The same in octets. How many of them a label has can't be foretold: they are searched in chunks, which takes few
-/// turns.
+/// The same in 16 octets or more, so that a whole chunk can always be read. How many of them a label has can't be
+/// foretold: they are searched in chunks, which takes few turns.
 fn end_in_octets(name: &[u8], start: usize) -> usize
     requires begins { start ≤ length name.now }
     requires wide { CHUNK_LEN ≤ length name.now }

@@ -20,11 +20,11 @@ pub(crate) struct Buffers {
     pub points: ArrayVec<u32, MAX_LINE_LEN>,
     /// The answer of decoding in UTF-8, and a line feed.
     pub answer: [u8; MAX_ANSWER_LEN],
-    /// What an A-label stands for.
+    /// Room for what an A-label stands for.
     pub u_label: DecodedLabel,
     /// The answer of lookup, and a line feed.
     pub query: [u8; MAX_QUERY_LINE_LEN],
-    /// The work of lookup on a name.
+    /// Room for the work of lookup on a name.
     pub lookup: LookupBuffers,
 }
 

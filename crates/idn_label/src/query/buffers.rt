@@ -4,8 +4,11 @@ use crate::a_label::ALabelEncoder;
 use crate::query::ldh::MAX_QUERY_LEN;
 use arrayvec::ArrayVec;
 
-/// A name, as it is mapped. It is not longer than its query.
+/// A name, as it is mapped. Its query has at least as many octets, so there is room for each name that has one.
 pub(crate) type Mapped = ArrayVec<char, MAX_QUERY_LEN>;
+
+/// What a query has for a name.
+pub(crate) type Query = ArrayVec<u8, MAX_QUERY_LEN>;
 
 /// Buffers that lookup uses again from name to name. What is left in them says nothing of the next name.
 #[derive(Drop)]
@@ -15,7 +18,7 @@ pub struct LookupBuffers {
     /// The A-label of one label after another.
     pub(crate) encoder: ALabelEncoder,
     /// The answer.
-    pub(crate) query: ArrayVec<u8, MAX_QUERY_LEN>,
+    pub(crate) query: Query,
 }
 
 impl LookupBuffers {

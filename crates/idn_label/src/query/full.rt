@@ -1,12 +1,11 @@
 //! Lookup of any name, by all of UTS 46.
-ghost use Rattle.std.specs.Prelude.{◌≡◌, ◌≢◌, ◌≤◌, Err, OnOk, IsUtf8};
-ghost use Rattle.arrayvec.specs.ArrayVec.{array_vec_len};
+ghost use Rattle.std.specs.Prelude.{◌≡◌, ◌≢◌, Err, IsUtf8};
 ghost use Rattle.idna.specs.Display.{IsPlain};
 ghost use Rattle.idna.specs.declared.options.Hyphens.TheVariants.{Allow};
 ghost use Rattle.idn_label.specs.Answers.{Gives};
 ghost use Rattle.idn_label.specs.Lookup.{deny_list, utf8_answer};
 
-use arrayvec::ArrayVec;
+use crate::query::buffers::Query;
 use idn_text::Refusal;
 use idna::uts46::verify_dns_length;
 use idna::{AsciiDenyList, Errors, domain_to_ascii_cow};
@@ -16,15 +15,13 @@ use std::str;
 /// Leaves in `query` what `lookup_utf8` answers.
 // It is long, and most names do not come here.
 #[inline(never)]
-pub(crate) fn full_lookup<const N: usize>(
+pub(crate) fn full_lookup(
     alloc: Global,
     name: &[u8],
     std3: bool,
-    query: &mut ArrayVec<u8, N>,
+    query: &mut Query,
 ) -> Result<(), Refusal>
-    requires { 254 ≤ N }
     ensures answer { Gives (λ _. query.new.items) result (utf8_answer name.now std3) }
-    ensures short { OnOk result (array_vec_len query.new ≤ 254) }
     ensures no_memory { IsPlain (deny_list std3) Allow name.now → result ≢ Err Refusal.Memory }
 {
     let ascii = match domain_to_ascii_cow(alloc, name, deny_list(std3)) {

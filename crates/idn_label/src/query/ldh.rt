@@ -111,8 +111,8 @@ fn lanes_before(name: &[u8], end: usize) -> u8x16
     lanes_of_short(&name[..end])
 }
 
-/// A name of fewer than 16 octets, with letters behind it. Most have eight: these are copied by two moves of eight, which
-/// overlap, since a copy of a length that can't be foretold takes far longer.
+/// A name of fewer than 16 octets, with letters behind it. Most have eight or more: these are copied by two moves of
+/// eight, which overlap, since a copy of a length that can't be foretold takes far longer.
 #[inline(always)]
 fn lanes_of_short(name: &[u8]) -> u8x16
     requires { length name.now < CHUNK_LEN }

@@ -15,10 +15,9 @@ ghost use Rattle.idn_label.specs.Lookup.{deny_list};
 
 use crate::a_label::{ALabelEncoder, MAX_LABEL_LEN};
 use crate::query::bidi::pass_bidi_rule;
-use crate::query::buffers::{LookupBuffers, Mapped};
+use crate::query::buffers::{LookupBuffers, Mapped, Query};
 use crate::query::ldh::MAX_QUERY_LEN;
 use crate::unit::{has_ace_prefix, is_all_ascii};
-use arrayvec::ArrayVec;
 use idn_class::{Fact, Facts};
 use idn_text::character_at;
 use ucd_idna_map::{IdnaStatus, idna_mapping};
@@ -122,11 +121,11 @@ fn push_kept(c: char, facts: Facts, start: usize, mapped: &mut Mapped) -> Option
 
 /// Appends the A-label of the last label, if it and the name then have the lengths that the DNS allows. No label is behind
 /// a full stop at the end of a name.
-fn push_last_a_label<const N: usize>(
+fn push_last_a_label(
     label: &[char],
     facts: Facts,
     encoder: &mut ALabelEncoder,
-    query: &mut ArrayVec<u8, N>,
+    query: &mut Query,
 ) -> Option<()>
     requires { TellsComposing facts label.now }
     ensures written { OnSome result (query.new.items ≡ query.old.items ++ a_label_of label.now) }
@@ -153,11 +152,11 @@ fn push_last_a_label<const N: usize>(
 
 /// Appends the A-label of a label, if that has 1 to 63 octets and there is room, and the label is in NFC. A label that begins
 /// with `xn--`, in ASCII or not, would have to be decoded first. `facts` are those of the name so far.
-fn push_a_label<const N: usize>(
+fn push_a_label(
     label: &[char],
     facts: Facts,
     encoder: &mut ALabelEncoder,
-    query: &mut ArrayVec<u8, N>,
+    query: &mut Query,
 ) -> Option<()>
     requires { TellsComposing facts label.now }
     ensures written { OnSome result (query.new.items ≡ query.old.items ++ a_label_of label.now) }
@@ -196,7 +195,7 @@ fn is_normalized(label: &[char], facts: Facts) -> bool
 }
 
 /// Appends a label in ASCII, if there is space.
-fn push_ascii<const N: usize>(label: &[char], query: &mut ArrayVec<u8, N>) -> Option<()>
+fn push_ascii(label: &[char], query: &mut Query) -> Option<()>
     requires { is_all_ascii label.now ≡ true }
     ensures { OnSome result (query.new.items ≡ query.old.items ++ label.now) }
 {

@@ -6,7 +6,7 @@ use Rattle.idn_label.specs.Decode.{decode_answer}
 use Rattle.idna.specs.Labels.{labels_of}
 use Rattle.idn_label.specs.Memory.{DecodesWithoutMemory}
 use Rattle.idn_label.specs.Steps.{appended, in_utf8}
-use Rattle.idn_label.proofs.BidiLabels.{label_last, label_before}
+use Rattle.idn_label.proofs.LabelsByPlace.{label_last, label_before}
 use Rattle.idn_label.proofs.LdhNames.{all_labels}
 use Rattle.idn_label.proofs.DecodeLemmas.{appended-nil}
 use Rattle.idn_label.proofs.Utf8Decoding.{utf8_turn_err, utf8_turn_last, utf8_turn_more}

@@ -2,7 +2,7 @@ use Rattle.std.proofs.Common.{◌+◌, slice_range, drop, sym, ap, ◌∙◌, ar
 use Rattle.std.proofs.lemmas.Result.{err_from_is_err_and}
 use Rattle.idn_label.specs.Decode.{decode_answer}
 use Rattle.idn_label.specs.Steps.{appended}
-use Rattle.idn_label.proofs.BidiLabels.{label_last, label_before}
+use Rattle.idn_label.proofs.LabelsByPlace.{label_last, label_before}
 use Rattle.idn_label.proofs.DecodeLemmas.{turn_err, turn_last, turn_more}
 use Rattle.idn_label.proofs.decoding.decode_labels.Goals as goal
 

@@ -5,7 +5,7 @@ use Rattle.std.proofs.lemmas.Bool.{cases_lt, eqb-true}
 use Rattle.std.proofs.lemmas.List.{drop-map}
 use Rattle.std.proofs.lemmas.Simd.{length-chunk, bitmask_splat, none_from_empty_mask}
 use Rattle.idna.specs.Labels.{is_full_stop}
-use Rattle.idn_label.proofs.BidiLabels.{ends_at_stop, ends_with_name}
+use Rattle.idn_label.proofs.LabelsByPlace.{ends_at_stop, ends_with_name}
 use Rattle.idn_label.proofs.LaneLemmas.{chunk_later, mask_l-drop, next_lane}
 use Rattle.idn_label.proofs.LdhLabels.{part_plain}
 use Rattle.idn_label.proofs.full_stops.end_in_octets.Goals as goal

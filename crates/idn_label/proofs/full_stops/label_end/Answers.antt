@@ -1,6 +1,6 @@
 use Rattle.std.proofs.Common.{◌≡◌, sym, subst, ◌∙◌, length, arith}
 use Rattle.idn_punycode.proofs.UnitLemmas.{codes_length, codes_at}
-use Rattle.idn_label.proofs.BidiLabels.{IsWithoutStop, without_stop-more, ends_at_stop, ends_with_name}
+use Rattle.idn_label.proofs.LabelsByPlace.{IsWithoutStop, without_stop-more, ends_at_stop, ends_with_name}
 use Rattle.idn_label.proofs.full_stops.label_end.Goals as goal
 
 pub returns-then-code_point-eq-FULL_STOP : goal.returns-then-code_point-eq-FULL_STOP

@@ -1,4 +1,4 @@
-use Rattle.idn_label.proofs.BidiLabels.{IsWithoutStop}
+use Rattle.idn_label.proofs.LabelsByPlace.{IsWithoutStop}
 use Rattle.idn_label.proofs.full_stops.label_end.Given as goal
 
 abbrev pub invariant-loop-at : goal.invariant-loop-at

@@ -1,6 +1,6 @@
 use Rattle.std.proofs.Common.{◌+◌, refl, sym, ◌∙◌, arith}
 use Rattle.idna.specs.BidiRule.{passes_bidi_rule}
-use Rattle.idn_label.proofs.BidiLabels.{item_at, without_stop-empty, without_stop-more, labels_at-stop, labels_at-end, all_labels-fails, all_labels-more, all_labels-last}
+use Rattle.idn_label.proofs.LabelsByPlace.{item_at, without_stop-empty, without_stop-more, labels_at-stop, labels_at-end, all_labels-fails, all_labels-more, all_labels-last}
 use Rattle.idn_label.proofs.query.bidi.pass_bidi_rule.Goals as goal
 use Rattle.idn_label.proofs.query.bidi.pass_bidi_rule.Goals.{then-c-eq46+else-not-passes_bidi_rule, else-c-eq46}
 

@@ -2,7 +2,7 @@ use Rattle.std.proofs.Common.{◌≡◌, ◌≤◌, drop}
 use Rattle.std.specs.List.{list_all}
 use Rattle.idna.specs.BidiRule.{passes_bidi_rule}
 use Rattle.idna.specs.Labels.{labels_of}
-use Rattle.idn_label.proofs.BidiLabels.{IsWithoutStop}
+use Rattle.idn_label.proofs.LabelsByPlace.{IsWithoutStop}
 use Rattle.idn_label.proofs.query.bidi.pass_bidi_rule.Given as goal
 
 -- the label that begins at `start` and those behind it decide

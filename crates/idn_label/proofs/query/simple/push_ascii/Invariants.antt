@@ -2,4 +2,4 @@ use Rattle.std.proofs.Common.{◌≡◌, ◌++◌, take}
 use Rattle.idn_label.proofs.query.simple.push_ascii.Given as goal
 
 abbrev pub invariant-loop-c : goal.invariant-loop-c
-invariant-loop-c g l = l.query.items ≡ l.initial.query.items ++ take l.c-index l.label
+invariant-loop-c l = l.query.items ≡ l.initial.query.items ++ take l.c-index l.label

@@ -138,9 +138,9 @@ returns-clause-lengths c =
 pub push_a_label-requires : goal.push_a_label-requires
 push_a_label-requires c =
     let label = slice_is c.deref.result.now c.loop-at.mapped.items c.loop-at.start c.deref.ensures.0 in
-    (omega arith, subst (λ (points : List ℕ). TellsComposing c.loop-at.facts points) (sym label) c.loop-at.invariant.composing)
+    subst (λ (points : List ℕ). TellsComposing c.loop-at.facts points) (sym label) c.loop-at.invariant.composing
 
 pub push_last_a_label-requires : goal.push_last_a_label-requires
 push_last_a_label-requires c =
     let label = slice_is c.deref-2.result.now c.loop-at.mapped.items c.loop-at.start c.deref-2.ensures.0 in
-    (omega arith, subst (λ (points : List ℕ). TellsComposing c.loop-at.facts points) (sym label) c.loop-at.invariant.composing)
+    subst (λ (points : List ℕ). TellsComposing c.loop-at.facts points) (sym label) c.loop-at.invariant.composing

@@ -6,7 +6,7 @@ use Rattle.std.proofs.lemmas.Bool.{cond-true, cond-false}
 use Rattle.std.proofs.lemmas.List.Elements.{All-nil, All-more}
 use Rattle.std.proofs.lemmas.List.Splits.{slice_split_none}
 use Rattle.idna.specs.Labels.{is_full_stop, labels_of}
-use Rattle.idn_label.specs.inner.FullStops.{EndsLabel}
+use Rattle.idn_label.specs.inner.LabelEnds.{EndsLabel}
 use Rattle.idn_label.proofs.DecodeLemmas.{labels_of-stop}
 
 -- the label that begins at a place, where no full stop stands before another place
