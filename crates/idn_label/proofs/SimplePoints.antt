@@ -1,63 +1,43 @@
--- Code points that pass in a label of lookup, by their facts.
-use Rattle.std.proofs.Common.{inl, inr, ◌≡◌, ℕ, ◌<◌, ◌≤◌, Bool, true, false, not, ◌==◌, bytes_eq, List, [], ◌∷◌, All, cond, refl, sym, ap, ◌∙◌, arith}
-use Rattle.std.specs.Char.{is_ascii, to_ascii_lowercase}
-use Rattle.std.specs.Cmp.Lexicographic.{bytes_decides}
+-- Code points that pass in a name of lookup, by their facts.
+use Rattle.std.proofs.Common.{inl, inr, ◌≡◌, ℕ, ◌-◌, ◌<◌, ◌≤◌, ◌++◌, length, get_or, Bool, true, false, ◌||◌, ◌==◌, List, [], ◌∷◌, drop, slice_range, cond, refl, sym, ap, ap₂, ◌∙◌, append_assoc, append-nil, arith}
+use Rattle.std.specs.Char.{is_ascii}
 use Rattle.std.proofs.lemmas.Bool.{cases_lt, ne_eqb, false≢true}
 use Rattle.std.proofs.lemmas.Bool.Decides.{nat_tests}
-use Rattle.std.proofs.lemmas.List.Elements.{All-nil, All-cons, All-head, All-weaker}
-use Rattle.ucd_bidi.specs.BidiClass.{bidi_class as unicode_bidi_class}
-use Rattle.ucd_bidi.specs.declared.BidiClass.{BidiClass}
-use Rattle.ucd_bidi.specs.declared.BidiClass.TheVariants.{RightToLeft as UnicodeRightToLeft, ArabicLetter, ArabicNumber}
+use Rattle.std.proofs.lemmas.List.Elements.{All-nil, All-cons, All-head, All-append, All-take, All-drop}
+use Rattle.std.proofs.lemmas.List.Folds.{list_any_none, list_any-append}
 use Rattle.ucd_category.specs.GeneralCategory.{general_category}
 use Rattle.ucd_category.specs.GeneralCategoryGroup.{in_group}
 use Rattle.ucd_category.specs.declared.GeneralCategory.{GeneralCategory}
 use Rattle.ucd_category.specs.declared.GeneralCategory.TheVariants.{NonspacingMark, SpacingMark, EnclosingMark}
 use Rattle.ucd_category.specs.declared.GeneralCategoryGroup.TheVariants.{Mark}
-use Rattle.ucd_idna_map.specs.IdnaMapping.{idna_mapping, idna_mapping_rows}
+use Rattle.ucd_idna_map.specs.IdnaMapping.{idna_mapping}
 use Rattle.ucd_idna_map.specs.IdnaStatus.{idna_status}
 use Rattle.ucd_idna_map.specs.IdnaStatusRows.{idna_status_rows}
+use Rattle.ucd_table.proofs.Computing.{tables}
 use Rattle.ucd_idna_map.specs.declared.IdnaStatus.{IdnaStatus}
 use Rattle.ucd_idna_map.specs.declared.IdnaStatus.TheVariants.{Valid, Mapped, Deviation}
-use Rattle.ucd_table.proofs.Computing.{tables}
 use Rattle.idna.specs.AsciiDenyList.{may_be_denied}
-use Rattle.idna.specs.BidiRule.{is_rtl}
-use Rattle.idna.specs.Labels.{is_full_stop}
 use Rattle.idna.specs.Uts46.{map_by, map_char}
 use Rattle.idna.specs.Validity.{begins_with_mark, is_valid_status}
 use Rattle.idn_class.proofs.ComputedLabels.{rules, in_table, class_of-in_table}
 use Rattle.idn_class.specs.declared.class.Class.TheVariants.{Pvalid, Contextj, Disallowed}
 use Rattle.idn_class.specs.Class.{class_of}
-use Rattle.idn_class.specs.declared.facts.Fact.TheVariants.{MayBeBarred, Contextj as fact_Contextj, MayCompose, Mark as Mark_fact, RightToLeft, NotKept}
+use Rattle.idn_class.specs.declared.facts.Fact.{Fact}
+use Rattle.idn_class.specs.declared.facts.Fact.TheVariants.{MayBeBarred, Contextj as fact_Contextj, Mark as Mark_fact, NotKept}
 use Rattle.idn_class.specs.declared.facts.Facts.{Facts}
-use Rattle.idn_class.specs.Facts.{is_barred_class, is_contextj, is_unicode_rtl_class, is_kept_status, contains, has_fact, IsSimple}
-use Rattle.idn_class.proofs.FactLabels.{class_without, contextj_without, mark_without, rtl_without, kept_without}
+use Rattle.idn_class.specs.Facts.{is_barred_class, is_contextj, is_kept_status, contains, has_fact, AreFactsOf, IsSimple}
+use Rattle.idn_class.proofs.FactLabels.{class_without, contextj_without, mark_without, kept_without, each_lacks}
 use Rattle.idn_class.specs.LeadingMark.{is_mark_category, is_mark}
-use Rattle.idn_class.specs.Tests.{all_places}
-use Rattle.idn_class.proofs.TestLemmas.{all_places-at}
-use Rattle.idn_label.specs.inner.SimpleNames.{PassesInLabel, TellsRightToLeft, TellsComposing}
+use Rattle.idn_label.specs.inner.SimpleNames.{AreAppended, Cover, PassesInName}
 use Rattle.idn_label.specs.Steps.{is_ldh_point}
 use Rattle.idn_label.proofs.LdhLemmas.{class_of-ascii}
+
+-- ---- one code point
 
 status : (s : IdnaStatus) → is_kept_status s ≡ is_valid_status s
 status Valid = refl
 status Deviation = refl
 status _ = refl
-
-mark : (g : GeneralCategory) → is_mark_category g ≡ in_group Mark g
-mark NonspacingMark = refl
-mark SpacingMark = refl
-mark EnclosingMark = refl
-mark _ = refl
-
-mark_group : (c : ℕ) → is_mark c ≡ in_group Mark (general_category c)
-unfolding is_mark
-mark_group c = mark (general_category c)
-
-rtl : (class : BidiClass) → is_unicode_rtl_class class ≡ is_rtl class
-rtl UnicodeRightToLeft = refl
-rtl ArabicLetter = refl
-rtl ArabicNumber = refl
-rtl _ = refl
 
 non_joiner : is_contextj (class_of 0x200C) ≡ true
 unfolding in_table rules
@@ -78,92 +58,99 @@ ldh_class c low is = by_test (is_ldh_point c) (ap is_barred_class (sym (class_of
     by_test true h = refl
     by_test false h = absurd (false≢true (sym h))
 
-allowed_ldh : (c : ℕ) → is_ldh_point c ≡ true → (may_be_denied c ≡ false) × (is_full_stop c ≡ false)
-allowed_ldh c ldh = (grind (arith, nat_tests), grind (arith, nat_tests))
+allowed_ldh : (c : ℕ) → is_ldh_point c ≡ true → may_be_denied c ≡ false
+allowed_ldh c ldh = grind (arith, nat_tests)
 
-allowed_high : (c : ℕ) → 128 ≤ c → (may_be_denied c ≡ false) × (is_full_stop c ≡ false)
-allowed_high c high = (grind (arith, nat_tests), grind (arith, nat_tests))
-
-allowed_simple : (c : ℕ) → is_barred_class (class_of c) ≡ false → (may_be_denied c ≡ false) × (is_full_stop c ≡ false)
+allowed_simple : (c : ℕ) → is_barred_class (class_of c) ≡ false → may_be_denied c ≡ false
 allowed_simple c is =
     elim (cases_lt c 128) [
       | inl low ↦ allowed_ldh c (ldh_class c low is)
-      | inr high ↦ allowed_high c high
+      | inr high ↦ grind (arith, nat_tests)
     ]
 
-PassesInLabel-facts : (c : ℕ) → has_fact NotKept c ≡ false → has_fact fact_Contextj c ≡ false → (may_be_denied c ≡ false) × (is_full_stop c ≡ false) → PassesInLabel c
-PassesInLabel-facts c kept joins allowed =
+passes_facts : (c : ℕ) → has_fact NotKept c ≡ false → has_fact fact_Contextj c ≡ false → may_be_denied c ≡ false → PassesInName c
+passes_facts c kept joins allowed =
     let other = contextj_without c joins in
     record {
       valid = sym (status (idna_status c)) ∙ kept_without c kept;
       no_non_joiner = other_class c 0x200C other non_joiner;
       no_joiner = other_class c 0x200D other joiner;
-      allowed = allowed.0;
-      no_full_stop = allowed.1;
+      allowed = allowed;
     }
 
-pub PassesInLabel-simple : (c : ℕ) → IsSimple c → PassesInLabel c
-PassesInLabel-simple c simple =
-    PassesInLabel-facts c (simple NotKept) (simple fact_Contextj) (allowed_simple c (class_without c (simple MayBeBarred)).0)
+pub passes_simple : (c : ℕ) → IsSimple c → PassesInName c
+passes_simple c simple =
+    passes_facts c (simple NotKept) (simple fact_Contextj) (allowed_simple c (class_without c (simple MayBeBarred)).0)
 
-pub PassesInLabel-high : (c : ℕ) → 128 ≤ c → has_fact NotKept c ≡ false → has_fact fact_Contextj c ≡ false → PassesInLabel c
-PassesInLabel-high c high kept joins = PassesInLabel-facts c kept joins (allowed_high c high)
+pub passes_full_stop : PassesInName 0x2E
+unfolding tables idna_status idna_status_rows
+passes_full_stop = record { valid = refl; no_non_joiner = refl; no_joiner = refl; allowed = refl }
 
--- ---- the direction and composition
+pub passes_high : (c : ℕ) → is_ascii c ≡ false → has_fact NotKept c ≡ false → has_fact fact_Contextj c ≡ false → PassesInName c
+passes_high c other kept joins = passes_facts c kept joins (grind (arith, nat_tests))
 
-pub not_rtl-fact : (c : ℕ) → has_fact RightToLeft c ≡ false → is_rtl (unicode_bidi_class c) ≡ false
-not_rtl-fact c without = sym (rtl (unicode_bidi_class c)) ∙ (rtl_without c without).1
-
-pub TellsRightToLeft-simple : (facts : Facts) (points : List ℕ) → All IsSimple points → TellsRightToLeft facts points
-TellsRightToLeft-simple facts points simple none = All-weaker IsSimple (λ c. is_rtl (unicode_bidi_class c) ≡ false) (λ c h. not_rtl-fact c (h RightToLeft)) points simple
-
-pub TellsComposing-simple : (facts : Facts) (points : List ℕ) → All IsSimple points → TellsComposing facts points
-TellsComposing-simple facts points simple none = All-weaker IsSimple (λ c. has_fact MayCompose c ≡ false) (λ c h. h MayCompose) points simple
-
-pub TellsComposing-one : (facts : Facts) (c : ℕ) → contains facts MayCompose ≡ has_fact MayCompose c → TellsComposing facts (c ∷ [])
-TellsComposing-one facts c is none = All-cons (λ x. has_fact MayCompose x ≡ false) c [] (sym is ∙ none) (All-nil (λ x. has_fact MayCompose x ≡ false))
-
-pub TellsRightToLeft-one : (facts : Facts) (c : ℕ) → contains facts RightToLeft ≡ has_fact RightToLeft c → TellsRightToLeft facts (c ∷ [])
-TellsRightToLeft-one facts c is none =
-    All-cons (λ x. is_rtl (unicode_bidi_class x) ≡ false) c [] (not_rtl-fact c (sym is ∙ none)) (All-nil (λ x. is_rtl (unicode_bidi_class x) ≡ false))
-
-pub past_ascii : (c : ℕ) → is_ascii c ≡ false → 128 ≤ c
-past_ascii c h = grind (arith, nat_tests)
-
-lower_maps : all_places 128 (λ c. bytes_eq (map_char c) (to_ascii_lowercase c ∷ [])) ≡ true
-unfolding tables map_char idna_status idna_status_rows idna_mapping idna_mapping_rows
-lower_maps = refl
-
-pub map_char-ascii : (c : ℕ) → c < 128 → map_char c ≡ to_ascii_lowercase c ∷ []
-map_char-ascii c low =
-    (bytes_decides (map_char c) (to_ascii_lowercase c ∷ [])).0 (all_places-at 128 (λ x. bytes_eq (map_char x) (to_ascii_lowercase x ∷ [])) lower_maps c low)
+-- ---- what it is mapped to
 
 kept_maps : (s : IdnaStatus) (c : ℕ) → is_valid_status s ≡ true → map_by s c ≡ c ∷ []
 kept_maps Valid c h = refl
 kept_maps Deviation c h = refl
 kept_maps _ c h = cc
 
--- what passes is mapped to itself
-pub map_char-passes : (c : ℕ) → PassesInLabel c → map_char c ≡ c ∷ []
+pub map_char_kept : (c : ℕ) → has_fact NotKept c ≡ false → map_char c ≡ c ∷ []
 unfolding map_char
-map_char-passes c passes = kept_maps (idna_status c) c passes.valid
+map_char_kept c kept = kept_maps (idna_status c) c (sym (status (idna_status c)) ∙ kept_without c kept)
 
-pub map_char-mapped : (c : ℕ) → idna_status c ≡ Mapped → map_char c ≡ idna_mapping c
+pub map_char_mapped : (c : ℕ) → idna_status c ≡ Mapped → map_char c ≡ idna_mapping c
 unfolding map_char
-map_char-mapped c is = ap (λ s. map_by s c) is
+map_char_mapped c is = ap (λ s. map_by s c) is
 
-pub all_pass : (points : List ℕ) → All IsSimple points → All PassesInLabel points
-all_pass points h = All-weaker IsSimple PassesInLabel PassesInLabel-simple points h
+-- ---- marks
 
-pub one_passes : (c : ℕ) → PassesInLabel c → All PassesInLabel (c ∷ [])
-one_passes c passes = All-cons PassesInLabel c [] passes (All-nil PassesInLabel)
+mark : (g : GeneralCategory) → is_mark_category g ≡ in_group Mark g
+mark NonspacingMark = refl
+mark SpacingMark = refl
+mark EnclosingMark = refl
+mark _ = refl
 
-pub begins_with_mark-one : (c : ℕ) → is_mark c ≡ false → begins_with_mark (c ∷ []) ≡ false
-begins_with_mark-one c none = sym (mark_group c) ∙ none
+no_mark : (c : ℕ) (label : List ℕ) → has_fact Mark_fact c ≡ false → begins_with_mark (c ∷ label) ≡ false
+unfolding is_mark
+no_mark c label none = sym (mark (general_category c)) ∙ mark_without c none
 
-pub no_mark-simple : (c : ℕ) → IsSimple c → is_mark c ≡ false
-no_mark-simple c simple = mark_without c (simple Mark_fact)
+pub no_mark_first : (c : ℕ) (label : List ℕ) → 1 ≤ length label → c ≡ get_or label 0 c → has_fact Mark_fact c ≡ false → begins_with_mark label ≡ false
+no_mark_first c [] some is none = refl
+no_mark_first c (d ∷ label) some is none = no_mark d label (ap (has_fact Mark_fact) (sym is) ∙ none)
 
-pub begins_with_mark-simple : (points : List ℕ) → All IsSimple points → begins_with_mark points ≡ false
-begins_with_mark-simple [] h = refl
-begins_with_mark-simple (c ∷ points) h = begins_with_mark-one c (no_mark-simple c (All-head IsSimple c points h))
+pub no_mark_covered : (facts : Facts) (label : List ℕ) → Cover facts label → contains facts Mark_fact ≡ false → begins_with_mark label ≡ false
+no_mark_covered facts [] cover none = refl
+no_mark_covered facts (c ∷ label) cover none = no_mark c label (All-head (λ c. has_fact Mark_fact c ≡ false) c label (each_lacks Mark_fact (c ∷ label) (cover Mark_fact none)))
+
+-- ---- facts of several code points
+
+pub one_fact : (facts : Facts) (c : ℕ) (fact : Fact) → AreFactsOf facts (c ∷ []) → contains facts fact ≡ false → has_fact fact c ≡ false
+one_fact facts c fact are none = All-head (λ c. has_fact fact c ≡ false) c [] (each_lacks fact (c ∷ []) (sym (are fact) ∙ none))
+
+pub facts_of_one : (facts : Facts) (c : ℕ) → ((fact : Fact) → contains facts fact ≡ has_fact fact c) → AreFactsOf facts (c ∷ [])
+facts_of_one facts c are fact = are fact ∙ sym (or_false (has_fact fact c))
+  where
+    or_false : (b : Bool) → (b || false) ≡ b
+    or_false true = refl
+    or_false false = refl
+
+pub appended_nothing : (facts : Facts) (text : List ℕ) → ((fact : Fact) → contains facts fact ≡ false) → AreAppended text text [] facts
+appended_nothing facts text none = record { items = sym (append-nil text); passes = All-nil PassesInName; facts_of = none }
+
+pub appended_one : (facts : Facts) (before after : List ℕ) (c : ℕ) → after ≡ before ++ c ∷ [] → PassesInName c → AreFactsOf facts (c ∷ []) → AreAppended before after (c ∷ []) facts
+appended_one facts before after c is passes are = record { items = is; passes = All-cons PassesInName c [] passes (All-nil PassesInName); facts_of = are }
+
+pub appended_more : {before between after points more : List ℕ} {facts facts_of_more : Facts} (joined : Facts) → AreAppended before between points facts → AreAppended between after more facts_of_more → ((fact : Fact) → contains joined fact ≡ (contains facts fact || contains facts_of_more fact)) → AreAppended before after (points ++ more) joined
+appended_more {before} {between} {after} {points} {more} joined a b join = record {
+  items = b.items ∙ ap (λ x. x ++ more) a.items ∙ append_assoc before points more;
+  passes = All-append PassesInName points more a.passes b.passes;
+  facts_of = λ fact. join fact ∙ ap₂ (λ a b. a || b) (a.facts_of fact) (b.facts_of fact) ∙ sym (list_any-append (has_fact fact) points more);
+}
+
+-- the facts of a name cover each part of it
+pub cover_part : (facts : Facts) (name : List ℕ) (start end : ℕ) → AreFactsOf facts name → Cover facts (slice_range name start end)
+cover_part facts name start end are fact none =
+    let p = λ (c : ℕ). has_fact fact c ≡ false in
+    list_any_none (has_fact fact) _ (All-take p (end - start) (drop start name) (All-drop p start name (each_lacks fact name (sym (are fact) ∙ none))))

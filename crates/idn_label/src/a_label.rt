@@ -1,7 +1,7 @@
 //! A-labels.
-ghost use Rattle.std.specs.Prelude.{◌≡◌, ◌<◌, ◌≤◌, ◌++◌, length, codes, true, IfNone, IfSome, OnSome};
-ghost use Rattle.idna.specs.Punycode.{encode};
+ghost use Rattle.std.specs.Prelude.{◌≡◌, ◌≤◌, length, true, false, IfSome};
 ghost use Rattle.idna.specs.Validity.{is_all_ascii};
+ghost use Rattle.idn_label.specs.ALabel.{a_label_of};
 
 use crate::unit::Unit;
 use arrayvec::ArrayString;
@@ -28,12 +28,11 @@ impl ALabelEncoder {
         }
     }
 
-    /// The prefix and the Punycode of a label, if they are short enough.
-    pub(crate) fn encode<U: Unit>(&mut self, label: &[U]) -> Option<&[u8]>
-        requires { length (U.codes label.now) ≤ 63 }
-        ensures ok { IfSome result (λ answer. answer.now ≡ codes "xn--" ++ encode (U.codes label.now)) }
-        ensures short { OnSome result (length (codes "xn--" ++ encode (U.codes label.now)) ≤ 63) }
-        ensures too_long { IfNone result (63 < length (codes "xn--" ++ encode (U.codes label.now))) }
+    /// The A-label of a label that is not all ASCII, if it has at most 63 octets.
+    pub(crate) fn encode(&mut self, label: &[char]) -> Option<&[u8]>
+        requires few { length label.now ≤ 63 }
+        requires other { is_all_ascii label.now ≡ false }
+        ensures { IfSome result (λ answer. answer.now ≡ a_label_of label.now) }
     {
         self.a_label.clear();
         self.a_label.push_str(ACE_PREFIX);

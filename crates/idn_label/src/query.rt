@@ -1,23 +1,23 @@
 //! Lookup of a name.
 ghost use Rattle.std.specs.Prelude.{◌≡◌, ◌≢◌, ◌≤◌, length, take, string_bytes, Err, IfOk};
-ghost use Rattle.idna.specs.Display.{IsPlain};
-ghost use Rattle.idna.specs.declared.options.Hyphens.TheVariants.{Allow};
 ghost use Rattle.idn_text.specs.Points.{AreScalarValues, utf8_of};
 ghost use Rattle.idn_label.specs.Answers.{Gives};
-ghost use Rattle.idn_label.specs.Lookup.{deny_list, utf8_answer, lookup_answer};
+ghost use Rattle.idn_label.specs.Lookup.{utf8_answer, lookup_answer};
 ghost use Rattle.idn_label.specs.Memory.{LooksUpWithoutMemory};
 
 mod bidi;
 mod buffers;
 mod full;
 mod ldh;
+mod lengths;
 mod simple;
 
 use crate::code_points::to_char;
 pub use buffers::LookupBuffers;
 use full::full_lookup;
 use idn_text::Refusal;
-use ldh::{MAX_QUERY_LEN, ldh_query};
+use ldh::ldh_query;
+use lengths::MAX_QUERY_LEN;
 use simple::simple_query;
 use std::alloc::{AllocError, Global};
 use std::str;
@@ -61,27 +61,13 @@ pub fn lookup_utf8(
     if let Some(answer) = ldh_query(name, room) {
         return answer;
     }
-    other_query(alloc, name, std3, buffers)?;
+    match simple_query(name, buffers) {
+        Some(()) => {}
+        None => full_lookup(alloc, name, std3, &mut buffers.query)?,
+    }
     let len = buffers.query.len();
     room[..len].copy_from_slice(&buffers.query);
     Ok(len)
-}
-
-/// Leaves in `buffers.query` what `lookup_utf8` answers of a name that has other code points than letters, digits and
-/// hyphens of ASCII.
-fn other_query(
-    alloc: Global,
-    name: &[u8],
-    std3: bool,
-    buffers: &mut LookupBuffers,
-) -> Result<(), Refusal>
-    ensures answer { Gives (λ _. buffers.new.query.items) result (utf8_answer name.now std3) }
-    ensures no_memory { IsPlain (deny_list std3) Allow name.now → result ≢ Err Refusal.Memory }
-{
-    if let Some(()) = simple_query(name, buffers) {
-        return Ok(());
-    }
-    full_lookup(alloc, name, std3, &mut buffers.query)
 }
 
 /// The UTF-8 of a name.

@@ -6,17 +6,17 @@ use Rattle.idn_label.proofs.query.bidi.passes_bidi_rule.Goals as goal
 pub returns-in_default : goal.returns-in_default
 returns-in_default c = rw (nil_from_length c.args.label.now (omega arith)) (sym passes_bidi_rule-nil)
 
-pub returns-then-is_class : goal.returns-then-is_class
-returns-then-is_class c =
-    let class = c.for_char-class.ensures in
+pub returns-in-LeftToRight : goal.returns-in-LeftToRight
+returns-in-LeftToRight c =
+    let class = c.for_char.ensures in
+    rw (passes_bidi_rule_is _ _ c.in-len1-up.len_at_least c.first-item.is, ← class, c.in-LeftToRight.is) (grind arith)
+
+pub returns-in-RightToLeft : goal.returns-in-RightToLeft
+returns-in-RightToLeft c =
+    let class = c.for_char.ensures in
     rw (passes_bidi_rule_is _ _ c.in-len1-up.len_at_least c.first-item.is, ← class) (grind arith)
 
-pub returns-then-begins_rtl_label : goal.returns-then-begins_rtl_label
-returns-then-begins_rtl_label c =
-    let class = c.for_char-class.ensures in
-    rw (passes_bidi_rule_is _ _ c.in-len1-up.len_at_least c.first-item.is, ← class) (grind arith)
-
-pub returns-else-begins_rtl_label : goal.returns-else-begins_rtl_label
-returns-else-begins_rtl_label c =
-    let class = c.for_char-class.ensures in
+pub returns-in_default-for_char : goal.returns-in_default-for_char
+returns-in_default-for_char c =
+    let class = c.for_char.ensures in
     rw (passes_bidi_rule_is _ _ c.in-len1-up.len_at_least c.first-item.is, ← class) (grind arith)
