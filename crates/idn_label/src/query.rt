@@ -11,13 +11,15 @@ mod bidi;
 mod buffers;
 mod full;
 mod ldh;
+mod lengths;
 mod simple;
 
 use crate::code_points::to_char;
 pub use buffers::LookupBuffers;
 use full::full_lookup;
 use idn_text::Refusal;
-use ldh::{MAX_QUERY_LEN, ldh_query};
+use ldh::ldh_query;
+use lengths::MAX_QUERY_LEN;
 use simple::simple_query;
 use std::alloc::{AllocError, Global};
 use std::str;

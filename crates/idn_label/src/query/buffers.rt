@@ -1,7 +1,7 @@
 //! Buffers for the lookup of a name.
 
 use crate::a_label::ALabelEncoder;
-use crate::query::ldh::MAX_QUERY_LEN;
+use crate::query::lengths::MAX_QUERY_LEN;
 use arrayvec::ArrayVec;
 
 /// A name, as it is mapped. Its query has at least as many octets, so there is room for each name that has one.

@@ -2,24 +2,17 @@
 //! takes no memory and one pass.
 ghost use Rattle.std.specs.Prelude.{◌≡◌, ◌≢◌, ◌<◌, ◌≤◌, ◌+◌, ◌-◌, ◌++◌, ◌↔◌, Bool, not, true, length, map, take, replicate, slice_range, All, Err, IfOk, IfSome, IsSome};
 ghost use Rattle.std.specs.Char.{to_ascii_lowercase};
-ghost use Rattle.std.specs.Int.{is_in_range};
 ghost use Rattle.std.specs.Simd.Lanes.{chunk, mask_l};
 ghost use Rattle.idna.specs.Labels.{is_full_stop};
 ghost use Rattle.idna.specs.Validity.{has_ace_prefix};
 ghost use Rattle.idn_label.specs.Answers.{Gives};
 ghost use Rattle.idn_label.specs.Lookup.{utf8_answer};
-ghost use Rattle.idn_label.specs.LdhNames.{IsLdhName, is_name_point, may_end};
+ghost use Rattle.idn_label.specs.LdhNames.{IsLdhName, is_name_point};
 
-use crate::a_label::MAX_LABEL_LEN;
+use crate::query::lengths::{MAX_QUERY_LEN, has_label_length, may_end};
 use crate::unit::has_ace_prefix;
 use idn_text::Refusal;
 use std::simd::prelude::*;
-
-/// The most octets of a name in the DNS, a full stop at its end put aside (RFC 1035 section 2.3.4).
-const MAX_NAME_LEN: usize = 253;
-
-/// The same with that full stop.
-pub(crate) const MAX_QUERY_LEN: usize = 254;
 
 /// How many octets of a name are read at once.
 const CHUNK_LEN: usize = 16;
@@ -163,29 +156,4 @@ fn has_ace_prefix_at(name: &[u8], start: usize, end: usize) -> bool
         return false;
     }
     has_ace_prefix(&name[start..end])
-}
-
-/// Whether a label that begins at `start` and ends before `end` has 1 to 63 octets.
-#[inline]
-fn has_label_length(start: usize, end: usize) -> bool
-    requires order { start ≤ end }
-    requires short { end ≤ MAX_QUERY_LEN }
-    ensures { result ≡ is_in_range 1 63 (end - start) }
-{
-    start < end && end <= start + MAX_LABEL_LEN
-}
-
-/// Whether a name of `len` octets may end in the label that begins at `start`: in 1 to 63 octets, or after the full stop
-/// of another label, which is put aside.
-#[inline]
-fn may_end(start: usize, len: usize) -> bool
-    requires order { start ≤ len }
-    requires short { len ≤ MAX_QUERY_LEN }
-    ensures { result ≡ may_end start len }
-{
-    if start == len {
-        start != 0
-    } else {
-        has_label_length(start, len) && len <= MAX_NAME_LEN
-    }
 }

@@ -16,7 +16,7 @@ ghost use Rattle.idn_label.specs.Lookup.{deny_list};
 use crate::a_label::{ALabelEncoder, MAX_LABEL_LEN};
 use crate::query::bidi::pass_bidi_rule;
 use crate::query::buffers::{LookupBuffers, Mapped, Query};
-use crate::query::ldh::MAX_QUERY_LEN;
+use crate::query::lengths::MAX_QUERY_LEN;
 use crate::unit::{has_ace_prefix, is_all_ascii};
 use idn_class::{Fact, Facts};
 use idn_text::character_at;

@@ -76,13 +76,6 @@ returns-then-has_ace_prefix_at-clause-told c ldh =
     sym ldh.no_a_label
     ∙ part_prefix (lowered name) start stop c.labels.have_lengths c.labels.invariant.labels (omega (arith, c.labels.invariant.within)) (omega (arith, next.0, length-map name to_ascii_lowercase, c.min-end.ensures)) (plain_more (lowered name) start c.labels.at stop c.labels.invariant.without_stops next.1) prefix
 
-pub has_label_length-have_lengths-requires-clause-short : goal.has_label_length-have_lengths-requires-clause-short
-has_label_length-have_lengths-requires-clause-short c =
-    let name = c.args.name.now in
-    let end = c.min-end.result in
-    let next = next_stop name c.chunks.at c.labels.at end c.labels.stops c.min-end.ensures c.labels.invariant.within.2 c.labels.invariant.within.1 c.labels.invariant.stops c.labels-test.true in
-    omega (arith, next.0, c.min-end.ensures, c.if-name-gt-MAX_QUERY_LEN.false)
-
 pub labels-preserved : goal.labels-preserved
 labels-preserved c =
     let name = c.args.name.now in
