@@ -7,7 +7,7 @@ use Rattle.std.proofs.Math.Seq.{get_or-append_seam, take-append_seam}
 use Rattle.std.proofs.lemmas.Bool.{false≢true}
 use Rattle.std.proofs.lemmas.Bool.Decides.{nat_tests}
 use Rattle.std.proofs.lemmas.List.{get_or-append-add}
-use Rattle.std.proofs.lemmas.List.Elements.{All-head, All-tail}
+use Rattle.std.proofs.lemmas.List.Elements.{All-nil, All-cons, All-head, All-tail}
 use Rattle.std.proofs.lemmas.List.Folds.{list_all-append}
 use Rattle.std.proofs.lemmas.List.Splits.{slice_split_at, slice_split_none}
 use Rattle.idna.specs.Labels.{full_stop, is_full_stop, labels_of, join_labels}
@@ -34,6 +34,12 @@ join_terminated [] last = refl
 join_terminated (label ∷ []) last = sym (terminated_then label [] last)
 join_terminated (label ∷ next ∷ labels) last =
     ap (λ x. label ++ full_stop ∷ x) (join_terminated (next ∷ labels) last) ∙ sym (terminated_then label (next ∷ labels) last)
+
+pub All-parts : {X : Type 0} (P : X → Type 0) (xs : List X) (x : X) → All P (xs ++ x ∷ []) → All P xs × P x
+All-parts P [] x h = (All-nil P, All-head P x [] h)
+All-parts P (y ∷ xs) x h =
+    let behind = All-parts P xs x (All-tail P y (xs ++ x ∷ []) h) in
+    (All-cons P y xs (All-head P y (xs ++ x ∷ []) h) behind.0, behind.1)
 
 may_end-stop : (n m : ℕ) → n ≡ m + 1 → may_end n n ≡ nat_le m 253
 may_end-stop n m is = grind (arith, nat_tests)

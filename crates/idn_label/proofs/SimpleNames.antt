@@ -40,7 +40,7 @@ use Rattle.idn_class.proofs.FactLabels.{each_lacks, rtl_without}
 use Rattle.idn_label.specs.inner.SimpleNames.{IsTested, PassesInName}
 use Rattle.idn_label.specs.inner.LabelEnds.{EndsLabel}
 use Rattle.idn_label.proofs.LabelsByPlace.{label_before, label_last}
-use Rattle.idn_label.proofs.NameLengths.{has_length, join_terminated, measured}
+use Rattle.idn_label.proofs.NameLengths.{has_length, All-parts, join_terminated, measured}
 
 -- ---- A-labels
 
@@ -262,17 +262,8 @@ module _ {facts : Facts} {name query : List ℕ} {start : ℕ} (w : IsWritten fa
 
   pub measured_all : may_end (length query) (length longer) ≡ true → verify_dns_length longer true ≡ true
   measured_all ended =
-      let none : All HasNoFullStop (w.whole ++ label ∷ []) = subst (All HasNoFullStop) labels (HasNoFullStop-labels_of name) in
-      let whole_none = All-map HasNoFullStop a_label_of w.whole (All-weaker HasNoFullStop (λ l. HasNoFullStop (a_label_of l)) no_full_stop-a_label w.whole (All-front w.whole label none)) in
+      let none = All-parts HasNoFullStop w.whole label (subst (All HasNoFullStop) labels (HasNoFullStop-labels_of name)) in
+      let whole_none = All-map HasNoFullStop a_label_of w.whole (All-weaker HasNoFullStop (λ l. HasNoFullStop (a_label_of l)) no_full_stop-a_label w.whole none.0) in
       ap (λ x. verify_dns_length x true) longer_is
-      ∙ measured (map a_label_of w.whole) (a_label_of label) whole_none (no_full_stop-a_label label (All-last w.whole label none))
+      ∙ measured (map a_label_of w.whole) (a_label_of label) whole_none (no_full_stop-a_label label none.1)
       ∙ ap₂ (λ a b. a && b) w.lengths (ap₂ may_end (ap length (sym w.written)) (ap length (sym longer_is)) ∙ ended)
-    where
-      All-front : (labels : List (List ℕ)) (last : List ℕ) → All HasNoFullStop (labels ++ last ∷ []) → All HasNoFullStop labels
-      All-front [] last h = All-nil HasNoFullStop
-      All-front (label ∷ labels) last h =
-          All-cons HasNoFullStop label labels (All-head HasNoFullStop label (labels ++ last ∷ []) h) (All-front labels last (All-tail HasNoFullStop label (labels ++ last ∷ []) h))
-
-      All-last : (labels : List (List ℕ)) (last : List ℕ) → All HasNoFullStop (labels ++ last ∷ []) → HasNoFullStop last
-      All-last [] last h = All-head HasNoFullStop last [] h
-      All-last (label ∷ labels) last h = All-last labels last (All-tail HasNoFullStop label (labels ++ last ∷ []) h)

@@ -1,8 +1,9 @@
 //! Names of letters, digits and hyphens of ASCII (LDH, RFC 5890 section 2.3.1). Most names are such, and their lookup
 //! takes no memory and one pass.
-ghost use Rattle.std.specs.Prelude.{◌≡◌, ◌≢◌, ◌<◌, ◌≤◌, ◌+◌, ◌-◌, ◌++◌, ◌↔◌, Bool, not, true, length, map, take, replicate, slice_range, All, Err, IfOk, IfSome, IsSome};
+ghost use Rattle.std.specs.Prelude.{◌≡◌, ◌≢◌, ◌<◌, ◌≤◌, ◌+◌, ◌-◌, ◌++◌, ◌↔◌, Bool, not, true, length, map, take, replicate, slice_range, Err, IfOk, IfSome, IsSome};
 ghost use Rattle.std.specs.Char.{to_ascii_lowercase};
-ghost use Rattle.std.specs.Simd.Lanes.{chunk, mask_l};
+ghost use Rattle.std.specs.List.{AllWithin};
+ghost use Rattle.std.specs.Simd.Lanes.{mask_l};
 ghost use Rattle.idna.specs.Labels.{is_full_stop};
 ghost use Rattle.idna.specs.Validity.{has_ace_prefix};
 ghost use Rattle.idn_label.specs.Answers.{Gives};
@@ -10,7 +11,7 @@ ghost use Rattle.idn_label.specs.Lookup.{utf8_answer};
 ghost use Rattle.idn_label.specs.LdhNames.{IsLdhName, is_name_point};
 
 use crate::query::lengths::{MAX_QUERY_LEN, has_label_length, may_end};
-use crate::unit::has_ace_prefix;
+use crate::unit::has_ace_prefix_in_any_case;
 use idn_text::Refusal;
 use std::simd::prelude::*;
 
@@ -45,7 +46,7 @@ pub(crate) fn ldh_query(name: &[u8], room: &mut [u8]) -> Option<Result<usize, Re
         'labels: while stops != 0 {
             let count = stops.trailing_zeros() as usize;
             let stop = at + count;
-            if has_ace_prefix_at(room, start, stop) {
+            if has_ace_prefix_at(name, start, stop) {
                 return None;
             }
             have_lengths &= has_label_length(start, stop);
@@ -55,10 +56,10 @@ pub(crate) fn ldh_query(name: &[u8], room: &mut [u8]) -> Option<Result<usize, Re
         }
         at = end;
     }
-    if has_ace_prefix_at(room, start, name.len()) {
+    if has_ace_prefix_at(name, start, name.len()) {
         return None;
     }
-    if have_lengths && may_end(start, name.len()) {
+    if have_lengths & may_end(start, name.len()) {
         Some(Ok(name.len()))
     } else {
         Some(Err(Refusal::LookupLength))
@@ -76,10 +77,9 @@ fn lowercase_chunk(name: &[u8], at: usize, end: usize, room: &mut [u8]) -> Optio
     requires room { length name.now ≤ length room.old }
     requires wide { CHUNK_LEN ≤ length room.old }
     requires begun { take at room.old ≡ take at (map to_ascii_lowercase name.now) }
-    requires points { All (λ c. is_name_point (to_ascii_lowercase c) ≡ true) (take at name.now) }
     ensures lower { IfSome result (λ _. take end room.new ≡ take end (map to_ascii_lowercase name.now)) }
-    ensures stops { IfSome result (λ stops. stops ≡ mask_l (map is_full_stop (chunk at (end - at) (map to_ascii_lowercase name.now)))) }
-    ensures points { IsSome result ↔ All (λ c. is_name_point (to_ascii_lowercase c) ≡ true) (take end name.now) }
+    ensures stops { IfSome result (λ stops. stops ≡ mask_l (map is_full_stop (slice_range (map to_ascii_lowercase name.now) at end))) }
+    ensures points { IsSome result ↔ AllWithin (λ c. is_name_point (to_ascii_lowercase c) ≡ true) name.now (end - CHUNK_LEN) end }
     ensures length { length room.new ≡ length room.old }
 {
     let (lower, stops, others) = lowercase_lanes(lanes_before(name, end));
@@ -144,16 +144,17 @@ fn lowercase_lanes(octets: u8x16) -> (u8x16, u64, u64)
     )
 }
 
-/// Whether the label that stands from `start` to `end` begins with `xn--`. The third octet is asked for first, be it of
-/// the label or behind it: whether a label has so many can't be foretold, but hardly one has a hyphen there.
+/// Whether the label that stands from `start` to `end` begins with `xn--` in any ASCII case. The third octet is asked for
+/// first, be it of the label or behind it: whether a label has so many can't be foretold, but hardly one has a hyphen
+/// there.
 #[inline]
 fn has_ace_prefix_at(name: &[u8], start: usize, end: usize) -> bool
     requires order { start ≤ end }
     requires within { end ≤ length name.now }
-    ensures { result ≡ has_ace_prefix (slice_range name.now start end) }
+    ensures { result ≡ has_ace_prefix (slice_range (map to_ascii_lowercase name.now) start end) }
 {
     if start + 2 >= name.len() || name[start + 2] != b'-' {
         return false;
     }
-    has_ace_prefix(&name[start..end])
+    has_ace_prefix_in_any_case(&name[start..end])
 }

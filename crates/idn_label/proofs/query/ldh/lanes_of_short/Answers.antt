@@ -1,7 +1,6 @@
 use Rattle.std.proofs.Common.{ℕ, List, ◌≡◌, ◌+◌, ◌-◌, ◌++◌, length, take, drop, replicate, sym, ap, ap₂, ◌∙◌, append_assoc, arith}
 use Rattle.std.proofs.Math.Seq.{drop-append-add}
-use Rattle.std.proofs.lemmas.List.{take_all, take-take, take-append-le, take-append-drop, drop-drop, length-take, length-drop}
-use Rattle.idn_label.proofs.LaneLemmas.{drop-replicate}
+use Rattle.std.proofs.lemmas.List.{drop-replicate, take_all, take-take, take-append-le, take-append-drop, drop-drop, length-take, length-drop}
 use Rattle.idn_label.proofs.query.ldh.lanes_of_short.Goals as goal
 use Rattle.idn_label.proofs.query.ldh.lanes_of_short.Goals.{then-len-lt-HALF_LEN, else-len-lt-HALF_LEN}
 

@@ -1,32 +1,31 @@
-use Rattle.std.proofs.Common.{◌≡◌, ℕ, ◌-◌, ◌<◌, ◌≤◌, true, false, map, take, length, get_or, All}
+use Rattle.std.proofs.Common.{◌≡◌, ◌-◌, ◌≤◌, true, map, take, length, slice_range}
 use Rattle.std.specs.Char.{to_ascii_lowercase}
-use Rattle.std.specs.Simd.Lanes.{chunk, mask_l}
+use Rattle.std.specs.List.{AllWithin}
+use Rattle.std.specs.Simd.Lanes.{mask_l}
 use Rattle.idna.specs.Labels.{is_full_stop}
 use Rattle.idn_label.specs.LdhNames.{is_name_point}
-use Rattle.idn_label.proofs.LdhLabels.{IsSplit}
+use Rattle.idn_label.proofs.LdhLabels.{IsCut}
 use Rattle.idn_label.proofs.query.ldh.ldh_query.Given as goal
 
--- the octets so far, in lower case, and their labels: whole ones, and one without its end
+-- the octets so far, in lower case, cut at their full stops
 abbrev pub invariant-chunks : goal.invariant-chunks
 invariant-chunks l = record {
   lower : take l.at l.room ≡ take l.at (map to_ascii_lowercase l.name);
-  points : All (λ c. is_name_point (to_ascii_lowercase c) ≡ true) (take l.at l.name);
-  labels : IsSplit (take l.start (map to_ascii_lowercase l.name)) l.start l.have_lengths;
-  without_stops : (k : ℕ) → l.start ≤ k → k < l.at → is_full_stop (get_or (map to_ascii_lowercase l.name) k 0) ≡ false;
-  within : (l.start ≤ l.at) × (l.at ≤ length l.name);
+  points : AllWithin (λ c. is_name_point (to_ascii_lowercase c) ≡ true) l.name 0 l.at;
+  cut : IsCut (map to_ascii_lowercase l.name) l.at l.start l.have_lengths;
+  within : l.at ≤ length l.name;
   room : length l.room ≡ length l.fn.room;
 }
 
 abbrev pub decreases-chunks : goal.decreases-chunks
 decreases-chunks l = length l.name - l.at
 
--- the labels of the chunk's octets so far, and the full stops behind them
+-- the same in a chunk, and the full stops of its octets behind them
 abbrev pub invariant-labels : goal.invariant-labels
 invariant-labels l = record {
-  labels : IsSplit (take l.start (map to_ascii_lowercase l.name)) l.start l.have_lengths;
-  without_stops : (k : ℕ) → l.start ≤ k → k < l.at → is_full_stop (get_or (map to_ascii_lowercase l.name) k 0) ≡ false;
-  stops : l.stops ≡ mask_l (map is_full_stop (chunk l.at (l.end - l.at) (map to_ascii_lowercase l.name)));
-  within : (l.start ≤ l.at) × (l.at ≤ l.end) × (l.initial.at ≤ l.at);
+  cut : IsCut (map to_ascii_lowercase l.name) l.at l.start l.have_lengths;
+  stops : l.stops ≡ mask_l (map is_full_stop (slice_range (map to_ascii_lowercase l.name) l.at l.end));
+  within : (l.initial.at ≤ l.at) × (l.at ≤ l.end);
 }
 
 abbrev pub decreases-labels : goal.decreases-labels
