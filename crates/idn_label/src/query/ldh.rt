@@ -92,7 +92,9 @@ fn lowercase_chunk(name: &[u8], at: usize, end: usize, room: &mut [u8]) -> Optio
     Some(stops >> (at - start))
 }
 
-/// The 16 octets of a name before `end`. Where there are fewer, letters stand behind them.
+/// The 16 octets of a name before `end`. Where there are fewer, letters stand behind them: most short names have eight
+/// octets or more, and these are copied by two moves of eight, which overlap, since a copy of a length that can't be
+/// foretold takes far longer.
 #[inline(always)]
 fn lanes_before(name: &[u8], end: usize) -> u8x16
     requires { end ≤ length name.now }
@@ -101,42 +103,30 @@ fn lanes_before(name: &[u8], end: usize) -> u8x16
     if end >= CHUNK_LEN {
         return u8x16::from_slice(&name[end - CHUNK_LEN..end]);
     }
-    lanes_of_short(&name[..end])
-}
-
-/// A name of fewer than 16 octets, with letters behind it. Most have eight or more: these are copied by two moves of
-/// eight, which overlap, since a copy of a length that can't be foretold takes far longer.
-#[inline(always)]
-fn lanes_of_short(name: &[u8]) -> u8x16
-    requires { length name.now < CHUNK_LEN }
-    ensures { result ≡ name.now ++ replicate (CHUNK_LEN - length name.now) 97 }
-{
     let mut octets = [b'a'; CHUNK_LEN];
-    let len = name.len();
-    if len < HALF_LEN {
-        octets[..len].copy_from_slice(name);
+    if end < HALF_LEN {
+        octets[..end].copy_from_slice(&name[..end]);
     } else {
         octets[..HALF_LEN].copy_from_slice(&name[..HALF_LEN]);
-        octets[len - HALF_LEN..len].copy_from_slice(&name[len - HALF_LEN..]);
+        octets[end - HALF_LEN..end].copy_from_slice(&name[end - HALF_LEN..end]);
     }
     u8x16::from_array(octets)
 }
 
-/// Octets in lower case, and by a bit each the full stops among them, and those that are no ASCII letters, digits, hyphens
-/// or full stops.
+/// By a bit each, the full stops among octets and those that are no ASCII letters, digits, hyphens or full stops; and, if
+/// there are none of these, the octets in lower case: each but a capital has the bit that makes a letter lower-case.
 #[inline(always)]
 fn lowercase_lanes(octets: u8x16) -> (u8x16, u64, u64)
-    ensures lower { result.0 ≡ map to_ascii_lowercase octets }
+    ensures lower { result.2 ≡ 0 → result.0 ≡ map to_ascii_lowercase octets }
     ensures stops { result.1 ≡ mask_l (map is_full_stop (map to_ascii_lowercase octets)) }
     ensures others { result.2 ≡ mask_l (map (λ c. not (is_name_point (to_ascii_lowercase c))) octets) }
 {
-    let with_bit = octets | u8x16::splat(0x20);
-    let are_no_letters = (with_bit - u8x16::splat(b'a')).simd_ge(u8x16::splat(26));
-    let lower = are_no_letters.select(octets, with_bit);
+    let lower = octets | u8x16::splat(0x20);
+    let are_no_letters = (lower - u8x16::splat(b'a')).simd_ge(u8x16::splat(26));
     // From the hyphen to the nine lie the full stop, the slash and the digits.
     let are_others = (octets - u8x16::splat(b'-')).simd_ge(u8x16::splat(13))
         | octets.simd_eq(u8x16::splat(b'/'));
-    let stops = lower.simd_eq(u8x16::splat(b'.'));
+    let stops = octets.simd_eq(u8x16::splat(b'.'));
     (
         lower,
         stops.to_bitmask(),

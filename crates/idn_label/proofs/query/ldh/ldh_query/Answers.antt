@@ -8,8 +8,7 @@ use Rattle.idna.specs.Labels.{is_full_stop}
 use Rattle.idn_label.specs.LdhNames.{is_name_point}
 use Rattle.idn_label.proofs.LabelsByPlace.{AllWithin-join}
 use Rattle.idn_label.proofs.LaneLemmas.{IsNext, next_lane, none_from_mask}
-use Rattle.idn_label.proofs.LdhLabels.{cut_nothing, cut_more, cut_stop, prefix_before_stop, prefix_at_end}
-use Rattle.idn_label.proofs.LdhNames.{ldh_answer}
+use Rattle.idn_label.proofs.LdhNames.{cut_nothing, cut_more, cut_stop, prefix_before_stop, prefix_at_end, ldh_answer}
 use Rattle.idn_label.proofs.query.ldh.ldh_query.Goals as goal
 
 abbrev lowered : List ℕ → List ℕ
