@@ -5,7 +5,6 @@ ghost use Rattle.std.specs.Char.{to_ascii_lowercase};
 ghost use Rattle.std.specs.List.{AllWithin};
 ghost use Rattle.std.specs.Simd.Lanes.{mask_l};
 ghost use Rattle.idna.specs.Labels.{is_full_stop};
-ghost use Rattle.idna.specs.Validity.{has_ace_prefix};
 ghost use Rattle.idn_label.specs.Answers.{Gives};
 ghost use Rattle.idn_label.specs.Lookup.{utf8_answer};
 ghost use Rattle.idn_label.specs.LdhNames.{IsLdhName, is_name_point};
@@ -46,7 +45,9 @@ pub(crate) fn ldh_query(name: &[u8], room: &mut [u8]) -> Option<Result<usize, Re
         'labels: while stops != 0 {
             let count = stops.trailing_zeros() as usize;
             let stop = at + count;
-            if has_ace_prefix_at(name, start, stop) {
+            // The octets behind the label are asked too, which never change the answer: whether a label has four can't
+            // be foretold, but hardly one has a hyphen third.
+            if has_ace_prefix_in_any_case(&name[start..]) {
                 return None;
             }
             have_lengths &= has_label_length(start, stop);
@@ -56,7 +57,7 @@ pub(crate) fn ldh_query(name: &[u8], room: &mut [u8]) -> Option<Result<usize, Re
         }
         at = end;
     }
-    if has_ace_prefix_at(name, start, name.len()) {
+    if has_ace_prefix_in_any_case(&name[start..]) {
         return None;
     }
     if have_lengths & may_end(start, name.len()) {
@@ -132,19 +133,4 @@ fn lowercase_lanes(octets: u8x16) -> (u8x16, u64, u64)
         stops.to_bitmask(),
         (are_no_letters & are_others).to_bitmask(),
     )
-}
-
-/// Whether the label that stands from `start` to `end` begins with `xn--` in any ASCII case. The third octet is asked for
-/// first, be it of the label or behind it: whether a label has so many can't be foretold, but hardly one has a hyphen
-/// there.
-#[inline]
-fn has_ace_prefix_at(name: &[u8], start: usize, end: usize) -> bool
-    requires order { start ≤ end }
-    requires within { end ≤ length name.now }
-    ensures { result ≡ has_ace_prefix (slice_range (map to_ascii_lowercase name.now) start end) }
-{
-    if start + 2 >= name.len() || name[start + 2] != b'-' {
-        return false;
-    }
-    has_ace_prefix_in_any_case(&name[start..end])
 }
