@@ -1,41 +1,44 @@
 -- Vectors of octets that are computed lane by lane, and the masks of their comparisons.
-use Rattle.std.proofs.Common.{◌≡◌, ◌≢◌, ℕ, zero, suc, ◌+◌, ◌-◌, ◌*◌, ◌/◌, ◌%◌, ◌^◌, ◌<◌, ◌≤◌, eqb, Bool, true, false, not, cond, List, [], ◌∷◌, ◌++◌, All, map, length, take, drop, slice_range, replicate, get_or, Fits, w8, refl, sym, ap, ap₂, inl, inr, ◌∙◌, shr-shr, arith}
+use Rattle.std.proofs.Common.{◌≡◌, ◌≢◌, ℕ, zero, suc, ◌+◌, ◌-◌, ◌*◌, ◌/◌, ◌%◌, ◌^◌, ◌<◌, ◌≤◌, ◌||◌, eqb, Bool, true, false, not, cond, List, [], ◌∷◌, ◌++◌, All, map, length, take, drop, slice_range, replicate, get_or, Fits, w8, refl, sym, ap, ap₂, inl, inr, ◌∙◌, shr-shr, arith}
+use Rattle.std.proofs.Math.Seq.{take-add}
 use Rattle.std.proofs.lemmas.Bool.{agree_below, agree_below_at, eqb-true, cases_lt}
-use Rattle.std.proofs.lemmas.Simd.{map-map, mask_l-mod, length-chunk, trailing_mask_l, none_from_empty_mask, run_in_chunk_fails, run_in_chunk_stops}
+use Rattle.std.proofs.lemmas.Simd.{map-map, mask_l-mod, length-chunk, bit_mask_l, Each1-get_or, Each1-from_get_or, Each1-weaker, trailing_mask_l, none_from_empty_mask, run_in_chunk_fails, run_in_chunk_stops}
+use Rattle.std.proofs.lemmas.Nat.Bits.{same_from_bits}
 use lib.Count.{count_trailing_zeros}
 use Rattle.std.specs.List.{prefix_len, AllWithin}
-use Rattle.std.proofs.lemmas.List.{length-map, take-map, drop-map, drop-drop}
+use Rattle.std.proofs.lemmas.List.{length-map, take_all, get_or-drop, take-map, drop-map, drop-drop}
 use Rattle.std.proofs.lemmas.List.Elements.{All-head, All-tail, AllWithin-upto}
 use Rattle.std.proofs.lemmas.Slice.{between_is}
-use Rattle.std.specs.Simd.Lanes.{Each1, sel_l, mask_l, top}
+use Rattle.std.specs.Simd.Lanes.{Each1, mask_l, top}
 use Rattle.idn_label.proofs.LabelsByPlace.{All-slice}
 
 -- ---- lane by lane
 
--- lanes chosen from two vectors by the comparison z
-pub chosen : (m f g : ℕ → ℕ) (v : List ℕ) {z a b : List ℕ} → z ≡ map m v → a ≡ map f v → b ≡ map g v → sel_l (map (top 7) z) a b ≡ map (λ x. cond (top 7 (m x)) (f x) (g x)) v
-chosen m f g v {z} {a} {b} r p q = ap (λ ms. sel_l (map (top 7) ms) a b) r ∙ ap₂ (sel_l (map (top 7) (map m v))) p q ∙ each v
-  where
-    each : (xs : List ℕ) → sel_l (map (top 7) (map m xs)) (map f xs) (map g xs) ≡ map (λ x. cond (top 7 (m x)) (f x) (g x)) xs
-    each [] = refl
-    each (x ∷ xs) = ap (λ r. cond (top 7 (m x)) (f x) (g x) ∷ r) (each xs)
+pub take-slice_range : (xs : List ℕ) (start end : ℕ) → start ≤ end → take start xs ++ slice_range xs start end ≡ take end xs
+take-slice_range xs start end le = sym (take-add start (end - start) xs) ∙ ap (λ n. take n xs) (let e : start + (end - start) ≡ end = omega arith in e)
 
 pub map-slice_range : (f : ℕ → ℕ) (xs : List ℕ) (start end : ℕ) → map f (slice_range xs start end) ≡ slice_range (map f xs) start end
 map-slice_range f xs start end = sym (take-map f (end - start) (drop start xs)) ∙ ap (take (end - start)) (sym (drop-map f start xs))
 
--- what agrees at each octet agrees at each lane
-agree : {Y : Type 0} (f g : ℕ → Y) → ((x : ℕ) → x < 256 → f x ≡ g x) → (v : List ℕ) → Each1 (Fits w8) v → map f v ≡ map g v
-agree f g same [] fits = refl
-agree f g same (x ∷ v) fits = ap₂ (λ a b. a ∷ b) (same x fits.0.fits) (agree f g same v fits.1)
+agree : {Y : Type 0} (f g : ℕ → Y) (v : List ℕ) → Each1 (λ x. f x ≡ g x) v → map f v ≡ map g v
+agree f g [] same = refl
+agree f g (x ∷ v) same = ap₂ (λ a b. a ∷ b) same.0 (agree f g v same.1)
 
-pub same_lanes : (f g : ℕ → ℕ) (v : List ℕ) → Each1 (Fits w8) v → agree_below (λ x. eqb (f x) (g x)) (λ _. true) 256 ≡ true → map f v ≡ map g v
-same_lanes f g v fits all = agree f g (λ x lt. eqb-true _ _ (agree_below_at (λ x. eqb (f x) (g x)) (λ _. true) 256 x all lt)) v fits
+-- where no lane passes p, what agrees at each other octet agrees at each lane
+pub same_lanes : (p : ℕ → Bool) (f g : ℕ → ℕ) (v : List ℕ) → Each1 (Fits w8) v → mask_l (map p v) ≡ 0 → agree_below (λ x. p x || eqb (f x) (g x)) (λ _. true) 256 ≡ true → map f v ≡ map g v
+same_lanes p f g v fits none all =
+    let whole = take_all (length v) v (omega arith) in
+    agree f g v (Each1-from_get_or (λ x. f x ≡ g x) v 0 (λ i lt.
+    let x = get_or v i 0 in
+    let other = none_from_empty_mask p v 0 (length v) 0 (omega arith) (ap (λ xs. mask_l (map p xs)) whole ∙ none) i (omega arith) (omega arith) in
+    eqb-true (f x) (g x)
+    (ap (λ b. b || eqb (f x) (g x)) (sym other) ∙ agree_below_at (λ x. p x || eqb (f x) (g x)) (λ _. true) 256 x all (Each1-get_or (Fits w8) v i 0 lt fits).fits)))
 
 -- the mask of a comparison that agrees with p
 pub masked : (p : ℕ → Bool) (f : ℕ → ℕ) (v : List ℕ) {z : List ℕ} → z ≡ map f v → length v ≡ 16 → Each1 (Fits w8) v → agree_below (λ x. top 7 (f x)) p 256 ≡ true → mask_l (map (top 7) z) % 2 ^ 64 ≡ mask_l (map p v)
 masked p f v lanes long fits all =
     ap (λ ms. mask_l ms % 2 ^ 64)
-    (ap (map (top 7)) lanes ∙ map-map (top 7) f v ∙ agree (λ x. top 7 (f x)) p (λ x lt. agree_below_at (λ x. top 7 (f x)) p 256 x all lt) v fits)
+    (ap (map (top 7)) lanes ∙ map-map (top 7) f v ∙ agree (λ x. top 7 (f x)) p v (Each1-weaker (Fits w8) (λ x. top 7 (f x) ≡ p x) (λ x fit. agree_below_at (λ x. top 7 (f x)) p 256 x all fit.fits) v fits))
     ∙ mask_l-mod (map p v) 64 (omega (arith, length-map v p))
 
 -- ---- masks
@@ -58,18 +61,11 @@ pub none_from_mask : (p : ℕ → Bool) (q : List ℕ) (at end mask : ℕ) → a
 none_from_mask p q at end mask order within is empty k d from to =
     none_from_empty_mask p q at (end - at) d (omega arith) (sym is ∙ empty) k from (omega arith)
 
-halved : (b : Bool) (m : ℕ) → (cond b 1 0 + 2 * m) / 2 ≡ m
-halved true m = omega arith
-halved false m = omega arith
-
-shr-suc : (m n : ℕ) → m / 2 / 2 ^ n ≡ m / 2 ^ suc n
-shr-suc m n = shr-shr m 1 n ∙ ap (λ k. m / 2 ^ k) (let e : 1 + n ≡ suc n = omega arith in e)
-
 -- the mask less its lowest bits
 mask_l-drop : (n : ℕ) (ms : List Bool) → mask_l ms / 2 ^ n ≡ mask_l (drop n ms)
-mask_l-drop zero ms = omega arith
-mask_l-drop (suc n) [] = omega arith
-mask_l-drop (suc n) (b ∷ ms) = sym (shr-suc (mask_l (b ∷ ms)) n) ∙ ap (λ m. m / 2 ^ n) (halved b (mask_l ms)) ∙ mask_l-drop n ms
+mask_l-drop n ms =
+    same_from_bits (mask_l ms / 2 ^ n) (mask_l (drop n ms)) (λ i.
+    ap (λ m. m % 2) (shr-shr (mask_l ms) n i) ∙ bit_mask_l ms (n + i) ∙ ap (λ b. cond b 1 0) (sym (get_or-drop n ms i false)) ∙ sym (bit_mask_l (drop n ms) i))
 
 -- the mask of the places from `at` on, by that of those from `from` on
 pub mask_behind : (p : ℕ → Bool) (q : List ℕ) (from at end : ℕ) → from ≤ at → mask_l (map p (slice_range q from end)) / 2 ^ (at - from) ≡ mask_l (map p (slice_range q at end))

@@ -1,7 +1,8 @@
 -- Code points and labels in ASCII.
 use Rattle.std.proofs.Common.{◌≡◌, ℕ, ◌<◌, Bool, true, false, not, ◌||◌, ◌==◌, nat_lt, cond, List, [], ◌∷◌, ◌++◌, codes, map, length, get_or, All, Option, Some, None, refl, sym, ap, ◌∙◌, arith}
 use Rattle.std.specs.List.{list_all}
-use Rattle.std.proofs.lemmas.Bool.{and_parts, cond-true, cond-false, ltb-true}
+use Rattle.std.proofs.Math.Bool.{or_self}
+use Rattle.std.proofs.lemmas.Bool.{and_parts, cond-true, cond-false, ltb-true, false≢true, false_from_ne_true, true_from_ne_false}
 use Rattle.std.proofs.lemmas.Bool.Decides.{nat_tests}
 use Rattle.idn_class.proofs.ComputedLabels.{rules, in_table, class_of-in_table}
 use Rattle.idn_class.specs.declared.class.Class.{Class}
@@ -54,13 +55,8 @@ is_ldh_point-ascii c h = grind (arith, nat_tests)
 
 -- an ASCII code point that may be registered is LDH
 pub is_ldh_point-permitted : (c : ℕ) → c < 128 → fault_of_class (class_of c) ≡ None → is_ldh_point c ≡ true
-is_ldh_point-permitted c lt none = by_test (is_ldh_point c) refl
-  where
-    by_test : (b : Bool) → is_ldh_point c ≡ b → b ≡ true
-    by_test true e = refl
-    by_test false e =
-        let class : class_of c ≡ Disallowed = class_of-ascii c lt ∙ cond-false _ _ _ e in
-        let fault = ap fault_of_class class in cc
+is_ldh_point-permitted c lt none =
+    true_from_ne_false (is_ldh_point c) (λ other. let fault = ap fault_of_class (class_of-ascii c lt ∙ cond-false _ _ _ other) in cc)
 
 -- ---- labels
 
@@ -111,13 +107,9 @@ rule_fault-ldh label ldh =
       bidi_ok-lacks label (lacks-ldh RightToLeft label ldh),
     ) (one_fault (has_hyphen_out_of_place label))
 
-or_same : (b : Bool) → (b || b) ≡ b
-or_same true = refl
-or_same false = refl
-
 pub first_fault-ldh : (label : List ℕ) → list_all is_ldh_point label ≡ true → first_fault label ≡ first_of (fault_if (length label == 0) Empty ∷ None ∷ fault_if (has_hyphen_out_of_place label) Hyphen ∷ fault_if (nat_lt 63 (length label)) LabelTooLong ∷ [])
 first_fault-ldh label ldh =
-    let long : is_too_long label ≡ nat_lt 63 (length label) = rw (a_label_of-ldh label ldh) (or_same _) in
+    let long : is_too_long label ≡ nat_lt 63 (length label) = rw (a_label_of-ldh label ldh) (or_self _) in
     rw (first_fault-parts label, code_point_fault-lacks label (lacks-ldh MayBeBarred label ldh), rule_fault-ldh label ldh, long) refl
 
 -- ---- labels that are not LDH
@@ -127,17 +119,10 @@ ldh_points [] none ascii = refl
 ldh_points (c ∷ label) none ascii =
     let permitted = first_of-none (fault_of_class (class_of c)) (code_point_fault label) (sym (code_point_fault-cons c label) ∙ none) in
     let parts = and_parts (is_ascii c) (list_all is_ascii label) ascii in
-    let low : c < 128 = is_ascii-low c parts.0 in
-    rw (is_ldh_point-permitted c low permitted.0, ldh_points label permitted.1 parts.1) refl
-  where
-    is_ascii-low : (c : ℕ) → is_ascii c ≡ true → c < 128
-    is_ascii-low c h = grind (arith, nat_tests)
+    rw (is_ldh_point-permitted c (ltb-true c 128 parts.0) permitted.0, ldh_points label permitted.1 parts.1) refl
 
 -- a label that may be registered and is not LDH is not all ASCII either
 pub a_label_of-coded : (label : List ℕ) → list_all is_ldh_point label ≡ false → code_point_fault label ≡ None → a_label_of label ≡ codes "xn--" ++ encode label
 unfolding a_label_of
-a_label_of-coded label coded none = cond-false _ _ _ (not_ascii (is_all_ascii label) refl)
-  where
-    not_ascii : (b : Bool) → is_all_ascii label ≡ b → b ≡ false
-    not_ascii false e = refl
-    not_ascii true e = sym (ldh_points label none e) ∙ coded
+a_label_of-coded label coded none =
+    cond-false _ _ _ (false_from_ne_true (is_all_ascii label) (λ ascii. false≢true (sym coded ∙ ldh_points label none ascii)))

@@ -5,7 +5,6 @@ ghost use Rattle.std.specs.Char.{to_ascii_lowercase};
 ghost use Rattle.std.specs.List.{AllWithin};
 ghost use Rattle.std.specs.Simd.Lanes.{mask_l};
 ghost use Rattle.idna.specs.Labels.{is_full_stop};
-ghost use Rattle.idna.specs.Validity.{has_ace_prefix};
 ghost use Rattle.idn_label.specs.Answers.{Gives};
 ghost use Rattle.idn_label.specs.Lookup.{utf8_answer};
 ghost use Rattle.idn_label.specs.LdhNames.{IsLdhName, is_name_point};
@@ -46,7 +45,9 @@ pub(crate) fn ldh_query(name: &[u8], room: &mut [u8]) -> Option<Result<usize, Re
         'labels: while stops != 0 {
             let count = stops.trailing_zeros() as usize;
             let stop = at + count;
-            if has_ace_prefix_at(name, start, stop) {
+            // The octets behind the label are asked too, which never change the answer: whether a label has four can't
+            // be foretold, but hardly one has a hyphen third.
+            if has_ace_prefix_in_any_case(&name[start..]) {
                 return None;
             }
             have_lengths &= has_label_length(start, stop);
@@ -56,7 +57,7 @@ pub(crate) fn ldh_query(name: &[u8], room: &mut [u8]) -> Option<Result<usize, Re
         }
         at = end;
     }
-    if has_ace_prefix_at(name, start, name.len()) {
+    if has_ace_prefix_in_any_case(&name[start..]) {
         return None;
     }
     if have_lengths & may_end(start, name.len()) {
@@ -92,7 +93,9 @@ fn lowercase_chunk(name: &[u8], at: usize, end: usize, room: &mut [u8]) -> Optio
     Some(stops >> (at - start))
 }
 
-/// The 16 octets of a name before `end`. Where there are fewer, letters stand behind them.
+/// The 16 octets of a name before `end`. Where there are fewer, letters stand behind them: most short names have eight
+/// octets or more, and these are copied by two moves of eight, which overlap, since a copy of a length that can't be
+/// foretold takes far longer.
 #[inline(always)]
 fn lanes_before(name: &[u8], end: usize) -> u8x16
     requires { end ≤ length name.now }
@@ -101,60 +104,33 @@ fn lanes_before(name: &[u8], end: usize) -> u8x16
     if end >= CHUNK_LEN {
         return u8x16::from_slice(&name[end - CHUNK_LEN..end]);
     }
-    lanes_of_short(&name[..end])
-}
-
-/// A name of fewer than 16 octets, with letters behind it. Most have eight or more: these are copied by two moves of
-/// eight, which overlap, since a copy of a length that can't be foretold takes far longer.
-#[inline(always)]
-fn lanes_of_short(name: &[u8]) -> u8x16
-    requires { length name.now < CHUNK_LEN }
-    ensures { result ≡ name.now ++ replicate (CHUNK_LEN - length name.now) 97 }
-{
     let mut octets = [b'a'; CHUNK_LEN];
-    let len = name.len();
-    if len < HALF_LEN {
-        octets[..len].copy_from_slice(name);
+    if end < HALF_LEN {
+        octets[..end].copy_from_slice(&name[..end]);
     } else {
         octets[..HALF_LEN].copy_from_slice(&name[..HALF_LEN]);
-        octets[len - HALF_LEN..len].copy_from_slice(&name[len - HALF_LEN..]);
+        octets[end - HALF_LEN..end].copy_from_slice(&name[end - HALF_LEN..end]);
     }
     u8x16::from_array(octets)
 }
 
-/// Octets in lower case, and by a bit each the full stops among them, and those that are no ASCII letters, digits, hyphens
-/// or full stops.
+/// By a bit each, the full stops among octets and those that are no ASCII letters, digits, hyphens or full stops; and, if
+/// there are none of these, the octets in lower case: each but a capital has the bit that makes a letter lower-case.
 #[inline(always)]
 fn lowercase_lanes(octets: u8x16) -> (u8x16, u64, u64)
-    ensures lower { result.0 ≡ map to_ascii_lowercase octets }
+    ensures lower { result.2 ≡ 0 → result.0 ≡ map to_ascii_lowercase octets }
     ensures stops { result.1 ≡ mask_l (map is_full_stop (map to_ascii_lowercase octets)) }
     ensures others { result.2 ≡ mask_l (map (λ c. not (is_name_point (to_ascii_lowercase c))) octets) }
 {
-    let with_bit = octets | u8x16::splat(0x20);
-    let are_no_letters = (with_bit - u8x16::splat(b'a')).simd_ge(u8x16::splat(26));
-    let lower = are_no_letters.select(octets, with_bit);
+    let lower = octets | u8x16::splat(0x20);
+    let are_no_letters = (lower - u8x16::splat(b'a')).simd_ge(u8x16::splat(26));
     // From the hyphen to the nine lie the full stop, the slash and the digits.
     let are_others = (octets - u8x16::splat(b'-')).simd_ge(u8x16::splat(13))
         | octets.simd_eq(u8x16::splat(b'/'));
-    let stops = lower.simd_eq(u8x16::splat(b'.'));
+    let stops = octets.simd_eq(u8x16::splat(b'.'));
     (
         lower,
         stops.to_bitmask(),
         (are_no_letters & are_others).to_bitmask(),
     )
-}
-
-/// Whether the label that stands from `start` to `end` begins with `xn--` in any ASCII case. The third octet is asked for
-/// first, be it of the label or behind it: whether a label has so many can't be foretold, but hardly one has a hyphen
-/// there.
-#[inline]
-fn has_ace_prefix_at(name: &[u8], start: usize, end: usize) -> bool
-    requires order { start ≤ end }
-    requires within { end ≤ length name.now }
-    ensures { result ≡ has_ace_prefix (slice_range (map to_ascii_lowercase name.now) start end) }
-{
-    if start + 2 >= name.len() || name[start + 2] != b'-' {
-        return false;
-    }
-    has_ace_prefix_in_any_case(&name[start..end])
 }

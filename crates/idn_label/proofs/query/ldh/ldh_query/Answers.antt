@@ -8,8 +8,7 @@ use Rattle.idna.specs.Labels.{is_full_stop}
 use Rattle.idn_label.specs.LdhNames.{is_name_point}
 use Rattle.idn_label.proofs.LabelsByPlace.{AllWithin-join}
 use Rattle.idn_label.proofs.LaneLemmas.{IsNext, next_lane, none_from_mask}
-use Rattle.idn_label.proofs.LdhLabels.{cut_nothing, cut_more, cut_stop, prefix_before_stop, prefix_at_end}
-use Rattle.idn_label.proofs.LdhNames.{ldh_answer}
+use Rattle.idn_label.proofs.LdhNames.{cut_nothing, cut_more, cut_stop, rest_prefix, prefix_told, ldh_answer}
 use Rattle.idn_label.proofs.query.ldh.ldh_query.Goals as goal
 
 abbrev lowered : List ℕ → List ℕ
@@ -29,28 +28,17 @@ chunks-init c = record {
   room = refl;
 }
 
-pub has_ace_prefix_at-requires-clause-within : goal.has_ace_prefix_at-requires-clause-within
-has_ace_prefix_at-requires-clause-within c =
-    let i = c.labels.invariant in
-    let next = next_stop c.args.name.now c.min-end.ensures i.within.0 i.within.1 i.stops c.labels-test.true in
-    omega (arith, next.before, c.min-end.ensures)
-
-pub returns-then-has_ace_prefix_at-clause-told : goal.returns-then-has_ace_prefix_at-clause-told
-returns-then-has_ace_prefix_at-clause-told c ldh =
-    let name = c.args.name.now in
-    let i = c.labels.invariant in
-    let next = next_stop name c.min-end.ensures i.within.0 i.within.1 i.stops c.labels-test.true in
-    let cut = cut_more i.cut _ (omega arith) next.none in
-    sym ldh.no_a_label ∙ prefix_before_stop cut (omega (arith, next.before, c.min-end.ensures, length-map name to_ascii_lowercase)) next.passes c.if-has_ace_prefix_at.ensures
+pub returns-then-has_ace_prefix_in_any_case-clause-told : goal.returns-then-has_ace_prefix_in_any_case-clause-told
+returns-then-has_ace_prefix_in_any_case-clause-told c ldh =
+    sym ldh.no_a_label ∙ prefix_told c.args.name.now c.labels.invariant.cut c.if-has_ace_prefix_in_any_case.ensures
 
 pub labels-preserved : goal.labels-preserved
 labels-preserved c =
     let name = c.args.name.now in
     let i = c.labels.invariant in
     let next = next_stop name c.min-end.ensures i.within.0 i.within.1 i.stops c.labels-test.true in
-    let cut = cut_more i.cut _ (omega arith) next.none in
     record {
-      cut = cut_stop cut (omega (arith, next.before, c.min-end.ensures, length-map name to_ascii_lowercase)) next.passes (sym c.if-has_ace_prefix_at.ensures) _ c.has_label_length-have_lengths.ensures;
+      cut = cut_stop (cut_more i.cut _ (omega arith) next.none) (omega (arith, next.before, c.min-end.ensures, length-map name to_ascii_lowercase)) next.passes (rest_prefix name c.labels.start c.if-has_ace_prefix_in_any_case.ensures) _ c.has_label_length-have_lengths.ensures;
       stops = next.behind;
       within = (omega (arith, i.within), omega (arith, next.before));
     }
@@ -69,19 +57,18 @@ chunks-preserved c =
       room = c.in_ok-stops.ensures.length ∙ c.chunks.invariant.room;
     }
 
-pub returns-then-has_ace_prefix_at-2-clause-told : goal.returns-then-has_ace_prefix_at-2-clause-told
-returns-then-has_ace_prefix_at-2-clause-told c ldh =
-    sym ldh.no_a_label
-    ∙ prefix_at_end c.chunks.invariant.cut (length c.args.name.now) c.chunks-test.false (sym (length-map c.args.name.now to_ascii_lowercase)) true c.if-has_ace_prefix_at-2.ensures
+pub returns-then-has_ace_prefix_in_any_case-2-clause-told : goal.returns-then-has_ace_prefix_in_any_case-2-clause-told
+returns-then-has_ace_prefix_in_any_case-2-clause-told c ldh =
+    sym ldh.no_a_label ∙ prefix_told c.args.name.now c.chunks.invariant.cut c.if-has_ace_prefix_in_any_case-2.ensures
 
 pub returns-then-have_lengths-may_end-clause-answer : goal.returns-then-have_lengths-may_end-clause-answer
 returns-then-have_lengths-may_end-clause-answer c std3 =
     let i = c.chunks.invariant in
-    ldh_answer c.args.name.now c.chunks.room c.chunks.at c.chunks.start c.chunks.have_lengths (omega (arith, c.chunks-test.false, i.within)) i.lower i.points i.cut c.if-has_ace_prefix_at-2.ensures std3
+    ldh_answer c.args.name.now c.chunks.room c.chunks.at c.chunks.start c.chunks.have_lengths (omega (arith, c.chunks-test.false, i.within)) i.lower i.points i.cut c.if-has_ace_prefix_in_any_case-2.ensures std3
     ∙ cond-true _ _ _ (ap (λ b. c.chunks.have_lengths && b) (sym c.may_end.ensures) ∙ c.if-have_lengths-may_end.true)
 
 pub returns-else-have_lengths-may_end-clause-answer : goal.returns-else-have_lengths-may_end-clause-answer
 returns-else-have_lengths-may_end-clause-answer c std3 _ =
     let i = c.chunks.invariant in
-    ldh_answer c.args.name.now c.chunks.room c.chunks.at c.chunks.start c.chunks.have_lengths (omega (arith, c.chunks-test.false, i.within)) i.lower i.points i.cut c.if-has_ace_prefix_at-2.ensures std3
+    ldh_answer c.args.name.now c.chunks.room c.chunks.at c.chunks.start c.chunks.have_lengths (omega (arith, c.chunks-test.false, i.within)) i.lower i.points i.cut c.if-has_ace_prefix_in_any_case-2.ensures std3
     ∙ cond-false _ _ _ (ap (λ b. c.chunks.have_lengths && b) (sym c.may_end.ensures) ∙ c.if-have_lengths-may_end.false)

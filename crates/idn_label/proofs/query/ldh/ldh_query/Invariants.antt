@@ -4,7 +4,7 @@ use Rattle.std.specs.List.{AllWithin}
 use Rattle.std.specs.Simd.Lanes.{mask_l}
 use Rattle.idna.specs.Labels.{is_full_stop}
 use Rattle.idn_label.specs.LdhNames.{is_name_point}
-use Rattle.idn_label.proofs.LdhLabels.{IsCut}
+use Rattle.idn_label.proofs.LdhNames.{IsCut}
 use Rattle.idn_label.proofs.query.ldh.ldh_query.Given as goal
 
 -- the octets so far, in lower case, cut at their full stops

@@ -1,16 +1,15 @@
-use Rattle.std.proofs.Common.{◌≡◌, ℕ, Bool, not, List, ◌+◌, ◌-◌, ◌/◌, ◌^◌, ◌≤◌, ◌++◌, map, length, take, drop, slice_range, replicate, refl, sym, ap, ap₂, ◌∙◌, append_assoc, arith}
+use Rattle.std.proofs.Common.{◌≡◌, ℕ, Bool, not, List, ◌+◌, ◌-◌, ◌/◌, ◌^◌, ◌≤◌, ◌++◌, map, length, take, slice_range, replicate, refl, sym, ap, ap₂, ◌∙◌, append_assoc, arith}
 use Rattle.std.specs.Char.{to_ascii_lowercase}
 use Rattle.std.specs.Simd.Lanes.{mask_l, put_chunk}
-use Rattle.std.proofs.Math.Seq.{take-add}
 use Rattle.std.proofs.lemmas.Bool.{false≢true, not-false}
 use Rattle.std.proofs.lemmas.List.{length-append, length-map, length-replicate, length-take-le, map-append, take_at, take-take}
 use Rattle.std.proofs.lemmas.List.Elements.{All-replicate}
 use Rattle.std.proofs.lemmas.List.Edits.{length-between}
 use Rattle.std.proofs.lemmas.List.Folds.{map_fixed}
-use Rattle.std.proofs.lemmas.Simd.{put_chunk_is}
+use Rattle.std.proofs.lemmas.Simd.{take_more_put_chunk}
 use Rattle.idna.specs.Labels.{is_full_stop}
 use Rattle.idn_label.specs.LdhNames.{is_name_point}
-use Rattle.idn_label.proofs.LaneLemmas.{map-slice_range, mask_l-padded, mask_none, mask_behind, none_from_mask}
+use Rattle.idn_label.proofs.LaneLemmas.{take-slice_range, map-slice_range, mask_l-padded, mask_none, mask_behind, none_from_mask}
 use Rattle.idn_label.proofs.query.ldh.lowercase_chunk.Goals as goal
 
 abbrev lowered : List ℕ → List ℕ
@@ -32,15 +31,15 @@ stored room query lanes end within some wide front is =
     let start = end - 16 in
     let part = slice_range query start end in
     let pad : List ℕ = replicate (16 - end) 97 in
-    let rest = drop (length lanes) (drop start room) in
     let count = ap length is ∙ length-append part pad in
-    ap (take end)
-    (put_chunk_is start room lanes (omega (arith, count, length-between query start end within, length-replicate {A = ℕ} (16 - end) 97))
-    ∙ ap₂ (λ a b. a ++ (b ++ rest)) front is
-    ∙ ap (λ x. take start query ++ x) (append_assoc part pad rest)
-    ∙ sym (append_assoc (take start query) part (pad ++ rest))
-    ∙ ap (λ x. x ++ (pad ++ rest)) (sym (take-add start (end - start) query) ∙ ap (λ n. take n query) (let e : start + (end - start) ≡ end = omega arith in e)))
-    ∙ take_at (take end query) (pad ++ rest) end (length-take-le end query within)
+    let long : start + 16 ≡ start + length lanes = omega (arith, count, length-between query start end within, length-replicate {A = ℕ} (16 - end) 97) in
+    sym (take-take end (start + 16) (put_chunk start room lanes) (omega arith))
+    ∙ ap (take end)
+    (take_more_put_chunk start room lanes (start + 16) long (omega arith)
+    ∙ ap₂ (λ a b. a ++ b) front is
+    ∙ sym (append_assoc (take start query) part pad)
+    ∙ ap (λ x. x ++ pad) (take-slice_range query start end (omega arith)))
+    ∙ take_at (take end query) pad end (length-take-le end query within)
 
 -- the octets that are none of a name, by a bit each
 others_of : (part : List ℕ) (n others : ℕ) {octets : List ℕ} → octets ≡ part ++ replicate n 97 → others ≡ mask_l (map is_other octets) → others ≡ mask_l (map is_other part)
@@ -58,7 +57,7 @@ returns-clause-lower c =
     let room = c.args.room.now in
     let query = lowered c.args.name.now in
     let end = c.args.end in
-    let is = lowered_lanes c.args.name.now (end - 16) end (16 - end) c.lowercase_lanes-stops.ensures.lower c.lanes_before.ensures in
+    let is = lowered_lanes c.args.name.now (end - 16) end (16 - end) (c.lowercase_lanes-stops.ensures.lower c.if-others-ne0.false) c.lanes_before.ensures in
     let begun = sym (take-take (end - 16) c.args.at room (omega (arith, c.requires.few))) ∙ ap (take (end - 16)) c.requires.begun ∙ take-take (end - 16) c.args.at query (omega (arith, c.requires.few)) in
     let count = length-map c.args.name.now to_ascii_lowercase in
     rw c.saturating_sub-start.ensures (stored room query _ end (omega (arith, count, c.requires.within)) (omega (arith, count, c.requires.room)) c.requires.wide begun is)
