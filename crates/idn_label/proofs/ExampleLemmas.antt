@@ -1,7 +1,8 @@
 -- The examples, computed.
-use Rattle.std.proofs.Common.{◌≡◌, ◌≢◌, ℕ, ◌==◌, not, List, [], ◌∷◌, ◌++◌, map, codes, length, replicate, Option, Some, None, Ok, Err, refl, ap, get_or, arith}
+use Rattle.std.proofs.Common.{◌≡◌, ℕ, ◌==◌, true, not, List, [], ◌∷◌, ◌++◌, map, codes, length, replicate, Option, Some, None, Ok, Err, refl, ap, ◌∙◌}
 use Rattle.idna.specs.Labels.{join_labels}
 use Rattle.unicode_normalization.specs.Forms.{is_nfc}
+use Rattle.idna.specs.Validity.{has_ace_prefix}
 use Rattle.idna.proofs.Computing.{idna}
 use Rattle.idn_text.specs.declared.refusal.Refusal.{Refusal}
 use Rattle.idn_text.specs.declared.refusal.Refusal.TheVariants.{Empty, NotNfc, Hyphen, LeadingMark, ContextJ, ContextO, Bidi, LabelTooLong}
@@ -14,11 +15,11 @@ use Rattle.idn_class.specs.Tests.{leading_mark, contextj_ok, contexto_ok, bidi_o
 use Rattle.idn_class.proofs.ComputedLabels.{rules, in_table, map-class_of-in_table}
 use Rattle.idn_label.specs.ALabel.{a_label_of}
 use Rattle.idn_label.specs.Examples.{HaveALabels, HaveFirstFaults, HaveRegisterAnswers, HaveDecodeAnswers, HaveLookupAnswers, a_labels, first_faults, first_faults_of_two, register_answers, decode_answers, lookup_answers}
-use Rattle.idn_label.specs.Answers.{and_then}
+use Rattle.idn_label.specs.Answers.{Answer, and_then}
 use Rattle.idn_label.specs.Decode.{decoded_label, decoded_labels, decode_answer, with_others}
 use Rattle.idn_label.specs.Lookup.{query_name}
-use Rattle.idn_label.specs.Register.{decoded_code, u_label_answer}
-use Rattle.idn_label.proofs.AnswerLemmas.{tested_answer-ok, tested_answer-fault, confirmed-same, confirmed-other, confirmed-fault, u_label_answer-code_fault, u_label_answer-confirmed, register_answer-fault, register_answer-coded}
+use Rattle.idn_label.specs.Register.{decoded_code, u_label_answer, register_answer}
+use Rattle.idn_label.proofs.AnswerLemmas.{u_label_answer-of, register_answer-prefixed}
 use Rattle.idn_label.specs.FirstFault.{first_of, fault_if, fault_of_class, code_point_fault, has_hyphen_out_of_place, is_too_long, first_fault}
 
 -- the first fault of a label whose classes are known
@@ -49,79 +50,58 @@ HaveALabels-a_labels =
 pub HaveFirstFaults-first_faults : HaveFirstFaults first_faults
 unfolding a_label_of idna rules in_table
 HaveFirstFaults-first_faults =
-    (told_is ([]) ([]) (Some Empty) (map-class_of-in_table ([]) ([]) refl) refl, (told_is (0x66 ∷ 0x61 ∷ 0xDF ∷ []) (Pvalid ∷ Pvalid ∷ Pvalid ∷ []) (None) (map-class_of-in_table (0x66 ∷ 0x61 ∷ 0xDF ∷ []) (Pvalid ∷ Pvalid ∷ Pvalid ∷ []) refl) refl, (told_is (0x6C ∷ 0xB7 ∷ 0x6C ∷ []) (Pvalid ∷ Contexto ∷ Pvalid ∷ []) (None) (map-class_of-in_table (0x6C ∷ 0xB7 ∷ 0x6C ∷ []) (Pvalid ∷ Contexto ∷ Pvalid ∷ []) refl) refl, (told_is (0x61 ∷ 0xB7 ∷ 0x6C ∷ []) (Pvalid ∷ Contexto ∷ Pvalid ∷ []) (Some ContextO) (map-class_of-in_table (0x61 ∷ 0xB7 ∷ 0x6C ∷ []) (Pvalid ∷ Contexto ∷ Pvalid ∷ []) refl) refl, (told_is (0x61 ∷ 0x200C ∷ 0x62 ∷ []) (Pvalid ∷ Contextj ∷ Pvalid ∷ []) (Some ContextJ) (map-class_of-in_table (0x61 ∷ 0x200C ∷ 0x62 ∷ []) (Pvalid ∷ Contextj ∷ Pvalid ∷ []) refl) refl, (told_is (0x50000 ∷ []) (class.Unassigned ∷ []) (Some refusals.Unassigned) (map-class_of-in_table (0x50000 ∷ []) (class.Unassigned ∷ []) refl) refl, (told_is (0x61 ∷ 0x301 ∷ []) (Pvalid ∷ Pvalid ∷ []) (Some NotNfc) (map-class_of-in_table (0x61 ∷ 0x301 ∷ []) (Pvalid ∷ Pvalid ∷ []) refl) refl, (told_is (codes "ab--c") (Pvalid ∷ Pvalid ∷ Pvalid ∷ Pvalid ∷ Pvalid ∷ []) (Some Hyphen) (map-class_of-in_table (codes "ab--c") (Pvalid ∷ Pvalid ∷ Pvalid ∷ Pvalid ∷ Pvalid ∷ []) refl) refl, (told_is (codes "a-") (Pvalid ∷ Pvalid ∷ []) (Some Hyphen) (map-class_of-in_table (codes "a-") (Pvalid ∷ Pvalid ∷ []) refl) refl, (told_is (0x301 ∷ 0x61 ∷ []) (Pvalid ∷ Pvalid ∷ []) (Some LeadingMark) (map-class_of-in_table (0x301 ∷ 0x61 ∷ []) (Pvalid ∷ Pvalid ∷ []) refl) refl, (told_is (0x61 ∷ 0x5D0 ∷ []) (Pvalid ∷ Pvalid ∷ []) (Some Bidi) (map-class_of-in_table (0x61 ∷ 0x5D0 ∷ []) (Pvalid ∷ Pvalid ∷ []) refl) refl, (told_is (0x5D0 ∷ 0x61 ∷ []) (Pvalid ∷ Pvalid ∷ []) (Some Bidi) (map-class_of-in_table (0x5D0 ∷ 0x61 ∷ []) (Pvalid ∷ Pvalid ∷ []) refl) refl, (told_is (codes "a.b") (Pvalid ∷ class.Disallowed ∷ Pvalid ∷ []) (Some refusals.Disallowed) (map-class_of-in_table (codes "a.b") (Pvalid ∷ class.Disallowed ∷ Pvalid ∷ []) refl) refl, (told_is (codes "Fa") (class.Disallowed ∷ Pvalid ∷ []) (Some refusals.Disallowed) (map-class_of-in_table (codes "Fa") (class.Disallowed ∷ Pvalid ∷ []) refl) refl, (told_is (0x627 ∷ 0x660 ∷ 0x6F0 ∷ []) (Pvalid ∷ Contexto ∷ Contexto ∷ []) (Some ContextO) (map-class_of-in_table (0x627 ∷ 0x660 ∷ 0x6F0 ∷ []) (Pvalid ∷ Contexto ∷ Contexto ∷ []) refl) refl, (told_is (replicate 63 0x61) (replicate 63 Pvalid) (None) (map-class_of-in_table (replicate 63 0x61) (replicate 63 Pvalid) refl) refl, (told_is (replicate 64 0x61) (replicate 64 Pvalid) (Some LabelTooLong) (map-class_of-in_table (replicate 64 0x61) (replicate 64 Pvalid) refl) refl, (told_is (replicate 55 0x61 ++ 0xDF ∷ []) (replicate 56 Pvalid) (None) (map-class_of-in_table (replicate 55 0x61 ++ 0xDF ∷ []) (replicate 56 Pvalid) refl) refl, (told_is (replicate 56 0x61 ++ 0xDF ∷ []) (replicate 57 Pvalid) (Some LabelTooLong) (map-class_of-in_table (replicate 56 0x61 ++ 0xDF ∷ []) (replicate 57 Pvalid) refl) refl, tt)))))))))))))))))))
+    (told_is _ _ _ (map-class_of-in_table ([]) ([]) refl) refl, (told_is _ _ _ (map-class_of-in_table (0x66 ∷ 0x61 ∷ 0xDF ∷ []) (Pvalid ∷ Pvalid ∷ Pvalid ∷ []) refl) refl, (told_is _ _ _ (map-class_of-in_table (0x6C ∷ 0xB7 ∷ 0x6C ∷ []) (Pvalid ∷ Contexto ∷ Pvalid ∷ []) refl) refl, (told_is _ _ _ (map-class_of-in_table (0x61 ∷ 0xB7 ∷ 0x6C ∷ []) (Pvalid ∷ Contexto ∷ Pvalid ∷ []) refl) refl, (told_is _ _ _ (map-class_of-in_table (0x61 ∷ 0x200C ∷ 0x62 ∷ []) (Pvalid ∷ Contextj ∷ Pvalid ∷ []) refl) refl, (told_is _ _ _ (map-class_of-in_table (0x50000 ∷ []) (class.Unassigned ∷ []) refl) refl, (told_is _ _ _ (map-class_of-in_table (0x61 ∷ 0x301 ∷ []) (Pvalid ∷ Pvalid ∷ []) refl) refl, (told_is _ _ _ (map-class_of-in_table (codes "ab--c") (Pvalid ∷ Pvalid ∷ Pvalid ∷ Pvalid ∷ Pvalid ∷ []) refl) refl, (told_is _ _ _ (map-class_of-in_table (codes "a-") (Pvalid ∷ Pvalid ∷ []) refl) refl, (told_is _ _ _ (map-class_of-in_table (0x301 ∷ 0x61 ∷ []) (Pvalid ∷ Pvalid ∷ []) refl) refl, (told_is _ _ _ (map-class_of-in_table (0x61 ∷ 0x5D0 ∷ []) (Pvalid ∷ Pvalid ∷ []) refl) refl, (told_is _ _ _ (map-class_of-in_table (0x5D0 ∷ 0x61 ∷ []) (Pvalid ∷ Pvalid ∷ []) refl) refl, (told_is _ _ _ (map-class_of-in_table (codes "a.b") (Pvalid ∷ class.Disallowed ∷ Pvalid ∷ []) refl) refl, (told_is _ _ _ (map-class_of-in_table (codes "Fa") (class.Disallowed ∷ Pvalid ∷ []) refl) refl, (told_is _ _ _ (map-class_of-in_table (0x627 ∷ 0x660 ∷ 0x6F0 ∷ []) (Pvalid ∷ Contexto ∷ Contexto ∷ []) refl) refl, (told_is _ _ _ (map-class_of-in_table (replicate 63 0x61) (replicate 63 Pvalid) refl) refl, (told_is _ _ _ (map-class_of-in_table (replicate 64 0x61) (replicate 64 Pvalid) refl) refl, (told_is _ _ _ (map-class_of-in_table (replicate 55 0x61 ++ 0xDF ∷ []) (replicate 56 Pvalid) refl) refl, (told_is _ _ _ (map-class_of-in_table (replicate 56 0x61 ++ 0xDF ∷ []) (replicate 57 Pvalid) refl) refl, tt)))))))))))))))))))
 
 pub HaveFirstFaults-first_faults_of_two : HaveFirstFaults first_faults_of_two
 unfolding a_label_of idna rules in_table
 HaveFirstFaults-first_faults_of_two =
-    (told_is (0x41 ∷ 0x50000 ∷ []) (class.Disallowed ∷ class.Unassigned ∷ []) (Some refusals.Disallowed) (map-class_of-in_table (0x41 ∷ 0x50000 ∷ []) (class.Disallowed ∷ class.Unassigned ∷ []) refl) refl, (told_is (0x50000 ∷ 0x41 ∷ []) (class.Unassigned ∷ class.Disallowed ∷ []) (Some refusals.Unassigned) (map-class_of-in_table (0x50000 ∷ 0x41 ∷ []) (class.Unassigned ∷ class.Disallowed ∷ []) refl) refl, (told_is (0x61 ∷ 0x301 ∷ 0x2D ∷ []) (Pvalid ∷ Pvalid ∷ Pvalid ∷ []) (Some NotNfc) (map-class_of-in_table (0x61 ∷ 0x301 ∷ 0x2D ∷ []) (Pvalid ∷ Pvalid ∷ Pvalid ∷ []) refl) refl, (told_is (0x301 ∷ 0x2D ∷ []) (Pvalid ∷ Pvalid ∷ []) (Some Hyphen) (map-class_of-in_table (0x301 ∷ 0x2D ∷ []) (Pvalid ∷ Pvalid ∷ []) refl) refl, (told_is (0x301 ∷ 0x200D ∷ []) (Pvalid ∷ Contextj ∷ []) (Some LeadingMark) (map-class_of-in_table (0x301 ∷ 0x200D ∷ []) (Pvalid ∷ Contextj ∷ []) refl) refl, tt)))))
+    (told_is _ _ _ (map-class_of-in_table (0x41 ∷ 0x50000 ∷ []) (class.Disallowed ∷ class.Unassigned ∷ []) refl) refl, (told_is _ _ _ (map-class_of-in_table (0x50000 ∷ 0x41 ∷ []) (class.Unassigned ∷ class.Disallowed ∷ []) refl) refl, (told_is _ _ _ (map-class_of-in_table (0x61 ∷ 0x301 ∷ 0x2D ∷ []) (Pvalid ∷ Pvalid ∷ Pvalid ∷ []) refl) refl, (told_is _ _ _ (map-class_of-in_table (0x301 ∷ 0x2D ∷ []) (Pvalid ∷ Pvalid ∷ []) refl) refl, (told_is _ _ _ (map-class_of-in_table (0x301 ∷ 0x200D ∷ []) (Pvalid ∷ Contextj ∷ []) refl) refl, tt)))))
 
 -- the prefix alone
 no_code : u_label_answer (codes "xn--") ≡ Err refusals.BadALabel
-unfolding idna decoded_code
-no_code = u_label_answer-code_fault (codes "xn--") [] refusals.BadALabel refl refl
+unfolding idna u_label_answer decoded_code
+no_code = refl
 
 -- the code of a label that needs none
 needless_code : u_label_answer (codes "xn--abc-") ≡ Err refusals.BadALabel
 unfolding idna decoded_code a_label_of rules in_table
 needless_code =
-    let ldh : first_fault (codes "abc") ≡ None = told_is (codes "abc") (Pvalid ∷ Pvalid ∷ Pvalid ∷ []) None (map-class_of-in_table (codes "abc") (Pvalid ∷ Pvalid ∷ Pvalid ∷ []) refl) refl in
-    let other : a_label_of (codes "abc") ≢ codes "xn--abc-" = λ same. cc in
-    u_label_answer-confirmed (codes "xn--abc-") (codes "abc-") (codes "abc") (Err refusals.BadALabel) refl refl
-    (confirmed-other (codes "xn--abc-") (codes "abc") (a_label_of (codes "abc")) (tested_answer-ok (codes "abc") ldh) other)
+    let tested : first_fault (codes "abc") ≡ None = told_is _ _ _ (map-class_of-in_table (codes "abc") (Pvalid ∷ Pvalid ∷ Pvalid ∷ []) refl) refl in
+    u_label_answer-of (codes "xn--abc-") (codes "abc") refl ∙ rw tested refl
 
 -- the code of U+0080
 disallowed_code : u_label_answer (codes "xn--a") ≡ Err refusals.Disallowed
 unfolding idna decoded_code a_label_of rules in_table
 disallowed_code =
-    let fault : first_fault (0x80 ∷ []) ≡ Some refusals.Disallowed = told_is (0x80 ∷ []) (class.Disallowed ∷ []) (Some refusals.Disallowed) (map-class_of-in_table (0x80 ∷ []) (class.Disallowed ∷ []) refl) refl in
-    u_label_answer-confirmed (codes "xn--a") (codes "a") (0x80 ∷ []) (Err refusals.Disallowed) refl refl
-    (confirmed-fault (codes "xn--a") (0x80 ∷ []) refusals.Disallowed (tested_answer-fault (0x80 ∷ []) refusals.Disallowed fault))
+    let tested : first_fault (0x80 ∷ []) ≡ Some refusals.Disallowed = told_is _ _ _ (map-class_of-in_table (0x80 ∷ []) (class.Disallowed ∷ []) refl) refl in
+    u_label_answer-of (codes "xn--a") (0x80 ∷ []) refl ∙ rw tested refl
 
 sharp_s_tested : first_fault (0x66 ∷ 0x61 ∷ 0xDF ∷ []) ≡ None
 unfolding a_label_of idna rules in_table
-sharp_s_tested = told_is (0x66 ∷ 0x61 ∷ 0xDF ∷ []) (Pvalid ∷ Pvalid ∷ Pvalid ∷ []) None (map-class_of-in_table (0x66 ∷ 0x61 ∷ 0xDF ∷ []) (Pvalid ∷ Pvalid ∷ Pvalid ∷ []) refl) refl
+sharp_s_tested = told_is _ _ _ (map-class_of-in_table (0x66 ∷ 0x61 ∷ 0xDF ∷ []) (Pvalid ∷ Pvalid ∷ Pvalid ∷ []) refl) refl
 
 sharp_s : u_label_answer (codes "xn--fa-hia") ≡ Ok (0x66 ∷ 0x61 ∷ 0xDF ∷ [])
 unfolding idna decoded_code a_label_of
-sharp_s =
-    u_label_answer-confirmed (codes "xn--fa-hia") (codes "fa-hia") (0x66 ∷ 0x61 ∷ 0xDF ∷ []) (Ok (0x66 ∷ 0x61 ∷ 0xDF ∷ [])) refl refl
-    (confirmed-same (codes "xn--fa-hia") (0x66 ∷ 0x61 ∷ 0xDF ∷ []) (a_label_of (0x66 ∷ 0x61 ∷ 0xDF ∷ [])) (tested_answer-ok (0x66 ∷ 0x61 ∷ 0xDF ∷ []) sharp_s_tested) refl)
+sharp_s = u_label_answer-of (codes "xn--fa-hia") (0x66 ∷ 0x61 ∷ 0xDF ∷ []) refl ∙ rw sharp_s_tested refl
 
 -- the same code in upper case is not the A-label
 sharp_s_in_upper_case : u_label_answer (codes "xn--fa-HIA") ≡ Err refusals.BadALabel
 unfolding idna decoded_code a_label_of
-sharp_s_in_upper_case =
-    let other : a_label_of (0x66 ∷ 0x61 ∷ 0xDF ∷ []) ≢ codes "xn--fa-HIA" = λ same.
-    (let eighth : 0x68 ≡ 0x48 = ap (λ letters. get_or letters 7 0) same in omega (arith, eighth)) in
-    u_label_answer-confirmed (codes "xn--fa-HIA") (codes "fa-HIA") (0x66 ∷ 0x61 ∷ 0xDF ∷ []) (Err refusals.BadALabel) refl refl
-    (confirmed-other (codes "xn--fa-HIA") (0x66 ∷ 0x61 ∷ 0xDF ∷ []) (a_label_of (0x66 ∷ 0x61 ∷ 0xDF ∷ [])) (tested_answer-ok (0x66 ∷ 0x61 ∷ 0xDF ∷ []) sharp_s_tested) other)
-
-china_tested : first_fault (0x4E2D ∷ 0x56FD ∷ []) ≡ None
-unfolding a_label_of idna rules in_table
-china_tested = told_is (0x4E2D ∷ 0x56FD ∷ []) (Pvalid ∷ Pvalid ∷ []) None (map-class_of-in_table (0x4E2D ∷ 0x56FD ∷ []) (Pvalid ∷ Pvalid ∷ []) refl) refl
+sharp_s_in_upper_case = u_label_answer-of (codes "xn--fa-HIA") (0x66 ∷ 0x61 ∷ 0xDF ∷ []) refl ∙ rw sharp_s_tested refl
 
 china : u_label_answer (codes "xn--fiqs8s") ≡ Ok (0x4E2D ∷ 0x56FD ∷ [])
-unfolding idna decoded_code a_label_of
+unfolding idna decoded_code a_label_of rules in_table
 china =
-    u_label_answer-confirmed (codes "xn--fiqs8s") (codes "fiqs8s") (0x4E2D ∷ 0x56FD ∷ []) (Ok (0x4E2D ∷ 0x56FD ∷ [])) refl refl
-    (confirmed-same (codes "xn--fiqs8s") (0x4E2D ∷ 0x56FD ∷ []) (a_label_of (0x4E2D ∷ 0x56FD ∷ [])) (tested_answer-ok (0x4E2D ∷ 0x56FD ∷ []) china_tested) refl)
+    let tested : first_fault (0x4E2D ∷ 0x56FD ∷ []) ≡ None = told_is _ _ _ (map-class_of-in_table (0x4E2D ∷ 0x56FD ∷ []) (Pvalid ∷ Pvalid ∷ []) refl) refl in
+    u_label_answer-of (codes "xn--fiqs8s") (0x4E2D ∷ 0x56FD ∷ []) refl ∙ rw tested refl
+
+registered_as : (label : List ℕ) (answer : Answer) → has_ace_prefix label ≡ true → u_label_answer label ≡ answer → register_answer label ≡ and_then answer (λ decoded. Ok label)
+registered_as label answer coded is = register_answer-prefixed label coded ∙ ap (λ first. and_then first (λ decoded. Ok label)) is
 
 pub HaveRegisterAnswers-register_answers : HaveRegisterAnswers register_answers
 unfolding idna
-HaveRegisterAnswers-register_answers = (
-  register_answer-fault (codes "xn--") refusals.BadALabel refl no_code,
-  (
-    register_answer-fault (codes "xn--abc-") refusals.BadALabel refl needless_code,
-    (
-      register_answer-fault (codes "xn--a") refusals.Disallowed refl disallowed_code,
-      (
-        register_answer-coded (codes "xn--fa-hia") (0x66 ∷ 0x61 ∷ 0xDF ∷ []) refl sharp_s,
-        (register_answer-fault (codes "xn--fa-HIA") refusals.BadALabel refl sharp_s_in_upper_case, tt),
-      ),
-    ),
-  ),
-)
+HaveRegisterAnswers-register_answers =
+    (registered_as (codes "xn--") _ refl no_code, (registered_as (codes "xn--abc-") _ refl needless_code, (registered_as (codes "xn--a") _ refl disallowed_code, (registered_as (codes "xn--fa-hia") _ refl sharp_s, (registered_as (codes "xn--fa-HIA") _ refl sharp_s_in_upper_case, tt)))))
 
 decoded_nothing : decode_answer [] ≡ Ok []
 unfolding decode_answer decoded_labels decoded_label idna

@@ -48,6 +48,7 @@ pub fn decode_ascii(
 
 /// Writes the UTF-8 of a label, decoded if it begins with `xn--` in any ASCII case, into `room` from the place `at` on,
 /// and returns the place behind it. `u_label` is room for what an A-label stands for.
+#[tactic(auto, using(crate::proofs::ALabels::scalars), unfolding(crate::specs::Decode::decoded_label))]
 fn decode_label(
     alloc: Global,
     label: &[u8],

@@ -16,6 +16,7 @@ use std::alloc::Global;
 /// The name with each A-label turned into what it stands for (RFC 5891 section 5.3). A label that begins with `xn--` in
 /// any ASCII case is put into lower case and decoded, or refuses the name as `BadALabel` or by the first fault of what
 /// it stands for; any other label stays as it is. The first refused label decides. `Memory` says nothing of the name.
+#[tactic(auto, using(crate::proofs::ALabels::back))]
 pub fn decode_name(alloc: Global, name: &[u32]) -> Result<Vec<u32>, Refusal>
     requires { length name.now ≤ MAX_LINE_LEN }
     ensures answer { Gives (λ decoded. decoded.items) result (decode_answer name.now) }
@@ -25,22 +26,13 @@ pub fn decode_name(alloc: Global, name: &[u32]) -> Result<Vec<u32>, Refusal>
         → Gives (λ decoded. decoded.items) result (Ok registered) }
 {
     let mut decoded = Vec::with_capacity(alloc, name.len())?;
-    decode_labels(alloc, name, &mut decoded)?;
-    Ok(decoded)
-}
-
-/// Appends the decoded name.
-fn decode_labels(alloc: Global, name: &[u32], decoded: &mut Vec<u32>) -> Result<(), Refusal>
-    requires { length name.now ≤ MAX_LINE_LEN }
-    ensures { Gives (λ _. decoded.new.items) result (appended decoded.old.items (decode_answer name.now)) }
-{
     let mut u_label = DecodedLabel::new();
     let mut start = 0;
     'labels: loop {
         let end = label_end(name, start);
-        decode_label(alloc, &name[start..end], &mut u_label, decoded)?;
+        decode_label(alloc, &name[start..end], &mut u_label, &mut decoded)?;
         if end == name.len() {
-            return Ok(());
+            return Ok(decoded);
         }
         decoded.push(FULL_STOP)?;
         start = end + 1;
@@ -48,6 +40,7 @@ fn decode_labels(alloc: Global, name: &[u32], decoded: &mut Vec<u32>) -> Result<
 }
 
 /// Appends a label, decoded if it begins with `xn--` in any ASCII case. `u_label` is room for what an A-label stands for.
+#[tactic(auto, unfolding(crate::specs::Decode::decoded_label))]
 fn decode_label(
     alloc: Global,
     label: &[u32],

@@ -32,6 +32,7 @@ pub fn test_label(alloc: Global, label: &[u32]) -> Result<ALabel, Refusal>
 }
 
 /// Returns the first fault of a label, but for its length. Its facts, which are known, say which tests it needs.
+#[tactic(auto, using(crate::proofs::FaultLemmas::permitted_scalars), unfolding(crate::specs::inner::FaultSteps::fault_but_length))]
 pub(crate) fn check_label(alloc: Global, label: &[u32], facts: Facts) -> Result<(), Refusal>
     requires { AreFactsOf facts label.now }
     ensures passes { OnOk result (fault_but_length label.now ≡ None) }
@@ -41,18 +42,21 @@ pub(crate) fn check_label(alloc: Global, label: &[u32], facts: Facts) -> Result<
     if label.is_empty() {
         return Err(Refusal::Empty);
     }
-    if facts.contains(Fact::MayBeBarred) {
-        check_code_points(alloc, label)?;
-    }
+    check_code_points(alloc, label, facts)?;
     check_rules(alloc, label, facts)
 }
 
-/// Tells the first code point that may not be registered (RFC 5891 section 4.2.2).
-fn check_code_points(alloc: Global, label: &[u32]) -> Result<(), Refusal>
+/// Tells the first code point that may not be registered (RFC 5891 section 4.2.2), where the facts say that there may be one.
+#[tactic(auto, using(crate::proofs::FaultLemmas::points_told))]
+fn check_code_points(alloc: Global, label: &[u32], facts: Facts) -> Result<(), Refusal>
+    requires { AreFactsOf facts label.now }
     ensures passes { OnOk result (code_point_fault label.now ≡ None) }
     ensures fault { IfErr result (λ refusal. refusal ≢ Refusal.Memory → code_point_fault label.now ≡ Some refusal) }
     ensures closed { list_any is_left_open label.now ≡ false → result ≢ Err Refusal.Memory }
 {
+    if !facts.contains(Fact::MayBeBarred) {
+        return Ok(());
+    }
     for c in label {
         let class = class_of(alloc, *c)?;
         if let Some(refusal) = fault_of_class(class) {

@@ -52,6 +52,7 @@ impl KeptALabel {
 
     /// Keeps the A-label of a label that may be registered, else tells its first fault, as the function `test_label`
     /// does. The facts of the label are known. At a fault nothing is said of the A-label that is then kept.
+    #[tactic(auto, using(crate::proofs::FaultLemmas::measured), unfolding(crate::specs::ALabel::a_label_of))]
     pub fn test_label(&mut self, alloc: Global, label: &[u32], facts: Facts) -> Result<(), Refusal>
         requires { AreFactsOf facts label.now }
         ensures registrable { OnOk result (IsRegistrable label.now) }
@@ -60,17 +61,6 @@ impl KeptALabel {
         ensures no_memory { NeedsNoMemory label.now → result ≢ Err Refusal.Memory }
     {
         check_label(alloc, label, facts)?;
-        self.keep_measured(label)
-    }
-
-    /// Keeps the A-label of a label whose only fault may be its length.
-    fn keep_measured(&mut self, label: &[u32]) -> Result<(), Refusal>
-        requires { fault_but_length label.now ≡ None }
-        ensures registrable { OnOk result (IsRegistrable label.now) }
-        ensures a_label { OnOk result (self.new ≡ a_label_of label.now) }
-        ensures fault { IfErr result (λ refusal. first_fault label.now ≡ Some refusal) }
-        ensures no_memory { result ≢ Err Refusal.Memory }
-    {
         if label.len() > MAX_LABEL_LEN {
             return Err(Refusal::LabelTooLong);
         }

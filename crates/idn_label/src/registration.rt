@@ -22,6 +22,7 @@ use std::alloc::Global;
 /// else it is refused as `BadALabel`, or by the first fault of what it stands for. `Memory` says nothing of the label.
 /// Any other label takes no memory where `test_label` takes none. Nor does one that begins with `xn--` and has at most
 /// 63 code points and no capital, where what it stands for is not all ASCII and `test_label` takes none for that.
+#[tactic(auto, using(crate::proofs::ALabels::registered), unfolding(crate::specs::Register::tested_answer))]
 pub fn register(alloc: Global, label: &[u32]) -> Result<ALabel, Refusal>
     requires { length label.now ≤ MAX_LINE_LEN }
     ensures answer { Gives (λ answer. answer.bytes) result (register_answer label.now) }
@@ -32,19 +33,8 @@ pub fn register(alloc: Global, label: &[u32]) -> Result<ALabel, Refusal>
         → Gives (λ answer. answer.bytes) result (Ok (a_label_of registered)) }
 {
     if has_ace_prefix(label) {
-        register_a_label(alloc, label)
-    } else {
-        test_label(alloc, label)
+        u_label(alloc, label, &mut DecodedLabel::new())?;
+        return Ok(ascii_text(label));
     }
-}
-
-/// The answer for a label that begins with `xn--`.
-fn register_a_label(alloc: Global, label: &[u32]) -> Result<ALabel, Refusal>
-    requires prefix { has_ace_prefix label.now ≡ true }
-    requires short { length label.now ≤ MAX_LINE_LEN }
-    ensures answer { Gives (λ answer. answer.bytes) result (register_answer label.now) }
-    ensures no_memory { list_all (λ c. not (is_ascii_uppercase c)) label.now ≡ true → NeedsNoMemoryDecoded label.now → result ≢ Err Refusal.Memory }
-{
-    u_label(alloc, label, &mut DecodedLabel::new())?;
-    Ok(ascii_text(label))
+    test_label(alloc, label)
 }

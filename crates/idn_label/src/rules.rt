@@ -7,6 +7,7 @@ ghost use Rattle.unicode_normalization.specs.QuickCheck.{quick_check_text};
 ghost use Rattle.idn_text.specs.Points.{AreScalarValues};
 ghost use Rattle.idn_class.specs.Facts.{AreFactsOf, contains};
 ghost use Rattle.idn_class.specs.Tests.{leading_mark, contextj_ok, contexto_ok, bidi_ok};
+ghost use Rattle.idn_label.specs.Memory.{NeedsNoMemory};
 ghost use Rattle.idn_label.specs.inner.FaultSteps.{rule_fault};
 
 use crate::a_label::MAX_LABEL_LEN;
@@ -19,14 +20,13 @@ use unicode_normalization::IsNormalized;
 use unicode_normalization::slice::{extend_nfc, is_nfc_quick};
 
 /// Tells the first fault that is neither of a code point nor of the length. `facts` are those of the label.
-#[tactic(auto, unfolding(crate::specs::inner::FaultSteps::rule_fault))]
+#[tactic(auto, using(crate::proofs::FactTests::fact_tests), unfolding(crate::specs::inner::FaultSteps::rule_fault))]
 pub(crate) fn check_rules(alloc: Global, label: &[u32], facts: Facts) -> Result<(), Refusal>
     requires scalars { AreScalarValues label.now }
     requires facts { AreFactsOf facts label.now }
     ensures passes { OnOk result (rule_fault label.now ≡ None) }
     ensures fault { IfErr result (λ refusal. refusal ≢ Refusal.Memory → rule_fault label.now ≡ Some refusal) }
-    ensures simple { contains facts Fact.MayCompose ≡ false → result ≢ Err Refusal.Memory }
-    ensures short { length label.now ≤ 63 → quick_check_text Nfc label.now ≢ Maybe → result ≢ Err Refusal.Memory }
+    ensures no_memory { NeedsNoMemory label.now → result ≢ Err Refusal.Memory }
 {
     if !is_nfc(alloc, label, facts)? {
         return Err(Refusal::NotNfc);
@@ -34,57 +34,29 @@ pub(crate) fn check_rules(alloc: Global, label: &[u32], facts: Facts) -> Result<
     if has_hyphen_out_of_place(label) {
         return Err(Refusal::Hyphen);
     }
-    if begins_with_mark(label, facts) {
+    if facts.contains(Fact::Mark) && leading_mark(label) {
         return Err(Refusal::LeadingMark);
     }
-    if !passes_contextj(label, facts) {
+    if facts.contains(Fact::Contextj) && !contextj_ok(label) {
         return Err(Refusal::ContextJ);
     }
-    if !passes_contexto(label, facts) {
+    if facts.contains(Fact::Contexto) && !contexto_ok(label) {
         return Err(Refusal::ContextO);
     }
-    if !passes_bidi_rule(label, facts) {
+    if facts.contains(Fact::RightToLeft) && !bidi_ok(label) {
         return Err(Refusal::Bidi);
     }
     Ok(())
 }
 
-fn begins_with_mark(label: &[u32], facts: Facts) -> bool
-    requires { AreFactsOf facts label.now }
-    ensures { result ≡ leading_mark label.now }
-{
-    facts.contains(Fact::Mark) && leading_mark(label)
-}
-
-fn passes_contextj(label: &[u32], facts: Facts) -> bool
-    requires { AreFactsOf facts label.now }
-    ensures { result ≡ contextj_ok label.now }
-{
-    !facts.contains(Fact::Contextj) || contextj_ok(label)
-}
-
-fn passes_contexto(label: &[u32], facts: Facts) -> bool
-    requires { AreFactsOf facts label.now }
-    ensures { result ≡ contexto_ok label.now }
-{
-    !facts.contains(Fact::Contexto) || contexto_ok(label)
-}
-
-fn passes_bidi_rule(label: &[u32], facts: Facts) -> bool
-    requires { AreFactsOf facts label.now }
-    ensures { result ≡ bidi_ok label.now }
-{
-    !facts.contains(Fact::RightToLeft) || bidi_ok(label)
-}
-
 /// Whether a label is in Normalization Form C. Where a code point may compose, it takes memory for a label of more than 63
 /// code points, and where the quick check cannot decide.
+#[tactic(auto, using(crate::proofs::FactTests::fact_tests))]
 fn is_nfc(alloc: Global, label: &[u32], facts: Facts) -> Result<bool, AllocError>
     requires scalars { AreScalarValues label.now }
     requires facts { AreFactsOf facts label.now }
     ensures answer { IfOk result (λ answer. answer ≡ is_nfc label.now) }
-    ensures simple { contains facts Fact.MayCompose ≡ false → IsOk result }
-    ensures short { length label.now ≤ 63 → quick_check_text Nfc label.now ≢ Maybe → IsOk result }
+    ensures no_memory { NeedsNoMemory label.now → IsOk result }
 {
     if !facts.contains(Fact::MayCompose) {
         return Ok(true);

@@ -1,15 +1,14 @@
 //! What an A-label stands for (RFC 5891 section 5.3).
-ghost use Rattle.std.specs.Prelude.{◌≡◌, ◌≢◌, ◌<◌, ◌≤◌, ℕ, List, not, length, map, drop, true, Ok, Err, IfErr, OnOk};
+ghost use Rattle.std.specs.Prelude.{◌≡◌, ◌≢◌, ◌<◌, ◌≤◌, ◌+◌, not, length, map, drop, true, Ok, Err, IfErr, OnOk};
 ghost use Rattle.std.specs.Char.{is_ascii_uppercase, to_ascii_lowercase};
 ghost use Rattle.std.specs.List.{list_all};
+ghost use Rattle.std.specs.Result.{IsErr, IsErrAnd};
 ghost use Rattle.idna.specs.Validity.{is_all_ascii, has_ace_prefix};
-ghost use Rattle.idn_label.specs.ALabel.{a_label_of};
 ghost use Rattle.idn_label.specs.Answers.{Gives};
-ghost use Rattle.idn_label.specs.FirstFault.{first_fault, IsRegistrable};
 ghost use Rattle.idn_label.specs.Memory.{NeedsNoMemoryDecoded};
 ghost use Rattle.idn_label.specs.Register.{decoded_code, u_label_answer};
 
-use crate::a_label::{ALabel, MAX_LABEL_LEN, ascii_text};
+use crate::a_label::{MAX_LABEL_LEN, ascii_text};
 use crate::code_points::points_of;
 use crate::first_fault::{check_label, test_label};
 use crate::unit::{Unit, is_all_ascii, is_capital, to_lowercase};
@@ -21,6 +20,7 @@ use std::alloc::Global;
 
 /// Leaves in `label` what an A-label in any ASCII case stands for, in place of what stood there. A label that passes
 /// the test has no capital, so its code need not be put into lower case first.
+#[tactic(auto, using(crate::proofs::ALabels::in_any_case))]
 pub(crate) fn u_label_in_any_case<U: Unit>(
     alloc: Global,
     given: &[U],
@@ -42,6 +42,7 @@ pub(crate) fn u_label_in_any_case<U: Unit>(
 
 /// Leaves in `label` the label that an A-label stands for, which may be registered and has that A-label, in place of
 /// what stood there.
+#[tactic(auto, using(crate::proofs::ALabels::lower_case))]
 pub(crate) fn u_label<U: Unit>(
     alloc: Global,
     given: &[U],
@@ -57,7 +58,7 @@ pub(crate) fn u_label<U: Unit>(
         return tested_u_label(alloc, given, label);
     }
     // The A-label of a label that may be registered has no capital.
-    Err(refusal_of(alloc, given))
+    refuse(alloc, given)
 }
 
 /// Whether a label has no ASCII capital. It looks at each code point, which is faster than to stop at the first capital.
@@ -102,38 +103,44 @@ fn tested_u_label<U: Unit>(
 {
     // The A-label of a label that may be registered is short.
     if given.len() > MAX_LABEL_LEN {
-        return Err(refusal_of(alloc, given));
+        return refuse(alloc, given);
     }
-    let (_, code) = given.split_at(4);
-    let Ok(facts) = label.decode(code) else {
+    let Ok(facts) = label.decode(code_of(given)) else {
         return Err(Refusal::BadALabel);
     };
     if is_all_ascii(label.as_slice()) {
-        return Err(refusal_of(alloc, given));
+        return refuse(alloc, given);
     }
     check_label(alloc, label.as_slice(), facts)
 }
 
-/// Why an A-label is refused that no label which may be registered has.
-fn refusal_of<U: Unit>(alloc: Global, given: &[U]) -> Refusal
-    requires prefix { 4 ≤ length given.now }
-    requires short { length given.now ≤ MAX_LINE_LEN }
-    requires of_none { (label : List ℕ) → decoded_code (drop 4 (U.codes given.now)) ≡ Ok label → IsRegistrable label → a_label_of label ≢ U.codes given.now }
-    ensures { result ≢ Refusal.Memory → u_label_answer (U.codes given.now) ≡ Err result }
+/// What stands after the prefix.
+#[inline]
+fn code_of<U: Unit>(given: &[U]) -> &[U]
+    requires { has_ace_prefix (map to_ascii_lowercase (U.codes given.now)) ≡ true }
+    ensures codes { U.codes result.now ≡ drop 4 (U.codes given.now) }
+    ensures shorter { length result.now + 4 ≡ length given.now }
 {
     let (_, code) = given.split_at(4);
-    let label = match decode_code(alloc, code) {
-        Ok(label) => label,
-        Err(refusal) => return refusal,
-    };
-    match test_chars(alloc, &label) {
-        Ok(_) => Refusal::BadALabel,
-        Err(refusal) => refusal,
-    }
+    code
+}
+
+/// Refuses what is the A-label of no label which may be registered, and tells why.
+#[tactic(auto, using(crate::proofs::AnswerLemmas::confirming), unfolding(crate::specs::Register::u_label_answer))]
+fn refuse<U: Unit>(alloc: Global, given: &[U]) -> Result<(), Refusal>
+    requires prefix { has_ace_prefix (map to_ascii_lowercase (U.codes given.now)) ≡ true }
+    requires short { length given.now ≤ MAX_LINE_LEN }
+    requires of_none { IsErr (u_label_answer (U.codes given.now)) }
+    ensures { IsErrAnd result (λ refusal. refusal ≢ Refusal.Memory → u_label_answer (U.codes given.now) ≡ Err refusal) }
+{
+    let label = decode_code(alloc, code_of(given))?;
+    test_label(alloc, &label)?;
+    Err(Refusal::BadALabel)
 }
 
 /// Decodes what stands after the prefix, which may be long.
-fn decode_code<U: Unit>(alloc: Global, code: &[U]) -> Result<Vec<char>, Refusal>
+#[tactic(auto, unfolding(crate::specs::Register::decoded_code))]
+fn decode_code<U: Unit>(alloc: Global, code: &[U]) -> Result<Vec<u32>, Refusal>
     requires { length code.now ≤ MAX_LINE_LEN }
     ensures { Gives (λ label. label.items) result (decoded_code (U.codes code.now)) }
 {
@@ -142,17 +149,8 @@ fn decode_code<U: Unit>(alloc: Global, code: &[U]) -> Result<Vec<char>, Refusal>
     }
     let text: ArrayString<MAX_LINE_LEN> = ascii_text(code);
     match punycode::decode(alloc, text.as_str()) {
-        Ok(label) => Ok(label),
+        Ok(label) => Ok(points_of(alloc, &label)?),
         Err(Errors::Invalid) => Err(Refusal::BadALabel),
         Err(Errors::OutOfMemory) => Err(Refusal::Memory),
     }
-}
-
-/// The A-label of a label that may be registered, else its first fault.
-fn test_chars(alloc: Global, label: &[char]) -> Result<ALabel, Refusal>
-    ensures registrable { OnOk result (IsRegistrable label.now) }
-    ensures fault { IfErr result (λ refusal. refusal ≢ Refusal.Memory → first_fault label.now ≡ Some refusal) }
-{
-    let points = points_of(alloc, label)?;
-    test_label(alloc, &points)
 }

@@ -37,6 +37,7 @@ pub(crate) fn is_all_ascii<U: Unit>(label: &[U]) -> bool
 
 /// Whether a label begins with `xn--` (RFC 5890 section 2.3.2.5).
 #[inline]
+#[tactic(auto, using(idna::proofs::ValidityLemmas::has_ace_prefix_by_index))]
 pub(crate) fn has_ace_prefix<U: Unit>(label: &[U]) -> bool
     ensures { result ≡ has_ace_prefix (U.codes label.now) }
 {
@@ -47,19 +48,13 @@ pub(crate) fn has_ace_prefix<U: Unit>(label: &[U]) -> bool
 
 /// The same in any ASCII case.
 #[inline]
+#[tactic(auto, using(crate::proofs::LowerCase::has_ace_prefix_lower))]
 pub(crate) fn has_ace_prefix_in_any_case<U: Unit>(label: &[U]) -> bool
     ensures { result ≡ has_ace_prefix (map to_ascii_lowercase (U.codes label.now)) }
 {
     has_hyphens_third_and_fourth(label)
-        && (lowercase_at(label, 0) == 'x' as u32) & (lowercase_at(label, 1) == 'n' as u32)
-}
-
-/// The code point at a place in lower case, or 0 past the end.
-#[inline]
-fn lowercase_at<U: Unit>(label: &[U], place: usize) -> u32
-    ensures { result ≡ slice_index (map to_ascii_lowercase (U.codes label.now)) place }
-{
-    to_lowercase(code_point_at(label, place))
+        && (to_lowercase(code_point_at(label, 0)) == 'x' as u32)
+            & (to_lowercase(code_point_at(label, 1)) == 'n' as u32)
 }
 
 /// A code point in lower case, if it is an ASCII capital.

@@ -6,10 +6,9 @@ use Rattle.idn_text.specs.declared.refusal.Refusal.TheVariants.{Empty, NotNfc, H
 use Rattle.idn_class.specs.Tests.{leading_mark, contextj_ok, contexto_ok, bidi_ok}
 use Rattle.idn_label.specs.FirstFault.{first_of, fault_if, code_point_fault, has_hyphen_out_of_place}
 
--- the first fault of those that are neither of the code points nor of the length
-unfoldable pub rule_fault : List ℕ → Option Refusal
-rule_fault label =
-    first_of (
+-- the faults that are neither of the code points nor of the length
+abbrev pub rule_faults : List ℕ → List (Option Refusal)
+rule_faults label =
     fault_if (not (is_nfc label)) NotNfc
     ∷ fault_if (has_hyphen_out_of_place label) Hyphen
     ∷ fault_if (leading_mark label) LeadingMark
@@ -17,7 +16,9 @@ rule_fault label =
     ∷ fault_if (not (contexto_ok label)) ContextO
     ∷ fault_if (not (bidi_ok label)) Bidi
     ∷ []
-    )
+
+unfoldable pub rule_fault : List ℕ → Option Refusal
+rule_fault label = first_of (rule_faults label)
 
 -- the first fault but for the length
 unfoldable pub fault_but_length : List ℕ → Option Refusal

@@ -8,8 +8,7 @@ use Rattle.idn_label.specs.Memory.{DecodesWithoutMemory}
 use Rattle.idn_label.specs.Steps.{appended, in_utf8}
 use Rattle.idn_label.proofs.LabelsByPlace.{label_last, label_before}
 use Rattle.idn_label.proofs.LdhNames.{all_labels}
-use Rattle.idn_label.proofs.DecodeLemmas.{appended-nil}
-use Rattle.idn_label.proofs.Utf8Decoding.{utf8_turn_err, utf8_turn_last, utf8_turn_more}
+use Rattle.idn_label.proofs.DecodeLemmas.{decode_answer-last, decode_answer-err, decode_answer-more, appended-nil, appended-err, turn_more, in_utf8-err, in_utf8-followed}
 use Rattle.idn_label.proofs.ascii_name.decode_ascii.Goals as goal
 
 pub labels-init : goal.labels-init
@@ -30,12 +29,11 @@ decode_label-requires c =
 
 pub returns-in_err-len-clause-answer : goal.returns-in_err-len-clause-answer
 returns-in_err-len-clause-answer c =
-    let name = c.args.name.now in
     let p = err_from_is_err_and c.from_residual.result c.from_residual.ensures.1 in
     rw (p.1, p.2)
     (λ other.
     c.labels.invariant.0
-    ∙ utf8_turn_err (take c.labels.len c.labels.room) (drop c.labels.start name) (slice_range name c.labels.start c.label_end-end.result) _ _ c.label_end-end.ensures.labels (c.in_err-len.ensures.answer other))
+    ∙ rw (decode_answer-err (drop c.labels.start c.args.name.now) _ _ _ c.label_end-end.ensures.labels (in_utf8-err _ _ (appended-err _ _ _ (c.in_err-len.ensures.answer other)))) refl)
 
 pub returns-in_err-len-clause-no_memory : goal.returns-in_err-len-clause-no_memory
 returns-in_err-len-clause-no_memory c =
@@ -47,9 +45,9 @@ returns-in_err-len-clause-no_memory c =
 
 pub returns-then-end-name-clause-answer : goal.returns-then-end-name-clause-answer
 returns-then-end-name-clause-answer c =
-    let name = c.args.name.now in
     c.labels.invariant.0
-    ∙ utf8_turn_last (take c.labels.len c.labels.room) (drop c.labels.start name) (slice_range name c.labels.start c.label_end-end.result) _ (label_last name c.labels.start _ c.label_end-end.ensures c.if-end-name.true) c.in_ok-len.ensures.answer
+    ∙ ap (λ a. appended (take c.labels.len c.labels.room) (in_utf8 a)) (decode_answer-last _ _ (label_last c.args.name.now c.labels.start _ c.label_end-end.ensures c.if-end-name.true))
+    ∙ c.in_ok-len.ensures.answer
 
 pub labels-preserved : goal.labels-preserved
 labels-preserved c =
@@ -64,7 +62,9 @@ labels-preserved c =
     let long = length-take (end - start) (drop start name) in
     let behind = c.in_ok-len.ensures.end in (
       i.0
-          ∙ utf8_turn_more (take c.labels.len c.labels.room) (drop start name) first others _ parts c.in_ok-len.ensures.answer
+          ∙ ap (λ a. appended (take c.labels.len c.labels.room) (in_utf8 a)) (decode_answer-more _ _ others parts)
+          ∙ ap (appended (take c.labels.len c.labels.room)) (in_utf8-followed _ _)
+          ∙ turn_more (take c.labels.len c.labels.room) _ _ (in_utf8 (decode_answer others)) c.in_ok-len.ensures.answer
           ∙ ap (λ front. appended front (in_utf8 (decode_answer others))) (sym (take-set_at _ _ _ 0x2E refl (omega (arith, long, ends.order, ends.within, c.if-end-name.false, behind, c.in_ok-len.ensures.length, i.2, i.3, c.requires.room)))),
       omega (arith, ends.within, c.if-end-name.false),
       omega (arith, long, ends.order, behind, i.2),

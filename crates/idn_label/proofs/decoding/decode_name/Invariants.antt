@@ -1,11 +1,10 @@
 use Rattle.std.proofs.Common.{◌≡◌, ◌≤◌, ◌-◌, drop, length}
 use Rattle.idn_label.specs.Decode.{decode_answer}
 use Rattle.idn_label.specs.Steps.{appended}
-use Rattle.idn_label.proofs.decoding.decode_labels.Given as goal
+use Rattle.idn_label.proofs.decoding.decode_name.Given as goal
 
 abbrev pub invariant-labels : goal.invariant-labels
-invariant-labels l =
-    (appended l.initial.decoded.items (decode_answer l.name) ≡ appended l.decoded.items (decode_answer (drop l.start l.name))) × (l.start ≤ length l.name)
+invariant-labels l = (decode_answer l.name ≡ appended l.decoded.items (decode_answer (drop l.start l.name))) × (l.start ≤ length l.name)
 
 abbrev pub decreases-labels : goal.decreases-labels
 decreases-labels l = length l.name - l.start
