@@ -3,7 +3,7 @@ use Rattle.std.proofs.Common.{◌≢◌, [], ◌∷◌, get_or, eq-eqb, ne_eqb, 
 use Rattle.std.specs.Str.{is_utf8, IsUtf8, IsAscii}
 use Rattle.std.proofs.lemmas.Str.{IsUtf8-from_is_utf8, is_utf8-from_IsUtf8}
 use Rattle.std.proofs.lemmas.List.{length-take}
-use Rattle.std.proofs.lemmas.Bool.{cond-true, cond-false, cases_Bool, and_parts, leb-true, false≢true}
+use Rattle.std.proofs.lemmas.Bool.{cond-true, cond-false, cases_Bool, and_parts, leb-true}
 use Rattle.idna.specs.declared.deny_list.AsciiDenyList.{AsciiDenyList}
 use Rattle.idna.specs.declared.options.Hyphens.TheVariants.{Allow}
 use Rattle.idna.specs.declared.options.DnsLength.TheVariants.{Ignore}
@@ -69,24 +69,14 @@ pub utf8_answer-measured : (name : List ℕ) (std3 : Bool) (deny : AsciiDenyList
 utf8_answer-measured name std3 deny query listed is =
     utf8_answer-name name std3 (to_ascii-utf8 deny name query is) ∙ query_name-measured name std3 deny (Some query) listed is
 
--- what ToASCII gives nothing of is refused, as what it is
-pub utf8_answer-refused : (name : List ℕ) (std3 : Bool) (deny : AsciiDenyList) (refusal : Refusal) → deny ≡ deny_list std3 → to_ascii deny Allow Ignore name ≡ None → (IsUtf8 name → refusal ≡ LookupInvalid) → (¬ (IsUtf8 name) → refusal ≡ NotUtf8) → utf8_answer name std3 ≡ Err refusal
-utf8_answer-refused name std3 deny refusal listed none as_text as_bytes =
-    elim (cases_Bool (is_utf8 name)) [
-      | inl utf8 ↦
-          utf8_answer-name name std3 utf8 ∙ query_name-measured name std3 deny None listed none ∙ ap Err (sym (as_text (IsUtf8-from_is_utf8 name utf8)))
-      | inr missing ↦
-          let other : ¬ (IsUtf8 name) = λ utf8. false≢true (sym missing ∙ is_utf8-from_IsUtf8 name utf8) in
-          utf8_answer-other name std3 other ∙ ap Err (sym (as_bytes other))
-    ]
-
-pub utf8_answer-text : (bytes text : List ℕ) (std3 : Bool) → IsUtf8 text → text ≡ bytes → utf8_answer bytes std3 ≡ query_name bytes std3
-utf8_answer-text bytes text std3 utf8 same = utf8_answer-name bytes std3 (ap is_utf8 (sym same) ∙ is_utf8-from_IsUtf8 text utf8)
+-- what ToASCII gives nothing of is refused
+pub utf8_answer-refused : (name : List ℕ) (std3 : Bool) (deny : AsciiDenyList) → deny ≡ deny_list std3 → to_ascii deny Allow Ignore name ≡ None → IsUtf8 name → utf8_answer name std3 ≡ Err LookupInvalid
+utf8_answer-refused name std3 deny listed none utf8 = utf8_answer-name name std3 (is_utf8-from_IsUtf8 name utf8) ∙ query_name-measured name std3 deny None listed none
 
 pub utf8_answer-points : (name text : List ℕ) (std3 : Bool) → AreScalarValues name → text ≡ utf8_of name → utf8_answer text std3 ≡ lookup_answer name std3
 utf8_answer-points name text std3 scalars same =
-    ap (λ bytes. utf8_answer bytes std3) same
-    ∙ utf8_answer-text (utf8_of name) (utf8_of name) std3 (IsUtf8-from_points (utf8_of name) name (record { scalar_values = scalars; encoded = refl })) refl
+    let utf8 = IsUtf8-from_points (utf8_of name) name (record { scalar_values = scalars; encoded = refl }) in
+    ap (λ bytes. utf8_answer bytes std3) same ∙ utf8_answer-name (utf8_of name) std3 (is_utf8-from_IsUtf8 (utf8_of name) utf8)
 
 -- ---- the lengths
 

@@ -126,8 +126,8 @@ no_mark_covered facts (c ∷ label) cover none = no_mark c label (All-head (λ c
 
 -- ---- facts of several code points
 
-pub one_fact : (facts : Facts) (c : ℕ) (fact : Fact) → AreFactsOf facts (c ∷ []) → contains facts fact ≡ false → has_fact fact c ≡ false
-one_fact facts c fact are none = All-head (λ c. has_fact fact c ≡ false) c [] (each_lacks fact (c ∷ []) (sym (are fact) ∙ none))
+pub one_fact : (facts : Facts) (c : ℕ) → AreFactsOf facts (c ∷ []) → (fact : Fact) → contains facts fact ≡ false → has_fact fact c ≡ false
+one_fact facts c are fact none = All-head (λ c. has_fact fact c ≡ false) c [] (each_lacks fact (c ∷ []) (sym (are fact) ∙ none))
 
 pub facts_of_one : (facts : Facts) (c : ℕ) → ((fact : Fact) → contains facts fact ≡ has_fact fact c) → AreFactsOf facts (c ∷ [])
 facts_of_one facts c are fact = are fact ∙ sym (or_false (has_fact fact c))

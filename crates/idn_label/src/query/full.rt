@@ -26,7 +26,8 @@ pub(crate) fn full_lookup(
 {
     let ascii = match domain_to_ascii_cow(alloc, name, deny_list(std3)) {
         Ok(ascii) => ascii,
-        Err(Errors::Invalid) => return Err(refusal_of(name)),
+        Err(Errors::Invalid) if str::from_utf8(name).is_err() => return Err(Refusal::NotUtf8),
+        Err(Errors::Invalid) => return Err(Refusal::LookupInvalid),
         Err(Errors::OutOfMemory) => return Err(Refusal::Memory),
     };
     let text = ascii.as_str();
@@ -38,18 +39,6 @@ pub(crate) fn full_lookup(
         unreachable!()
     };
     Ok(())
-}
-
-/// Why ToASCII gives nothing of a name.
-fn refusal_of(name: &[u8]) -> Refusal
-    ensures utf8 { IsUtf8 name.now → result ≡ Refusal.LookupInvalid }
-    ensures other { ¬ (IsUtf8 name.now) → result ≡ Refusal.NotUtf8 }
-    ensures no_memory { result ≢ Refusal.Memory }
-{
-    match str::from_utf8(name) {
-        Ok(_) => Refusal::LookupInvalid,
-        Err(_) => Refusal::NotUtf8,
-    }
 }
 
 fn deny_list(std3: bool) -> AsciiDenyList

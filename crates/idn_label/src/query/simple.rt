@@ -39,8 +39,10 @@ pub(crate) fn simple_query(name: &[u8], buffers: &mut LookupBuffers) -> Option<(
         query,
     } = buffers;
     let facts = map_name(name, mapped)?;
-    if !is_normalized(mapped, facts) {
-        return None;
+    if facts.contains(Fact::MayCompose) {
+        let IsNormalized::Yes = is_nfc_quick(mapped) else {
+            return None;
+        };
     }
     write_a_labels(mapped, facts, encoder, query)?;
     Some(())
@@ -90,47 +92,19 @@ fn push_mapping(points: &[char], mapped: &mut Mapped) -> Option<Facts>
     Some(facts)
 }
 
-/// Appends a code point, if it passes and there is space.
+/// Appends a code point, if it passes and there is space. Most are simple; of the others of ASCII the full stop passes.
 #[inline]
 fn push_kept(c: char, facts: Facts, mapped: &mut Mapped) -> Option<Facts>
     requires { AreFactsOf facts (c ∷ []) }
     ensures { IfSome result (λ facts. AreAppended mapped.old.items mapped.new.items (c ∷ []) facts) }
 {
-    if !point_passes(c, facts) {
-        return None;
+    if !facts.is_empty() && c != '.' {
+        if c.is_ascii() || facts.contains(Fact::NotKept) || facts.contains(Fact::Contextj) {
+            return None;
+        }
     }
     mapped.try_push(c).ok()?;
     Some(facts)
-}
-
-/// Whether a code point passes. Most are simple; of the others of ASCII the full stop passes.
-#[inline]
-fn point_passes(c: char, facts: Facts) -> bool
-    requires { AreFactsOf facts (c ∷ []) }
-    ensures { IsTrue result → PassesInName c }
-{
-    if facts.is_empty() {
-        return true;
-    }
-    if c.is_ascii() {
-        return c == '.';
-    }
-    !facts.contains(Fact::NotKept) && !facts.contains(Fact::Contextj)
-}
-
-/// Whether a look at each code point tells that a name is in NFC.
-#[inline]
-fn is_normalized(name: &[char], facts: Facts) -> bool
-    requires { AreFactsOf facts name.now }
-    ensures { IsTrue result → nfc name.now ≡ name.now }
-{
-    if !facts.contains(Fact::MayCompose) {
-        return true;
-    }
-    match is_nfc_quick(name) {
-        IsNormalized::Yes => true,
-        _ => false,
-    }
 }
 
 /// Leaves in `query` the A-labels of the labels of a name, if each passes, and they and the whole have the lengths that

@@ -1,12 +1,15 @@
-use Rattle.std.proofs.Common.{◌++◌, true, length, Ok, sym, ap, ◌∙◌, arith}
+use Rattle.std.proofs.Common.{◌++◌, true, length, Ok, sym, ap, ◌∙◌, rules, arith}
 use Rattle.std.proofs.lemmas.Bool.{cond-true, cond-false, false≢true}
 use Rattle.idna.specs.Uts46.{verify_dns_length}
-use Rattle.idn_label.proofs.LookupLemmas.{utf8_answer-measured, utf8_answer-refused, verified-short}
+use Rattle.idn_label.proofs.LookupLemmas.{utf8_answer-measured, utf8_answer-refused, utf8_answer-other, verified-short}
 use Rattle.idn_label.proofs.query.full.full_lookup.Goals as goal
 
 pub returns-in-Err-Invalid-clause-answer : goal.returns-in-Err-Invalid-clause-answer
-returns-in-Err-Invalid-clause-answer c =
-    λ _. utf8_answer-refused c.args.name.now c.args.std3 c.deny_list.result c.refusal_of.result c.deny_list.ensures (rw c.in-Err-Invalid.field-0-is at c.in-Err-Invalid.ensures.value) c.refusal_of.ensures.utf8 c.refusal_of.ensures.other
+returns-in-Err-Invalid-clause-answer c = λ _. utf8_answer-other c.args.name.now c.args.std3 (search rules)
+
+pub returns-in-Err-Invalid-2-clause-answer : goal.returns-in-Err-Invalid-2-clause-answer
+returns-in-Err-Invalid-2-clause-answer c = λ _.
+    utf8_answer-refused c.args.name.now c.args.std3 c.deny_list.result c.deny_list.ensures (rw c.in-Err-Invalid.field-0-is at c.in-Err-Invalid.ensures.value) (search rules)
 
 pub returns-then-not-verify_dns_length-clause-answer : goal.returns-then-not-verify_dns_length-clause-answer
 returns-then-not-verify_dns_length-clause-answer c =
