@@ -1,26 +1,16 @@
-use Rattle.std.proofs.Common.{◌≡◌, ℕ, List, ◌≢◌, ◌&&◌, ◌+◌, ◌-◌, min, true, ◌≤◌, map, length, slice_range, refl, sym, ap, ◌∙◌, arith}
+use Rattle.std.proofs.Common.{◌≡◌, ℕ, List, ◌&&◌, ◌-◌, true, map, refl, sym, ap, ◌∙◌, arith}
 use Rattle.std.specs.Char.{to_ascii_lowercase}
-use Rattle.std.specs.Simd.Lanes.{mask_l}
 use Rattle.std.proofs.lemmas.Bool.{cond-true, cond-false}
 use Rattle.std.proofs.lemmas.List.{length-map}
 use Rattle.idna.specs.Labels.{is_full_stop}
 use Rattle.idn_label.specs.LdhNames.{is_name_point}
 use Rattle.idn_label.proofs.LabelsByPlace.{AllWithin-join}
 use Rattle.idn_label.proofs.LaneLemmas.{next_lane, none_from_mask}
-use Rattle.idn_label.proofs.LdhNames.{cut_nothing, cut_more, cut_stop, rest_prefix, prefix_told, ldh_answer}
+use Rattle.idn_label.proofs.LdhNames.{cut_more, cut_stop, rest_prefix, prefix_told, ldh_answer}
 use Rattle.idn_label.proofs.query.ldh.ldh_query.Goals as goal
 
 abbrev lowered : List ℕ → List ℕ
 lowered name = map to_ascii_lowercase name
-
-pub chunks-init : goal.chunks-init
-chunks-init c = record {
-  lower = refl;
-  points = λ k d from to. absurd (omega arith);
-  cut = cut_nothing (lowered c.args.name.now);
-  within = omega arith;
-  room = refl;
-}
 
 pub returns-then-has_ace_prefix_in_any_case-clause-told : goal.returns-then-has_ace_prefix_in_any_case-clause-told
 returns-then-has_ace_prefix_in_any_case-clause-told c ldh =
@@ -49,7 +39,6 @@ chunks-preserved c =
       points = AllWithin-join (λ c. is_name_point (to_ascii_lowercase c) ≡ true) name 0 c.chunks.at (end - 16) end (omega (arith, c.min-end.ensures)) c.chunks.invariant.points (c.in_ok-stops.ensures.points.0 refl);
       cut = cut_more i.cut end (omega (arith, i.within)) (none_from_mask is_full_stop (lowered name) c.labels.at end _ (omega (arith, i.within)) (omega (arith, c.min-end.ensures, count)) i.stops c.labels-test.false);
       within = omega (arith, c.min-end.ensures);
-      room = c.in_ok-stops.ensures.length ∙ c.chunks.invariant.room;
     }
 
 pub returns-then-has_ace_prefix_in_any_case-2-clause-told : goal.returns-then-has_ace_prefix_in_any_case-2-clause-told
