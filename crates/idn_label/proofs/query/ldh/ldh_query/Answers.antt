@@ -1,4 +1,4 @@
-use Rattle.std.proofs.Common.{◌≡◌, ℕ, List, ◌&&◌, ◌-◌, true, map, refl, sym, ap, ◌∙◌, arith}
+use Rattle.std.proofs.Common.{◌≡◌, ◌&&◌, ◌-◌, true, refl, sym, ap, ◌∙◌, arith}
 use Rattle.std.specs.Char.{to_ascii_lowercase}
 use Rattle.std.proofs.lemmas.Bool.{cond-true, cond-false}
 use Rattle.std.proofs.lemmas.List.{length-map}
@@ -6,11 +6,8 @@ use Rattle.idna.specs.Labels.{is_full_stop}
 use Rattle.idn_label.specs.LdhNames.{is_name_point}
 use Rattle.idn_label.proofs.LabelsByPlace.{AllWithin-join}
 use Rattle.idn_label.proofs.LaneLemmas.{next_lane, none_from_mask}
-use Rattle.idn_label.proofs.LdhNames.{cut_more, cut_stop, rest_prefix, prefix_told, ldh_answer}
+use Rattle.idn_label.proofs.LdhNames.{lowered, cut_more, cut_stop, rest_prefix, prefix_told, ldh_answer}
 use Rattle.idn_label.proofs.query.ldh.ldh_query.Goals as goal
-
-abbrev lowered : List ℕ → List ℕ
-lowered name = map to_ascii_lowercase name
 
 pub returns-then-has_ace_prefix_in_any_case-clause-told : goal.returns-then-has_ace_prefix_in_any_case-clause-told
 returns-then-has_ace_prefix_in_any_case-clause-told c ldh =
