@@ -12,13 +12,15 @@ use Rattle.std.proofs.lemmas.Slice.{between_is}
 use Rattle.std.specs.Simd.Lanes.{Each1, mask_l, top}
 use Rattle.idn_label.proofs.LabelsByPlace.{All-slice}
 
--- ---- lane by lane
+-- ---- ranges of a list
 
 pub take-slice_range : (xs : List ℕ) (start end : ℕ) → start ≤ end → take start xs ++ slice_range xs start end ≡ take end xs
 take-slice_range xs start end le = sym (take-add start (end - start) xs) ∙ ap (λ n. take n xs) (let e : start + (end - start) ≡ end = omega arith in e)
 
 pub map-slice_range : (f : ℕ → ℕ) (xs : List ℕ) (start end : ℕ) → map f (slice_range xs start end) ≡ slice_range (map f xs) start end
 map-slice_range f xs start end = sym (take-map f (end - start) (drop start xs)) ∙ ap (take (end - start)) (sym (drop-map f start xs))
+
+-- ---- lane by lane
 
 agree : {Y : Type 0} (f g : ℕ → Y) (v : List ℕ) → Each1 (λ x. f x ≡ g x) v → map f v ≡ map g v
 agree f g [] same = refl

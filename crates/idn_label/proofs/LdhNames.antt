@@ -28,7 +28,7 @@ use Rattle.idn_label.proofs.LookupLemmas.{utf8_answer-measured}
 use Rattle.idn_label.proofs.NameLengths.{has_length, join_terminated, measured}
 use Rattle.idn_label.proofs.LabelsByPlace.{IsNoStop, IsWithoutStop, All-slice, AllWithin-join, labels_at-stop, labels_at-end}
 
-abbrev lowered : List ℕ → List ℕ
+abbrev pub lowered : List ℕ → List ℕ
 lowered name = map to_ascii_lowercase name
 
 -- a name, cut at its full stops before `at`: whole labels, of which none begins with the prefix, and one that begins at `start`; and whether the whole ones have lengths that the DNS allows
@@ -63,6 +63,7 @@ cut_more {name} {at} {start} r end le more = record {
 
 -- ---- the prefix
 
+-- a full stop behind a label makes no prefix of it
 before_stop : (label more : List ℕ) → has_ace_prefix (label ++ full_stop ∷ more) ≡ has_ace_prefix label
 unfolding has_ace_prefix
 before_stop [] more = refl
@@ -79,6 +80,7 @@ first_prefix name label others is = ap has_ace_prefix (sym (join_labels-labels_o
     joined [] = refl
     joined (next ∷ others) = before_stop label (join_labels (next ∷ others))
 
+-- the octets from a place on, as they stand and in lower case
 pub rest_prefix : (name : List ℕ) (start : ℕ) {has : Bool} → has ≡ has_ace_prefix (lowered (slice_range name start (length name))) → has ≡ has_ace_prefix (drop start (lowered name))
 rest_prefix name start is = is ∙ ap has_ace_prefix (ap lowered (take_rest name start) ∙ sym (drop-map to_ascii_lowercase start name))
 

@@ -23,6 +23,7 @@ const HALF_LEN: usize = 8;
 /// Writes into `room` what `lookup_utf8` answers of such a name, the name in lower case, and returns its length; or
 /// `LookupLength`. `None` says nothing of the name, and another way then gives the answer: an octet is no ASCII letter,
 /// digit, hyphen or full stop, a label begins with `xn--` in any ASCII case, or the name is too long for any query.
+#[tactic(auto, using(crate::proofs::LdhNames::cut_nothing))]
 pub(crate) fn ldh_query(name: &[u8], room: &mut [u8]) -> Option<Result<usize, Refusal>>
     requires { MAX_QUERY_LEN ≤ length room.old }
     ensures answer { IfSome result (λ answer. (std3 : Bool) → Gives (λ len. take len room.new) answer (utf8_answer name.now std3)) }
@@ -81,7 +82,6 @@ fn lowercase_chunk(name: &[u8], at: usize, end: usize, room: &mut [u8]) -> Optio
     ensures lower { IfSome result (λ _. take end room.new ≡ take end (map to_ascii_lowercase name.now)) }
     ensures stops { IfSome result (λ stops. stops ≡ mask_l (map is_full_stop (slice_range (map to_ascii_lowercase name.now) at end))) }
     ensures points { IsSome result ↔ AllWithin (λ c. is_name_point (to_ascii_lowercase c) ≡ true) name.now (end - CHUNK_LEN) end }
-    ensures length { length room.new ≡ length room.old }
 {
     let (lower, stops, others) = lowercase_lanes(lanes_before(name, end));
     if others != 0 {

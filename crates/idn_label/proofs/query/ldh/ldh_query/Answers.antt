@@ -1,32 +1,13 @@
-use Rattle.std.proofs.Common.{◌≡◌, ℕ, List, ◌≢◌, ◌&&◌, ◌+◌, ◌-◌, min, true, ◌≤◌, map, length, slice_range, refl, sym, ap, ◌∙◌, arith}
+use Rattle.std.proofs.Common.{◌≡◌, ◌&&◌, ◌-◌, true, refl, sym, ap, ◌∙◌, arith}
 use Rattle.std.specs.Char.{to_ascii_lowercase}
-use Rattle.std.specs.Simd.Lanes.{mask_l}
 use Rattle.std.proofs.lemmas.Bool.{cond-true, cond-false}
 use Rattle.std.proofs.lemmas.List.{length-map}
-use lib.Count.{count_trailing_zeros}
 use Rattle.idna.specs.Labels.{is_full_stop}
 use Rattle.idn_label.specs.LdhNames.{is_name_point}
 use Rattle.idn_label.proofs.LabelsByPlace.{AllWithin-join}
-use Rattle.idn_label.proofs.LaneLemmas.{IsNext, next_lane, none_from_mask}
-use Rattle.idn_label.proofs.LdhNames.{cut_nothing, cut_more, cut_stop, rest_prefix, prefix_told, ldh_answer}
+use Rattle.idn_label.proofs.LaneLemmas.{next_lane, none_from_mask}
+use Rattle.idn_label.proofs.LdhNames.{lowered, cut_more, cut_stop, rest_prefix, prefix_told, ldh_answer}
 use Rattle.idn_label.proofs.query.ldh.ldh_query.Goals as goal
-
-abbrev lowered : List ℕ → List ℕ
-lowered name = map to_ascii_lowercase name
-
--- the next full stop of a chunk that begins at `from`
-next_stop : (name : List ℕ) {from at end stops : ℕ} → end ≡ min (length name) (from + 16) → from ≤ at → at ≤ end → stops ≡ mask_l (map is_full_stop (slice_range (lowered name) at end)) → stops ≢ 0 → IsNext is_full_stop (lowered name) at end stops (count_trailing_zeros 64 stops)
-next_stop name {from} {at} {end} {stops} is later order rest some =
-    next_lane is_full_stop (lowered name) at end stops order (omega (arith, length-map name to_ascii_lowercase)) (omega arith) rest some
-
-pub chunks-init : goal.chunks-init
-chunks-init c = record {
-  lower = refl;
-  points = λ k d from to. absurd (omega arith);
-  cut = cut_nothing (lowered c.args.name.now);
-  within = omega arith;
-  room = refl;
-}
 
 pub returns-then-has_ace_prefix_in_any_case-clause-told : goal.returns-then-has_ace_prefix_in_any_case-clause-told
 returns-then-has_ace_prefix_in_any_case-clause-told c ldh =
@@ -36,9 +17,10 @@ pub labels-preserved : goal.labels-preserved
 labels-preserved c =
     let name = c.args.name.now in
     let i = c.labels.invariant in
-    let next = next_stop name c.min-end.ensures i.within.0 i.within.1 i.stops c.labels-test.true in
+    let count = length-map name to_ascii_lowercase in
+    let next = next_lane is_full_stop (lowered name) c.labels.at c.min-end.result c.labels.stops i.within.1 (omega (arith, c.min-end.ensures)) (omega (arith, c.min-end.ensures, i.within)) i.stops c.labels-test.true in
     record {
-      cut = cut_stop (cut_more i.cut _ (omega arith) next.none) (omega (arith, next.before, c.min-end.ensures, length-map name to_ascii_lowercase)) next.passes (rest_prefix name c.labels.start c.if-has_ace_prefix_in_any_case.ensures) _ c.has_label_length-have_lengths.ensures;
+      cut = cut_stop (cut_more i.cut _ (omega arith) next.none) (omega (arith, next.before, c.min-end.ensures)) next.passes (rest_prefix name c.labels.start c.if-has_ace_prefix_in_any_case.ensures) _ c.has_label_length-have_lengths.ensures;
       stops = next.behind;
       within = (omega (arith, i.within), omega (arith, next.before));
     }
@@ -54,7 +36,6 @@ chunks-preserved c =
       points = AllWithin-join (λ c. is_name_point (to_ascii_lowercase c) ≡ true) name 0 c.chunks.at (end - 16) end (omega (arith, c.min-end.ensures)) c.chunks.invariant.points (c.in_ok-stops.ensures.points.0 refl);
       cut = cut_more i.cut end (omega (arith, i.within)) (none_from_mask is_full_stop (lowered name) c.labels.at end _ (omega (arith, i.within)) (omega (arith, c.min-end.ensures, count)) i.stops c.labels-test.false);
       within = omega (arith, c.min-end.ensures);
-      room = c.in_ok-stops.ensures.length ∙ c.chunks.invariant.room;
     }
 
 pub returns-then-has_ace_prefix_in_any_case-2-clause-told : goal.returns-then-has_ace_prefix_in_any_case-2-clause-told

@@ -14,7 +14,6 @@ invariant-chunks l = record {
   points : AllWithin (λ c. is_name_point (to_ascii_lowercase c) ≡ true) l.name 0 l.at;
   cut : IsCut (map to_ascii_lowercase l.name) l.at l.start l.have_lengths;
   within : l.at ≤ length l.name;
-  room : length l.room ≡ length l.fn.room;
 }
 
 abbrev pub decreases-chunks : goal.decreases-chunks

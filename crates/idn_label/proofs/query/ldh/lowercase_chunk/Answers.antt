@@ -10,14 +10,13 @@ use Rattle.std.proofs.lemmas.Simd.{take_more_put_chunk}
 use Rattle.idna.specs.Labels.{is_full_stop}
 use Rattle.idn_label.specs.LdhNames.{is_name_point}
 use Rattle.idn_label.proofs.LaneLemmas.{take-slice_range, map-slice_range, mask_l-padded, mask_none, mask_behind, none_from_mask}
+use Rattle.idn_label.proofs.LdhNames.{lowered}
 use Rattle.idn_label.proofs.query.ldh.lowercase_chunk.Goals as goal
-
-abbrev lowered : List ℕ → List ℕ
-lowered name = map to_ascii_lowercase name
 
 abbrev is_other : ℕ → Bool
 is_other c = not (is_name_point (to_ascii_lowercase c))
 
+-- the lanes in lower case
 lowered_lanes : (name : List ℕ) (start end n : ℕ) {lanes octets : List ℕ} → lanes ≡ lowered octets → octets ≡ slice_range name start end ++ replicate n 97 → lanes ≡ slice_range (lowered name) start end ++ replicate n 97
 lowered_lanes name start end n is same =
     is
