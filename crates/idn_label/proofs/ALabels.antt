@@ -229,3 +229,5 @@ pub ruleset registered = (register_answer-prefixed, register_answer-other, plain
 pub ruleset back = (appended-nil, decode_answer-a_label)
 
 pub ruleset scalars = (u_label_answer-from, registrable_scalars, utf8_of-ascii_text)
+
+pub ruleset refused = (refused-long, refused-code, refused-ascii, length-map)

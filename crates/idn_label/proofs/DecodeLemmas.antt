@@ -6,7 +6,7 @@ use Rattle.std.specs.Str.{IsAscii}
 use Rattle.std.proofs.lemmas.Bool.{cond-true, cond-false}
 use Rattle.std.proofs.lemmas.List.{drop_more}
 use Rattle.std.proofs.lemmas.List.Splits.{slice_split_at}
-use Rattle.std.proofs.lemmas.Str.{encodes-append}
+use Rattle.std.proofs.lemmas.Str.{IsAscii-drop, IsAscii-take, encodes-append}
 use Rattle.idna.specs.Labels.{is_full_stop, labels_of, join_labels}
 use Rattle.idna.specs.Validity.{has_ace_prefix}
 use Rattle.idna.proofs.LabelsLemmas.{labels_of_cons}
@@ -53,7 +53,7 @@ decode_answer-err name label others refusal parts fault = rw (parts, fault) refl
 abbrev followed : Answer → Answer → Answer
 followed first others = and_then first (λ label. appended (label ++ 0x2E ∷ []) others)
 
-abbrev joined : Result (List (List ℕ)) Refusal → Answer
+abbrev pub joined : Result (List (List ℕ)) Refusal → Answer
 joined labels = and_then labels (λ ls. Ok (join_labels ls))
 
 pub decode_answer-more : (name label others : List ℕ) → labels_of name ≡ label ∷ labels_of others → decode_answer name ≡ followed (decoded_label label) (decode_answer others)
@@ -99,3 +99,5 @@ unfolding encode
 in_utf8-followed (Err refusal) others = refl
 in_utf8-followed (Ok label) (Err refusal) = refl
 in_utf8-followed (Ok label) (Ok others) = ap Ok (encodes-append (label ++ 0x2E ∷ []) others ∙ ap (λ text. text ++ utf8_of others) (encodes-append label (0x2E ∷ [])))
+
+pub ruleset parts = (IsAscii-take, IsAscii-drop, appended-nil)

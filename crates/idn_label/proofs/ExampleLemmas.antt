@@ -1,6 +1,5 @@
 -- The examples, computed.
 use Rattle.std.proofs.Common.{◌≡◌, ℕ, ◌==◌, true, not, List, [], ◌∷◌, ◌++◌, map, codes, length, replicate, Option, Some, None, Ok, Err, refl, ap, ◌∙◌}
-use Rattle.idna.specs.Labels.{join_labels}
 use Rattle.unicode_normalization.specs.Forms.{is_nfc}
 use Rattle.idna.specs.Validity.{has_ace_prefix}
 use Rattle.idna.proofs.Computing.{idna}
@@ -20,6 +19,7 @@ use Rattle.idn_label.specs.Decode.{decoded_label, decoded_labels, decode_answer,
 use Rattle.idn_label.specs.Lookup.{query_name}
 use Rattle.idn_label.specs.Register.{decoded_code, u_label_answer, register_answer}
 use Rattle.idn_label.proofs.AnswerLemmas.{u_label_answer-of, register_answer-prefixed}
+use Rattle.idn_label.proofs.DecodeLemmas.{joined}
 use Rattle.idn_label.specs.FirstFault.{first_of, fault_if, fault_of_class, code_point_fault, has_hyphen_out_of_place, is_too_long, first_fault}
 
 -- the first fault of a label whose classes are known
@@ -103,25 +103,18 @@ unfolding idna
 HaveRegisterAnswers-register_answers =
     (registered_as (codes "xn--") _ refl no_code, (registered_as (codes "xn--abc-") _ refl needless_code, (registered_as (codes "xn--a") _ refl disallowed_code, (registered_as (codes "xn--fa-hia") _ refl sharp_s, (registered_as (codes "xn--fa-HIA") _ refl sharp_s_in_upper_case, tt)))))
 
-decoded_nothing : decode_answer [] ≡ Ok []
-unfolding decode_answer decoded_labels decoded_label idna
-decoded_nothing = refl
-
-decoded_sharp_s : decode_answer (codes "XN--FA-HIA.de") ≡ Ok (0x66 ∷ 0x61 ∷ 0xDF ∷ codes ".de")
-unfolding decode_answer decoded_labels decoded_label idna
-decoded_sharp_s = ap (λ first. and_then (with_others first (decoded_labels (codes "de" ∷ []))) (λ labels. Ok (join_labels labels))) sharp_s
-
-decoded_china : decode_answer (codes "xn--fiqs8s.example") ≡ Ok (0x4E2D ∷ 0x56FD ∷ codes ".example")
-unfolding decode_answer decoded_labels decoded_label idna
-decoded_china = ap (λ first. and_then (with_others first (decoded_labels (codes "example" ∷ []))) (λ labels. Ok (join_labels labels))) china
-
--- the first refusal is told
-decoded_refusal : decode_answer (codes "a.xn--a.xn--") ≡ Err refusals.Disallowed
-unfolding decode_answer decoded_labels decoded_label idna
-decoded_refusal = ap (λ second. and_then (with_others (Ok (codes "a")) (with_others second (decoded_labels (codes "xn--" ∷ [])))) (λ labels. Ok (join_labels labels))) disallowed_code
-
 pub HaveDecodeAnswers-decode_answers : HaveDecodeAnswers decode_answers
-HaveDecodeAnswers-decode_answers = (decoded_nothing, (decoded_sharp_s, (decoded_china, (decoded_refusal, tt))))
+unfolding decode_answer decoded_labels decoded_label idna
+HaveDecodeAnswers-decode_answers = (
+  refl,
+  (
+    ap (λ first. joined (with_others first (decoded_labels (codes "de" ∷ [])))) sharp_s,
+    (
+      ap (λ first. joined (with_others first (decoded_labels (codes "example" ∷ [])))) china,
+      (ap (λ second. joined (with_others (Ok (codes "a")) (with_others second (decoded_labels (codes "xn--" ∷ []))))) disallowed_code, tt),
+    ),
+  ),
+)
 
 pub HaveLookupAnswers-lookup_answers : HaveLookupAnswers lookup_answers
 unfolding idna query_name

@@ -105,9 +105,6 @@ first_fault-measured label =
 
 pub ruleset measured = (first_fault-measured)
 
-pub first_fault-but_length : (label : List ℕ) (refusal : Refusal) → fault_but_length label ≡ Some refusal → first_fault label ≡ Some refusal
-first_fault-but_length label refusal fault = rw (first_fault-measured label, fault) refl
-
 second-none : (first second third : Option Refusal) → first_of (first ∷ second ∷ third ∷ []) ≡ None → second ≡ None
 second-none None None None none = refl
 second-none _ _ _ none = cc

@@ -1,9 +1,10 @@
 -- The name as a query sends it, by what ToASCII gives.
-use Rattle.std.proofs.Common.{◌≢◌, [], ◌∷◌, get_or, eq-eqb, ne_eqb, ◌≡◌, ◌≤◌, ℕ, ◌-◌, Bool, true, false, List, length, take, slice_index, Option, Some, None, Result, Ok, Err, refl, sym, ap, ◌∙◌, inl, inr, arith}
+use Rattle.std.proofs.Common.{cond, subst, ◌≢◌, [], ◌∷◌, get_or, eq-eqb, ne_eqb, ◌≡◌, ◌≤◌, ℕ, ◌-◌, Bool, true, false, List, length, take, slice_index, Option, Some, None, Result, Ok, Err, refl, sym, ap, ◌∙◌, inl, inr, arith}
 use Rattle.std.specs.Str.{is_utf8, IsUtf8, IsAscii}
 use Rattle.std.proofs.lemmas.Str.{IsUtf8-from_is_utf8, is_utf8-from_IsUtf8}
 use Rattle.std.proofs.lemmas.List.{length-take}
-use Rattle.std.proofs.lemmas.Bool.{cond-true, cond-false, cases_Bool, and_parts, leb-true}
+use Rattle.std.proofs.lemmas.Option.{none-some}
+use Rattle.std.proofs.lemmas.Bool.{cond-true, cond-false, cases_Bool, and_parts, leb-true, false_from_ne_true}
 use Rattle.idna.specs.declared.deny_list.AsciiDenyList.{AsciiDenyList}
 use Rattle.idna.specs.declared.options.Hyphens.TheVariants.{Allow}
 use Rattle.idna.specs.declared.options.DnsLength.TheVariants.{Ignore}
@@ -29,45 +30,35 @@ short_name name within = leb-true (length name) 253 (and_parts _ _ within).0
 -- a name that passes has room in 254 octets
 pub verified-short : (name : List ℕ) → verify_dns_length name true ≡ true → length name ≤ 254
 unfolding verify_dns_length
-verified-short name within =
-    elim (cases_Bool (is_full_stop (slice_index name (length name - 1)))) [
-      | inl stop ↦
-          let front = short_name (take (length name - 1) name) (sym (cond-true _ _ _ stop) ∙ within) in
-          omega (arith, front, length-take (length name - 1) name)
-      | inr other ↦
-          let whole = short_name name (sym (cond-false _ _ _ other) ∙ within) in
-          omega (arith, whole)
-    ]
+verified-short name within = by_stop (is_full_stop (slice_index name (length name - 1))) within
+  where
+    by_stop : (stop : Bool) → cond stop (has_dns_lengths (take (length name - 1) name)) (has_dns_lengths name) ≡ true → length name ≤ 254
+    by_stop true within = omega (arith, short_name (take (length name - 1) name) within, length-take (length name - 1) name)
+    by_stop false within = omega (arith, short_name name within)
 
 -- ---- bytes
 
 -- what ToASCII gives something of is UTF-8
 to_ascii-utf8 : (deny : AsciiDenyList) (bytes query : List ℕ) → to_ascii deny Allow Ignore bytes ≡ Some query → is_utf8 bytes ≡ true
 unfolding to_ascii
-to_ascii-utf8 deny bytes query is = by_test (is_utf8 bytes) refl
-  where
-    by_test : (b : Bool) → is_utf8 bytes ≡ b → b ≡ true
-    by_test true e = refl
-    by_test false e =
-        let none : to_ascii deny Allow Ignore bytes ≡ None = rw e refl in
-        absurd (let clash : None ≡ Some query = sym none ∙ is in cc)
+to_ascii-utf8 deny bytes query is =
+    elim (cases_Bool (is_utf8 bytes)) [
+      | inl utf8 ↦ utf8
+      | inr other ↦ let none : to_ascii deny Allow Ignore bytes ≡ None = rw other refl in absurd (none-some query (sym none ∙ is))
+    ]
 
 utf8_answer-name : (bytes : List ℕ) (std3 : Bool) → is_utf8 bytes ≡ true → utf8_answer bytes std3 ≡ query_name bytes std3
 unfolding utf8_answer
 utf8_answer-name bytes std3 utf8 = cond-true _ _ _ utf8
 
-pub utf8_answer-other : (bytes : List ℕ) (std3 : Bool) → ¬ (IsUtf8 bytes) → utf8_answer bytes std3 ≡ Err NotUtf8
-unfolding utf8_answer
-utf8_answer-other bytes std3 other =
-    elim (cases_Bool (is_utf8 bytes)) [
-      | inl utf8 ↦ absurd (other (IsUtf8-from_is_utf8 bytes utf8))
-      | inr missing ↦ cond-false _ _ _ missing
-    ]
-
 -- what ToASCII gives something of is measured
 pub utf8_answer-measured : (name : List ℕ) (std3 : Bool) (deny : AsciiDenyList) (query : List ℕ) → deny ≡ deny_list std3 → to_ascii deny Allow Ignore name ≡ Some query → utf8_answer name std3 ≡ measured_answer (Some query)
 utf8_answer-measured name std3 deny query listed is =
     utf8_answer-name name std3 (to_ascii-utf8 deny name query is) ∙ query_name-measured name std3 deny (Some query) listed is
+
+pub utf8_answer-other : (bytes : List ℕ) (std3 : Bool) → ¬ (IsUtf8 bytes) → utf8_answer bytes std3 ≡ Err NotUtf8
+unfolding utf8_answer
+utf8_answer-other bytes std3 other = cond-false _ _ _ (false_from_ne_true _ (λ utf8. other (IsUtf8-from_is_utf8 bytes utf8)))
 
 -- what ToASCII gives nothing of is refused
 pub utf8_answer-refused : (name : List ℕ) (std3 : Bool) (deny : AsciiDenyList) → deny ≡ deny_list std3 → to_ascii deny Allow Ignore name ≡ None → IsUtf8 name → utf8_answer name std3 ≡ Err LookupInvalid
@@ -98,31 +89,23 @@ verify_dns_length-empty (c ∷ name) empty = absurd (omega arith)
 -- ---- what is answered is ASCII
 
 measured_answer-ok : (ascii : Option (List ℕ)) (query : List ℕ) → measured_answer ascii ≡ Ok query → ascii ≡ Some query
-measured_answer-ok None query e = absurd (let clash : Err LookupInvalid ≡ Ok query = e in cc)
-measured_answer-ok (Some ascii) query e = by_length (verify_dns_length ascii true) refl
+measured_answer-ok None query is = cc
+measured_answer-ok (Some ascii) query is = by_length (verify_dns_length ascii true) is
   where
-    by_length : (b : Bool) → verify_dns_length ascii true ≡ b → Some ascii ≡ Some query
-    by_length true is = let same : Ok ascii ≡ Ok query = sym (cond-true _ _ _ is) ∙ e in cc
-    by_length false is = absurd (let clash : Err LookupLength ≡ Ok query = sym (cond-false _ _ _ is) ∙ e in cc)
-
-pub query_name-ascii : (name query : List ℕ) (std3 : Bool) → query_name name std3 ≡ Ok query → IsAscii query
-unfolding query_name
-query_name-ascii name query std3 e = IsAscii-to_ascii (deny_list std3) Allow Ignore name query (measured_answer-ok _ query e)
+    by_length : (within : Bool) → cond within (Ok ascii) (Err LookupLength) ≡ Ok query → Some ascii ≡ Some query
+    by_length true is = cc
+    by_length false is = cc
 
 pub utf8_answer-ascii : (name query : List ℕ) (std3 : Bool) → utf8_answer name std3 ≡ Ok query → IsAscii query
-unfolding utf8_answer
-utf8_answer-ascii name query std3 is =
-    elim (cases_Bool (is_utf8 name)) [
-      | inl utf8 ↦ query_name-ascii name query std3 (sym (cond-true _ _ _ utf8) ∙ is)
-      | inr other ↦ absurd (let clash : Err NotUtf8 ≡ Ok query = sym (cond-false _ _ _ other) ∙ is in cc)
-    ]
+unfolding utf8_answer query_name
+utf8_answer-ascii name query std3 is = by_test (is_utf8 name) is
+  where
+    by_test : (utf8 : Bool) → cond utf8 (measured_answer (to_ascii (deny_list std3) Allow Ignore name)) (Err NotUtf8) ≡ Ok query → IsAscii query
+    by_test true is = IsAscii-to_ascii (deny_list std3) Allow Ignore name query (measured_answer-ok _ query is)
+    by_test false is = cc
 
 -- the lengths of what ToASCII gives of a name, as the answer
 pub Gives-measured : (r : Result (Unit {0}) Refusal) (name query text : List ℕ) (std3 : Bool) → text ≡ query → to_ascii (deny_list std3) Allow Ignore name ≡ Some query → Gives (λ (_ : Unit {0}). text) r (measured_answer (Some text)) → Gives (λ (_ : Unit {0}). query) r (utf8_answer name std3)
 Gives-measured r name query text std3 same given measured =
-    Gives-same (λ (_ : Unit {0}). query) r (query_name name std3) (utf8_answer name std3) (sym (utf8_answer-name name std3 (to_ascii-utf8 (deny_list std3) name query given)))
-    (by_name r (query_name-measured name std3 _ _ refl given) measured)
-  where
-    by_name : (r : Result (Unit {0}) Refusal) → query_name name std3 ≡ measured_answer (Some query) → Gives (λ (_ : Unit {0}). text) r (measured_answer (Some text)) → Gives (λ (_ : Unit {0}). query) r (query_name name std3)
-    by_name (Ok value) is given = is ∙ ap (λ t. measured_answer (Some t)) (sym same) ∙ given ∙ ap Ok same
-    by_name (Err refusal) is given = λ other. is ∙ ap (λ t. measured_answer (Some t)) (sym same) ∙ given other
+    Gives-same (λ (_ : Unit {0}). query) r (measured_answer (Some query)) (utf8_answer name std3) (sym (utf8_answer-measured name std3 _ query refl given))
+    (subst (λ (t : List ℕ). Gives (λ (_ : Unit {0}). t) r (measured_answer (Some t))) same measured)

@@ -1,10 +1,11 @@
 -- Labels in lower case.
-use Rattle.std.proofs.Common.{◌≡◌, ℕ, ◌&&◌, ◌==◌, true, not, List, [], ◌∷◌, map, get_or, refl, sym, ap, ap₂, ◌∙◌, arith}
+use Rattle.std.proofs.Common.{◌≡◌, ℕ, ◌≤◌, length, ◌&&◌, ◌==◌, true, not, List, [], ◌∷◌, map, get_or, refl, sym, ap, ap₂, ◌∙◌, arith}
 use Rattle.std.specs.Char.{is_ascii, is_ascii_uppercase, to_ascii_lowercase}
 use Rattle.std.specs.List.{list_all}
 use Rattle.std.proofs.Math.ListN.{get_or-map}
 use Rattle.std.proofs.lemmas.Bool.{not-true}
 use Rattle.std.proofs.lemmas.Bool.Decides.{nat_tests}
+use Rattle.std.proofs.lemmas.List.{length-map, drop-map}
 use Rattle.std.proofs.lemmas.List.Elements.{All-weaker}
 use Rattle.std.proofs.lemmas.List.Sums.{AllPass-from_list_all}
 use Rattle.idna.specs.Validity.{is_all_ascii, has_ace_prefix, has_hyphens_third_and_fourth}
@@ -47,3 +48,8 @@ has_ace_prefix_lower label =
 pub has_ace_prefix-kept : (label : List ℕ) → has_ace_prefix label ≡ true → has_ace_prefix (map to_ascii_lowercase label) ≡ true
 unfolding has_ace_prefix
 has_ace_prefix-kept label prefix = ap (λ l. has_ace_prefix (map to_ascii_lowercase l)) (sym (ace_parts label prefix).0)
+
+pub prefix_long : (label : List ℕ) → has_ace_prefix label ≡ true → (has_ace_prefix label ≡ true) × (4 ≤ length label)
+prefix_long label prefix = (prefix, (ace_parts label prefix).1)
+
+pub ruleset past_prefix = (prefix_long, length-map, drop-map)

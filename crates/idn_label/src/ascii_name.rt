@@ -18,6 +18,7 @@ use std::alloc::Global;
 /// stood there before says nothing. A name without A-labels takes no memory, nor does an A-label in most cases: one of
 /// more than 63 octets does, one of a label in ASCII, and one of a label with a code point of which no look-up says the
 /// class, or for which the quick check of NFC is Maybe. Where the name is refused, what is left says nothing.
+#[tactic(auto, using(crate::proofs::DecodeLemmas::parts))]
 pub fn decode_ascii(
     alloc: Global,
     name: &[u8],

@@ -4,7 +4,7 @@ ghost use Rattle.std.specs.List.{list_any};
 ghost use Rattle.idn_class.specs.Class.{is_left_open};
 ghost use Rattle.idn_class.specs.Facts.{AreFactsOf};
 ghost use Rattle.idn_label.specs.ALabel.{a_label_of};
-ghost use Rattle.idn_label.specs.FirstFault.{code_point_fault, fault_of_class, first_fault, IsRegistrable};
+ghost use Rattle.idn_label.specs.FirstFault.{code_point_fault, first_fault, IsRegistrable};
 ghost use Rattle.idn_label.specs.Memory.{NeedsNoMemory};
 ghost use Rattle.idn_label.specs.inner.FaultSteps.{fault_but_length};
 
@@ -46,7 +46,7 @@ pub(crate) fn check_label(alloc: Global, label: &[u32], facts: Facts) -> Result<
     check_rules(alloc, label, facts)
 }
 
-/// Tells the first code point that may not be registered (RFC 5891 section 4.2.2), where the facts say that there may be one.
+/// Tells the first code point that may not be registered (RFC 5891 section 4.2.2). The facts may say that there is none.
 #[tactic(auto, using(crate::proofs::FaultLemmas::points_told))]
 fn check_code_points(alloc: Global, label: &[u32], facts: Facts) -> Result<(), Refusal>
     requires { AreFactsOf facts label.now }
@@ -58,20 +58,11 @@ fn check_code_points(alloc: Global, label: &[u32], facts: Facts) -> Result<(), R
         return Ok(());
     }
     for c in label {
-        let class = class_of(alloc, *c)?;
-        if let Some(refusal) = fault_of_class(class) {
-            return Err(refusal);
+        match class_of(alloc, *c)? {
+            Class::Disallowed => return Err(Refusal::Disallowed),
+            Class::Unassigned => return Err(Refusal::Unassigned),
+            Class::Pvalid | Class::Contextj | Class::Contexto => {}
         }
     }
     Ok(())
-}
-
-fn fault_of_class(class: Class) -> Option<Refusal>
-    ensures { result ≡ fault_of_class class }
-{
-    match class {
-        Class::Disallowed => Some(Refusal::Disallowed),
-        Class::Unassigned => Some(Refusal::Unassigned),
-        Class::Pvalid | Class::Contextj | Class::Contexto => None,
-    }
 }

@@ -1,11 +1,10 @@
 //! The test of one label after another, which keeps the A-label, and of the Punycode what both labels share.
-ghost use Rattle.std.specs.Prelude.{◌≡◌, ◌≢◌, ◌≤◌, [], length, true, None, Some, Err, IfErr, OnOk};
+ghost use Rattle.std.specs.Prelude.{◌≡◌, ◌≢◌, ◌≤◌, [], length, true, Some, Err, IfErr, OnOk};
 ghost use Rattle.idna.specs.Validity.{is_all_ascii};
 ghost use Rattle.idn_class.specs.Facts.{AreFactsOf};
 ghost use Rattle.idn_label.specs.ALabel.{a_label_of};
 ghost use Rattle.idn_label.specs.FirstFault.{first_fault, IsRegistrable};
 ghost use Rattle.idn_label.specs.Memory.{NeedsNoMemory};
-ghost use Rattle.idn_label.specs.inner.FaultSteps.{fault_but_length};
 
 use crate::a_label::{ALabel, MAX_LABEL_LEN, ascii_text};
 use crate::first_fault::check_label;
@@ -68,10 +67,7 @@ impl KeptALabel {
             self.keep_ascii(label);
             return Ok(());
         }
-        match self.a_label.encode(label) {
-            Ok(()) => Ok(()),
-            Err(_) => Err(Refusal::LabelTooLong),
-        }
+        self.a_label.encode(label).or(Err(Refusal::LabelTooLong))
     }
 
     /// Keeps a label in ASCII, which is its own A-label. It stands apart, so that other labels don't make room for it.

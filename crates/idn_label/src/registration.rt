@@ -1,12 +1,9 @@
 //! Registration of a label.
-ghost use Rattle.std.specs.Prelude.{◌≡◌, ◌≢◌, ◌≤◌, ℕ, List, length, not, true, Ok, Err};
-ghost use Rattle.std.specs.Char.{is_ascii_uppercase};
-ghost use Rattle.std.specs.List.{list_all};
-ghost use Rattle.idna.specs.Validity.{has_ace_prefix};
+ghost use Rattle.std.specs.Prelude.{◌≡◌, ◌≢◌, ◌≤◌, ℕ, List, length, Ok, Err};
 ghost use Rattle.idn_label.specs.ALabel.{a_label_of};
 ghost use Rattle.idn_label.specs.Answers.{Gives};
 ghost use Rattle.idn_label.specs.FirstFault.{IsRegistrable};
-ghost use Rattle.idn_label.specs.Memory.{NeedsNoMemoryDecoded, RegistersWithoutMemory};
+ghost use Rattle.idn_label.specs.Memory.{RegistersWithoutMemory};
 ghost use Rattle.idn_label.specs.Register.{register_answer};
 
 use crate::a_label::{ALabel, ascii_text};

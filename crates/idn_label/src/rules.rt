@@ -1,12 +1,11 @@
 //! The tests of a label beyond those of its single code points (RFC 5891 sections 4.2.1 and 4.2.3).
-ghost use Rattle.std.specs.Prelude.{◌≡◌, ◌≢◌, ◌≤◌, length, Some, None, Err, IfOk, IsOk, IfErr, OnOk, false};
+ghost use Rattle.std.specs.Prelude.{◌≡◌, ◌≢◌, Some, None, Err, IfOk, IsOk, IfErr, OnOk};
 ghost use Rattle.ucd_normal.specs.declared.forms.Form.TheVariants.{Nfc};
 ghost use Rattle.ucd_normal.specs.declared.forms.QuickCheck.TheVariants.{Maybe};
 ghost use Rattle.unicode_normalization.specs.Forms.{is_nfc};
 ghost use Rattle.unicode_normalization.specs.QuickCheck.{quick_check_text};
 ghost use Rattle.idn_text.specs.Points.{AreScalarValues};
-ghost use Rattle.idn_class.specs.Facts.{AreFactsOf, contains};
-ghost use Rattle.idn_class.specs.Tests.{leading_mark, contextj_ok, contexto_ok, bidi_ok};
+ghost use Rattle.idn_class.specs.Facts.{AreFactsOf};
 ghost use Rattle.idn_label.specs.Memory.{NeedsNoMemory};
 ghost use Rattle.idn_label.specs.inner.FaultSteps.{rule_fault};
 

@@ -88,6 +88,7 @@ fn lowercase_of<U: Unit>(label: &[U]) -> ArrayVec<u8, MAX_LINE_LEN>
 /// `u_label` of an A-label put into lower case; if it is refused, this is why where it has no capital. One that is
 /// short need not be encoded again to be compared: Punycode in lower case is the only one of what it stands for (RFC
 /// 3492 sections 1.1 and 5).
+#[tactic(auto, using(crate::proofs::ALabels::refused))]
 fn tested_u_label<U: Unit>(
     alloc: Global,
     given: &[U],
@@ -116,6 +117,7 @@ fn tested_u_label<U: Unit>(
 
 /// What stands after the prefix.
 #[inline]
+#[tactic(auto, using(crate::proofs::LowerCase::past_prefix))]
 fn code_of<U: Unit>(given: &[U]) -> &[U]
     requires { has_ace_prefix (map to_ascii_lowercase (U.codes given.now)) ≡ true }
     ensures codes { U.codes result.now ≡ drop 4 (U.codes given.now) }

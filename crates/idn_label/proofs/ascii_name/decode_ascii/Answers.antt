@@ -1,31 +1,14 @@
 use Rattle.std.proofs.Common.{◌+◌, ◌-◌, drop, take, slice_range, sym, ap, ◌∙◌, arith, length-set, length-take, refl}
 use Rattle.std.proofs.lemmas.Grind.{take-set_at}
 use Rattle.std.proofs.lemmas.Result.{err_from_is_err_and}
-use Rattle.std.proofs.lemmas.Str.{IsAscii-drop, IsAscii-take}
 use Rattle.idn_label.specs.Decode.{decode_answer}
 use Rattle.idna.specs.Labels.{labels_of}
 use Rattle.idn_label.specs.Memory.{DecodesWithoutMemory}
 use Rattle.idn_label.specs.Steps.{appended, in_utf8}
 use Rattle.idn_label.proofs.LabelsByPlace.{label_last, label_before}
 use Rattle.idn_label.proofs.LdhNames.{all_labels}
-use Rattle.idn_label.proofs.DecodeLemmas.{decode_answer-last, decode_answer-err, decode_answer-more, appended-nil, appended-err, turn_more, in_utf8-err, in_utf8-followed}
+use Rattle.idn_label.proofs.DecodeLemmas.{decode_answer-last, decode_answer-err, decode_answer-more, appended-err, turn_more, in_utf8-err, in_utf8-followed}
 use Rattle.idn_label.proofs.ascii_name.decode_ascii.Goals as goal
-
-pub labels-init : goal.labels-init
-labels-init c = (sym (appended-nil (in_utf8 (decode_answer c.args.name.now))), omega arith, omega arith, refl, λ all. all)
-
-pub decode_label-requires : goal.decode_label-requires
-decode_label-requires c =
-    let name = c.args.name.now in
-    let start = c.labels.start in
-    let end = c.label_end-end.result in
-    let ends = c.label_end-end.ensures in
-    let i = c.labels.invariant in
-    let long = length-take (end - start) (drop start name) in record {
-      ascii = IsAscii-take (drop start name) (end - start) (IsAscii-drop name start c.requires.ascii);
-      short = omega (arith, long, ends.within, c.requires.short);
-      room = omega (arith, long, ends.order, ends.within, i.2, i.3, c.requires.room);
-    }
 
 pub returns-in_err-len-clause-answer : goal.returns-in_err-len-clause-answer
 returns-in_err-len-clause-answer c =

@@ -4,20 +4,8 @@ use Rattle.idna.specs.Punycode.{decode}
 use Rattle.idna.specs.Validity.{is_all_ascii}
 use Rattle.idn_punycode.proofs.UnitLemmas.{codes_length}
 use Rattle.idn_label.specs.inner.FaultSteps.{fault_but_length}
-use Rattle.idn_label.proofs.ALabels.{answered-tested, coded_fault, refused-code, refused-long, refused-ascii}
+use Rattle.idn_label.proofs.ALabels.{answered-tested, coded_fault}
 use Rattle.idn_label.proofs.u_label.tested_u_label.Goals as goal
-
-pub refuse-requires-clause-of_none : goal.refuse-requires-clause-of_none
-refuse-requires-clause-of_none g c =
-    refused-long _ (omega (arith, codes_length g.U.Unit.code g.U.Unit.codes g.met.U.Unit.codes_are c.args.given.now, c.if-given-gt-MAX_LABEL_LEN.true))
-
-pub returns-in_default-clause-fault : goal.returns-in_default-clause-fault
-returns-in_default-clause-fault g c = λ _ _. refused-code _ (ap decode (sym c.code_of.ensures.codes) ∙ c.in_default.ensures.refused)
-
-pub refuse-requires-then-is_all_ascii-clause-of_none : goal.refuse-requires-then-is_all_ascii-clause-of_none
-refuse-requires-then-is_all_ascii-clause-of_none g c =
-    refused-ascii _ c.decode.new.self c.requires.prefix (ap decode (sym c.code_of.ensures.codes) ∙ c.in-Ok.ensures.decoded)
-    (ap is_all_ascii (sym c.as_slice.ensures.value) ∙ sym c.if-is_all_ascii.ensures)
 
 pub returns-clause-passes : goal.returns-clause-passes
 returns-clause-passes g c =
