@@ -68,9 +68,9 @@ pub(crate) fn ldh_query(name: &[u8], room: &mut [u8]) -> Option<Result<usize, Re
     }
 }
 
-/// Writes the octets of a name from `at` to `end`, at most 16, in lower case into the same places of `room`, where those
-/// before them stand, and tells the full stops among them by a bit each; or `None`, where one is no ASCII letter, digit,
-/// hyphen or full stop. What stood in `room` behind them may be lost.
+/// Writes the octets of a name from `at` to `end`, at most 16, in lower case into the same places of `room`, where
+/// those before them stand, and tells the full stops among them by a bit each; or `None`, where one is no ASCII letter,
+/// digit, hyphen or full stop. What stood in `room` behind them may be lost.
 #[inline(always)]
 fn lowercase_chunk(name: &[u8], at: usize, end: usize, room: &mut [u8]) -> Option<u64>
     requires order { at ≤ end }
@@ -114,8 +114,8 @@ fn lanes_before(name: &[u8], end: usize) -> u8x16
     u8x16::from_array(octets)
 }
 
-/// By a bit each, the full stops among octets and those that are no ASCII letters, digits, hyphens or full stops; and, if
-/// there are none of these, the octets in lower case: each but a capital has the bit that makes a letter lower-case.
+/// By a bit each, the full stops among octets and those that are no ASCII letters, digits, hyphens or full stops; and,
+/// if there are none of these, the octets in lower case: each but a capital has the bit that makes a letter lower-case.
 #[inline(always)]
 fn lowercase_lanes(octets: u8x16) -> (u8x16, u64, u64)
     ensures lower { result.2 ≡ 0 → result.0 ≡ map to_ascii_lowercase octets }
