@@ -220,6 +220,8 @@ decode_answer-a_label label registrable =
       | inr plain ↦ rw (lower, plain) (ap Ok (plain_a_label label plain))
     ]
 
+-- ---- what functions name
+
 pub ruleset lower_case = (lowercase_of-lower, refused-capital, has_ace_prefix-kept)
 
 pub ruleset in_any_case = (refused-past_ascii, lowercase_of-lower, is_all_ascii-lower, has_no_capital-lower)
