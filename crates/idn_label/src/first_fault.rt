@@ -46,7 +46,7 @@ pub(crate) fn check_label(alloc: Global, label: &[u32], facts: Facts) -> Result<
     check_rules(alloc, label, facts)
 }
 
-/// Tells the first code point that may not be registered (RFC 5891 section 4.2.2). The facts may say that there is none.
+/// Tells the first code point that may not be registered (RFC 5891 section 4.2.2). The facts may say there is none.
 #[tactic(auto, using(crate::proofs::FaultLemmas::points_told))]
 fn check_code_points(alloc: Global, label: &[u32], facts: Facts) -> Result<(), Refusal>
     requires { AreFactsOf facts label.now }

@@ -48,8 +48,8 @@ pub(crate) fn check_rules(alloc: Global, label: &[u32], facts: Facts) -> Result<
     Ok(())
 }
 
-/// Whether a label is in Normalization Form C. Where a code point may compose, it takes memory for a label of more than 63
-/// code points, and where the quick check cannot decide.
+/// Whether a label is in Normalization Form C. Where a code point may compose, it takes memory for a label of more than
+/// 63 code points, and where the quick check cannot decide.
 #[tactic(auto, using(crate::proofs::FactTests::fact_tests))]
 fn is_nfc(alloc: Global, label: &[u32], facts: Facts) -> Result<bool, AllocError>
     requires scalars { AreScalarValues label.now }
