@@ -18,7 +18,7 @@ use std::alloc::Global;
 /// stood there before says nothing. A name without A-labels takes no memory, nor does an A-label in most cases: one of
 /// more than 63 octets does, one of a label in ASCII, and one of a label with a code point of which no look-up says the
 /// class, or for which the quick check of NFC is Maybe. Where the name is refused, what is left says nothing.
-#[tactic(auto, using(crate::proofs::DecodeLemmas::parts))]
+#[tactic(auto, using(crate::proofs::ALabels::scalars, crate::proofs::DecodeLemmas::parts))]
 pub fn decode_ascii(
     alloc: Global,
     name: &[u8],
@@ -37,7 +37,14 @@ pub fn decode_ascii(
     let mut start = 0;
     'labels: loop {
         let end = label_end(name, start);
-        len = decode_label(alloc, &name[start..end], u_label, room, len)?;
+        let label = &name[start..end];
+        if has_ace_prefix_in_any_case(label) {
+            u_label_in_any_case(alloc, label, u_label)?;
+            len = put_points(u_label.as_slice(), room, len);
+        } else {
+            room[len..len + label.len()].copy_from_slice(label);
+            len += label.len();
+        }
         if end == name.len() {
             return Ok(len);
         }
@@ -45,31 +52,4 @@ pub fn decode_ascii(
         len += 1;
         start = end + 1;
     }
-}
-
-/// Writes the UTF-8 of a label, decoded if it begins with `xn--` in any ASCII case, into `room` from the place `at` on,
-/// and returns the place behind it. `u_label` is room for what an A-label stands for.
-#[tactic(auto, using(crate::proofs::ALabels::scalars), unfolding(crate::specs::Decode::decoded_label))]
-fn decode_label(
-    alloc: Global,
-    label: &[u8],
-    u_label: &mut DecodedLabel,
-    room: &mut [u8],
-    at: usize,
-) -> Result<usize, Refusal>
-    requires ascii { IsAscii label.now }
-    requires short { length label.now ≤ MAX_LINE_LEN }
-    requires room { at + 4 * length label.now ≤ length room.old }
-    ensures answer { Gives (λ end. take end room.new) result (appended (take at room.old) (in_utf8 (decoded_label label.now))) }
-    ensures end { IfOk result (λ end. end ≤ at + 4 * length label.now) }
-    ensures length { length room.new ≡ length room.old }
-    ensures no_memory { DecodesWithoutMemory label.now → result ≢ Err Refusal.Memory }
-{
-    if has_ace_prefix_in_any_case(label) {
-        u_label_in_any_case(alloc, label, u_label)?;
-        return Ok(put_points(u_label.as_slice(), room, at));
-    }
-    let end = at + label.len();
-    room[at..end].copy_from_slice(label);
-    Ok(end)
 }

@@ -30,31 +30,17 @@ pub fn decode_name(alloc: Global, name: &[u32]) -> Result<Vec<u32>, Refusal>
     let mut start = 0;
     'labels: loop {
         let end = label_end(name, start);
-        decode_label(alloc, &name[start..end], &mut u_label, &mut decoded)?;
+        let label = if has_ace_prefix_in_any_case(&name[start..end]) {
+            u_label_in_any_case(alloc, &name[start..end], &mut u_label)?;
+            u_label.as_slice()
+        } else {
+            &name[start..end]
+        };
+        decoded.extend_from_slice(label)?;
         if end == name.len() {
             return Ok(decoded);
         }
         decoded.push(FULL_STOP)?;
         start = end + 1;
     }
-}
-
-/// Appends a label, decoded if it begins with `xn--` in any ASCII case. `u_label` is room for what an A-label stands for.
-#[tactic(auto, unfolding(crate::specs::Decode::decoded_label))]
-fn decode_label(
-    alloc: Global,
-    label: &[u32],
-    u_label: &mut DecodedLabel,
-    decoded: &mut Vec<u32>,
-) -> Result<(), Refusal>
-    requires { length label.now ≤ MAX_LINE_LEN }
-    ensures { Gives (λ _. decoded.new.items) result (appended decoded.old.items (decoded_label label.now)) }
-{
-    if has_ace_prefix_in_any_case(label) {
-        u_label_in_any_case(alloc, label, u_label)?;
-        decoded.extend_from_slice(u_label.as_slice())?;
-    } else {
-        decoded.extend_from_slice(label)?;
-    }
-    Ok(())
 }
