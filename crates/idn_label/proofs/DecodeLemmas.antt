@@ -74,10 +74,6 @@ pub appended-nil : (answer : Answer) → appended [] answer ≡ answer
 appended-nil (Ok more) = refl
 appended-nil (Err refusal) = refl
 
-pub appended-err : (before : List ℕ) (answer : Answer) (refusal : Refusal) → appended before answer ≡ Err refusal → answer ≡ Err refusal
-appended-err before (Ok more) refusal is = cc
-appended-err before (Err other) refusal is = is
-
 pub turn_more : (before after : List ℕ) (first others : Answer) → appended before first ≡ Ok after → appended before (followed first others) ≡ appended (after ++ 0x2E ∷ []) others
 turn_more before after (Err refusal) others is = cc
 turn_more before after (Ok label) (Err refusal) is = refl
@@ -89,10 +85,6 @@ turn_more before after (Ok label) (Ok others) is =
 
 pub utf8_of-ascii_text : (text : List ℕ) → IsAscii text → utf8_of text ≡ text
 utf8_of-ascii_text text ascii = (ascii_points text ascii).encoded
-
-pub in_utf8-err : (answer : Answer) (refusal : Refusal) → in_utf8 answer ≡ Err refusal → answer ≡ Err refusal
-in_utf8-err (Ok points) refusal is = cc
-in_utf8-err (Err other) refusal is = is
 
 pub in_utf8-followed : (first others : Answer) → in_utf8 (followed first others) ≡ followed (in_utf8 first) (in_utf8 others)
 unfolding encode

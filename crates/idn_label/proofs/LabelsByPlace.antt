@@ -28,9 +28,6 @@ All-slice P xs start end all =
 pub AllWithin-join : (P : ℕ → Type 0) (xs : List ℕ) (low at from end : ℕ) → from ≤ at → AllWithin P xs low at → AllWithin P xs from end → AllWithin P xs low end
 AllWithin-join P xs low at from end le first second k d above below = elim (cases_lt k at) [ inl early ↦ first k d above early | inr late ↦ second k d (omega arith) below ]
 
-pub without_stop-empty : (name : List ℕ) (start : ℕ) → IsWithoutStop name start start
-without_stop-empty name start = AllWithin-none IsNoStop name start
-
 pub without_stop-more : (name : List ℕ) (start at : ℕ) → start ≤ at → at < length name → IsWithoutStop name start at → get_or name at 0 ≢ 0x2E → IsWithoutStop name start (at + 1)
 without_stop-more name start at begun within none other =
     AllWithin-more IsNoStop name start at none (λ d. ap is_full_stop (get_or_default name at d 0 within) ∙ ne_eqb (get_or name at 0) 0x2E other)
@@ -48,9 +45,6 @@ labels_at-end name start at all none =
     slice_split_none is_full_stop (drop start name)
     (subst (All IsNoStop) (take_all (at - start) (drop start name) (omega (arith, length-drop start name))) (All-slice IsNoStop name start at none))
     ∙ ap (λ label. label ∷ []) (sym (take_rest name start))
-
-pub item_at : (name : List ℕ) (at c : ℕ) → at < length name → c ≡ get_or name at c → get_or name at 0 ≡ c
-item_at name at c within is = get_or_default name at 0 c within ∙ sym is
 
 -- ---- where a label ends
 
@@ -77,12 +71,3 @@ ends_with_name name start end begun is none = record {
 }
 
 -- ---- a test of each label
-
-pub all_labels-fails : (p : List ℕ → Bool) (labels others : List (List ℕ)) (label : List ℕ) → labels ≡ label ∷ others → p label ≡ false → list_all p labels ≡ false
-all_labels-fails p labels others label parts fails = ap (list_all p) parts ∙ ap (λ b. b && list_all p others) fails
-
-pub all_labels-more : (p : List ℕ → Bool) (labels others : List (List ℕ)) (label : List ℕ) → labels ≡ label ∷ others → p label ≡ true → list_all p labels ≡ list_all p others
-all_labels-more p labels others label parts passes = ap (list_all p) parts ∙ ap (λ b. b && list_all p others) passes
-
-pub all_labels-last : (p : List ℕ → Bool) (labels : List (List ℕ)) (label : List ℕ) → labels ≡ label ∷ [] → list_all p labels ≡ p label
-all_labels-last p labels label parts = ap (list_all p) parts ∙ and-true (p label)

@@ -67,13 +67,6 @@ pub is_all_ascii-points : (label : List ℕ) → All (λ c. c < 128) label → i
 is_all_ascii-points label ascii =
     list_all-from_AllPass is_ascii label (All-weaker (λ c. c < 128) (λ c. is_ascii c ≡ true) (λ c lt. grind (arith, nat_tests)) label ascii)
 
--- each code point of a label in ASCII is below 128, however the label is held
-pub is_all_ascii-unit : {T : Type 0} (code : T → ℕ) (codes : List T → List ℕ) (are : (units : List T) → codes units ≡ map code units) (units : List T) (at : ℕ) (x : T) (c : ℕ) → is_all_ascii (codes units) ≡ true → at < length units → x ≡ get_or units at x → c ≡ code x → c < 128
-is_all_ascii-unit code codes are units at x c ascii lt is told =
-    let within : at < length (codes units) = omega (arith, codes_length code codes are units, lt) in
-    let low = ltb-true _ 128 (All-get_or (λ c. is_ascii c ≡ true) (codes units) at 0 within (AllPass-from_list_all is_ascii (codes units) ascii)) in
-    omega (arith, told ∙ codes_at code codes are units at x lt is, low)
-
 pub a_label_of-ldh : (label : List ℕ) → list_all is_ldh_point label ≡ true → a_label_of label ≡ label
 unfolding a_label_of
 a_label_of-ldh label ldh = cond-true _ _ _ (is_all_ascii-points label (ascii_points label ldh))
@@ -120,9 +113,3 @@ ldh_points (c ∷ label) none ascii =
     let permitted = first_of-none (fault_of_class (class_of c)) (code_point_fault label) (sym (code_point_fault-cons c label) ∙ none) in
     let parts = and_parts (is_ascii c) (list_all is_ascii label) ascii in
     rw (is_ldh_point-permitted c (ltb-true c 128 parts.0) permitted.0, ldh_points label permitted.1 parts.1) refl
-
--- a label that may be registered and is not LDH is not all ASCII either
-pub a_label_of-coded : (label : List ℕ) → list_all is_ldh_point label ≡ false → code_point_fault label ≡ None → a_label_of label ≡ codes "xn--" ++ encode label
-unfolding a_label_of
-a_label_of-coded label coded none =
-    cond-false _ _ _ (false_from_ne_true (is_all_ascii label) (λ ascii. false≢true (sym coded ∙ ldh_points label none ascii)))

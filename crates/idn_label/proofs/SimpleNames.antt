@@ -203,17 +203,6 @@ pub record IsWritten (facts : Facts) (name : List ℕ) (start : ℕ) (query : Li
   pub written : query ≡ terminated (map a_label_of whole)
   pub lengths : list_all has_length (map a_label_of whole) ≡ true
 
-pub written_nothing : (facts : Facts) (name query : List ℕ) → query ≡ [] → IsWritten facts name 0 query
-written_nothing facts name query empty = record {
-  within = omega arith;
-  whole = [];
-  parts = refl;
-  tested = All-nil (IsTested facts);
-  short = All-nil IsShort;
-  written = empty;
-  lengths = refl;
-}
-
 pub written_label : {facts : Facts} {name query : List ℕ} {start : ℕ} (w : IsWritten facts name start query) (end : ℕ) (label longer more : List ℕ) → EndsLabel name start end → end ≢ length name → slice_range name start end ≡ label → IsTested facts label → longer ≡ query ++ a_label_of label → is_in_range 1 63 (length longer - length query) ≡ true → more ≡ longer ++ full_stop ∷ [] → IsWritten facts name (end + 1) more
 written_label {facts} {name} {query} {start} w end label longer more ends other is tested written measured stopped =
     let count : length longer - length query ≡ length (a_label_of label) = omega (arith, ap length written, length-append query (a_label_of label)) in
@@ -244,15 +233,6 @@ module _ {facts : Facts} {name query : List ℕ} {start : ℕ} (w : IsWritten fa
 
   longer_is : longer ≡ terminated (map a_label_of w.whole) ++ a_label_of label
   longer_is = written ∙ ap (λ x. x ++ a_label_of label) w.written
-
-  pub tested_all : IsTested facts label → All (IsTested facts) (labels_of name)
-  tested_all tested = subst (All (IsTested facts)) (sym labels) (All-push (IsTested facts) w.whole label w.tested tested)
-
-  pub short_all : may_end (length query) (length longer) ≡ true → All (λ label. length (a_label_of label) ≤ 63) (labels_of name)
-  short_all ended = subst (All IsShort) (sym labels) (All-push IsShort w.whole label w.short (last_short (length query) (length longer) (length (a_label_of label)) (ap length written ∙ length-append query (a_label_of label)) ended))
-    where
-      last_short : (s n k : ℕ) → n ≡ s + k → may_end s n ≡ true → k ≤ 63
-      last_short s n k is ended = grind (arith, nat_tests)
 
   pub written_all : longer ≡ join_labels (map a_label_of (labels_of name))
   written_all =
