@@ -222,11 +222,9 @@ decode_answer-a_label label registrable =
 
 -- ---- what functions name
 
-pub ruleset lower_case = (lowercase_of-lower, refused-capital, has_ace_prefix-kept)
-
 pub ruleset in_any_case = (refused-past_ascii, lowercase_of-lower, is_all_ascii-lower, has_no_capital-lower)
 
-pub ruleset registered = (register_answer-prefixed, register_answer-other, plain_a_label, coded_a_label, answered)
+pub ruleset registered = (register_answer-prefixed, register_answer-other, plain_a_label, coded_a_label, answered, lowercase_of-lower, refused-capital, has_ace_prefix-kept)
 
 pub ruleset back = (appended-nil, decode_answer-a_label)
 

@@ -8,7 +8,7 @@ ghost use Rattle.idn_label.specs.Register.{register_answer};
 
 use crate::a_label::{ALabel, ascii_text};
 use crate::first_fault::test_label;
-use crate::u_label::u_label;
+use crate::u_label::{has_no_capital, refuse, tested_u_label};
 use crate::unit::has_ace_prefix;
 use idn_punycode::DecodedLabel;
 use idn_text::{MAX_LINE_LEN, Refusal};
@@ -30,7 +30,11 @@ pub fn register(alloc: Global, label: &[u32]) -> Result<ALabel, Refusal>
         → Gives (λ answer. answer.bytes) result (Ok (a_label_of registered)) }
 {
     if has_ace_prefix(label) {
-        u_label(alloc, label, &mut DecodedLabel::new())?;
+        if !has_no_capital(label) {
+            // The A-label of a label that may be registered has no capital.
+            return refuse(alloc, label);
+        }
+        tested_u_label(alloc, label, &mut DecodedLabel::new())?;
         return Ok(ascii_text(label));
     }
     test_label(alloc, label)

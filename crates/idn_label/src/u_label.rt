@@ -36,33 +36,13 @@ pub(crate) fn u_label_in_any_case<U: Unit>(
         Ok(()) => Ok(()),
         Err(refusal) if has_no_capital(given) => Err(refusal),
         Err(_) if !is_all_ascii(given) => Err(Refusal::BadALabel),
-        Err(_) => u_label(alloc, &lowercase_of(given), label),
+        // A label put into lower case has no capital.
+        Err(_) => tested_u_label(alloc, &lowercase_of(given), label),
     }
-}
-
-/// Leaves in `label` the label that an A-label stands for, which may be registered and has that A-label, in place of
-/// what stood there.
-#[tactic(auto, using(crate::proofs::ALabels::lower_case))]
-pub(crate) fn u_label<U: Unit>(
-    alloc: Global,
-    given: &[U],
-    label: &mut DecodedLabel,
-) -> Result<(), Refusal>
-    requires prefix { has_ace_prefix (U.codes given.now) ≡ true }
-    requires short { length given.now ≤ MAX_LINE_LEN }
-    ensures answer { Gives (λ _. label.new) result (u_label_answer (U.codes given.now)) }
-    ensures shorter { OnOk result (length label.new < length given.now) }
-    ensures no_memory { list_all (λ c. not (is_ascii_uppercase c)) (U.codes given.now) ≡ true → NeedsNoMemoryDecoded (U.codes given.now) → result ≢ Err Refusal.Memory }
-{
-    if has_no_capital(given) {
-        return tested_u_label(alloc, given, label);
-    }
-    // The A-label of a label that may be registered has no capital.
-    refuse(alloc, given)
 }
 
 /// Whether a label has no ASCII capital. It looks at each code point, which is faster than to stop at the first capital.
-fn has_no_capital<U: Unit>(label: &[U]) -> bool
+pub(crate) fn has_no_capital<U: Unit>(label: &[U]) -> bool
     ensures { result ≡ list_all (λ c. not (is_ascii_uppercase c)) (U.codes label.now) }
 {
     let mut has_none = true;
@@ -85,11 +65,11 @@ fn lowercase_of<U: Unit>(label: &[U]) -> ArrayVec<u8, MAX_LINE_LEN>
     lower
 }
 
-/// `u_label` of an A-label put into lower case; if it is refused, this is why where it has no capital. One that is
-/// short need not be encoded again to be compared: Punycode in lower case is the only one of what it stands for (RFC
-/// 3492 sections 1.1 and 5).
+/// Leaves in `label` what an A-label put into lower case stands for, in place of what stood there; if it is refused,
+/// this is why where it has no capital. One that is short need not be encoded again to be compared: Punycode in lower
+/// case is the only one of what it stands for (RFC 3492 sections 1.1 and 5).
 #[tactic(auto, using(crate::proofs::ALabels::refused))]
-fn tested_u_label<U: Unit>(
+pub(crate) fn tested_u_label<U: Unit>(
     alloc: Global,
     given: &[U],
     label: &mut DecodedLabel,
@@ -129,7 +109,7 @@ fn code_of<U: Unit>(given: &[U]) -> &[U]
 
 /// Refuses what is the A-label of no label which may be registered, and tells why.
 #[tactic(auto, using(crate::proofs::AnswerLemmas::confirming), unfolding(crate::specs::Register::u_label_answer))]
-fn refuse<U: Unit>(alloc: Global, given: &[U]) -> Result<(), Refusal>
+pub(crate) fn refuse<U: Unit, T>(alloc: Global, given: &[U]) -> Result<T, Refusal>
     requires prefix { has_ace_prefix (map to_ascii_lowercase (U.codes given.now)) ≡ true }
     requires short { length given.now ≤ MAX_LINE_LEN }
     requires of_none { IsErr (u_label_answer (U.codes given.now)) }
