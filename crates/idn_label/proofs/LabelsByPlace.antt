@@ -1,11 +1,10 @@
 -- The labels of a name, cut at its full stops place by place.
-use Rattle.std.proofs.Common.{◌≡◌, ◌≢◌, ℕ, ◌+◌, ◌-◌, ◌<◌, ◌≤◌, ◌&&◌, Bool, true, false, List, [], ◌∷◌, take, drop, get_or, length, slice_range, All, sym, ap, ap₂, subst, inl, inr, ◌∙◌, take_all, eq-eqb, ne_eqb, length-drop, length-take, arith}
-use Rattle.std.specs.List.{list_all, AllWithin}
-use Rattle.std.proofs.Math.Bool.{and-true}
+use Rattle.std.proofs.Common.{◌≡◌, ◌≢◌, ℕ, ◌+◌, ◌-◌, ◌<◌, ◌≤◌, false, List, [], ◌∷◌, take, drop, get_or, length, slice_range, All, sym, ap, ap₂, subst, inl, inr, ◌∙◌, take_all, eq-eqb, ne_eqb, length-drop, length-take, arith}
+use Rattle.std.specs.List.{AllWithin}
 use Rattle.std.proofs.lemmas.List.{get_or_default, get_or-drop, drop-drop, take_rest}
 use Rattle.std.proofs.lemmas.List.Edits.{get_or-between}
 use Rattle.std.proofs.lemmas.Bool.{cases_lt, cond-true, cond-false}
-use Rattle.std.proofs.lemmas.List.Elements.{All-from_get_or, AllWithin-none, AllWithin-more}
+use Rattle.std.proofs.lemmas.List.Elements.{All-from_get_or, AllWithin-more}
 use Rattle.std.proofs.lemmas.List.Splits.{slice_split_none}
 use Rattle.idna.specs.Labels.{is_full_stop, labels_of}
 use Rattle.idn_label.specs.inner.LabelEnds.{EndsLabel}

@@ -1,8 +1,8 @@
 -- Code points and labels in ASCII.
-use Rattle.std.proofs.Common.{◌≡◌, ℕ, ◌<◌, Bool, true, false, not, ◌||◌, ◌==◌, nat_lt, cond, List, [], ◌∷◌, ◌++◌, codes, map, length, get_or, All, Option, Some, None, refl, sym, ap, ◌∙◌, arith}
+use Rattle.std.proofs.Common.{◌≡◌, ℕ, ◌<◌, Bool, true, false, not, ◌||◌, ◌==◌, nat_lt, cond, List, [], ◌∷◌, length, All, Option, Some, None, refl, sym, ap, ◌∙◌, arith}
 use Rattle.std.specs.List.{list_all}
 use Rattle.std.proofs.Math.Bool.{or_self}
-use Rattle.std.proofs.lemmas.Bool.{and_parts, cond-true, cond-false, ltb-true, false≢true, false_from_ne_true, true_from_ne_false}
+use Rattle.std.proofs.lemmas.Bool.{and_parts, cond-true, cond-false, ltb-true, true_from_ne_false}
 use Rattle.std.proofs.lemmas.Bool.Decides.{nat_tests}
 use Rattle.idn_class.proofs.ComputedLabels.{rules, in_table, class_of-in_table}
 use Rattle.idn_class.specs.declared.class.Class.{Class}
@@ -11,12 +11,10 @@ use Rattle.idn_class.specs.Class.{class_of}
 use Rattle.idn_class.specs.Tests.{all_places}
 use Rattle.idn_class.proofs.TestLemmas.{all_places-at}
 use Rattle.std.specs.Char.{is_ascii}
-use Rattle.std.proofs.lemmas.List.Elements.{All-weaker, All-get_or}
+use Rattle.std.proofs.lemmas.List.Elements.{All-weaker}
 use Rattle.std.proofs.lemmas.List.Folds.{list_any_none}
 use Rattle.std.proofs.lemmas.List.Sums.{AllPass-from_list_all, list_all-from_AllPass}
-use Rattle.idna.specs.Punycode.{encode}
 use Rattle.idna.specs.Validity.{is_all_ascii}
-use Rattle.idn_punycode.proofs.UnitLemmas.{codes_length, codes_at}
 use Rattle.idn_text.specs.declared.refusal.Refusal.TheVariants.{Empty, Hyphen, LabelTooLong}
 use Rattle.idn_label.specs.ALabel.{a_label_of}
 use Rattle.idn_label.specs.FirstFault.{first_of, fault_if, fault_of_class, code_point_fault, has_hyphen_out_of_place, is_too_long, first_fault}

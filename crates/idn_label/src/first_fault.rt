@@ -10,8 +10,9 @@ ghost use Rattle.idn_label.specs.inner.FaultSteps.{fault_but_length};
 
 use crate::a_label::ALabel;
 use crate::kept_a_label::KeptALabel;
-use crate::rules::check_rules;
-use idn_class::{Class, Fact, Facts, class_of};
+use crate::normalization::is_nfc;
+use crate::unit::has_hyphen_out_of_place;
+use idn_class::{Class, Fact, Facts, bidi_ok, class_of, contextj_ok, contexto_ok, leading_mark};
 use idn_text::Refusal;
 use std::alloc::Global;
 
@@ -32,7 +33,7 @@ pub fn test_label(alloc: Global, label: &[u32]) -> Result<ALabel, Refusal>
 }
 
 /// Returns the first fault of a label, but for its length. Its facts, which are known, say which tests it needs.
-#[tactic(auto, using(crate::proofs::FaultLemmas::permitted_scalars), unfolding(crate::specs::inner::FaultSteps::fault_but_length))]
+#[tactic(auto, using(crate::proofs::FactTests::fact_tests, crate::proofs::FaultLemmas::permitted_scalars), unfolding(crate::specs::inner::FaultSteps::fault_but_length, crate::specs::inner::FaultSteps::rule_fault))]
 pub(crate) fn check_label(alloc: Global, label: &[u32], facts: Facts) -> Result<(), Refusal>
     requires { AreFactsOf facts label.now }
     ensures passes { OnOk result (fault_but_length label.now ≡ None) }
@@ -43,7 +44,25 @@ pub(crate) fn check_label(alloc: Global, label: &[u32], facts: Facts) -> Result<
         return Err(Refusal::Empty);
     }
     check_code_points(alloc, label, facts)?;
-    check_rules(alloc, label, facts)
+    if !is_nfc(alloc, label, facts)? {
+        return Err(Refusal::NotNfc);
+    }
+    if has_hyphen_out_of_place(label) {
+        return Err(Refusal::Hyphen);
+    }
+    if facts.contains(Fact::Mark) && leading_mark(label) {
+        return Err(Refusal::LeadingMark);
+    }
+    if facts.contains(Fact::Contextj) && !contextj_ok(label) {
+        return Err(Refusal::ContextJ);
+    }
+    if facts.contains(Fact::Contexto) && !contexto_ok(label) {
+        return Err(Refusal::ContextO);
+    }
+    if facts.contains(Fact::RightToLeft) && !bidi_ok(label) {
+        return Err(Refusal::Bidi);
+    }
+    Ok(())
 }
 
 /// Tells the first code point that may not be registered (RFC 5891 section 4.2.2). The facts may say there is none.

@@ -11,7 +11,7 @@ ghost use Rattle.idn_label.specs.Register.{decoded_code, u_label_answer};
 use crate::a_label::{MAX_LABEL_LEN, ascii_text};
 use crate::code_points::points_of;
 use crate::first_fault::{check_label, test_label};
-use crate::unit::{Unit, is_all_ascii, is_capital, to_lowercase};
+use crate::unit::{Unit, is_all_ascii, to_lowercase};
 use arrayvec::{ArrayString, ArrayVec};
 use idn_punycode::DecodedLabel;
 use idn_text::{MAX_LINE_LEN, Refusal};
@@ -47,7 +47,7 @@ pub(crate) fn has_no_capital<U: Unit>(label: &[U]) -> bool
 {
     let mut has_none = true;
     for unit in label {
-        has_none &= !is_capital(unit.code_point());
+        has_none &= to_lowercase(unit.code_point()) == unit.code_point();
     }
     has_none
 }

@@ -1,6 +1,6 @@
 //! What is asked of labels that are held as octets, numbers or characters alike: ASCII, the prefix, hyphens.
 ghost use Rattle.std.specs.Prelude.{◌≡◌, map, slice_index};
-ghost use Rattle.std.specs.Char.{is_ascii_uppercase, to_ascii_lowercase};
+ghost use Rattle.std.specs.Char.{to_ascii_lowercase};
 ghost use Rattle.idna.specs.Validity.{is_all_ascii, has_ace_prefix, has_hyphens_third_and_fourth};
 ghost use Rattle.idn_label.specs.FirstFault.{has_hyphen_out_of_place};
 
@@ -62,15 +62,11 @@ pub(crate) fn has_ace_prefix_in_any_case<U: Unit>(label: &[U]) -> bool
 pub(crate) fn to_lowercase(c: u32) -> u32
     ensures { result ≡ to_ascii_lowercase c }
 {
-    if is_capital(c) { c + 0x20 } else { c }
-}
-
-/// Whether a code point is an ASCII capital.
-#[inline]
-pub(crate) fn is_capital(c: u32) -> bool
-    ensures { result ≡ is_ascii_uppercase c }
-{
-    matches!(c, 0x41..=0x5A)
+    if matches!(c, 0x41..=0x5A) {
+        c + 0x20
+    } else {
+        c
+    }
 }
 
 /// Whether a hyphen stands first, last, or in both the third and the fourth places (RFC 5891 section 4.2.3.1).

@@ -1,4 +1,4 @@
-//! The tests of a label beyond those of its single code points (RFC 5891 sections 4.2.1 and 4.2.3).
+//! Whether a label is in Normalization Form C (RFC 5891 section 4.2.1).
 ghost use Rattle.std.specs.Prelude.{◌≡◌, ◌≢◌, Some, None, Err, IfOk, IsOk, IfErr, OnOk};
 ghost use Rattle.ucd_normal.specs.declared.forms.Form.TheVariants.{Nfc};
 ghost use Rattle.ucd_normal.specs.declared.forms.QuickCheck.TheVariants.{Maybe};
@@ -7,51 +7,18 @@ ghost use Rattle.unicode_normalization.specs.QuickCheck.{quick_check_text};
 ghost use Rattle.idn_text.specs.Points.{AreScalarValues};
 ghost use Rattle.idn_class.specs.Facts.{AreFactsOf};
 ghost use Rattle.idn_label.specs.Memory.{NeedsNoMemory};
-ghost use Rattle.idn_label.specs.inner.FaultSteps.{rule_fault};
 
 use crate::a_label::MAX_LABEL_LEN;
 use crate::code_points::{chars_of, short_chars};
-use crate::unit::has_hyphen_out_of_place;
-use idn_class::{Fact, Facts, bidi_ok, contextj_ok, contexto_ok, leading_mark};
-use idn_text::Refusal;
+use idn_class::{Fact, Facts};
 use std::alloc::{AllocError, Global};
 use unicode_normalization::IsNormalized;
 use unicode_normalization::slice::{extend_nfc, is_nfc_quick};
 
-/// Tells the first fault that is neither of a code point nor of the length. `facts` are those of the label.
-#[tactic(auto, using(crate::proofs::FactTests::fact_tests), unfolding(crate::specs::inner::FaultSteps::rule_fault))]
-pub(crate) fn check_rules(alloc: Global, label: &[u32], facts: Facts) -> Result<(), Refusal>
-    requires scalars { AreScalarValues label.now }
-    requires facts { AreFactsOf facts label.now }
-    ensures passes { OnOk result (rule_fault label.now ≡ None) }
-    ensures fault { IfErr result (λ refusal. refusal ≢ Refusal.Memory → rule_fault label.now ≡ Some refusal) }
-    ensures no_memory { NeedsNoMemory label.now → result ≢ Err Refusal.Memory }
-{
-    if !is_nfc(alloc, label, facts)? {
-        return Err(Refusal::NotNfc);
-    }
-    if has_hyphen_out_of_place(label) {
-        return Err(Refusal::Hyphen);
-    }
-    if facts.contains(Fact::Mark) && leading_mark(label) {
-        return Err(Refusal::LeadingMark);
-    }
-    if facts.contains(Fact::Contextj) && !contextj_ok(label) {
-        return Err(Refusal::ContextJ);
-    }
-    if facts.contains(Fact::Contexto) && !contexto_ok(label) {
-        return Err(Refusal::ContextO);
-    }
-    if facts.contains(Fact::RightToLeft) && !bidi_ok(label) {
-        return Err(Refusal::Bidi);
-    }
-    Ok(())
-}
-
 /// Whether a label is in Normalization Form C. Where a code point may compose, it takes memory for a label of more than
 /// 63 code points, and where the quick check cannot decide.
 #[tactic(auto, using(crate::proofs::FactTests::fact_tests))]
-fn is_nfc(alloc: Global, label: &[u32], facts: Facts) -> Result<bool, AllocError>
+pub(crate) fn is_nfc(alloc: Global, label: &[u32], facts: Facts) -> Result<bool, AllocError>
     requires scalars { AreScalarValues label.now }
     requires facts { AreFactsOf facts label.now }
     ensures answer { IfOk result (λ answer. answer ≡ is_nfc label.now) }
