@@ -46,6 +46,11 @@ confirmed-by given label = by_fault (first_fault label)
 
 pub ruleset confirming = (confirmed-by)
 
+-- the first fault of what the code stands for
+pub refused_by : (given label : List ℕ) (refusal : Refusal) → is_all_ascii (drop 4 given) ≡ true → (length (drop 4 given) == 0) ≡ false → decode (drop 4 given) ≡ Some label → first_fault label ≡ Some refusal → u_label_answer given ≡ Err refusal
+unfolding u_label_answer decoded_code
+refused_by given label refusal ascii some code fault = rw (ascii, some, code) (confirmed-by given label ∙ rw fault refl)
+
 pub u_label_answer-of : (given label : List ℕ) → decoded_code (drop 4 given) ≡ Ok label → u_label_answer given ≡ unless_fault (first_fault label) (cond (bytes_eq (a_label_of label) given) (Ok label) (Err BadALabel))
 unfolding u_label_answer
 u_label_answer-of given label decoded = rw decoded (confirmed-by given label)

@@ -5,8 +5,8 @@ ghost use Rattle.idn_label.specs.inner.LabelEnds.{EndsLabel};
 use crate::unit::{FULL_STOP, Unit};
 use std::simd::prelude::*;
 
-/// How many octets are searched at once.
-const CHUNK_LEN: usize = 16;
+/// How many octets are read at once.
+pub(crate) const CHUNK_LEN: usize = 16;
 
 /// The place where the label that begins at `start` ends: at the first full stop from there on, or with the name.
 #[inline]

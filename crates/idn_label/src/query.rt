@@ -1,6 +1,6 @@
 //! Lookup of a name.
 ghost use Rattle.std.specs.Prelude.{◌≡◌, ◌≢◌, ◌≤◌, length, take, string_bytes, Err, IfOk};
-ghost use Rattle.idn_text.specs.Points.{AreScalarValues, utf8_of};
+ghost use Rattle.idn_text.specs.Points.{AreScalarValues};
 ghost use Rattle.idn_label.specs.Answers.{Gives};
 ghost use Rattle.idn_label.specs.Lookup.{utf8_answer, lookup_answer};
 ghost use Rattle.idn_label.specs.Memory.{LooksUpWithoutMemory};
@@ -19,7 +19,7 @@ use idn_text::Refusal;
 use ldh::ldh_query;
 use lengths::MAX_QUERY_LEN;
 use simple::simple_query;
-use std::alloc::{AllocError, Global};
+use std::alloc::Global;
 use std::str;
 
 /// The name as a query sends it: the ToASCII operation of UTS 46 without transitional processing, with the checks of
@@ -31,9 +31,13 @@ pub fn lookup(alloc: Global, name: &[u32], std3: bool) -> Result<String, Refusal
     requires { AreScalarValues name.now }
     ensures { Gives string_bytes result (lookup_answer name.now std3) }
 {
-    let text = utf8(alloc, name)?;
+    let mut text = String::with_capacity(alloc, name.len())?;
+    for c in name {
+        text.push(to_char(*c))?;
+    }
     let mut room = [0; MAX_QUERY_LEN];
-    let len = lookup_utf8(alloc, &text, std3, &mut LookupBuffers::new(), &mut room)?;
+    let mut buffers = LookupBuffers::new();
+    let len = lookup_utf8(alloc, text.as_bytes(), std3, &mut buffers, &mut room)?;
     let Ok(query) = str::from_utf8(&room[..len]) else {
         unreachable!()
     };
@@ -68,16 +72,4 @@ pub fn lookup_utf8(
     let len = buffers.query.len();
     room[..len].copy_from_slice(&buffers.query);
     Ok(len)
-}
-
-/// The UTF-8 of a name.
-fn utf8(alloc: Global, name: &[u32]) -> Result<Vec<u8>, AllocError>
-    requires { AreScalarValues name.now }
-    ensures { IfOk result (λ text. text.items ≡ utf8_of name.now) }
-{
-    let mut text = String::with_capacity(alloc, name.len())?;
-    for c in name {
-        text.push(to_char(*c))?;
-    }
-    Ok(text.into_bytes())
 }

@@ -6,7 +6,7 @@ ghost use Rattle.std.specs.Result.{IsErr, IsErrAnd};
 ghost use Rattle.idna.specs.Validity.{is_all_ascii, has_ace_prefix};
 ghost use Rattle.idn_label.specs.Answers.{Gives};
 ghost use Rattle.idn_label.specs.Memory.{NeedsNoMemoryDecoded};
-ghost use Rattle.idn_label.specs.Register.{decoded_code, u_label_answer};
+ghost use Rattle.idn_label.specs.Register.{u_label_answer};
 
 use crate::a_label::{MAX_LABEL_LEN, ascii_text};
 use crate::code_points::points_of;
@@ -108,31 +108,23 @@ fn code_of<U: Unit>(given: &[U]) -> &[U]
 }
 
 /// Refuses what is the A-label of no label which may be registered, and tells why.
-#[tactic(auto, using(crate::proofs::AnswerLemmas::confirming), unfolding(crate::specs::Register::u_label_answer))]
+#[tactic(auto, using(crate::proofs::AnswerLemmas::confirming), unfolding(crate::specs::Register::u_label_answer, crate::specs::Register::decoded_code))]
 pub(crate) fn refuse<U: Unit, T>(alloc: Global, given: &[U]) -> Result<T, Refusal>
     requires prefix { has_ace_prefix (map to_ascii_lowercase (U.codes given.now)) ≡ true }
     requires short { length given.now ≤ MAX_LINE_LEN }
     requires of_none { IsErr (u_label_answer (U.codes given.now)) }
     ensures { IsErrAnd result (λ refusal. refusal ≢ Refusal.Memory → u_label_answer (U.codes given.now) ≡ Err refusal) }
 {
-    let label = decode_code(alloc, code_of(given))?;
-    test_label(alloc, &label)?;
-    Err(Refusal::BadALabel)
-}
-
-/// Decodes what stands after the prefix, which may be long.
-#[tactic(auto, unfolding(crate::specs::Register::decoded_code))]
-fn decode_code<U: Unit>(alloc: Global, code: &[U]) -> Result<Vec<u32>, Refusal>
-    requires { length code.now ≤ MAX_LINE_LEN }
-    ensures { Gives (λ label. label.items) result (decoded_code (U.codes code.now)) }
-{
+    let code = code_of(given);
     if code.is_empty() || !is_all_ascii(code) {
         return Err(Refusal::BadALabel);
     }
     let text: ArrayString<MAX_LINE_LEN> = ascii_text(code);
-    match punycode::decode(alloc, text.as_str()) {
-        Ok(label) => Ok(points_of(alloc, &label)?),
-        Err(Errors::Invalid) => Err(Refusal::BadALabel),
-        Err(Errors::OutOfMemory) => Err(Refusal::Memory),
-    }
+    let label = match punycode::decode(alloc, text.as_str()) {
+        Ok(label) => points_of(alloc, &label)?,
+        Err(Errors::Invalid) => return Err(Refusal::BadALabel),
+        Err(Errors::OutOfMemory) => return Err(Refusal::Memory),
+    };
+    test_label(alloc, &label)?;
+    Err(Refusal::BadALabel)
 }

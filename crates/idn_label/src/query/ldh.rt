@@ -9,15 +9,13 @@ ghost use Rattle.idn_label.specs.Answers.{Gives};
 ghost use Rattle.idn_label.specs.Lookup.{utf8_answer};
 ghost use Rattle.idn_label.specs.LdhNames.{IsLdhName, is_name_point};
 
+use crate::full_stops::CHUNK_LEN;
 use crate::query::lengths::{MAX_QUERY_LEN, has_label_length, may_end};
 use crate::unit::has_ace_prefix_in_any_case;
 use idn_text::Refusal;
 use std::simd::prelude::*;
 
-/// How many octets of a name are read at once.
-const CHUNK_LEN: usize = 16;
-
-/// Half of them.
+/// Half of the octets that are read at once.
 const HALF_LEN: usize = 8;
 
 /// Writes into `room` what `lookup_utf8` answers of such a name, the name in lower case, and returns its length; or
