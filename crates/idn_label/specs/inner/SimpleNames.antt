@@ -1,11 +1,11 @@
 -- The names that lookup answers without the whole of UTS 46.
 use Rattle.std.specs.Prelude.{◌≡◌, ◌≤◌, ℕ, true, false, ◌==◌, List, ◌++◌, length, All}
+use Rattle.std.specs.List.{list_any}
 use Rattle.ucd_idna_map.specs.IdnaStatus.{idna_status}
 use Rattle.idn_class.specs.declared.facts.Fact.{Fact}
 use Rattle.idn_class.specs.declared.facts.Fact.TheVariants.{RightToLeft}
 use Rattle.idn_class.specs.declared.facts.Facts.{Facts}
 use Rattle.idn_class.specs.Facts.{contains, has_fact, AreFactsOf}
-use Rattle.std.specs.List.{list_any}
 use Rattle.idna.specs.AsciiDenyList.{may_be_denied}
 use Rattle.idna.specs.BidiRule.{passes_bidi_rule}
 use Rattle.idna.specs.ContextJ.{zero_width_non_joiner, zero_width_joiner}

@@ -1,5 +1,5 @@
 //! Names of which UTS 46 keeps or maps each code point, and of which NFC changes nothing, by the facts of each. Most names
-//! past ASCII are such: they are read once, and their lookup takes neither memory nor a normalization.
+//! past ASCII are such: their octets are read once, and their lookup takes neither memory nor a normalization.
 ghost use Rattle.std.specs.Prelude.{◌≡◌, ◌≤◌, ◌++◌, Bool, [], ◌∷◌, map, flat_map, chars, length, false, true, Some, OnSome, IfSome, IsTrue, IsUtf8, All};
 ghost use Rattle.idna.specs.declared.options.Hyphens.TheVariants.{Allow};
 ghost use Rattle.idna.specs.declared.options.DnsLength.TheVariants.{Ignore};
