@@ -1,13 +1,15 @@
 -- The numbers and the texts of refusals.
 use Rattle.std.specs.Prelude.{ℕ, List, codes}
 use Rattle.idn_text.specs.declared.refusal.Refusal.{Refusal}
-use Rattle.idn_text.specs.declared.refusal.Refusal.TheVariants.{NotUtf8, LineTooLong, Empty, Disallowed, Unassigned, NotNfc, Hyphen, LeadingMark, ContextJ, ContextO, Bidi, LabelTooLong, BadALabel, LookupInvalid, LookupLength, Syntax, SameSource, SameVariant, BadClass, Limit, NotInTable, Usage, ReadFault, WriteFault, Memory}
+use Rattle.idn_text.specs.declared.refusal.Refusal.TheVariants.{NotUtf8, LineTooLong, Empty, OutOfOrder, FileTooLong, Disallowed, Unassigned, NotNfc, Hyphen, LeadingMark, ContextJ, ContextO, Bidi, LabelTooLong, BadALabel, LookupInvalid, LookupLength, Syntax, SameSource, SameVariant, BadClass, Limit, NotInTable, Usage, ReadFault, WriteFault, Memory}
 
--- 1 to 3 are of a line, 10 to 21 of a label or a name, 30 to 34 of a table, 40 of a label under a table, 50 to 70 of a run
+-- 1 to 5 are of a line, 10 to 21 of a label or a name, 30 to 34 of a table, 40 of a label under a table, 50 to 70 of a run
 abbrev pub refusal_number : Refusal → ℕ
 refusal_number NotUtf8 = 1
 refusal_number LineTooLong = 2
 refusal_number Empty = 3
+refusal_number OutOfOrder = 4
+refusal_number FileTooLong = 5
 refusal_number Disallowed = 10
 refusal_number Unassigned = 11
 refusal_number NotNfc = 12
@@ -36,6 +38,8 @@ abbrev pub refusal_text : Refusal → List ℕ
 refusal_text NotUtf8 = codes "not UTF-8"
 refusal_text LineTooLong = codes "line too long"
 refusal_text Empty = codes "empty"
+refusal_text OutOfOrder = codes "out of order"
+refusal_text FileTooLong = codes "file too long"
 refusal_text Disallowed = codes "disallowed code point"
 refusal_text Unassigned = codes "unassigned code point"
 refusal_text NotNfc = codes "not in NFC"

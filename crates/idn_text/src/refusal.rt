@@ -14,6 +14,10 @@ pub enum Refusal {
     LineTooLong,
     /// A line or a label without a code point.
     Empty,
+    /// A label that is not greater than the one before it, where labels have to rise.
+    OutOfOrder,
+    /// A line that ends after byte 4,294,967,295 of its file.
+    FileTooLong,
     /// A code point of class DISALLOWED (RFC 5892 section 3).
     Disallowed,
     /// A code point of class UNASSIGNED (RFC 5892 section 3).
@@ -71,6 +75,8 @@ impl Refusal {
             Refusal::NotUtf8 => 1,
             Refusal::LineTooLong => 2,
             Refusal::Empty => 3,
+            Refusal::OutOfOrder => 4,
+            Refusal::FileTooLong => 5,
             Refusal::Disallowed => 10,
             Refusal::Unassigned => 11,
             Refusal::NotNfc => 12,
@@ -104,6 +110,8 @@ impl Refusal {
             Refusal::NotUtf8 => "not UTF-8",
             Refusal::LineTooLong => "line too long",
             Refusal::Empty => "empty",
+            Refusal::OutOfOrder => "out of order",
+            Refusal::FileTooLong => "file too long",
             Refusal::Disallowed => "disallowed code point",
             Refusal::Unassigned => "unassigned code point",
             Refusal::NotNfc => "not in NFC",

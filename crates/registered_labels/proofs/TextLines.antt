@@ -1,0 +1,183 @@
+-- The lines of a text, one after another, and the first that is wrong.
+use Rattle.std.proofs.Common.{◌≡◌, ◌≢◌, ◌⊎◌, inl, inr, ℕ, zero, suc, ◌+◌, ◌-◌, ◌<◌, ◌≤◌, Bool, true, false, cond, Option, Some, None, List, [], ◌∷◌, ◌++◌, length, map, take, drop, get_or, refl, sym, ap, subst, ◌∙◌, arith, add-one, append_assoc, length-append, length-take, length-drop, drop-cons}
+use Rattle.std.specs.List.{AllByRecursion, slice_range}
+use Rattle.std.specs.Ordering.{is_lt}
+use Rattle.std.specs.declared.cmp.Ordering.{Ordering}
+use Rattle.std.specs.declared.cmp.Ordering.TheVariants.{Less}
+use Rattle.std.specs.Str.{is_utf8, chars, all_scalars}
+use Rattle.std.specs.Str.Lines.{strip_carriage_return}
+use Rattle.std.proofs.lemmas.Bool.{cases_lt, and_parts}
+use Rattle.std.proofs.lemmas.List.{append-nil, map-append, take-append-drop}
+use Rattle.std.proofs.lemmas.List.Elements.{All-from_recursion}
+use Rattle.std.proofs.lemmas.Str.{IsUtf8-from_is_utf8, is_utf8-from_IsUtf8}
+use Rattle.idn_text.specs.Points.{IsScalarValue, is_scalar_value, IsUtf8Of, utf8_of}
+use Rattle.idn_text.specs.Lines.{raw_lines, body_of}
+use Rattle.idn_text.specs.declared.refusal.Refusal.{Refusal}
+use Rattle.idn_text.specs.declared.refusal.Refusal.TheVariants.{LineTooLong, NotUtf8}
+use Rattle.idn_text.specs.declared.refusal.Refusal.TheVariants as refusals
+use Rattle.idn_text.proofs.Utf8Lemmas.{IsUtf8-from_points, points_from_utf8}
+use Rattle.idn_text.proofs.TakingLemmas.{is_long_line-short, is_long_line-long}
+use Rattle.idn_text.proofs.NumberingLemmas.{raw_lines-then, raw_lines-rest}
+use Rattle.idn_label.specs.FirstFault.{first_fault}
+use Rattle.idn_label.proofs.RequirementLemmas.{MeetsRequirements-registrable}
+use Rattle.variant_list.specs.Labels.{IsBelow, label_cmp}
+use Rattle.variant_list.proofs.OrderLemmas.{Less_from_below}
+use Rattle.registered_labels.specs.Registered.{AreRegistered}
+use Rattle.registered_labels.specs.Texts.{AreLinesOf, IsTextOf, line_refusal, IsFirstWrong, IsOutOfOrder, IsWrongBy, IsFaultOf, fault_of}
+use Rattle.registered_labels.specs.inner.Readings.{IsLineEnd, IsReadAs}
+
+-- ---- one line
+
+pub body_of-short : (line : List ℕ) → length line ≤ 1024 → body_of line ≡ Some (strip_carriage_return line)
+body_of-short line few = ap (λ b. cond b None (Some (strip_carriage_return line))) (is_long_line-short line few)
+
+pub refused_long : (line : List ℕ) → 1024 < length line → line_refusal (body_of line) ≡ Some LineTooLong
+refused_long line many = ap (λ b. line_refusal (cond b None (Some (strip_carriage_return line)))) (is_long_line-long line many)
+
+by_recursion : (points : List ℕ) → all_scalars points ≡ true → AllByRecursion IsScalarValue points
+by_recursion [] e = tt
+by_recursion (c ∷ cs) e = let parts = and_parts (is_scalar_value c) (all_scalars cs) e in (parts.0, by_recursion cs parts.1)
+
+is_not_utf8 : (bytes : List ℕ) → ((points : List ℕ) → IsUtf8Of bytes points → ⊥) → (b : Bool) → is_utf8 bytes ≡ b → is_utf8 bytes ≡ false
+is_not_utf8 bytes none true e =
+    let is = IsUtf8-from_is_utf8 bytes e in
+    absurd (none is.0 (record { scalar_values = All-from_recursion IsScalarValue is.0 (by_recursion is.0 is.1.0); encoded = is.1.1 }))
+is_not_utf8 bytes none false e = e
+
+pub refused_bytes : (line body : List ℕ) → length line ≤ 1024 → body ≡ strip_carriage_return line → ((points : List ℕ) → IsUtf8Of body points → ⊥) → line_refusal (body_of line) ≡ Some NotUtf8
+refused_bytes line body few is none =
+    ap line_refusal (body_of-short line few ∙ ap Some (sym is))
+    ∙ ap (λ b. cond b (first_fault (chars body)) (Some NotUtf8)) (is_not_utf8 body none (is_utf8 body) refl)
+
+pub refused_label : (line body points : List ℕ) (refusal : Refusal) → length line ≤ 1024 → body ≡ strip_carriage_return line → IsUtf8Of body points → first_fault points ≡ Some refusal → line_refusal (body_of line) ≡ Some refusal
+refused_label line body points refusal few is read fault =
+    ap line_refusal (body_of-short line few ∙ ap Some (sym is))
+    ∙ ap (λ b. cond b (first_fault (chars body)) (Some NotUtf8)) (is_utf8-from_IsUtf8 body (IsUtf8-from_points body points read))
+    ∙ ap first_fault (points_from_utf8 body points read) ∙ fault
+
+-- ---- the lines so far
+
+drop_more : {X : Type 0} (xs : List X) (a b : ℕ) → a ≤ b → drop (b - a) (drop a xs) ≡ drop b xs
+drop_more xs zero b l = ap (λ n. drop n xs) (omega arith)
+drop_more [] (suc a) zero l = absurd (omega arith)
+drop_more [] (suc a) (suc b) l = nothing (suc b - suc a)
+  where
+    nothing : {X : Type 0} (n : ℕ) → drop {A = X} n [] ≡ []
+    nothing zero = refl
+    nothing (suc n) = refl
+drop_more (x ∷ xs) (suc a) zero l = absurd (omega arith)
+drop_more (x ∷ xs) (suc a) (suc b) l = ap (λ n. drop n (drop a xs)) (omega arith) ∙ drop_more xs a b (omega arith)
+
+drop_past : {X : Type 0} (xs : List X) (n : ℕ) → length xs ≤ n → drop n xs ≡ []
+drop_past [] zero l = refl
+drop_past [] (suc n) l = refl
+drop_past (x ∷ xs) zero l = absurd (omega arith)
+drop_past (x ∷ xs) (suc n) l = drop_past xs n (omega arith)
+
+module _ (text : List ℕ) (at end : ℕ) (more : at < length text) (is : IsLineEnd text at end) where
+  front_and_rest : drop at text ≡ slice_range text at end ++ drop end text
+  front_and_rest = sym (take-append-drop (end - at) (drop at text)) ∙ ap (λ xs. slice_range text at end ++ xs) (drop_more text at end is.reached)
+
+  some_line : end ≡ length text → slice_range text at end ≢ []
+  some_line last e =
+      let size : length (slice_range text at end) ≡ 0 = ap length e in
+      omega (arith, size, last, more, length-take (end - at) (drop at text), length-drop at text)
+
+  -- the next line, and what follows it
+  pub raw_lines-next : raw_lines (drop at text) ≡ slice_range text at end ∷ raw_lines (drop (end + 1) text)
+  raw_lines-next = elim (cases_lt end (length text)) [
+    | inl inside ↦
+        let feed : get_or text end 0 ≡ 10 = is.feed inside in
+        let rest : drop end text ≡ 10 ∷ drop (end + 1) text = drop-cons text end 0 inside ∙ ap (λ c. c ∷ drop (suc end) text) feed ∙ ap (λ n. 10 ∷ drop n text) (sym (add-one end)) in
+        ap raw_lines (front_and_rest ∙ ap (λ xs. slice_range text at end ++ xs) rest) ∙ raw_lines-then (slice_range text at end) (drop (end + 1) text) is.no_feed
+    | inr outside ↦
+        let last : end ≡ length text = omega (arith, outside, is.within) in
+        let none : drop (end + 1) text ≡ [] = drop_past text (end + 1) (omega (arith, last)) in
+        ap raw_lines (front_and_rest ∙ ap (λ xs. slice_range text at end ++ xs) (drop_past text end outside) ∙ append-nil (slice_range text at end))
+        ∙ raw_lines-rest (slice_range text at end) (some_line last) is.no_feed ∙ ap (λ xs. slice_range text at end ∷ raw_lines xs) (sym none)
+  ]
+
+-- so many lines were read, which are these labels, and the next begins at this place
+pub record HasRead (text : List ℕ) (at number : ℕ) (labels : List (List ℕ)) : Type 0 where
+  pub front : List (List ℕ)
+  pub split : raw_lines text ≡ front ++ raw_lines (drop at text)
+  pub read : AreLinesOf front labels
+  pub counted : number ≡ length front
+
+pub HasRead-none : (text : List ℕ) → HasRead text 0 0 []
+HasRead-none text = record { front = []; split = refl; read = refl; counted = refl }
+
+pub HasRead-more : (text : List ℕ) (at end number len : ℕ) (labels : List (List ℕ)) (label : List ℕ) → at < length text → IsLineEnd text at end → IsReadAs (slice_range text at end) len label → HasRead text at number labels → HasRead text (end + 1) (number + 1) (labels ++ label ∷ [])
+HasRead-more text at end number len labels label more is read h =
+    let line : List ℕ = slice_range text at end in
+    let body : body_of line ≡ Some (utf8_of label) = read.body ∙ ap Some (sym (read.read).encoded) in
+    record {
+      front = h.front ++ line ∷ [];
+      split = h.split ∙ ap (λ xs. h.front ++ xs) (raw_lines-next text at end more is) ∙ sym (append_assoc h.front (line ∷ []) (raw_lines (drop (end + 1) text)));
+      read = map-append body_of h.front (line ∷ []) ∙ ap (λ xs. xs ++ body_of line ∷ []) h.read ∙ ap (λ o. map (λ v. Some (utf8_of v)) labels ++ o ∷ []) body ∙ sym (map-append (λ v. Some (utf8_of v)) labels (label ∷ []));
+      counted = omega (arith, h.counted, length-append h.front (line ∷ []));
+    }
+
+pub IsTextOf-read : (text : List ℕ) (at number : ℕ) (labels : List (List ℕ)) → length text ≤ at → HasRead text at number labels → AreRegistered labels → IsTextOf text labels
+IsTextOf-read text at number labels past h all = record {
+  lines = ap (map body_of) (h.split ∙ ap (λ xs. h.front ++ raw_lines xs) (drop_past text at past) ∙ append-nil h.front) ∙ h.read;
+  registered = all;
+}
+
+pub IsFirstWrong-here : (text : List ℕ) (at end number : ℕ) (labels : List (List ℕ)) (W : List (List ℕ) → Option (List ℕ) → Type 0) → at < length text → IsLineEnd text at end → HasRead text at number labels → AreRegistered labels → W labels (body_of (slice_range text at end)) → IsFirstWrong text (number + 1) W
+IsFirstWrong-here text at end number labels W more is h all wrong = record {
+  before = h.front;
+  line = slice_range text at end;
+  rest = raw_lines (drop (end + 1) text);
+  lines = h.split ∙ ap (λ xs. h.front ++ xs) (raw_lines-next text at end more is);
+  numbered = omega (arith, h.counted);
+  labels = labels;
+  read = h.read;
+  registered = all;
+  wrong = wrong;
+}
+
+-- ---- the last label
+
+-- the last of these labels, or the empty one where there is none
+abbrev pub IsLastOf : List (List ℕ) → List ℕ → Type 0
+IsLastOf labels last = ((labels ≡ []) × (last ≡ [])) ⊎ ((front : List (List ℕ)) × (labels ≡ front ++ last ∷ []))
+
+not_lt : (v w : List ℕ) (o : Ordering) (b : Bool) → o ≡ label_cmp v w → b ≡ is_lt o → b ≡ false → IsBelow v w → ⊥
+not_lt v w o b e f t below =
+    let less : o ≡ Less = e ∙ Less_from_below v w below in
+    let clash : true ≡ false = sym (ap is_lt less) ∙ sym f ∙ t in cc
+
+pub IsOutOfOrder-seen : (line : List ℕ) (len : ℕ) (labels : List (List ℕ)) (last label : List ℕ) (o : Ordering) (b : Bool) → IsReadAs line len label → IsLastOf labels last → o ≡ label_cmp last label → b ≡ is_lt o → b ≡ false → IsOutOfOrder labels (body_of line)
+IsOutOfOrder-seen line len labels last label o b read is e f t = elim is [
+  | inl none ↦ absurd (not_lt last label o b e f t (subst (λ v. IsBelow v label) (sym none.1) (above_nothing label ((MeetsRequirements-registrable label read.registrable).some))))
+  | inr some ↦ record {
+    label = label;
+    is = read.body ∙ ap Some (sym (read.read).encoded);
+    registrable = read.registrable;
+    front = some.0;
+    last = last;
+    ending = some.1;
+    not_greater = not_lt last label o b e f t;
+  }
+]
+  where
+    above_nothing : (v : List ℕ) → v ≢ [] → IsBelow [] v
+    above_nothing [] h = absurd (h refl)
+    above_nothing (x ∷ v) h = tt
+
+-- a label that may be registered is right by itself
+pub accepted_label : (line : List ℕ) (len : ℕ) (label : List ℕ) → IsReadAs line len label → line_refusal (body_of line) ≡ None
+accepted_label line len label is =
+    let body : List ℕ = take len line in
+    ap line_refusal is.body
+    ∙ ap (λ b. cond b (first_fault (chars body)) (Some NotUtf8)) (is_utf8-from_IsUtf8 body (IsUtf8-from_points body label is.read))
+    ∙ ap first_fault (points_from_utf8 body label is.read) ∙ is.registrable
+
+pub IsFaultOf-refused : (text : List ℕ) (line : ℕ) (refusal : Refusal) → (refusal ≢ refusals.Memory → IsFirstWrong text line (IsWrongBy refusal text)) → IsFaultOf text (fault_of line refusal)
+IsFaultOf-refused text line refusals.Memory h = tt
+IsFaultOf-refused text line refusal h = h (λ e. cc)
+
+-- one label more is the last
+pub IsLastOf-more : (labels : List (List ℕ)) (label : List ℕ) → IsLastOf (labels ++ label ∷ []) label
+IsLastOf-more labels label = inr (labels, refl)

@@ -1,0 +1,66 @@
+-- The text of a registry's labels: one on each line, each greater than the one before.
+use Rattle.std.specs.Prelude.{◌≡◌, ◌⊎◌, ℕ, ◌+◌, ◌≤◌, ◌^◌, List, [], ◌∷◌, ◌++◌, length, map, chars, Option, Some, None, if◌then◌else◌}
+use Rattle.std.specs.Str.{is_utf8}
+use Rattle.idn_text.specs.Lines.{raw_lines, body_of}
+use Rattle.idn_text.specs.Points.{utf8_of}
+use Rattle.idn_text.specs.declared.refusal.Refusal.{Refusal}
+use Rattle.idn_text.specs.declared.refusal.Refusal.TheVariants.{LineTooLong, NotUtf8, OutOfOrder, FileTooLong}
+use Rattle.idn_text.specs.declared.refusal.Refusal.TheVariants as refusals
+use Rattle.idn_label.specs.FirstFault.{first_fault, IsRegistrable}
+use Rattle.variant_list.specs.Labels.{IsBelow}
+use Rattle.registered_labels.specs.declared.labels.RegisterFault.{RegisterFault}
+use Rattle.registered_labels.specs.declared.labels.RegisterFault.TheVariants.{Refused, Memory}
+use Rattle.registered_labels.specs.Registered.{AreRegistered}
+
+-- these lines are the UTF-8 of these labels, in their order; one carriage return at the end of a line doesn't count
+abbrev pub AreLinesOf : List (List ℕ) → List (List ℕ) → Type 0
+AreLinesOf lines labels = map body_of lines ≡ map (λ v. Some (utf8_of v)) labels
+
+-- the text has a line for each of these labels, which may be registered and stand in label order, each once
+pub record IsTextOf (text : List ℕ) (labels : List (List ℕ)) : Type 0 where
+  pub lines : AreLinesOf (raw_lines text) labels
+  pub registered : AreRegistered labels
+
+-- what is wrong with the body of a line alone
+abbrev pub line_refusal : Option (List ℕ) → Option Refusal
+line_refusal None = Some LineTooLong
+line_refusal (Some bytes) = if is_utf8 bytes then first_fault (chars bytes) else Some NotUtf8
+
+-- all lines before the line of this number, from 1, are labels in label order, and the line is wrong after them
+pub record IsFirstWrong (text : List ℕ) (number : ℕ) (IsWrong : List (List ℕ) → Option (List ℕ) → Type 0) : Type 0 where
+  pub before : List (List ℕ)
+  pub line : List ℕ
+  pub rest : List (List ℕ)
+  pub lines : raw_lines text ≡ before ++ line ∷ rest
+  pub numbered : number ≡ length before + 1
+  pub labels : List (List ℕ)
+  pub read : AreLinesOf before labels
+  pub registered : AreRegistered labels
+  pub wrong : IsWrong labels (body_of line)
+
+-- the line is a label that may be registered, but is not greater than the last of these
+pub record IsOutOfOrder (labels : List (List ℕ)) (body : Option (List ℕ)) : Type 0 where
+  pub label : List ℕ
+  pub is : body ≡ Some (utf8_of label)
+  pub registrable : IsRegistrable label
+  pub front : List (List ℕ)
+  pub last : List ℕ
+  pub ending : labels ≡ front ++ last ∷ []
+  pub not_greater : ¬ IsBelow last label
+
+-- a line after these labels is wrong by itself; or it is not greater than the last of them; or the text has 2^32 bytes or more
+abbrev pub IsWrongBy : Refusal → List ℕ → List (List ℕ) → Option (List ℕ) → Type 0
+IsWrongBy refusal text labels body =
+    (line_refusal body ≡ Some refusal)
+    ⊎ ((refusal ≡ OutOfOrder) × IsOutOfOrder labels body)
+    ⊎ ((refusal ≡ FileTooLong) × (line_refusal body ≡ None) × (2 ^ 32 ≤ length text))
+
+-- the first fault of a text; want of memory is none of a text
+abbrev pub IsFaultOf : List ℕ → RegisterFault → Type 0
+IsFaultOf text (Refused line refusal) = IsFirstWrong text line (IsWrongBy refusal text)
+IsFaultOf text Memory = Unit {0}
+
+-- the fault of a line that is refused; want of memory is none
+abbrev pub fault_of : ℕ → Refusal → RegisterFault
+fault_of line refusals.Memory = Memory
+fault_of line refusal = Refused line refusal

@@ -1,0 +1,253 @@
+//! Registered labels in memory.
+ghost use Rattle.std.specs.Prelude.{◌≡◌, ◌≢◌, ◌<◌, ◌≤◌, ℕ, List, length, slice_get, option_map, Some, IfOk, IfErr};
+ghost use Rattle.idn_text.specs.Lines.{body_of};
+ghost use Rattle.std.specs.Ordering.{is_lt};
+ghost use Rattle.idn_text.specs.Points.{AreScalarValues, utf8_of};
+ghost use Rattle.variant_list.specs.Labels.{label_cmp};
+ghost use Rattle.registered_labels.specs.declared.labels.RegisterFault.TheVariants as faults;
+ghost use Rattle.registered_labels.specs.Registered.{AreRegistered, IsBetween, IsFirstFrom, IsFirstAfter};
+ghost use Rattle.registered_labels.specs.inner.Readings.{IsLineEnd, IsReadAs};
+
+use arrayvec::ArrayVec;
+use idn_class::KeptLabel;
+use idn_label::test_label;
+use idn_text::{MAX_LINE_LEN, Refusal, decode_points, put_points, without_carriage_return};
+use memchr::memchr;
+use std::alloc::{AllocError, AllocFailed, Global};
+use std::marker::Model;
+
+/// The most code points of a label (RFC 1034, section 3.1).
+pub(crate) const MAX_LABEL_LEN: usize = 63;
+
+/// The most bytes of a label in UTF-8.
+const MAX_KEY_LEN: usize = 4 * MAX_LABEL_LEN;
+
+/// The most bytes of a text, so that 32 bits tell each place in it.
+const MAX_TEXT_LEN: usize = 0xFFFF_FFFF;
+
+/// Why a text is not read as registered labels. Lines are numbered from 1.
+#[derive(Clone, Copy, Debug, PartialEq, Eq)]
+pub enum RegisterFault {
+    /// The first line that is wrong: it is no label that may be registered, it is not greater than the one before it, or
+    /// it ends after byte 4,294,967,295 of the text.
+    Refused { line: u64, refusal: Refusal },
+    /// Memory was refused.
+    Memory,
+}
+
+impl<T: Drop> From<AllocFailed<T>> for RegisterFault {
+    ghost from_gives = { λ _ fault. fault ≡ faults.Memory };
+
+    fn from(_: AllocFailed<T>) -> RegisterFault {
+        RegisterFault::Memory
+    }
+}
+
+/// Where a label stands in a text: the place of its first byte, and the place after its last.
+#[derive(Clone, Copy, Debug, PartialEq, Eq)]
+struct Span {
+    start: u32,
+    end: u32,
+}
+
+/// Registered labels as they stand in a text, in label order, each once. Contracts see the labels.
+#[derive(Drop)]
+pub struct RegisteredLabels<'a> {
+    text: &'a [u8],
+    spans: Vec<Span>,
+}
+
+impl<'a> Model for RegisteredLabels<'a> {
+    ghost use Rattle.std.specs.Prelude.{ℕ, List};
+    ghost use Rattle.registered_labels.specs.inner.Spans.{labels_at, AreLabelsIn};
+
+    ghost Value = { List (List ℕ) };
+
+    ghost view = { λ r. labels_at r.text.now r.spans.items };
+
+    ghost invariant = { λ r. AreLabelsIn r.text.now r.spans.items };
+}
+
+impl<'a> RegisteredLabels<'a> {
+    ghost use Rattle.registered_labels.specs.Texts.{IsTextOf, IsFaultOf};
+
+    /// The labels of a text, one on each line, each greater than the one before; or the first fault of the text.
+    pub fn read(alloc: Global, text: &'a [u8]) -> Result<RegisteredLabels<'a>, RegisterFault>
+        ensures labels { IfOk result (IsTextOf text.now) }
+        ensures fault { IfErr result (IsFaultOf text.now) }
+    {
+        let mut spans = Vec::new(alloc);
+        let mut points = ArrayVec::new();
+        // The empty label is below all others.
+        let mut last = KeptLabel::new();
+        let mut at = 0;
+        let mut number: u64 = 0;
+        while at < text.len() {
+            number += 1;
+            let end = line_end(text, at);
+            let body = match read_label(alloc, &text[at..end], &mut points) {
+                Ok(body) => body,
+                Err(refusal) => return Err(refused(number, refusal)),
+            };
+            if !last.as_slice().cmp(&points.as_slice()).is_lt() {
+                return Err(refused(number, Refusal::OutOfOrder));
+            }
+            if end > MAX_TEXT_LEN {
+                return Err(refused(number, Refusal::FileTooLong));
+            }
+            spans.push(Span {
+                start: at as u32,
+                end: (at + body) as u32,
+            })?;
+            last.replace(points.as_slice());
+            at = end + 1;
+        }
+        Ok(RegisteredLabels { text, spans })
+    }
+
+    /// How many labels there are.
+    pub fn len(&self) -> usize
+        ensures count { result ≡ length self.now }
+        ensures registered { AreRegistered self.now }
+    {
+        self.spans.len()
+    }
+
+    /// The label of this number in UTF-8.
+    pub fn line(&self, index: usize) -> &[u8]
+        requires { index < length self.now }
+        ensures { option_map utf8_of (slice_get self.now index) ≡ Some result.now }
+    {
+        let span = self.spans[index];
+        &self.text[span.start as usize..span.end as usize]
+    }
+
+    /// Leaves the code points of the label of this number in `points`.
+    pub fn decode(&self, index: usize, points: &mut ArrayVec<u32, MAX_LINE_LEN>)
+        requires { index < length self.now }
+        ensures { slice_get self.now index ≡ Some points.new.items }
+    {
+        // Naming a field makes the invariant of the type known.
+        let _ = &self.text;
+        let Ok(()) = decode_points(self.line(index), points) else {
+            unreachable!()
+        };
+    }
+
+    /// Whether the UTF-8 of the label of this number is below this one.
+    fn is_below(&self, index: usize, key: &[u8]) -> bool
+        requires { index < length self.now }
+        ensures { option_map (λ v. is_lt (label_cmp (utf8_of v) key.now)) (slice_get self.now index) ≡ Some result }
+    {
+        self.line(index).cmp(&key).is_lt()
+    }
+
+    /// Two numbers between which the first label from number `from` on is that is no less than the label of this UTF-8. It
+    /// looks at one label after each step, and each step is twice as long as the one before.
+    fn enclose(&self, from: usize, key: &[u8]) -> (usize, usize)
+        requires { from ≤ length self.now }
+        ensures { (label : List ℕ) → utf8_of label ≡ key.now → IsBetween self.now from label result.0 result.1 }
+    {
+        let mut low = from;
+        let mut step = 1;
+        while step <= self.len() - low {
+            let place = low + step - 1;
+            if !self.is_below(place, key) {
+                return (low, place);
+            }
+            low = place + 1;
+            step = step.saturating_mul(2);
+        }
+        (low, self.len())
+    }
+
+    /// The number of the first label from number `from` on that is no less than this label, or how many labels there are if
+    /// all are less. It looks at few labels if that one is near.
+    pub fn first_from(&self, from: usize, label: &[u32]) -> usize
+        requires from { from ≤ length self.now }
+        requires short { length label.now ≤ 63 }
+        requires scalar_values { AreScalarValues label.now }
+        ensures { IsFirstFrom self.now from label.now result }
+    {
+        // How many there are is read for its contract alone: the labels are in label order.
+        let _count = self.len();
+        let mut room = [0; MAX_KEY_LEN];
+        let len = put_points(label, &mut room, 0);
+        let key = &room[..len];
+        let (mut low, mut high) = self.enclose(from, key);
+        while low < high {
+            let middle = low + (high - low) / 2;
+            if self.is_below(middle, key) {
+                low = middle + 1;
+            } else {
+                high = middle;
+            }
+        }
+        low
+    }
+
+    /// The number of the first label that is greater than this one, or how many labels there are if none is.
+    pub fn first_after(&self, label: &[u32]) -> usize
+        requires short { length label.now ≤ 63 }
+        requires scalar_values { AreScalarValues label.now }
+        ensures { IsFirstAfter self.now label.now result }
+    {
+        let place = self.first_from(0, label);
+        if place >= self.len() {
+            return place;
+        }
+        let mut points = ArrayVec::new();
+        self.decode(place, &mut points);
+        if points.as_slice() == label {
+            place + 1
+        } else {
+            place
+        }
+    }
+}
+
+ghost use Rattle.registered_labels.specs.Texts.{line_refusal, fault_of};
+
+/// The place of the first line feed of a text from a place on, or the text's end if there is none.
+fn line_end(text: &[u8], at: usize) -> usize
+    requires { at < length text.now }
+    ensures { IsLineEnd text.now at result }
+{
+    match memchr(b'\n', &text[at..]) {
+        Some(place) => at + place,
+        None => text.len(),
+    }
+}
+
+/// Leaves the code points of a line in `points`, if they are a label that may be registered, and returns how many bytes of
+/// the line they take: one carriage return at its end doesn't count.
+fn read_label(
+    alloc: Global,
+    line: &[u8],
+    points: &mut ArrayVec<u32, MAX_LINE_LEN>,
+) -> Result<usize, Refusal>
+    ensures read { IfOk result (λ len. IsReadAs line.now len points.new.items) }
+    ensures refused { IfErr result (λ refusal. refusal ≢ Refusal.Memory → line_refusal (body_of line.now) ≡ Some refusal) }
+{
+    if line.len() > MAX_LINE_LEN {
+        return Err(Refusal::LineTooLong);
+    }
+    let body = without_carriage_return(line);
+    let Ok(()) = decode_points(body, points) else {
+        return Err(Refusal::NotUtf8);
+    };
+    match test_label(alloc, points.as_slice()) {
+        Ok(_) => Ok(body.len()),
+        Err(refusal) => Err(refusal),
+    }
+}
+
+/// The fault of a line that is refused. Want of memory is no fault of a line.
+fn refused(line: u64, refusal: Refusal) -> RegisterFault
+    ensures { result ≡ fault_of line refusal }
+{
+    match refusal {
+        Refusal::Memory => RegisterFault::Memory,
+        _ => RegisterFault::Refused { line, refusal },
+    }
+}

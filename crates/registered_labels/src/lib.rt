@@ -1,0 +1,9 @@
+//! The registered labels of a registry, and those of them that a label spells under a variant table.
+#![tactic(auto)]
+
+mod collisions;
+mod labels;
+pub mod laws;
+
+pub use collisions::{Collisions, all_collisions};
+pub use labels::{RegisterFault, RegisteredLabels};
