@@ -1,4 +1,4 @@
-//! The command `idn2`: its words, its table's file, and one run from its input to its output.
+//! The command `idn2`: its words, its files, and one run from its input to its output.
 #![tactic(auto)]
 
 mod streams;
@@ -9,11 +9,15 @@ ghost use Rattle.idn2_cli.specs.Ends.{IsFault};
 ghost use Rattle.idn2_cli.specs.Settings.{IsWithinLimits};
 
 use idn_text::{Device, Lines, Refusal};
-use idn2_cli::{Options, Status, Usage, input_text, read_options, report, run};
+use idn2_cli::{
+    Options, Status, Usage, input_text, read_options, report, report_registered, run_among,
+};
+use registered_labels::{RegisterFault, RegisteredLabels};
+use std::alloc::Global;
 use std::io::{BufWriter, Stdout, Write};
 use std::process::ExitCode;
 use streams::{Answers, Input, Messages, Output};
-use system::{read_table, standard_output, words};
+use system::{read_registered, read_table, standard_output, words};
 
 fn main(rt: HostRuntime) -> ExitCode {
     let status = match serve(&rt) {
@@ -35,15 +39,31 @@ fn serve(rt: &HostRuntime) -> Result<Status, Refusal>
     };
     let given = input_text(rt.alloc(), &options)?;
     let table = read_table(rt, &options)?;
+    let file = read_registered(rt, &options)?;
+    let registered = match labels_of(rt.alloc(), &file) {
+        Ok(registered) => registered,
+        Err(fault) => return Ok(report_registered(&fault, &mut Device::new(rt.stderr()))),
+    };
     let output = Output::new(standard_output(rt)?);
     let status = match given {
-        Some(text) => run_on_words(rt, &options, &table, &text, &output),
-        None => run_on_input(rt, &options, &table, &output),
+        Some(text) => run_on_words(rt, &options, &table, registered.as_ref(), &text, &output),
+        None => run_on_input(rt, &options, &table, registered.as_ref(), &output),
     };
     // Where answers were lost the run could report nothing more, whatever its status is.
     match output.end() {
         Ok(()) => Ok(status),
         Err(_) => Err(Refusal::WriteFault),
+    }
+}
+
+/// The registered labels of a file, if there is one.
+fn labels_of(
+    alloc: Global,
+    file: &Option<Vec<u8>>,
+) -> Result<Option<RegisteredLabels<'_>>, RegisterFault> {
+    match file {
+        Some(text) => Ok(Some(RegisteredLabels::read(alloc, text)?)),
+        None => Ok(None),
     }
 }
 
@@ -62,15 +82,17 @@ fn run_on_words(
     rt: &HostRuntime,
     options: &Options,
     table: &[u8],
+    registered: Option<&RegisteredLabels<'_>>,
     text: &[u8],
     output: &Output<BufWriter<Stdout>>,
 ) -> Status
     requires { IsWithinLimits options.now }
 {
-    run(
+    run_among(
         rt.alloc(),
         options,
         table,
+        registered,
         &mut Lines::new(Device::new(text)),
         &mut Device::new(Answers::new(output)),
         &mut Device::new(Messages::new(rt.stderr(), output)),
@@ -82,14 +104,16 @@ fn run_on_input(
     rt: &HostRuntime,
     options: &Options,
     table: &[u8],
+    registered: Option<&RegisteredLabels<'_>>,
     output: &Output<BufWriter<Stdout>>,
 ) -> Status
     requires { IsWithinLimits options.now }
 {
-    run(
+    run_among(
         rt.alloc(),
         options,
         table,
+        registered,
         &mut Lines::new(Device::new(Input::new(rt.stdin(), output))),
         &mut Device::new(Answers::new(output)),
         &mut Device::new(Messages::new(rt.stderr(), output)),

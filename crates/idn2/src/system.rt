@@ -1,4 +1,4 @@
-//! What the program takes from the system: its words, the file of its table, its output.
+//! What the program takes from the system: its words, its files, its output.
 ghost use Rattle.std.specs.Prelude.{IfErr};
 ghost use Rattle.idn2_cli.specs.Ends.{IsFault};
 
@@ -10,6 +10,9 @@ use std::io::{self, BufWriter, ErrorKind, Read, Stdout};
 
 /// One byte more than a table's text may have: no later byte changes what is wrong with it.
 const TABLE_BYTES: u64 = 1_048_577;
+
+/// One byte more than the file of registered labels may have.
+const REGISTERED_BYTES: u64 = 4_294_967_296;
 
 /// How many bytes of the output are kept until they are written.
 const OUTPUT_BUFFER_LEN: usize = 65_536;
@@ -37,20 +40,37 @@ pub fn read_table(rt: &HostRuntime, options: &Options) -> Result<Vec<u8>, Refusa
 {
     match options.mode {
         Mode::Lookup | Mode::Register | Mode::Decode => Ok(Vec::new(rt.alloc())),
-        Mode::Variants | Mode::CheckTable => match read_start(rt, &options.file) {
-            Ok(bytes) => Ok(bytes),
-            Err(error) if error.kind() == ErrorKind::OutOfMemory => Err(Refusal::Memory),
-            Err(_) => Err(Refusal::ReadFault),
-        },
+        Mode::Variants | Mode::Jump | Mode::CheckTable => {
+            read_file(rt, &options.file, TABLE_BYTES)
+        }
+    }
+}
+
+/// The bytes of the file of registered labels, as many as can matter; nothing where the options name none.
+pub fn read_registered(rt: &HostRuntime, options: &Options) -> Result<Option<Vec<u8>>, Refusal>
+    ensures { IfErr result IsFault }
+{
+    match &options.among {
+        Some(name) => Ok(Some(read_file(rt, name, REGISTERED_BYTES)?)),
+        None => Ok(None),
+    }
+}
+
+/// The bytes of a file, up to so many.
+fn read_file(rt: &HostRuntime, name: &str, most: u64) -> Result<Vec<u8>, Refusal>
+    ensures { IfErr result IsFault }
+{
+    match read_start(rt, name, most) {
+        Ok(bytes) => Ok(bytes),
+        Err(error) if error.kind() == ErrorKind::OutOfMemory => Err(Refusal::Memory),
+        Err(_) => Err(Refusal::ReadFault),
     }
 }
 
 /// The first bytes of a file.
-fn read_start(rt: &HostRuntime, name: &str) -> io::Result<Vec<u8>> {
+fn read_start(rt: &HostRuntime, name: &str, most: u64) -> io::Result<Vec<u8>> {
     let mut bytes = Vec::new(rt.alloc());
-    File::open(rt, name)?
-        .take(TABLE_BYTES)
-        .read_to_end(&mut bytes)?;
+    File::open(rt, name)?.take(most).read_to_end(&mut bytes)?;
     Ok(bytes)
 }
 

@@ -16,29 +16,45 @@ use Rattle.variant_table.proofs.RisingLemmas.{gaps_of_are_gaps}
 use Rattle.variant_list.specs.Beginnings as beginnings
 use Rattle.variant_list.specs.Laws.{IsTested}
 use Rattle.variant_list.specs.Segmentations.{HasSegmentation}
-use Rattle.variant_list.specs.Variants.{IsVariant}
+use Rattle.variant_list.specs.Labels.{IsListOf}
+use Rattle.variant_list.specs.Tested.{tested}
+use Rattle.variant_list.specs.Variants.{IsVariant, variants}
+use Rattle.variant_list.proofs.ListMembers.{Contains-none}
+use Rattle.variant_list.proofs.MutualLemmas.{has_variant-from, has_variant-is}
+use Rattle.variant_list.proofs.RisingLists.{IsRising-filter, Contains-filter}
 use Rattle.variant_list.proofs.ListedLemmas.{IsListOf-same}
 use Rattle.variant_list.proofs.TestedLaws.{tested_are_listed}
 use Rattle.variant_list.proofs.VariantLists.{variants-AreVariants}
 use Rattle.idn2_cli.specs.Settings.{Settings}
 use Rattle.idn_label.specs.Answers.{unless_fault}
-use Rattle.idn2_cli.specs.Answers.{is_registrable, variants_after, tested_after, stop_of, disposition, block, listing_answer, variants_answer}
-use Rattle.idn2_cli.specs.Answers.{IsListed, IsTried, IsBlock, IsListing}
+use Rattle.idn2_cli.specs.Answers.{is_among, is_registrable, kept_to, tested_unless_kept, variants_after, tested_after, stop_of, disposition, block, listing_answer, variants_answer}
+use Rattle.idn2_cli.specs.Answers.{IsKept, IsListed, IsTried, IsBlock, IsListing}
 use Rattle.idn2_cli.specs.Transcript.{IsCheck}
 use Rattle.idn2_cli.specs.Transcript.{check_lines}
 use Rattle.idn2_cli.proofs.DispositionLemmas.{disposition-IsDisposition}
 use Rattle.idn2_cli.proofs.HopeLemmas.{clear}
-use Rattle.idn2_cli.proofs.SegmentedLabels.{listing_answer-segmented, listing_answer-unsegmented, segmented_or_not}
+use Rattle.idn2_cli.proofs.SegmentedLabels.{segmented_answer, unsegmented_answer, segmented_or_not}
 
 none_if_none : (fault : Option Refusal) → is_none fault ≡ true → fault ≡ None
 none_if_none None h = refl
 none_if_none (Some refusal) h = cc
 
-same_listed : (o : Settings) (table : List Entry) (label v : List ℕ) → (IsVariant is_registrable table label o.after v → IsListed o table label v) × (IsListed o table label v → IsVariant is_registrable table label o.after v)
+same_listed : (o : Settings) (table : List Entry) (label v : List ℕ) → (IsVariant is_registrable table label o.after v × IsKept o.registered v → IsListed o table label v) × (IsListed o table label v → IsVariant is_registrable table label o.after v × IsKept o.registered v)
 same_listed o table label v = (
-  λ i. record { registrable = none_if_none (first_fault v) i.accepted; greater = i.greater; spelled = i.spelled },
-  λ l. record { accepted = ap is_none l.registrable; spelled = l.spelled; greater = l.greater },
+  λ i. record { registrable = none_if_none (first_fault v) i.0.accepted; greater = i.0.greater; spelled = i.0.spelled; kept = i.1 },
+  λ l. (record { accepted = ap is_none l.registrable; spelled = l.spelled; greater = l.greater }, l.kept),
 )
+
+-- of a list those that are kept
+kept_to-IsListOf : (P : List ℕ → Type 0) (labels : Option (List (List ℕ))) (vs : List (List ℕ)) → IsListOf P vs → IsListOf (λ v. P v × IsKept labels v) (kept_to labels vs)
+kept_to-IsListOf P None vs list = record { rising = list.rising; members = λ v. (λ c. ((list.members v).0 c, tt), λ i. (list.members v).1 i.0) }
+kept_to-IsListOf P (Some labels) vs list = record {
+  rising = IsRising-filter (is_among labels) vs list.rising;
+  members = λ v. let kept = Contains-filter (is_among labels) vs v in (
+    λ c. let both = kept.0 c in ((list.members v).0 both.1, has_variant-is labels v both.0),
+    λ i. kept.1 (has_variant-from labels v i.1, (list.members v).1 i.0),
+  );
+}
 
 empty_has_hope : IsHopeless [] → ⊥
 empty_has_hope h = let clash : false ≡ true = sym hopeless-nil ∙ hopeless-from [] h in cc
@@ -60,20 +76,25 @@ hope-rule (c ∷ v) h (suc k) bad = by_length (nat_le (suc k) (length (c ∷ v))
         let long : length (c ∷ v) ≤ suc k = grind (arith, nat_tests) in
         clash (length (c ∷ v)) (omega arith) (omega arith) (subst IsHopeless (all (suc k) long) bad)
 
-same_tried : (o : Settings) (table : List Entry) (label v : List ℕ) → (IsTested hopeless table label o.after v → IsTried o table label v) × (IsTried o table label v → IsTested hopeless table label o.after v)
+same_tried : (o : Settings) (table : List Entry) (label v : List ℕ) → (IsTested hopeless table label o.after v × (o.registered ≡ None) → IsTried o table label v) × (IsTried o table label v → IsTested hopeless table label o.after v × (o.registered ≡ None))
 same_tried o table label v = (
-  λ t. record { short = t.short; hope = hope-rule v t.hope; greater = t.greater; spelled = t.spelled },
-  λ t. record { spelled = t.spelled; short = t.short; greater = t.greater; hope = λ k low high. clear (take k v) (t.hope k) },
+  λ t. record { short = t.0.short; hope = hope-rule v t.0.hope; greater = t.0.greater; spelled = t.0.spelled; all = t.1 },
+  λ t. (record { spelled = t.spelled; short = t.short; greater = t.greater; hope = λ k low high. clear (take k v) (t.hope k) }, t.all),
 )
+
+-- all of a list are tested, or none
+tested-IsListOf : (P : List ℕ → Type 0) (labels : Option (List (List ℕ))) (vs : List (List ℕ)) → IsListOf P vs → IsListOf (λ v. P v × (labels ≡ None)) (tested_unless_kept labels vs)
+tested-IsListOf P None vs list = record { rising = list.rising; members = λ v. (λ c. ((list.members v).0 c, refl), λ i. (list.members v).1 i.0) }
+tested-IsListOf P (Some labels) vs list = record { rising = tt; members = λ v. (λ c. absurd (Contains-none v c), λ i. absurd (let clash : Some labels ≡ None = i.1 in cc)) }
 
 block-IsBlock : (o : Settings) (table : TableValue) (label : List ℕ) → IsWellFormed table.entries → IsBlock o table label (block o table label)
 block-IsBlock o table label formed = record {
   listed = variants_after o table.entries label;
-  exactly = IsListOf-same (IsVariant is_registrable table.entries label o.after) (IsListed o table.entries label) (variants_after o table.entries label) (same_listed o table.entries label)
-      (variants-AreVariants is_registrable table.entries label o.after formed.entries);
+  exactly = IsListOf-same (λ v. IsVariant is_registrable table.entries label o.after v × IsKept o.registered v) (IsListed o table.entries label) (variants_after o table.entries label) (same_listed o table.entries label)
+      (kept_to-IsListOf (IsVariant is_registrable table.entries label o.after) o.registered (variants is_registrable table.entries label o.after) (variants-AreVariants is_registrable table.entries label o.after formed.entries));
   tried = tested_after o table.entries label;
-  exactly_tried = IsListOf-same (IsTested hopeless table.entries label o.after) (IsTried o table.entries label) (tested_after o table.entries label) (same_tried o table.entries label)
-      (tested_are_listed hopeless table.entries label o.after formed);
+  exactly_tried = IsListOf-same (λ v. IsTested hopeless table.entries label o.after v × (o.registered ≡ None)) (IsTried o table.entries label) (tested_after o table.entries label) (same_tried o table.entries label)
+      (tested-IsListOf (IsTested hopeless table.entries label o.after) o.registered (tested hopeless table.entries label o.after) (tested_are_listed hopeless table.entries label o.after formed));
   stop = stop_of o table.entries label;
   stops = refl;
   field = disposition table label;
@@ -85,8 +106,8 @@ listing : (o : Settings) (table : TableValue) (label : List ℕ) → IsWellForme
 listing o table label formed = by_cases (segmented_or_not table.entries label formed)
   where
     by_cases : HasSegmentation table.entries label ⊎ (HasSegmentation table.entries label → ⊥) → IsListing o table label (listing_answer o table label)
-    by_cases (inl has) = subst (IsListing o table label) (sym (listing_answer-segmented o table label formed has)) (has, block-IsBlock o table label formed)
-    by_cases (inr none) = subst (IsListing o table label) (sym (listing_answer-unsegmented o table label formed none)) (none, refl)
+    by_cases (inl has) = subst (IsListing o table label) (sym (segmented_answer table.entries label (block o table label) formed has)) (has, block-IsBlock o table label formed)
+    by_cases (inr none) = subst (IsListing o table label) (sym (unsegmented_answer table.entries label (block o table label) formed none)) (none, refl)
 
 -- the answer to a label that may be registered
 pub variants_answer-IsListing : (o : Settings) (table : TableValue) (label : List ℕ) → IsWellFormed table.entries → IsRegistrable label → IsListing o table label (variants_answer o table label)

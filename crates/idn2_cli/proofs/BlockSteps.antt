@@ -67,7 +67,7 @@ module _ (line : List ℕ → List ℕ) where
 
   -- ---- members of a rising list
 
-  get-above : (c : List ℕ) (vs : List (List ℕ)) (i : ℕ) → AllByRecursion (IsBelow c) vs → IfSome (slice_get vs i) (IsBelow c)
+  pub get-above : (c : List ℕ) (vs : List (List ℕ)) (i : ℕ) → AllByRecursion (IsBelow c) vs → IfSome (slice_get vs i) (IsBelow c)
   get-above c [] i h = tt
   get-above c (v ∷ vs) zero h = h.0
   get-above c (v ∷ vs) (suc i) h = get-above c vs i h.1
@@ -114,14 +114,14 @@ module _ (line : List ℕ → List ℕ) where
   abbrev pub lines_at : ℕ → Option ℕ → List (List ℕ) → List (List ℕ) → ℕ → List (List ℕ)
   lines_at count place vs cs tested = lines_to count (lesser_label (get_if_given vs place) (slice_get cs tested)) vs
 
-  add_none : (n : ℕ) → n + 0 ≡ n
+  pub add_none : (n : ℕ) → n + 0 ≡ n
   add_none n = omega arith
 
   add_later : (n m : ℕ) → n + suc m ≡ (n + 1) + m
   add_later n m = omega arith
 
   -- the first candidate is the stop, and a variant
-  stops_at_variant : (count : ℕ) (c : List ℕ) (vs : List (List ℕ)) (r : Option (List ℕ)) → AllByRecursion (IsBelow c) vs → r ≡ Some c → lines_to count r (c ∷ vs) ≡ line c ∷ trailer (count + 1) (Some c) ∷ []
+  pub stops_at_variant : (count : ℕ) (c : List ℕ) (vs : List (List ℕ)) (r : Option (List ℕ)) → AllByRecursion (IsBelow c) vs → r ≡ Some c → lines_to count r (c ∷ vs) ≡ line c ∷ trailer (count + 1) (Some c) ∷ []
   stops_at_variant count c vs r h e =
       ap (λ (s : Option (List ℕ)). lines_to count s (c ∷ vs)) e
       ∙ ap (λ (l : List (List ℕ)). map line l ++ trailer (count + length l) (Some c) ∷ []) (up_to-first c vs h)
@@ -134,7 +134,7 @@ module _ (line : List ℕ → List ℕ) where
       ∙ ap (λ (n : ℕ). trailer n (Some c) ∷ []) (add_none count)
 
   -- the stop comes later
-  stops_later : (count : ℕ) (c : List ℕ) (vs : List (List ℕ)) (r : Option (List ℕ)) → IfSome r (IsBelow c) → lines_to count r (c ∷ vs) ≡ line c ∷ lines_to (count + 1) r vs
+  pub stops_later : (count : ℕ) (c : List ℕ) (vs : List (List ℕ)) (r : Option (List ℕ)) → IfSome r (IsBelow c) → lines_to count r (c ∷ vs) ≡ line c ∷ lines_to (count + 1) r vs
   stops_later count c vs r h =
       ap (λ (l : List (List ℕ)). map line l ++ trailer (count + length l) r ∷ []) (up_to-later c vs r h)
       ∙ ap (λ (n : ℕ). line c ∷ (map line (up_to r vs) ++ trailer n r ∷ [])) (add_later count (length (up_to r vs)))
@@ -144,16 +144,16 @@ module _ (line : List ℕ → List ℕ) where
   limit_from count None = None
   limit_from count (Some i) = Some ((count + 1) + i)
 
-  reaches-now : (count : ℕ) → reaches (limit_from count (Some 0)) (count + 1) ≡ true
+  pub reaches-now : (count : ℕ) → reaches (limit_from count (Some 0)) (count + 1) ≡ true
   reaches-now count = ap (λ n. n == (count + 1)) (add_none (count + 1)) ∙ same (count + 1)
     where
       same : (n : ℕ) → (n == n) ≡ true
       same n = grind arith
 
-  reaches-later : (count i : ℕ) → reaches (limit_from count (Some (suc i))) (count + 1) ≡ false
+  pub reaches-later : (count i : ℕ) → reaches (limit_from count (Some (suc i))) (count + 1) ≡ false
   reaches-later count i = grind arith
 
-  limit_from-later : (count i : ℕ) → limit_from count (Some (suc i)) ≡ limit_from (count + 1) (Some i)
+  pub limit_from-later : (count i : ℕ) → limit_from count (Some (suc i)) ≡ limit_from (count + 1) (Some i)
   limit_from-later count i = ap (λ (n : ℕ). let o : Option ℕ = Some n in o) (omega arith)
 
   walk-zero : (accepts : List ℕ → Bool) (limit : Option ℕ) (count : ℕ) (last : List ℕ) (cs : List (List ℕ)) → walk accepts limit count last cs 0 ≡ trailer count (Some last) ∷ []

@@ -19,7 +19,9 @@ use Rattle.variant_list.proofs.ListMembers.{Contains-head, Contains-later, Conta
 use Rattle.variant_list.proofs.RecursionLemmas.{spelled-Spells}
 use Rattle.variant_list.proofs.SpellingLemmas.{Spells-itself, Spells-nothing, Spells-piece}
 use Rattle.idn2_cli.specs.Settings.{Settings}
-use Rattle.idn2_cli.specs.Answers.{block, is_registrable, is_allocatable, disposition_field, disposition, IsFieldOf, IsDisposition, stop_of, trailer, up_to, variant_line, variants_after}
+use Rattle.variant_list.specs.Variants.{variants}
+use Rattle.variant_list.proofs.RisingLists.{Contains-filter}
+use Rattle.idn2_cli.specs.Answers.{block, is_among, is_registrable, kept_to, is_allocatable, disposition_field, disposition, IsFieldOf, IsDisposition, stop_of, trailer, up_to, variant_line, variants_after}
 use Rattle.idn2_cli.specs.inner.Dispositions.{AreOfTable, AreOfLabel, CanBeCut, block_by, field_by}
 use Rattle.idn2_cli.specs.Transcript.{output_lines}
 use Rattle.idn2_cli.specs.declared.modes.dispositions.Dispositions.{Dispositions}
@@ -124,6 +126,11 @@ up_to-all : (P : List ℕ → Type 0) (stop : Option (List ℕ)) (vs : List (Lis
 up_to-all P None vs all = all
 up_to-all P (Some b) vs all = kept_all P (λ v. is_le (label_cmp v b)) vs all
 
+-- what a listing is kept to is in the list
+kept-listed : (labels : Option (List (List ℕ))) (vs : List (List ℕ)) (v : List ℕ) → Contains (kept_to labels vs) v → Contains vs v
+kept-listed None vs v at = at
+kept-listed (Some registered) vs v at = ((Contains-filter (is_among registered) vs v).0 at).1
+
 -- the block by the fields that are told is the block
 told-block : (o : Settings) (table : TableValue) (label : List ℕ) (told : Dispositions Built) → AreOfLabel table label told
     → block_by (field_by told) o table.entries label ≡ block_by (disposition table label) o table.entries label
@@ -132,7 +139,7 @@ told-block o table label told is =
     let stop = stop_of o table.entries label in
     let same : AllByRecursion (λ v. variant_line (field_by told v) v ≡ variant_line (disposition table label v) v) vs =
     all_members (λ v. variant_line (field_by told v) v ≡ variant_line (disposition table label v) v) vs
-    (λ v at. ap (λ field. variant_line field v) (field-is table label v told is (((variants-IsListed is_registrable table.entries label o.after).members v).0 at).spelled)) in
+    (λ v at. ap (λ field. variant_line field v) (field-is table label v told is (((variants-IsListed is_registrable table.entries label o.after).members v).0 (kept-listed o.registered (variants is_registrable table.entries label o.after) v at)).spelled)) in
     ap (λ lines. lines ++ trailer (length (up_to stop vs)) stop ∷ [])
     (map-same (λ v. variant_line (field_by told v) v) (λ v. variant_line (disposition table label v) v) (up_to stop vs) (up_to-all _ stop vs same))
 

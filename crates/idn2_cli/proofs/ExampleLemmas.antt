@@ -22,7 +22,7 @@ use Rattle.variant_list.specs.Spelled.{spelled}
 use Rattle.variant_list.specs.Variants.{variants, in_order}
 use Rattle.variant_list.specs.Examples.{a_or_two, letter_or_hyphen}
 use Rattle.idn2_cli.specs.Settings.{Settings}
-use Rattle.idn2_cli.specs.Answers.{block, block_to, disposition, is_registrable, lesser_label, nth, nth_if_given, one_line, tested_after}
+use Rattle.idn2_cli.specs.Answers.{block, block_to, disposition, is_registrable, kept_to, lesser_label, nth, nth_if_given, one_line, tested_after}
 use Rattle.std.specs.Char.{encode_utf8}
 use Rattle.std.specs.Str.{is_utf8, chars}
 use Rattle.idn_text.specs.Lines.{lines_of}
@@ -52,12 +52,12 @@ filter-passes after (v ∷ vs) ldh =
 -- the block of a label that spells such labels alone
 abbrev ldh_block : Settings → TableValue → List ℕ → List (List ℕ)
 ldh_block o table label =
-    let vs = variants passes table.entries label o.after in
+    let vs = kept_to o.registered (variants passes table.entries label o.after) in
     block_to (disposition table label) (lesser_label (nth_if_given vs o.limit) (nth (tested_after o table.entries label) o.tries)) vs
 
 block-ldh : (o : Settings) (table : TableValue) (label : List ℕ) → AllLdh (in_order (spelled table.entries label)) → block o table label ≡ ldh_block o table label
 block-ldh o table label ldh =
-    ap (λ (vs : List (List ℕ)). block_to (disposition table label) (lesser_label (nth_if_given vs o.limit) (nth (tested_after o table.entries label) o.tries)) vs)
+    ap (λ (all : List (List ℕ)). let vs = kept_to o.registered all in block_to (disposition table label) (lesser_label (nth_if_given vs o.limit) (nth (tested_after o table.entries label) o.tries)) vs)
     (filter-passes o.after (in_order (spelled table.entries label)) ldh)
 
 pub blocks : ExamplesOfBlocks

@@ -52,3 +52,7 @@ pub mod ExampleLemmas
 pub mod HopeLemmas
 -- A line that begins with a label's UTF-8, cut or lengthened.
 pub mod KeptLineLemmas
+-- A listing that is kept to registered labels, step by step.
+pub mod CollisionSteps
+-- The answer to a request is the least label from its text on.
+pub mod JumpAnswers

@@ -15,7 +15,8 @@ use Rattle.variant_list.specs.Spelling.{JoinsReplacements}
 use Rattle.variant_list.specs.Beginnings.{has_hope}
 use Rattle.variant_list.specs.Tested.{tested}
 use Rattle.variant_list.specs.Variants.{fits_label}
-use Rattle.variant_list.specs.Positions.{Position, tested_ahead}
+use Rattle.variant_list.specs.Positions.{Built, Position, tested_ahead}
+use Rattle.variant_list.specs.Jumps.{IsCandidate}
 use Rattle.variant_list.specs.Steps.{last_of, moved_over}
 use Rattle.variant_list.proofs.ListMembers.{Contains-head, Contains-later}
 use Rattle.variant_list.proofs.RecursionLemmas.{spelled-Spells}
@@ -23,7 +24,7 @@ use Rattle.variant_list.proofs.ListedLemmas.{variants-IsListed, variants-behind}
 use Rattle.variant_list.proofs.ListingLemmas.{fits_label-short}
 use Rattle.variant_list.proofs.TestedLaws.{variants_are_accepted_tested, tested-cut}
 use Rattle.variant_list.proofs.VariantLists.{both}
-use Rattle.idn2_cli.specs.Settings.{Settings, IsCount}
+use Rattle.idn2_cli.specs.Settings.{Settings, IsCount, keeping}
 use Rattle.idn2_cli.specs.Transcript.{Piece, Output, output_lines}
 use Rattle.idn2_cli.specs.Answers.{is_registrable, nth, nth_if_given, lesser_label, up_to, variant_line, trailer, block_to}
 use Rattle.idn2_cli.specs.inner.Dispositions.{block_by}
@@ -47,7 +48,7 @@ registrable-short v h = (MeetsRequirements-registrable v (is_registrable-from v 
 abbrev line_by : (List ℕ → List ℕ) → List ℕ → List ℕ
 line_by field v = variant_line (field v) v
 
-lines_to-none : (field : List ℕ → List ℕ) (stop : Option (List ℕ)) (vs : List (List ℕ)) → block_to field stop vs ≡ lines_to (line_by field) 0 stop vs
+pub lines_to-none : (field : List ℕ → List ℕ) (stop : Option (List ℕ)) (vs : List (List ℕ)) → block_to field stop vs ≡ lines_to (line_by field) 0 stop vs
 lines_to-none field stop vs = ap (λ (n : ℕ). map (line_by field) (up_to stop vs) ++ trailer n stop ∷ []) (omega arith)
 
 -- the block of lists is what the steps write
@@ -75,7 +76,7 @@ tested-rising : (table : List Entry) (label after : List ℕ) → IsRising (test
 tested-rising table label after = (variants-IsListed fits_with_hope table label after).rising
 
 pub block-walk : (field : List ℕ → List ℕ) (o : Settings) (table : List Entry) (label last : List ℕ) → IfSome o.limit IsCount → IsCount o.tries
-    → block_by field o table label ≡ walk (line_by field) is_registrable o.limit 0 last (tested hopeless table label (take 63 o.after)) o.tries
+    → block_by field (keeping None o) table label ≡ walk (line_by field) is_registrable o.limit 0 last (tested hopeless table label (take 63 o.after)) o.tries
 block-walk field o table label last limits count =
     let cs = tested hopeless table label o.after in
     ap (λ (vs : List (List ℕ)). block_to field (lesser_label (nth_if_given vs o.limit) (nth cs o.tries)) vs) (variants_are_accepted_tested is_registrable hopeless registrable-short none_hopeless table label o.after)
@@ -117,6 +118,13 @@ tested-writable table formed label after = all_members IsWritable (tested hopele
       short = fits_label-short v (both (fits_label v) (has_hope hopeless v) is.accepted).0;
       scalar_values = All-from_recursion IsScalarValue v (joins_scalar table formed spells.0 spells.1.of_table v spells.2);
     })
+
+-- a candidate can be written
+pub candidate-writable : (net : Built) → IsWellFormed net.table → (v : List ℕ) → IsCandidate net v → IsWritable v
+candidate-writable net formed v is = record {
+  short = is.short;
+  scalar_values = All-from_recursion IsScalarValue v (joins_scalar net.table formed is.spelled.0 is.spelled.1.of_table v is.spelled.2);
+}
 
 last_of-writable : (start : List ℕ) (passed : List (List ℕ)) → IsWritable start → AllByRecursion IsWritable passed → IsWritable (last_of start passed)
 last_of-writable start [] h all = h

@@ -1,15 +1,16 @@
 -- From the lines of the input, or none, to the end of a run.
-use Rattle.std.proofs.Common.{inl, inr, ◌⊎◌, ◌≡◌, ◌≢◌, ℕ, List, [], false, Result, Ok, Err, IfOk, refl, sym, ap, subst, ◌∙◌}
+use Rattle.std.proofs.Common.{Option, inl, inr, ◌⊎◌, ◌≡◌, ◌≢◌, ℕ, List, [], false, Result, Ok, Err, IfOk, refl, sym, ap, subst, ◌∙◌}
 use Rattle.idn_text.specs.Reading.{Reading, IsUnread}
 use Rattle.idn_text.specs.declared.refusal.Refusal.{Refusal}
 use Rattle.idn_text.proofs.ReadingLemmas.{has_read_nothing}
 use Rattle.std.proofs.lemmas.Bool.{false≢true}
-use Rattle.idn2_cli.specs.Settings.{Settings}
+use Rattle.idn2_cli.specs.Settings.{Settings, keeping}
+use Rattle.idn2_cli.specs.Memory.{NeedsNoMemory}
 use Rattle.idn2_cli.specs.Transcript.{TableGiven, IsReadAs, IsTableOf, Piece, check_pieces, check_status}
-use Rattle.idn2_cli.specs.Ends.{Held, TakesText, closing_message, Job, Does, Closes, mode_job, refusal_of}
+use Rattle.idn2_cli.specs.Ends.{Held, TakesText, closing_message, Job, Does, Ends, Closes, mode_job, refusal_of}
 use Rattle.idn2_cli.specs.inner.Emitting.{Emits}
 use Rattle.idn2_cli.specs.declared.command_line.mode.Mode.{Mode}
-use Rattle.idn2_cli.specs.declared.command_line.mode.Mode.TheVariants.{Variants, CheckTable}
+use Rattle.idn2_cli.specs.declared.command_line.mode.Mode.TheVariants.{Variants, Jump, CheckTable}
 use Rattle.idn2_cli.specs.declared.session.status.Status.{Status}
 use Rattle.idn2_cli.specs.declared.session.stop.Stop.{Stop}
 use Rattle.idn2_cli.specs.declared.session.stop.Stop.TheVariants as stop
@@ -74,39 +75,70 @@ pub emits_memory : {A : Type 0} (old : Held) (pieces : List Piece) (r : Result A
 emits_memory {A} old pieces r why e memory =
     subst (λ (s : Result A Stop). Emits old old pieces s) (sym (e ∙ ap Err memory)) (stops_first old pieces)
 
--- memory was refused while the table was read
-pub unread_stopped : (o : Settings) (text : List ℕ) (start : Reading) (old : Held) (r : Result Status Stop) (why : Stop)
-    → o.mode ≡ Variants → IsUnread start → r ≡ Err why → why ≡ stop.Memory
-    → (table : TableGiven) × IsTableOf o.mode text table × Does (mode_job o table) start start old old r
-unread_stopped o text start old r why e unread is memory =
-    let t = some_table text in
-    let job = mode_job (record o { mode = Variants }) t.0 in
-    as_mode o Variants text t.0 job start start old old r e t.1 refl
-    (does_unread job start old old r unread (emits_memory old (job.pieces []) r why is memory)
-    (subst (λ (s : Result Status Stop). IfOk s (λ status. (job.reads ≡ false) × (status ≡ job.status []))) (sym is) tt) (λ _ none. none))
+-- ---- a mode that answers lines by a table, as the listing does
 
--- the fault of a table is told
-pub faulty : (o : Settings) (text : List ℕ) (line : ℕ) (refusal : Refusal) (start : Reading) (old new : Held) (r : Result Status Stop)
-    → o.mode ≡ Variants → IsReadAs text (Err (line, refusal)) → IsUnread start → Emits old new (check_pieces (Err (line, refusal))) r → IfOk r (λ status. status ≡ check_status (Err (line, refusal)))
-    → (table : TableGiven) × IsTableOf o.mode text table × Does (mode_job o table) start start old new r
-faulty o text line refusal start old new r e read unread writes answered =
-    let job = mode_job (record o { mode = Variants }) (Err (line, refusal)) in
-    as_mode o Variants text (Err (line, refusal)) job start start old new r e read refl (does_unread job start old new r unread writes (with_false r _ answered) (λ _ none. none))
+-- its table is the one that the text spells, and no line is said to be answered without memory
+pub record WorksByTable (o : Settings) (mode : Mode) : Type 0 where
+  pub named : o.mode ≡ mode
+  pub reads : (text : List ℕ) (given : TableGiven) → IsReadAs text given → IsTableOf mode text given
+  pub needs : (p : Settings) (line : List ℕ) → ¬ NeedsNoMemory mode p line
 
--- a table that is not read, in the listing of variants
-pub refused_variants : (o : Settings) (text : List ℕ) (fault : TableFault) (start : Reading) (old new : Held) (r : Result Status Stop)
-    → o.mode ≡ Variants → IsUnread start → IsToldOf text fault
-    → MatchOption (told_of fault) ((r ≡ Err stop.Memory) × (new ≡ old)) (λ told. Emits old new (check_pieces (Err told)) r)
-    → IfOk r (λ status. status ≡ Unusable)
-    → (table : TableGiven) × IsTableOf o.mode text table × Does (mode_job o table) start start old new r
-refused_variants o text fault start old new r e unread is told answered = by (refused_table text fault old new r is told)
+pub lists_by_table : (o : Settings) → o.mode ≡ Variants → WorksByTable o Variants
+lists_by_table o is = record { named = is; reads = λ text given read. read; needs = λ p line none. none }
+
+pub jumps_by_table : (o : Settings) → o.mode ≡ Jump → WorksByTable o Jump
+jumps_by_table o is = record { named = is; reads = λ text given read. read; needs = λ p line none. none }
+
+module _ (o : Settings) (mode : Mode) (works : WorksByTable o mode) (text : List ℕ) (start : Reading) where
+  -- memory was refused while the table was read
+  pub unread_stopped : (old : Held) (r : Result Status Stop) (why : Stop) → IsUnread start → r ≡ Err why → why ≡ stop.Memory
+      → (table : TableGiven) × IsTableOf o.mode text table × Does (mode_job o table) start start old old r
+  unread_stopped old r why unread is memory =
+      let t = some_table text in
+      let job = mode_job (record o { mode = mode }) t.0 in
+      as_mode o mode text t.0 job start start old old r works.named (works.reads text t.0 t.1) refl
+      (does_unread job start old old r unread (emits_memory old (job.pieces []) r why is memory)
+      (subst (λ (s : Result Status Stop). IfOk s (λ status. (job.reads ≡ false) × (status ≡ job.status []))) (sym is) tt) (works.needs (record o { mode = mode })))
+
+  -- the fault of the table is told
+  faulty : (line : ℕ) (refusal : Refusal) (old new : Held) (r : Result Status Stop)
+      → IsReadAs text (Err (line, refusal)) → IsUnread start → Emits old new (check_pieces (Err (line, refusal))) r → IfOk r (λ status. status ≡ check_status (Err (line, refusal)))
+      → (table : TableGiven) × IsTableOf o.mode text table × Does (mode_job o table) start start old new r
+  faulty line refusal old new r read unread writes answered =
+      let job = mode_job (record o { mode = mode }) (Err (line, refusal)) in
+      as_mode o mode text (Err (line, refusal)) job start start old new r works.named (works.reads text (Err (line, refusal)) read) refl
+      (does_unread job start old new r unread writes (with_false r _ answered) (works.needs (record o { mode = mode })))
+
+  -- the table is not read
+  pub refused_lines : (fault : TableFault) (old new : Held) (r : Result Status Stop) → IsUnread start → IsToldOf text fault
+      → MatchOption (told_of fault) ((r ≡ Err stop.Memory) × (new ≡ old)) (λ told. Emits old new (check_pieces (Err told)) r)
+      → IfOk r (λ status. status ≡ Unusable)
+      → (table : TableGiven) × IsTableOf o.mode text table × Does (mode_job o table) start start old new r
+  refused_lines fault old new r unread is told answered = by (refused_table text fault old new r is told)
+    where
+      by : ((r ≡ Err stop.Memory) × (new ≡ old)) ⊎ ((told : ℕ × Refusal) × IsReadAs text (Err told) × Emits old new (check_pieces (Err told)) r)
+          → (table : TableGiven) × IsTableOf o.mode text table × Does (mode_job o table) start start old new r
+      by (inl memory) =
+          subst (λ (h : Held). (table : TableGiven) × IsTableOf o.mode text table × Does (mode_job o table) start start old h r) (sym memory.1)
+          (unread_stopped old r stop.Memory unread memory.0 refl)
+      by (inr t) = faulty t.0.0 t.0.1 old new r t.1 unread t.2 answered
+
+-- the same job under another name
+pub does_as : (job other : Job) (start now : Reading) (old new : Held) (r : Result Status Stop) → job ≡ other → Does job start now old new r → Does other start now old new r
+does_as job other start now old new r same done = subst (λ (j : Job). Does j start now old new r) same done
+
+pub ends_as : (job other : Job) (start now : Reading) (old new : Held) (status : Status) → job ≡ other → Ends job start now old new status → Ends other start now old new status
+ends_as job other start now old new status same done = subst (λ (j : Job). Ends j start now old new status) same done
+
+-- to answer requests, whatever labels listings are kept to
+pub jump_job-kept : (o : Settings) (labels : Option (List (List ℕ))) (given : TableGiven) → o.mode ≡ Jump → mode_job o given ≡ mode_job (keeping labels o) given
+jump_job-kept o labels given is =
+    ap (λ (m : Mode). mode_job (record o { mode = m }) given) is ∙ kept given
+    ∙ sym (ap (λ (m : Mode). mode_job (record (keeping labels o) { mode = m }) given) is)
   where
-    by : ((r ≡ Err stop.Memory) × (new ≡ old)) ⊎ ((told : ℕ × Refusal) × IsReadAs text (Err told) × Emits old new (check_pieces (Err told)) r)
-        → (table : TableGiven) × IsTableOf o.mode text table × Does (mode_job o table) start start old new r
-    by (inl memory) =
-        subst (λ (h : Held). (table : TableGiven) × IsTableOf o.mode text table × Does (mode_job o table) start start old h r) (sym memory.1)
-        (unread_stopped o text start old r stop.Memory e unread memory.0 refl)
-    by (inr t) = faulty o text t.0.0 t.0.1 start old new r e t.1 unread t.2 answered
+    kept : (given : TableGiven) → mode_job (record o { mode = Jump }) given ≡ mode_job (record (keeping labels o) { mode = Jump }) given
+    kept (Err fault) = refl
+    kept (Ok table) = refl
 
 -- a table that is not read, in the check of a table
 pub refused_check : (text : List ℕ) (fault : TableFault) (old new : Held) (r : Result Status Stop) → IsToldOf text fault

@@ -2,14 +2,13 @@
 use Rattle.std.proofs.Common.{◌≡◌, ◌≢◌, ◌<◌, ◌≤◌, ◌==◌, ◌⊎◌, inl, inr, ℕ, List, [], ◌∷◌, Bool, false, Ok, Err, length, refl, ap, if◌then◌else◌, arith}
 use Rattle.std.proofs.lemmas.Bool.Decides.{nat_tests}
 use Rattle.idn_text.specs.declared.refusal.Refusal.TheVariants.{NotInTable}
-use Rattle.variant_table.specs.Entries.{Entry, TableValue}
+use Rattle.variant_table.specs.Entries.{Entry}
 use Rattle.variant_table.specs.WellFormed.{IsWellFormed}
 use Rattle.variant_list.specs.Segmentations.{HasSegmentation}
 use Rattle.variant_list.specs.Spelled.{spelled}
 use Rattle.variant_list.proofs.RecursionLemmas.{spelled-Spells}
 use Rattle.variant_list.proofs.NetLemmas.{segmented, unsegmented}
-use Rattle.idn2_cli.specs.Settings.{Settings}
-use Rattle.idn2_cli.specs.Answers.{block, LineAnswer, listing_answer}
+use Rattle.idn2_cli.specs.Answers.{LineAnswer, if_segmented}
 
 empty_or_some : {X : Type 0} (xs : List X) → (xs ≡ []) ⊎ (0 < length xs)
 empty_or_some [] = inl refl
@@ -25,21 +24,21 @@ some-length label some = by_cases (empty_or_some label)
     by_cases (inl e) = absurd (some e)
     by_cases (inr lt) = omega (arith, lt)
 
--- a label that can be cut is answered by its block
-pub listing_answer-segmented : (o : Settings) (table : TableValue) (label : List ℕ) → IsWellFormed table.entries → HasSegmentation table.entries label → listing_answer o table label ≡ Ok (block o table label)
-listing_answer-segmented o table label formed has = by_cases (empty_or_some (spelled table.entries label))
+-- a label that can be cut is answered by its lines
+pub segmented_answer : (table : List Entry) (label : List ℕ) (lines : List (List ℕ)) → IsWellFormed table → HasSegmentation table label → if_segmented table label lines ≡ Ok lines
+segmented_answer table label lines formed has = by_cases (empty_or_some (spelled table label))
   where
-    by_cases : (spelled table.entries label ≡ []) ⊎ (0 < length (spelled table.entries label)) → listing_answer o table label ≡ Ok (block o table label)
-    by_cases (inl e) = absurd (unsegmented table.entries label (spelled table.entries label) (λ v. spelled-Spells table.entries label v formed.entries) e has)
-    by_cases (inr lt) = ap (λ (b : Bool). let r : LineAnswer = if b then Err NotInTable else Ok (block o table label) in r) (some_test (length (spelled table.entries label)) lt)
+    by_cases : (spelled table label ≡ []) ⊎ (0 < length (spelled table label)) → if_segmented table label lines ≡ Ok lines
+    by_cases (inl e) = absurd (unsegmented table label (spelled table label) (λ v. spelled-Spells table label v formed.entries) e has)
+    by_cases (inr lt) = ap (λ (b : Bool). let r : LineAnswer = if b then Err NotInTable else Ok lines in r) (some_test (length (spelled table label)) lt)
 
 -- any other is refused
-pub listing_answer-unsegmented : (o : Settings) (table : TableValue) (label : List ℕ) → IsWellFormed table.entries → (HasSegmentation table.entries label → ⊥) → listing_answer o table label ≡ Err NotInTable
-listing_answer-unsegmented o table label formed none = by_cases (empty_or_some (spelled table.entries label))
+pub unsegmented_answer : (table : List Entry) (label : List ℕ) (lines : List (List ℕ)) → IsWellFormed table → (HasSegmentation table label → ⊥) → if_segmented table label lines ≡ Err NotInTable
+unsegmented_answer table label lines formed none = by_cases (empty_or_some (spelled table label))
   where
-    by_cases : (spelled table.entries label ≡ []) ⊎ (0 < length (spelled table.entries label)) → listing_answer o table label ≡ Err NotInTable
-    by_cases (inl e) = ap (λ (xs : List (List ℕ)). let r : LineAnswer = if length xs == 0 then Err NotInTable else Ok (block o table label) in r) e
-    by_cases (inr lt) = absurd (none (segmented table.entries label (spelled table.entries label) (λ v. spelled-Spells table.entries label v formed.entries) lt))
+    by_cases : (spelled table label ≡ []) ⊎ (0 < length (spelled table label)) → if_segmented table label lines ≡ Err NotInTable
+    by_cases (inl e) = ap (λ (xs : List (List ℕ)). let r : LineAnswer = if length xs == 0 then Err NotInTable else Ok lines in r) e
+    by_cases (inr lt) = absurd (none (segmented table label (spelled table label) (λ v. spelled-Spells table label v formed.entries) lt))
 
 -- a label can be cut into sources of the table, or not
 pub segmented_or_not : (table : List Entry) (label : List ℕ) → IsWellFormed table → HasSegmentation table label ⊎ (HasSegmentation table label → ⊥)

@@ -1,7 +1,7 @@
 -- What a line of input is answered: lines for the output, or a refusal.
-use Rattle.std.specs.Prelude.{◌≡◌, ◌⊎◌, ℕ, ◌≤◌, ◌==◌, Bool, bytes_eq, List, [], ◌∷◌, ◌++◌, length, chars, Option, Some, None, Result, Ok, Err, if◌then◌else◌, ◌-◌, map, filter, codes}
+use Rattle.std.specs.Prelude.{◌≡◌, ◌⊎◌, ℕ, ◌≤◌, ◌==◌, Bool, bytes_eq, Contains, List, [], ◌∷◌, ◌++◌, length, chars, Option, Some, None, Result, Ok, Err, if◌then◌else◌, ◌-◌, map, filter, codes}
 use Rattle.std.specs.Str.{is_utf8}
-use Rattle.std.specs.List.{list_any, slice_get}
+use Rattle.std.specs.List.{list_any, slice_get, before_first, after_first}
 use Rattle.std.specs.Option.{is_none}
 use Rattle.std.specs.Ordering.{is_le}
 use Rattle.std.specs.Fmt.{decimal}
@@ -21,13 +21,15 @@ use Rattle.variant_table.specs.Entries.{Entry, TableValue, unblocked}
 use Rattle.variant_list.specs.Spelled.{spelled}
 use Rattle.idn2_cli.specs.Settings.{Settings}
 use Rattle.idn2_cli.specs.declared.command_line.mode.Mode.{Mode}
-use Rattle.idn2_cli.specs.declared.command_line.mode.Mode.TheVariants.{Lookup, Register, Decode, Variants, CheckTable}
+use Rattle.idn2_cli.specs.declared.command_line.mode.Mode.TheVariants.{Lookup, Register, Decode, Variants, Jump, CheckTable}
 use Rattle.idn_label.specs.ALabel.{a_label_of}
 use Rattle.variant_list.specs.Labels.{label_cmp, IsBelow, IsListOf}
 use Rattle.variant_list.specs.Segmentations.{HasSegmentation}
 use Rattle.variant_list.specs.Spelling.{Spells}
 use Rattle.variant_list.specs.Tested.{tested}
 use Rattle.variant_list.specs.Variants.{variants}
+use Rattle.variant_list.specs.Positions.{Built}
+use Rattle.variant_list.specs.Jumps.{IsCandidate, IsLeastFrom, HasNoneFrom, candidates_from}
 
 -- ---- the block of a label: a line for each of its variants, and a trailer that says where the listing ends
 
@@ -35,9 +37,18 @@ use Rattle.variant_list.specs.Variants.{variants}
 abbrev pub is_registrable : List ℕ → Bool
 is_registrable label = is_none (first_fault label)
 
--- the registrable labels that the label spells, after the text of the settings
+-- whether a label is one of these
+abbrev pub is_among : List (List ℕ) → List ℕ → Bool
+is_among labels v = list_any (bytes_eq v) labels
+
+-- the labels to which a listing is kept: all, or those of them that are registered
+abbrev pub kept_to : Option (List (List ℕ)) → List (List ℕ) → List (List ℕ)
+kept_to None labels = labels
+kept_to (Some registered) labels = filter (is_among registered) labels
+
+-- the registrable labels that the label spells, after the text of the settings, as far as the listing is kept to them
 abbrev pub variants_after : Settings → List Entry → List ℕ → List (List ℕ)
-variants_after o table label = variants is_registrable table label o.after
+variants_after o table label = kept_to o.registered (variants is_registrable table label o.after)
 
 -- the n-th of the labels, counted from 1, if there is one
 abbrev pub nth : List (List ℕ) → ℕ → Option (List ℕ)
@@ -54,10 +65,14 @@ lesser_label None b = b
 lesser_label (Some a) None = Some a
 lesser_label (Some a) (Some b) = if is_le (label_cmp a b) then Some a else Some b
 
--- the labels that a listing tests: those of at most 63 code points that the label spells, after the text of the settings, no
--- beginning of which is hopeless
+-- the labels that a listing tests: all of these, or none where it is kept to registered labels, which may be registered
+abbrev pub tested_unless_kept : Option (List (List ℕ)) → List (List ℕ) → List (List ℕ)
+tested_unless_kept None labels = labels
+tested_unless_kept (Some registered) labels = []
+
+-- of the labels of at most 63 code points that the label spells, after the text of the settings, no beginning of which is hopeless
 abbrev pub tested_after : Settings → List Entry → List ℕ → List (List ℕ)
-tested_after o table label = tested hopeless table label o.after
+tested_after o table label = tested_unless_kept o.registered (tested hopeless table label o.after)
 
 -- the stop of a listing: the limit-th variant or the tries-th tested label, the lesser of those that exist
 abbrev pub stop_of : Settings → List Entry → List ℕ → Option (List ℕ)
@@ -101,6 +116,20 @@ abbrev pub block : Settings → TableValue → List ℕ → List (List ℕ)
 block o table label =
     block_to (disposition table label) (stop_of o table.entries label) (variants_after o table.entries label)
 
+-- ---- the least label from a text on
+
+-- the label of a request and its text, which stand before and after the first tab; without a tab the text is empty
+abbrev pub requested_label : List ℕ → List ℕ
+requested_label line = before_first (λ c. c == 9) line
+
+abbrev pub requested_text : List ℕ → List ℕ
+requested_text line = after_first (λ c. c == 9) line
+
+-- a label, or that there is none
+abbrev pub jump_line : Option (List ℕ) → List ℕ
+jump_line None = codes "#end"
+jump_line (Some v) = utf8_of v
+
 -- ---- the answer to a line
 
 -- the lines of an answer without their line feeds, or why there is none
@@ -112,14 +141,27 @@ abbrev pub one_line : Result (List ℕ) Refusal → LineAnswer
 one_line (Ok line) = Ok (line ∷ [])
 one_line (Err refusal) = Err refusal
 
--- the block of a label, if it can be cut into sources of the table
+-- these lines for a label that can be cut into sources of the table; any other label is refused
+abbrev pub if_segmented : List Entry → List ℕ → List (List ℕ) → LineAnswer
+if_segmented table label lines = if length (spelled table label) == 0 then Err NotInTable else Ok lines
+
+-- the block of such a label
 abbrev pub listing_answer : Settings → TableValue → List ℕ → LineAnswer
-listing_answer o table label =
-    if length (spelled table.entries label) == 0 then Err NotInTable else Ok (block o table label)
+listing_answer o table label = if_segmented table.entries label (block o table label)
 
 -- the same, where the label may be registered; its first fault is reported before that
 abbrev pub variants_answer : Settings → TableValue → List ℕ → LineAnswer
 variants_answer o table label = unless_fault (first_fault label) (listing_answer o table label)
+
+-- the least label from a text on that such a label spells
+abbrev pub least_answer : TableValue → List ℕ → List ℕ → LineAnswer
+least_answer table label text =
+    if_segmented table.entries label (jump_line (slice_get (candidates_from table.entries label text) 0) ∷ [])
+
+-- the same of a request, whose label may be registered; its first fault is reported before that
+abbrev pub jump_answer : TableValue → List ℕ → LineAnswer
+jump_answer table line =
+    unless_fault (first_fault (requested_label line)) (least_answer table (requested_label line) (requested_text line))
 
 -- the answer of a mode to the code points of a line. The check of a table reads no line
 abbrev pub mode_answer : Mode → Settings → TableValue → List ℕ → LineAnswer
@@ -127,6 +169,7 @@ mode_answer Lookup o table name = one_line (lookup_answer name o.std3)
 mode_answer Register o table label = one_line (register_answer label)
 mode_answer Decode o table name = one_line (in_utf8 (decode_answer name))
 mode_answer Variants o table label = variants_answer o table label
+mode_answer Jump o table line = jump_answer table line
 mode_answer CheckTable o table label = Ok []
 
 -- the answer to the bytes of a line, of a mode that answers code points: they are UTF-8, and not empty
@@ -141,19 +184,27 @@ line_answer answer (Some bytes) = text_answer answer bytes
 
 -- ---- the same block, by what its lines have to be: no list is computed here
 
+-- the listing is kept to no labels, or to these, of which v is one
+abbrev pub IsKept : Option (List (List ℕ)) → List ℕ → Type 0
+IsKept None v = Unit {0}
+IsKept (Some registered) v = Contains registered v
+
 -- a registrable label, greater than the text of the settings, that arises by cutting the label into sources of the table and
--- replacing each by itself or one of its variants
+-- replacing each by itself or one of its variants; and which is registered, if the listing is kept to registered labels
 pub record IsListed (o : Settings) (table : List Entry) (label v : List ℕ) : Type 0 where
   pub registrable : IsRegistrable v
   pub greater : IsBelow o.after v
   pub spelled : Spells table label v
+  pub kept : IsKept o.registered v
 
--- a label of at most 63 code points that arises so, greater than the text, with no hopeless beginning
+-- a label of at most 63 code points that arises so, greater than the text, with no hopeless beginning; none, if the listing is
+-- kept to registered labels
 pub record IsTried (o : Settings) (table : List Entry) (label v : List ℕ) : Type 0 where
   pub short : length v ≤ 63
   pub hope : HasHope v
   pub greater : IsBelow o.after v
   pub spelled : Spells table label v
+  pub all : o.registered ≡ None
 
 -- a field that says whether this holds, in the words of version 2; version 1 has none
 abbrev pub IsFieldOf : Version → Type 0 → List ℕ → Type 0
@@ -183,3 +234,22 @@ pub record IsBlock (o : Settings) (table : TableValue) (label : List ℕ) (lines
 abbrev pub IsListing : Settings → TableValue → List ℕ → LineAnswer → Type 0
 IsListing o table label (Ok lines) = HasSegmentation table.entries label × IsBlock o table label lines
 IsListing o table label (Err refusal) = (¬ HasSegmentation table.entries label) × (refusal ≡ NotInTable)
+
+-- ---- the least label from a text on, by what it has to be
+
+-- a net of this table and label
+abbrev pub built : List Entry → List ℕ → Built
+built table label = record { table = table; label = label }
+
+-- the line is the least label of at most 63 code points that the label spells and that is no less than the text; or there is none
+abbrev pub IsJump : List Entry → List ℕ → List ℕ → List ℕ → Type 0
+IsJump table label text line =
+    ((v : List ℕ) × IsLeastFrom (IsCandidate (built table label)) text v × (line ≡ utf8_of v))
+    ⊎ (HasNoneFrom (IsCandidate (built table label)) text × (line ≡ codes "#end"))
+
+-- a request whose label can be cut into sources of the table is answered by one line, and any other is refused
+abbrev pub IsJumpAnswer : TableValue → List ℕ → LineAnswer → Type 0
+IsJumpAnswer table request (Ok lines) =
+    HasSegmentation table.entries (requested_label request)
+    × ((line : List ℕ) × (lines ≡ line ∷ []) × IsJump table.entries (requested_label request) (requested_text request) line)
+IsJumpAnswer table request (Err refusal) = (¬ HasSegmentation table.entries (requested_label request)) × (refusal ≡ NotInTable)

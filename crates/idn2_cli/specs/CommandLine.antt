@@ -3,7 +3,7 @@
 use Rattle.std.specs.Prelude.{ℕ, ◌^◌, ◌-◌, Some, codes, true}
 use Rattle.clap.specs.Words.{App, Rule, Text, new_app, new_rule, with_rule}
 use Rattle.clap.specs.declared.builder.ArgAction.TheVariants.{SetTrue, Set, Append}
-use Rattle.idn2_cli.specs.declared.command_line.arguments.TheConstants.{AFTER, CHECK_TABLE, DECODE, LIMIT, LOOKUP, QUIET, REGISTER, STD3, STRINGS, TR46NT, TRIES, VARIANTS}
+use Rattle.idn2_cli.specs.declared.command_line.arguments.TheConstants.{AFTER, AMONG, CHECK_TABLE, DECODE, JUMP, LIMIT, LOOKUP, QUIET, REGISTER, STD3, STRINGS, TR46NT, TRIES, VARIANTS}
 
 -- a flag, `--name`
 abbrev pub flag_rule : Text → Rule
@@ -33,6 +33,12 @@ with_modes a = with_rule (with_rule (with_rule (with_rule (with_rule a
     (value_rule VARIANTS.now))
     (value_rule CHECK_TABLE.now)
 
+-- `--among FILE`, `--jump`
+abbrev pub with_collisions : App → App
+with_collisions a = with_rule (with_rule a
+    (value_rule AMONG.now))
+    (flag_rule JUMP.now)
+
 -- `-N`, `--usestd3asciirules`, `--quiet`
 abbrev pub with_switches : App → App
 with_switches a = with_rule (with_rule (with_rule a
@@ -53,5 +59,5 @@ versioned_app name = record (new_app name) { top = record (new_app name).top { h
 
 -- `idn2`; building it adds `-h`, `--help`, `-V` and `--version`
 unfoldable pub app : App
-app = with_rule (with_bounds (with_switches (with_modes (versioned_app (codes "idn2")))))
+app = with_rule (with_bounds (with_switches (with_collisions (with_modes (versioned_app (codes "idn2"))))))
     (strings_rule STRINGS.now)

@@ -2,7 +2,9 @@
 use Rattle.std.specs.Prelude.{◌≡◌, ℕ, List, ◌⊎◌, ◌++◌, codes, ◌≢◌, ◌<◌, [], ◌∷◌, length, take, true, Result, MatchResult, Bool, false, IsTrue, Ok, Err}
 use Rattle.std.specs.Io.KnownBytes.{Appends}
 use Rattle.idn_text.specs.Writers.{Writer, Fails, TakesWhole, TakesPart}
-use Rattle.idn2_cli.specs.Transcript.{Piece, output_of, messages_of, Output, Message, told, lines_pieces, has_refused, status_if, transcript, status_of, TableGiven}
+use Rattle.idn2_cli.specs.Transcript.{Piece, output_of, messages_of, Output, Message, told, lines_pieces, has_refused, registered_message, status_if, transcript, status_of, TableGiven}
+use Rattle.registered_labels.specs.declared.labels.RegisterFault.{RegisterFault}
+use Rattle.registered_labels.specs.declared.labels.RegisterFault.TheVariants as registers
 use Rattle.idn_text.specs.declared.refusal.Refusal.{Refusal}
 use Rattle.idn_text.specs.declared.refusal.Refusal.TheVariants.{Usage, ReadFault, WriteFault, Memory}
 use Rattle.idn2_cli.specs.declared.session.status.Status.{Status}
@@ -164,6 +166,15 @@ closing_status ReadFault = Faulty
 closing_status WriteFault = Faulty
 closing_status Memory = OutOfMemory
 closing_status _ = Unusable
+
+-- what is told of a file that is not read as registered labels, and the status
+abbrev pub unread_message : RegisterFault → List ℕ
+unread_message (registers.Refused line refusal) = registered_message line refusal
+unread_message registers.Memory = closing_message Memory
+
+abbrev pub unread_status : RegisterFault → Status
+unread_status (registers.Refused line refusal) = Unusable
+unread_status registers.Memory = OutOfMemory
 
 -- a writer took the text, or a proper prefix of it where it failed
 abbrev pub TakesText : List ℕ → Writer → Writer → Type 0

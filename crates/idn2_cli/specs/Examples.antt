@@ -44,7 +44,7 @@ pub record ExamplesOfLines (answer : List ℕ → LineAnswer) : Type 0 where
 -- a run of the mode, with no other option
 abbrev pub plain_run : Mode → List (List ℕ) → Settings
 plain_run mode strings =
-    record { mode = mode; std3 = false; file = []; strings = strings; after = []; limit = None; tries = 1000000 }
+    record { mode = mode; std3 = false; file = []; strings = strings; after = []; limit = None; tries = 1000000; among = None; registered = None }
 
 -- a listing from the start, with these bounds
 abbrev pub listing : Option ℕ → ℕ → Settings

@@ -1,5 +1,5 @@
 -- Laws of the definitions.
-use Rattle.std.specs.Prelude.{◌≡◌, ◌≢◌, ℕ, Bool, true, false, List, [], codes}
+use Rattle.std.specs.Prelude.{◌≡◌, ◌≢◌, ◌&&◌, ℕ, Bool, not, true, false, List, [], codes}
 use Rattle.clap.specs.Words.{Row}
 use Rattle.variant_table.specs.declared.version.Version.TheVariants.{One, Two}
 use Rattle.variant_table.specs.Entries.{Entry, TableValue, has_blocked, unblocked}
@@ -9,15 +9,16 @@ use Rattle.variant_list.specs.Spelling.{Spells}
 use Rattle.idn2_cli.specs.Answers.{disposition}
 use Rattle.idn2_cli.specs.Words.{has_flag, has_value, is_allowed, mode_of}
 use Rattle.idn2_cli.specs.declared.command_line.mode.Mode.{Mode}
-use Rattle.idn2_cli.specs.declared.command_line.mode.Mode.TheVariants.{Lookup, Register, Decode, Variants, CheckTable}
-use Rattle.idn2_cli.specs.declared.command_line.arguments.TheConstants.{CHECK_TABLE, DECODE, LOOKUP, REGISTER, VARIANTS}
+use Rattle.idn2_cli.specs.declared.command_line.mode.Mode.TheVariants.{Lookup, Register, Decode, Variants, Jump, CheckTable}
+use Rattle.idn2_cli.specs.declared.command_line.arguments.TheConstants.{CHECK_TABLE, DECODE, JUMP, LOOKUP, REGISTER, VARIANTS}
 
 -- a word of the command line names the mode
 abbrev pub is_named : Mode → List Row → Bool
 is_named Lookup rows = has_flag LOOKUP.now rows
 is_named Register rows = has_flag REGISTER.now rows
 is_named Decode rows = has_flag DECODE.now rows
-is_named Variants rows = has_value VARIANTS.now rows
+is_named Variants rows = has_value VARIANTS.now rows && not (has_flag JUMP.now rows)
+is_named Jump rows = has_flag JUMP.now rows
 is_named CheckTable rows = has_value CHECK_TABLE.now rows
 
 -- the mode is the one that is named, or lookup where none is; where two are named, the words are refused

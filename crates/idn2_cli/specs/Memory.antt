@@ -4,7 +4,7 @@ use Rattle.idna.specs.Labels.{labels_of}
 use Rattle.idn_label.specs.Memory.{LooksUpWithoutMemory, RegistersWithoutMemory, DecodesWithoutMemory}
 use Rattle.idn2_cli.specs.Settings.{Settings}
 use Rattle.idn2_cli.specs.declared.command_line.mode.Mode.{Mode}
-use Rattle.idn2_cli.specs.declared.command_line.mode.Mode.TheVariants.{Lookup, Register, Decode, Variants, CheckTable}
+use Rattle.idn2_cli.specs.declared.command_line.mode.Mode.TheVariants.{Lookup, Register, Decode, Variants, Jump, CheckTable}
 
 -- the bytes of a name in ASCII of which each label is decoded without memory
 abbrev pub DecodesLineWithoutMemory : List ℕ → Type 0
@@ -16,6 +16,7 @@ NeedsNoMemory Lookup o line = LooksUpWithoutMemory o.std3 line
 NeedsNoMemory Register o line = RegistersWithoutMemory (chars line)
 NeedsNoMemory Decode o line = DecodesLineWithoutMemory line
 NeedsNoMemory Variants o line = ⊥
+NeedsNoMemory Jump o line = ⊥
 NeedsNoMemory CheckTable o line = ⊥
 
 -- the body of a line; one that is too long is refused without memory

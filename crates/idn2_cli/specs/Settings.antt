@@ -2,9 +2,10 @@
 use Rattle.std.specs.Prelude.{◌≡◌, ◌≢◌, ◌≤◌, ℕ, Bool, List, [], Option, None, IfSome, length}
 use Rattle.idn_text.specs.Points.{AreScalarValues}
 use Rattle.idn2_cli.specs.declared.command_line.mode.Mode.{Mode}
-use Rattle.idn2_cli.specs.declared.command_line.mode.Mode.TheVariants.{Variants, CheckTable}
+use Rattle.idn2_cli.specs.declared.command_line.mode.Mode.TheVariants.{Variants, Jump, CheckTable}
 
--- an `Options`, with the bytes of each text
+-- an `Options`, with the bytes of each text; and the registered labels to which listings are kept, if there are some. An
+-- `Options` has only the name of their file: they are given to a run beside it
 pub record Settings : Type 0 where
   pub mode : Mode
   pub std3 : Bool
@@ -13,6 +14,12 @@ pub record Settings : Type 0 where
   pub after : List ℕ
   pub limit : Option ℕ
   pub tries : ℕ
+  pub among : Option (List ℕ)
+  pub registered : Option (List (List ℕ))
+
+-- the same options, with listings kept to these labels, or to none in particular
+abbrev pub keeping : Option (List (List ℕ)) → Settings → Settings
+keeping labels o = record o { registered = labels }
 
 -- a number that `--limit` and `--tries` take
 abbrev pub IsCount : ℕ → Type 0
@@ -28,5 +35,7 @@ pub record IsWithinLimits (o : Settings) : Type 0 where
 -- what belongs to another mode is as if it were left out
 pub record SuitsMode (o : Settings) : Type 0 where
   pub bounds : o.mode ≢ Variants → (o.after ≡ []) × (o.limit ≡ None) × (o.tries ≡ 1000000)
-  pub file : o.mode ≢ Variants → o.mode ≢ CheckTable → o.file ≡ []
+  pub among : o.mode ≢ Variants → o.among ≡ None
+  pub untried : o.among ≢ None → o.tries ≡ 1000000
+  pub file : o.mode ≢ Variants → o.mode ≢ Jump → o.mode ≢ CheckTable → o.file ≡ []
   pub strings : o.mode ≡ CheckTable → o.strings ≡ []

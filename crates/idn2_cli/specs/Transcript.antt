@@ -9,7 +9,7 @@ use Rattle.variant_table.specs.Entries.{Entry, TableValue}
 use Rattle.variant_table.specs.Texts.{IsTextOf, IsFaultOf}
 use Rattle.variant_table.specs.Faults.{LineFault}
 use Rattle.idn2_cli.specs.declared.command_line.mode.Mode.{Mode}
-use Rattle.idn2_cli.specs.declared.command_line.mode.Mode.TheVariants.{Variants, CheckTable}
+use Rattle.idn2_cli.specs.declared.command_line.mode.Mode.TheVariants.{Variants, Jump, CheckTable}
 use Rattle.idn_text.specs.Lines.{Numbered}
 use Rattle.idn_text.specs.Refusals.{refusal_number, refusal_text}
 use Rattle.variant_table.specs.Canonical.{sequence_text}
@@ -70,6 +70,7 @@ IsReadAs text (Err fault) = HasFault text fault
 -- the table by which a mode works, as its text says; a mode that names no table has the empty one
 abbrev pub IsTableOf : Mode → List ℕ → TableGiven → Type 0
 IsTableOf Variants text table = IsReadAs text table
+IsTableOf Jump text table = IsReadAs text table
 IsTableOf CheckTable text table = IsReadAs text table
 IsTableOf mode text table = table ≡ Ok no_table
 
@@ -86,6 +87,10 @@ line_message number refusal = codes "idn2: line " ++ (decimal number ++ (codes "
 -- the message of a table that has a fault
 abbrev pub table_message : ℕ → Refusal → List ℕ
 table_message number refusal = codes "idn2: table line " ++ (decimal number ++ (codes ": " ++ told refusal))
+
+-- the message of a file that is not read as registered labels
+abbrev pub registered_message : ℕ → Refusal → List ℕ
+registered_message number refusal = codes "idn2: registered line " ++ (decimal number ++ (codes ": " ++ told refusal))
 
 -- ---- the lines of the input
 

@@ -15,10 +15,10 @@ use Rattle.clap.specs.declared.error.ErrorKind.TheVariants.{DisplayHelp, Display
 use Rattle.idn2_cli.specs.CommandLine.{app}
 use Rattle.idn2_cli.specs.Settings.{Settings}
 use Rattle.idn2_cli.specs.declared.command_line.mode.Mode.{Mode}
-use Rattle.idn2_cli.specs.declared.command_line.mode.Mode.TheVariants.{Lookup, Register, Decode, Variants, CheckTable}
+use Rattle.idn2_cli.specs.declared.command_line.mode.Mode.TheVariants.{Lookup, Register, Decode, Variants, Jump, CheckTable}
 use Rattle.idn2_cli.specs.declared.command_line.usage.Usage.{Usage}
 use Rattle.idn2_cli.specs.declared.command_line.usage.Usage.TheVariants.{Bad, Show, Memory}
-use Rattle.idn2_cli.specs.declared.command_line.arguments.TheConstants.{AFTER, CHECK_TABLE, DECODE, LIMIT, LOOKUP, REGISTER, STD3, STRINGS, TRIES, VARIANTS}
+use Rattle.idn2_cli.specs.declared.command_line.arguments.TheConstants.{AFTER, AMONG, CHECK_TABLE, DECODE, JUMP, LIMIT, LOOKUP, REGISTER, STD3, STRINGS, TRIES, VARIANTS}
 
 -- ---- what `clap` found
 
@@ -61,6 +61,16 @@ count_of text =
 abbrev pub is_count_if_given : Text → List Row → Bool
 is_count_if_given name rows = option_map_or (λ text. is_some (count_of text)) (value_of name rows) true
 
+-- ---- files
+
+-- the name of the table's file; empty where the mode has no table
+abbrev pub file_of : List Row → Text
+file_of rows = unwrap_or (value_of VARIANTS.now rows) (unwrap_or (value_of CHECK_TABLE.now rows) [])
+
+-- the name of the file of registered labels; empty where there is none
+abbrev pub among_of : List Row → Text
+among_of rows = unwrap_or (value_of AMONG.now rows) []
+
 -- ---- the program's own rules
 
 -- at most one of the five modes is named
@@ -69,10 +79,23 @@ names_one_mode rows = nat_le (count_by (λ named. named)
     (has_flag LOOKUP.now rows ∷ has_flag REGISTER.now rows ∷ has_flag DECODE.now rows
     ∷ has_value VARIANTS.now rows ∷ has_value CHECK_TABLE.now rows ∷ [])) 1
 
--- `--after`, `--limit` and `--tries` come with `--variants` alone
+-- `--after`, `--limit`, `--tries` or `--among` is given, which say what a listing has
+abbrev pub bounds_listing : List Row → Bool
+bounds_listing rows =
+    has_value AFTER.now rows || has_value LIMIT.now rows || has_value TRIES.now rows || has_value AMONG.now rows
+
+-- these come with `--variants` alone, and not with `--jump`, which lists nothing
 abbrev pub bounds_variants : List Row → Bool
-bounds_variants rows = has_value VARIANTS.now rows
-    || not (has_value AFTER.now rows || has_value LIMIT.now rows || has_value TRIES.now rows)
+bounds_variants rows = (has_value VARIANTS.now rows && not (has_flag JUMP.now rows)) || not (bounds_listing rows)
+
+-- `--jump` comes with `--variants` alone
+abbrev pub jumps_by_table : List Row → Bool
+jumps_by_table rows = has_value VARIANTS.now rows || not (has_flag JUMP.now rows)
+
+-- with `--among` nothing is tried, so `--tries` does not come with it; and its file is not that of the table
+abbrev pub suits_among : List Row → Bool
+suits_among rows =
+    not (has_value AMONG.now rows) || (not (has_value TRIES.now rows) && not (bytes_eq (file_of rows) (among_of rows)))
 
 -- `--limit` and `--tries` have a count
 abbrev pub has_counts : List Row → Bool
@@ -93,7 +116,8 @@ checks_alone rows = not (has_value CHECK_TABLE.now rows) || not (has_strings row
 -- all of these rules hold
 abbrev pub is_allowed : List Row → Bool
 is_allowed rows =
-    names_one_mode rows && bounds_variants rows && has_counts rows && has_short_start rows && checks_alone rows
+    names_one_mode rows && bounds_variants rows && jumps_by_table rows && suits_among rows && has_counts rows && has_short_start rows
+    && checks_alone rows
 
 -- ---- the options
 
@@ -102,13 +126,9 @@ abbrev pub mode_of : List Row → Mode
 mode_of rows =
     if has_flag REGISTER.now rows then Register
     else (if has_flag DECODE.now rows then Decode
-    else (if has_value VARIANTS.now rows then Variants
+    else (if has_value VARIANTS.now rows then (if has_flag JUMP.now rows then Jump else Variants)
     else (if has_value CHECK_TABLE.now rows then CheckTable
     else Lookup)))
-
--- the name of the table's file; empty where the mode has no table
-abbrev pub file_of : List Row → Text
-file_of rows = unwrap_or (value_of VARIANTS.now rows) (unwrap_or (value_of CHECK_TABLE.now rows) [])
 
 -- the options, part by part
 abbrev pub settings_of : List Row → Settings
@@ -120,6 +140,8 @@ settings_of rows = record {
   after = chars (start_of rows);
   limit = option_and_then count_of (value_of LIMIT.now rows);
   tries = unwrap_or (option_and_then count_of (value_of TRIES.now rows)) 1000000;
+  among = value_of AMONG.now rows;
+  registered = None;
 }
 
 -- ---- the answer

@@ -11,6 +11,6 @@ pub use command_line::options::Options;
 pub use command_line::strings::input_text;
 pub use command_line::usage::Usage;
 pub use command_line::words::read_options;
-pub use session::report::report;
-pub use session::run::run;
+pub use session::report::{report, report_registered};
+pub use session::run::{run, run_among};
 pub use session::status::Status;

@@ -46,7 +46,7 @@ module _ (net : Plan) (n : ℕ) (start text : List ℕ) (long : length start < n
 -- a text that is no label itself: the labels that are no less are above its first 63 code points
 pub above-cut : (net : Plan) (text : List ℕ) → (IsRead net text → ⊥) → (w : List ℕ) → IsRead net w → IsFrom text w ↔ IsBelow (take 63 text) w
 above-cut net text unread w p = (
-  λ up. elim up [ | inl same ↦ absurd (unread (subst (IsRead net) (sym same) p)) | inr above ↦ (cut-IsBelow 63 text w p.short).0 above ],
+  λ up. elim up [ inl same ↦ absurd (unread (subst (IsRead net) (sym same) p)) | inr above ↦ (cut-IsBelow 63 text w p.short).0 above ],
   λ above. inr ((cut-IsBelow 63 text w p.short).1 above),
 )
 

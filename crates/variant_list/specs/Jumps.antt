@@ -1,8 +1,12 @@
 -- The least of the labels that are no less than a text, and a jump of a cursor to it.
-use Rattle.std.specs.Prelude.{◌≡◌, ◌⊎◌, ℕ, ◌*◌, ◌≤◌, Bool, List, length, take}
+use Rattle.std.specs.Prelude.{◌≡◌, ◌⊎◌, ◌&&◌, ℕ, ◌*◌, ◌≤◌, Bool, not, List, length, take, filter}
 use Rattle.std.specs.Bool.{OnTrue, OnFalse}
-use Rattle.variant_list.specs.Labels.{IsBelow}
+use Rattle.std.specs.Ordering.{is_lt}
+use Rattle.variant_table.specs.Entries.{Entry}
+use Rattle.variant_list.specs.Labels.{IsBelow, label_cmp}
 use Rattle.variant_list.specs.Spelling.{Spells}
+use Rattle.variant_list.specs.Spelled.{spelled}
+use Rattle.variant_list.specs.Variants.{fits_label, in_order}
 use Rattle.variant_list.specs.Nets.{edge_count}
 use Rattle.variant_list.specs.Positions.{Built, Position}
 
@@ -24,6 +28,10 @@ HasNoneFrom P text = (w : List ℕ) → P w → IsFrom text w → ⊥
 pub record IsCandidate (net : Built) (v : List ℕ) : Type 0 where
   pub spelled : Spells net.table net.label v
   pub short : length v ≤ 63
+
+-- the candidates that are no less than the text, in label order, as a list that computes
+abbrev pub candidates_from : List Entry → List ℕ → List ℕ → List (List ℕ)
+candidates_from table label text = filter (λ v. fits_label v && not (is_lt (label_cmp v text))) (in_order (spelled table label))
 
 -- the cursor went to the least candidate that is no less than the text; or there is none, and it goes on after the first 63 code
 -- points of the text

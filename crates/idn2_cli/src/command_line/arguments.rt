@@ -16,6 +16,10 @@ pub(crate) const VARIANTS: &str = "variants";
 
 pub(crate) const CHECK_TABLE: &str = "check-table";
 
+pub(crate) const AMONG: &str = "among";
+
+pub(crate) const JUMP: &str = "jump";
+
 pub(crate) const TR46NT: &str = "tr46nt";
 
 pub(crate) const STD3: &str = "usestd3asciirules";

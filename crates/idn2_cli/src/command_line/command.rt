@@ -2,11 +2,11 @@
 //! No argument has a rule on another, so that `clap`'s definition gives what the words mean.
 ghost use Rattle.std.specs.Prelude.{◌≡◌, IfOk, codes, false, map, string_bytes};
 ghost use Rattle.clap.specs.Words.{FailsBy, app_of, fault_of, found_of, matches_of, rows_of, rule_of, with_rule};
-ghost use Rattle.idn2_cli.specs.CommandLine.{app, flag_rule, short_flag_rule, value_rule, strings_rule, with_modes, with_switches, with_bounds};
+ghost use Rattle.idn2_cli.specs.CommandLine.{app, flag_rule, short_flag_rule, value_rule, strings_rule, with_modes, with_collisions, with_switches, with_bounds};
 
 use crate::command_line::arguments::{
-    AFTER, CHECK_TABLE, DECODE, LIMIT, LOOKUP, QUIET, REGISTER, STD3, STRINGS, TR46NT, TRIES,
-    VARIANTS,
+    AFTER, AMONG, CHECK_TABLE, DECODE, JUMP, LIMIT, LOOKUP, QUIET, REGISTER, STD3, STRINGS, TR46NT,
+    TRIES, VARIANTS,
 };
 use clap::{Arg, ArgAction, ArgMatches, Command, Error};
 use std::alloc::{AllocError, Global};
@@ -48,6 +48,7 @@ fn command<'a>(alloc: Global) -> Result<Command<'a>, AllocError>
         .about(ABOUT)
         .after_help(AFTER_HELP);
     let command = with_modes(command, alloc)?;
+    let command = with_collisions(command, alloc)?;
     let command = with_switches(command, alloc)?;
     let command = with_bounds(command, alloc)?;
     with_strings(
@@ -95,6 +96,24 @@ fn with_modes<'a>(command: Command<'a>, alloc: Global) -> Result<Command<'a>, Al
         CHECK_TABLE,
         "FILE",
         "Print the reverse and transitive pairs that the table in FILE lacks",
+    )
+}
+
+fn with_collisions<'a>(command: Command<'a>, alloc: Global) -> Result<Command<'a>, AllocError>
+    ensures { IfOk result (λ r. app_of r ≡ with_collisions (app_of command.entry)) }
+{
+    let command = with_option(
+        command,
+        alloc,
+        AMONG,
+        "FILE",
+        "With --variants: list only labels that stand in FILE",
+    )?;
+    with_flag(
+        command,
+        alloc,
+        JUMP,
+        "With --variants: answer LABEL or LABEL TAB TEXT by the least label from TEXT on",
     )
 }
 

@@ -9,6 +9,9 @@ pub enum Mode {
     Decode,
     /// Each line is a label, answered by its variants under a table.
     Variants,
+    /// Each line is a label and a text, answered by the least label that the label spells under a table and that is no
+    /// less than the text.
+    Jump,
     /// A table is checked for the pairs that it lacks.
     CheckTable,
 }

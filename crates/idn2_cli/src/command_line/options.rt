@@ -20,11 +20,14 @@ pub struct Options {
     pub limit: Option<u64>,
     /// At most how many labels of a line are tested: 1 to 1,000,000,000.
     pub tries: u64,
+    /// The name of the file of registered labels to which listings are kept, if they are.
+    pub among: Option<String>,
 }
 
-/// Contracts see the bytes of each `String`, and a list for each `Vec`.
+/// Contracts see the bytes of each `String`, and a list for each `Vec`. Of the registered labels only the name of their
+/// file is known here.
 impl Model for Options {
-    ghost use Rattle.std.specs.Prelude.{map, string_bytes};
+    ghost use Rattle.std.specs.Prelude.{None, map, option_map, string_bytes};
     ghost use Rattle.idn2_cli.specs.Settings.{Settings};
 
     ghost Value = { Settings };
@@ -37,5 +40,7 @@ impl Model for Options {
       after = o.after.items;
       limit = o.limit;
       tries = o.tries;
+      among = option_map string_bytes o.among;
+      registered = None;
     } };
 }

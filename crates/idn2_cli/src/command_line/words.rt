@@ -1,19 +1,19 @@
 //! The options that the words of the command line request.
-ghost use Rattle.std.specs.Prelude.{◌≡◌, IfOk, IsUtf8, OnOk, IfErr, List, [], codes, is_some, length, map, option_and_then, string_bytes, true};
+ghost use Rattle.std.specs.Prelude.{◌≡◌, IfOk, IsUtf8, OnOk, IfErr, List, [], codes, is_some, length, map, option_and_then, option_map, string_bytes, true};
 ghost use Rattle.std.specs.Str.{chars};
 ghost use Rattle.clap.specs.Words.{FailsBy, found_of, kind_of, rows_of};
 ghost use Rattle.idn2_cli.specs.Settings.{IsWithinLimits, SuitsMode};
-ghost use Rattle.idn2_cli.specs.Words.{IsAnswer, IsUsage, count_of, file_of, mode_of, options_of, settings_of, start_of, strings_of, value_of};
+ghost use Rattle.idn2_cli.specs.Words.{IsAnswer, IsUsage, count_of, mode_of, options_of, settings_of, start_of, strings_of, value_of};
 
 use crate::command_line::arguments::{
-    CHECK_TABLE, DECODE, LIMIT, REGISTER, STD3, STRINGS, TRIES, VARIANTS, has_flag, has_value,
-    value_of,
+    AMONG, CHECK_TABLE, DECODE, JUMP, LIMIT, REGISTER, STD3, STRINGS, TRIES, VARIANTS, has_flag,
+    has_value, value_of,
 };
 use crate::command_line::command;
 use crate::command_line::counts::count_of;
 use crate::command_line::mode::Mode;
 use crate::command_line::options::Options;
-use crate::command_line::rules::{is_allowed, start_of};
+use crate::command_line::rules::{file_of, is_allowed, start_of};
 use crate::command_line::usage::Usage;
 use clap::error::ErrorKind;
 use clap::{ArgMatches, Error};
@@ -68,6 +68,7 @@ fn settings_of(alloc: Global, matches: &ArgMatches<'_>) -> Result<Options, Alloc
         after: points_of(alloc, start_of(matches))?,
         limit: count_at(matches, LIMIT),
         tries: count_at(matches, TRIES).unwrap_or(DEFAULT_TRIES),
+        among: among_at(alloc, matches)?,
     })
 }
 
@@ -79,7 +80,11 @@ fn mode_of(matches: &ArgMatches<'_>) -> Mode
     } else if has_flag(matches, DECODE) {
         Mode::Decode
     } else if has_value(matches, VARIANTS) {
-        Mode::Variants
+        if has_flag(matches, JUMP) {
+            Mode::Jump
+        } else {
+            Mode::Variants
+        }
     } else if has_value(matches, CHECK_TABLE) {
         Mode::CheckTable
     } else {
@@ -87,13 +92,13 @@ fn mode_of(matches: &ArgMatches<'_>) -> Mode
     }
 }
 
-fn file_of<'a>(matches: &ArgMatches<'a>) -> &'a str
-    ensures { result.now ≡ file_of (rows_of (found_of matches.now)) }
+/// The name of the file of registered labels, if there is one.
+fn among_at(alloc: Global, matches: &ArgMatches<'_>) -> Result<Option<String>, AllocError>
+    ensures { IfOk result (λ name. option_map string_bytes name ≡ value_of AMONG.now (rows_of (found_of matches.now))) }
 {
-    match (value_of(matches, VARIANTS), value_of(matches, CHECK_TABLE)) {
-        (Some(file), _) => file,
-        (None, Some(file)) => file,
-        (None, None) => "",
+    match value_of(matches, AMONG) {
+        Some(name) => Ok(Some(String::from_str(alloc, name)?)),
+        None => Ok(None),
     }
 }
 

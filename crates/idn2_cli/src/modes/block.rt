@@ -10,7 +10,7 @@ ghost use Rattle.idn_label.proofs.HopeLemmas.{none_hopeless};
 ghost use Rattle.variant_table.specs.WellFormed.{IsWellFormed};
 ghost use Rattle.variant_list.specs.Beginnings.{shortest_hopeless};
 ghost use Rattle.variant_list.specs.Verdicts.{IsVerdict};
-ghost use Rattle.idn2_cli.specs.Settings.{IsWithinLimits};
+ghost use Rattle.idn2_cli.specs.Settings.{IsWithinLimits, keeping};
 ghost use Rattle.idn2_cli.specs.Transcript.{output_lines, Output};
 ghost use Rattle.idn2_cli.specs.Answers.{is_registrable, variant_line, trailer};
 ghost use Rattle.idn2_cli.specs.inner.Dispositions.{block_by, field_by, TellsWell};
@@ -32,7 +32,7 @@ use itoa::Buffer;
 use std::alloc::{AllocError, Global};
 use variant_list::{Cursor, Judge, Net, Outcome, Verdict};
 
-/// Writes the block of a net's label.
+/// Writes the block of a net's label, with all its variants.
 pub(crate) fn write_block<W: Sink, E: Sink>(
     alloc: Global,
     options: &Options,
@@ -44,7 +44,7 @@ pub(crate) fn write_block<W: Sink, E: Sink>(
     requires table { IsWellFormed net.now.table }
     requires dispositions { TellsWell dispositions.now }
     ensures { Emits console.old console.new
-        (output_lines (block_by (field_by dispositions.now) options.now net.now.table net.now.label)) result }
+        (output_lines (block_by (field_by dispositions.now) (keeping None options.now) net.now.table net.now.label)) result }
 {
     let mut cursor = Cursor::new(alloc, net, &options.after)?;
     let mut judge = Registrable {
@@ -107,7 +107,7 @@ impl Judge for Registrable {
 }
 
 /// Whether so many variants are as many as may be listed.
-fn is_reached(limit: Option<u64>, count: u64) -> bool
+pub(crate) fn is_reached(limit: Option<u64>, count: u64) -> bool
     ensures { result ≡ reaches limit count }
 {
     match limit {
@@ -117,7 +117,7 @@ fn is_reached(limit: Option<u64>, count: u64) -> bool
 }
 
 /// Writes a variant, its A-label and its third field.
-fn write_variant<W: Sink, E: Sink>(
+pub(crate) fn write_variant<W: Sink, E: Sink>(
     label: &[u32],
     a_label: &ALabel,
     field: &str,
@@ -142,7 +142,7 @@ fn write_variant<W: Sink, E: Sink>(
 
 /// Writes the trailer of a listing that stops at a label of at most 63 code points. `kept` gives the UTF-8 of the
 /// label.
-fn write_stop<W: Sink, E: Sink>(
+pub(crate) fn write_stop<W: Sink, E: Sink>(
     count: u64,
     last: &[u32],
     kept: &mut KeptLine,
@@ -174,7 +174,10 @@ fn stop_line(count: u64, last: &[u8]) -> ArrayVec<u8, 320>
 }
 
 /// Writes the trailer of a listing that ends.
-fn write_end<W: Sink, E: Sink>(count: u64, console: &mut Console<'_, '_, W, E>) -> Result<(), Stop>
+pub(crate) fn write_end<W: Sink, E: Sink>(
+    count: u64,
+    console: &mut Console<'_, '_, W, E>,
+) -> Result<(), Stop>
     ensures written { Emits console.old console.new (Output (trailer count None ++ 10 ∷ []) ∷ []) result }
     ensures why { IfErr result (λ why. why ≡ stop.Output) }
 {

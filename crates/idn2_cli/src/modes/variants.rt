@@ -1,39 +1,43 @@
-//! The variants of a label under a table.
+//! The variants of a label under a table, all of them or those that are registered.
 
 ghost use Rattle.std.specs.Prelude.{◌≡◌, IfOk};
 ghost use Rattle.std.specs.Result.{is_err};
 ghost use Rattle.idn_label.specs.FirstFault.{IsRegistrable};
 ghost use Rattle.variant_table.specs.WellFormed.{IsWellFormed};
-ghost use Rattle.idn2_cli.specs.Settings.{IsWithinLimits};
+ghost use Rattle.std.specs.Option.{option_copied};
+ghost use Rattle.idn2_cli.specs.Settings.{IsWithinLimits, keeping};
 ghost use Rattle.idn2_cli.specs.Answers.{variants_answer, listing_answer};
-ghost use Rattle.idn2_cli.specs.inner.Dispositions.{AreOfTable};
-ghost use Rattle.idn2_cli.specs.Transcript.{pieces_for};
+ghost use Rattle.idn2_cli.specs.inner.Dispositions.{AreOfTable, TellsWell, block_by, field_by};
+ghost use Rattle.idn2_cli.specs.Transcript.{output_lines, pieces_for};
 ghost use Rattle.idn2_cli.specs.inner.Emitting.{Emits};
 
 use crate::command_line::options::Options;
 use crate::modes::answering::refuse;
 use crate::modes::block::write_block;
 use crate::modes::code_points::PointAnswering;
+use crate::modes::collisions::write_collisions;
 use crate::modes::dispositions::Dispositions;
 use crate::session::console::Console;
 use crate::session::stop::Stop;
 use idn_label::test_label;
 use idn_text::{Refusal, Sink};
+use registered_labels::RegisteredLabels;
 use std::alloc::Global;
 use variant_list::{Net, NetFault};
 use variant_table::Table;
 
 /// The listing of variants by a table (RFC 7940 section 8). The options say after which text it
-/// begins and where it stops.
+/// begins and where it stops. It is kept to the registered labels, if there are some.
 #[derive(Drop)]
-pub(crate) struct Variants<'t> {
+pub(crate) struct Variants<'t, 'r, 'b> {
     pub table: &'t Table,
     pub dispositions: &'t Dispositions<Table>,
     pub options: &'t Options,
+    pub registered: Option<&'r RegisteredLabels<'b>>,
 }
 
-impl<'t> PointAnswering for Variants<'t> {
-    ghost answer_of = { λ mode label. variants_answer mode.options.now mode.table.now label };
+impl<'t, 'r, 'b> PointAnswering for Variants<'t, 'r, 'b> {
+    ghost answer_of = { λ mode label. variants_answer (keeping (option_copied mode.registered) mode.options.now) mode.table.now label };
 
     ghost is_ready = { λ mode. IsWithinLimits mode.options.now × IsWellFormed mode.table.now.entries
         × AreOfTable mode.table.now mode.dispositions.now };
@@ -52,10 +56,32 @@ impl<'t> PointAnswering for Variants<'t> {
     }
 }
 
+/// Writes the block of a net's label.
+fn write_lines<W: Sink, E: Sink>(
+    alloc: Global,
+    mode: &Variants<'_, '_, '_>,
+    net: &Net,
+    dispositions: &Dispositions<Net>,
+    console: &mut Console<'_, '_, W, E>,
+) -> Result<(), Stop>
+    requires limits { IsWithinLimits mode.now.options.now }
+    requires table { IsWellFormed net.now.table }
+    requires dispositions { TellsWell dispositions.now }
+    ensures { Emits console.old console.new
+        (output_lines (block_by (field_by dispositions.now) (keeping (option_copied mode.now.registered) mode.now.options.now) net.now.table net.now.label)) result }
+{
+    match mode.registered {
+        Some(registered) => {
+            write_collisions(alloc, mode.options, net, registered, dispositions, console)
+        }
+        None => write_block(alloc, mode.options, net, dispositions, console),
+    }
+}
+
 /// Lists the variants of a label that may be registered.
 fn list<W: Sink, E: Sink>(
     alloc: Global,
-    mode: &Variants<'_>,
+    mode: &Variants<'_, '_, '_>,
     number: u64,
     label: &[u32],
     console: &mut Console<'_, '_, W, E>,
@@ -65,14 +91,14 @@ fn list<W: Sink, E: Sink>(
     requires dispositions { AreOfTable mode.now.table.now mode.now.dispositions.now }
     requires registrable { IsRegistrable label.now }
     ensures written { Emits console.old console.new
-        (pieces_for number (listing_answer mode.now.options.now mode.now.table.now label.now)) result }
+        (pieces_for number (listing_answer (keeping (option_copied mode.now.registered) mode.now.options.now) mode.now.table.now label.now)) result }
     ensures refused { IfOk result
-        (λ refused. refused ≡ is_err (listing_answer mode.now.options.now mode.now.table.now label.now)) }
+        (λ refused. refused ≡ is_err (listing_answer (keeping (option_copied mode.now.registered) mode.now.options.now) mode.now.table.now label.now)) }
 {
     match Net::build(alloc, mode.table, label) {
         Ok(net) => {
             let dispositions = mode.dispositions.of_label(alloc, label)?;
-            write_block(alloc, mode.options, &net, &dispositions, console)?;
+            write_lines(alloc, mode, &net, &dispositions, console)?;
             Ok(false)
         }
         Err(NetFault::NotInTable) => refuse(number, Refusal::NotInTable, console),

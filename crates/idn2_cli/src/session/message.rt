@@ -2,7 +2,7 @@
 
 ghost use Rattle.std.specs.Prelude.{◌≡◌, ◌≤◌, ◌++◌, length, codes, decimal, option_map};
 ghost use Rattle.idn2_cli.specs.inner.TableFaults.{told_of};
-ghost use Rattle.idn2_cli.specs.Transcript.{told, line_message, table_message};
+ghost use Rattle.idn2_cli.specs.Transcript.{told, line_message, registered_message, table_message};
 
 use arrayvec::ArrayString;
 use idn_text::Refusal;
@@ -10,7 +10,7 @@ use itoa::Buffer;
 use variant_table::TableFault;
 
 /// A message, for whose bytes there is space.
-pub type Message = ArrayString<80>;
+pub type Message = ArrayString<96>;
 
 /// The message of a refused line.
 pub fn line_message(number: u64, refusal: &Refusal) -> Message
@@ -34,8 +34,15 @@ pub fn table_message(fault: TableFault) -> Option<Message>
     Some(message("idn2: table line ", line, &refusal))
 }
 
+/// The message of a line of registered labels.
+pub fn registered_message(number: u64, refusal: &Refusal) -> Message
+    ensures { result.bytes ≡ registered_message number refusal.now }
+{
+    message("idn2: registered line ", number, refusal)
+}
+
 fn message(before: &str, number: u64, refusal: &Refusal) -> Message
-    requires { length before.now ≤ 17 }
+    requires { length before.now ≤ 22 }
     ensures { result.bytes ≡ before.now ++ (decimal number ++ (codes ": " ++ told refusal.now)) }
 {
     let mut message = Message::new();

@@ -1,9 +1,11 @@
 //! What ends the program outside a line.
 ghost use Rattle.std.specs.Prelude.{◌≡◌};
-ghost use Rattle.idn2_cli.specs.Ends.{IsFault, TakesText, closing_message, closing_status};
+ghost use Rattle.idn2_cli.specs.Ends.{IsFault, TakesText, closing_message, closing_status, unread_message, unread_status};
 
+use crate::session::message::registered_message;
 use crate::session::status::Status;
 use idn_text::{Refusal, Sink, write_text};
+use registered_labels::RegisterFault;
 
 /// Writes the message of `Usage`, `ReadFault`, `WriteFault` or `Memory`, and answers its status.
 /// The status is the same where the writer fails, and then a proper prefix of the message stands.
@@ -13,9 +15,32 @@ pub fn report<E: Sink>(refusal: &Refusal, err: &mut E) -> Status
     ensures status { result ≡ closing_status refusal.now }
     ensures message { TakesText (closing_message refusal.now) (E.state err.old) (E.state err.new) }
 {
-    // There is nowhere left to report a fault here.
-    let _ = write_text(err, message_of(refusal).as_bytes());
+    tell(message_of(refusal).as_bytes(), err);
     status_of(refusal)
+}
+
+/// Writes a text, as far as the writer takes it.
+fn tell<E: Sink>(text: &[u8], err: &mut E)
+    ensures { TakesText text.now (E.state err.old) (E.state err.new) }
+{
+    // There is nowhere left to report a fault here.
+    let _ = write_text(err, text);
+}
+
+/// Writes why a file is not read as registered labels, and answers the status. The status is the same where the writer
+/// fails, and then a proper prefix of the message stands. It takes no memory.
+pub fn report_registered<E: Sink>(fault: &RegisterFault, err: &mut E) -> Status
+    ensures status { result ≡ unread_status fault.now }
+    ensures message { TakesText (unread_message fault.now) (E.state err.old) (E.state err.new) }
+{
+    match fault {
+        RegisterFault::Refused { line, refusal } => {
+            let message = registered_message(*line, refusal);
+            tell(message.as_str().as_bytes(), err);
+            Status::Unusable
+        }
+        RegisterFault::Memory => report(&Refusal::Memory, err),
+    }
 }
 
 fn message_of(refusal: &Refusal) -> &'static str

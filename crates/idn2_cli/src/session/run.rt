@@ -1,11 +1,12 @@
 //! A whole run.
 
 ghost use Rattle.std.specs.Prelude.{◌≡◌, ℕ, List, IfOk};
+ghost use Rattle.std.specs.Option.{option_copied};
 ghost use Rattle.idn_text.specs.Reading.{IsUnread};
 ghost use Rattle.idn_label.specs.FirstFault.{IsRegistrable};
 ghost use Rattle.variant_table.specs.Entries.{TableValue};
-ghost use Rattle.idn2_cli.specs.Settings.{IsWithinLimits};
-ghost use Rattle.idn2_cli.specs.Answers.{variants_answer, IsListing};
+ghost use Rattle.idn2_cli.specs.Settings.{IsWithinLimits, keeping};
+ghost use Rattle.idn2_cli.specs.Answers.{jump_answer, requested_label, variants_answer, IsJumpAnswer, IsListing};
 ghost use Rattle.idn2_cli.specs.Ends.{held, closing_status, Does, Ends, Closes, mode_job, refusal_of};
 ghost use Rattle.idn2_cli.specs.Transcript.{TableGiven, IsCheck, IsReadAs, IsTableOf, check_lines, check_pieces, check_status};
 ghost use Rattle.idn2_cli.specs.inner.Emitting.{Emits};
@@ -14,7 +15,7 @@ ghost use Rattle.idn2_cli.specs.declared.command_line.mode.Mode.TheVariants as m
 use crate::command_line::mode::Mode;
 use crate::command_line::options::Options;
 use crate::modes::code_points::ByPoints;
-use crate::modes::{Decode, Dispositions, Lookup, Register, Variants, check_table};
+use crate::modes::{Decode, Dispositions, Jumps, Lookup, Register, Variants, check_table};
 use crate::session::console::Console;
 use crate::session::lines::serve_lines;
 use crate::session::report::report;
@@ -22,12 +23,14 @@ use crate::session::status::Status;
 use crate::session::stop::Stop;
 use crate::session::table::refuse_table;
 use idn_text::{Lines, Sink, Source};
+use registered_labels::RegisteredLabels;
 use std::alloc::Global;
 use variant_table::Table;
 
 /// Runs a mode over its input, of which no line was read yet. Where nothing fails, the pieces of the
 /// transcript are written, and the status says whether something was refused. A fault of a reader,
-/// of a writer or of memory ends the run at once with a last message.
+/// of a writer or of memory ends the run at once with a last message. Listings have all variants: for
+/// options that name a file of registered labels there is `run_among`.
 pub fn run<R: Source, W: Sink, E: Sink>(
     alloc: Global,
     options: &Options,
@@ -41,16 +44,43 @@ pub fn run<R: Source, W: Sink, E: Sink>(
     ensures ends { (given : TableGiven) × IsTableOf options.now.mode table.now given
         × Ends (mode_job options.now given) input.old input.new
         (held (W.state out.old) (E.state err.old)) (held (W.state out.new) (E.state err.new)) result }
-    // What the transcript has for a label that may be registered, and for the check of a table.
+    // What the transcript has for a label that may be registered, for a request, and for the check of a table.
     ensures listing { (given : TableValue) (label : List ℕ) → IsReadAs table.now (Ok given) → IsRegistrable label →
         IsListing options.now given label (variants_answer options.now given label) }
+    ensures jump { (given : TableValue) (request : List ℕ) → IsReadAs table.now (Ok given) → IsRegistrable (requested_label request) →
+        IsJumpAnswer given request (jump_answer given request) }
     ensures check { (given : TableValue) → IsReadAs table.now (Ok given) → IsCheck given.entries (check_lines given.entries) }
+{
+    // Naming a field makes known what the options are seen as: they hold no registered labels.
+    let _ = &options.mode;
+    run_among(alloc, options, table, None, input, out, err)
+}
+
+/// The same, with each listing kept to the registered labels, if there are some: its lines are those of the whole listing
+/// whose label is registered.
+pub fn run_among<R: Source, W: Sink, E: Sink>(
+    alloc: Global,
+    options: &Options,
+    table: &[u8],
+    registered: Option<&RegisteredLabels<'_>>,
+    input: &mut Lines<R>,
+    out: &mut W,
+    err: &mut E,
+) -> Status
+    requires limits { IsWithinLimits options.now }
+    requires unread { IsUnread input.old }
+    ensures ends { (given : TableGiven) × IsTableOf options.now.mode table.now given
+        × Ends (mode_job (keeping (option_copied registered.entry) options.now) given) input.old input.new
+        (held (W.state out.old) (E.state err.old)) (held (W.state out.new) (E.state err.new)) result }
+    ensures listing { (given : TableValue) (label : List ℕ) → IsReadAs table.now (Ok given) → IsRegistrable label →
+        IsListing (keeping (option_copied registered.entry) options.now) given label
+        (variants_answer (keeping (option_copied registered.entry) options.now) given label) }
 {
     let mut console = Console {
         output: out,
         messages: err,
     };
-    let status = serve(alloc, options, table, input, &mut console);
+    let status = serve(alloc, options, table, registered, input, &mut console);
     // Both writers are given back.
     let (_output, _messages) = (console.output, console.messages);
     status
@@ -61,15 +91,16 @@ fn serve<R: Source, W: Sink, E: Sink>(
     alloc: Global,
     options: &Options,
     table: &[u8],
+    registered: Option<&RegisteredLabels<'_>>,
     input: &mut Lines<R>,
     console: &mut Console<'_, '_, W, E>,
 ) -> Status
     requires limits { IsWithinLimits options.now }
     requires unread { IsUnread input.old }
     ensures { (given : TableGiven) × IsTableOf options.now.mode table.now given
-        × Ends (mode_job options.now given) input.old input.new console.old console.new result }
+        × Ends (mode_job (keeping (option_copied registered.entry) options.now) given) input.old input.new console.old console.new result }
 {
-    match serve_mode(alloc, options, table, input, console) {
+    match serve_mode(alloc, options, table, registered, input, console) {
         Ok(status) => status,
         Err(why) => close(why, console),
     }
@@ -80,13 +111,14 @@ fn serve_mode<R: Source, W: Sink, E: Sink>(
     alloc: Global,
     options: &Options,
     table: &[u8],
+    registered: Option<&RegisteredLabels<'_>>,
     input: &mut Lines<R>,
     console: &mut Console<'_, '_, W, E>,
 ) -> Result<Status, Stop>
     requires limits { IsWithinLimits options.now }
     requires unread { IsUnread input.old }
     ensures { (given : TableGiven) × IsTableOf options.now.mode table.now given
-        × Does (mode_job options.now given) input.old input.new console.old console.new result }
+        × Does (mode_job (keeping (option_copied registered.entry) options.now) given) input.old input.new console.old console.new result }
 {
     match options.mode {
         Mode::Lookup => {
@@ -95,7 +127,8 @@ fn serve_mode<R: Source, W: Sink, E: Sink>(
         }
         Mode::Register => serve_lines(alloc, &ByPoints { mode: &Register }, input, console),
         Mode::Decode => serve_lines(alloc, &Decode, input, console),
-        Mode::Variants => serve_variants(alloc, options, table, input, console),
+        Mode::Variants => serve_variants(alloc, options, table, registered, input, console),
+        Mode::Jump => serve_jumps(alloc, options, table, input, console),
         Mode::CheckTable => serve_check(alloc, table, console),
     }
 }
@@ -105,6 +138,7 @@ fn serve_variants<R: Source, W: Sink, E: Sink>(
     alloc: Global,
     options: &Options,
     text: &[u8],
+    registered: Option<&RegisteredLabels<'_>>,
     input: &mut Lines<R>,
     console: &mut Console<'_, '_, W, E>,
 ) -> Result<Status, Stop>
@@ -112,7 +146,7 @@ fn serve_variants<R: Source, W: Sink, E: Sink>(
     requires mode { options.now.mode ≡ modes.Variants }
     requires unread { IsUnread input.old }
     ensures { (given : TableGiven) × IsTableOf options.now.mode text.now given
-        × Does (mode_job options.now given) input.old input.new console.old console.new result }
+        × Does (mode_job (keeping (option_copied registered.entry) options.now) given) input.old input.new console.old console.new result }
 {
     let table = match Table::read(alloc, text) {
         Ok(table) => table,
@@ -123,7 +157,29 @@ fn serve_variants<R: Source, W: Sink, E: Sink>(
         table: &table,
         dispositions: &dispositions,
         options,
+        registered,
     };
+    serve_lines(alloc, &ByPoints { mode: &mode }, input, console)
+}
+
+/// Answers the request of each line by the table that a text spells, or reports the fault of the text.
+fn serve_jumps<R: Source, W: Sink, E: Sink>(
+    alloc: Global,
+    options: &Options,
+    text: &[u8],
+    input: &mut Lines<R>,
+    console: &mut Console<'_, '_, W, E>,
+) -> Result<Status, Stop>
+    requires mode { options.now.mode ≡ modes.Jump }
+    requires unread { IsUnread input.old }
+    ensures { (given : TableGiven) × IsTableOf options.now.mode text.now given
+        × Does (mode_job options.now given) input.old input.new console.old console.new result }
+{
+    let table = match Table::read(alloc, text) {
+        Ok(table) => table,
+        Err(fault) => return refuse_table(fault, console),
+    };
+    let mode = Jumps { table: &table };
     serve_lines(alloc, &ByPoints { mode: &mode }, input, console)
 }
 

@@ -1,23 +1,22 @@
-use Rattle.std.proofs.Common.{ap, sym, ◌∙◌, rules}
-use Rattle.idn2_cli.specs.Ends.{Held}
-use Rattle.idn2_cli.proofs.LentWriters.{same_loans, given_back}
+use Rattle.std.proofs.Common.{ap, sym, ◌≡◌, ◌∙◌, None}
+use Rattle.idn2_cli.specs.Settings.{Settings, keeping}
+use Rattle.idn2_cli.specs.Ends.{mode_job}
 use Rattle.idn2_cli.proofs.BlockMembers.{variants_answer-IsListing, check_lines-IsCheck}
+use Rattle.idn2_cli.proofs.JumpAnswers.{jump_answer-IsJumpAnswer}
+use Rattle.idn2_cli.proofs.RunEnds.{ends_as}
 use Rattle.idn2_cli.proofs.session.run.run.Goals as goal
 
 pub returns-clause-ends : goal.returns-clause-ends
 returns-clause-ends g c =
-    let ended = c.serve-status.ensures in
-    let same = same_loans _ _ _ _ _ _ ended.2 in
-    let output = sym (ap (λ (h : Held). h.output_loan) c.console.view_is ∙ same.0) in
-    let messages = sym (ap (λ (h : Held). h.messages_loan) c.console.view_is ∙ same.1) in (
-      ended.0,
-      ended.1,
-      given_back _ _ _ _ _ _ _ _ (ap g.W.Sink.state (search (rules, output)) ∙ ap (λ (h : Held). h.output) c.console.view_is)
-          (ap g.E.Sink.state (search (rules, messages)) ∙ ap (λ (h : Held). h.messages) c.console.view_is) ended.2,
-    )
+    let ended = c.run_among.ensures.ends in
+    let none : keeping None c.args.options.now ≡ c.args.options.now = ap (keeping None) (sym c.options.view_is) ∙ c.options.view_is in
+    (ended.0, ended.1, ends_as _ _ _ _ _ _ c.run_among.result (ap (λ (o : Settings). mode_job o ended.0) none) ended.2)
 
 pub returns-clause-listing : goal.returns-clause-listing
 returns-clause-listing g c = λ table label text registrable. variants_answer-IsListing c.args.options.now table label text.lines.well_formed.well_formed registrable
+
+pub returns-clause-jump : goal.returns-clause-jump
+returns-clause-jump g c = λ table request text registrable. jump_answer-IsJumpAnswer table request text.lines.well_formed.well_formed registrable
 
 pub returns-clause-check : goal.returns-clause-check
 returns-clause-check g c = λ table text. check_lines-IsCheck table.entries text.lines.well_formed.well_formed

@@ -1,17 +1,18 @@
 use Rattle.std.proofs.Common.{refl, ap, sym, ◌∙◌, Ok, ℕ, List, Bool}
 use Rattle.idn_label.specs.Lookup.{lookup_answer}
 use Rattle.idn_label.specs.Memory.{LooksUpWithoutMemory}
-use Rattle.idn2_cli.specs.Settings.{Settings}
+use Rattle.std.specs.Option.{option_copied}
+use Rattle.idn2_cli.specs.Settings.{Settings, keeping}
 use Rattle.idn2_cli.specs.Answers.{LineAnswer, one_line}
 use Rattle.idn2_cli.specs.Transcript.{no_table}
 use Rattle.idn2_cli.specs.Ends.{lines_job}
 use Rattle.idn2_cli.specs.declared.command_line.mode.Mode.TheVariants.{Lookup, Register, Decode}
-use Rattle.idn2_cli.proofs.RunEnds.{as_mode, checked}
+use Rattle.idn2_cli.proofs.RunEnds.{as_mode, checked, does_as, jump_job-kept}
 use Rattle.idn2_cli.proofs.session.run.serve_mode.Goals as goal
 
 pub returns-in-Lookup : goal.returns-in-Lookup
 returns-in-Lookup g c =
-    let o = c.args.options.now in
+    let o : Settings = keeping (option_copied c.args.registered) c.args.options.now in
     let mode = sym (ap (λ (v : Settings). v.mode) c.options.view_is) ∙ c.in-Lookup.is in
     let std3 = ap (λ (v : Settings). v.std3) c.options.view_is in
     let by : Bool → List ℕ → LineAnswer = λ b name. one_line (lookup_answer name b) in
@@ -20,15 +21,21 @@ returns-in-Lookup g c =
 pub returns-in-Register : goal.returns-in-Register
 returns-in-Register g c =
     let mode = sym (ap (λ (v : Settings). v.mode) c.options.view_is) ∙ c.in-Register.is in
-    as_mode c.args.options.now Register c.args.table.now (Ok no_table) _ _ _ _ _ c.serve_lines-in-Register.result mode refl refl c.serve_lines-in-Register.ensures
+    as_mode (keeping (option_copied c.args.registered) c.args.options.now) Register c.args.table.now (Ok no_table) _ _ _ _ _ c.serve_lines-in-Register.result mode refl refl c.serve_lines-in-Register.ensures
 
 pub returns-in-Decode : goal.returns-in-Decode
 returns-in-Decode g c =
     let mode = sym (ap (λ (v : Settings). v.mode) c.options.view_is) ∙ c.in-Decode.is in
-    as_mode c.args.options.now Decode c.args.table.now (Ok no_table) _ _ _ _ _ c.serve_lines-in-Decode.result mode refl refl c.serve_lines-in-Decode.ensures
+    as_mode (keeping (option_copied c.args.registered) c.args.options.now) Decode c.args.table.now (Ok no_table) _ _ _ _ _ c.serve_lines-in-Decode.result mode refl refl c.serve_lines-in-Decode.ensures
 
 pub returns-in-CheckTable : goal.returns-in-CheckTable
 returns-in-CheckTable g c =
     let mode = sym (ap (λ (v : Settings). v.mode) c.options.view_is) ∙ c.in-CheckTable.is in
     let k = c.serve_check.ensures in
-    checked c.args.options.now c.args.table.now k.0 _ _ _ c.serve_check.result mode k.1 c.requires.unread k.2 k.3
+    checked (keeping (option_copied c.args.registered) c.args.options.now) c.args.table.now k.0 _ _ _ c.serve_check.result mode k.1 c.requires.unread k.2 k.3
+
+pub returns-in-Jump : goal.returns-in-Jump
+returns-in-Jump g c =
+    let mode = sym (ap (λ (v : Settings). v.mode) c.options.view_is) ∙ c.in-Jump.is in
+    let done = c.serve_jumps.ensures in
+    (done.0, done.1, does_as _ _ _ _ _ _ c.serve_jumps.result (jump_job-kept c.args.options.now (option_copied c.args.registered) done.0 mode) done.2)

@@ -31,7 +31,7 @@ long c = omega (arith, ap length c.go_to.ensures.last)
 pub returns-then-is_complete-clause-found : goal.returns-then-is_complete-clause-found
 returns-then-is_complete-clause-found c =
     let stands : c.go_to.new.self.last ≡ c.args.text.now =
-        take-cut c.min.result c.args.text.now c.go_to.new.self.last (search rules) c.go_to.ensures.last ∙ take_all 63 c.args.text.now c.if-text-le-MAX_LABEL_LEN.true in
+    take-cut c.min.result c.args.text.now c.go_to.new.self.last (search rules) c.go_to.ensures.last ∙ take_all 63 c.args.text.now c.if-text-le-MAX_LABEL_LEN.true in
     let read : IsRead c.go_to.new.self.net c.go_to.new.self.last = IsRead-reached c.go_to.new.self.net c.go_to.new.self.last (c.is_complete.ensures.0 c.if-is_complete.true) in
     let here : IsRead c.args.self.now.net c.args.text.now = subst (λ (p : Plan). IsRead p c.args.text.now) c.go_to.ensures.net (subst (λ (l : List ℕ). IsRead c.go_to.new.self.net l) stands read) in
     subst (λ (l : List ℕ). IsLeastFrom (IsRead c.args.self.now.net) c.args.text.now l) (sym stands) (IsLeastFrom-itself (IsRead c.args.self.now.net) c.args.text.now here)

@@ -1,0 +1,177 @@
+-- A listing that is kept to registered labels, step by step.
+use Rattle.std.proofs.Common.{◌≡◌, ◌≤◌, ◌+◌, ◌-◌, ℕ, zero, suc, List, [], ◌∷◌, ◌++◌, Bool, true, false, Option, Some, None, IfSome, Result, Err, length, refl, sym, ap, subst, ◌∙◌, if◌then◌else◌, arith}
+use Rattle.std.specs.List.{filter, slice_get}
+use Rattle.std.proofs.lemmas.List.{append_assoc}
+use Rattle.variant_table.specs.WellFormed.{IsWellFormed}
+use Rattle.variant_list.specs.Labels.{IsRising}
+use Rattle.variant_list.specs.Positions.{Built}
+use Rattle.variant_list.proofs.RisingLists.{IsRising-filter, Contains-filter}
+use Rattle.variant_list.proofs.MutualLemmas.{has_variant-from, has_variant-is}
+use Rattle.variant_list.proofs.OrderLemmas.{IsRising-unique}
+use Rattle.variant_list.specs.Variants.{variants}
+use Rattle.variant_list.proofs.VariantLists.{variants-AreVariants}
+use Rattle.registered_labels.specs.Registered.{AreRegistered}
+use Rattle.registered_labels.specs.Collisions.{Matching, IsBegun, collisions, collisions_ahead}
+use Rattle.registered_labels.proofs.ListedCollisions.{collisions-exactly, collisions-variants}
+use Rattle.idn2_cli.specs.Settings.{Settings, IsCount, IsWithinLimits, keeping}
+use Rattle.idn2_cli.specs.Transcript.{Piece, Output, output_lines}
+use Rattle.idn2_cli.specs.Answers.{is_among, is_registrable, lesser_label, nth, nth_if_given, trailer, variant_line, variants_after, block_to}
+use Rattle.idn2_cli.specs.inner.Dispositions.{block_by}
+use Rattle.idn2_cli.specs.Ends.{Held, Writes}
+use Rattle.idn2_cli.specs.inner.Emitting.{Emits, StopsWithin}
+use Rattle.idn2_cli.specs.inner.LineAnswers.{reaches}
+use Rattle.idn2_cli.specs.declared.session.stop.Stop.{Stop}
+use Rattle.idn2_cli.proofs.BlockSteps.{lines_to, get_if_given, limit_from, stops_at_variant, stops_later, get-above, reaches-now, reaches-later, limit_from-later, add_none}
+use Rattle.idn2_cli.proofs.ListingLemmas.{lines_to-none}
+use Rattle.idn2_cli.proofs.ListingProgress.{emits_after}
+use Rattle.idn2_cli.proofs.WrittenPieces.{writes_nothing, writes_join, stops_between}
+
+-- ---- the lines to come
+
+module _ (line : List ℕ → List ℕ) where
+  -- where `count` labels are listed, and these are to come
+  abbrev pub lines_from : Option ℕ → ℕ → List (List ℕ) → List (List ℕ)
+  lines_from limit count [] = trailer count None ∷ []
+  lines_from limit count (v ∷ vs) =
+      line v ∷ (if reaches limit (count + 1) then trailer (count + 1) (Some v) ∷ [] else lines_from limit (count + 1) vs)
+
+  -- what follows a label that is listed
+  abbrev pub lines_behind : Option ℕ → ℕ → List ℕ → List (List ℕ) → List (List ℕ)
+  lines_behind limit count v vs = if reaches limit (count + 1) then trailer (count + 1) (Some v) ∷ [] else lines_from limit (count + 1) vs
+
+  lines_to-from : (vs : List (List ℕ)) → IsRising vs → (count : ℕ) (place : Option ℕ)
+      → lines_to line count (get_if_given line vs place) vs ≡ lines_from (limit_from line count place) count vs
+  lines_to-from [] rising count None = ap (λ (n : ℕ). trailer n None ∷ []) (add_none line count)
+  lines_to-from [] rising count (Some i) = ap (λ (n : ℕ). trailer n None ∷ []) (add_none line count)
+  lines_to-from (v ∷ vs) rising count None =
+      stops_later line count v vs None tt ∙ ap (λ (l : List (List ℕ)). line v ∷ l) (lines_to-from vs rising.1 (count + 1) None)
+  lines_to-from (v ∷ vs) rising count (Some zero) =
+      stops_at_variant line count v vs (Some v) rising.0 refl
+      ∙ ap (λ (b : Bool). line v ∷ (if b then trailer (count + 1) (Some v) ∷ [] else lines_from (limit_from line count (Some 0)) (count + 1) vs)) (sym (reaches-now line count))
+  lines_to-from (v ∷ vs) rising count (Some (suc i)) =
+      stops_later line count v vs (slice_get vs i) (get-above line v vs i rising.0)
+      ∙ ap (λ (l : List (List ℕ)). line v ∷ l) (lines_to-from vs rising.1 (count + 1) (Some i))
+      ∙ ap (λ (limit : Option ℕ). line v ∷ lines_from limit (count + 1) vs) (sym (limit_from-later line count i))
+      ∙ ap (λ (b : Bool). line v ∷ (if b then trailer (count + 1) (Some v) ∷ [] else lines_from (limit_from line count (Some (suc i))) (count + 1) vs)) (sym (reaches-later line count i))
+
+-- ---- the block is these lines
+
+module _ (field : List ℕ → List ℕ) where
+  abbrev pub line_of : List ℕ → List ℕ
+  line_of v = variant_line (field v) v
+
+  block-lines : (vs : List (List ℕ)) (limit : Option ℕ) → IsRising vs → IfSome limit IsCount → block_to field (nth_if_given vs limit) vs ≡ lines_from line_of limit 0 vs
+  block-lines vs None rising limits = lines_to-none field None vs ∙ lines_to-from line_of vs rising 0 None
+  block-lines vs (Some zero) rising limits = absurd (omega (arith, limits.0))
+  block-lines vs (Some (suc m)) rising limits =
+      lines_to-none field (slice_get vs (suc m - 1)) vs
+      ∙ ap (λ (n : ℕ). lines_to line_of 0 (slice_get vs n) vs) (let one : suc m - 1 ≡ m = omega arith in one)
+      ∙ lines_to-from line_of vs rising 0 (Some m)
+      ∙ ap (λ (n : ℕ). lines_from line_of (Some n) 0 vs) (let same : (0 + 1) + m ≡ suc m = omega arith in same)
+
+-- ---- collisions are the variants that are kept
+
+-- nothing is tried, so only the limit stops the listing
+no_try : (stop : Option (List ℕ)) (n : ℕ) → lesser_label stop (nth [] n) ≡ stop
+no_try None n = refl
+no_try (Some v) n = refl
+
+pub kept-collisions : (o : Settings) (net : Built) (labels : List (List ℕ)) → IsWellFormed net.table → AreRegistered labels
+    → variants_after (keeping (Some labels) o) net.table net.label ≡ collisions net labels o.after
+kept-collisions o net labels formed all =
+    let whole = variants is_registrable net.table net.label o.after in
+    let are = variants-AreVariants is_registrable net.table net.label o.after formed.entries in
+    IsRising-unique (filter (is_among labels) whole) (collisions net labels o.after)
+    (IsRising-filter (is_among labels) whole are.rising)
+    (collisions-exactly net labels o.after formed all).rising
+    (λ v h. let kept = (Contains-filter (is_among labels) whole v).0 h in
+    (collisions-variants net labels o.after v formed all).1 (kept.1, has_variant-is labels v kept.0))
+    (λ v h. let both = (collisions-variants net labels o.after v formed all).0 h in
+    (Contains-filter (is_among labels) whole v).1 (has_variant-from labels v both.1, both.0))
+
+module _ (field : List ℕ → List ℕ) where
+  block-from : (o : Settings) (net : Built) (labels : List (List ℕ)) → IsWellFormed net.table → AreRegistered labels → IfSome o.limit IsCount
+      → block_by field (keeping (Some labels) o) net.table net.label ≡ lines_from (line_of field) o.limit 0 (collisions net labels o.after)
+  block-from o net labels formed all limits =
+      ap (λ (vs : List (List ℕ)). block_to field (lesser_label (nth_if_given vs o.limit) (nth [] o.tries)) vs) (kept-collisions o net labels formed all)
+      ∙ ap (λ (stop : Option (List ℕ)). block_to field stop (collisions net labels o.after)) (no_try (nth_if_given (collisions net labels o.after) o.limit) o.tries)
+      ∙ block-lines field (collisions net labels o.after) o.limit (collisions-exactly net labels o.after formed all).rising limits
+
+  -- ---- a listing under way
+
+  -- `so_far` is written; what is to come follows from the collisions ahead and the count
+  pub record IsUnderWay (o : Settings) (net : Built) (labels : List (List ℕ)) (old now : Held) (s : Matching) (count total : ℕ) : Type 0 where
+    pub so_far : List Piece
+    pub split : output_lines (block_by field (keeping (Some labels) o) net.table net.label) ≡ so_far ++ output_lines (lines_from (line_of field) o.limit count (collisions_ahead s))
+    pub pieces : Writes old now so_far
+    pub few : count + length (collisions_ahead s) ≤ total
+
+  filter-few : (test : List ℕ → Bool) (xs : List (List ℕ)) → length (filter test xs) ≤ length xs
+  filter-few test [] = omega arith
+  filter-few test (x ∷ xs) = by_test (test x) (filter-few test xs)
+    where
+      by_test : (b : Bool) → length (filter test xs) ≤ length xs → length (if b then x ∷ filter test xs else filter test xs) ≤ suc (length xs)
+      by_test true h = omega (arith, h)
+      by_test false h = omega (arith, h)
+
+  pub under_way-start : (o : Settings) (net : Built) (labels : List (List ℕ)) (old : Held) (s : Matching) (after : List ℕ) (total : ℕ) → IsWellFormed net.table → AreRegistered labels → IsWithinLimits o
+      → after ≡ o.after → total ≡ length labels → IsBegun net labels after s → IsUnderWay o net labels old old s 0 total
+  under_way-start o net labels old s after total formed all limits same_after same_total begun =
+      let ahead : collisions_ahead s ≡ collisions net labels o.after = begun.ahead ∙ ap (λ (a : List ℕ). collisions net labels a) same_after in
+      let count : length (collisions_ahead s) ≤ length labels = subst (λ (l : List (List ℕ)). length l ≤ length labels) (sym ahead) (filter-few _ labels) in record {
+        so_far = [];
+        split = ap output_lines (block-from o net labels formed all limits.limit) ∙ ap (λ (l : List (List ℕ)). output_lines (lines_from (line_of field) o.limit 0 l)) (sym ahead);
+        pieces = writes_nothing old;
+        few = omega (arith, count, same_total);
+      }
+
+  -- no label is left
+  pub under_way-ended : {A : Type 0} (o : Settings) (net : Built) (labels : List (List ℕ)) (old now new : Held) (s : Matching) (count total : ℕ) (r : Result A Stop) → IsUnderWay o net labels old now s count total
+      → collisions_ahead s ≡ [] → Emits now new (Output (trailer count None ++ 10 ∷ []) ∷ []) r → Emits old new (output_lines (block_by field (keeping (Some labels) o) net.table net.label)) r
+  under_way-ended o net labels old now new s count total r h none emits =
+      emits_after old now new _ h.so_far (output_lines (trailer count None ∷ [])) r
+      (h.split ∙ ap (λ (l : List (List ℕ)). h.so_far ++ output_lines (lines_from (line_of field) o.limit count l)) none) h.pieces emits
+
+  -- the label found is the next line
+  next-split : (o : Settings) (net : Built) (labels : List (List ℕ)) (old now : Held) (s next : Matching) (count total : ℕ) → (h : IsUnderWay o net labels old now s count total)
+      → collisions_ahead s ≡ next.label ∷ collisions_ahead next
+      → output_lines (block_by field (keeping (Some labels) o) net.table net.label) ≡ h.so_far ++ (Output (line_of field next.label ++ 10 ∷ []) ∷ output_lines (lines_behind (line_of field) o.limit count next.label (collisions_ahead next)))
+  next-split o net labels old now s next count total h found =
+      h.split ∙ ap (λ (l : List (List ℕ)). h.so_far ++ output_lines (lines_from (line_of field) o.limit count l)) found
+
+  -- its line could not be written whole
+  pub under_way-broken : {A : Type 0} (o : Settings) (net : Built) (labels : List (List ℕ)) (old now new : Held) (s next : Matching) (count total : ℕ) (v : List ℕ) (r : Result A Stop) (why : Stop) → IsUnderWay o net labels old now s count total
+      → collisions_ahead s ≡ next.label ∷ collisions_ahead next → v ≡ next.label → Emits now new (Output (line_of field v ++ 10 ∷ []) ∷ []) r → r ≡ Err why
+      → StopsWithin why old new (output_lines (block_by field (keeping (Some labels) o) net.table net.label))
+  under_way-broken o net labels old now new s next count total v r why h found is emits stopped =
+      stops_between old now new _ h.so_far (Output (line_of field next.label ++ 10 ∷ []) ∷ []) _ r why (next-split o net labels old now s next count total h found) h.pieces
+      (subst (λ (u : List ℕ). Emits now new (Output (line_of field u ++ 10 ∷ []) ∷ []) r) is emits) stopped
+
+  -- its line is written, and is not the last
+  pub under_way-found : (o : Settings) (net : Built) (labels : List (List ℕ)) (old now new : Held) (s next : Matching) (count total : ℕ) (v : List ℕ) → IsUnderWay o net labels old now s count total
+      → collisions_ahead s ≡ next.label ∷ collisions_ahead next → v ≡ next.label → Writes now new (Output (line_of field v ++ 10 ∷ []) ∷ []) → reaches o.limit (count + 1) ≡ false
+      → IsUnderWay o net labels old new next (count + 1) total
+  under_way-found o net labels old now new s next count total v h found is written going =
+      let line : List Piece = Output (line_of field next.label ++ 10 ∷ []) ∷ [] in
+      let fewer : length (collisions_ahead s) ≡ suc (length (collisions_ahead next)) = ap (λ (l : List (List ℕ)). length l) found in record {
+        so_far = h.so_far ++ line;
+        split = next-split o net labels old now s next count total h found
+            ∙ ap (λ (b : Bool). h.so_far ++ (Output (line_of field next.label ++ 10 ∷ []) ∷ output_lines (if b then trailer (count + 1) (Some next.label) ∷ [] else lines_from (line_of field) o.limit (count + 1) (collisions_ahead next)))) going
+            ∙ sym (append_assoc h.so_far line (output_lines (lines_from (line_of field) o.limit (count + 1) (collisions_ahead next))));
+        pieces = writes_join old now new h.so_far line h.pieces (subst (λ (u : List ℕ). Writes now new (Output (line_of field u ++ 10 ∷ []) ∷ [])) is written);
+        few = omega (arith, h.few, fewer);
+      }
+
+  -- its line is written, and is the last
+  pub under_way-reached : {A : Type 0} (o : Settings) (net : Built) (labels : List (List ℕ)) (old now new last : Held) (s next : Matching) (count total : ℕ) (v stop_at : List ℕ) (r : Result A Stop) → IsUnderWay o net labels old now s count total
+      → collisions_ahead s ≡ next.label ∷ collisions_ahead next → v ≡ next.label → Writes now new (Output (line_of field v ++ 10 ∷ []) ∷ []) → reaches o.limit (count + 1) ≡ true
+      → stop_at ≡ next.label → Emits new last (Output (trailer (count + 1) (Some stop_at) ++ 10 ∷ []) ∷ []) r → Emits old last (output_lines (block_by field (keeping (Some labels) o) net.table net.label)) r
+  under_way-reached o net labels old now new last s next count total v stop_at r h found is written reached at emits =
+      let line : List Piece = Output (line_of field next.label ++ 10 ∷ []) ∷ [] in
+      let end : List Piece = Output (trailer (count + 1) (Some next.label) ++ 10 ∷ []) ∷ [] in
+      emits_after old new last _ (h.so_far ++ line) end r
+      (next-split o net labels old now s next count total h found
+      ∙ ap (λ (b : Bool). h.so_far ++ (Output (line_of field next.label ++ 10 ∷ []) ∷ output_lines (if b then trailer (count + 1) (Some next.label) ∷ [] else lines_from (line_of field) o.limit (count + 1) (collisions_ahead next)))) reached
+      ∙ sym (append_assoc h.so_far line end))
+      (writes_join old now new h.so_far line h.pieces (subst (λ (u : List ℕ). Writes now new (Output (line_of field u ++ 10 ∷ []) ∷ [])) is written))
+      (subst (λ (u : List ℕ). Emits new last (Output (trailer (count + 1) (Some u) ++ 10 ∷ []) ∷ []) r) at emits)

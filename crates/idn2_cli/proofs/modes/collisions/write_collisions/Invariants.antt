@@ -1,0 +1,18 @@
+use Rattle.std.proofs.Common.{length}
+use Rattle.registered_labels.specs.Collisions.{collisions_ahead}
+use Rattle.idn2_cli.specs.inner.Dispositions.{field_by}
+use Rattle.idn2_cli.proofs.CollisionSteps.{IsUnderWay}
+use Rattle.idn2_cli.proofs.modes.collisions.write_collisions.Given as goal
+
+-- the lines so far are written; those to come follow from the collisions ahead and the count
+abbrev pub invariant-collisions : goal.invariant-collisions
+invariant-collisions g l =
+    record {
+      under_way : IsUnderWay (field_by l.dispositions) l.options l.net l.fn.registered
+          l.fn.console
+          l.console
+          l.search l.count l.total;
+    }
+
+abbrev pub decreases-collisions : goal.decreases-collisions
+decreases-collisions g l = length (collisions_ahead l.search)

@@ -1,0 +1,22 @@
+use Rattle.std.proofs.Common.{ap, sym, ◌∙◌, rules}
+use Rattle.std.specs.Option.{option_copied}
+use Rattle.idn2_cli.specs.Settings.{keeping}
+use Rattle.idn2_cli.specs.Ends.{Held}
+use Rattle.idn2_cli.proofs.LentWriters.{same_loans, given_back}
+use Rattle.idn2_cli.proofs.BlockMembers.{variants_answer-IsListing}
+use Rattle.idn2_cli.proofs.session.run.run_among.Goals as goal
+
+pub returns-clause-ends : goal.returns-clause-ends
+returns-clause-ends g c =
+    let ended = c.serve-status.ensures in
+    let same = same_loans _ _ _ _ _ _ ended.2 in
+    let output = sym (ap (λ (h : Held). h.output_loan) c.console.view_is ∙ same.0) in
+    let messages = sym (ap (λ (h : Held). h.messages_loan) c.console.view_is ∙ same.1) in (
+      ended.0,
+      ended.1,
+      given_back _ _ _ _ _ _ _ _ (ap g.W.Sink.state (search (rules, output)) ∙ ap (λ (h : Held). h.output) c.console.view_is)
+          (ap g.E.Sink.state (search (rules, messages)) ∙ ap (λ (h : Held). h.messages) c.console.view_is) ended.2,
+    )
+
+pub returns-clause-listing : goal.returns-clause-listing
+returns-clause-listing g c = λ table label text registrable. variants_answer-IsListing (keeping (option_copied c.args.registered) c.args.options.now) table label text.lines.well_formed.well_formed registrable

@@ -1,0 +1,57 @@
+//! The block of a label that is kept to registered labels.
+
+ghost use Rattle.std.specs.Prelude.{Some};
+ghost use Rattle.variant_table.specs.WellFormed.{IsWellFormed};
+ghost use Rattle.idn2_cli.specs.Settings.{IsWithinLimits, keeping};
+ghost use Rattle.idn2_cli.specs.Transcript.{output_lines};
+ghost use Rattle.idn2_cli.specs.inner.Dispositions.{block_by, field_by, TellsWell};
+ghost use Rattle.idn2_cli.specs.inner.Emitting.{Emits};
+
+use crate::command_line::options::Options;
+use crate::modes::block::{is_reached, write_end, write_stop, write_variant};
+use crate::modes::dispositions::Dispositions;
+use crate::modes::kept_line::KeptLine;
+use crate::session::console::Console;
+use crate::session::stop::Stop;
+use idn_label::test_label;
+use idn_text::Sink;
+use registered_labels::{Collisions, RegisteredLabels};
+use std::alloc::Global;
+use variant_list::Net;
+
+/// Writes the block of a net's label, with those of its variants that are registered. It goes from one of them to the next
+/// and tests no candidate, since what is registered may be.
+pub(crate) fn write_collisions<W: Sink, E: Sink>(
+    alloc: Global,
+    options: &Options,
+    net: &Net,
+    registered: &RegisteredLabels<'_>,
+    dispositions: &Dispositions<Net>,
+    console: &mut Console<'_, '_, W, E>,
+) -> Result<(), Stop>
+    requires limits { IsWithinLimits options.now }
+    requires table { IsWellFormed net.now.table }
+    requires dispositions { TellsWell dispositions.now }
+    ensures { Emits console.old console.new
+        (output_lines (block_by (field_by dispositions.now) (keeping (Some registered.now) options.now) net.now.table net.now.label)) result }
+{
+    // How many there are is more than the count ever is.
+    let total = registered.len();
+    let mut search = Collisions::new(alloc, net, registered, &options.after)?;
+    let mut count = 0;
+    let mut line = KeptLine::new();
+    'collisions: while search.advance() {
+        let label = search.label();
+        // Each may be registered, so only memory can be wanting.
+        let Ok(a_label) = test_label(alloc, label) else {
+            return Err(Stop::Memory);
+        };
+        let field = dispositions.field(alloc, label)?;
+        write_variant(label, &a_label, field, &mut line, console)?;
+        count += 1;
+        if is_reached(options.limit, count) {
+            return write_stop(count, search.label(), &mut line, console);
+        }
+    }
+    write_end(count, console)
+}
