@@ -29,6 +29,22 @@ MANUAL_PAGE = os.path.join(ROOT, "docs", "idn2.1")
 DECIDED = (r"`[^`]*`", r"RFC \d+(, section \d+)?", "UTS #46", r"docs/idn2\.1", r"U\+200C, ZERO WIDTH NON-JOINER",
            r"the Arabic block \(U\+0600 to 06FF\)", "refuses that name by 20", "more than 63 code points")
 
+# Bounds that documents state, each with the clause of a contract or a definition that has it.
+EDGES = ("crates/variant_list/src/net.rt", "result ≤ 68544")
+BOUNDS = {
+    ("docs/PROOFS.md", "how many edges its net has, at most 68,544"): EDGES,
+    ("docs/ARCHITECTURE.md", "at most 68,544 edges"): EDGES,
+    ("docs/LISTING.md", "at most 68,544 edges"): EDGES,
+    ("docs/PROOFS.md", "tests at most 256 times as many edges"):
+        ("crates/variant_list/src/cursor.rt", "≤ 256 * edge_count self.old.net.table self.old.net.label"),
+    ("docs/PROOFS.md", "126 times are proved of one search"):
+        ("crates/variant_list/src/search.rt", "≤ looks.old + 126 * length self.old.net.edges"),
+    ("docs/PROOFS.md", "at most 64 times 128 more than there are edges"):
+        ("crates/variant_list/src/cursor.rt", "≤ 64 * (edge_count self.now.net.table self.now.net.label + 128)"),
+    ("docs/PROOFS.md", "after 2^40 read calls or 2^32 lines"):
+        ("crates/idn_text/specs/Reading.antt", "((new.input.reads ≡ 2 ^ 40) ⊎ (new.number ≡ 2 ^ 32))"),
+}
+
 # A path below the top of the repository, or a document at its top.
 PATH = re.compile(r"(?<![\w/.-])((?:docs|tables|completions|conformance|crates|tests|bench)/[\w./-]*|[A-Z]+\.md)(?!\w)")
 BUILT = re.compile(r"crates/\w+/out/.*")
@@ -219,6 +235,11 @@ def named_paths(document):
         return {path.rstrip(".") for path in PATH.findall(file.read().replace("\\-", "-"))}
 
 
+def states_the_bounds_that_are_proved(folder):
+    for (document, statement), (file, clause) in BOUNDS.items():
+        assert statement in folded(text_of(document)) and clause in text_of(file), (document, statement, file, clause)
+
+
 def names_only_paths_that_are_there(folder):
     """Each document of the repository; what is built is left out."""
     documents = [*glob.glob(os.path.join(ROOT, "*.md")), *glob.glob(os.path.join(ROOT, "docs", "*"))]
@@ -257,6 +278,7 @@ TESTS = [
     installs_under_another_name,
     installs_under_no_name_of_a_path,
     packs_each_path_that_its_documents_name,
+    states_the_bounds_that_are_proved,
     names_only_paths_that_are_there,
     ends_as_the_readme_shows,
     needs_no_newer_python_than_is_said,
