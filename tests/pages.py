@@ -67,7 +67,7 @@ def figures():
 def make(folder, target, *words):
     """Runs make with a command that does nothing for rt, so that the program here is taken as it is."""
     words = ["make", "--no-print-directory", "-s", "-C", ROOT, target, "RT=true", *words]
-    return subprocess.run(words, cwd=folder, capture_output=True, text=True, timeout=LIMIT)
+    return subprocess.run(words, cwd=folder, capture_output=True, encoding="utf-8", timeout=LIMIT)
 
 
 def counts_the_figures_of_the_profile(folder):
@@ -131,7 +131,7 @@ def formatters():
 
 def expect_well_formed(page):
     for command in formatters():
-        done = subprocess.run([*command, page], capture_output=True, text=True, timeout=LIMIT)
+        done = subprocess.run([*command, page], capture_output=True, encoding="utf-8", timeout=LIMIT)
         words = done.stderr + (done.stdout if command[0] == "mandoc" else "")
         assert (words, done.returncode) == ("", 0), (command, words)
 
@@ -147,7 +147,7 @@ def breaks_no_option_of_the_manual_page(folder):
     written = text_of("docs", "idn2.1").replace("\\-", "-")
     for width in range(60, 121, 6):
         words = ["groff", "-man", "-Tascii", "-P-cbou", f"-rLL={width}n", MANUAL_PAGE]
-        page = subprocess.run(words, capture_output=True, text=True, timeout=LIMIT).stdout
+        page = subprocess.run(words, capture_output=True, encoding="utf-8", timeout=LIMIT).stdout
         for option in set(re.findall(r"--[a-z][a-z0-9-]+", run(["--help"]).stdout.decode())):
             assert page.count(option) == written.count(option), (width, option)
 
@@ -162,12 +162,12 @@ def names_what_comes_with_the_program(folder):
 
 
 def answers_alike_in_each_locale(folder):
-    """Also where there is no environment at all. Turkish is the language in which the capital I has another small letter."""
+    """Also where there is no environment at all. In Turkish the capital I has another small letter than elsewhere."""
     given = "I\nfaß\nFaß\nä\n\xa0\n".encode() + b"\xff\n"
+    environments = ({}, {"LC_ALL": "C"}, {"LC_ALL": "C.UTF-8"}, {"LC_ALL": "tr_TR.UTF-8", "LANG": "tr_TR"},
+                    {"LC_CTYPE": "ISO-8859-1"}, {"LANGUAGE": "de", "LANG": "de_DE.UTF-8"})
     for words in (["--register"], ["--lookup"], ["--decode"], ["--help"], ["--bogus"]):
-        answers = [run(words, given, env=environment) for environment in (
-            {}, {"LC_ALL": "C"}, {"LC_ALL": "C.UTF-8"}, {"LC_ALL": "tr_TR.UTF-8", "LANG": "tr_TR"}, {"LC_CTYPE": "ISO-8859-1"},
-            {"LANGUAGE": "de", "LANG": "de_DE.UTF-8"})]
+        answers = [run(words, given, env=environment) for environment in environments]
         assert len({(done.stdout, done.stderr, done.returncode) for done in answers}) == 1, answers
 
 
@@ -181,7 +181,7 @@ def installs_under_another_name(folder):
     assert files == [f"bin/{OTHER_NAME}", completions, page], files
     expect_well_formed(os.path.join(folder, page))
     source = f"source '{folder}/{completions}'; complete -p"
-    done = subprocess.run(["bash", "--norc", "-c", source], capture_output=True, text=True, timeout=LIMIT)
+    done = subprocess.run(["bash", "--norc", "-c", source], capture_output=True, encoding="utf-8", timeout=LIMIT)
     assert (done.stdout, done.stderr) == (f"complete -o filenames -F _idn2 {OTHER_NAME}\n", ""), done
     with open(os.path.join(folder, page), encoding="utf-8") as file:
         text = file.read()
@@ -226,7 +226,7 @@ def packs_each_path_that_its_documents_name(folder):
     assert not absent, absent
     # The scripts that are named find what they stand on there: without a file they tell how they are called.
     for script in sorted(path for path in named if path.endswith(".py") and path != "tables/make.py"):
-        done = subprocess.run([sys.executable, script], cwd=top, capture_output=True, text=True, timeout=LIMIT)
+        done = subprocess.run([sys.executable, script], cwd=top, capture_output=True, encoding="utf-8", timeout=LIMIT)
         assert done.returncode != 0 and "usage" in done.stderr and "Traceback" not in done.stderr, (script, done.stderr)
 
 
@@ -253,7 +253,7 @@ def ends_as_the_readme_shows(folder):
     """What `make run` prints at its end."""
     shown = re.search(r"`make run` ends with .*:\n\n((?:    .*\n)+)", text_of("README.md")).group(1)
     words = ["make", "--no-print-directory", "-C", ROOT, "run", "RT=true"]
-    done = subprocess.run(words, capture_output=True, text=True, timeout=LIMIT)
+    done = subprocess.run(words, capture_output=True, encoding="utf-8", timeout=LIMIT)
     assert done.stdout.endswith("\n" + re.sub("(?m)^    ", "", shown)), (shown, done)
 
 
