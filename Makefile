@@ -3,7 +3,7 @@ RT ?= rt
 PROGRAM := crates/idn2/out/idn2
 PREFIX ?= /usr/local
 # The name under which the program is installed. libidn2 has a program of the name idn2, too.
-PROGRAM_NAME ?= idn2
+PROGRAM_NAME := idn2
 # The version at the top of the changes. A test compares it with the program's.
 VERSION := $(shell sed -n 's/^## //p' CHANGELOG.md | head -n 1)
 # Where the archive goes.

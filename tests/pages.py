@@ -260,7 +260,8 @@ def ends_as_the_readme_shows(folder):
 def needs_no_newer_python_than_is_said(folder):
     """The scripts have no syntax newer than that of the version that the README names."""
     version = re.search(r"Python (3)\.(\d+) or later", text_of("README.md")).groups()
-    scripts = [path for path in glob.glob(os.path.join(ROOT, "*", "*.py"))]
+    scripts = [path for name in ("bench", "conformance", "tables", "tests")
+               for path in glob.glob(os.path.join(ROOT, name, "**", "*.py"), recursive=True)]
     assert len(scripts) > 15, scripts
     for path in scripts:
         with open(path, encoding="utf-8") as file:
