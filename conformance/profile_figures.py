@@ -68,11 +68,15 @@ class Figures:
     """The code points that may stand in a label here, those that may only by RFC 5892, and the statements of them."""
 
     def __init__(self, kit):
-        self.version, self.unicode, classes = kit.version(), KitProperties(kit), KitClasses(kit)
-        self.profile = Profile(classes)
-        allowed = {point for point in classes.category if classes.by_the_standard(point) in MAY_STAND_IN_A_TABLE}
+        self.version, self.unicode, self.classes = kit.version(), KitProperties(kit), KitClasses(kit)
+        self.profile = Profile(self.classes)
+        allowed = {point for point in self.classes.category if self.is_allowed(point)}
         self.lost = {point for point in allowed if is_in(self.profile.left_out, point)}
         self.here = allowed - self.lost
+
+    def is_allowed(self, point):
+        """By RFC 5892, where its context rules allow it."""
+        return self.classes.by_the_standard(point) in MAY_STAND_IN_A_TABLE
 
     def scripts(self, points):
         """The scripts of the code points, in their order. A sign of no script, or of the one before it, has none."""

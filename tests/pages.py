@@ -17,10 +17,9 @@ from program import LIMIT, ROOT, TABLES, expect, manual_blocks, run, run_tests, 
 sys.path += [os.path.join(ROOT, "conformance"), os.path.join(ROOT, "tables")]
 
 import rules
-from kit_data import Kit, KitClasses
+from kit_data import Kit
 from profile_figures import Figures
 from registration import a_label
-from unicode_data import MAY_STAND_IN_A_TABLE
 
 OTHER_NAME = "idn2-registry"
 MANUAL_PAGE = os.path.join(ROOT, "docs", "idn2.1")
@@ -103,7 +102,7 @@ def shown_rows(text):
 
 def answers_as_the_profile_shows(folder):
     """Here by the program, and by the standards over Unicode's own properties."""
-    classes, unicode = KitClasses(Kit()), figures().unicode
+    unicode = figures().unicode
     rows = list(shown_rows(text_of("docs", "PROFILE.md")))
     assert len(rows) >= 9, len(rows)
     for label, here, there in rows:
@@ -111,9 +110,9 @@ def answers_as_the_profile_shows(folder):
         refused = re.sub(r"^idn2: line 1: (\d+) ", r"\1, ", done.stderr.decode().strip())
         assert here == (f"`{done.stdout.decode().strip()}`" if done.stdout else refused), (label, here, done)
         points = [ord(letter) for letter in label]
-        is_allowed = all(classes.by_the_standard(point) in MAY_STAND_IN_A_TABLE for point in points)
+        is_allowed = all(map(figures().is_allowed, points)) and rules.passes_context_j(points, unicode)
         passes_bidi = not rules.is_right_to_left(points, unicode) or rules.passes_bidi_rule(points, unicode)
-        is_registrable = is_allowed and rules.passes_context_j(points, unicode) and passes_bidi
+        is_registrable = is_allowed and passes_bidi
         expected = f"`{a_label(label)}`" if is_registrable else "refused"
         assert there == ("the same" if expected == here else expected), (label, there, expected)
     expect(["--decode", "0a.xn--4db"], b"", "0a.א\n".encode(), b"", 0)
