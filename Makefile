@@ -2,6 +2,8 @@
 RT ?= rt
 PROGRAM := crates/idn2/out/idn2
 PREFIX ?= /usr/local
+# The name under which the program is installed. libidn2 has a program of the name idn2, too.
+PROGRAM_NAME := idn2
 # The version at the top of the changes. A test compares it with the program's.
 VERSION := $(shell sed -n 's/^## //p' CHANGELOG.md | head -n 1)
 # Where the archive goes.
@@ -10,7 +12,7 @@ DIST ?= dist
 LANES ?= $(shell awk -v processors="$$(nproc)" '/MemAvailable/ { lanes = int($$2 / 3000000) } \
     END { print (lanes < 1 ? 1 : lanes < processors ? lanes : processors) }' /proc/meminfo)
 
-.PHONY: all try run test wrong-bodies install dist check-tables bench conformance fuzz clean
+.PHONY: all try run test wrong-bodies install program-name dist check-tables bench conformance fuzz clean
 
 # Proves every function that the program uses, the first time with several crates at once, and builds the program.
 all:
@@ -34,19 +36,34 @@ test:
 wrong-bodies:
 	RT=$(RT) LANES=$(LANES) tests/wrong-bodies $(CRATES)
 
-# The program, its manual page and its completions for bash, below $(DESTDIR)$(PREFIX).
-install: all
-	install -D -m 755 $(PROGRAM) $(DESTDIR)$(PREFIX)/bin/idn2
-	install -D -m 644 docs/idn2.1 $(DESTDIR)$(PREFIX)/share/man/man1/idn2.1
-	install -D -m 644 completions/idn2.bash $(DESTDIR)$(PREFIX)/share/bash-completion/completions/idn2
+# The program, its manual page and its completions for bash, below $(DESTDIR)$(PREFIX), each under PROGRAM_NAME.
+BIN = $(DESTDIR)$(PREFIX)/bin/$(PROGRAM_NAME)
+PAGE = $(DESTDIR)$(PREFIX)/share/man/man1/$(PROGRAM_NAME).1
+COMPLETIONS = $(DESTDIR)$(PREFIX)/share/bash-completion/completions/$(PROGRAM_NAME)
+install: program-name all
+	install -D -m 755 $(PROGRAM) $(BIN)
+	install -D -m 644 docs/idn2.1 $(PAGE)
+	install -D -m 644 completions/idn2.bash $(COMPLETIONS)
+	sed -i $(IN_PAGE) $(PAGE)
+	sed -i -e 's/^\(complete .*\) idn2$$/\1 $(PROGRAM_NAME)/' $(COMPLETIONS)
 
-# One archive for servers without the kit: what is installed, the tables, what an engineer reads, and check sums.
+# Where the manual page names the command: its title, its name, what begins with the command in bold, and examples.
+# Messages begin with 'idn2: ' under each name.
+ROFF_NAME = $(subst -,\\-,$(PROGRAM_NAME))
+IN_PAGE = -e 's/^\.TH IDN2 /.TH \U$(ROFF_NAME)\E /' -e 's/^idn2 \\- /$(ROFF_NAME) \\- /' \
+    -e 's/^\.B idn2\( \|$$\)/.B $(ROFF_NAME)\1/' -e 's/^\(\$$\|.* |\) idn2 /\1 $(ROFF_NAME) /'
+
+program-name:
+	@echo '$(PROGRAM_NAME)' | grep -Eqx '[A-Za-z0-9][A-Za-z0-9._+-]*' || { echo 'PROGRAM_NAME is no file name' >&2; exit 2; }
+
+# One archive for servers without the kit: what is installed, the tables and their scripts, what an engineer reads, and
+# check sums. Each path that these documents name is in it.
 PACKED := idn2-$(VERSION)
 dist:
 	rm -rf $(DIST)/$(PACKED)
 	$(MAKE) --no-print-directory install DESTDIR= PREFIX=$(abspath $(DIST))/$(PACKED)
-	install -D -m 644 -t $(DIST)/$(PACKED)/tables tables/*.txt tables/from_lgr.py
-	install -D -m 644 -t $(DIST)/$(PACKED)/docs docs/GUIDE.md docs/NOTATION.md docs/PROFILE.md docs/GLOSSARY.md
+	find tables -name '*.txt' -o -name '*.py' | xargs -I % install -D -m 644 % $(DIST)/$(PACKED)/%
+	install -D -m 644 -t $(DIST)/$(PACKED)/docs docs/GUIDE.md docs/NOTATION.md docs/PROFILE.md docs/GLOSSARY.md docs/idn2.1
 	install -m 644 -t $(DIST)/$(PACKED) CHANGELOG.md $(wildcard LICENSE* LICENCE* COPYING*)
 	cd $(DIST)/$(PACKED) && find . -type f ! -name SHA256SUMS -printf '%P\n' | LC_ALL=C sort | xargs sha256sum > SHA256SUMS
 	cd $(DIST) && tar --sort=name --mtime=@0 --owner=0 --group=0 --numeric-owner -cf - $(PACKED) | gzip -n > $(PACKED).tar.gz

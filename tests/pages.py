@@ -1,0 +1,289 @@
+#!/usr/bin/env python3
+"""Tests what the documents state, where a program can tell it: figures, paths, the manual page, what is installed and
+packed. The sessions that the documents show are run by program.py. The last line is 'N passed, M failed', and the exit
+status is 0 where nothing failed."""
+
+import ast
+import functools
+import glob
+import os
+import re
+import shutil
+import subprocess
+import sys
+
+from program import LIMIT, ROOT, TABLES, expect, manual_blocks, run, run_tests, sessions_of
+
+sys.path += [os.path.join(ROOT, "conformance"), os.path.join(ROOT, "tables")]
+
+import rules
+from kit_data import Kit
+from profile_figures import Figures
+from registration import a_label
+
+OTHER_NAME = "idn2-registry"
+MANUAL_PAGE = os.path.join(ROOT, "docs", "idn2.1")
+
+# What of docs/PROFILE.md has a figure that isn't counted: what stands in standards, in the program, and in code.
+DECIDED = (r"`[^`]*`", r"RFC \d+(, section \d+)?", "UTS #46", r"docs/idn2\.1", r"U\+200C, ZERO WIDTH NON-JOINER",
+           r"the Arabic block \(U\+0600 to 06FF\)", "refuses that name by 20", "more than 63 code points")
+
+# Bounds that documents state, each with the clause of a contract or a definition that has it.
+EDGES = ("crates/variant_list/src/net.rt", "result ≤ 68544")
+BOUNDS = {
+    ("docs/PROOFS.md", "how many edges its net has, at most 68,544"): EDGES,
+    ("docs/ARCHITECTURE.md", "at most 68,544 edges"): EDGES,
+    ("docs/LISTING.md", "at most 68,544 edges"): EDGES,
+    ("docs/PROOFS.md", "tests at most 256 times as many edges"):
+        ("crates/variant_list/src/cursor.rt", "≤ 256 * edge_count self.old.net.table self.old.net.label"),
+    ("docs/PROOFS.md", "126 times are proved of one search"):
+        ("crates/variant_list/src/search.rt", "≤ looks.old + 126 * length self.old.net.edges"),
+    ("docs/PROOFS.md", "at most 64 times 128 more than there are edges"):
+        ("crates/variant_list/src/cursor.rt", "≤ 64 * (edge_count self.now.net.table self.now.net.label + 128)"),
+    ("docs/PROOFS.md", "after 2^40 read calls or 2^32 lines"):
+        ("crates/idn_text/specs/Reading.antt", "((new.input.reads ≡ 2 ^ 40) ⊎ (new.number ≡ 2 ^ 32))"),
+}
+
+# A path below the top of the repository, or a document at its top.
+PATH = re.compile(r"(?<![\w/.-])((?:docs|tables|completions|conformance|crates|tests|bench)/[\w./-]*|[A-Z]+\.md)(?!\w)")
+BUILT = re.compile(r"crates/\w+/out/.*")
+
+
+def text_of(*parts):
+    with open(os.path.join(ROOT, *parts), encoding="utf-8") as file:
+        return file.read()
+
+
+def folded(text):
+    return " ".join(text.split())
+
+
+@functools.cache
+def figures():
+    return Figures(Kit())
+
+
+def make(folder, target, *words):
+    """Runs make with a command that does nothing for rt, so that the program here is taken as it is."""
+    words = ["make", "--no-print-directory", "-s", "-C", ROOT, target, "RT=true", *words]
+    return subprocess.run(words, cwd=folder, capture_output=True, encoding="utf-8", timeout=LIMIT)
+
+
+def counts_the_figures_of_the_profile(folder):
+    """Each statement that is counted stands in the document, and no figure stands there that isn't counted."""
+    lines = text_of("docs", "PROFILE.md").splitlines()
+    rest = folded("\n".join(line for line in lines if not line.startswith("|")))
+    for statement in figures().statements():
+        assert statement in rest, statement
+        rest = rest.replace(statement, "")
+    for pattern in DECIDED:
+        rest = re.sub(pattern, "", rest)
+    left = re.findall(r".{0,40}(?:\d|U\+).{0,20}", rest)
+    assert not left, left
+
+
+def registers_the_code_points_that_are_counted(folder):
+    """Each code point by itself: those that may stand in a label are those that are refused neither by 10 nor by 11."""
+    points = [point for point in (*range(0xD800), *range(0xE000, 0x110000)) if chr(point) not in "\r\n"]
+    messages = run(["--register"], "".join(chr(point) + "\n" for point in points).encode()).stderr
+    barred = {points[int(number) - 1] for number in re.findall(rb"^idn2: line (\d+): 1[01] ", messages, re.MULTILINE)}
+    different = figures().here ^ (set(points) - barred)
+    assert not different, sorted(different)[:9]
+
+
+def shown_rows(text):
+    """(label, here, by the standard) of each row of the tables."""
+    for line in text.splitlines():
+        if line.startswith("| U+"):
+            label, here, there = (cell.strip() for cell in line.strip("|").split("|"))
+            points = re.findall(r"[0-9A-F]{4,6}", label.split("(")[0])
+            yield "".join(chr(int(point, 16)) for point in points), here, there
+
+
+def answers_as_the_profile_shows(folder):
+    """Here by the program, and by the standards over Unicode's own properties."""
+    unicode = figures().unicode
+    rows = list(shown_rows(text_of("docs", "PROFILE.md")))
+    assert len(rows) >= 9, len(rows)
+    for label, here, there in rows:
+        done = run(["--register", label])
+        refused = re.sub(r"^idn2: line 1: (\d+) ", r"\1, ", done.stderr.decode().strip())
+        assert here == (f"`{done.stdout.decode().strip()}`" if done.stdout else refused), (label, here, done)
+        points = [ord(letter) for letter in label]
+        is_allowed = all(map(figures().is_allowed, points)) and rules.passes_context_j(points, unicode)
+        passes_bidi = not rules.is_right_to_left(points, unicode) or rules.passes_bidi_rule(points, unicode)
+        is_registrable = is_allowed and passes_bidi
+        expected = f"`{a_label(label)}`" if is_registrable else "refused"
+        assert there == ("the same" if expected == here else expected), (label, there, expected)
+    expect(["--decode", "0a.xn--4db"], b"", "0a.א\n".encode(), b"", 0)
+    expect(["--lookup", "0a.xn--4db"], b"", b"", b"idn2: line 1: 20 not a valid name\n", 1)
+
+
+def formatters():
+    """The commands that must format a manual page without a word, as far as they are installed."""
+    for command in (["groff", "-man", "-Tutf8", "-ww"], ["mandoc", "-T", "lint", "-W", "warning"]):
+        if shutil.which(command[0]):
+            yield command
+        else:
+            print(f"pages: skipped {command[0]}, which is not installed")
+
+
+def expect_well_formed(page):
+    for command in formatters():
+        done = subprocess.run([*command, page], capture_output=True, encoding="utf-8", timeout=LIMIT)
+        words = done.stderr + (done.stdout if command[0] == "mandoc" else "")
+        assert (words, done.returncode) == ("", 0), (command, words)
+
+
+def formats_the_manual_page(folder):
+    expect_well_formed(MANUAL_PAGE)
+
+
+def breaks_no_option_of_the_manual_page(folder):
+    """At each width of a line an option stands as often as the page has it."""
+    if not any(command[0] == "groff" for command in formatters()):
+        return
+    written = text_of("docs", "idn2.1").replace("\\-", "-")
+    for width in range(60, 121, 6):
+        words = ["groff", "-man", "-Tascii", "-P-cbou", f"-rLL={width}n", MANUAL_PAGE]
+        page = subprocess.run(words, capture_output=True, encoding="utf-8", timeout=LIMIT).stdout
+        for option in set(re.findall(r"--[a-z][a-z0-9-]+", run(["--help"]).stdout.decode())):
+            assert page.count(option) == written.count(option), (width, option)
+
+
+def names_what_comes_with_the_program(folder):
+    """In the manual page: each table, and the sections that say what the surroundings change."""
+    page = text_of("docs", "idn2.1").replace("\\-", "-")
+    named = set(re.findall(r"^\.I (tables/\S+\.txt)$", page, re.MULTILINE))
+    assert named == {f"tables/{name}" for name in os.listdir(TABLES) if name.endswith(".txt")}, named
+    for section in ("ENVIRONMENT", "FILES", "CAVEATS"):
+        assert f"\n.SH {section}\n" in page, section
+
+
+def answers_alike_in_each_locale(folder):
+    """Also where there is no environment at all. In Turkish the capital I has another small letter than elsewhere."""
+    given = "I\nfaß\nFaß\nä\n\xa0\n".encode() + b"\xff\n"
+    environments = ({}, {"LC_ALL": "C"}, {"LC_ALL": "C.UTF-8"}, {"LC_ALL": "tr_TR.UTF-8", "LANG": "tr_TR"},
+                    {"LC_CTYPE": "ISO-8859-1"}, {"LANGUAGE": "de", "LANG": "de_DE.UTF-8"})
+    for words in (["--register"], ["--lookup"], ["--decode"], ["--help"], ["--bogus"]):
+        answers = [run(words, given, env=environment) for environment in environments]
+        assert len({(done.stdout, done.stderr, done.returncode) for done in answers}) == 1, answers
+
+
+def installs_under_another_name(folder):
+    """The program, its page and its completions have that name; the page's examples run, and its messages stay."""
+    done = make(folder, "install", f"PREFIX={folder}", f"PROGRAM_NAME={OTHER_NAME}")
+    assert (done.returncode, done.stderr) == (0, ""), done
+    files = sorted(os.path.relpath(path, folder) for path in glob.glob(os.path.join(folder, "**"), recursive=True)
+                   if os.path.isfile(path))
+    page, completions = f"share/man/man1/{OTHER_NAME}.1", f"share/bash-completion/completions/{OTHER_NAME}"
+    assert files == [f"bin/{OTHER_NAME}", completions, page], files
+    expect_well_formed(os.path.join(folder, page))
+    source = f"source '{folder}/{completions}'; complete -p"
+    done = subprocess.run(["bash", "--norc", "-c", source], capture_output=True, encoding="utf-8", timeout=LIMIT)
+    assert (done.stdout, done.stderr) == (f"complete -o filenames -F _idn2 {OTHER_NAME}\n", ""), done
+    with open(os.path.join(folder, page), encoding="utf-8") as file:
+        text = file.read()
+    os.symlink(TABLES, os.path.join(folder, "tables"))
+    run_examples(folder, text)
+    # Nothing else is different, and the command has no other name.
+    other = OTHER_NAME.replace("-", "\\-")
+    assert text.replace(other, "idn2").replace(other.upper(), "IDN2") == text_of("docs", "idn2.1"), text
+    assert not re.search(r"^(\.TH |\.B )?idn2( |$)|[$|] idn2 ", text, re.MULTILINE | re.IGNORECASE), text
+
+
+def run_examples(folder, page):
+    """The examples of a page, with nothing but its own program and what each system has."""
+    path = os.path.join(folder, "bin") + os.pathsep + "/usr/bin" + os.pathsep + "/bin"
+    sessions = [session for block in manual_blocks(page) for session in sessions_of(block)]
+    assert len(sessions) >= 6, sessions
+    for command, lines in sessions:
+        assert OTHER_NAME in command or ">" in command, command
+        done = subprocess.run(command, shell=True, cwd=folder, env={"PATH": path}, stdin=subprocess.DEVNULL,
+                              stdout=subprocess.PIPE, stderr=subprocess.STDOUT, timeout=LIMIT)
+        assert done.stdout.decode() == "".join(line + "\n" for line in lines), (command, done.stdout)
+
+
+def installs_under_no_name_of_a_path(folder):
+    for name in ("", "a/b", "..", "-x", "a b", "a&b"):
+        done = make(folder, "install", f"PREFIX={folder}", f"PROGRAM_NAME={name}")
+        assert done.returncode != 0 and "PROGRAM_NAME is no file name" in done.stderr, (name, done)
+    assert os.listdir(folder) == [], os.listdir(folder)
+
+
+def packs_each_path_that_its_documents_name(folder):
+    done = make(folder, "dist", f"DIST={folder}")
+    assert done.returncode == 0, done
+    [archive] = glob.glob(os.path.join(folder, "*.tar.gz"))
+    subprocess.run(["tar", "xf", archive], cwd=folder, check=True, timeout=LIMIT)
+    top = archive.removesuffix(".tar.gz")
+    documents = [path for ending in ("*.md", "*.1") for path in glob.glob(os.path.join(top, "**", ending), recursive=True)]
+    assert len(documents) >= 6, documents
+    named = {path for document in documents for path in named_paths(document)}
+    assert "tables/check.py" in named, named
+    absent = [path for path in sorted(named) if not os.path.exists(os.path.join(top, path))]
+    assert not absent, absent
+    # The scripts that are named find what they stand on there: without a file they tell how they are called.
+    for script in sorted(path for path in named if path.endswith(".py") and path != "tables/make.py"):
+        done = subprocess.run([sys.executable, script], cwd=top, capture_output=True, encoding="utf-8", timeout=LIMIT)
+        assert done.returncode != 0 and "usage" in done.stderr and "Traceback" not in done.stderr, (script, done.stderr)
+
+
+def named_paths(document):
+    with open(document, encoding="utf-8") as file:
+        return {path.rstrip(".") for path in PATH.findall(file.read().replace("\\-", "-"))}
+
+
+def states_the_bounds_that_are_proved(folder):
+    for (document, statement), (file, clause) in BOUNDS.items():
+        assert statement in folded(text_of(document)) and clause in text_of(file), (document, statement, file, clause)
+
+
+def names_only_paths_that_are_there(folder):
+    """Each document of the repository; what is built is left out."""
+    documents = [*glob.glob(os.path.join(ROOT, "*.md")), *glob.glob(os.path.join(ROOT, "docs", "*"))]
+    named = {path for document in documents for path in named_paths(document) if not BUILT.fullmatch(path)}
+    named |= {"crates/" + path for path in re.findall(r"\b\w+/specs/[\w/]+\.antt", text_of("docs", "DEFINITIONS.md"))}
+    absent = [path for path in sorted(named) if not os.path.exists(os.path.join(ROOT, path))]
+    assert len(named) > 50 and not absent, absent
+
+
+def ends_as_the_readme_shows(folder):
+    """What `make run` prints at its end."""
+    shown = re.search(r"`make run` ends with .*:\n\n((?:    .*\n)+)", text_of("README.md")).group(1)
+    words = ["make", "--no-print-directory", "-C", ROOT, "run", "RT=true"]
+    done = subprocess.run(words, capture_output=True, encoding="utf-8", timeout=LIMIT)
+    assert done.stdout.endswith("\n" + re.sub("(?m)^    ", "", shown)), (shown, done)
+
+
+def needs_no_newer_python_than_is_said(folder):
+    """The scripts have no syntax newer than that of the version that the README names."""
+    version = re.search(r"Python (3)\.(\d+) or later", text_of("README.md")).groups()
+    scripts = [path for name in ("bench", "conformance", "tables", "tests")
+               for path in glob.glob(os.path.join(ROOT, name, "**", "*.py"), recursive=True)]
+    assert len(scripts) > 15, scripts
+    for path in scripts:
+        with open(path, encoding="utf-8") as file:
+            ast.parse(file.read(), path, feature_version=tuple(map(int, version)))
+
+
+TESTS = [
+    counts_the_figures_of_the_profile,
+    registers_the_code_points_that_are_counted,
+    answers_as_the_profile_shows,
+    formats_the_manual_page,
+    breaks_no_option_of_the_manual_page,
+    names_what_comes_with_the_program,
+    answers_alike_in_each_locale,
+    installs_under_another_name,
+    installs_under_no_name_of_a_path,
+    packs_each_path_that_its_documents_name,
+    states_the_bounds_that_are_proved,
+    names_only_paths_that_are_there,
+    ends_as_the_readme_shows,
+    needs_no_newer_python_than_is_said,
+]
+
+
+if __name__ == "__main__":
+    sys.exit(run_tests("pages", TESTS))
