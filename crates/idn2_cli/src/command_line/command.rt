@@ -14,20 +14,26 @@ use std::alloc::{AllocError, Global};
 /// The version of the program, and of Unicode's tables.
 const VERSION: &str = "0.1.0 (Unicode 18.0.0)";
 
-const ABOUT: &str =
-    "Converts and tests internationalized domain names, and lists the variants of a label.";
+const ABOUT: &str = "Converts and tests internationalized domain names, and lists variants.";
 
+/// The lines of the help have at most 80 columns.
 const AFTER_HELP: &str = "\
-Write --after=TEXT where TEXT begins with '-'; strings that begin with '-' come after '--'.
+Without --limit there is no limit; without --tries it is 1000000.
+Write --after=TEXT where TEXT begins with '-';
+strings that begin with '-' come after '--'.
 
 Examples:
-  idn2 faß.de                                      answers xn--fa-hia.de
-  idn2 --variants german.txt --limit 100 strasse   lists the first 100 variants of strasse
+  idn2 faß.de
+      answers xn--fa-hia.de
+  idn2 --variants german.txt --limit 100 strasse
+      lists the first 100 variants of strasse
+  idn2 --variants german.txt --among registered.txt strasse
+      lists those of them that are registered
 
 Status:
   0  every line was answered
   1  a line was refused, or the table has a gap
-  2  the options or the table can't be used
+  2  the options or a file can't be used
   3  reading or writing failed
   4  memory ran out";
 
@@ -74,7 +80,7 @@ fn with_modes<'a>(command: Command<'a>, alloc: Global) -> Result<Command<'a>, Al
         alloc,
         REGISTER,
         'r',
-        "Test each line as one label to be registered, and print its A-label",
+        "Test each line, one label, and print its A-label",
     )?;
     let command = with_short_flag(
         command,
@@ -88,14 +94,14 @@ fn with_modes<'a>(command: Command<'a>, alloc: Global) -> Result<Command<'a>, Al
         alloc,
         VARIANTS,
         "FILE",
-        "List the variants of each line, one label, by the table in FILE",
+        "List the variants of each label by the table in FILE",
     )?;
     with_option(
         command,
         alloc,
         CHECK_TABLE,
         "FILE",
-        "Print the reverse and transitive pairs that the table in FILE lacks",
+        "Print the pairs that the table in FILE lacks",
     )
 }
 
@@ -107,13 +113,13 @@ fn with_collisions<'a>(command: Command<'a>, alloc: Global) -> Result<Command<'a
         alloc,
         AMONG,
         "FILE",
-        "With --variants: list only labels that stand in FILE",
+        "With --variants: list only the labels in FILE",
     )?;
     with_flag(
         command,
         alloc,
         JUMP,
-        "With --variants: answer LABEL or LABEL TAB TEXT by the least label from TEXT on",
+        "With --variants: answer LABEL TAB TEXT by one label",
     )
 }
 
@@ -131,7 +137,7 @@ fn with_switches<'a>(command: Command<'a>, alloc: Global) -> Result<Command<'a>,
         command,
         alloc,
         STD3,
-        "Lookup refuses ASCII other than letters, digits and hyphens",
+        "Lookup refuses ASCII but letters, digits and hyphens",
     )?;
     with_flag(command, alloc, QUIET, "Accepted; there is no banner")
 }
@@ -151,14 +157,14 @@ fn with_bounds<'a>(command: Command<'a>, alloc: Global) -> Result<Command<'a>, A
         alloc,
         LIMIT,
         "N",
-        "With --variants: stop after N variants of a line [default: no limit]",
+        "With --variants: stop after N variants of a line",
     )?;
     with_option(
         command,
         alloc,
         TRIES,
         "N",
-        "With --variants: stop after N tested labels of a line [default: 1000000]",
+        "With --variants: stop after N tested labels",
     )
 }
 
