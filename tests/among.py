@@ -146,7 +146,8 @@ def lines_file(folder, labels):
 
 def lists_the_variants_that_are_registered(folder):
     for table, registered, options, given, output, messages in LISTINGS:
-        words = ["--variants", table_of(folder, table), "--among", registered_file(folder, registered), *options.split()]
+        file = registered_file(folder, registered)
+        words = ["--variants", table_of(folder, table), "--among", file, *options.split()]
         expect(words, given.encode(), output.encode(), messages.encode(), 1 if messages else 0)
 
 
@@ -284,7 +285,7 @@ def blocks_of(words, labels):
 
 
 def random_table(chance, alphabet):
-    """A table of random entries, mostly with gaps, as a map. Each label of these letters can be cut into its sources."""
+    """A table of random entries, mostly with gaps, as a map. Its sources make up each label of these letters."""
     sequence = lambda: "".join(chance.choices(alphabet, k=chance.choice((1, 1, 2, 3))))
     table = {letter: set() for letter in alphabet}
     for _ in range(chance.randint(2, 6)):
@@ -294,7 +295,8 @@ def random_table(chance, alphabet):
 
 def with_reverse_pairs(table):
     """The table with each pair also the other way round."""
-    pairs = {pair for source, variants in table.items() for each in variants for pair in ((source, each), (each, source))}
+    pairs = {(source, each) for source, variants in table.items() for each in variants}
+    pairs |= {(each, source) for source, each in pairs}
     return {source: sorted(each for of, each in pairs if of == source) for source in {*table, *(of for of, _ in pairs)}}
 
 
