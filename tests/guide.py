@@ -35,14 +35,16 @@ class Kit:
     """A folder with the scripts, and with the program as the first idn2 on the path."""
 
     def __init__(self, folder, locale, shell):
-        self.folder, self.bin = folder, os.path.join(folder, "bin")
-        os.mkdir(self.bin)
+        self.folder, self.bin, self.temporary = (os.path.join(folder, name) for name in ("", "bin", "temporary"))
+        for path in (self.bin, self.temporary):
+            os.mkdir(path)
         for name, text in SCRIPTS.items():
             self.write(name, text)
         os.symlink(PROGRAM, os.path.join(self.bin, "idn2"))
         os.symlink(shutil.which(shell), os.path.join(self.bin, "sh"))
         os.symlink(TABLES, os.path.join(folder, "tables"))
-        self.environment = {**os.environ, "LC_ALL": locale, "PATH": self.bin + os.pathsep + os.environ["PATH"]}
+        path = self.bin + os.pathsep + os.environ["PATH"]
+        self.environment = {**os.environ, "LC_ALL": locale, "PATH": path, "TMPDIR": self.temporary}
 
     def write(self, name, text):
         with open(os.path.join(self.folder, name), "wb") as file:
@@ -128,6 +130,28 @@ def accepts_and_refuses_labels(kit):
         kit.expect([*words, label], output, status, message)
     for words in (["accept.sh"], ["accept.sh", GERMAN, "registered.txt", "maus"], [*words, "maus", "laus"]):
         kit.expect(words, b"", 2, b"usage: sh accept.sh TABLE ZONE REGISTERED LABEL\n")
+
+
+@in_each_setting
+def finds_registered_labels_in_either_form(kit):
+    line = "straße\txn--strae-oqa\tallocatable\n".encode()
+    for text in ("straße", "xn--strae-oqa", "abc\nstraße\nxyz\n", "xn--strae-oqa\r\nabc\r\n", "straße\nxn--strae-oqa\n"):
+        kit.write("registered.txt", text)
+        for label in ("strasse", "straße"):
+            kit.expect(["taken.sh", GERMAN, "registered.txt", label], line * text.count("stra"), 1)
+        kit.expect(["accept.sh", GERMAN, GERMAN, "registered.txt", "xn--strae-oqa"], b"", 1, line)
+
+
+@in_each_setting
+def takes_a_label_for_no_option(kit):
+    kit.write("registered.txt", "haus\n")
+    refused = b"idn2: line 1: 13 hyphen out of place\n"
+    for words in (["taken.sh", GERMAN, "registered.txt"], ["list_all.sh", GERMAN], ["keys.sh", HAN],
+                  ["key_taken.sh", HAN, "registered.txt"], ["accept.sh", GERMAN, GERMAN, "registered.txt"]):
+        for label in ("-a", "--", "-h", "--version"):
+            kit.expect([*words, label], b"", 1, refused)
+    kit.expect(["table_of.sh", "--help", GERMAN], b"", 1, refused)
+    kit.expect(["page.sh", GERMAN, "--help", "1", "pages"], b"", 1, refused)
 
 
 @in_each_setting
@@ -258,6 +282,21 @@ def takes_a_lost_program_for_unknown(kit):
     assert glob.glob(kit.folder + "/pages/[0-9]") == []
 
 
+@in_each_setting
+def takes_a_lost_end_of_the_lines_for_unknown(kit):
+    """What goes to awk is cut behind some lines: in list_all.sh and keys.sh, and then in taken.sh itself."""
+    kit.write("registered.txt", "haus\nmaß\nlaus\n")
+    awk = shutil.which("awk")
+    for count in range(4):
+        cut = f"head -n {count} | {awk} \"$@\""
+        kit.instead_of("awk", f"#!/bin/sh\ncase $* in *status*) {cut} ;; *) exec {awk} \"$@\" ;; esac\n")
+        for words in (["taken.sh", GERMAN, "registered.txt", "strasse"], ["list_all.sh", GERMAN, "mass", "masse"],
+                      ["keys.sh", HAN, "中國", "中国"]):
+            assert kit.run(*words)[2] == NOT_KNOWN, (words, count)
+        kit.instead_of("awk", f"#!/bin/sh\ncase $* in *taken*) {cut} ;; *) exec {awk} \"$@\" ;; esac\n")
+        assert kit.run("taken.sh", GERMAN, "registered.txt", "masse")[2] == NOT_KNOWN, count
+
+
 def random_table(chance, letters, longest):
     """A table without gaps: sets of sequences, each with all others of its set as variants."""
     sequences = {"".join(chance.choices(letters, k=chance.randint(1, longest))) for _ in range(8)} | set(letters)
@@ -371,7 +410,7 @@ def tells_what_a_table_changes(kit):
     assert (output != b"", message, status) == (True, b"", 1), (output, message, status)
     kit.expect_unknown(["change.sh", "old.txt", "less.txt", "labels.txt"], b"idn2: line 2: 40 not made of table entries\n")
     kit.expect_unknown(["change.sh", "less.txt", "old.txt", "labels.txt"], b"idn2: line 2: 40 not made of table entries\n")
-    assert glob.glob(os.path.join(kit.environment.get("TMPDIR", "/tmp"), "tmp.*", "old")) == []
+    assert os.listdir(kit.temporary) == []
 
 
 # Pages of at most five lines of a listing of 48, with labels in which hyphens stand.
@@ -455,7 +494,7 @@ def serves_requests(kit):
     given = "maß\nMaß\n\n-\nmañana\n".encode() + b"ma\xc3\n" + b"a" * 1025 + b"\nx\r\nfa\xc3\x9f"
     refused = [b"refused: 10 disallowed code point", b"refused: 3 empty", b"refused: 13 hyphen out of place"]
     middle = [b"refused: 1 not UTF-8", b"refused: 2 line too long", b"refused: control character"]
-    answers = [b"accepted: xn--ma-hia", *refused, b"accepted: xn--maana-pta", *middle, b"accepted: xn--fa-hia"]
+    answers = [b"registrable: xn--ma-hia", *refused, b"registrable: xn--maana-pta", *middle, b"registrable: xn--fa-hia"]
     kit.expect(["ask.sh"], b"\n".join(answers) + b"\n", 0, given=given)
     listings = [b"mass xn--ma-hia", *refused, b"refused: 40 not made of table entries", *middle, b"fass xn--fa-hia"]
     kit.expect(["ask.py", GERMAN], b"\n".join(listings) + b"\n", 0, given=given)
@@ -489,7 +528,7 @@ def tells_that_the_program_has_ended(kit):
     last = f"#!/bin/sh\n[ \"$1\" = --version ] && exec {PROGRAM} --version\nread -r line\necho 'idn2: 70 out of memory' >&2\n"
     for program, answers in ((first, 1), (last, 0)):
         kit.instead_of("idn2", program)
-        for words, answer in ((["ask.sh"], b"accepted: haus\n"), (["ask.py", GERMAN], b"haus\n")):
+        for words, answer in ((["ask.sh"], b"registrable: haus\n"), (["ask.py", GERMAN], b"haus\n")):
             output, message, status = kit.run(*words, given=b"haus\nmaus\nlaus\n")
             assert (output, status) == (answer * answers, NOT_KNOWN), (words, output, message, status)
 
@@ -558,7 +597,7 @@ def has_the_options_that_the_guide_says_beside_libidn2(folder):
     for option, here in said.items():
         found = under(PROGRAM, os.path.join(folder, "here"), f"idn2 {option} x")
         assert ((b"idn2: 50 usage\n", 2) == found) == here.startswith("refused by 50"), (option, here, found)
-    others = re.search(r"unknown to\nlibidn2's 2\.3\.3, too: (.*?)\.\n", GUIDE, re.DOTALL).group(1)
+    others = re.search(r"Neither program has (.*?), some of", GUIDE, re.DOTALL).group(1)
     others = re.findall(r"`([^`]*)`", others)
     assert len(others) == 6, others
     for option in others:
@@ -591,12 +630,15 @@ def fails_with_the_program_of_libidn2(kit):
 TESTS = [
     has_each_script_in_the_guide,
     accepts_and_refuses_labels,
+    finds_registered_labels_in_either_form,
+    takes_a_label_for_no_option,
     refuses_each_control_character,
     keeps_runs_at_once_apart,
     takes_a_stop_for_unknown,
     takes_what_it_cannot_read_for_unknown,
     takes_a_full_disk_for_unknown,
     takes_a_lost_program_for_unknown,
+    takes_a_lost_end_of_the_lines_for_unknown,
     finds_the_collisions_that_sets_have,
     joins_tables_so_that_nothing_is_missed,
     joins_ranges_and_the_tables_that_come_with_the_program,
