@@ -441,6 +441,8 @@ def pages_through_a_listing(kit):
         kit.expect(PAGED, b"pages/%d\n" % number, 0)
     expect_whole_pages(kit)
     kit.expect(PAGED, b"", 0)
+    kit.write("pages/11", "")
+    kit.expect_unknown(PAGED, b"a page without a trailer: pages/11\n")
     for words in ([*PAGED[:2], "aaa", *PAGED[3:]], ["page.sh", GERMAN, *PAGED[2:]]):
         kit.expect_unknown(words, b"of another table or label: pages\n")
     kit.write("hyphens.txt", "0061|002D\n# another table\n")
@@ -523,10 +525,12 @@ def serves_each_request_before_the_next(kit):
 
 @in_each_setting
 def tells_that_the_program_has_ended(kit):
-    """One answer, and then the end of the program; or a message that says nothing of the label."""
-    first = f"#!/bin/sh\n[ \"$1\" = --version ] && exec {PROGRAM} --version\nhead -n 1 | {PROGRAM} \"$@\"\n"
-    last = f"#!/bin/sh\n[ \"$1\" = --version ] && exec {PROGRAM} --version\nread -r line\necho 'idn2: 70 out of memory' >&2\n"
-    for program, answers in ((first, 1), (last, 0)):
+    """One answer, and then the end of the program, or of its input alone; or a message that says nothing of the label."""
+    version = f"#!/bin/sh\n[ \"$1\" = --version ] && exec {PROGRAM} --version\n"
+    first = version + f"head -n 1 | {PROGRAM} \"$@\"\n"
+    closed = first + "exec < /dev/null\nsleep 1\n"
+    last = version + "read -r line\necho 'idn2: 70 out of memory' >&2\n"
+    for program, answers in ((first, 1), (closed, 1), (last, 0)):
         kit.instead_of("idn2", program)
         for words, answer in ((["ask.sh"], b"registrable: haus\n"), (["ask.py", GERMAN], b"haus\n")):
             output, message, status = kit.run(*words, given=b"haus\nmaus\nlaus\n")
