@@ -1,6 +1,6 @@
 #!/usr/bin/env python3
-"""Runs the scripts that docs/GUIDE.md tells to save: where listings stop, files are missing, disks are full, runs meet or
-are killed; and what it says of libidn2's program beside that program, where it is installed.
+"""Runs the scripts that docs/GUIDE.md tells to save: where listings stop, files are missing, disks are full, and runs
+meet or are killed; and what it says of libidn2's program beside that program, where it is installed.
 
 Every test is run in each of the SETTINGS. The last line is 'N passed, M failed', and the exit status is 0 where nothing
 failed. The sessions that the guide shows are run by program.py."""
@@ -15,7 +15,6 @@ import shutil
 import signal
 import subprocess
 import sys
-import time
 
 from program import LIMIT, PROGRAM, ROOT, TABLES, is_registrable, markdown_files, run_tests, spelled
 
@@ -29,6 +28,18 @@ GERMAN, HAN = "tables/german.txt", "tables/han.txt"
 # Of this label 131,072 variants are listed, and the scripts stop before that.
 LONG = "国" * 17
 CONTROL_CHARACTERS = [bytes([byte]) for byte in (*range(0x20), 0x7F)]
+INTERPRETERS = {"ask.sh": "bash", "ask.py": sys.executable, "combine.py": sys.executable}
+# A question for each script that asks the program of one label, or of some. 'mass' and '中國' are taken.
+QUESTIONS = (
+    ["accept.sh", GERMAN, GERMAN, "registered.txt", "mass"],
+    ["taken.sh", GERMAN, "registered.txt", "mass"],
+    ["list_all.sh", GERMAN, "mass"],
+    ["keys.sh", HAN, "中國"],
+    ["key_taken.sh", HAN, "keys.txt", "中國"],
+    ["table_of.sh", "mass", GERMAN],
+    ["change.sh", GERMAN, GERMAN, "registered.txt"],
+    ["page.sh", GERMAN, "mass", "1", "pages"],
+)
 
 
 class Kit:
@@ -51,12 +62,12 @@ class Kit:
             file.write(text if isinstance(text, bytes) else text.encode())
 
     def command(self, script, *words):
-        return [{"ask.sh": "bash", "ask.py": sys.executable, "combine.py": sys.executable}.get(script, "sh"), script, *words]
+        return [INTERPRETERS.get(script, "sh"), script, *words]
 
     def run(self, script, *words, given=b"", **more):
         """What a script prints, what it tells on standard error, and its status."""
-        streams = {"input": given, "stdout": subprocess.PIPE, "stderr": subprocess.PIPE, **more}
-        done = subprocess.run(self.command(script, *words), cwd=self.folder, env=self.environment, timeout=LIMIT, **streams)
+        more = {"input": given, "stdout": subprocess.PIPE, "stderr": subprocess.PIPE, "timeout": LIMIT, **more}
+        done = subprocess.run(self.command(script, *words), cwd=self.folder, env=self.environment, **more)
         return done.stdout, done.stderr, done.returncode
 
     def expect(self, words, output, status, message=b"", **more):
@@ -67,6 +78,11 @@ class Kit:
 
     def expect_unknown(self, words, message, **more):
         self.expect(words, b"", NOT_KNOWN, message, **more)
+
+    def check(self, table):
+        """What the program prints of a table."""
+        path = os.path.join(self.folder, table)
+        return subprocess.run([PROGRAM, "--check-table", path], capture_output=True, timeout=LIMIT).stdout
 
     def instead_of(self, command, text):
         """Another program comes first on the path under this name."""
@@ -135,7 +151,8 @@ def accepts_and_refuses_labels(kit):
 @in_each_setting
 def finds_registered_labels_in_either_form(kit):
     line = "straße\txn--strae-oqa\tallocatable\n".encode()
-    for text in ("straße", "xn--strae-oqa", "abc\nstraße\nxyz\n", "xn--strae-oqa\r\nabc\r\n", "straße\nxn--strae-oqa\n"):
+    for text in ("straße", "xn--strae-oqa", "abc\nstraße\nxyz\n", "xn--strae-oqa\r\nabc\r\n",
+                 "straße\nxn--strae-oqa\n"):
         kit.write("registered.txt", text)
         for label in ("strasse", "straße"):
             kit.expect(["taken.sh", GERMAN, "registered.txt", label], line * text.count("stra"), 1)
@@ -223,10 +240,10 @@ def takes_what_it_cannot_read_for_unknown(kit):
                           ["change.sh", bad, GERMAN, "registered.txt"], ["combine.py", GERMAN, bad]):
                 kit.expect_unknown(words, b"idn2: ")
     kit.expect_unknown(["keys.sh", GERMAN, "maus"], b"a sequence has several code points: tables/german.txt\n")
-    for text in ("", "Haus\n", "haus\n\nmaus\n", "haus \n", "ma\xff\n".encode("latin-1"), "xn--Ma-hia\n", "#end\nmaus\n"):
+    for text in (b"", b"Haus\n", b"haus\n\nmaus\n", b"haus \n", b"ma\xff\n", b"xn--Ma-hia\n", b"#end\nmaus\n"):
         kit.write("labels.txt", text)
         words = ["taken.sh", GERMAN, "labels.txt", "maus"]
-        kit.expect(words, b"", 0) if text == "" else kit.expect_unknown(words, b"not all of these can be read: ")
+        kit.expect(words, b"", 0) if text == b"" else kit.expect_unknown(words, b"not all of these can be read: ")
     for bad in ("absent", "directory", ""):
         kit.expect_unknown(["taken.sh", GERMAN, bad, "maus"], b"not all of these can be read: ")
         kit.expect_unknown(["accept.sh", GERMAN, GERMAN, bad, "maus"], b"not all of these can be read: ")
@@ -266,17 +283,14 @@ def takes_a_full_disk_for_unknown(kit):
 
 @in_each_setting
 def takes_a_lost_program_for_unknown(kit):
-    """The program is killed, or answers with half of what it has."""
+    """The program is killed, or fails, behind the first bytes of its answer."""
     kit.write("registered.txt", "maß\n")
     kit.write("keys.txt", "xn--fiqs8s\n")
-    halves = "#!/bin/sh\ncase $* in *--check-table*|*--version*) exec {0} \"$@\" ;; esac\n{0} \"$@\" | head -c {1}\n{2}\n"
+    part = "#!/bin/sh\ncase $* in *--check-table*) exec {0} \"$@\" ;; esac\n{0} \"$@\" | head -c {1}\n{2}\n"
     for end in ("kill -9 $$", "exit 3", "exit 4"):
         for count in (0, 7, 30):
-            kit.instead_of("idn2", halves.format(PROGRAM, count, end))
-            for words in (["accept.sh", GERMAN, GERMAN, "registered.txt", "mass"], ["taken.sh", GERMAN, "registered.txt", "mass"],
-                          ["key_taken.sh", HAN, "keys.txt", "中國"], ["keys.sh", HAN, "中國"], ["table_of.sh", "mass", GERMAN],
-                          ["change.sh", GERMAN, GERMAN, "registered.txt"], ["page.sh", GERMAN, "mass", "1", "pages"],
-                          ["list_all.sh", GERMAN, "mass"]):
+            kit.instead_of("idn2", part.format(PROGRAM, count, end))
+            for words in QUESTIONS:
                 output, message, status = kit.run(*words)
                 assert status == NOT_KNOWN, (words, output, message, status)
     assert glob.glob(kit.folder + "/pages/[0-9]") == []
@@ -308,8 +322,8 @@ def random_table(chance, letters, longest):
 
 def written(table, chance):
     """The text of a table, in one of its spellings."""
-    line_end, prefix, space, mark = chance.choice(("\n", "\r\n")), chance.choice(("", "U+", "u+")), chance.choice(("", " ")), ""
-    lines = ["# a comment .. with | signs", ""]
+    line_end, prefix, space = (chance.choice(spellings) for spellings in (("\n", "\r\n"), ("", "U+", "u+"), ("", " ")))
+    lines, mark = ["# a comment .. with | signs", ""], ""
     if chance.random() < 0.5:
         lines, mark = ["%version 2", *lines], "!"
     points = lambda text: (space + "-").join(f"{prefix}{ord(letter):04x}" for letter in text)
@@ -339,7 +353,8 @@ def finds_the_collisions_that_sets_have(kit):
             collisions = sorted(set(registered) & spelled(table, label))
             output, message, status = kit.run("taken.sh", "table.txt", "registered.txt", label)
             found = sorted(line.split("\t")[0] for line in output.decode().splitlines())
-            assert (found, status) == (collisions, 1 if collisions else 0), (table, registered, label, output, message, status)
+            wanted = collisions, 1 if collisions else 0
+            assert (found, status) == wanted, (table, registered, label, output, message, status)
             if longest == 1:
                 keys, _, status = kit.run("keys.sh", "table.txt", given="\n".join(registered).encode())
                 kit.write("keys.txt", keys.replace(b"\n", line_end.encode()))
@@ -363,9 +378,8 @@ def joins_tables_so_that_nothing_is_missed(kit):
         output, message, status = kit.run("combine.py", "one.txt", "two.txt")
         assert (message, status) == (b"", 0), (message, status)
         kit.write("zone.txt", output)
-        checked = subprocess.run([PROGRAM, "--check-table", os.path.join(kit.folder, "zone.txt")], capture_output=True)
         sequences = {each for table in tables for source, variants in table.items() for each in (source, *variants)}
-        assert checked.stdout == b"#table %d 0\n" % len(sequences), (tables, output, checked)
+        assert kit.check("zone.txt") == b"#table %d 0\n" % len(sequences), (tables, output)
         for label in registrable_labels(chance, "abc-", 3, 6):
             wanted = {each for table in tables for each in spelled(table, label) if is_registrable(each)}
             listed = kit.run("list_all.sh", "zone.txt", label)[0].decode().splitlines()[:-1]
@@ -377,8 +391,7 @@ def joins_tables_so_that_nothing_is_missed(kit):
 def joins_ranges_and_the_tables_that_come_with_the_program(kit):
     for name, entries in (("german", 42), ("han", 3602), ("arabic-digits", 73)):
         kit.write("zone.txt", kit.run("combine.py", f"tables/{name}.txt")[0])
-        checked = subprocess.run([PROGRAM, "--check-table", os.path.join(kit.folder, "zone.txt")], capture_output=True)
-        assert checked.stdout == b"#table %d 0\n" % entries, (name, checked)
+        assert kit.check("zone.txt") == b"#table %d 0\n" % entries, name
 
 
 @in_each_setting
@@ -408,8 +421,8 @@ def tells_what_a_table_changes(kit):
     # The same lines in the same order, but b goes with c there and with a here.
     output, message, status = kit.run("change.sh", "old.txt", "new.txt", "labels.txt")
     assert (output != b"", message, status) == (True, b"", 1), (output, message, status)
-    kit.expect_unknown(["change.sh", "old.txt", "less.txt", "labels.txt"], b"idn2: line 2: 40 not made of table entries\n")
-    kit.expect_unknown(["change.sh", "less.txt", "old.txt", "labels.txt"], b"idn2: line 2: 40 not made of table entries\n")
+    for old, new in (("old.txt", "less.txt"), ("less.txt", "old.txt")):
+        kit.expect_unknown(["change.sh", old, new, "labels.txt"], b"idn2: line 2: 40 not made of table entries\n")
     assert os.listdir(kit.temporary) == []
 
 
@@ -496,8 +509,8 @@ def serves_requests(kit):
     given = "maß\nMaß\n\n-\nmañana\n".encode() + b"ma\xc3\n" + b"a" * 1025 + b"\nx\r\nfa\xc3\x9f"
     refused = [b"refused: 10 disallowed code point", b"refused: 3 empty", b"refused: 13 hyphen out of place"]
     middle = [b"refused: 1 not UTF-8", b"refused: 2 line too long", b"refused: control character"]
-    answers = [b"registrable: xn--ma-hia", *refused, b"registrable: xn--maana-pta", *middle, b"registrable: xn--fa-hia"]
-    kit.expect(["ask.sh"], b"\n".join(answers) + b"\n", 0, given=given)
+    tested = [b"registrable: xn--ma-hia", *refused, b"registrable: xn--maana-pta", *middle, b"registrable: xn--fa-hia"]
+    kit.expect(["ask.sh"], b"\n".join(tested) + b"\n", 0, given=given)
     listings = [b"mass xn--ma-hia", *refused, b"refused: 40 not made of table entries", *middle, b"fass xn--fa-hia"]
     kit.expect(["ask.py", GERMAN], b"\n".join(listings) + b"\n", 0, given=given)
     for words in (["ask.sh"], ["ask.py", GERMAN]):
@@ -525,10 +538,10 @@ def serves_each_request_before_the_next(kit):
 
 @in_each_setting
 def tells_that_the_program_has_ended(kit):
-    """One answer, and then the end of the program, or of its input alone; or a message that says nothing of the label."""
+    """One answer, and then the end of the program, or of its input alone; or a message that is not of the label."""
     version = f"#!/bin/sh\n[ \"$1\" = --version ] && exec {PROGRAM} --version\n"
     first = version + f"head -n 1 | {PROGRAM} \"$@\"\n"
-    closed = first + "exec < /dev/null\nsleep 1\n"
+    closed = version + f"line=$(head -n 1)\nexec < /dev/null\necho \"$line\" | {PROGRAM} \"$@\"\nsleep 1\n"
     last = version + "read -r line\necho 'idn2: 70 out of memory' >&2\n"
     for program, answers in ((first, 1), (closed, 1), (last, 0)):
         kit.instead_of("idn2", program)
@@ -572,7 +585,8 @@ def under(program, folder, command):
     if not os.path.lexists(link):
         os.symlink(program, link)
     environment = {**os.environ, "LC_ALL": "C.UTF-8", "PATH": folder + os.pathsep + os.environ["PATH"]}
-    done = subprocess.run(["bash", "-c", command], env=environment, stdin=subprocess.DEVNULL, capture_output=True, timeout=LIMIT)
+    more = {"stdin": subprocess.DEVNULL, "capture_output": True, "timeout": LIMIT}
+    done = subprocess.run(["bash", "-c", command], env=environment, **more)
     return done.stdout + done.stderr, done.returncode
 
 
@@ -609,7 +623,8 @@ def has_the_options_that_the_guide_says_beside_libidn2(folder):
     if is_skipped("options"):
         return
     helped, status = under(LIBIDN2, os.path.join(folder, "there"), "idn2 --help")
-    offered = set(re.findall(r"(?<![\w-])--?[A-Za-z0-9][\w-]*", helped.decode().split("short options too.")[1].split("Report")[0]))
+    helped = helped.decode().split("short options too.")[1].split("Report")[0]
+    offered = set(re.findall(r"(?<![\w-])--?[A-Za-z0-9][\w-]*", helped))
     assert offered == said.keys(), offered ^ said.keys()
     for option in others:
         found, status = under(LIBIDN2, os.path.join(folder, "there"), f"idn2 {option} x")
@@ -620,14 +635,11 @@ def has_the_options_that_the_guide_says_beside_libidn2(folder):
 def fails_with_the_program_of_libidn2(kit):
     if is_skipped("scripts"):
         return
-    kit.write("registered.txt", "haus\n")
-    kit.write("keys.txt", "haus\n")
+    kit.write("registered.txt", "maß\n")
+    kit.write("keys.txt", "xn--fiqs8s\n")
     kit.instead_of("idn2", f"#!/bin/sh\nexec {LIBIDN2} \"$@\"\n")
-    for words in (["accept.sh", GERMAN, GERMAN, "registered.txt", "maus"], ["taken.sh", GERMAN, "registered.txt", "maus"],
-                  ["list_all.sh", GERMAN, "maus"], ["keys.sh", HAN, "maus"], ["key_taken.sh", HAN, "keys.txt", "maus"],
-                  ["table_of.sh", "maus", GERMAN], ["change.sh", GERMAN, GERMAN, "registered.txt"],
-                  ["page.sh", GERMAN, "maus", "2", "pages"], ["combine.py", GERMAN], ["ask.sh"], ["ask.py", GERMAN]):
-        output, message, status = kit.run(*words, given=b"maus\n")
+    for words in (*QUESTIONS, ["combine.py", GERMAN], ["ask.sh"], ["ask.py", GERMAN]):
+        output, message, status = kit.run(*words, given=b"mass\n")
         assert (output, status in (1, NOT_KNOWN)) == (b"", True), (words, output, message, status)
 
 
