@@ -551,17 +551,19 @@ def tells_that_the_program_has_ended(kit):
 
 
 def libidn2_program():
-    """The path of libidn2's idn2, if it is on the path."""
+    """The path and the version of libidn2's idn2, if it is on the path."""
     for folder in os.environ["PATH"].split(os.pathsep):
         path = os.path.join(folder, "idn2")
         if os.access(path, os.X_OK):
-            shown = subprocess.run([path, "--version"], capture_output=True, timeout=LIMIT).stdout
-            if shown.startswith(b"idn2 (Libidn2)"):
-                return path
-    return None
+            shown = subprocess.run([path, "--version"], capture_output=True, text=True, timeout=LIMIT).stdout
+            if found := re.match(r"idn2 \(Libidn2\) (\S+)", shown):
+                return path, found.group(1)
+    return None, None
 
 
-LIBIDN2 = libidn2_program()
+LIBIDN2, LIBIDN2_VERSION = libidn2_program()
+# The version of which the guide tells.
+[TOLD_VERSION] = set(re.findall(r"\b2\.\d\.\d\b", GUIDE.split("\n## Coming from libidn2\n")[1]))
 
 
 def rows_of(heading):
@@ -590,21 +592,22 @@ def under(program, folder, command):
     return done.stdout + done.stderr, done.returncode
 
 
-def is_skipped(name):
-    if LIBIDN2 is None:
-        print(f"guide {name}: not compared, since libidn2's idn2 is not installed")
-    return LIBIDN2 is None
+def is_compared(name, is_there):
+    """Tells what is left out where the program of libidn2 isn't there."""
+    if not is_there:
+        print(f"guide {name}: not compared, since idn2 of libidn2 {TOLD_VERSION} is not installed")
+    return is_there
 
 
 def answers_as_the_guide_says_beside_libidn2(folder):
     rows = rows_of("Answers")
     assert len(rows) >= 20, len(rows)
-    is_alone = is_skipped("answers")
+    is_beside = is_compared("answers", LIBIDN2_VERSION == TOLD_VERSION)
     for command, here, there in rows:
         command = command.strip("`")
         found = under(PROGRAM, os.path.join(folder, "here"), command)
         assert found == answered(here), (command, found, answered(here))
-        if not is_alone:
+        if is_beside:
             found = under(LIBIDN2, os.path.join(folder, "there"), command)
             assert found == answered(there), (command, found, answered(there))
 
@@ -620,7 +623,7 @@ def has_the_options_that_the_guide_says_beside_libidn2(folder):
     assert len(others) == 6, others
     for option in others:
         assert under(PROGRAM, os.path.join(folder, "here"), f"idn2 {option} x") == (b"idn2: 50 usage\n", 2), option
-    if is_skipped("options"):
+    if not is_compared("options", LIBIDN2_VERSION == TOLD_VERSION):
         return
     helped, status = under(LIBIDN2, os.path.join(folder, "there"), "idn2 --help")
     helped = helped.decode().split("short options too.")[1].split("Report")[0]
@@ -633,7 +636,7 @@ def has_the_options_that_the_guide_says_beside_libidn2(folder):
 
 @in_each_setting
 def fails_with_the_program_of_libidn2(kit):
-    if is_skipped("scripts"):
+    if not is_compared("scripts", LIBIDN2 is not None):
         return
     kit.write("registered.txt", "maß\n")
     kit.write("keys.txt", "xn--fiqs8s\n")
