@@ -293,6 +293,10 @@ def takes_a_lost_program_for_unknown(kit):
                 output, message, status = kit.run(*words)
                 assert status == NOT_KNOWN, (words, output, message, status)
     assert glob.glob(kit.folder + "/pages/[0-9]") == []
+    # A listing without its trailer, though the status is 0.
+    kit.instead_of("idn2", part.format(PROGRAM, 30, "exit 0"))
+    for words in (["list_all.sh", GERMAN, "strasse"], ["change.sh", GERMAN, GERMAN, "registered.txt"]):
+        assert kit.run(*words)[::2] == (b"", NOT_KNOWN), words
 
 
 @in_each_setting
