@@ -30,7 +30,11 @@ DECIDED = (r"`[^`]*`", r"RFC \d+(, section \d+)?", "UTS #46", r"docs/idn2\.1", r
 
 # Bounds that documents state, each with the clause of a contract or a definition that has it.
 EDGES = ("crates/variant_list/src/net.rt", "result ≤ 68544")
+JUMP = ("crates/variant_list/src/search.rt", "≤ looks.old + 189 * length self.old.net.edges")
+FILE = ("crates/registered_labels/src/labels.rt", "const MAX_TEXT_LEN: usize = 0xFFFF_FFFF;")
 BOUNDS = {
+    ("docs/DECISIONS.md", "at most 4,294,967,295 bytes"): FILE,
+    ("docs/idn2.1", "that ends after byte 4,294,967,295"): FILE,
     ("docs/PROOFS.md", "how many edges its net has, at most 68,544"): EDGES,
     ("docs/ARCHITECTURE.md", "at most 68,544 edges"): EDGES,
     ("docs/LISTING.md", "at most 68,544 edges"): EDGES,
@@ -38,6 +42,8 @@ BOUNDS = {
         ("crates/variant_list/src/cursor.rt", "≤ 256 * edge_count self.old.net.table self.old.net.label"),
     ("docs/PROOFS.md", "126 times are proved of one search"):
         ("crates/variant_list/src/search.rt", "≤ looks.old + 126 * length self.old.net.edges"),
+    ("docs/PROOFS.md", "189 times are proved of one search"): JUMP,
+    ("docs/LISTING.md", "then is a step: at most 189 scans"): JUMP,
     ("docs/PROOFS.md", "at most 64 times 128 more than there are edges"):
         ("crates/variant_list/src/cursor.rt", "≤ 64 * (edge_count self.now.net.table self.now.net.label + 128)"),
     ("docs/PROOFS.md", "after 2^40 read calls or 2^32 lines"):
