@@ -29,7 +29,8 @@ class PlainRuleset:
         root = xml.etree.ElementTree.parse(path).getroot()
         for element in root.iter():
             element.tag = element.tag.replace(NAMESPACE, "")
-        self.entries, self.tags = {}, {}
+        # `parts` are what labels are made of to try the ruleset: the entries, of a range its ends, the letters of sequences.
+        self.entries, self.tags, self.parts = {}, {}, set()
         for element in root.find("data"):
             self.add(element)
         rules = root.find("rules")
@@ -43,7 +44,8 @@ class PlainRuleset:
         if element.tag == "char":
             sources = [label_of(element.get("cp"))]
         else:
-            sources = map(chr, range(int(element.get("first-cp"), 16), int(element.get("last-cp"), 16) + 1))
+            sources = list(map(chr, range(int(element.get("first-cp"), 16), int(element.get("last-cp"), 16) + 1)))
+        self.parts |= {sources[0], sources[-1], *sources[0]}
         for source in sources:
             self.entries[source] = (self.condition(element), variants)
             for tag in element.get("tag", "").split() if len(source) == 1 else ():

@@ -28,10 +28,7 @@ class Converter:
         possible = self.possible_entries()
         self.repertoire = {point for entry in possible for point in entry.source}
         self.dispositions = Dispositions(possible, [each for each in self.ruleset.actions if not self.is_enforced(each)])
-        outside = {entry.source for entry in self.dispositions.outside}
-        for entry in self.dispositions.outside:
-            self.tell(entry, "left out as a source, since each label with it is refused")
-        kept = [entry for entry in possible if entry.source not in outside]
+        kept = self.kept_of(possible)
         self.sources = {entry.source for entry in kept}
         for entry in kept:
             self.check_condition(entry)
@@ -55,6 +52,21 @@ class Converter:
                 reason = "left out, since it has a code point that no label can have"
                 self.losses.add(Loss.NARROWER, entry.line, name, reason)
         return possible
+
+    def kept_of(self, possible):
+        """All but those with which each label is refused. Of these, one that others make up stays: it accepts nothing more,
+        and labels cut into those others have its variants, too."""
+        outside = self.dispositions.outside
+        sources = {entry.source for entry in possible if entry not in outside}
+        left = [entry for entry in outside if not is_cut(entry.source, sources)]
+        points = {point for source in sources for point in source}
+        for entry in left:
+            if entry.others() and points.issuperset(entry.source):
+                reason = "each label with it is refused, but labels of other entries can have it, and its variants"
+                self.losses.add(Loss.UNSAYABLE, entry.line, entry.name, reason)
+            self.tell(entry, "left out as a source, since each label with it is refused")
+        left = {entry.source for entry in left}
+        return [entry for entry in possible if entry.source not in left]
 
     def check_condition(self, entry):
         """A condition is dropped where it holds anyway; elsewhere that would widen."""
