@@ -46,6 +46,7 @@ dist:
 	rm -rf $(DIST)/$(PACKED)
 	$(MAKE) --no-print-directory install DESTDIR= PREFIX=$(abspath $(DIST))/$(PACKED)
 	install -D -m 644 -t $(DIST)/$(PACKED)/tables tables/*.txt tables/from_lgr.py
+	install -D -m 644 -t $(DIST)/$(PACKED)/tables/lgr tables/lgr/*.py
 	install -D -m 644 -t $(DIST)/$(PACKED)/docs docs/GUIDE.md docs/NOTATION.md docs/PROFILE.md docs/GLOSSARY.md
 	install -m 644 -t $(DIST)/$(PACKED) CHANGELOG.md $(wildcard LICENSE* LICENCE* COPYING*)
 	cd $(DIST)/$(PACKED) && find . -type f ! -name SHA256SUMS -printf '%P\n' | LC_ALL=C sort | xargs sha256sum > SHA256SUMS

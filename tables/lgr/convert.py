@@ -57,16 +57,18 @@ class Converter:
         """All but those with which each label is refused. Of these, one that others make up stays: it accepts nothing more,
         and labels cut into those others have its variants, too."""
         outside = self.dispositions.outside
-        sources = {entry.source for entry in possible if entry not in outside}
-        left = [entry for entry in outside if not is_cut(entry.source, sources)]
+        sources = {entry.source for entry in possible} - outside
         points = {point for source in sources for point in source}
-        for entry in left:
+        kept = []
+        for entry in possible:
+            if entry.source not in outside or is_cut(entry.source, sources):
+                kept.append(entry)
+                continue
             if entry.others() and points.issuperset(entry.source):
                 reason = "each label with it is refused, but labels of other entries can have it, and its variants"
                 self.losses.add(Loss.UNSAYABLE, entry.line, entry.name, reason)
             self.tell(entry, "left out as a source, since each label with it is refused")
-        left = {entry.source for entry in left}
-        return [entry for entry in possible if entry.source not in left]
+        return kept
 
     def check_condition(self, entry):
         """A condition is dropped where it holds anyway; elsewhere that would widen."""

@@ -69,9 +69,9 @@ class Dispositions:
         mapped = {variant.type for entry in entries for variant in entry.others()}
         self.all = reflexive | mapped
         self.never_original = {kind for kind in reflexive if not self.can_allow(kind, reflexive)}
-        self.outside = [entry for entry in entries if self.is_outside(entry)]
-        sources = [entry for entry in entries if not self.is_outside(entry)]
-        self.original = {variant.type for entry in sources for variant in entry.reflexive()} - {None}
+        self.outside = {entry.source for entry in entries if self.is_outside(entry)}
+        inside = [entry for entry in entries if entry.source not in self.outside]
+        self.original = {variant.type for entry in inside for variant in entry.reflexive()} - {None}
         self.allocatable = self.allocatable_of(mapped)
 
     def triggered(self, kind, kinds):

@@ -55,7 +55,7 @@ class Patterns:
             self.define(self.rules if element.name == "rule" else self.sets, element)
         # Python's data tells of properties only where it has all code points; it may be older than the program's.
         self.are_all_known = all(unicodedata.category(chr(point)) != "Cn" for point in self.points)
-        self.open_names, self.known = [], {}
+        self.open_names, self.known, self.asked = [], {}, {}
 
     @staticmethod
     def define(named, element):
@@ -68,10 +68,12 @@ class Patterns:
         """The sequences of a rule, or None."""
         if name not in self.rules:
             raise Fault(line, f"no rule has the name '{name}'")
-        try:
-            return self.sequences(self.rules[name])
-        except Unknown:
-            return None
+        if name not in self.asked:
+            try:
+                self.asked[name] = self.sequences(self.rules[name])
+            except Unknown:
+                self.asked[name] = None
+        return self.asked[name]
 
     def named(self, elements, element, read):
         """What `read` makes of the rule or class that `element` names by its 'by-ref'."""
@@ -162,7 +164,7 @@ class Patterns:
         for text in element.text.split():
             first, _, last = text.partition("-")
             first, last = point_of(first, element.line), point_of(last or first, element.line)
-            points |= {point for point in self.points if first <= point <= last}
+            points |= self.points.intersection(range(first, last + 1))
         return frozenset(points)
 
     def with_property(self, text):
