@@ -79,8 +79,8 @@ class PlainRuleset:
             name, value = element.get("property").split(":")
             if name == "ccc":
                 return unicodedata.combining(letter) == int(value)
-            assert name == "gc" and len(value) == 2, element.get("property")
-            return unicodedata.category(letter) == value
+            assert name in ("gc", "General_Category"), element.get("property")
+            return unicodedata.category(letter) == {"Nonspacing_Mark": "Mn"}.get(value, value)
         ranges = [(text.split("-") * 2)[:2] for text in element.text.split()]
         return any(int(first, 16) <= ord(letter) <= int(last, 16) for first, last in ranges)
 

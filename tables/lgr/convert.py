@@ -96,7 +96,7 @@ class Converter:
     # What variants a label has.
 
     def variants_of(self, entry):
-        """For each variant whether it is blocked: one that is given under several conditions is."""
+        """For each variant whether it is blocked. One that is given more than once has conditions, so it is."""
         variants = {}
         for variant in entry.others():
             if variant.condition:
@@ -108,7 +108,7 @@ class Converter:
             elif self.ruleset.is_closed and not self.repertoire.issuperset(variant.points):
                 self.tell(entry, "left out, since it has a code point that is in no entry", variant)
             else:
-                variants[variant.points] = self.is_blocked(entry, variant) or variants.get(variant.points, False)
+                variants[variant.points] = self.is_blocked(entry, variant)
         return variants
 
     def is_blocked(self, entry, variant):
