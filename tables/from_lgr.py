@@ -6,8 +6,8 @@ the line format of RFC 4290. The table that is printed is in the notation of doc
 FILE refuses, unless --accept-more is given. docs/GUIDE.md, under 'Start from what others publish', says what is left
 out, what is blocked and what is refused.
 
-Status: 0 the table is printed; 1 FILE can't be said as a table, and nothing is printed; 2 the options, FILE or idn2 can't
-be used.
+Status: 0 the table is printed; 1 FILE can't be said as a table, and nothing is printed; 2 the options, FILE or idn2
+can't be used.
 """
 
 import sys

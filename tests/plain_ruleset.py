@@ -1,8 +1,8 @@
 """A plain reading of RFC 7940, for small rulesets and short labels: which labels a ruleset accepts, and their variants.
 
-Written from the RFC and not from tables/lgr/: it tries all ways to cut a label and all mappings, and follows each rule as
-it is written. Where the RFC can be read in two ways, the readings are those that the table notation has: a label may be
-cut in any way, and one way by which a variant is allowed is enough."""
+Written from the RFC and not from tables/lgr/: it tries all ways to cut a label and all mappings, and follows each rule
+as it is written. Where the RFC can be read in two ways, the readings are those that the table notation has: a label may
+be cut in any way, and one way by which a variant is allowed is enough."""
 
 import itertools
 import re
@@ -29,7 +29,7 @@ class PlainRuleset:
         root = xml.etree.ElementTree.parse(path).getroot()
         for element in root.iter():
             element.tag = element.tag.replace(NAMESPACE, "")
-        # `parts` are what labels are made of to try the ruleset: the entries, of a range its ends, the letters of sequences.
+        # `parts` are what labels are made of to try the ruleset: entries, of a range its ends, letters of sequences.
         self.entries, self.tags, self.parts = {}, {}, set()
         for element in root.find("data"):
             self.add(element)
@@ -140,7 +140,7 @@ class PlainRuleset:
     def disposition(self, label, types, are_all_mapped):
         """By the first action that the label triggers; `types` are those that it records."""
         for action in self.actions:
-            wanted = {key: set(action[key].split()) for key in action if key.endswith("-variants") or key == "any-variant"}
+            wanted = {key: set(action[key].split()) for key in action if "-variant" in key}
             triggered = (
                 ("match" not in action or self.matches(action["match"], label))
                 and ("not-match" not in action or not self.matches(action["not-match"], label))
@@ -160,7 +160,8 @@ class PlainRuleset:
                                                          if target != source]
 
     def accepts(self, label):
-        return any(self.disposition(label, *self.recorded(self.unmapped(cut, label))) in ALLOWED for cut in self.cuts(label))
+        records = (self.recorded(self.unmapped(cut, label)) for cut in self.cuts(label))
+        return any(self.disposition(label, *record) in ALLOWED for record in records)
 
     def unmapped(self, cut, label):
         return [self.mappings(source, label, place)[0] for source, place in cut]

@@ -1,10 +1,10 @@
 #!/usr/bin/env python3
 """Makes tables from rulesets, with tables/from_lgr.py, and lets the built program read them.
 
-tests/rulesets/ has the rulesets of RFC 7940, appendix A, and the model table of RFC 4290, as they stand there, and others
-that were written for what their first comments say. Each table is asked of every label of up to three entries, beside a
-plain reading of the ruleset (plain_ruleset.py). The last line is 'N passed, M failed', and the exit status is 0 where
-nothing failed."""
+tests/rulesets/ has the rulesets of RFC 7940, appendix A, and the model table of RFC 4290, as they stand there, and
+others that were written for what their first comments say. Each table is asked of every label of up to three entries,
+beside a plain reading of the ruleset (plain_ruleset.py). The last line is 'N passed, M failed', and the exit status is
+0 where nothing failed."""
 
 import ast
 import itertools
@@ -17,6 +17,8 @@ import unicodedata
 
 from plain_ruleset import PlainRuleset
 from program import LIMIT, PROGRAM, ROOT, run, run_tests, table_file
+from random_ruleset import RandomRuleset
+from standard_rules import CONDITIONS, LETTERS_AND_SIGNS, RULES, STARTS
 
 RULESETS = os.path.join(ROOT, "tests", "rulesets")
 SCRIPT = os.path.join(ROOT, "tables", "from_lgr.py")
@@ -111,8 +113,8 @@ def labels_of(plain):
 
 
 def compare(folder, path, text, accepts_more=False, is_exact=False):
-    """The table accepts no label that the ruleset refuses, and lacks no pair; a variant that is allocatable there is so in
-    the ruleset. Of an exact one both say the same. How many labels were accepted is the answer."""
+    """The table accepts no label that the ruleset refuses, and lacks no pair; a variant that is allocatable there is so
+    in the ruleset. Of an exact one both say the same. How many labels were accepted is the answer."""
     plain = PlainRuleset(path)
     labels = registrable(labels_of(plain))
     found = listings(folder, text, labels)
@@ -179,84 +181,13 @@ def accepts_more_only_where_told_to(folder):
             raise AssertionError(f"{name}: nothing more is accepted")
 
 
-STARTS, ENDS, ANY, HYPHEN, MARKS = "<start/>", "<end/>", "<any/>", '<char cp="002D"/>', '<class property="gc:Mn"/>'
-LETTERS_AND_SIGNS = "".join(f'<char cp="{cp}"/>' for cp in ("0061", "0062", "006C", "002D", "0301", "0661", "06F1"))
-# Rules for the whole label, and whether they say no more than RFC 5891 and RFC 5892.
-RULES = (
-    (True, STARTS + MARKS),
-    (True, STARTS + '<class property="General_Category:Nonspacing_Mark" count="1+"/>' + ANY),
-    (True, STARTS + "<class>0300-036F</class>"),
-    (True, STARTS + HYPHEN),
-    (True, HYPHEN + ENDS),
-    (True, STARTS + ANY + ANY + HYPHEN + HYPHEN),
-    (True, STARTS + '<any count="2"/><char cp="002D 002D"/>' + ANY),
-    (True, '<class>0660-0669</class><any count="0+"/><class>06F0-06F9</class>'),
-    (True, f"<choice><rule>{STARTS}{MARKS}</rule><rule>{HYPHEN}{ENDS}</rule></choice>"),
-    (True, '<char cp="0041"/>'),
-    (True, '<class from-tag="unused"/>'),
-    (False, MARKS),
-    (False, STARTS + '<class property="gc:Mn" count="0+"/>'),
-    (False, STARTS + '<any count="0+"/>' + MARKS),
-    (False, STARTS + "<complement>" + MARKS + "</complement>"),
-    (False, STARTS + "<union>" + MARKS + "<class>0061</class></union>"),
-    (False, STARTS + '<class property="sc:Latn"/>'),
-    (False, STARTS + '<class property="gc:Ll"/>'),
-    (False, HYPHEN),
-    (False, HYPHEN + '<any count="0+"/>' + ENDS),
-    (False, '<char cp="002D" count="0:1"/>' + ENDS),
-    (False, HYPHEN + HYPHEN),
-    (False, STARTS + ANY + HYPHEN + HYPHEN),
-    (False, STARTS + ANY + ANY + HYPHEN),
-    (False, STARTS + ANY + '<any count="1+"/>' + HYPHEN + HYPHEN),
-    (False, STARTS + ANY + ANY + "<class>002D 0061</class>" + HYPHEN),
-    (False, "<class>0660-0669 0061</class><any/><class>06F0-06F9</class>"),
-    (False, f"<choice><rule>{STARTS}{MARKS}</rule><rule>{STARTS}<char cp='0061'/></rule></choice>"),
-    (False, f"<choice count='1+'><rule>{STARTS}{MARKS}</rule></choice>"),
-    (False, ""),
-)
-
-
-def behind(text):
-    return f"<look-behind>{text}</look-behind>"
-
-
-def ahead(text):
-    return f"<look-ahead>{text}</look-ahead>"
-
-
-HERE, EL = "<anchor/>", '<char cp="006C"/>'
-# Conditions of a code point, and whether they ask for no more than RFC 5891 and RFC 5892.
-CONDITIONS = (
-    (True, "002D", "not-when", behind(STARTS) + HERE),
-    (True, "002D", "not-when", HERE + ahead(ENDS)),
-    (True, "002D", "not-when", behind(ANY) + HERE + ahead(ENDS)),
-    (True, "002D", "not-when", behind(STARTS + ANY + ANY) + HERE + ahead(HYPHEN)),
-    (True, "00B7", "when", behind(EL) + HERE + ahead(EL)),
-    (True, "00B7", "when", behind("<class>0061 006C</class>") + HERE),
-    (True, "200D", "when", behind('<class property="ccc:9"/>') + HERE),
-    (False, "002D", "not-when", HERE),
-    (False, "002D", "not-when", behind(STARTS + ANY) + HERE),
-    (False, "002D", "not-when", behind(ANY) + HERE + ahead(HYPHEN)),
-    (False, "002D", "not-when", behind(STARTS + ANY + ANY) + HERE + ahead(ANY)),
-    (False, "002D", "not-when", behind(STARTS + ANY + ANY + ANY) + HERE),
-    (False, "002D", "when", behind(STARTS) + HERE),
-    (False, "0061", "when", behind(EL) + HERE + ahead(EL)),
-    (False, "0061", "not-when", behind(STARTS) + HERE),
-    (False, "00B7", "not-when", behind(EL) + HERE + ahead(EL)),
-    (False, "00B7", "when", behind(STARTS + EL) + HERE + ahead(EL)),
-    (False, "00B7", "when", behind(EL) + HERE + ahead(EL + EL)),
-    (False, "00B7", "when", behind("<class>0061</class>") + HERE + ahead(EL)),
-    (False, "200D", "when", behind('<char cp="094D"/><char cp="094D"/>') + HERE),
-    (False, "00B7", "when", f"<choice>{EL}{EL}</choice>"),
-)
-
-
 def knows_rules_by_what_they_say(folder):
-    """A rule that says a little more than the standard is refused, whatever it looks like; any other is no loss, and the
-    table says exactly what the ruleset says."""
+    """A rule that says a little more than the standard is refused, whatever it looks like; any other is no loss, and
+    the table says exactly what the ruleset says."""
+    refusal = "line 4: action 'invalid': it refuses labels that match the rule 'r'\n"
     for is_standard, rule in RULES:
         path = ruleset(folder, LETTERS_AND_SIGNS, f'<rule name="r">{rule}</rule><action disp="invalid" match="r"/>')
-        expect_known(folder, path, is_standard, "line 4: action 'invalid': it refuses labels that match the rule 'r'\n", rule)
+        expect_known(folder, path, is_standard, refusal, rule)
     # What has to match is never such a rule.
     path = ruleset(folder, LETTERS_AND_SIGNS, f'<rule name="r">{STARTS}</rule><action disp="invalid" not-match="r"/>')
     expect_refusal(path, [], "line 4: action 'invalid': it refuses labels that don't match the rule 'r'\n" + REFUSED)
@@ -267,7 +198,8 @@ def knows_conditions_by_what_they_ask(folder):
     for is_standard, point, word, rule in CONDITIONS:
         more = "" if point == "002D" else '<char cp="002D"/>'
         path = ruleset(folder, f'<char cp="{point}" {word}="r"/>{others}{more}', f'<rule name="r">{rule}</rule>')
-        expect_known(folder, path, is_standard, f"line 2: char {point}: it has the condition {word} 'r'\n", (point, word, rule))
+        refusal = f"line 2: char {point}: it has the condition {word} 'r'\n"
+        expect_known(folder, path, is_standard, refusal, (point, word, rule))
 
 
 def expect_known(folder, path, is_standard, refusal, case):
@@ -315,13 +247,14 @@ def refuses_actions_on_labels_by_their_types(folder):
     data = '<char cp="0061"><var cp="0061" type="r"/></char><char cp="0062"><var cp="0062" type="s"{}/></char>'
     rule = '<rule name="first"><look-behind><start/></look-behind><anchor/></rule>'
     by_types = "action '{}': it refuses labels by the types of their code points\n"
+    by_both = by_types.format("invalid").replace("labels", "labels that match the rule 'first' and labels")
     for condition, actions, refusal in (
         ("", '<action disp="invalid" all-variants="r"/>', by_types.format("invalid")),
         ("", '<action disp="blocked" only-variants="r s"/>', by_types.format("blocked")),
         (' when="first"', '<action disp="invalid" any-variant="s"/>', by_types.format("invalid")),
-        ("", '<action disp="valid" match="first"/><action disp="invalid" any-variant="s"/>', by_types.format("invalid")),
-        ("", '<action disp="invalid" match="first" any-variant="s"/>',
-         "action 'invalid': it refuses labels that match the rule 'first' and labels by the types of their code points\n"),
+        ("", '<action disp="valid" match="first"/><action disp="invalid" any-variant="s"/>',
+         by_types.format("invalid")),
+        ("", '<action disp="invalid" match="first" any-variant="s"/>', by_both),
     ):
         path = ruleset(folder, data.format(condition), rule + actions)
         expect_refusal(path, [], f"line 4: {refusal}{REFUSED}")
@@ -343,8 +276,8 @@ def keeps_pairs_of_sequences_that_are_refused(folder):
     compare(folder, path, text)
     # Here only another sequence has the code point, so no table can say both.
     data = '<char cp="0062"/><char cp="0061 0062"/>' + outside.format("0061", "0061", "0062")
-    told = "line 2: char 0061: each label with it is refused, but labels of other entries can have it, and its variants\n"
-    expect_refusal(ruleset(folder, data), [], told + UNSAYABLE)
+    told = "each label with it is refused, but labels of other entries can have it, and its variants\n"
+    expect_refusal(ruleset(folder, data), [], f"line 2: char 0061: {told}{UNSAYABLE}")
 
 
 def names_each_reason_once(folder):
@@ -355,68 +288,6 @@ def names_each_reason_once(folder):
     expect_refusal(ruleset(folder, entries, rule), [], line + REFUSED)
     told = made(ruleset(folder, entries, rule), "--accept-more")[1]
     assert told == line + WARNING.format("300 conditions") + "\n", told
-
-
-class RandomRuleset:
-    """The text of a small ruleset with anything in it that a ruleset may have."""
-
-    TYPES = ("blocked", "allocatable", "activated", "valid", "own", "other", "out-of-repertoire-var", None)
-    POINTS = (0x61, 0x62, 0x63, 0x64, 0x2D, 0x301)
-
-    def __init__(self, seed):
-        self.random = random.Random(seed)
-        points = self.random.sample(self.POINTS, self.random.choice((2, 3, 4)))
-        sequences = [(point,) for point in points]
-        sequences += [tuple(self.random.choices(points, k=2)) for _ in range(self.random.choice((0, 0, 1, 1, 2)))]
-        self.sequences = list(dict.fromkeys(sequences))
-        self.has_conditions, self.has_rules = self.random.random() < 0.3, self.random.random() < 0.3
-        self.data = "\n".join(self.char(source) for source in self.sequences)
-        self.rules = "\n".join(filter(None, [*self.patterns(), *self.actions()]))
-
-    def maybe(self, chance, text):
-        return text if self.random.random() < chance else ""
-
-    def char(self, source):
-        condition = self.maybe(0.3, f' {self.random.choice(("when", "not-when"))}="{self.random.choice("pq")}"')
-        tag = self.maybe(0.5, ' tag="t"') if len(source) == 1 else ""
-        targets = [each for each in [*self.sequences, (0x78,), (0x41,)] if self.random.random() < 0.3]
-        variants = "".join(f"\n  {self.var(each)}" for each in targets)
-        return f'<char cp="{spelled(source)}"{tag}{condition if self.has_conditions else ""}>{variants}</char>'
-
-    def var(self, target):
-        kind = self.random.choice(self.TYPES)
-        condition = self.maybe(0.15, f' {self.random.choice(("when", "not-when"))}="{self.random.choice("pq")}"')
-        return f'<var cp="{spelled(target)}"' + (f' type="{kind}"' if kind else "") + condition + "/>"
-
-    def operator(self):
-        letter = f'<char cp="{spelled((self.random.choice(self.POINTS),))}"/>'
-        return self.random.choice((letter, letter, '<any count="0+"/>', "<any/>", '<class from-tag="t"/>',
-                                   '<complement><class from-tag="t"/></complement>', '<class property="gc:Mn"/>'))
-
-    def patterns(self):
-        """Two rules with an anchor, and three about the whole label; some of them are standard ones."""
-        for name in "pq":
-            behind = self.random.choice(("<start/>", self.operator(), "<start/><any/><any/>" + self.operator()))
-            ahead = self.random.choice(("", f"<look-ahead>{self.operator()}</look-ahead>", "<look-ahead><end/></look-ahead>"))
-            yield f'<rule name="{name}"><look-behind>{behind}</look-behind><anchor/>{ahead}</rule>'
-        for name in "xyz":
-            parts = "".join(self.operator() for _ in range(self.random.choice((1, 2, 3))))
-            yield f'<rule name="{name}">{self.maybe(0.6, "<start/>")}{parts}{self.maybe(0.3, "<end/>")}</rule>'
-
-    def actions(self):
-        dispositions = ("invalid", "blocked", "allocatable", "valid", "activated")
-        for _ in range(self.random.choice((0, 1, 2, 4))):
-            rule = self.maybe(0.4, f' {self.random.choice(("match", "match", "not-match"))}="{self.random.choice("xyz")}"')
-            kinds = " ".join(self.random.sample(self.TYPES[:-1], self.random.choice((1, 2, 3))))
-            types = f' {self.random.choice(("any-variant", "all-variants", "only-variants"))}="{kinds}"'
-            types = self.maybe(0.9, types)
-            rule = rule if self.has_rules else ""
-            if types or rule:
-                yield f'<action disp="{self.random.choice(dispositions)}"{rule}{types}/>'
-
-
-def spelled(sequence):
-    return " ".join(f"{point:04X}" for point in sequence)
 
 
 def accepts_no_more_than_random_rulesets(folder):
@@ -478,9 +349,8 @@ def closes_gaps(folder):
 
 def leaves_no_gap_open_unsaid(folder):
     """A gap that only an entry with new labels would close is refused; without the option its number is told."""
-    told = ("lines 5, 9: 0430|0061 and 1 more: the pair is missing, and an entry for it would let labels be registered "
-            "that the ruleset refuses\n")
-    expect_refusal(stored("outside.xml"), ["--close-gaps"], told + UNSAYABLE)
+    told = "lines 5, 9: 0430|0061 and 1 more: missing, and an entry for it would accept labels that the ruleset refuses"
+    expect_refusal(stored("outside.xml"), ["--close-gaps"], f"{told}\n{UNSAYABLE}")
     assert made(stored("outside.xml"))[1].endswith("the table has 3 gaps: idn2 --check-table prints them\n")
     # Seventeen others of a set are more than an entry can have.
     variants = "".join(f'<var cp="{0x4E00 + each:04X}" type="blocked"/>' for each in range(1, 17))
@@ -562,14 +432,15 @@ def entries_that_are_no_sources(folder):
     """An entry whose reflexive variant makes each label with it invalid is a variant only, and blocked."""
     text, told, status = made(stored("outside.xml"))
     assert entries_of(text) == "%version 2\n0061|!0430\n0062\n006F|!043E:00F6\n00F6|!006F:!043E\n", text
-    assert "lines 17, 21: char 0430 and 1 more: left out as a source, since each label with it is refused\n" in told, told
+    line = "lines 17, 21: char 0430 and 1 more: left out as a source, since each label with it is refused\n"
+    assert line in told, told
     gaps = check(folder, text)
     assert gaps == "missing 0430|0061\nmissing 043E|006F\nmissing 043E|00F6\n#table 4 3\n", gaps
 
 
 def variants_that_no_table_has(folder):
-    """RFC 7940, sections 5.3.3 to 5.3.5: null variants are refused, reflexive ones are no variants, conditional ones are
-    blocked."""
+    """RFC 7940, sections 5.3.3 to 5.3.5: null variants are refused, reflexive ones are no variants, conditional ones
+    are blocked."""
     rule = '<rule name="first"><look-behind><start/></look-behind><anchor/></rule>'
     data = """<char cp="0061">
 <var cp="0061" type="valid"/>
@@ -638,7 +509,8 @@ def faults_of_the_file(folder):
     rule = lambda within: ('<char cp="0061" when="r"/>', f'<rule name="r">{within}</rule>')
     for data, fault in (
         ('<char cp="0061"/>\n<range first-cp="0060" last-cp="0062"/>', "line 3: 0061 is given twice, first on line 2"),
-        ('<char cp="0062"><var cp="0063"/><var cp="0063"/></char>', "line 2: char 0062: 0063 is given twice as a variant"),
+        ('<char cp="0062"><var cp="0063"/><var cp="0063"/></char>',
+         "line 2: char 0062: 0063 is given twice as a variant"),
         ('<range first-cp="0062" last-cp="0061"/>', "line 2: the range ends at 0061, before it begins"),
         ('<range first-cp="0061" last-cp="0062"><var cp="0063"/></range>', "line 2: a range has no variants"),
         ('<char cp="D800"/>', "line 2: D800 is not a scalar value"),
@@ -679,7 +551,8 @@ def faults_of_the_text(folder):
         (entity, "line 1: a document type, which a ruleset has not\n"),
         (lgr.replace("</lgr>", "<rules/><rules/></lgr>"),
          "line 1: 'rules' is not an element of RFC 7940 here, or is given twice\n"),
-        (f'<?xml version="1.0" encoding="iso-8859-1"?>{lgr}', "line 1: the encoding is iso-8859-1, and only UTF-8 is read\n"),
+        (f'<?xml version="1.0" encoding="iso-8859-1"?>{lgr}',
+         "line 1: the encoding is iso-8859-1, and only UTF-8 is read\n"),
         ("U+0061|U+0061\n", "line 1: 0061 is a variant of itself\n"),
         ("U+0061|U+0062:U+0062\n", "line 1: 0062 is given twice as a variant\n"),
         ("U+0061\nU+0061\n", "line 2: 0061 is given twice, first on line 1\n"),
@@ -707,7 +580,8 @@ def files_and_words_that_cannot_be_used(folder):
         output, told, status = made(path, *options)
         assert (output, status) == ("", 2) and "Traceback" not in told, (options, told, status)
     # Another program of the same name, and none.
-    expect_refusal(path, ["--idn2", "/bin/true"], "/bin/true is not the idn2 of these scripts: name it with --idn2\n", 2)
+    told = "/bin/true is not the idn2 of these scripts: name it with --idn2\n"
+    expect_refusal(path, ["--idn2", "/bin/true"], told, 2)
     expect_refusal(path, ["--idn2", "/none"], "/none: No such file or directory\n", 2)
     words = [sys.executable, SCRIPT, "--idn2", PROGRAM, path]
     with open("/dev/full", "wb") as full:
@@ -728,7 +602,8 @@ def damaged_files(folder):
             data = bytearray(file.read())
         for _ in range(chosen.choice((1, 2, 5))):
             at = chosen.randrange(len(data))
-            data[at:at + chosen.choice((0, 1, 9))] = chosen.choice((b"", b"<", b"\0", b"\xff", b"&#10;", b'"', b"0", b">"))
+            damage = chosen.choice((b"", b"<", b"\0", b"\xff", b"&#10;", b'"', b"0", b">"))
+            data[at:at + chosen.choice((0, 1, 9))] = damage
         path = table_file(folder, bytes(data))
         output, told, status = made(path, "--accept-more")
         assert status in (0, 1) and (status == 0) == bool(output) and "Traceback" not in told, (number, told, status)
@@ -740,7 +615,7 @@ def pythons_that_are_too_old(folder):
     with open(SCRIPT, encoding="ascii") as file:
         text = file.read()
     ast.parse(text, feature_version=(3, 4))
-    old = "import runpy, sys; sys.version_info = (3, 9, 2, 'final', 0); runpy.run_path(sys.argv[1], run_name='__main__')"
+    old = "import runpy, sys; sys.version_info = (3, 9, 2); runpy.run_path(sys.argv[1], run_name='__main__')"
     done = subprocess.run([sys.executable, "-c", old, SCRIPT], capture_output=True, text=True, timeout=LIMIT)
     told = "from_lgr.py: Python 3.10 or later is needed, and this is 3.9\n"
     assert (done.stdout, done.stderr, done.returncode) == ("", told, 2), done

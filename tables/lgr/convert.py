@@ -1,7 +1,7 @@
 """From a ruleset to the entries of a table. Each thing that the table doesn't say is told.
 
-What only narrows is left out or blocked: no label is given away by it. What would widen is told as such, and it is for the
-caller to refuse it. A variant is left out only where no label has it; one that can't be said as it is, is blocked.
+What only narrows is left out or blocked: no label is given away by it. What would widen is told as such, and it is for
+the caller to refuse it. A variant is left out only where no label has it; one that can't be said as it is, is blocked.
 """
 
 from .dispositions import Dispositions
@@ -27,7 +27,8 @@ class Converter:
     def table_entries(self):
         possible = self.possible_entries()
         self.repertoire = {point for entry in possible for point in entry.source}
-        self.dispositions = Dispositions(possible, [each for each in self.ruleset.actions if not self.is_enforced(each)])
+        actions = [action for action in self.ruleset.actions if not self.is_enforced(action)]
+        self.dispositions = Dispositions(possible, actions)
         kept = self.kept_of(possible)
         self.sources = {entry.source for entry in kept}
         for entry in kept:
@@ -54,8 +55,8 @@ class Converter:
         return possible
 
     def kept_of(self, possible):
-        """All but those with which each label is refused. Of these, one that others make up stays: it accepts nothing more,
-        and labels cut into those others have its variants, too."""
+        """All but those with which each label is refused. Of these, one that others make up stays: it accepts nothing
+        more, and labels cut into those others have its variants, too."""
         outside = self.dispositions.outside
         sources = {entry.source for entry in possible} - outside
         points = {point for source in sources for point in source}
@@ -122,7 +123,8 @@ class Converter:
         elif kind not in self.dispositions.allocatable:
             if not self.dispositions.is_sometimes_allowed(kind):
                 return True
-            reason = f"blocked, since it has {'no type' if kind is None else f'the type {kind!r}'}, which may be refused"
+            what = "no type" if kind is None else f"the type '{kind}'"
+            reason = f"blocked, since it has {what}, which may be refused"
         elif self.ruleset.is_closed and not is_cut(variant.points, self.sources):
             reason = "blocked, since it is not made of sources"
         if reason:

@@ -101,7 +101,8 @@ class Dispositions:
 
     def is_meant(self, kind):
         """Whether the standard or an action says that the type allows something: any other may be a slip."""
-        return kind is None or kind in ALLOWING or any(action.allows() and action.names(kind) for action in self.actions)
+        is_named = any(action.allows() and action.names(kind) for action in self.actions)
+        return kind is None or kind in ALLOWING or is_named
 
     def is_sometimes_allowed(self, kind):
         return self.can_allow(kind, self.all)

@@ -44,6 +44,6 @@ def classes_of(entries):
 
 
 def tell_open_gap(source, variant, by_source, losses):
-    reason = "the pair is missing, and an entry for it would let labels be registered that the ruleset refuses"
+    reason = "missing, and an entry for it would accept labels that the ruleset refuses"
     line = by_source[variant].line if variant in by_source else None
     losses.add(Loss.UNSAYABLE, line, f"{spelled(source)}|{spelled(variant)}", reason)

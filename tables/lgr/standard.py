@@ -78,9 +78,8 @@ class Standard:
 def needs(*step_and_points):
     """Whether a step asks for at least one code point, and for none that is not of the set."""
     *steps, points = step_and_points
-    return bool(steps) and all(
-        isinstance(step, Step) and step.points is not None and step.least > 0 and step.points <= points for step in steps
-    )
+    is_asked = lambda step: isinstance(step, Step) and step.least > 0
+    return bool(steps) and all(is_asked(step) and step.points is not None and step.points <= points for step in steps)
 
 
 def has_hyphens_third_and_fourth(sequence):
