@@ -276,8 +276,21 @@ def keeps_pairs_of_sequences_that_are_refused(folder):
     compare(folder, path, text)
     # Here only another sequence has the code point, so no table can say both.
     data = '<char cp="0062"/><char cp="0061 0062"/>' + outside.format("0061", "0061", "0062")
-    told = "each label with it is refused, but labels of other entries can have it, and its variants\n"
-    expect_refusal(ruleset(folder, data), [], f"line 2: char 0061: {told}{UNSAYABLE}")
+    told = "each label with it is refused, but labels of other entries can have it, and then variants\n"
+    for within in (data, data.replace('<var cp="0062" type="blocked"/>', "")):
+        expect_refusal(ruleset(folder, within), [], f"line 2: char 0061: {told}{UNSAYABLE}")
+
+
+def takes_long_rules_for_others(folder):
+    """A rule that stands for too many others is not looked into, and classes within classes are looked at once."""
+    long_rule = STARTS + "<choice><char cp='0061'/><char cp='0062'/></choice>" * 40
+    twice = "<union name='c{}'><class by-ref='c{}'/><class by-ref='c{}'/></union>"
+    classes = "<class name='c0'>0061</class>" + "".join(twice.format(each + 1, each, each) for each in range(29))
+    deep_rule = STARTS + "<class by-ref='c29'/>"
+    for rule, more in ((long_rule, ""), (deep_rule, classes), ("<rule>" * 30 + long_rule + "</rule>" * 30, "")):
+        rules = f'<rule name="r">{rule}</rule>{more}<action disp="invalid" match="r"/>'
+        refusal = "line 4: action 'invalid': it refuses labels that match the rule 'r'\n"
+        expect_refusal(ruleset(folder, LETTERS_AND_SIGNS, rules), [], refusal + REFUSED)
 
 
 def names_each_reason_once(folder):
@@ -678,6 +691,7 @@ TESTS = [
     follows_actions_on_types,
     refuses_actions_on_labels_by_their_types,
     keeps_pairs_of_sequences_that_are_refused,
+    takes_long_rules_for_others,
     names_each_reason_once,
     accepts_no_more_than_random_rulesets,
     closes_gaps,

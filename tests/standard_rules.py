@@ -68,5 +68,6 @@ CONDITIONS = (
     (False, "00B7", "when", behind(EL) + HERE + ahead(EL + EL)),
     (False, "00B7", "when", behind("<class>0061</class>") + HERE + ahead(EL)),
     (False, "200D", "when", behind('<char cp="094D"/><char cp="094D"/>') + HERE),
+    (False, "200D", "when", behind('<char cp="094D" count="2"/>') + HERE),
     (False, "00B7", "when", f"<choice>{EL}{EL}</choice>"),
 )

@@ -65,8 +65,8 @@ class Converter:
             if entry.source not in outside or is_cut(entry.source, sources):
                 kept.append(entry)
                 continue
-            if entry.others() and points.issuperset(entry.source):
-                reason = "each label with it is refused, but labels of other entries can have it, and its variants"
+            if points.issuperset(entry.source):
+                reason = "each label with it is refused, but labels of other entries can have it, and then variants"
                 self.losses.add(Loss.UNSAYABLE, entry.line, entry.name, reason)
             self.tell(entry, "left out as a source, since each label with it is refused")
         return kept

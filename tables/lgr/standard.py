@@ -7,11 +7,12 @@ isn't plainly so is no such rule.
 from .patterns import ANCHOR, END, START, Step
 from .program import DISALLOWED, HYPHEN, LEADING_MARK, NOT_NFC, UNASSIGNED
 
+NOTHING = frozenset()
 HYPHENS = frozenset({0x2D})
 ARABIC_DIGITS, EXTENDED_DIGITS = frozenset(range(0x660, 0x66A)), frozenset(range(0x6F0, 0x6FA))
 
-NEVER = {DISALLOWED, UNASSIGNED, NOT_NFC}
-NEVER_FIRST = NEVER | {HYPHEN, LEADING_MARK}
+# By these the program refuses each label that begins with a code point which by itself is refused so.
+NEVER_FIRST = {NOT_NFC, HYPHEN, LEADING_MARK}
 
 # RFC 5892, appendix A: what has to stand before and behind these code points, as the program enforces it; None where it
 # asks nothing. The viramas are those of docs/PROFILE.md.
@@ -24,7 +25,6 @@ class Standard:
 
     def __init__(self, refusals):
         self.points = frozenset(point for point in refusals if refusals[point] not in (DISALLOWED, UNASSIGNED))
-        self.never = frozenset(point for point in refusals if refusals[point] in NEVER)
         self.never_first = frozenset(point for point in refusals if refusals[point] in NEVER_FIRST)
 
     def refuses_all(self, sequences):
@@ -36,12 +36,12 @@ class Standard:
             return False
         steps = [item for item in sequence if isinstance(item, Step)]
         return (
-            # A code point that no label has.
-            any(needs(step, self.never) for step in steps)
+            # A code point that no label has: it is in no set.
+            any(needs(step, NOTHING) for step in steps)
             # A mark or a hyphen first.
             or (sequence[:1] == (START,) and needs(*sequence[1:2], self.never_first))
             # A hyphen last.
-            or (sequence[-1:] == (END,) and needs(*sequence[-2:-1], HYPHENS | self.never))
+            or (sequence[-1:] == (END,) and needs(*sequence[-2:-1], HYPHENS))
             or has_hyphens_third_and_fourth(sequence)
             # Digits of two kinds (RFC 5892, appendices A.8 and A.9).
             or all(any(needs(step, digits) for step in steps) for digits in (ARABIC_DIGITS, EXTENDED_DIGITS))
