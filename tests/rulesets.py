@@ -601,6 +601,10 @@ def files_and_words_that_cannot_be_used(folder):
         done = subprocess.run(words, stdout=full, stderr=subprocess.PIPE, text=True, timeout=LIMIT)
     told = f"{path}: the table could not be written: No space left on device\n"
     assert (done.returncode, done.stderr) == (2, told), done
+    # Messages that can't be written change neither the table nor the status.
+    with open("/dev/full", "wb") as full:
+        done = subprocess.run([*words[:-1], stored("gaps.xml")], stdout=subprocess.PIPE, stderr=full, timeout=LIMIT)
+    assert (done.returncode, done.stdout.decode()) == (0, made(stored("gaps.xml"))[0]), done
     if os.geteuid() != 0:
         os.chmod(table_file(folder, b"U+0061\n", "closed.txt"), 0)
         expect_refusal(os.path.join(folder, "closed.txt"), [], "Permission denied\n", 2)

@@ -1,8 +1,8 @@
 """The options, the messages and the status."""
 
 import argparse
+import contextlib
 import os
-import sys
 
 from . import gaps, rfc4290, rfc7940
 from .convert import ALLOCATABLE, Converter
@@ -15,7 +15,7 @@ from .writing import text_of
 BLOCKED = "blocked"
 CONVERTED, UNSAYABLE, UNUSABLE = 0, 1, 2
 MOST_FILE_BYTES = 67_108_864
-STANDARD_OUTPUT = 1
+STANDARD_OUTPUT, STANDARD_ERROR = 1, 2
 OTHER_ENCODINGS = (b"\xff\xfe", b"\xfe\xff", b"\0")
 
 
@@ -72,13 +72,14 @@ def table_of(ruleset, program, options, losses):
 
 
 def refusal_of(losses, options):
-    """Why there is no table, in one line; None if there is one."""
+    """The lines that say why there is no table; none if there is one."""
+    widening = () if options.accept_more else (Loss.CONDITION, Loss.RULE)
+    lines = losses.lines(Loss.UNSAYABLE, *widening)
     if losses.count(Loss.UNSAYABLE):
-        return "refused: there is no such table"
-    widening = losses.count(Loss.CONDITION) + losses.count(Loss.RULE)
-    if widening and not options.accept_more:
-        return "refused: without what a table can't say, labels would be accepted that the ruleset refuses"
-    return None
+        lines.append("refused: there is no such table")
+    elif lines:
+        lines.append("refused: without what a table can't say, labels would be accepted that the ruleset refuses")
+    return lines
 
 
 def convert(options, tell):
@@ -87,9 +88,7 @@ def convert(options, tell):
     text, added = table_of(ruleset, program, options, losses)
     refusal = refusal_of(losses, options)
     if refusal:
-        for line in losses.lines(Loss.UNSAYABLE, Loss.CONDITION, Loss.RULE):
-            tell(line)
-        tell(refusal)
+        tell("\n".join(refusal))
         return UNSAYABLE
     open_gaps = program.gaps(text)
     if options.close_gaps and open_gaps:
@@ -120,8 +119,10 @@ def main(words):
     options = options_of(words)
 
     def tell(text):
-        for line in text.split("\n"):
-            print(f"{options.file}: {' '.join(line.split())}", file=sys.stderr)
+        lines = "".join(f"{options.file}: {' '.join(line.split())}\n" for line in text.split("\n"))
+        # Where messages can't be written, the status stands, and the head of the table has them.
+        with contextlib.suppress(OSError):
+            os.write(STANDARD_ERROR, lines.encode("utf-8", "surrogateescape"))
 
     try:
         return convert(options, tell)
