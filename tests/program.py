@@ -461,12 +461,19 @@ def manual_blocks(text):
 
 
 def prints_what_the_documents_show(folder):
+    for locale in ("C", "C.UTF-8"):
+        inner = os.path.join(folder, locale)
+        os.mkdir(inner)
+        prints_in_a_locale_what_the_documents_show(inner, locale)
+
+
+def prints_in_a_locale_what_the_documents_show(folder, locale):
     os.symlink(PROGRAM, os.path.join(folder, "idn2"))
     os.symlink(TABLES, os.path.join(folder, "tables"))
-    path = folder + os.pathsep + os.environ["PATH"]
+    environment = {**os.environ, "LC_ALL": locale, "PATH": folder + os.pathsep + os.environ["PATH"]}
     documents = {"README.md": markdown_blocks, "docs/GUIDE.md": markdown_blocks, "docs/NOTATION.md": markdown_blocks,
                  "docs/idn2.1": manual_blocks}
-    for (name, blocks), least in zip(documents.items(), (8, 45, 7, 6)):
+    for (name, blocks), least in zip(documents.items(), (8, 80, 7, 6)):
         with open(os.path.join(ROOT, name), encoding="utf-8") as file:
             text = file.read()
         sessions = [session for block in blocks(text) for session in sessions_of(block)]
@@ -479,14 +486,14 @@ def prints_what_the_documents_show(folder):
                 command,
                 shell=True,
                 cwd=folder,
-                env={**os.environ, "PATH": path},
+                env=environment,
                 stdin=subprocess.DEVNULL,
                 stdout=subprocess.PIPE,
                 stderr=subprocess.STDOUT,
                 timeout=LIMIT,
             )
             shown = "".join(line + "\n" for line in lines).encode()
-            assert done.stdout == shown, f"{name}: {command}: shown {shown}, found {done.stdout}"
+            assert done.stdout == shown, f"{name}, {locale}: {command}: shown {shown}, found {done.stdout}"
 
 
 TESTS = [

@@ -1,0 +1,677 @@
+#!/usr/bin/env python3
+"""Runs the scripts that docs/GUIDE.md tells to save: where listings stop, files are missing, disks are full, and runs
+meet or are killed; and what it says of libidn2's program beside that program, where it is installed.
+
+Every test is run in each of the SETTINGS. The last line is 'N passed, M failed', and the exit status is 0 where nothing
+failed. The sessions that the guide shows are run by program.py."""
+
+import concurrent.futures
+import glob
+import os
+import random
+import re
+import resource
+import shutil
+import signal
+import subprocess
+import sys
+
+from program import LIMIT, PROGRAM, ROOT, TABLES, is_registrable, markdown_files, run_tests, spelled
+
+with open(os.path.join(ROOT, "docs", "GUIDE.md"), encoding="utf-8") as file:
+    GUIDE = file.read()
+SCRIPTS = dict(markdown_files(GUIDE))
+# The locale, and the shell that is called sh. The sessions of the guide are run with sh in both locales.
+SETTINGS = (("C", "sh"), ("C.UTF-8", "bash"))
+NOT_KNOWN = 75
+GERMAN, HAN = "tables/german.txt", "tables/han.txt"
+# Of this label 131,072 variants are listed, and the scripts stop before that.
+LONG = "国" * 17
+CONTROL_CHARACTERS = [bytes([byte]) for byte in (*range(0x20), 0x7F)]
+INTERPRETERS = {"ask.sh": "bash", "ask.py": sys.executable, "combine.py": sys.executable}
+# A question for each script that asks the program of one label, or of some. 'mass' and '中國' are taken.
+QUESTIONS = (
+    ["accept.sh", GERMAN, GERMAN, "registered.txt", "mass"],
+    ["taken.sh", GERMAN, "registered.txt", "mass"],
+    ["list_all.sh", GERMAN, "mass"],
+    ["keys.sh", HAN, "中國"],
+    ["key_taken.sh", HAN, "keys.txt", "中國"],
+    ["table_of.sh", "mass", GERMAN],
+    ["change.sh", GERMAN, GERMAN, "registered.txt"],
+    ["page.sh", GERMAN, "mass", "1", "pages"],
+)
+
+
+class Kit:
+    """A folder with the scripts, and with the program as the first idn2 on the path."""
+
+    def __init__(self, folder, locale, shell):
+        self.folder, self.bin, self.temporary = (os.path.join(folder, name) for name in ("", "bin", "temporary"))
+        for path in (self.bin, self.temporary):
+            os.mkdir(path)
+        for name, text in SCRIPTS.items():
+            self.write(name, text)
+        os.symlink(PROGRAM, os.path.join(self.bin, "idn2"))
+        os.symlink(shutil.which(shell), os.path.join(self.bin, "sh"))
+        os.symlink(TABLES, os.path.join(folder, "tables"))
+        path = self.bin + os.pathsep + os.environ["PATH"]
+        self.environment = {**os.environ, "LC_ALL": locale, "PATH": path, "TMPDIR": self.temporary}
+
+    def write(self, name, text):
+        with open(os.path.join(self.folder, name), "wb") as file:
+            file.write(text if isinstance(text, bytes) else text.encode())
+
+    def command(self, script, *words):
+        return [INTERPRETERS.get(script, "sh"), script, *words]
+
+    def run(self, script, *words, given=b"", **more):
+        """What a script prints, what it tells on standard error, and its status."""
+        more = {"input": given, "stdout": subprocess.PIPE, "stderr": subprocess.PIPE, "timeout": LIMIT, **more}
+        done = subprocess.run(self.command(script, *words), cwd=self.folder, env=self.environment, **more)
+        return done.stdout, done.stderr, done.returncode
+
+    def expect(self, words, output, status, message=b"", **more):
+        """The message is a part of what is told on standard error; if there is none, nothing is told."""
+        found = self.run(*words, **more)
+        assert (found[0], found[2]) == (output, status), (words, "wanted", output, status, "found", found)
+        assert message in found[1] and bool(message) == bool(found[1]), (words, "wanted", message, "found", found)
+
+    def expect_unknown(self, words, message, **more):
+        self.expect(words, b"", NOT_KNOWN, message, **more)
+
+    def check(self, table):
+        """What the program prints of a table."""
+        path = os.path.join(self.folder, table)
+        return subprocess.run([PROGRAM, "--check-table", path], capture_output=True, timeout=LIMIT).stdout
+
+    def instead_of(self, command, text):
+        """Another program comes first on the path under this name."""
+        path = os.path.join(self.bin, command)
+        if os.path.lexists(path):
+            os.remove(path)
+        with open(path, "w", encoding="utf-8") as file:
+            file.write(text)
+        os.chmod(path, 0o755)
+
+
+def in_each_setting(test):
+    def run_in_each(folder):
+        for locale, shell in SETTINGS:
+            inner = os.path.join(folder, f"{locale}-{shell}")
+            os.mkdir(inner)
+            test(Kit(inner, locale, shell))
+
+    run_in_each.__name__ = test.__name__
+    return run_in_each
+
+
+def on_a_full_disk():
+    """No byte can be written to any file, as on a full disk."""
+    signal.signal(signal.SIGXFSZ, signal.SIG_IGN)
+    resource.setrlimit(resource.RLIMIT_FSIZE, (0, 0))
+
+
+def has_each_script_in_the_guide(folder):
+    assert len(SCRIPTS) == GUIDE.count("\n```\n"), (sorted(SCRIPTS), GUIDE.count("\n```\n"))
+    for name, text in SCRIPTS.items():
+        called = re.findall(r"\$here/(\S+?)\"", text)
+        assert set(called) <= SCRIPTS.keys(), (name, called)
+        lists = "--variants" in text and not re.search(r"--limit 1 --tries 1 ", text)
+        assert not lists or "--tries" in text, f"{name} lists without --tries"
+
+
+@in_each_setting
+def accepts_and_refuses_labels(kit):
+    kit.write("registered.txt", "strasse\nhaus\n")
+    words = ["accept.sh", GERMAN, GERMAN, "registered.txt"]
+    for label, output, status, message in (
+        ("maß", b"xn--ma-hia\n", 0, b""),
+        ("xn--ma-hia", b"xn--ma-hia\n", 0, b""),
+        ("mass-", b"", 1, b"idn2: line 1: 13 hyphen out of place\n"),
+        ("-mass", b"", 1, b"idn2: line 1: 13 hyphen out of place\n"),
+        ("--help", b"", 1, b"idn2: line 1: 13 hyphen out of place\n"),
+        ("", b"", 1, b"idn2: line 1: 3 empty\n"),
+        ("Maß", b"", 1, b"idn2: line 1: 10 disallowed code point\n"),
+        ("XN--MA-HIA", b"", 1, b"idn2: line 1: 10 disallowed code point\n"),
+        ("mañana", b"", 1, b"idn2: line 1: 40 not made of table entries\n"),
+        ("xn--maana-pta", b"", 1, b"idn2: line 1: 40 not made of table entries\n"),
+        ("haus", b"", 1, b"haus\thaus\tallocatable\n"),
+        ("straße", b"", 1, b"strasse\tstrasse\tallocatable\n"),
+        ("xn--strae-oqa", b"", 1, b"strasse\tstrasse\tallocatable\n"),
+        ("m" * 1025, b"", 1, b"idn2: line 1: 2 line too long\n"),
+        ("m*", b"", 1, b"idn2: line 1: 10 disallowed code point\n"),
+        ("a\\nb", b"", 1, b"idn2: line 1: 10 disallowed code point\n"),
+        (b"ma\xff", b"", 1, b"idn2: line 1: 1 not UTF-8\n"),
+    ):
+        kit.expect([*words, label], output, status, message)
+    for words in (["accept.sh"], ["accept.sh", GERMAN, "registered.txt", "maus"], [*words, "maus", "laus"]):
+        kit.expect(words, b"", 2, b"usage: sh accept.sh TABLE ZONE REGISTERED LABEL\n")
+
+
+@in_each_setting
+def finds_registered_labels_in_either_form(kit):
+    line = "straße\txn--strae-oqa\tallocatable\n".encode()
+    for text in ("straße", "xn--strae-oqa", "abc\nstraße\nxyz\n", "xn--strae-oqa\r\nabc\r\n",
+                 "straße\nxn--strae-oqa\n"):
+        kit.write("registered.txt", text)
+        for label in ("strasse", "straße"):
+            kit.expect(["taken.sh", GERMAN, "registered.txt", label], line * text.count("stra"), 1)
+        kit.expect(["accept.sh", GERMAN, GERMAN, "registered.txt", "xn--strae-oqa"], b"", 1, line)
+
+
+@in_each_setting
+def takes_a_label_for_no_option(kit):
+    kit.write("registered.txt", "haus\n")
+    refused = b"idn2: line 1: 13 hyphen out of place\n"
+    for words in (["taken.sh", GERMAN, "registered.txt"], ["list_all.sh", GERMAN], ["keys.sh", HAN],
+                  ["key_taken.sh", HAN, "registered.txt"], ["accept.sh", GERMAN, GERMAN, "registered.txt"]):
+        for label in ("-a", "--", "-h", "--version"):
+            kit.expect([*words, label], b"", 1, refused)
+    kit.expect(["table_of.sh", "--help", GERMAN], b"", 1, refused)
+    kit.expect(["page.sh", GERMAN, "--help", "1", "pages"], b"", 1, refused)
+
+
+@in_each_setting
+def refuses_each_control_character(kit):
+    kit.write("registered.txt", "strasse\nhaus\n")
+    message = b"control character\n"
+    for character in CONTROL_CHARACTERS[1:]:
+        for label in (b"ma\xc3\x9f" + character, character + b"ma\xc3\x9f", b"ma" + character + b"\xc3\x9f"):
+            kit.expect(["accept.sh", GERMAN, GERMAN, "registered.txt", label], b"", 1, message)
+    kit.expect(["taken.sh", GERMAN, "registered.txt", "maß\r"], b"", 1, message)
+    kit.expect(["list_all.sh", GERMAN, "maß", "maß\r"], b"", 1, message)
+    kit.expect(["keys.sh", HAN, "中国\r"], b"", 1, message)
+    kit.expect(["key_taken.sh", HAN, "registered.txt", "中国\r"], b"", 1, message)
+    kit.expect(["table_of.sh", "maß\r", GERMAN], b"", 1, message)
+    kit.expect(["page.sh", GERMAN, "maß\r", "9", "pages"], b"", 1, message)
+    requests = b"".join(b"ma" + character + b"\n" for character in CONTROL_CHARACTERS if character != b"\n")
+    for script, *words in (["ask.sh"], ["ask.py", GERMAN]):
+        kit.expect([script, *words], b"refused: control character\n" * 32, 0, given=requests)
+
+
+@in_each_setting
+def keeps_runs_at_once_apart(kit):
+    """Forty labels at once in one folder, each accepted or refused by itself."""
+    kit.write("registered.txt", "".join(f"strasse{number}\n" for number in range(0, 40, 2)))
+    ask = lambda number: kit.run("accept.sh", GERMAN, GERMAN, "registered.txt", f"straße{number}")
+    with concurrent.futures.ThreadPoolExecutor(8) as pool:
+        for number, found in enumerate(pool.map(ask, range(40))):
+            a_label = f"straße{number}".encode("punycode").decode()
+            wanted = (f"xn--{a_label}\n".encode(), b"", 0) if number % 2 else (
+                b"", f"strasse{number}\tstrasse{number}\tallocatable\n".encode(), 1)
+            assert found == wanted, (number, found)
+
+
+@in_each_setting
+def takes_a_stop_for_unknown(kit):
+    """Where a listing stops, where the least variant isn't found, and where one label of many is the long one."""
+    kit.write("registered.txt", "haus\n")
+    stopped = b"stopped: not all variants are listed\n"
+    kit.expect_unknown(["taken.sh", HAN, "registered.txt", LONG], stopped)
+    kit.expect_unknown(["accept.sh", HAN, HAN, "registered.txt", LONG], stopped)
+    kit.expect_unknown(["list_all.sh", HAN], stopped, given=f"中国\n{LONG}\n中国\n".encode())
+    kit.write("labels.txt", f"中国\n{LONG}\n")
+    kit.expect_unknown(["change.sh", HAN, HAN, "labels.txt"], stopped)
+    # The first half of the labels that are spelled begins with a letter that has a composed form with its mark.
+    kit.write("marks.txt", "0061|0071\n0071|0061\n0301\n")
+    late = "q\u0301" * 18
+    kit.expect_unknown(["keys.sh", "marks.txt", late], b"no variant was found\n")
+    kit.expect_unknown(["key_taken.sh", "marks.txt", "registered.txt", late], b"no variant was found\n")
+    kit.expect_unknown(["taken.sh", "marks.txt", "registered.txt", late], stopped)
+    # At the 100,000th tested label a listing stops, also if it is the last one; and with 65,536 it is whole.
+    kit.expect(["taken.sh", HAN, "registered.txt", "国" * 16], b"", 0)
+
+
+@in_each_setting
+def takes_what_it_cannot_read_for_unknown(kit):
+    kit.write("registered.txt", "haus\n")
+    kit.write("gap.txt", "%version 2\n0061..007A\n00DF|0073-0073\n")
+    kit.write("faulty.txt", "0061\n0061\n")
+    os.mkdir(os.path.join(kit.folder, "directory"))
+    for bad in ("absent", "directory", "gap.txt", "faulty.txt", ""):
+        kit.expect_unknown(["taken.sh", bad, "registered.txt", "maus"], b"no table, or one with gaps: ")
+        kit.expect_unknown(["accept.sh", GERMAN, bad, "registered.txt", "maus"], b"no table, or one with gaps: ")
+        kit.expect_unknown(["keys.sh", bad, "maus"], b"no table, or one with gaps: ")
+        kit.expect_unknown(["key_taken.sh", bad, "registered.txt", "maus"], b"no table, or one with gaps: ")
+        if bad != "gap.txt":
+            for words in (["accept.sh", bad, GERMAN, "registered.txt", "maus"], ["list_all.sh", bad, "maus"],
+                          ["table_of.sh", "maus", bad], ["change.sh", GERMAN, bad, "registered.txt"],
+                          ["change.sh", bad, GERMAN, "registered.txt"], ["combine.py", GERMAN, bad]):
+                kit.expect_unknown(words, b"idn2: ")
+    kit.expect_unknown(["keys.sh", GERMAN, "maus"], b"a sequence has several code points: tables/german.txt\n")
+    for text in (b"", b"Haus\n", b"haus\n\nmaus\n", b"haus \n", b"ma\xff\n", b"xn--Ma-hia\n", b"#end\nmaus\n"):
+        kit.write("labels.txt", text)
+        words = ["taken.sh", GERMAN, "labels.txt", "maus"]
+        kit.expect(words, b"", 0) if text == b"" else kit.expect_unknown(words, b"not all of these can be read: ")
+    for bad in ("absent", "directory", ""):
+        kit.expect_unknown(["taken.sh", GERMAN, bad, "maus"], b"not all of these can be read: ")
+        kit.expect_unknown(["accept.sh", GERMAN, GERMAN, bad, "maus"], b"not all of these can be read: ")
+        kit.expect_unknown(["key_taken.sh", HAN, bad, "中国"], b"not all of these can be read: ")
+        kit.expect_unknown(["change.sh", GERMAN, GERMAN, bad], b"not all variants are known: ")
+
+
+@in_each_setting
+def takes_a_full_disk_for_unknown(kit):
+    kit.write("registered.txt", "haus\n")
+    kit.write("keys.txt", "xn--fiqs8s\n")
+    kit.write("new.txt", "%version 2\n0061..007A\n")
+    kit.write("strasse.txt", "strasse\n")
+    with open("/dev/full", "wb") as full:
+        for words, given in (
+            (["accept.sh", GERMAN, GERMAN, "registered.txt", "maus"], b""),
+            (["taken.sh", GERMAN, "registered.txt", "haus"], b""),
+            (["list_all.sh", GERMAN, "haus"], b""),
+            (["keys.sh", HAN, "中国"], b""),
+            (["key_taken.sh", HAN, "keys.txt", "国中"], b""),
+            (["key_taken.sh", HAN, "keys.txt", "中國"], b""),
+            (["table_of.sh", "haus", GERMAN], b""),
+            (["change.sh", GERMAN, "new.txt", "strasse.txt"], b""),
+            (["page.sh", GERMAN, "sss", "2", "pages"], b""),
+            (["ask.sh"], b"haus\n"),
+            (["ask.py", GERMAN], b"haus\n"),
+        ):
+            _, message, status = kit.run(*words, given=given, stdout=full)
+            assert status == NOT_KNOWN and message, (words, message, status)
+    for words in (["change.sh", GERMAN, GERMAN, "registered.txt"], ["page.sh", GERMAN, "sss", "2", "others"]):
+        _, message, status = kit.run(*words, preexec_fn=on_a_full_disk)
+        assert status == NOT_KNOWN and message, (words, message, status)
+    # The page whose name could not be printed is there, and nothing else of either listing is.
+    assert sorted(os.path.basename(path) for path in glob.glob(kit.folder + "/*/[0-9]")) == ["1"]
+    kit.expect(["page.sh", GERMAN, "sss", "2", "pages"], b"pages/2\n", 0)
+
+
+@in_each_setting
+def takes_a_lost_program_for_unknown(kit):
+    """The program is killed, or fails, behind the first bytes of its answer."""
+    kit.write("registered.txt", "maß\n")
+    kit.write("keys.txt", "xn--fiqs8s\n")
+    part = "#!/bin/sh\ncase $* in *--check-table*) exec {0} \"$@\" ;; esac\n{0} \"$@\" | head -c {1}\n{2}\n"
+    for end in ("kill -9 $$", "exit 3", "exit 4"):
+        for count in (0, 7, 30):
+            kit.instead_of("idn2", part.format(PROGRAM, count, end))
+            for words in QUESTIONS:
+                output, message, status = kit.run(*words)
+                assert status == NOT_KNOWN, (words, output, message, status)
+    assert glob.glob(kit.folder + "/pages/[0-9]") == []
+    # A listing without its trailer, though the status is 0.
+    kit.instead_of("idn2", part.format(PROGRAM, 30, "exit 0"))
+    for words in (["list_all.sh", GERMAN, "strasse"], ["change.sh", GERMAN, GERMAN, "registered.txt"]):
+        assert kit.run(*words)[::2] == (b"", NOT_KNOWN), words
+
+
+@in_each_setting
+def takes_a_lost_end_of_the_lines_for_unknown(kit):
+    """What goes to awk is cut behind some lines."""
+    kit.write("registered.txt", "haus\nmaß\nlaus\n")
+    for count in range(5):
+        kit.instead_of("awk", f"#!/bin/sh\nhead -n {count} | {shutil.which('awk')} \"$@\"\n")
+        for words in (["taken.sh", GERMAN, "registered.txt", "strasse"], ["keys.sh", HAN, "中國", "中国"]):
+            _, message, status = kit.run(*words)
+            assert status == NOT_KNOWN, (words, count, message, status)
+
+
+def random_table(chance, letters, longest):
+    """A table without gaps: sets of sequences, each with all others of its set as variants."""
+    sequences = {"".join(chance.choices(letters, k=chance.randint(1, longest))) for _ in range(8)} | set(letters)
+    sets = {}
+    for sequence in sorted(sequences):
+        sets.setdefault(chance.randrange(5), []).append(sequence)
+    return {source: [each for each in members if each != source] for members in sets.values() for source in members}
+
+
+def written(table, chance):
+    """The text of a table, in one of its spellings."""
+    line_end, prefix, space = (chance.choice(spellings) for spellings in (("\n", "\r\n"), ("", "U+", "u+"), ("", " ")))
+    lines, mark = ["# a comment .. with | signs", ""], ""
+    if chance.random() < 0.5:
+        lines, mark = ["%version 2", *lines], "!"
+    points = lambda text: (space + "-").join(f"{prefix}{ord(letter):04x}" for letter in text)
+    for source, variants in table.items():
+        others = f"{space}:".join(chance.choice(("", mark)) + points(each) for each in variants)
+        lines.append(points(source) + (f"{space}|{others}" if others else ""))
+    return line_end.join(lines) + line_end
+
+
+def registrable_labels(chance, letters, longest, count):
+    labels = ("".join(chance.choices(letters, k=chance.randint(1, longest))) for _ in range(count))
+    return sorted({label for label in labels if is_registrable(label)})
+
+
+@in_each_setting
+def finds_the_collisions_that_sets_have(kit):
+    """Beside whole sets of what labels spell, under random tables without gaps."""
+    chance = random.Random(7940)
+    for round in range(12):
+        longest = chance.choice((1, 2))
+        table = random_table(chance, "abc-", longest)
+        kit.write("table.txt", written(table, chance))
+        registered = registrable_labels(chance, "abc-", 4, 6)
+        line_end = chance.choice(("\n", "\r\n"))
+        kit.write("registered.txt", line_end.join(chance.sample(registered, len(registered))))
+        for label in registrable_labels(chance, "abc-", 4, 4):
+            collisions = sorted(set(registered) & spelled(table, label))
+            output, message, status = kit.run("taken.sh", "table.txt", "registered.txt", label)
+            found = sorted(line.split("\t")[0] for line in output.decode().splitlines())
+            wanted = collisions, 1 if collisions else 0
+            assert (found, status) == wanted, (table, registered, label, output, message, status)
+            if longest == 1:
+                keys, _, status = kit.run("keys.sh", "table.txt", given="\n".join(registered).encode())
+                kit.write("keys.txt", keys.replace(b"\n", line_end.encode()))
+                assert (status, keys.count(b"\n")) == (0, len(registered)), (table, registered)
+                found = kit.run("key_taken.sh", "table.txt", "keys.txt", label)[2]
+                assert found == (1 if collisions else 0), (table, registered, label, found)
+
+
+@in_each_setting
+def joins_tables_so_that_nothing_is_missed(kit):
+    """What a label spells under one of two tables it spells under the joined one; and that one has no gap."""
+    chance = random.Random(4290)
+    for round in range(8):
+        tables = [random_table(chance, "abc-"[first:first + 3], 2) for first in (0, 1)]
+        for name, table in zip(("one.txt", "two.txt"), tables):
+            # Some variants have no entry, as in a list of pairs in one direction.
+            kept = {source: variants for source, variants in table.items() if variants == [] or chance.random() < 0.8}
+            table.clear()
+            table.update(kept)
+            kit.write(name, written(table, chance))
+        output, message, status = kit.run("combine.py", "one.txt", "two.txt")
+        assert (message, status) == (b"", 0), (message, status)
+        kit.write("zone.txt", output)
+        sequences = {each for table in tables for source, variants in table.items() for each in (source, *variants)}
+        assert kit.check("zone.txt") == b"#table %d 0\n" % len(sequences), (tables, output)
+        for label in registrable_labels(chance, "abc-", 3, 6):
+            wanted = {each for table in tables for each in spelled(table, label) if is_registrable(each)}
+            listed = kit.run("list_all.sh", "zone.txt", label)[0].decode().splitlines()[:-1]
+            assert wanted <= {line.split("\t")[0] for line in listed}, (tables, label, listed)
+            assert all(line.endswith("\tblocked") for line in listed if line.split("\t")[0] != label), listed
+
+
+@in_each_setting
+def joins_ranges_and_the_tables_that_come_with_the_program(kit):
+    for name, entries in (("german", 42), ("han", 3602), ("arabic-digits", 73)):
+        kit.write("zone.txt", kit.run("combine.py", f"tables/{name}.txt")[0])
+        assert kit.check("zone.txt") == b"#table %d 0\n" % entries, name
+
+
+@in_each_setting
+def chooses_among_tables(kit):
+    kit.write("latin.txt", "%version 2\n0030..0039\n0061..007A\n")
+    kit.write("greek.txt", "%version 2\n0030..0039\n03B1..03C9\n")
+    for label, names, status, message in (
+        ("abc", b"latin.txt\n", 0, b""),
+        ("αβγ", b"greek.txt\n", 0, b""),
+        ("123", b"latin.txt\ngreek.txt\n", 0, b""),
+        ("aβγ", b"", 1, b"idn2: line 1: 40 not made of table entries\n"),
+        ("a.b", b"", 1, b"idn2: line 1: 10 disallowed code point\n"),
+        ("-a", b"", 1, b"idn2: line 1: 13 hyphen out of place\n"),
+        ("", b"", 1, b"idn2: line 1: 3 empty\n"),
+    ):
+        kit.expect(["table_of.sh", label, "latin.txt", "greek.txt"], names, status, message)
+    kit.expect(["table_of.sh", "abc", "absent", "latin.txt"], b"", NOT_KNOWN, b"idn2: 60 read fault: absent\n")
+
+
+@in_each_setting
+def tells_what_a_table_changes(kit):
+    kit.write("old.txt", "%version 2\n0061\n0062\n0063|0062\n")
+    kit.write("new.txt", "%version 2\n0061|0062\n0062\n0063\n")
+    kit.write("less.txt", "%version 2\n0061\n0062\n")
+    kit.write("labels.txt", "a\nc\n")
+    kit.expect(["change.sh", "old.txt", "old.txt", "labels.txt"], b"", 0)
+    # The same lines in the same order, but b goes with c there and with a here.
+    output, message, status = kit.run("change.sh", "old.txt", "new.txt", "labels.txt")
+    assert (output != b"", message, status) == (True, b"", 1), (output, message, status)
+    for old, new in (("old.txt", "less.txt"), ("less.txt", "old.txt")):
+        kit.expect_unknown(["change.sh", old, new, "labels.txt"], b"idn2: line 2: 40 not made of table entries\n")
+    assert os.listdir(kit.temporary) == []
+
+
+# Pages of at most five lines of a listing of 48, with labels in which hyphens stand.
+PAGED = ["page.sh", "hyphens.txt", "aaaaaaaa", "5", "pages"]
+
+
+def joined_pages(kit):
+    """The lines of all pages but their trailers, and the last trailer."""
+    lines, number = [], 1
+    while os.path.exists(path := os.path.join(kit.folder, "pages", str(number))):
+        with open(path, "rb") as file:
+            *page, trailer = file.read().splitlines()
+        lines, number = lines + page, number + 1
+    return lines, trailer
+
+
+def expect_whole_pages(kit):
+    words = [PROGRAM, "--variants", os.path.join(kit.folder, "hyphens.txt"), "aaaaaaaa"]
+    *whole, _ = subprocess.run(words, capture_output=True, timeout=LIMIT).stdout.splitlines()
+    lines, trailer = joined_pages(kit)
+    assert len(whole) == 48 and lines == whole and trailer.startswith(b"#end "), (lines, trailer)
+
+
+@in_each_setting
+def pages_through_a_listing(kit):
+    kit.write("hyphens.txt", "0061|002D\n")
+    for number in range(1, 11):
+        kit.expect(PAGED, b"pages/%d\n" % number, 0)
+    expect_whole_pages(kit)
+    kit.expect(PAGED, b"", 0)
+    kit.write("pages/11", "")
+    kit.expect_unknown(PAGED, b"a page without a trailer: pages/11\n")
+    for words in ([*PAGED[:2], "aaa", *PAGED[3:]], ["page.sh", GERMAN, *PAGED[2:]]):
+        kit.expect_unknown(words, b"of another table or label: pages\n")
+    kit.write("hyphens.txt", "0061|002D\n# another table\n")
+    kit.expect_unknown(PAGED, b"of another table or label: pages\n")
+    kit.expect(["page.sh", "hyphens.txt", "ab", "5", "others"], b"", 1, b"40 not made of table entries\n")
+    kit.expect_unknown(["page.sh", "absent", "ab", "5", "others"], b"absent")
+    kit.expect_unknown(["page.sh", "hyphens.txt", "aaa", "0", "third"], b"idn2: 50 usage\n")
+    kit.expect(["page.sh", "hyphens.txt", "aaa"], b"", 2, b"usage: sh page.sh TABLE LABEL LINES FOLDER\n")
+
+
+@in_each_setting
+def pages_through_a_listing_though_runs_are_killed(kit):
+    """Each second run is killed: before the page has its name, behind that, or in the middle of the page."""
+    kit.write("hyphens.txt", "0061|002D\n")
+    move = shutil.which("mv")
+    for turn in range(30):
+        at = chr(ord("a") + turn % 3)
+        kit.instead_of("mv", {"a": "#!/bin/sh\nkill -9 $PPID\n", "b": f"#!/bin/sh\n{move} \"$@\"\nkill -9 $PPID\n",
+                              "c": f"#!/bin/sh\nexec {move} \"$@\"\n"}[at])
+        kit.instead_of("idn2", f"#!/bin/sh\n{PROGRAM} \"$@\" | head -n 2\nkill -9 $PPID\n" if at == "c" else
+                       f"#!/bin/sh\nexec {PROGRAM} \"$@\"\n")
+        status = kit.run(*PAGED)[2]
+        kit.instead_of("mv", f"#!/bin/sh\nexec {move} \"$@\"\n")
+        kit.instead_of("idn2", f"#!/bin/sh\nexec {PROGRAM} \"$@\"\n")
+        output, message, status_after = kit.run(*PAGED)
+        assert status in (-9, 0) and status_after == 0, (turn, status, message, status_after)
+        if output == b"":
+            break
+    expect_whole_pages(kit)
+
+
+@in_each_setting
+def pages_through_a_listing_by_runs_at_once(kit):
+    kit.write("hyphens.txt", "0061|002D\n")
+
+    def next_page(_):
+        return kit.run(*PAGED)
+
+    with concurrent.futures.ThreadPoolExecutor(4) as pool:
+        found = list(pool.map(next_page, range(40)))
+    assert {status for _, _, status in found} <= {0, NOT_KNOWN}, found
+    names = sorted(output for output, _, _ in found if output)
+    assert len(set(names)) == len(names), names
+    while kit.run(*PAGED)[0]:
+        pass
+    expect_whole_pages(kit)
+
+
+@in_each_setting
+def serves_requests(kit):
+    given = "maß\nMaß\n\n-\nmañana\n".encode() + b"ma\xc3\n" + b"a" * 1025 + b"\nx\r\nfa\xc3\x9f"
+    refused = [b"refused: 10 disallowed code point", b"refused: 3 empty", b"refused: 13 hyphen out of place"]
+    middle = [b"refused: 1 not UTF-8", b"refused: 2 line too long", b"refused: control character"]
+    tested = [b"registrable: xn--ma-hia", *refused, b"registrable: xn--maana-pta", *middle, b"registrable: xn--fa-hia"]
+    kit.expect(["ask.sh"], b"\n".join(tested) + b"\n", 0, given=given)
+    listings = [b"mass xn--ma-hia", *refused, b"refused: 40 not made of table entries", *middle, b"fass xn--fa-hia"]
+    kit.expect(["ask.py", GERMAN], b"\n".join(listings) + b"\n", 0, given=given)
+    for words in (["ask.sh"], ["ask.py", GERMAN]):
+        kit.expect(words, b"", 0, given=b"")
+    output, _, status = kit.run("ask.py", HAN, given=LONG.encode())
+    assert (output.count(b" "), output[-9:], status) == (101, b" and more\n"[-9:], 0), (output[-40:], status)
+
+
+@in_each_setting
+def serves_each_request_before_the_next(kit):
+    for words in (["ask.sh"], ["ask.py", GERMAN]):
+        command = kit.command(*words)
+        with subprocess.Popen(command, cwd=kit.folder, env=kit.environment, stdin=subprocess.PIPE,
+                              stdout=subprocess.PIPE) as partner:
+            signal.alarm(LIMIT)
+            for label in ("faß", "abc"):
+                partner.stdin.write(label.encode() + b"\n")
+                partner.stdin.flush()
+                a_label = "xn--fa-hia" if label == "faß" else "abc"
+                assert a_label.encode() in partner.stdout.readline(), (words, label)
+            partner.stdin.close()
+            assert partner.wait(LIMIT) == 0
+            signal.alarm(0)
+
+
+@in_each_setting
+def tells_that_the_program_has_ended(kit):
+    """One answer, and then the end of the program, or of its input alone; or a message that is not of the label."""
+    version = f"#!/bin/sh\n[ \"$1\" = --version ] && exec {PROGRAM} --version\n"
+    first = version + f"head -n 1 | {PROGRAM} \"$@\"\n"
+    closed = version + f"line=$(head -n 1)\nexec < /dev/null\necho \"$line\" | {PROGRAM} \"$@\"\nsleep 1\n"
+    last = version + "read -r line\necho 'idn2: 70 out of memory' >&2\n"
+    for program, answers in ((first, 1), (closed, 1), (last, 0)):
+        kit.instead_of("idn2", program)
+        for words, answer in ((["ask.sh"], b"registrable: haus\n"), (["ask.py", GERMAN], b"haus\n")):
+            output, message, status = kit.run(*words, given=b"haus\nmaus\nlaus\n")
+            assert (output, status) == (answer * answers, NOT_KNOWN), (words, output, message, status)
+
+
+def libidn2_program():
+    """The path and the version of libidn2's idn2, if it is on the path."""
+    for folder in os.environ["PATH"].split(os.pathsep):
+        path = os.path.join(folder, "idn2")
+        if os.access(path, os.X_OK):
+            shown = subprocess.run([path, "--version"], capture_output=True, text=True, timeout=LIMIT).stdout
+            if found := re.match(r"idn2 \(Libidn2\) (\S+)", shown):
+                return path, found.group(1)
+    return None, None
+
+
+LIBIDN2, LIBIDN2_VERSION = libidn2_program()
+# The version of which the guide tells.
+[TOLD_VERSION] = set(re.findall(r"\b2\.\d\.\d\b", GUIDE.split("\n## Coming from libidn2\n")[1]))
+
+
+def rows_of(heading):
+    """The rows of the table under a heading of the guide, each as its cells."""
+    section = GUIDE.split(f"\n### {heading}\n", 1)[1].split("\n## ")[0].split("\n### ")[0]
+    rows = [line for line in section.splitlines() if line.startswith("| ")]
+    return [[cell.replace("\\|", "|").strip() for cell in re.split(r"(?<!\\)\|", row)[1:-1]] for row in rows[1:]]
+
+
+def answered(cell):
+    """What a cell says: the lines, and the status."""
+    *lines, status = re.fullmatch(r"(.*), (\d)", cell).groups()
+    shown = re.findall(r"`([^`]*)`", lines[0]) or [""]
+    return "".join(line + "\n" for line in shown).encode(), int(status)
+
+
+def under(program, folder, command):
+    """The output and then the messages of a command, with this program as idn2, and its status."""
+    os.makedirs(folder, exist_ok=True)
+    link = os.path.join(folder, "idn2")
+    if not os.path.lexists(link):
+        os.symlink(program, link)
+    environment = {**os.environ, "LC_ALL": "C.UTF-8", "PATH": folder + os.pathsep + os.environ["PATH"]}
+    more = {"stdin": subprocess.DEVNULL, "capture_output": True, "timeout": LIMIT}
+    done = subprocess.run(["bash", "-c", command], env=environment, **more)
+    return done.stdout + done.stderr, done.returncode
+
+
+def is_compared(name, is_there):
+    """Tells what is left out where the program of libidn2 isn't there."""
+    if not is_there:
+        print(f"guide {name}: not compared, since idn2 of libidn2 {TOLD_VERSION} is not installed")
+    return is_there
+
+
+def answers_as_the_guide_says_beside_libidn2(folder):
+    rows = rows_of("Answers")
+    assert len(rows) >= 20, len(rows)
+    is_beside = is_compared("answers", LIBIDN2_VERSION == TOLD_VERSION)
+    for command, here, there in rows:
+        command = command.strip("`")
+        found = under(PROGRAM, os.path.join(folder, "here"), command)
+        assert found == answered(here), (command, found, answered(here))
+        if is_beside:
+            found = under(LIBIDN2, os.path.join(folder, "there"), command)
+            assert found == answered(there), (command, found, answered(there))
+
+
+def has_the_options_that_the_guide_says_beside_libidn2(folder):
+    """Each option is refused here exactly if its row says so; the rows are the options of libidn2's help."""
+    said = {option: here for cell, here in rows_of("Options") for option in re.findall(r"`([^`]*)`", cell)}
+    for option, here in said.items():
+        found = under(PROGRAM, os.path.join(folder, "here"), f"idn2 {option} x")
+        assert ((b"idn2: 50 usage\n", 2) == found) == here.startswith("refused by 50"), (option, here, found)
+    others = re.search(r"Neither program has (.*?), some of", GUIDE, re.DOTALL).group(1)
+    others = re.findall(r"`([^`]*)`", others)
+    assert len(others) == 6, others
+    for option in others:
+        assert under(PROGRAM, os.path.join(folder, "here"), f"idn2 {option} x") == (b"idn2: 50 usage\n", 2), option
+    if not is_compared("options", LIBIDN2_VERSION == TOLD_VERSION):
+        return
+    helped, status = under(LIBIDN2, os.path.join(folder, "there"), "idn2 --help")
+    helped = helped.decode().split("short options too.")[1].split("Report")[0]
+    offered = set(re.findall(r"(?<![\w-])--?[A-Za-z0-9][\w-]*", helped))
+    assert offered == said.keys(), offered ^ said.keys()
+    for option in others:
+        found, status = under(LIBIDN2, os.path.join(folder, "there"), f"idn2 {option} x")
+        assert status == 1 and (b"unrecognized option" in found or b"invalid option" in found), (option, found)
+
+
+@in_each_setting
+def fails_with_the_program_of_libidn2(kit):
+    if not is_compared("scripts", LIBIDN2 is not None):
+        return
+    kit.write("registered.txt", "maß\n")
+    kit.write("keys.txt", "xn--fiqs8s\n")
+    kit.instead_of("idn2", f"#!/bin/sh\nexec {LIBIDN2} \"$@\"\n")
+    for words in (*QUESTIONS, ["combine.py", GERMAN], ["ask.sh"], ["ask.py", GERMAN]):
+        output, message, status = kit.run(*words, given=b"mass\n")
+        assert (output, status in (1, NOT_KNOWN)) == (b"", True), (words, output, message, status)
+
+
+TESTS = [
+    has_each_script_in_the_guide,
+    accepts_and_refuses_labels,
+    finds_registered_labels_in_either_form,
+    takes_a_label_for_no_option,
+    refuses_each_control_character,
+    keeps_runs_at_once_apart,
+    takes_a_stop_for_unknown,
+    takes_what_it_cannot_read_for_unknown,
+    takes_a_full_disk_for_unknown,
+    takes_a_lost_program_for_unknown,
+    takes_a_lost_end_of_the_lines_for_unknown,
+    finds_the_collisions_that_sets_have,
+    joins_tables_so_that_nothing_is_missed,
+    joins_ranges_and_the_tables_that_come_with_the_program,
+    chooses_among_tables,
+    tells_what_a_table_changes,
+    pages_through_a_listing,
+    pages_through_a_listing_though_runs_are_killed,
+    pages_through_a_listing_by_runs_at_once,
+    serves_requests,
+    serves_each_request_before_the_next,
+    tells_that_the_program_has_ended,
+    answers_as_the_guide_says_beside_libidn2,
+    has_the_options_that_the_guide_says_beside_libidn2,
+    fails_with_the_program_of_libidn2,
+]
+
+if __name__ == "__main__":
+    sys.exit(run_tests("guide", TESTS))
