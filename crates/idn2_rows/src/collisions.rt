@@ -61,7 +61,7 @@ const CASES: [(&[u8], &str, &str, &str, &str, u64); 7] = [
         "abba baab ",
         5,
     ),
-    (LETTERS, "b\r\nba", "aa", "", "ba ", 1),
+    (LETTERS, "b\r\nba", "aa", "", "ba ", 2),
 ];
 
 #[test]
