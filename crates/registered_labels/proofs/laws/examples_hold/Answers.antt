@@ -1,6 +1,6 @@
 use Rattle.std.proofs.Common.{refl}
 use Rattle.std.specs.Str.{chars, is_utf8}
-use Rattle.idn_label.specs.FirstFault.{first_fault}
+use Rattle.idn_label.specs.FirstFault.{first_fault, utf8_fault}
 use Rattle.registered_labels.proofs.laws.examples_hold.Goals as goal
 
 pub returns-clause-collisions : goal.returns-clause-collisions
@@ -21,5 +21,5 @@ returns-clause-collisions c = record {
 }
 
 pub returns-clause-lines : goal.returns-clause-lines
-unfolding is_utf8 chars first_fault
+unfolding is_utf8 chars utf8_fault first_fault
 returns-clause-lines c = record { too_long = refl; not_utf8 = refl; empty = refl }
