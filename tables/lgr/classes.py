@@ -1,0 +1,69 @@
+"""The classes of a ruleset as sets (RFC 7940, section 6.2): of the code points that its labels can have."""
+
+import re
+import unicodedata
+
+from .references import References
+from .ruleset import point_of
+
+OPERATORS = {"union": "union", "intersection": "intersection", "difference": "difference",
+             "symmetric-difference": "symmetric_difference"}
+MARKS = ("Mn", "Mc", "Me")
+# The long names of the categories that rules are known to ask for; a short name is its own.
+CATEGORIES = {"m": MARKS, "mark": MARKS, "combiningmark": MARKS, "nonspacingmark": ("Mn",), "spacingmark": ("Mc",),
+              "enclosingmark": ("Me",)}
+SHORT_CATEGORY = re.compile(r"L[ulmto]|M[nce]|N[dlo]|P[cdseifo]|S[mcko]|Z[slp]|C[cfos]")
+
+
+class Classes:
+    def __init__(self, ruleset, points):
+        self.points = frozenset(points)
+        self.tagged = {}
+        for entry in ruleset.entries:
+            for tag in entry.tags if len(entry.source) == 1 else ():
+                self.tagged.setdefault(tag, set()).add(entry.source[0])
+        self.names = References([each for each in ruleset.definitions if each.name != "rule"], self.set_of)
+        # Python's data tells of properties only where it has all code points; it may be older than the program's.
+        self.are_all_known = all(unicodedata.category(chr(point)) != "Cn" for point in self.points)
+
+    def set_of(self, element):
+        """The code points of a class or of a set operator; None where they aren't known."""
+        if element.name == "class":
+            return self.class_of(element)
+        sets = [self.set_of(child) for child in element.children]
+        if not sets or None in sets:
+            return None
+        first, *others = sets
+        if element.name == "complement":
+            return None if others else self.points - first
+        if element.name not in OPERATORS:
+            return None
+        for other in others:
+            first = getattr(first, OPERATORS[element.name])(other)
+        return first
+
+    def class_of(self, element):
+        if "by-ref" in element.attributes:
+            return self.names.of(element.attributes["by-ref"], element.name, element.line)
+        if "from-tag" in element.attributes:
+            return self.points & self.tagged.get(element.attributes["from-tag"], set())
+        if "property" in element.attributes:
+            return self.with_property(element.attributes["property"])
+        points = set()
+        for text in element.text.split():
+            first, _, last = text.partition("-")
+            first, last = point_of(first, element.line), point_of(last or first, element.line)
+            points |= self.points.intersection(range(first, last + 1))
+        return frozenset(points)
+
+    def with_property(self, text):
+        """The code points of a General_Category or a Canonical_Combining_Class; no other property is known."""
+        name, _, value = (re.sub(r"[\s_-]", "", part).lower() for part in text.partition(":"))
+        if not self.are_all_known:
+            return None
+        if name in ("ccc", "canonicalcombiningclass") and re.fullmatch("[0-9]{1,3}", value):
+            return frozenset(point for point in self.points if unicodedata.combining(chr(point)) == int(value))
+        wanted = CATEGORIES.get(value, (value.capitalize(),))
+        if name not in ("gc", "generalcategory") or not all(map(SHORT_CATEGORY.fullmatch, wanted)):
+            return None
+        return frozenset(point for point in self.points if unicodedata.category(chr(point)) in wanted)

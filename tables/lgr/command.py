@@ -1,0 +1,137 @@
+"""The options, the messages and the status."""
+
+import argparse
+import contextlib
+import os
+
+from . import gaps, rfc4290, rfc7940
+from .convert import ALLOCATABLE, Converter
+from .losses import Loss, Losses, counted
+from .program import Program, Unusable
+from .ruleset import Fault
+from .table import check_limits, check_size, check_versions
+from .writing import text_of
+
+BLOCKED = "blocked"
+CONVERTED, UNSAYABLE, UNUSABLE = 0, 1, 2
+MOST_FILE_BYTES = 67_108_864
+STANDARD_OUTPUT, STANDARD_ERROR = 1, 2
+OTHER_ENCODINGS = (b"\xff\xfe", b"\xfe\xff", b"\0")
+
+
+def options_of(words):
+    parser = argparse.ArgumentParser(description="Makes a variant table from a ruleset of RFC 7940 or RFC 4290.",
+                                     allow_abbrev=False)
+    parser.add_argument("file", metavar="FILE")
+    parser.add_argument("--version", type=int, choices=(1, 2), default=2,
+                        help="of the table's notation; version 1 can't say that a variant is blocked [default: 2]")
+    parser.add_argument("--untyped", choices=(BLOCKED, ALLOCATABLE), default=BLOCKED,
+                        help="what variants without a type are [default: blocked]")
+    parser.add_argument("--close-gaps", action="store_true",
+                        help="add the reverse and transitive pairs that are missing, each blocked")
+    parser.add_argument("--accept-more", action="store_true",
+                        help="drop conditions and rules that a table can't say: LABELS THAT FILE REFUSES ARE ACCEPTED")
+    parser.add_argument("--idn2", metavar="PROGRAM", help="the program [default: beside the scripts, or on the path]")
+    options = parser.parse_args(words)
+    if options.close_gaps and options.version == 1:
+        parser.error("--close-gaps adds blocked variants, which version 1 can't say")
+    return options
+
+
+def read(path):
+    with open(path, "rb") as file:
+        data = file.read(MOST_FILE_BYTES + 1)
+    if len(data) > MOST_FILE_BYTES:
+        raise Fault(None, f"more than {MOST_FILE_BYTES:,} bytes")
+    if not data.strip():
+        raise Fault(None, "nothing in it")
+    if any(mark in data[:4] for mark in OTHER_ENCODINGS):
+        raise Fault(1, "UTF-16 or another encoding, and only UTF-8 is read")
+    is_xml = data.lstrip(b"\xef\xbb\xbf \t\r\n").startswith(b"<")
+    return (rfc7940 if is_xml else rfc4290).read(data)
+
+
+def table_of(ruleset, program, options, losses):
+    """The text of the table, as good as it can be said."""
+    refusals = program.refusals(ruleset.points())
+    entries = Converter(ruleset, refusals, options.untyped, losses).table_entries()
+    if not entries:
+        raise Fault(None, "\n".join(["no entry of it can stand in a table", *losses.lines(Loss.NARROWER)]))
+    added = gaps.close(entries, losses) if options.close_gaps else 0
+    check_limits(entries, losses)
+    check_versions(entries, options.version, losses)
+    head = [f"Made by tables/from_lgr.py from {os.path.basename(options.file)} ({ruleset.format})."]
+    if ruleset.facts:
+        head.append("It says of itself: " + "; ".join(ruleset.facts) + ".")
+    if options.close_gaps:
+        head.append(f"To close gaps {counted(added, 'pair')} {'was' if added == 1 else 'were'} added, each blocked.")
+    head += losses.lines(Loss.CONDITION, Loss.RULE, Loss.NARROWER)
+    text = text_of(entries, options.version, head, losses.warning())
+    check_size(text, entries, losses)
+    return text, added
+
+
+def refusal_of(losses, options):
+    """The lines that say why there is no table; none if there is one."""
+    widening = () if options.accept_more else (Loss.CONDITION, Loss.RULE)
+    lines = losses.lines(Loss.UNSAYABLE, *widening)
+    if losses.count(Loss.UNSAYABLE):
+        lines.append("refused: there is no such table")
+    elif lines:
+        lines.append("refused: without what a table can't say, labels would be accepted that the ruleset refuses")
+    return lines
+
+
+def convert(options, tell):
+    ruleset = read(options.file)
+    program, losses = Program(options.idn2), Losses()
+    text, added = table_of(ruleset, program, options, losses)
+    refusal = refusal_of(losses, options)
+    if refusal:
+        tell("\n".join(refusal))
+        return UNSAYABLE
+    open_gaps = program.gaps(text)
+    if options.close_gaps and open_gaps:
+        raise Unusable(f"{program.path} finds {counted(open_gaps, 'gap')} in the table")
+    for line in losses.lines(Loss.NARROWER, Loss.CONDITION, Loss.RULE):
+        tell(line)
+    if open_gaps:
+        tell(f"the table has {counted(open_gaps, 'gap')}: idn2 --check-table prints them")
+    if options.close_gaps:
+        tell(f"{counted(added, 'pair')} added, each blocked")
+    if losses.warning():
+        tell(losses.warning())
+    return write(text)
+
+
+def write(text):
+    """Writes all of it; a table cut short would be another table, so that is told and has a status."""
+    rest = memoryview(text)
+    try:
+        while rest:
+            rest = rest[os.write(STANDARD_OUTPUT, rest):]
+    except OSError as error:
+        raise OSError(error.errno, f"the table could not be written: {error.strerror}") from error
+    return CONVERTED
+
+
+def main(words):
+    options = options_of(words)
+
+    def tell(text):
+        lines = "".join(f"{options.file}: {' '.join(line.split())}\n" for line in text.split("\n"))
+        # Where messages can't be written, the status stands, and the head of the table has them.
+        with contextlib.suppress(OSError):
+            os.write(STANDARD_ERROR, lines.encode("utf-8", "surrogateescape"))
+
+    try:
+        return convert(options, tell)
+    except Fault as fault:
+        tell(str(fault))
+        return UNSAYABLE
+    except Unusable as reason:
+        tell(str(reason))
+        return UNUSABLE
+    except OSError as error:
+        tell(error.strerror)
+        return UNUSABLE

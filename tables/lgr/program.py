@@ -1,0 +1,61 @@
+"""idn2 itself: which code points it refuses, and what it says of a table."""
+
+import os
+import re
+import shutil
+import subprocess
+import tempfile
+
+HERE = os.path.dirname(os.path.abspath(__file__))
+# Where the program stands beside these scripts: in the archive, and in the repository.
+BESIDE = (os.path.join(HERE, "..", "..", "bin", "idn2"),
+          os.path.join(HERE, "..", "..", "crates", "idn2", "out", "idn2"))
+
+DISALLOWED, UNASSIGNED, NOT_NFC, HYPHEN, LEADING_MARK = 10, 11, 12, 13, 14
+
+
+class Unusable(Exception):
+    """The program can't be used."""
+
+
+class Program:
+    def __init__(self, path):
+        self.path = path or next(filter(is_executable, BESIDE), shutil.which("idn2"))
+        if not self.path:
+            raise Unusable("no idn2 beside these scripts or on the path: name it with --idn2")
+        if not re.match(r"idn2 \S+ \(Unicode \S+\)\n", self.run("--version").stdout):
+            raise Unusable(f"{self.path} is not the idn2 of these scripts: name it with --idn2")
+
+    def run(self, *words, given=""):
+        try:
+            return subprocess.run([self.path, *words], input=given, capture_output=True, encoding="utf-8",
+                                  errors="replace", check=False)
+        except OSError as error:
+            raise Unusable(f"{self.path}: {error.strerror}") from error
+
+    def refusals(self, points):
+        """For each code point the number by which the program refuses it as a whole label; None if it doesn't."""
+        # A code point is a line. A control character can't be one; it is disallowed.
+        points = sorted(points)
+        lines = [point for point in points if point > 0x20]
+        done = self.run("--register", given="".join(chr(point) + "\n" for point in lines))
+        told = dict(re.findall(r"^idn2: line (\d+): (\d+) ", done.stderr, re.MULTILINE))
+        if done.returncode not in (0, 1) or len(done.stdout.splitlines()) + len(told) != len(lines):
+            raise Unusable(f"{self.path} --register ended with status {done.returncode}")
+        numbers = {point: None if str(at) not in told else int(told[str(at)]) for at, point in enumerate(lines, 1)}
+        return dict.fromkeys(points, DISALLOWED) | numbers
+
+    def gaps(self, table):
+        """How many gaps the text of a table has."""
+        with tempfile.NamedTemporaryFile(suffix=".txt") as file:
+            file.write(table)
+            file.flush()
+            done = self.run("--check-table", file.name)
+        summary = re.search(r"^#table \d+ (\d+)\n\Z", done.stdout, re.MULTILINE)
+        if not summary:
+            raise Unusable(f"{self.path} refuses the table: {done.stderr.strip()}")
+        return int(summary.group(1))
+
+
+def is_executable(path):
+    return os.access(path, os.X_OK)

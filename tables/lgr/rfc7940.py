@@ -1,0 +1,133 @@
+"""A Label Generation Ruleset in XML (RFC 7940, sections 4 to 7).
+
+An element or an attribute that the standard has not is a fault: it may be a condition that is misspelt.
+"""
+
+from .dispositions import Action
+from .ruleset import Condition, Entry, Fault, Ruleset, Variant, check_sources, point_of, spelled
+from .xml_tree import NAMESPACE, root_of
+
+NOTES = {"comment", "ref"}
+SETS = ("union", "intersection", "difference", "symmetric-difference", "complement")
+PATTERNS = {
+    "class": {"name", "from-tag", "property", "by-ref", "count"} | NOTES,
+    **{name: {"name", "count"} | NOTES for name in SETS},
+    "rule": {"name", "by-ref", "count"} | NOTES,
+}
+ATTRIBUTES_OF_DATA = {
+    "char": {"cp", "tag", "when", "not-when"} | NOTES,
+    "range": {"first-cp", "last-cp", "tag", "when", "not-when"} | NOTES,
+}
+ATTRIBUTES_OF_VARIANTS = {"var": {"cp", "type", "when", "not-when"} | NOTES}
+ATTRIBUTES_OF_RULES = {
+    "action": {"disp", "match", "not-match", "any-variant", "all-variants", "only-variants"} | NOTES,
+    **PATTERNS,
+}
+ATTRIBUTES_WITHIN_RULES = {
+    "char": {"cp", "count"} | NOTES,
+    **{name: {"count"} | NOTES for name in ("any", "choice")},
+    **{name: NOTES for name in ("start", "end", "anchor", "look-behind", "look-ahead")},
+    **PATTERNS,
+}
+FACTS = ("version", "date", "language", "scope", "unicode-version")
+
+
+def read(data):
+    root = root_of(data)
+    if root.name != "lgr":
+        raise Fault(root.line, f"the root is '{root.name}', and not 'lgr' of {NAMESPACE}")
+    parts = {"meta": None, "data": None, "rules": None}
+    for element in root.children:
+        if element.name not in parts or parts[element.name]:
+            raise Fault(element.line, f"'{element.name}' is not an element of RFC 7940 here, or is given twice")
+        parts[element.name] = element
+    entries = [entry for element in children(parts["data"]) for entry in entries_of(element)]
+    check_sources(entries)
+    rules = children(parts["rules"])
+    for element in rules:
+        check_rule(element, ATTRIBUTES_OF_RULES)
+    actions = [action_of(element) for element in rules if element.name == "action"]
+    definitions = [element for element in rules if element.name != "action"]
+    texts = [(each.name, " ".join(each.text.split())) for each in children(parts["meta"])]
+    facts = [f"{name} {text}" for name, text in texts if name in FACTS and text]
+    return Ruleset("RFC 7940", entries, actions, definitions, facts)
+
+
+def children(element):
+    return element.children if element else []
+
+
+def check_element(element, attributes):
+    """The element and its attributes are among these."""
+    if element.name not in attributes:
+        raise Fault(element.line, f"'{element.name}' is not an element of RFC 7940 here")
+    more = sorted(set(element.attributes) - attributes[element.name])
+    if more:
+        raise Fault(element.line, f"'{more[0]}' is not an attribute of '{element.name}' in RFC 7940")
+    if "when" in element.attributes and "not-when" in element.attributes:
+        raise Fault(element.line, f"{element.name} has both 'when' and 'not-when'")
+
+
+def check_rule(element, attributes):
+    check_element(element, attributes)
+    for child in element.children:
+        check_rule(child, ATTRIBUTES_WITHIN_RULES)
+
+
+def entries_of(element):
+    """The entry of a 'char', or those of a 'range'."""
+    check_element(element, ATTRIBUTES_OF_DATA)
+    tags = tuple(element.attributes.get("tag", "").split())
+    if element.name == "range":
+        return entries_of_range(element, tags)
+    source = points_of(element)
+    if not source:
+        raise Fault(element.line, "char has an empty 'cp'")
+    entry = Entry(element.line, f"char {spelled(source)}", source, condition_of(element), tags)
+    entry.variants = [variant_of(child) for child in element.children]
+    check_variants(entry)
+    return [entry]
+
+
+def entries_of_range(element, tags):
+    first, last = (point_of(element.needed(name), element.line) for name in ("first-cp", "last-cp"))
+    if first > last:
+        raise Fault(element.line, f"the range ends at {last:04X}, before it begins")
+    if element.children:
+        raise Fault(element.line, "a range has no variants")
+    name, condition = f"range {first:04X}..{last:04X}", condition_of(element)
+    points = (point for point in range(first, last + 1) if not 0xD800 <= point <= 0xDFFF)
+    return [Entry(element.line, name, (point,), condition, tags, is_of_range=True) for point in points]
+
+
+def variant_of(element):
+    check_element(element, ATTRIBUTES_OF_VARIANTS)
+    return Variant(element.line, points_of(element), element.attributes.get("type"), condition_of(element))
+
+
+def check_variants(entry):
+    """A variant is given again only under another condition (RFC 7940, section 5.3.5)."""
+    conditions = {}
+    for variant in entry.variants:
+        others = conditions.setdefault(variant.points, [])
+        if variant.condition in others or (others and None in (variant.condition, *others)):
+            raise Fault(variant.line, f"{entry.name}: {spelled(variant.points) or 'null'} is given twice as a variant")
+        others.append(variant.condition)
+
+
+def points_of(element):
+    return tuple(point_of(digits, element.line) for digits in element.needed("cp").split())
+
+
+def condition_of(element):
+    return next((Condition(word, element.attributes[word]) for word in ("when", "not-when")
+                 if word in element.attributes), None)
+
+
+def action_of(element):
+    if element.children:
+        raise Fault(element.line, "an action has nothing within it")
+    types = (element.attributes.get(name) for name in ("any-variant", "all-variants", "only-variants"))
+    types = (None if names is None else frozenset(names.split()) for names in types)
+    match, not_match = element.attributes.get("match"), element.attributes.get("not-match")
+    return Action(element.line, element.needed("disp"), match, not_match, *types)

@@ -1,0 +1,93 @@
+"""What a file says, whichever format it has."""
+
+import dataclasses
+import re
+
+
+class Fault(Exception):
+    """Something wrong with the file itself, on a line of it or in all of it."""
+
+    def __init__(self, line, reason):
+        super().__init__(f"line {line}: {reason}" if line else reason)
+
+
+@dataclasses.dataclass(frozen=True)
+class Condition:
+    """'when' or 'not-when', and the name of a rule (RFC 7940, section 5.2)."""
+
+    word: str
+    rule: str
+
+    def __str__(self):
+        return f"{self.word} '{self.rule}'"
+
+
+@dataclasses.dataclass
+class Variant:
+    line: int
+    points: tuple
+    type: str | None = None
+    condition: Condition | None = None
+
+
+@dataclasses.dataclass
+class Entry:
+    """A source with its variants. Each code point of a range is an entry, and knows the name of the range."""
+
+    line: int
+    name: str
+    source: tuple
+    condition: Condition | None = None
+    tags: tuple = ()
+    variants: list = dataclasses.field(default_factory=list)
+    is_of_range: bool = False
+
+    def reflexive(self):
+        return [variant for variant in self.variants if variant.points == self.source]
+
+    def others(self):
+        return [variant for variant in self.variants if variant.points != self.source]
+
+
+@dataclasses.dataclass
+class Ruleset:
+    """`format` names the standard. `definitions` are the classes and rules, as elements that patterns.py reads. Where
+    `is_closed`, each code point of a label has to be one of the entries, that of a variant label too."""
+
+    format: str
+    entries: list
+    actions: list = dataclasses.field(default_factory=list)
+    definitions: list = dataclasses.field(default_factory=list)
+    facts: list = dataclasses.field(default_factory=list)
+    is_closed: bool = True
+
+    def points(self):
+        """All code points of sources and variants: no label, and no variant of one, has any other."""
+        sequences = [entry.source for entry in self.entries]
+        sequences += [variant.points for entry in self.entries for variant in entry.variants]
+        return {point for sequence in sequences for point in sequence}
+
+
+def check_sources(entries):
+    """No source is given twice, and there is one."""
+    first_line = {}
+    for entry in entries:
+        if entry.source in first_line:
+            raise Fault(entry.line, f"{spelled(entry.source)} is given twice, first on line {first_line[entry.source]}")
+        first_line[entry.source] = entry.line
+    if not entries:
+        raise Fault(None, "no entry in it")
+
+
+def spelled(sequence):
+    return "-".join(f"{point:04X}" for point in sequence)
+
+
+def point_of(digits, line):
+    """The scalar value that 4 to 6 hexadecimal digits name."""
+    if not re.fullmatch(r"[0-9A-Fa-f]{4,6}", digits):
+        raise Fault(line, f"'{digits}' is not a code point")
+    point = int(digits, 16)
+    if point > 0x10FFFF or 0xD800 <= point <= 0xDFFF:
+        raise Fault(line, f"{digits} is not a scalar value")
+    return point

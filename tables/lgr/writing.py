@@ -1,0 +1,47 @@
+"""The text of a table."""
+
+import textwrap
+
+from .ruleset import spelled
+from .table import canonical_line
+
+VERSION_LINE = "%version 2\n"
+MOST_COLUMNS = 118
+
+
+def text_of(entries, version, head, warning):
+    """Version line, head, entries, and the warning again as the last line if there is one."""
+    lines = [VERSION_LINE] if version == 2 else []
+    lines += [comment(text) for text in ([warning] if warning else []) + head]
+    lines += map(line_of, groups_of(entries) if version == 2 else ([entry] for entry in entries))
+    lines += [comment(warning)] if warning else []
+    return "".join(lines).encode("utf-8", "surrogateescape")
+
+
+def comment(text):
+    lines = textwrap.wrap(text, MOST_COLUMNS, initial_indent="# ", subsequent_indent="#   ")
+    return "".join(line + "\n" for line in lines)
+
+
+def groups_of(entries):
+    """Runs of entries that a range of the ruleset gave and that have no variants; any other entry by itself."""
+    groups = []
+    for entry in entries:
+        last = groups[-1][-1] if groups else None
+        if last and is_run(last, entry):
+            groups[-1].append(entry)
+        else:
+            groups.append([entry])
+    return groups
+
+
+def is_run(last, entry):
+    both = (last, entry)
+    is_bare = all(each.is_of_range and not each.variants for each in both)
+    return is_bare and last.name == entry.name and last.source[0] + 1 == entry.source[0]
+
+
+def line_of(group):
+    if len(group) > 1:
+        return f"{spelled(group[0].source)}..{spelled(group[-1].source)}\n"
+    return canonical_line(group[0])
