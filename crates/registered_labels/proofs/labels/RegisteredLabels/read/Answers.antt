@@ -35,7 +35,7 @@ loop-at-preserved c =
     let span : Span = record { start = at; end = at + len } in
     let pushed : c.push.new.self.items ≡ spans ++ span ∷ [] = c.in_ok-push.ensures.items in
     let labels : labels_at text c.push.new.self.items ≡ labels_at text spans ++ label ∷ [] =
-        ap (labels_at text) pushed ∙ labels_push text at end len label few reached within read spans last c.loop-at.invariant.labels c.loop-at.invariant.last greater in
+    ap (labels_at text) pushed ∙ labels_push text at end len label few reached within read spans last c.loop-at.invariant.labels c.loop-at.invariant.last greater in
     let now : label ≡ chars bytes = ap chars (sym same) in
     record {
       labels = subst (AreLabelsIn text) (sym pushed) (AreLabelsIn-more text at end len label few reached within read spans last c.loop-at.invariant.labels c.loop-at.invariant.last greater);
