@@ -10,7 +10,7 @@ _idn2() {
         before=${COMP_WORDS[COMP_CWORD - 2]}
     fi
     case $before in
-        --variants | --check-table)
+        --variants | --check-table | --among)
             mapfile -t COMPREPLY < <(compgen -f -- "$word")
             return
             ;;
@@ -28,7 +28,7 @@ _idn2_options() {
     local options="-N --tr46nt --usestd3asciirules --quiet -h --help -V --version" option
     case $given in
         *" -- "*) return ;;
-        *" --variants "*) modes= options="--after --limit --tries $options" ;;
+        *" --variants "*) modes= options="$(_idn2_beside_variants "$given") $options" ;;
     esac
     for option in $modes; do
         [[ $given = *" $option "* ]] && modes=
@@ -36,6 +36,17 @@ _idn2_options() {
     for option in $modes $options; do
         [[ $given = *" $option "* ]] || echo "$option"
     done
+}
+
+# What goes with --variants and with what was given besides.
+_idn2_beside_variants() {
+    case $1 in
+        *" --jump "*) ;;
+        *" --among "*) echo "--after --limit --among" ;;
+        *" --tries "*) echo "--after --limit --tries" ;;
+        *" --after "* | *" --limit "*) echo "--after --limit --tries --among" ;;
+        *) echo "--after --limit --tries --among --jump" ;;
+    esac
 }
 
 complete -o filenames -F _idn2 idn2

@@ -30,7 +30,11 @@ DECIDED = (r"`[^`]*`", r"RFC \d+(, section \d+)?", "UTS #46", r"docs/idn2\.1", r
 
 # Bounds that documents state, each with the clause of a contract or a definition that has it.
 EDGES = ("crates/variant_list/src/net.rt", "result ≤ 68544")
+JUMP = ("crates/variant_list/src/search.rt", "≤ looks.old + 189 * length self.old.net.edges")
+FILE = ("crates/registered_labels/src/labels.rt", "const MAX_TEXT_LEN: usize = 0xFFFF_FFFF;")
 BOUNDS = {
+    ("docs/DECISIONS.md", "at most 4,294,967,295 bytes"): FILE,
+    ("docs/idn2.1", "that ends after byte 4,294,967,295"): FILE,
     ("docs/PROOFS.md", "how many edges its net has, at most 68,544"): EDGES,
     ("docs/ARCHITECTURE.md", "at most 68,544 edges"): EDGES,
     ("docs/LISTING.md", "at most 68,544 edges"): EDGES,
@@ -38,11 +42,16 @@ BOUNDS = {
         ("crates/variant_list/src/cursor.rt", "≤ 256 * edge_count self.old.net.table self.old.net.label"),
     ("docs/PROOFS.md", "126 times are proved of one search"):
         ("crates/variant_list/src/search.rt", "≤ looks.old + 126 * length self.old.net.edges"),
+    ("docs/PROOFS.md", "189 times are proved of one search"): JUMP,
+    ("docs/LISTING.md", "then is a step: at most 189 scans"): JUMP,
     ("docs/PROOFS.md", "at most 64 times 128 more than there are edges"):
         ("crates/variant_list/src/cursor.rt", "≤ 64 * (edge_count self.now.net.table self.now.net.label + 128)"),
     ("docs/PROOFS.md", "after 2^40 read calls or 2^32 lines"):
         ("crates/idn_text/specs/Reading.antt", "((new.input.reads ≡ 2 ^ 40) ⊎ (new.number ≡ 2 ^ 32))"),
 }
+
+# The synopsis has only the short forms of these.
+SAID_BY_SHORT_FORMS = {"--lookup", "--register", "--decode", "--tr46nt"}
 
 # A path below the top of the repository, or a document at its top.
 PATH = re.compile(r"(?<![\w/.-])((?:docs|tables|completions|conformance|crates|tests|bench)/[\w./-]*|[A-Z]+\.md)(?!\w)")
@@ -149,6 +158,34 @@ def breaks_no_option_of_the_manual_page(folder):
         page = subprocess.run(words, capture_output=True, encoding="utf-8", timeout=LIMIT).stdout
         for option in set(re.findall(r"--[a-z][a-z0-9-]+", run(["--help"]).stdout.decode())):
             assert page.count(option) == written.count(option), (width, option)
+
+
+def options_of_the_help():
+    """Each option as the help has it: its forms, and what its value is called."""
+    rows = re.findall(r"^ +((?:-\w, )?--[\w-]+(?: <\w+>)?)  ", run(["--help"]).stdout.decode(), re.MULTILINE)
+    return {row.replace("<", "").replace(">", "") for row in rows}
+
+
+def shows_help_in_80_columns(folder):
+    lines = run(["--help"]).stdout.decode().splitlines()
+    wide = [line for line in lines if len(line) > 80]
+    assert len(lines) > 20 and not wide, wide
+
+
+def has_the_options_of_the_help_in_each_page(folder):
+    """The manual page under OPTIONS, with its forms and values; there in the synopsis, and in the README, with its forms."""
+    helped = options_of_the_help()
+    page = text_of("docs", "idn2.1").replace("\\-", "-").replace("\\~", " ")
+    synopsis, options = (re.search(rf"^\.SH {name}\n(.*?)^\.SH ", page, re.MULTILINE | re.DOTALL).group(1)
+                         for name in ("SYNOPSIS", "OPTIONS"))
+    shown = {folded(row.replace(" ,", ",")) for row in re.findall(r"^\.TP\n\.[A-Z]+ (-.*)$", options, re.MULTILINE)}
+    assert len(helped) > 12 and shown == helped, shown ^ helped
+    forms = {form for row in helped for form in re.findall(r"(?<![\w-])--?[A-Za-z][\w-]*", row)}
+    [table] = re.findall(r"^\| Option \|.*\n\|.*\n((?:\|.*\n)+)", text_of("README.md"), re.MULTILINE)
+    cells = " ".join(line.split("|")[1] for line in table.splitlines())
+    assert set(re.findall(r"`(--?[A-Za-z][\w-]*)", cells)) == forms, cells
+    named = set(re.findall(r"(?<![\w-])--?[A-Za-z][\w-]*", synopsis))
+    assert {form for form in forms if form.startswith("--")} - named == SAID_BY_SHORT_FORMS and named <= forms, named
 
 
 def names_what_comes_with_the_program(folder):
@@ -273,6 +310,8 @@ TESTS = [
     answers_as_the_profile_shows,
     formats_the_manual_page,
     breaks_no_option_of_the_manual_page,
+    shows_help_in_80_columns,
+    has_the_options_of_the_help_in_each_page,
     names_what_comes_with_the_program,
     answers_alike_in_each_locale,
     installs_under_another_name,

@@ -79,7 +79,8 @@ def shows_help_and_version(folder):
     for words in (["-h"], ["--help"], ["-V"], ["--version"]):
         done = run(words)
         assert (done.returncode, done.stderr) == (0, b"") and done.stdout, words
-    for option in (b"--register", b"--decode", b"--variants", b"--check-table", b"--after", b"--limit", b"--tries"):
+    for option in (b"--register", b"--decode", b"--variants", b"--check-table", b"--among", b"--jump", b"--after",
+                   b"--limit", b"--tries"):
         assert option in run(["--help"]).stdout, option
     assert b"Unicode" in run(["--version"]).stdout
 
@@ -393,7 +394,16 @@ def completes_words_in_bash(folder):
         (["--re"], ["--register"]),
         (["--register", "--l"], []),
         (["--a"], []),
-        (["--variants", "t", "--a"], ["--after"]),
+        (["--variants", "t", "--a"], ["--after", "--among"]),
+        (["--variants", "t", "--j"], ["--jump"]),
+        (["--variants", "t", "--among", "tables/ger"], ["tables/german.txt"]),
+        (["--variants", "t", "--among", "f", "--t"], ["--tr46nt"]),
+        (["--variants", "t", "--tries", "9", "--a"], ["--after"]),
+        (["--variants", "t", "--among", "f", "--j"], []),
+        (["--variants", "t", "--limit", "9", "--j"], []),
+        (["--variants", "t", "--jump", "--a"], []),
+        (["--variants", "t", "--jump", "--l"], []),
+        (["--j"], []),
         (["--variants", "t", "--limit", "7", "--l"], []),
         (["--variants", "tables/ger"], ["tables/german.txt"]),
         (["--check-table", "=", "tables/ger"], ["tables/german.txt"]),

@@ -1,0 +1,410 @@
+#!/usr/bin/env python3
+"""Runs the built program over registered labels: listings that are kept to them (--among), and the least label from a
+text on (--jump), by which a database finds them.
+
+The cases were worked out by hand from the rules, and the random ones are compared with a database's own index and with
+full listings. The last line is 'N passed, M failed', and the exit status is 0 where nothing failed."""
+
+import os
+import random
+import sqlite3
+import subprocess
+import sys
+
+from program import LIMIT, PROGRAM, TABLES, expect, is_registrable, run, run_tests, spelled, table_file
+
+GERMAN, HAN = (os.path.join(TABLES, name) for name in ("german.txt", "han.txt"))
+ALIKE = "%version 2\n0030\n006F|!0030\n0073\n0074\n0073-0073|00DF\n"
+# 'a' spells 'b', and 'b' doesn't spell 'a'.
+GAP = "0061|0062\n0062\n"
+LETTERS = "0061|0062\n0062|0061\n" + "".join(f"{point:04X}\n" for point in range(0x63, 0x7B))
+OVERLAPPING = "sss\nsß\nßs\n"
+
+# (table, registered labels, options, input, output, messages): what is read and answered.
+LISTINGS = (
+    (GERMAN, "haus\nstrasse\n", "", "straße\n", "strasse\tstrasse\tallocatable\n#end 1\n", ""),
+    (GERMAN, "strasse\nstraße\n", "", "strasse\n",
+     "strasse\tstrasse\tallocatable\nstraße\txn--strae-oqa\tallocatable\n#end 2\n", ""),
+    # A label spells itself.
+    (GERMAN, "haus\n", "", "haus\n", "haus\thaus\tallocatable\n#end 1\n", ""),
+    (GERMAN, "haus\nstrasse\n", "", "maus\n", "#end 0\n", ""),
+    # Both are variants of 'sss', and neither is one of the other.
+    (GERMAN, "ßs\n", "", "sß\n", "#end 0\n", ""),
+    (GERMAN, OVERLAPPING, "--limit 2", "sss\n",
+     "sss\tsss\tallocatable\nsß\txn--s-qfa\tallocatable\n#stop 2 sß\n", ""),
+    (GERMAN, OVERLAPPING, "--after sß", "sss\n", "ßs\txn--s-pfa\tallocatable\n#end 1\n", ""),
+    # The text need not be a label that is spelled.
+    (GERMAN, OVERLAPPING, "--after sz", "sss\n",
+     "sß\txn--s-qfa\tallocatable\nßs\txn--s-pfa\tallocatable\n#end 2\n", ""),
+    # The limit is reached at the last one, and says so.
+    (GERMAN, "sss\nsß\n", "--limit 2", "sss\n",
+     "sss\tsss\tallocatable\nsß\txn--s-qfa\tallocatable\n#stop 2 sß\n", ""),
+    (GERMAN, "haus\nstrasse\n", "", "Haus\nhaus\nстол\nstraße\n",
+     "haus\thaus\tallocatable\n#end 1\nstrasse\tstrasse\tallocatable\n#end 1\n",
+     "idn2: line 1: 10 disallowed code point\nidn2: line 3: 40 not made of table entries\n"),
+    # A blocked variant that is registered counts as any other.
+    (ALIKE, "t0ss\ntoß\n", "", "toss\n", "t0ss\tt0ss\tblocked\ntoß\txn--to-hia\tallocatable\n#end 2\n", ""),
+    (HAN, "中国\n中國\n", "", "中國\n", "中国\txn--fiqs8s\n中國\txn--fiqz9s\n#end 2\n", ""),
+    (GERMAN, "", "", "haus\n", "#end 0\n", ""),
+    # A carriage return at the end of a line doesn't count, and the last line needs no line feed.
+    (GERMAN, "haus\r\nstrasse", "", "straße\n", "strasse\tstrasse\tallocatable\n#end 1\n", ""),
+    (GAP, "b\n", "", "a\n", "b\tb\n#end 1\n", ""),
+    (GAP, "a\n", "", "b\n", "#end 0\n", ""),
+    # 2^62 variants, none of them registered.
+    (LETTERS, "abba\nabc\nbac\nc\nzoo\n", "", "a" * 62 + "\n", "#end 0\n", ""),
+    # A registered label that the table doesn't cover is no fault of the file.
+    (GERMAN, "haus\nстол\n", "", "haus\n", "haus\thaus\tallocatable\n#end 1\n", ""),
+    # The text may be longer than any label.
+    (GERMAN, "haus\nstrasse\n", "--after haus" + "a" * 1000, "haus\nstraße\n",
+     "#end 0\nstrasse\tstrasse\tallocatable\n#end 1\n", ""),
+    (GERMAN, "a" * 63 + "\n", "--after " + "a" * 64, "a" * 63 + "\n", "#end 0\n", ""),
+    (GERMAN, "a" * 63 + "\n", "--after " + "a" * 62, "a" * 63 + "\n",
+     "a" * 63 + "\t" + "a" * 63 + "\tallocatable\n#end 1\n", ""),
+)
+
+# (registered labels, number of the line, number and text of its fault): files that are refused.
+FAULTS = (
+    ("strasse\nhaus\n", 2, "4 out of order"),
+    ("haus\nhaus\n", 2, "4 out of order"),
+    ("haus\nhaus\r\n", 2, "4 out of order"),
+    ("strasse\nstrass\n", 2, "4 out of order"),
+    ("haus\nmaus\nlaus\nHaus\n", 3, "4 out of order"),
+    ("\nhaus\n", 1, "3 empty"),
+    ("haus\n\nstrasse\n", 2, "3 empty"),
+    ("haus\n\r\n", 2, "3 empty"),
+    (b"haus\n\xff\n", 2, "1 not UTF-8"),
+    (b"haus\n\xff" + b"i" * 1024 + b"\n", 2, "2 line too long"),
+    ("haus\n" + "i" * 1025 + "\n", 2, "2 line too long"),
+    ("Haus\n", 1, "10 disallowed code point"),
+    ("haus\r\r\n", 1, "10 disallowed code point"),
+    ("haus\tx\n", 1, "10 disallowed code point"),
+    ("\ufeffhaus\n", 1, "10 disallowed code point"),
+    ("haus\n\u0378\n", 2, "11 unassigned code point"),
+    ("u\u0308\n", 1, "12 not in NFC"),
+    ("haus\nxn--strae-oqa\n", 2, "13 hyphen out of place"),
+    ("-haus\n", 1, "13 hyphen out of place"),
+    ("\u0308\n", 1, "14 leading combining mark"),
+    ("a\u200d\n", 1, "15 joiner out of context"),
+    ("a\u00b7\n", 1, "16 code point out of context"),
+    ("a\u05d0\n", 1, "17 Bidi rule broken"),
+    ("haus\n" + "i" * 64 + "\n", 2, "18 label too long"),
+    ("haus\nstraße\nstrasse", 3, "4 out of order"),
+)
+
+# (table, lines, answers, messages): jumps.
+JUMPS = (
+    # Below all, at one of them, between two, behind all; and without a tab or a text.
+    (GERMAN, "sss\tabc\nsss\tsss\nsss\tssz\nsss\tsß\nsss\tßs\nsss\tßsa\nsss\tüber\n",
+     "sss\nsss\nsß\nsß\nßs\n#end\n#end\n", ""),
+    (GERMAN, "sss\nsss\t\nsss\r\nsss\t\r\n", "sss\nsss\nsss\nsss\n", ""),
+    # The text goes to the end of the line: another tab, a space or a capital is a part of it.
+    (GERMAN, "sss\tsss\t\nsss\ts\ts\nsss\tSSS\nsss\t sss\nsss\t\tzzz\n", "sß\nsss\nsss\nsss\nsss\n", ""),
+    # What begins with a candidate is greater.
+    (GERMAN, "sss\tss\nsss\tsssa\nsss\t\U0010ffff\n", "sss\nsß\n#end\n", ""),
+    # Texts of 63 code points, of 64, and of a whole line.
+    (LETTERS, "".join("a" * 63 + "\t" + text + "\n" for text in
+                      ("a" * 63, "a" * 64, "a" * 62 + "b", "a" * 62 + "bb", "b" * 63, "b" * 64, "a" * 960)),
+     "".join(each + "\n" for each in
+             ("a" * 63, "a" * 62 + "b", "a" * 62 + "b", "a" * 61 + "ba", "b" * 63, "#end", "a" * 62 + "b")), ""),
+    # The answer is spelled, but need not be registrable.
+    ("0061|002D\n", "aaaa\naaaa\t----\naaaa\t-z\n", "----\n----\na---\n", ""),
+    # Nor does it have more than 63 code points.
+    ("0061|0061-0061\n", "a" * 63 + "\n" + "a" * 63 + "\t" + "a" * 64 + "\n", "a" * 63 + "\n#end\n", ""),
+    # The version of the table makes no difference, and a blocked variant is an answer like any other.
+    (ALIKE, "toss\nto\tt1\n", "t0ss\nto\n", ""),
+    # One net for each line, whatever was asked before.
+    (GERMAN, "sss\tßs\nhaus\nsss\tsss\n", "ßs\nhaus\nsss\n", ""),
+    # The label is refused by its first fault, then by 40; the text never is.
+    (GERMAN, "Sss\tsss\n\tsss\n-s\ts\nстол\tсто\nsss\tSTRASSE!\n" + "s" * 64 + "\ts\nxn--zca\txn\n", "sss\n",
+     "idn2: line 1: 10 disallowed code point\nidn2: line 2: 3 empty\nidn2: line 3: 13 hyphen out of place\n"
+     "idn2: line 4: 40 not made of table entries\nidn2: line 6: 18 label too long\n"
+     "idn2: line 7: 13 hyphen out of place\n"),
+    # As in each mode, the line is UTF-8, has at most 1,024 bytes, and isn't empty.
+    (GERMAN, b"sss\t\xff\n\nsss\t" + b"s" * 1021 + b"\nsss\t" + b"s" * 1020 + b"\nsss", "sß\nsss\n".encode(),
+     b"idn2: line 1: 1 not UTF-8\nidn2: line 2: 3 empty\nidn2: line 3: 2 line too long\n"),
+)
+
+TABLE_WORDS = ["--variants", GERMAN]
+
+
+def encoded(text):
+    return text if isinstance(text, bytes) else text.encode()
+
+
+def table_of(folder, table):
+    """The file of a table, which is a path or a text."""
+    return table if os.path.isabs(table) else table_file(folder, table.encode())
+
+
+def registered_file(folder, text):
+    return table_file(folder, encoded(text), "registered.txt")
+
+
+def lines_file(folder, labels):
+    return registered_file(folder, "".join(label + "\n" for label in sorted({*labels})))
+
+
+def lists_the_variants_that_are_registered(folder):
+    for table, registered, options, given, output, messages in LISTINGS:
+        file = registered_file(folder, registered)
+        words = ["--variants", table_of(folder, table), "--among", file, *options.split()]
+        expect(words, given.encode(), output.encode(), messages.encode(), 1 if messages else 0)
+
+
+def refuses_a_file_by_its_first_wrong_line(folder):
+    """Nothing is answered, and no line of the input is read."""
+    for registered, line, fault in FAULTS:
+        words = [*TABLE_WORDS, "--among", registered_file(folder, registered)]
+        message = f"idn2: registered line {line}: {fault}\n".encode()
+        expect(words, b"haus\nHaus\n", b"", message, 2)
+        expect([*words, "haus"], b"", b"", message, 2)
+
+
+def tells_which_file_is_faulty(folder):
+    """A file that can't be read comes first, then the registered labels, then the table."""
+    absent, faulty = os.path.join(folder, "absent"), table_file(folder, b"0061|\n")
+    good, wrong = table_file(folder, b"haus\n", "good.txt"), table_file(folder, b"Haus\n", "wrong.txt")
+    unread = (b"", b"idn2: 60 read fault\n", 3)
+    for table, registered, answer in (
+        (GERMAN, absent, unread),
+        (GERMAN, folder, unread),
+        (GERMAN, "", unread),
+        (faulty, absent, unread),
+        (absent, wrong, unread),
+        (faulty, wrong, (b"", b"idn2: registered line 1: 10 disallowed code point\n", 2)),
+        (faulty, good, (b"", b"idn2: table line 1: 30 table syntax\n", 2)),
+    ):
+        expect(["--variants", table, "--among", registered], b"haus\n", *answer)
+    expect(["--variants", faulty, "--jump"], b"haus\n", b"", b"idn2: table line 1: 30 table syntax\n", 2)
+    expect(["--variants", absent, "--jump"], b"haus\n", *unread)
+
+
+def refuses_options_that_do_not_go_together(folder):
+    file = registered_file(folder, "haus\n")
+    among = ["--among", file]
+    for words in (
+        [*TABLE_WORDS, *among, "--tries", "5", "haus"],
+        [*TABLE_WORDS, *among, "--tries", "1000000", "haus"],
+        [*TABLE_WORDS, *among, "--jump", "haus"],
+        [*TABLE_WORDS, "--jump", "--after", "a", "haus"],
+        [*TABLE_WORDS, "--jump", "--after=", "haus"],
+        [*TABLE_WORDS, "--jump", "--limit", "1", "haus"],
+        [*TABLE_WORDS, "--jump", "--tries", "1", "haus"],
+        [*TABLE_WORDS, *among, *among, "haus"],
+        [*TABLE_WORDS, "--jump", "--jump", "haus"],
+        [*TABLE_WORDS, "--jump", "--register", "haus"],
+        [*TABLE_WORDS, *among, "--register", "haus"],
+        [*TABLE_WORDS, *among, "--limit", "0", "haus"],
+        [*TABLE_WORDS, "--among", GERMAN, "haus"],
+        ["--variants", "/dev/stdin", "--among", "/dev/stdin", "haus"],
+        [*TABLE_WORDS, "--among"],
+        [*TABLE_WORDS, "--jump=haus"],
+        [*among, "haus"],
+        ["--jump", "haus"],
+        *([mode, *more, "haus"] for mode in ("--lookup", "--register", "--decode") for more in (among, ["--jump"])),
+        ["--check-table", GERMAN, *among],
+        ["--check-table", GERMAN, "--jump"],
+    ):
+        expect(words, b"haus\n", b"", b"idn2: 50 usage\n", 2)
+
+
+def answers_the_least_label_from_a_text_on(folder):
+    for table, lines, answers, messages in JUMPS:
+        words = ["--variants", table_of(folder, table), "--jump"]
+        expect(words, encoded(lines), encoded(answers), encoded(messages), 1 if messages else 0)
+    expect([*TABLE_WORDS, "--jump", "sss\tssz", "sss"], b"", "sß\nsss\n".encode(), b"", 0)
+
+
+class Partner:
+    """A program that is kept open for jumps under a table."""
+
+    def __init__(self, table):
+        streams = {"stdin": subprocess.PIPE, "stdout": subprocess.PIPE, "stderr": subprocess.DEVNULL}
+        self.program = subprocess.Popen([PROGRAM, "--variants", table, "--jump"], **streams)
+
+    def __enter__(self):
+        return self
+
+    def __exit__(self, *reason):
+        self.program.kill()
+        self.program.communicate()
+
+    def least(self, label, text):
+        """The least label from a text on, or none. Each answer comes before the next request is sent."""
+        self.program.stdin.write(f"{label}\t{text}\n".encode())
+        self.program.stdin.flush()
+        answer = self.program.stdout.readline().decode()
+        assert answer.endswith("\n"), (label, text, answer)
+        return None if answer == "#end\n" else answer[:-1]
+
+
+class Database:
+    """Registered labels behind an index in byte order, and the collisions that jumps find by it."""
+
+    def __init__(self, labels):
+        self.labels = sqlite3.connect(":memory:")
+        self.labels.execute("create table registered (label blob primary key) without rowid")
+        self.labels.executemany("insert into registered values (?)", ((label.encode(),) for label in labels))
+
+    def least(self, text):
+        query = "select label from registered where label >= ? order by label limit 1"
+        row = self.labels.execute(query, (text,)).fetchone()
+        return row and row[0].decode()
+
+    def collisions(self, partner, label):
+        """All registered labels that the label spells, and how many jumps that took."""
+        found, jumps = [], 0
+        registered = self.least(b"")
+        while registered is not None:
+            jumps += 1
+            candidate = partner.least(label, registered)
+            if candidate is None:
+                break
+            if candidate == registered:
+                found.append(registered)
+                registered = self.least(registered.encode() + b"\0")
+            else:
+                registered = self.least(candidate.encode())
+        return found, jumps
+
+
+def blocks_of(words, labels):
+    """For each label the first fields of its block, which is whole."""
+    done = run(words, "".join(label + "\n" for label in labels).encode())
+    assert (done.returncode, done.stderr) == (0, b""), (words, done.stderr)
+    blocks, block = [], []
+    for line in done.stdout.decode().splitlines():
+        if not line.startswith("#"):
+            block.append(line.split("\t")[0])
+            continue
+        assert line == f"#end {len(block)}", (words, line)
+        blocks.append(block)
+        block = []
+    assert len(blocks) == len(labels), (words, len(blocks))
+    return blocks
+
+
+def random_table(chance, alphabet):
+    """A table of random entries, mostly with gaps, as a map. Its sources make up each label of these letters."""
+    sequence = lambda: "".join(chance.choices(alphabet, k=chance.choice((1, 1, 2, 3))))
+    table = {letter: set() for letter in alphabet}
+    for _ in range(chance.randint(2, 6)):
+        table.setdefault(sequence(), set()).add(sequence())
+    return {source: sorted(variants - {source}) for source, variants in table.items()}
+
+
+def with_reverse_pairs(table):
+    """The table with each pair also the other way round."""
+    pairs = {(source, each) for source, variants in table.items() for each in variants}
+    pairs |= {(each, source) for source, each in pairs}
+    return {source: sorted(each for of, each in pairs if of == source) for source in {*table, *(of for of, _ in pairs)}}
+
+
+def text_of(chance, table):
+    """The same as a text of one of the two versions, in which some variants are blocked."""
+    is_version_2 = chance.random() < 0.5
+    points = lambda text: "-".join(f"{ord(letter):04X}" for letter in text)
+    mark = lambda: "!" if is_version_2 and chance.random() < 0.5 else ""
+    lines = ["%version 2"] if is_version_2 else []
+    lines += [points(source) + ("|" if variants else "") + ":".join(mark() + points(each) for each in variants)
+              for source, variants in table.items()]
+    return "".join(line + "\n" for line in lines)
+
+
+def drawn_labels(chance, table):
+    """Labels that are cut into sources, and registered labels: some of what these spell, and neighbours of that."""
+    labels = [label for label in ("".join(chance.choices([*table], k=chance.randint(1, 4))) for _ in range(12))
+              if is_registrable(label)]
+    near = {label for each in labels for label in spelled(table, each)}
+    near |= {label + chance.choice([*table]) for label in near} | {label[:-1] for label in near}
+    share = chance.choice((0.02, 0.2, 0.7))
+    return labels, sorted(label for label in near if is_registrable(label) and chance.random() < share)
+
+
+def finds_the_same_in_three_ways(folder):
+    """By the file, by a database with jumps, and by all that is spelled: under random tables, from a fixed seed. A jump
+    passes at least one registered label."""
+    chance = random.Random(5890)
+    asked, found = 0, 0
+    for _ in range(60):
+        table = random_table(chance, "abß")
+        labels, registered = drawn_labels(chance, table)
+        words = ["--variants", table_file(folder, text_of(chance, table).encode())]
+        among = blocks_of([*words, "--among", lines_file(folder, registered)], labels)
+        whole = blocks_of(words, labels)
+        database = Database(registered)
+        with Partner(words[1]) as partner:
+            for label, kept, listed in zip(labels, among, whole):
+                collisions, jumps = database.collisions(partner, label)
+                expected = sorted(spelled(table, label) & {*registered})
+                case = (table, registered, label)
+                assert (kept, collisions) == (expected, expected), (*case, expected, kept, collisions)
+                assert {*kept} == {*listed} & {*registered}, (*case, listed)
+                assert jumps <= len(registered), (*case, jumps)
+                asked, found = asked + 1, found + len(kept)
+    assert asked > 500 and found > 1000, (asked, found)
+
+
+def jumps_to_the_least_of_all_that_is_spelled(folder):
+    """From each neighbour of each label that is spelled, registrable or not."""
+    chance = random.Random(3492)
+    for _ in range(40):
+        table = random_table(chance, "a-ß")
+        path = table_file(folder, text_of(chance, table).encode())
+        labels, _ = drawn_labels(chance, table)
+        requests, answers = [], []
+        for label in labels:
+            candidates = sorted(spelled(table, label))
+            texts = {"", *candidates, *(each + "a" for each in candidates), *(each[:-1] + "b" for each in candidates)}
+            for text in sorted(texts):
+                requests.append(f"{label}\t{text}\n")
+                answers.append(next((each for each in candidates if each >= text), "#end") + "\n")
+        expect(["--variants", path, "--jump"], "".join(requests).encode(), "".join(answers).encode(), b"", 0)
+
+
+def finds_in_parts_what_the_whole_has(folder):
+    """The registered labels cut in two files: the block of the whole has the lines of the first, then of the second."""
+    chance = random.Random(7940)
+    for _ in range(40):
+        table = random_table(chance, "abß")
+        labels, registered = drawn_labels(chance, table)
+        words = ["--variants", table_file(folder, text_of(chance, table).encode()), "--among"]
+        cut = chance.randint(0, len(registered))
+        whole, first, second = (blocks_of([*words, lines_file(folder, part)], labels)
+                                for part in (registered, registered[:cut], registered[cut:]))
+        assert whole == [one + other for one, other in zip(first, second)], (table, registered, cut)
+
+
+def sees_a_collision_from_either_side(folder):
+    """In a table without gaps by symmetry, also where others are missing and variants are blocked."""
+    chance = random.Random(4290)
+    seen = 0
+    for _ in range(12):
+        table = with_reverse_pairs(random_table(chance, "abß"))
+        labels, registered = drawn_labels(chance, table)
+        registered = chance.sample(registered, min(200, len(registered)))
+        words = ["--variants", table_file(folder, text_of(chance, table).encode()), "--among"]
+        forth = blocks_of([*words, lines_file(folder, registered)], labels)
+        back = blocks_of([*words, lines_file(folder, labels)], registered)
+        for label, found in zip(labels, forth):
+            reverse = {other for other, block in zip(registered, back) if label in block}
+            assert {*found} == reverse, (table, label, found, reverse)
+            seen += len(found)
+    assert seen > 100, seen
+
+
+TESTS = [
+    lists_the_variants_that_are_registered,
+    refuses_a_file_by_its_first_wrong_line,
+    tells_which_file_is_faulty,
+    refuses_options_that_do_not_go_together,
+    answers_the_least_label_from_a_text_on,
+    finds_the_same_in_three_ways,
+    jumps_to_the_least_of_all_that_is_spelled,
+    finds_in_parts_what_the_whole_has,
+    sees_a_collision_from_either_side,
+]
+
+
+if __name__ == "__main__":
+    sys.exit(run_tests("among", TESTS))
