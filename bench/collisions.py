@@ -255,8 +255,8 @@ def measure(options, folder):
     all_letters = make("random letters", two_letters, registered.letters(options.labels))
     between = make("between variants", two_letters, registered.between_variants(options.labels))
     for kept in (words, han):
-        print(f"{kept.name}: {compare_answers(kept):,} collisions of some labels, the same by listings, by --among and by --jump",
-              flush=True)
+        found_alike = compare_answers(kept)
+        print(f"{kept.name}: {found_alike:,} collisions of some labels, by listings, --among and --jump alike", flush=True)
     show_loads(options, (words, han))
     show_searches(options, all_letters, between, (words, han))
     show_jumps(options, (words, han))
