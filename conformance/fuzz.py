@@ -1,9 +1,9 @@
 #!/usr/bin/env python3
 """Compares the built program with a second writing of its rules on random input: python3 conformance/fuzz.py
 
-It draws words, tables, labels, names and bytes from a seed, which it prints, until the given number of seconds is over.
-Each run's output, messages and status must be those of second_run.py, byte for byte. Names for lookup are compared with
-libidn2's answers, whose known kinds of difference are in kinds.py. Status 1 where anything differs.
+It draws words, tables, labels, registered labels, names and bytes from a seed, which it prints, until the given number of
+seconds is over. Each run's output, messages and status must be those of second_run.py, byte for byte. Names for lookup are
+compared with libidn2's answers, whose known kinds of difference are in kinds.py. Status 1 where anything differs.
 """
 
 import argparse
@@ -249,7 +249,7 @@ class Fuzz:
         return self.compare(["--check-table", "table"], b"", table=table)
 
     def words(self):
-        words = self.chance.choices(WORDS, k=self.chance.randint(0, 6))
+        words = self.chance.choice(([], ["--variants", "table"])) + self.chance.choices(WORDS, k=self.chance.randint(0, 6))
         table, _ = self.table("ab")
         registered = self.registered([self.sequence("ab") for _ in range(4)])
         given = self.lines(lambda: self.chance.choice(("ab", "ab\tb")))

@@ -107,6 +107,10 @@ class Options:
         if "--among" in self.given and ("--tries" in self.given or self.given["--among"] == self.given["--variants"]):
             raise Bad
 
+    def files(self):
+        """The names of the files that are read."""
+        return [self.given[name] for name in ("--variants", "--check-table", "--among") if name in self.given]
+
     def count(self, name, default):
         text = self.given.get(name)
         if text is None:
@@ -135,14 +139,14 @@ class Run:
         return self.serve(options, given, files)
 
     def serve(self, options, given, files):
-        try:
-            table, registered = self.files_of(options, files)
-        except KeyError:
+        if any(name not in files for name in options.files()):
             return b"", message(60), 3
+        if options.mode == "--check-table":
+            return self.check_table(files[options.given["--check-table"]])
+        try:
+            registered, table = self.read_files(options, files)
         except (RegisteredFault, check.TableFault) as fault:
             return b"", f"{fault}\n".encode(), 2
-        if options.mode == "--check-table":
-            return self.check_table(table)
         output, messages = [], []
         for number, body in enumerate(bodies(given), 1):
             lines, refusal = self.answer_line(options, table, registered, body)
@@ -151,16 +155,14 @@ class Run:
                 messages.append(f"idn2: line {number}: {refusal} {TEXTS[refusal]}\n")
         return ("".join(line + "\n" for line in output).encode(), "".join(messages).encode(), 1 if messages else 0)
 
-    def files_of(self, options, files):
-        """The table, as its text where that is what is checked, and the registered labels, each None where the options
-        name none. Both files are opened first, then the registered labels are read, then the table."""
-        names = [options.given.get(name) for name in (options.mode, "--among")]
-        table, registered = [files[name] if isinstance(name, str) else None for name in names]
-        if registered is not None:
-            registered = self.registered_labels(registered)
+    def read_files(self, options, files):
+        """The registered labels and the table, each None where the options name none. The labels are read first."""
+        registered = table = None
+        if "--among" in options.given:
+            registered = self.registered_labels(files[options.given["--among"]])
         if options.mode == "--variants":
-            table = check.read(table, self.classes)
-        return table, registered
+            table = check.read(files[options.given["--variants"]], self.classes)
+        return registered, table
 
     def registered_labels(self, text):
         """The labels of a file of less than 4 GiB: one on each line, each greater than the one before."""
