@@ -74,9 +74,10 @@ dist:
 check-tables: all
 	for table in tables/*.txt; do $(PROGRAM) --check-table $$table || exit 1; done
 
-# Times the program against libidn2's, and prints one table of ratios.
+# Times the program against libidn2's, and prints one table of ratios. Then what a million registered labels take.
 bench: all
 	python3 bench/bench.py
+	python3 bench/collisions.py
 
 # Compares the program with libidn2, with a second writing of the rules and of the table notation, and with Unicode's
 # IDNA test file where IDNA_TEST_FILE names it.

@@ -26,17 +26,18 @@ class Failed(Exception):
 
 
 class Run:
-    """A program with its words, and the file that it reads."""
+    """A program with its words, the file that it reads, and its locale."""
 
-    def __init__(self, program, words, source):
+    def __init__(self, program, words, source, locale=ENVIRONMENT["LC_ALL"]):
         self.command, self.source = [str(program), *words], source
+        self.environment = {**ENVIRONMENT, "LC_ALL": locale}
 
     def __str__(self):
         return f"{' '.join(self.command)} < {self.source.name}"
 
     def output(self):
         with self.source.open("rb") as source:
-            done = subprocess.run(self.command, stdin=source, capture_output=True, env=ENVIRONMENT)
+            done = subprocess.run(self.command, stdin=source, capture_output=True, env=self.environment)
         if done.returncode != 0 or done.stderr:
             raise Failed(f"{self}: status {done.returncode}, {done.stderr.decode(errors='replace').strip()}")
         return done.stdout.decode("utf-8")
@@ -48,7 +49,7 @@ class Run:
             (os.POSIX_SPAWN_OPEN, 1, os.devnull, os.O_WRONLY, 0),
         ]
         start = time.perf_counter()
-        process = os.posix_spawn(self.command[0], self.command, ENVIRONMENT, file_actions=actions)
+        process = os.posix_spawn(self.command[0], self.command, self.environment, file_actions=actions)
         _, status, usage = os.wait4(process, 0)
         wall = time.perf_counter() - start
         if status != 0:
@@ -60,7 +61,7 @@ class Run:
         limited = ["sh", "-c", f'ulimit -v {MEMORY_LIMIT_KIB}; exec "$@"', "sh", gnu_time, "-f", "%M", *self.command]
         with self.source.open("rb") as source:
             done = subprocess.run(limited, stdin=source, stdout=subprocess.DEVNULL, stderr=subprocess.PIPE,
-                                  env=ENVIRONMENT, timeout=SECONDS_LIMIT)
+                                  env=self.environment, timeout=SECONDS_LIMIT)
         if done.returncode != 0:
             raise Failed(f"status {done.returncode}, of at most {MEMORY_LIMIT_KIB >> 10:,} MiB")
         return int(done.stderr.split()[-1])
@@ -70,7 +71,7 @@ class Run:
         with self.source.open("rb") as source:
             first = b"".join(line for line, _ in zip(source, range(lines)))
         words = ["valgrind", "--tool=callgrind", "--callgrind-out-file=/dev/null", *self.command]
-        done = subprocess.run(words, input=first, stdout=subprocess.DEVNULL, stderr=subprocess.PIPE, env=ENVIRONMENT)
+        done = subprocess.run(words, input=first, stdout=subprocess.DEVNULL, stderr=subprocess.PIPE, env=self.environment)
         if done.returncode != 0:
             raise Failed(f"{self} under callgrind: status {done.returncode}")
         return int(re.search(rb"Collected : (\d+)", done.stderr)[1])

@@ -1,9 +1,9 @@
 #!/usr/bin/env python3
 """Compares the built program with a second writing of its rules on random input: python3 conformance/fuzz.py
 
-It draws words, tables, labels, names and bytes from a seed, which it prints, until the given number of seconds is over.
-Each run's output, messages and status must be those of second_run.py, byte for byte. Names for lookup are compared with
-libidn2's answers, whose known kinds of difference are in kinds.py. Status 1 where anything differs.
+It draws words, tables, labels, registered labels, names and bytes from a seed, which it prints, until the given number of
+seconds is over. Each run's output, messages and status must be those of second_run.py, byte for byte. Names for lookup are
+compared with libidn2's answers, whose known kinds of difference are in kinds.py. Status 1 where anything differs.
 """
 
 import argparse
@@ -38,6 +38,7 @@ PIECES = [b"a", b"b", b".", b"-", b"--", b"xn--", b"XN--", b"\0", b"\r", b"\r\n"
           b"\xf4\x90\x80\x80", b"\xc0\x80", "ß".encode(), "\u0301".encode(), "\U00010ffff".encode(), b"a" * 62, b"b" * 1000]
 WORDS = ["-l", "--lookup", "-r", "--register", "-d", "--decode", "-N", "--tr46nt", "--quiet", "--usestd3asciirules",
          "-h", "--help", "-V", "--version", "--variants", "--check-table", "--after", "--limit", "--tries", "--",
+         "--among", "--among=registered", "--among=absent", "--among=table", "--jump", "--jump=1", "registered",
          "-", "-rN", "-lr", "-hx", "-xh", "-r=1", "--register=1", "--bogus", "--after=", "--after=-a", "--limit=1",
          "--limit=0", "--tries=2", "--tries=0000000002", "--limit=00000000001", "--limit=+1", "--limit= 1", "table", "absent",
          "", "a", "aß", "1", "2", "1000000000", "1000000001", "--variants=table", "--check-table=table", "a\nb"]
@@ -66,7 +67,9 @@ class Fuzz:
         """One comparison. Answers what differs, or None."""
         kind, make = self.chance.choice((
             ("register", self.register), ("decode", self.decode), ("lookup", self.lookup), ("variants", self.variants),
-            ("variants", self.variants), ("check of a table", self.check_table), ("words", self.words)))
+            ("variants", self.variants), ("check of a table", self.check_table), ("words", self.words),
+            ("variants among registered labels", self.among), ("variants among registered labels", self.among),
+            ("jump", self.jump)))
         difference = make()
         if difference is not Unknown:
             self.counts[kind] += 1
@@ -74,10 +77,12 @@ class Fuzz:
         self.counts["not known to the second writing"] += 1
         return None
 
-    def compare(self, words, given, table):
-        (self.folder / "table").write_bytes(table)
+    def compare(self, words, given, **files):
+        """One run, with the files of these names."""
+        for name, text in files.items():
+            (self.folder / name).write_bytes(text)
         try:
-            wanted = self.second.answer(words, given, {"table": table})
+            wanted = self.second.answer(words, given, files)
         except Unknown:
             return Unknown
         done = subprocess.run([self.program, *words], input=given, capture_output=True, cwd=self.folder,
@@ -85,16 +90,17 @@ class Fuzz:
         found = done.stdout, done.stderr, done.returncode
         if found == wanted or (wanted[0] is None and found[0] and found[1:] == wanted[1:]):
             return None
-        return (f"words {words}, table {table[:SHOWN]!r}, input {given[:SHOWN]!r}\n"
+        shown = "".join(f"{name} {text[:SHOWN]!r}, " for name, text in files.items())
+        return (f"words {words}, {shown}input {given[:SHOWN]!r}\n"
                 f"  answered {cut(found)}\n  expected {cut(wanted)}")
 
     def register(self):
         return self.compare(["-r"], self.lines(lambda: self.chance.choice(
-            (*names.MAKERS, names.coded_label))(self.chance, self.points)), b"")
+            (*names.MAKERS, names.coded_label))(self.chance, self.points)))
 
     def decode(self):
         return self.compare(["-d"], self.lines(lambda: names.coded_label(self.chance, self.points) + self.chance.choice(
-            ("", ".", ".de", "." + names.coded_label(self.chance, self.points)))), b"")
+            ("", ".", ".de", "." + names.coded_label(self.chance, self.points)))))
 
     def lookup(self):
         name = self.chance.choice((*names.MAKERS, names.coded_label))(self.chance, self.points)
@@ -125,7 +131,7 @@ class Fuzz:
         return "".join(self.chance.choices(letters, k=self.chance.choice((1, 1, 1, 2, longest))))
 
     def table(self, letters):
-        """The text of a table of either version, and its sources. Now and then it has a fault."""
+        """The text of a table of either version, and the variants of each source. Now and then it has a fault."""
         entries = {}
         for _ in range(self.chance.randint(1, 6)):
             source = self.sequence(letters)
@@ -139,10 +145,10 @@ class Fuzz:
             marked = ":".join(self.chance.choice(marks) + spelled(variant) for variant in variants)
             lines.append(spelled(source) + ("|" if variants else "") + marked)
         if is_marked and self.chance.random() < 0.5:
-            entries.update(dict.fromkeys(self.range(entries, lines)))
+            entries.update(dict.fromkeys(self.range(entries, lines), ()))
         if self.chance.random() < 0.05:
             lines.insert(self.chance.randint(0, len(lines)), self.chance.choice((*FAULTY_LINES, lines[-1])))
-        return self.chance.choice(("\n", "\n", "\r\n")).join(lines).encode(), list(entries)
+        return self.chance.choice(("\n", "\n", "\r\n")).join(lines).encode(), entries
 
     def range(self, entries, lines):
         """Puts a range without any of the sources into the lines, and answers its sources."""
@@ -157,15 +163,81 @@ class Fuzz:
 
     def variants(self):
         letters = self.chance.choice(ALPHABETS)
-        table, sources = self.table(letters)
-        words = ["--variants", "table"]
-        for option, values in (("--limit=", ("1", "2", "3", "7")), ("--tries=", ("1", "2", "5", "40")),
-                               ("--after=", [self.sequence(letters, 6) for _ in range(3)])):
-            if self.chance.random() < 0.4:
-                words.append(option + self.chance.choice(values))
+        table, entries = self.table(letters)
+        words = ["--variants", "table", *self.options_of_a_listing(letters, "--limit=", "--tries=", "--after=")]
         longest = self.chance.choice((3, 5, 8, 8, 70))
-        label = lambda: "".join(self.chance.choices(sources, k=self.chance.randint(1, longest)))
-        return self.compare(words, self.lines(label), table)
+        return self.compare(words, self.lines(lambda: "".join(self.sources(entries, longest))), table=table)
+
+    def options_of_a_listing(self, letters, *names):
+        values = {"--limit=": ("1", "2", "3", "7"), "--tries=": ("1", "2", "5", "40"),
+                  "--after=": [self.sequence(letters, 6) for _ in range(3)]}
+        return [name + self.chance.choice(values[name]) for name in names if self.chance.random() < 0.4]
+
+    def sources(self, entries, longest):
+        """Some sources of a table, one behind the other: what a label is made of."""
+        return self.chance.choices(list(entries), k=self.chance.randint(1, longest))
+
+    def requested(self, entries):
+        """The sources of a label, which of some that are drawn is one that may be registered, if there is one."""
+        drawn = [self.sources_of_any_length(entries) for _ in range(5)]
+        return next((sources for sources in drawn if self.may_be_registered("".join(sources))), drawn[0])
+
+    def sources_of_any_length(self, entries):
+        """At times of 63 code points, of which most have no variants, so that they spell few labels."""
+        if self.chance.random() < 0.7:
+            return self.sources(entries, self.chance.choice((3, 5, 8, 8, 70)))
+        sources = self.sources(entries, 5)
+        single = [source for source in entries if not entries[source]] or list(entries)
+        return sources + [self.chance.choice(single)] * (63 - len("".join(sources)))
+
+    def may_be_registered(self, label):
+        registration = self.second.registration
+        return registration.knows(label) and registration.first_fault(label) is None
+
+    def among(self):
+        """Variants of labels, among registered labels: mostly such as these labels spell, and their neighbours."""
+        letters = self.chance.choice(ALPHABETS)
+        table, entries = self.table(letters)
+        words = ["--variants", "table", "--among", "registered"]
+        words += self.options_of_a_listing(letters, "--limit=", "--after=")
+        labels = [self.requested(entries) for _ in range(self.chance.randint(1, 4))]
+        near = [self.near(entries, letters, self.chance.choice(labels)) for _ in range(self.chance.randint(0, 20))]
+        given = self.lines(lambda: "".join(self.chance.choice(labels)))
+        return self.compare(words, given, table=table, registered=self.registered(near))
+
+    def jump(self):
+        """Jumps to what a label spells, to its neighbours, to texts that are longer than labels, and to anything else."""
+        letters = self.chance.choice(ALPHABETS)
+        table, entries = self.table(letters)
+
+        def request():
+            sources = self.requested(entries)
+            near = self.near(entries, letters, sources)
+            text = self.chance.choice((near, near, near + letters[0] * 64, self.sequence(letters, 6),
+                                       self.sequence(letters, 80) + "\t" + self.sequence(letters), ""))
+            return "".join(sources) + self.chance.choice(("\t", "\t", "\t", "\t", "\t\t", "")) + text
+
+        return self.compare(["--variants", "table", "--jump"], self.lines(request), table=table)
+
+    def near(self, entries, letters, sources):
+        """A label that the sources spell, or a neighbour of it."""
+        label = "".join(self.chance.choice((source, *entries[source])) for source in sources)
+        if self.chance.random() < 0.6:
+            return label
+        start = self.chance.randrange(len(label) + 1)
+        end = start + self.chance.choice((0, 0, 1, 1, 70))
+        put = self.chance.choice(("", self.chance.choice(letters), chr(self.chance.randint(0x61, 0x7A))))
+        return label[:start] + put + label[end:]
+
+    def registered(self, labels):
+        """The text of a file of these labels, those of them that may be registered. Now and then it has a fault."""
+        lines = [label.encode() for label in sorted(set(filter(self.may_be_registered, labels)))]
+        if self.chance.random() < 0.15:
+            place = self.chance.randint(0, len(lines))
+            faulty = (b"", b"i" * 1025, b"i" * 64, b"xn--fa-hia", b"A", self.chance.choice(PIECES))
+            lines.insert(place, self.chance.choice((*faulty, *lines, *lines[place - 1:place])))
+        ending = self.chance.choice((b"\n", b"\n", b"\n", b"\r\n"))
+        return ending.join(lines) + (self.chance.choice((b"", ending)) if lines else b"")
 
     def check_table(self):
         table, _ = self.table(self.chance.choice(ALPHABETS))
@@ -174,12 +246,14 @@ class Fuzz:
             damage = self.chance.choice((b"|", b"-", b":", b" ", b"\t", b"#", b"\n", b"\r\n", b"U+", b"0", b"\0", b"\xff", b".",
                                          b"..", b"!", b"%"))
             table = table[:place] + damage + table[place + self.chance.randint(0, 1):]
-        return self.compare(["--check-table", "table"], b"", table)
+        return self.compare(["--check-table", "table"], b"", table=table)
 
     def words(self):
-        words = self.chance.choices(WORDS, k=self.chance.randint(0, 6))
+        words = self.chance.choice(([], ["--variants", "table"])) + self.chance.choices(WORDS, k=self.chance.randint(0, 6))
         table, _ = self.table("ab")
-        return self.compare(words, self.lines(lambda: "ab"), table)
+        registered = self.registered([self.sequence("ab") for _ in range(4)])
+        given = self.lines(lambda: self.chance.choice(("ab", "ab\tb")))
+        return self.compare(words, given, table=table, registered=registered)
 
 
 def obeys(name, answer, strict):

@@ -13,15 +13,16 @@ COUNT_LIMIT, TRIES = 1_000_000_000, 1_000_000
 SPELLED_LIMIT = 1_000
 
 TEXTS = {
-    1: "not UTF-8", 2: "line too long", 3: "empty", 10: "disallowed code point", 11: "unassigned code point",
+    1: "not UTF-8", 2: "line too long", 3: "empty", 4: "out of order", 10: "disallowed code point", 11: "unassigned code point",
     12: "not in NFC", 13: "hyphen out of place", 14: "leading combining mark", 15: "joiner out of context",
     16: "code point out of context", 17: "Bidi rule broken", 18: "label too long", 19: "not an A-label",
     40: "not made of table entries", 50: "usage", 60: "read fault",
 }
 FLAGS = {"-l": "lookup", "--lookup": "lookup", "-r": "register", "--register": "register", "-d": "decode",
          "--decode": "decode", "-N": "nontransitional", "--tr46nt": "nontransitional", "--quiet": "quiet",
-         "--usestd3asciirules": "std3", "-h": "show", "--help": "show", "-V": "show", "--version": "show"}
-VALUES = {"--variants", "--check-table", "--after", "--limit", "--tries"}
+         "--usestd3asciirules": "std3", "--jump": "jump", "-h": "show", "--help": "show", "-V": "show", "--version": "show"}
+VALUES = {"--variants", "--check-table", "--among", "--after", "--limit", "--tries"}
+OF_A_LISTING = {"--among", "--after", "--limit", "--tries"}
 MODES = ("lookup", "register", "decode", "--variants", "--check-table")
 
 
@@ -35,6 +36,14 @@ class Bad(Exception):
 
 class Show(Exception):
     """Help or version is asked for."""
+
+
+class RegisteredFault(Exception):
+    """The first line of the registered labels that is wrong, and its number of the refusal."""
+
+    def __str__(self):
+        line, refusal = self.args
+        return f"idn2: registered line {line}: {refusal} {TEXTS[refusal]}"
 
 
 class Options:
@@ -81,12 +90,26 @@ class Options:
         if len(modes) > 1 or ("--check-table" in modes and self.strings):
             raise Bad
         self.mode = modes[0] if modes else "lookup"
-        if self.mode != "--variants" and {"--after", "--limit", "--tries"} & self.given.keys():
-            raise Bad
+        self.obey_rules_of_variants()
         self.after = self.given.get("--after", "")
         if len(self.after.encode()) > TEXT_LIMIT:
             raise Bad
         self.limit, self.tries = self.count("--limit", None), self.count("--tries", TRIES)
+
+    def obey_rules_of_variants(self):
+        """Options of a listing need one, a jump needs a table and is no listing, and `--among` tries nothing."""
+        given_for_listing = OF_A_LISTING & self.given.keys()
+        is_jump = "jump" in self.given
+        if self.mode != "--variants" and (given_for_listing or is_jump):
+            raise Bad
+        if is_jump and given_for_listing:
+            raise Bad
+        if "--among" in self.given and ("--tries" in self.given or self.given["--among"] == self.given["--variants"]):
+            raise Bad
+
+    def files(self):
+        """The names of the files that are read."""
+        return [self.given[name] for name in ("--variants", "--check-table", "--among") if name in self.given]
 
     def count(self, name, default):
         text = self.given.get(name)
@@ -116,44 +139,63 @@ class Run:
         return self.serve(options, given, files)
 
     def serve(self, options, given, files):
-        table = None
-        if options.mode in ("--variants", "--check-table"):
-            text = files.get(options.given[options.mode])
-            if text is None:
-                return b"", message(60), 3
-            if options.mode == "--check-table":
-                return self.check_table(text)
-            try:
-                table = check.read(text, self.classes)
-            except check.TableFault as fault:
-                return b"", f"{fault}\n".encode(), 2
+        if any(name not in files for name in options.files()):
+            return b"", message(60), 3
+        if options.mode == "--check-table":
+            return self.check_table(files[options.given["--check-table"]])
+        try:
+            registered, table = self.read_files(options, files)
+        except (RegisteredFault, check.TableFault) as fault:
+            return b"", f"{fault}\n".encode(), 2
         output, messages = [], []
         for number, body in enumerate(bodies(given), 1):
-            lines, refusal = self.answer_line(options, table, body)
+            lines, refusal = self.answer_line(options, table, registered, body)
             output += lines
             if refusal is not None:
                 messages.append(f"idn2: line {number}: {refusal} {TEXTS[refusal]}\n")
         return ("".join(line + "\n" for line in output).encode(), "".join(messages).encode(), 1 if messages else 0)
+
+    def read_files(self, options, files):
+        """The registered labels and the table, each None where the options name none. The labels are read first."""
+        registered = table = None
+        if "--among" in options.given:
+            registered = self.registered_labels(files[options.given["--among"]])
+        if options.mode == "--variants":
+            table = check.read(files[options.given["--variants"]], self.classes)
+        return registered, table
+
+    def registered_labels(self, text):
+        """The labels of a file of less than 4 GiB: one on each line, each greater than the one before."""
+        labels = []
+        for number, body in enumerate(bodies(text), 1):
+            label, refusal = text_of(body)
+            if refusal is None:
+                refusal = self.registration.first_fault(self.known(label))
+            if refusal is None and labels and label <= labels[-1]:
+                refusal = 4
+            if refusal is not None:
+                raise RegisteredFault(number, refusal)
+            labels.append(label)
+        return set(labels)
 
     def check_table(self, text):
         lines, is_clean = check.check(text, self.classes)
         printed = "".join(line + "\n" for line in lines).encode()
         return (b"", printed, 2) if printed.startswith(b"idn2: ") else (printed, b"", 0 if is_clean else 1)
 
-    def answer_line(self, options, table, body):
+    def answer_line(self, options, table, registered, body):
         """The lines of output and no refusal, or none and the number of the refusal."""
-        if isinstance(body, int):
-            return [], body
-        try:
-            text = body.decode()
-        except UnicodeDecodeError:
-            return [], 1
-        if not text:
-            return [], 3
+        text, refusal = text_of(body)
+        if refusal is None and not text:
+            refusal = 3
+        if refusal is not None:
+            return [], refusal
         if options.mode == "lookup":
             raise Unknown
+        if "jump" in options.given:
+            return self.jump(table, *parts_of(text))
         if options.mode == "--variants":
-            return self.block(options, table, text)
+            return self.block(options, table, registered, text)
         answer, refusal = getattr(self.registration, options.mode)(self.known(text))
         return ([], refusal) if answer is None else ([answer], None)
 
@@ -169,25 +211,37 @@ class Run:
                 raise Unknown
         return text
 
-    def block(self, options, table, label):
-        fault = self.registration.first_fault(self.known(label))
-        if fault is not None:
-            return [], fault
-        spelled = self.spelled(table.entries, label, {})
-        if not spelled:
-            return [], 40
-        fields = self.fields(table, label)
-        after = sorted(each for each in spelled if each > options.after)
-        candidates = [each for each in after if len(each) <= LABEL_LIMIT]
-        variants = [each for each in candidates if self.registration.first_fault(self.known(each)) is None]
-        tested = [each for each in candidates if self.registration.has_hope(each)]
+    def jump(self, table, label, text):
+        candidates, refusal = self.candidates(table, label)
+        if refusal is not None:
+            return [], refusal
+        return [next((each for each in candidates if each >= text), "#end")], None
+
+    def block(self, options, table, registered, label):
+        candidates, refusal = self.candidates(table, label)
+        if refusal is not None:
+            return [], refusal
+        after = [each for each in candidates if each > options.after]
+        variants = [each for each in after if self.registration.first_fault(self.known(each)) is None]
+        tested = [each for each in after if self.registration.has_hope(each)]
+        if registered is not None:
+            variants, tested = [each for each in variants if each in registered], []
         stops = tested[options.tries - 1:options.tries]
         if options.limit is not None:
             stops += variants[options.limit - 1:options.limit]
         if stops:
             variants = [each for each in variants if each <= min(stops)]
         trailer = f"#stop {len(variants)} {min(stops)}" if stops else f"#end {len(variants)}"
+        fields = self.fields(table, label)
         return [f"{each}\t{a_label(each)}{fields(each)}" for each in variants] + [trailer], None
+
+    def candidates(self, table, label):
+        """The labels of at most 63 code points that a label spells, in order, and no refusal, or none and a number."""
+        fault = self.registration.first_fault(self.known(label))
+        if fault is not None:
+            return [], fault
+        spelled = self.spelled(table.entries, label, {})
+        return sorted(each for each in spelled if len(each) <= LABEL_LIMIT), None if spelled else 40
 
     def fields(self, table, label):
         """What stands behind the A-label of a variant: in version 2 whether it is allocatable, thus spelled without the
@@ -216,6 +270,22 @@ class Run:
 
 def message(number):
     return f"idn2: {number} {TEXTS[number]}\n".encode()
+
+
+def text_of(body):
+    """The text of a line and no refusal, or the number of the refusal."""
+    if isinstance(body, int):
+        return None, body
+    try:
+        return body.decode(), None
+    except UnicodeDecodeError:
+        return None, 1
+
+
+def parts_of(text):
+    """The label of a jump, and the text from which on one is wanted."""
+    label, _, rest = text.partition("\t")
+    return label, rest
 
 
 def bodies(given):

@@ -1,21 +1,22 @@
 #!/usr/bin/env python3
-"""Worked rows of the notation and of listings: python3 conformance/worked_rows.py
+"""Worked rows of the notation, of listings and of jumps: python3 conformance/worked_rows.py
 
-Each row is a table with what must be printed for it, worked out by hand. The second writing (second_run.py and
+Each row is what a run is given with what must be printed for it, worked out by hand. The second writing (second_run.py and
 tables/check.py) must answer so, and so must the program, where it is built.
 """
 
 import argparse
+import collections
 import pathlib
 import subprocess
 import sys
 import tempfile
 
-from compare import PROGRAM
+from compare import HERE, PROGRAM
 
 import check
 from registration import Registration
-from second_run import Run
+from second_run import TEXTS, Run, Unknown
 from unicode_data import Classes
 
 SHARP_S = "0061\n0065\n0072\n0073\n0074\n0073-0073|00DF\n00DF|0073-0073\n"
@@ -35,6 +36,102 @@ LISTINGS = [
      "aa\taa\tblocked\nab\tab\tallocatable\nba\tba\tblocked\nbb\tbb\tblocked\n#end 4\n"),
     ([], "0061|0061-0061\n", "aa", "aa\taa\naaa\taaa\naaaa\taaaa\n#end 3\n"),
 ]
+
+GERMAN = (HERE.parent / "tables/german.txt").read_text(encoding="utf-8")
+HAN = (HERE.parent / "tables/han.txt").read_text(encoding="utf-8")
+# A zero is blocked where an o stands.
+ALIKE = "%version 2\n0030\n006F|!0030\n0073\n0074\n0073-0073|00DF\n"
+# The pair that symmetry requires isn't there.
+GAP = "0061|0062\n0062\n"
+TWO_TO_THE_62 = "0061|0062\n0062|0061\n" + "".join(f"{point:04X}\n" for point in range(0x63, 0x7B))
+THREE_SPELLINGS = "sss\nsß\nßs\n"
+
+
+def refused_at(line, fault):
+    return "", f"idn2: registered line {line}: {fault}\n", 2
+
+
+# The table, the registered labels, which are None where there is no such file, more words, the input, and what must be
+# answered: output, messages, status.
+COLLISIONS = [
+    (GERMAN, "haus\nstrasse\n", [], "straße\n", ("strasse\tstrasse\tallocatable\n#end 1\n", "", 0)),
+    (GERMAN, "strasse\nstraße\n", [], "strasse\n",
+     ("strasse\tstrasse\tallocatable\nstraße\txn--strae-oqa\tallocatable\n#end 2\n", "", 0)),
+    # A label spells itself.
+    (GERMAN, "haus\n", [], "haus\n", ("haus\thaus\tallocatable\n#end 1\n", "", 0)),
+    (GERMAN, "haus\nstrasse\n", [], "maus\n", ("#end 0\n", "", 0)),
+    # Both are variants of a third, and neither is one of the other.
+    (GERMAN, "ßs\n", [], "sß\n", ("#end 0\n", "", 0)),
+    (GERMAN, THREE_SPELLINGS, ["--limit", "2"], "sss\n",
+     ("sss\tsss\tallocatable\nsß\txn--s-qfa\tallocatable\n#stop 2 sß\n", "", 0)),
+    (GERMAN, THREE_SPELLINGS, ["--after", "sß"], "sss\n", ("ßs\txn--s-pfa\tallocatable\n#end 1\n", "", 0)),
+    (GERMAN, THREE_SPELLINGS, ["--after", "sz"], "sss\n",
+     ("sß\txn--s-qfa\tallocatable\nßs\txn--s-pfa\tallocatable\n#end 2\n", "", 0)),
+    (GERMAN, "sss\nsß\n", ["--limit", "2"], "sss\n",
+     ("sss\tsss\tallocatable\nsß\txn--s-qfa\tallocatable\n#stop 2 sß\n", "", 0)),
+    (GERMAN, "haus\nstrasse\n", [], "Haus\nhaus\nстол\nstraße\n",
+     ("haus\thaus\tallocatable\n#end 1\nstrasse\tstrasse\tallocatable\n#end 1\n",
+      "idn2: line 1: 10 disallowed code point\nidn2: line 3: 40 not made of table entries\n", 1)),
+    (ALIKE, "t0ss\ntoß\n", [], "toss\n", ("t0ss\tt0ss\tblocked\ntoß\txn--to-hia\tallocatable\n#end 2\n", "", 0)),
+    (HAN, "中国\n中國\n", [], "中國\n", ("中国\txn--fiqs8s\n中國\txn--fiqz9s\n#end 2\n", "", 0)),
+    (GERMAN, "", [], "haus\n", ("#end 0\n", "", 0)),
+    (GERMAN, "haus\r\nstrasse", [], "straße\n", ("strasse\tstrasse\tallocatable\n#end 1\n", "", 0)),
+    (GERMAN, "strasse\nhaus\n", [], "haus\n", refused_at(2, "4 out of order")),
+    (GERMAN, "haus\nhaus\n", [], "haus\n", refused_at(2, "4 out of order")),
+    (GERMAN, "haus\n\nstrasse\n", [], "haus\n", refused_at(2, "3 empty")),
+    (GERMAN, b"haus\n\xff\n", [], "haus\n", refused_at(2, "1 not UTF-8")),
+    (GERMAN, "Haus\n", [], "haus\n", refused_at(1, "10 disallowed code point")),
+    (GERMAN, "haus\nxn--strae-oqa\n", [], "haus\n", refused_at(2, "13 hyphen out of place")),
+    (GERMAN, "haus\n" + "i" * 1025 + "\n", [], "haus\n", refused_at(2, "2 line too long")),
+    (GERMAN, "haus\n" + "i" * 64 + "\n", [], "haus\n", refused_at(2, "18 label too long")),
+    # What a table with a gap tells depends on which of the two labels is asked for.
+    (GAP, "b\n", [], "a\n", ("b\tb\n#end 1\n", "", 0)),
+    (GAP, "a\n", [], "b\n", ("#end 0\n", "", 0)),
+    (TWO_TO_THE_62, "abba\nabc\nbac\nc\nzoo\n", [], "a" * 62 + "\n", ("#end 0\n", "", 0)),
+    (GERMAN, "haus\n", ["--tries", "5"], "haus\n", ("", "idn2: 50 usage\n", 2)),
+    (GERMAN, None, [], "haus\n", ("", "idn2: 60 read fault\n", 3)),
+    # A faulty table is told of behind the registered labels, and a file that isn't there before both.
+    ("0061|\n", "b\na\n", [], "a\n", refused_at(2, "4 out of order")),
+    ("0061|\n", None, [], "a\n", ("", "idn2: 60 read fault\n", 3)),
+    # The first fault of a line comes before its place.
+    (GERMAN, "haus\nHaus\n", [], "haus\n", refused_at(2, "10 disallowed code point")),
+    # The order is that of code points, not of UTF-16.
+    ("FA0E\n20000\n", "\uFA0E\n\U00020000\n", [], "\uFA0E\n\U00020000\n",
+     ("\uFA0E\txn--lf6c\n#end 1\n\U00020000\txn--j50i\n#end 1\n", "", 0)),
+]
+
+# A table, a line of input, and the answer: the least label that is spelled and that is no less than the text.
+JUMPS = [
+    (GERMAN, "sss", "sss"),
+    (GERMAN, "sss\t", "sss"),
+    (GERMAN, "sss\tsss", "sss"),
+    (GERMAN, "sss\tssss", "sß"),
+    (GERMAN, "sss\tsz", "sß"),
+    (GERMAN, "sss\tsß", "sß"),
+    (GERMAN, "sss\tsßa", "ßs"),
+    (GERMAN, "sss\tt", "ßs"),
+    (GERMAN, "sss\tßs", "ßs"),
+    (GERMAN, "sss\tßt", "#end"),
+    # The text begins behind the first tab, and another one is less than any letter.
+    (GERMAN, "sss\t\tz", "sss"),
+    (GERMAN, "sss\tsss\t", "sß"),
+    # What is spelled needn't be registrable: two hyphens stand third and fourth.
+    ("0061|002D\n", "aaaa\taa", "aa--"),
+    ("0061|002D\n", "aaaa\ta-", "a---"),
+    ("0061|002D\n", "aaaa", "----"),
+    (GAP, "a\tb", "b"),
+    (GAP, "b", "b"),
+    # A text that is longer than any label is greater than its first 63 code points.
+    (TWO_TO_THE_62, "a" * 63 + "\t" + "a" * 63, "a" * 63),
+    (TWO_TO_THE_62, "a" * 63 + "\t" + "a" * 64, "a" * 62 + "b"),
+    (TWO_TO_THE_62, "a" * 63 + "\t" + "a" * 62 + "b" + "\0", "a" * 61 + "ba"),
+    (TWO_TO_THE_62, "a" * 63 + "\t" + "b" * 63 + "a", "#end"),
+    (TWO_TO_THE_62, "a" * 63 + "\t" + "ab" * 480, "ab" * 31 + "b"),
+]
+
+# A line that a jump refuses, and its number.
+REFUSED_JUMPS = [("", 3), ("\tsss", 3), ("Haus\thaus", 10), ("стол\tz", 40), ("ss--s\tz", 13), ("a" * 64, 18),
+                 (b"haus\t\xff", 1), ("haus\t" + "a" * 1020, 2)]
 
 # A table, and what the check of it prints.
 CHECKS = [
@@ -89,46 +186,71 @@ CANONICAL = [
 
 
 def rows():
-    """The words, the table and what must be answered: output, messages, status."""
+    """The words, the input, the files and what must be answered: output, messages, status."""
     for words, table, label, output in LISTINGS:
-        yield ["--variants", "table", *words, label], table, (output, "", 0)
+        yield ["--variants", "table", *words, label], "", {"table": table}, (output, "", 0)
+    for table, labels, words, given, wanted in COLLISIONS:
+        files = {"table": table} if labels is None else {"table": table, "registered": labels}
+        yield ["--variants", "table", "--among", "registered", *words], given, files, wanted
+    for table, line, answer in JUMPS:
+        yield ["--variants", "table", "--jump"], line + "\n", {"table": table}, (answer + "\n", "", 0)
+    for line, number in REFUSED_JUMPS:
+        message = f"idn2: line 1: {number} {TEXTS[number]}\n"
+        yield ["--variants", "table", "--jump"], in_bytes(line) + b"\n", {"table": GERMAN}, ("", message, 1)
     for table, output in CHECKS:
-        yield ["--check-table", "table"], table, (output, "", 0 if output.endswith(" 0\n") else 1)
+        yield ["--check-table", "table"], "", {"table": table}, (output, "", 0 if output.endswith(" 0\n") else 1)
     for table, line, number in FAULTS:
         message = f"idn2: table line {line}: {number} {check.TEXTS[number]}\n"
-        yield ["--check-table", "table"], table, ("", message, 2)
-        yield ["--variants", "table", "a"], table, ("", message, 2)
+        yield ["--check-table", "table"], "", {"table": table}, ("", message, 2)
+        yield ["--variants", "table", "a"], "", {"table": table}, ("", message, 2)
 
 
-def program_answer(program, words, table):
+def in_bytes(text):
+    return text if isinstance(text, bytes) else text.encode()
+
+
+def program_answer(program, words, given, files):
     with tempfile.TemporaryDirectory() as folder:
-        (pathlib.Path(folder) / "table").write_text(table, encoding="ascii", newline="")
-        done = subprocess.run([program, *words], stdin=subprocess.DEVNULL, capture_output=True, cwd=folder)
+        for name, text in files.items():
+            (pathlib.Path(folder) / name).write_bytes(text)
+        done = subprocess.run([program, *words], input=given, capture_output=True, cwd=folder)
     return done.stdout.decode(), done.stderr.decode(), done.returncode
+
+
+def answers(run, program, words, given, files):
+    """Who was asked, and the answer: the second writing where it can tell, and the program where it is built."""
+    try:
+        output, messages, status = run.answer(words, given, files)
+        yield "the second writing", (output.decode(), messages.decode(), status)
+    except Unknown:
+        pass
+    if program.exists():
+        yield "the program", program_answer(program.resolve(), words, given, files)
 
 
 def main():
     words = argparse.ArgumentParser(description="Asks the second writing, and the program, for worked rows.")
     words.add_argument("--program", default=PROGRAM, type=pathlib.Path, help="our program")
     program, classes = words.parse_args().program, Classes()
-    run, wrong, count = Run(Registration(classes), classes), 0, 0
-    for words, table, wanted in rows():
-        output, messages, status = run.answer(words, b"", {"table": table.encode()})
-        answers = [("the second writing", (output.decode(), messages.decode(), status))]
-        if program.exists():
-            answers.append(("the program", program_answer(program.resolve(), words, table)))
-        count += 1
-        for name, answer in answers:
+    run, wrong, asked = Run(Registration(classes), classes), 0, collections.Counter()
+    for words, given, files, wanted in rows():
+        given, files = in_bytes(given), {name: in_bytes(text) for name, text in files.items()}
+        asked["worked rows"] += 1
+        for name, answer in answers(run, program, words, given, files):
+            asked[name] += 1
             if answer != wanted:
                 wrong += 1
-                print(f"{words}, {table[:80]!r}: {name} answered {answer}, expected {wanted}")
+                shown = {file: text[:80] for file, text in files.items()}
+                print(f"{words}, {given[:80]!r}, {shown}: {name} answered {answer}, expected {wanted}")
     for table, canonical in CANONICAL:
-        count += 1
+        asked["canonical texts"] += 1
         if (found := check.canonical_text(check.read(table.encode(), classes))) != canonical:
             wrong += 1
             print(f"{table!r}: canonical text {found!r}, expected {canonical!r}")
-    asked = "" if program.exists() else f"; {program} is not there, so the second writing alone was asked"
-    print(f"{count} worked rows, {wrong} answered otherwise{asked}")
+    if not program.exists():
+        print(f"{program} is not there, so the second writing alone was asked")
+    print(f"{asked['worked rows']} worked rows and {asked['canonical texts']} canonical texts, {wrong} answered otherwise; "
+          f"asked of the second writing {asked['the second writing']}, of the program {asked['the program']}")
     return 1 if wrong else 0
 
 

@@ -1,7 +1,7 @@
 #!/usr/bin/env python3
 """Hostile use of the built program: its memory, reads and writes refused one after the other, little memory, tables
-and lines at each limit, and listings that are stopped and resumed. The last line is 'N passed, M failed', and the exit
-status is 0 where nothing failed."""
+and lines at each limit, registered labels in files of every kind, and listings that are stopped and resumed. The last
+line is 'N passed, M failed', and the exit status is 0 where nothing failed."""
 
 import concurrent.futures
 import os
@@ -25,12 +25,14 @@ ALLOCATING = b"%version 2\n0061..0063\n0073-0073|00DF\n00DF|0073-0073\n"
 
 
 class Case(NamedTuple):
-    """A run where nothing fails: its words, its table, and each line with its answer and its message."""
+    """A run where nothing fails: its words, its table, each line with its answer and its message, and its registered
+    labels, if it has any."""
 
     words: list
     table: bytes
     lines: list
     status: int
+    registered: bytes | None = None
 
     def whole(self):
         """What stands on the output and on the messages, and the status."""
@@ -38,6 +40,14 @@ class Case(NamedTuple):
 
     def given(self):
         return "".join(line for line, _, _ in self.lines).encode()
+
+    def refuses_registered(self):
+        return self.whole()[1].startswith(b"idn2: registered line ")
+
+    def write_files(self, folder):
+        table_file(folder, self.table, "table")
+        if self.registered is not None:
+            table_file(folder, self.registered, "registered")
 
     def pieces(self):
         """What is written, in order: lines for the output, at True, and messages."""
@@ -51,6 +61,8 @@ def written(pieces):
     pieces = list(pieces)
     return tuple(b"".join(text for is_answer, text in pieces if is_answer == wanted) for wanted in (True, False))
 
+
+AMONG, JUMP = ["--variants", "table", "--among", "registered"], ["--variants", "table", "--jump"]
 
 CASES = [
     Case(["-r"], b"", [("faß\n", "xn--fa-hia\n", ""), ("Faß\n", "", "idn2: line 2: 10 disallowed code point\n"),
@@ -88,6 +100,18 @@ CASES = [
     Case(["--check-table", "table"], DOUBLED, [("", "missing 0061-0061|0061\n#table 1 1\n", "")], 1),
     Case(["--check-table", "table"], b"0061|0062\n0062|0061:0063\n0063|0062\n",
          [("", "missing 0061|0063\nmissing 0063|0061\n#table 3 2\n", "")], 1),
+    Case(AMONG, SHARP_S, [("sss\n", "sss\tsss\nßs\txn--s-pfa\n#end 2\n", ""),
+                          ("Sss\n", "", "idn2: line 2: 10 disallowed code point\n"), ("aaa\n", "#end 0\n", "")], 1,
+         "rest\nsss\nß\nßs".encode()),
+    Case([*AMONG, "--limit", "1", "--after", "a"], BLOCKING, [("ass\n", "aß\txn--a-qfa\tblocked\n#stop 1 aß\n", "")], 0,
+         "a\r\naß\r\nb\r\n".encode()),
+    # Reading a label takes memory: the test of a mark that may compose.
+    Case(AMONG, b"0071|0061\n0301\n", [("q\u0301\n", "q\u0301\txn--q-xbb\n#end 1\n", "")], 0, "q\u0301\n".encode()),
+    Case(AMONG, SHARP_S, [("", "", "idn2: registered line 2: 4 out of order\n")], 2, b"b\na\nc\n"),
+    Case(AMONG, b"0061|", [("", "", "idn2: registered line 1: 1 not UTF-8\n")], 2, b"\xff\n"),
+    Case(AMONG, b"0061|", [("", "", "idn2: table line 1: 30 table syntax\n")], 2, b"a\n"),
+    Case(JUMP, SHARP_S, [("sss\tsssa\n", "sß\n", ""), ("\tsss\n", "", "idn2: line 2: 3 empty\n"), ("sss\tt\n", "ßs\n", ""),
+                         ("sss\tßt\n", "#end\n", ""), ("x\ta\n", "", "idn2: line 5: 40 not made of table entries\n")], 1),
 ]
 
 
@@ -107,7 +131,7 @@ class Refusing:
         """What is answered, and whether anything was refused."""
         told, teller = os.pipe()
         with tempfile.TemporaryDirectory(dir=self.folder) as here:
-            table_file(here, case.table, "table")
+            case.write_files(here)
             env = {name: str(value) for name, value in refused.items()}
             done = subprocess.run([PROGRAM, *case.words], input=case.given(), capture_output=True, timeout=LIMIT, cwd=here,
                                   env={**env, "LD_PRELOAD": self.library, "TOLD": str(teller)}, pass_fds=[teller])
@@ -151,9 +175,12 @@ def each_read_of_the_input_is_refused(folder):
         Refusing(folder).each("READ", wanted, FROM=0, PIECE=1, ONCE=once)
 
 
-def each_read_of_the_table_is_refused(folder):
+def each_read_of_a_file_is_refused(folder):
+    """Of the table, and then of the registered labels, byte by byte, and where each ends."""
+    reads = sum(len(text) + 1 for case in CASES for text in (case.table, case.registered) if text and "table" in case.words)
     for once in (0, 1):
-        Refusing(folder).each("READ", lambda case, _: [(b"", READ_FAULT, 3)], FROM=3, PIECE=1, ONCE=once)
+        refused = Refusing(folder).each("READ", lambda case, _: [(b"", READ_FAULT, 3)], FROM=3, PIECE=1, ONCE=once)
+        assert refused >= reads, f"{refused} reads of files were refused, of at least {reads}"
 
 
 def stopped_at(case, is_of_output, number):
@@ -176,9 +203,13 @@ def each_byte_of_the_output_is_refused(folder):
 
 
 def each_byte_of_the_messages_is_refused(folder):
-    """The bytes before it stand, with the answers before its message, and no further line is served."""
+    """The bytes before it stand, with the answers before its message, and no further line is served. Where the registered
+    labels are refused, nothing is served anyway, and the status stays."""
+    def wanted(case, number):
+        output, messages = stopped_at(case, False, number)
+        return [(output, messages, 2 if case.refuses_registered() else 3)]
     for once in (0, 1):
-        Refusing(folder).each("WRITE", lambda case, number: [(*stopped_at(case, False, number), 3)], TO=2, PIECE=1, ONCE=once)
+        Refusing(folder).each("WRITE", wanted, TO=2, PIECE=1, ONCE=once)
 
 
 def within_a_second(words, given=b""):
@@ -274,21 +305,101 @@ def serves_a_table_cut_in_its_last_line(folder):
     expect(["--variants", table, "sss"], b"", "sss\tsss\nsß\txn--s-qfa\nßs\txn--s-pfa\n#end 3\n".encode(), b"", 0)
 
 
-def lists_where_eight_sources_begin_at_each_place(folder):
-    """A net of 63 places, at most of which eight sources begin, each with sixteen variants of eight code points."""
+def table_of_the_largest_nets(folder):
+    """Eight sources begin at each place of a label of 63 letters a, each with sixteen variants of eight code points."""
     letters = "bcdefghijklmnopqr"
     lines = []
     for length in range(1, 9):
         variants = [(letter * 7 + str(length))[:8] for letter in letters[:16]]
         lines.append(points("a" * length) + "|" + ":".join(map(points, variants)))
-    done = within_a_second(["--variants", table_file(folder, "\n".join(lines).encode()), "--limit", "1000"], b"a" * 63)
+    return table_file(folder, "\n".join(lines).encode())
+
+
+def lists_in_the_largest_nets(folder):
+    done = within_a_second(["--variants", table_of_the_largest_nets(folder), "--limit", "1000"], b"a" * 63)
     variants = done.stdout.splitlines()
     assert (len(variants), variants[-1].split()[:2]) == (1001, [b"#stop", b"1000"]), variants[-1]
     assert variants[0] == b"\t".join([b"a" * 63] * 2) and variants[:-1] == sorted(set(variants[:-1]))
 
 
+def collides_and_jumps_in_the_largest_nets(folder):
+    """In the largest net and among some thousand labels, or with 2^62 variants and among half a million: at once. The one
+    registered label that is a variant is told by eye."""
+    largest, halves = table_of_the_largest_nets(folder), table_file(folder, b"0061|0062\n0062|0061\n", "halves.txt")
+    found, found_of_halves = b"bbbbbbb8" * 7 + b"a" * 7, b"ab" * 31
+    rows = [
+        (largest, b"a" * 63, block_of_labels(3).replace(b"bbb\n", b"bbb\n" + found + b"\n"), found),
+        (halves, b"a" * 62, block_of_labels(4).replace(b"abab\n", b"abab\n" + found_of_halves + b"\n"), found_of_halves),
+    ]
+    for table, label, text, collision in rows:
+        registered = table_file(folder, text, "registered.txt")
+        done = within_a_second(["--variants", table, "--among", registered], label)
+        assert done.stdout == b"\t".join([collision] * 2) + b"\n#end 1\n", done
+    for table, request, answer in ((largest, b"a" * 63 + b"\t" + b"bbbbbbb8" * 7, found),
+                                   (halves, b"a" * 62 + b"\t" + b"ab" * 30 + b"c", b"ab" * 29 + b"baaa")):
+        done = within_a_second(["--variants", table, "--jump"], request)
+        assert done.stdout == answer + b"\n", done
+
+
+def jumps_to_texts_that_fill_their_lines(folder):
+    """Of 1,024 bytes with the label. Of aa, aaa and aaaa the last is the least that is greater than aaa and a NUL."""
+    words = ["--variants", table_file(folder, DOUBLED), "--jump"]
+    for text, answer in ((b"aaa" + b"\0" * 1018, b"aaaa"), (b"a" * 1021, b"#end"), (b"\t" * 1021, b"aa"),
+                         (("\U00010000" * 255 + "b").encode(), b"#end")):
+        expect(words, b"aa\t" + text, answer + b"\n", b"", 0)
+        expect(words, b"aa\t" + text + b"a\naa\t\n", b"aa\n", b"idn2: line 1: 2 line too long\n", 1)
+
+
+def reads_registered_labels_from_anywhere(folder):
+    """From a file, from the standard input and from a FIFO, each with every ending of its lines; an empty one, too."""
+    table, fifo = table_file(folder, SHARP_S), os.path.join(folder, "fifo")
+    os.mkfifo(fifo)
+    strasse = b"strasse\tstrasse\n#end 1\n"
+    none, words = b"#end 0\n", lambda name: ["--variants", table, "--among", name, "straße"]
+    for text, answer in ((b"", none), (b"ast\nstrasse\n", strasse), (b"ast\nstrasse", strasse), (b"strasse\r", strasse),
+                         (b"ast\r\nstrasse\r\n", strasse), (b"ast\nstrasse\r\nt", strasse), (b"t", none)):
+        expect(words(table_file(folder, text, "registered.txt")), b"", answer, b"", 0)
+        expect(words("/dev/stdin"), text, answer, b"", 0)
+        with concurrent.futures.ThreadPoolExecutor(1) as pool:
+            pool.submit(table_file, folder, text, "fifo")
+            try:
+                expect(words(fifo), b"", answer, b"", 0)
+            finally:
+                # Nobody may be left that waits for a reader.
+                os.close(os.open(fifo, os.O_RDONLY | os.O_NONBLOCK))
+
+
+def refuses_registered_labels_by_their_line(folder):
+    """The first line that is wrong, also the last one, and one behind many: nothing is answered."""
+    words = ["--variants", table_file(folder, DOUBLED), "--among", os.path.join(folder, "registered.txt"), "aa"]
+    many = block_of_labels(3)
+    for text, fault in (
+        (b"i" * 1024, "1: 18 label too long"), (b"i" * 1023 + b"\r\n", "1: 18 label too long"),
+        (b"i" * 1025, "1: 2 line too long"), (b"i" * 1024 + b"\r\n", "1: 2 line too long"),
+        (b"a" * 1_048_576, "1: 2 line too long"), (b"\n" + many, "1: 3 empty"), (many + b"\n", "17577: 3 empty"),
+        (many + b"\r", "17577: 3 empty"), (many + b"zz", "17577: 4 out of order"), (many + b"zzz", "17577: 4 out of order"),
+        (many + b"zzzz\r\r\n", "17577: 10 disallowed code point"),
+        (many + b"zzz\xc3", "17577: 1 not UTF-8"), (b"\xef\xbb\xbf" + many, "1: 10 disallowed code point"),
+        (many + b"zzz\0", "17577: 10 disallowed code point"),
+    ):
+        table_file(folder, text, "registered.txt")
+        expect(words, b"", b"", f"idn2: registered line {fault}\n".encode(), 2)
+
+
+def tells_of_registered_labels_that_cannot_be_read(folder):
+    """Whatever is wrong with the table: a folder, no file, one whose bytes can't be read, one that nobody may open."""
+    table, barred = table_file(folder, b"0061|"), table_file(folder, b"a\n", "barred.txt")
+    os.chmod(barred, 0)
+    # Whoever runs the tests as root may open it all the same.
+    if_barred = [] if os.access(barred, os.R_OK) else [barred]
+    for name in (folder, os.path.join(folder, "absent"), "/proc/self/mem", "", *if_barred):
+        expect(["--variants", table, "--among=" + name, "aa"], b"", b"", READ_FAULT, 3)
+
+
 def refuses_input_without_a_line_feed(folder):
-    for words in (["-l"], ["-r"], ["-d"], ["--variants", table_file(folder, DOUBLED)]):
+    table, registered = table_file(folder, DOUBLED), table_file(folder, b"a\n", "registered.txt")
+    for words in (["-l"], ["-r"], ["-d"], ["--variants", table], ["--variants", table, "--among", registered],
+                  ["--variants", table, "--jump"]):
         done = within_a_second(words, b"a" * 1_048_576)
         assert (done.stdout, done.stderr, done.returncode) == (b"", b"idn2: line 1: 2 line too long\n", 1), done
         expect(words, b"a" * 1024 + b"\r\n", b"", b"idn2: line 1: 2 line too long\n", 1)
@@ -324,6 +435,14 @@ def serves_lines_with_bytes_out_of_place(folder):
     assert [int(each.split()[2][:-1]) for each in refused if each.endswith(": 1 not UTF-8")] == wanted, refused
 
 
+def block_of_labels(length):
+    """All labels of so many letters a to z, a line each, in order."""
+    lines = [""]
+    for _ in range(length):
+        lines = [line + chr(letter) for line in lines for letter in range(0x61, 0x7B)]
+    return "".join(line + "\n" for line in lines).encode()
+
+
 def tells_of_memory_within_any_address_space(folder):
     """In each mode the whole answer, or what stands of it in whole lines before refusal 70."""
     table = table_file(folder, sets_of_seventeen(4096, 1))
@@ -331,8 +450,11 @@ def tells_of_memory_within_any_address_space(folder):
     lines = "faß\nq\u0301\nFaß\nxn--fa-hia\nxn--abc-\na\u0301\n".encode() * 40
     labels = ("\u4e10" * 9 + "\n").encode() * 3
     listing = lambda table: ["--variants", table, "--limit", "5"]
+    registered = table_file(folder, block_of_labels(3), "registered.txt")
+    requests = ("\u4e10" * 9 + "\t" + "\u4e11" * 8 + "\n").encode() * 3
     for words, given in ((["-l"], lines), (["-r"], lines), (["-d"], lines), (["--check-table", table], b""),
-                         (listing(table), labels), (listing(blocking), labels)):
+                         (listing(table), labels), (listing(blocking), labels),
+                         (["--variants", blocking, "--among", registered], labels), (["--variants", table, "--jump"], requests)):
         whole, refused = run(words, given), 0
         assert whole.returncode in (0, 1), whole
         for space in range(2 << 20, 14 << 20, 128 << 10):
@@ -347,6 +469,22 @@ def tells_of_memory_within_any_address_space(folder):
             elif done.returncode != 127:
                 assert (done.stdout, done.stderr, done.returncode) == (whole.stdout, whole.stderr, whole.returncode), done
         assert refused > 0, words
+
+
+def collides_in_pages_as_at_once(folder):
+    """With every second variant registered, each a neighbour of labels that are no variants: these variants, and no other."""
+    for text, label in ((DOUBLED, "a" * 5), (SHARP_S, "ssssss"), (BLOCKING, "ssaß"), (b"0071|0061\n0301\n", "qqq\u0301")):
+        table = table_file(folder, text)
+        *whole, _ = run(["--variants", table], label.encode()).stdout.splitlines()
+        wanted = whole[::2]
+        labels = [line.split(b"\t")[0] for line in wanted]
+        near = [each + b"0" for each in labels] + [b"0", b"zz"]
+        registered = table_file(folder, b"\n".join(sorted(labels + near)), "registered.txt")
+        words = ["--variants", table, "--among", registered]
+        *lines, end = run(words, label.encode()).stdout.splitlines()
+        assert (lines, end) == (wanted, b"#end %d" % len(wanted)), (label, lines, end, wanted)
+        for limit in ("1", "2"):
+            assert pages([*words, "--limit", limit], label)[0] == wanted, (label, limit, wanted)
 
 
 def pages(words, label):
@@ -399,7 +537,7 @@ def tells_of_an_input_that_cannot_be_read(folder):
 TESTS = [
     each_growth_is_refused,
     each_read_of_the_input_is_refused,
-    each_read_of_the_table_is_refused,
+    each_read_of_a_file_is_refused,
     each_byte_of_the_output_is_refused,
     each_byte_of_the_messages_is_refused,
     answers_labels_of_every_length,
@@ -407,11 +545,17 @@ TESTS = [
     serves_the_largest_tables,
     refuses_tables_over_a_limit,
     serves_a_table_cut_in_its_last_line,
-    lists_where_eight_sources_begin_at_each_place,
+    lists_in_the_largest_nets,
+    collides_and_jumps_in_the_largest_nets,
+    jumps_to_texts_that_fill_their_lines,
+    reads_registered_labels_from_anywhere,
+    refuses_registered_labels_by_their_line,
+    tells_of_registered_labels_that_cannot_be_read,
     refuses_input_without_a_line_feed,
     serves_lines_with_bytes_out_of_place,
     tells_of_memory_within_any_address_space,
     lists_in_pages_what_it_lists_at_once,
+    collides_in_pages_as_at_once,
     ends_where_the_reader_of_a_listing_left,
     tells_of_an_input_that_cannot_be_read,
 ]

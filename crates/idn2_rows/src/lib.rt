@@ -9,6 +9,8 @@ mod candidates;
 #[cfg(test)]
 mod code_points;
 #[cfg(test)]
+mod collisions;
+#[cfg(test)]
 mod decoded_names;
 #[cfg(test)]
 mod faults;
@@ -37,7 +39,7 @@ mod punycode;
 #[cfg(test)]
 mod reading;
 #[cfg(test)]
-mod registered_labels;
+mod registration;
 #[cfg(test)]
 mod row;
 #[cfg(test)]

@@ -4,7 +4,8 @@ ghost use Rattle.idn2_cli.specs.Ends.{IsFault};
 use crate::row::shown;
 use idn_text::hostile::StopWriter;
 use idn_text::{Device, ReadFault, Refusal, WriteFault};
-use idn2_cli::report;
+use idn2_cli::{report, report_registered};
+use registered_labels::RegisterFault;
 use std::alloc::Global;
 use std::process::Abort;
 use std::test::Fail;
@@ -69,6 +70,41 @@ fn last_messages(rt: HostRuntime) -> Result<(), Fail> {
 fn last_messages_cut(rt: HostRuntime) -> Result<(), Fail> {
     reports(&rt, rt.alloc(), &Refusal::Memory, 5, "idn2:", 4)?;
     reports(&rt, rt.alloc(), &Refusal::WriteFault, 0, "", 3)
+}
+
+/// Tells of a file of registered labels, and asserts what was written and the status.
+fn tells_of_file(
+    rt: &impl Abort,
+    alloc: Global,
+    fault: &RegisterFault,
+    message: &str,
+    status: u8,
+) -> Result<(), Fail> {
+    let mut room = vec![in alloc; 0u8; 64]?;
+    let mut messages = Device::new(StopWriter::new(&mut room, 4096));
+    let code = report_registered(fault, &mut messages).code();
+    let taken = messages.inner().taken();
+    let text = shown(alloc, room.get(..taken).unwrap_or(b""))?;
+    assert_eq!(rt; (text.as_str(), code), (message, status), "{fault:?}");
+    Ok(())
+}
+
+#[test]
+fn faults_of_registered_labels(rt: HostRuntime) -> Result<(), Fail> {
+    let out_of_order = RegisterFault::Refused {
+        line: 2,
+        refusal: Refusal::OutOfOrder,
+    };
+    let message = "idn2: registered line 2: 4 out of order\n";
+    tells_of_file(&rt, rt.alloc(), &out_of_order, message, 2)?;
+    let too_long = RegisterFault::Refused {
+        line: 4_294_967_296,
+        refusal: Refusal::FileTooLong,
+    };
+    let message = "idn2: registered line 4294967296: 5 file too long\n";
+    tells_of_file(&rt, rt.alloc(), &too_long, message, 2)?;
+    let message = "idn2: 70 out of memory\n";
+    tells_of_file(&rt, rt.alloc(), &RegisterFault::Memory, message, 4)
 }
 
 #[test]

@@ -5,7 +5,7 @@ use std::test::Fail;
 use unicode::UNICODE_VERSION;
 
 const HELP: &str = "\
-Converts and tests internationalized domain names, and lists the variants of a label.
+Converts and tests internationalized domain names, and lists variants.
 
 Usage: idn2 [OPTIONS] [STRINGS]...
 
@@ -14,29 +14,37 @@ Arguments:
 
 Options:
   -l, --lookup              Convert each name for a query; the default
-  -r, --register            Test each line as one label to be registered, and print its A-label
+  -r, --register            Test each line, one label, and print its A-label
   -d, --decode              Turn the A-labels of each name into U-labels
-      --variants <FILE>     List the variants of each line, one label, by the table in FILE
-      --check-table <FILE>  Print the reverse and transitive pairs that the table in FILE lacks
+      --variants <FILE>     List the variants of each label by the table in FILE
+      --check-table <FILE>  Print the pairs that the table in FILE lacks
+      --among <FILE>        With --variants: list only the labels in FILE
+      --jump                With --variants: answer LABEL TAB TEXT by one label
   -N, --tr46nt              Non-transitional lookup, which lookup does anyway
-      --usestd3asciirules   Lookup refuses ASCII other than letters, digits and hyphens
+      --usestd3asciirules   Lookup refuses ASCII but letters, digits and hyphens
       --quiet               Accepted; there is no banner
       --after <TEXT>        With --variants: list only variants after TEXT
-      --limit <N>           With --variants: stop after N variants of a line [default: no limit]
-      --tries <N>           With --variants: stop after N tested labels of a line [default: 1000000]
+      --limit <N>           With --variants: stop after N variants of a line
+      --tries <N>           With --variants: stop after N tested labels
   -h, --help                Print help
   -V, --version             Print version
 
-Write --after=TEXT where TEXT begins with '-'; strings that begin with '-' come after '--'.
+Without --limit there is no limit; without --tries it is 1000000.
+Write --after=TEXT where TEXT begins with '-';
+strings that begin with '-' come after '--'.
 
 Examples:
-  idn2 faß.de                                      answers xn--fa-hia.de
-  idn2 --variants german.txt --limit 100 strasse   lists the first 100 variants of strasse
+  idn2 faß.de
+      answers xn--fa-hia.de
+  idn2 --variants german.txt --limit 100 strasse
+      lists the first 100 variants of strasse
+  idn2 --variants german.txt --among registered.txt strasse
+      lists those of them that are registered
 
 Status:
   0  every line was answered
   1  a line was refused, or the table has a gap
-  2  the options or the table can't be used
+  2  the options or a file can't be used
   3  reading or writing failed
   4  memory ran out
 ";
@@ -75,8 +83,11 @@ fn summary_of(alloc: Global, line: &str) -> Result<String, AllocError> {
                 after,
                 limit,
                 tries,
+                among,
             } = options;
-            format!(in alloc; "{mode:?} {std3} {file:?} {after:?} {limit:?} {tries} {input:?}")
+            format!(in alloc;
+                "{mode:?} {std3} {file:?} {after:?} {limit:?} {tries} {among:?} {input:?}"
+            )
         }
         Err(Usage::Bad) => String::from_str(alloc, "bad"),
         Err(Usage::Show(text)) => Ok(text),
@@ -85,55 +96,67 @@ fn summary_of(alloc: Global, line: &str) -> Result<String, AllocError> {
 }
 
 /// Words, separated by bars, and what they are read as.
-const READ: [(&str, &str); 13] = [
-    ("idn2", "Lookup false \"\" [] None 1000000 \"none\""),
+const READ: [(&str, &str); 16] = [
+    ("idn2", "Lookup false \"\" [] None 1000000 None \"none\""),
     (
         "idn2|-r|faß",
-        "Register false \"\" [] None 1000000 \"faß\\n\"",
+        "Register false \"\" [] None 1000000 None \"faß\\n\"",
     ),
     (
         "idn2|-N|--quiet|faß",
-        "Lookup false \"\" [] None 1000000 \"faß\\n\"",
+        "Lookup false \"\" [] None 1000000 None \"faß\\n\"",
     ),
     (
         "idn2|-l|--usestd3asciirules|a_b",
-        "Lookup true \"\" [] None 1000000 \"a_b\\n\"",
+        "Lookup true \"\" [] None 1000000 None \"a_b\\n\"",
     ),
     (
         "idn2|b|--decode|a|--|-c",
-        "Decode false \"\" [] None 1000000 \"b\\na\\n-c\\n\"",
+        "Decode false \"\" [] None 1000000 None \"b\\na\\n-c\\n\"",
     ),
     (
         "idn2|--variants|t|-N|--usestd3asciirules|--quiet",
-        "Variants true \"t\" [] None 1000000 \"none\"",
+        "Variants true \"t\" [] None 1000000 None \"none\"",
     ),
     (
         "idn2|--check-table|t",
-        "CheckTable false \"t\" [] None 1000000 \"none\"",
+        "CheckTable false \"t\" [] None 1000000 None \"none\"",
     ),
     (
         "idn2|--variants=t|x|",
-        "Variants false \"t\" [] None 1000000 \"x\\n\\n\"",
+        "Variants false \"t\" [] None 1000000 None \"x\\n\\n\"",
     ),
     (
         "idn2|--variants||-",
-        "Variants false \"\" [] None 1000000 \"-\\n\"",
+        "Variants false \"\" [] None 1000000 None \"-\\n\"",
     ),
     (
         "idn2|--variants|t|--after|aß|--limit|0000000007|--tries|1|x",
-        "Variants false \"t\" [97, 223] Some(7) 1 \"x\\n\"",
+        "Variants false \"t\" [97, 223] Some(7) 1 None \"x\\n\"",
     ),
     (
         "idn2|--variants|t|--after=-x|--limit=1000000000|--tries=1000000000",
-        "Variants false \"t\" [45, 120] Some(1000000000) 1000000000 \"none\"",
+        "Variants false \"t\" [45, 120] Some(1000000000) 1000000000 None \"none\"",
     ),
     (
         "idn2|--variants|t|--after|",
-        "Variants false \"t\" [] None 1000000 \"none\"",
+        "Variants false \"t\" [] None 1000000 None \"none\"",
     ),
     (
         "idn2|--variants|t|--after|-",
-        "Variants false \"t\" [45] None 1000000 \"none\"",
+        "Variants false \"t\" [45] None 1000000 None \"none\"",
+    ),
+    (
+        "idn2|--variants|t|--among|r|--limit|2|--after|a|x",
+        "Variants false \"t\" [97] Some(2) 1000000 Some(\"r\") \"x\\n\"",
+    ),
+    (
+        "idn2|--among=|--variants=t",
+        "Variants false \"t\" [] None 1000000 Some(\"\") \"none\"",
+    ),
+    (
+        "idn2|--jump|--variants|t|x",
+        "Jump false \"t\" [] None 1000000 None \"x\\n\"",
     ),
 ];
 
@@ -177,6 +200,17 @@ fn refused(rt: HostRuntime) -> Result<(), Fail> {
         "idn2|--bogus|-h",
         "idn2|-T|x",
         "idn2|--quiet=yes",
+        "idn2|--among|r|x",
+        "idn2|--jump|x",
+        "idn2|-r|--jump|x",
+        "idn2|--check-table|t|--among|r",
+        "idn2|--variants|t|--among|r|--tries|5|x",
+        "idn2|--variants|t|--among|t|x",
+        "idn2|--variants|t|--among|r|--among|s|x",
+        "idn2|--variants|t|--jump|--after|a|x",
+        "idn2|--variants|t|--jump|--limit|1|x",
+        "idn2|--variants|t|--jump|--tries|1|x",
+        "idn2|--variants|t|--jump|--among|r|x",
     ];
     for line in rows {
         let got = summary_of(rt.alloc(), line)?;

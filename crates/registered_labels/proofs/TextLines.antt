@@ -1,5 +1,5 @@
 -- The lines of a text, one after another, and the first that is wrong.
-use Rattle.std.proofs.Common.{◌≡◌, ◌≢◌, ◌⊎◌, inl, inr, ℕ, zero, suc, ◌+◌, ◌-◌, ◌<◌, ◌≤◌, Bool, true, false, cond, Option, Some, None, List, [], ◌∷◌, ◌++◌, length, map, take, drop, get_or, refl, sym, ap, subst, ◌∙◌, arith, add-one, append_assoc, length-append, length-take, length-drop, drop-cons}
+use Rattle.std.proofs.Common.{◌≡◌, ◌≢◌, ◌⊎◌, inl, inr, ℕ, zero, suc, ◌+◌, ◌-◌, ◌<◌, ◌≤◌, Bool, true, false, cond, Option, Some, None, List, [], ◌∷◌, ◌++◌, length, map, take, drop, get_or, eqb, refl, sym, ap, subst, ◌∙◌, arith, add-one, append_assoc, length-append, length-take, length-drop, drop-cons}
 use Rattle.std.specs.List.{AllByRecursion, slice_range}
 use Rattle.std.specs.Ordering.{is_lt}
 use Rattle.std.specs.declared.cmp.Ordering.{Ordering}
@@ -7,7 +7,7 @@ use Rattle.std.specs.declared.cmp.Ordering.TheVariants.{Less}
 use Rattle.std.specs.Str.{is_utf8, chars, all_scalars}
 use Rattle.std.specs.Str.Lines.{strip_carriage_return}
 use Rattle.std.proofs.lemmas.Bool.{cases_lt, and_parts}
-use Rattle.std.proofs.lemmas.List.{append-nil, map-append, take-append-drop}
+use Rattle.std.proofs.lemmas.List.{append-nil, map-append, take-append-drop, take_all, take_min}
 use Rattle.std.proofs.lemmas.List.Elements.{All-from_recursion}
 use Rattle.std.proofs.lemmas.Str.{IsUtf8-from_is_utf8, is_utf8-from_IsUtf8}
 use Rattle.idn_text.specs.Points.{IsScalarValue, is_scalar_value, IsUtf8Of, utf8_of}
@@ -18,10 +18,12 @@ use Rattle.idn_text.specs.declared.refusal.Refusal.TheVariants as refusals
 use Rattle.idn_text.proofs.Utf8Lemmas.{IsUtf8-from_points, points_from_utf8}
 use Rattle.idn_text.proofs.TakingLemmas.{is_long_line-short, is_long_line-long}
 use Rattle.idn_text.proofs.NumberingLemmas.{raw_lines-then, raw_lines-rest}
-use Rattle.idn_label.specs.FirstFault.{first_fault}
+use Rattle.idn_label.specs.FirstFault.{utf8_fault}
+use Rattle.idn_label.proofs.AnswerLemmas.{utf8_fault-none, utf8_fault-points}
 use Rattle.idn_label.proofs.RequirementLemmas.{MeetsRequirements-registrable}
 use Rattle.variant_list.specs.Labels.{IsBelow, label_cmp}
 use Rattle.variant_list.proofs.OrderLemmas.{Less_from_below}
+use Rattle.registered_labels.proofs.Utf8Order.{utf8_of-cmp}
 use Rattle.registered_labels.specs.Registered.{AreRegistered}
 use Rattle.registered_labels.specs.Texts.{AreLinesOf, IsTextOf, line_refusal, IsFirstWrong, IsOutOfOrder, IsWrongBy, IsFaultOf, fault_of}
 use Rattle.registered_labels.specs.inner.Readings.{IsLineEnd, IsReadAs}
@@ -34,26 +36,29 @@ body_of-short line few = ap (λ b. cond b None (Some (strip_carriage_return line
 pub refused_long : (line : List ℕ) → 1024 < length line → line_refusal (body_of line) ≡ Some LineTooLong
 refused_long line many = ap (λ b. line_refusal (cond b None (Some (strip_carriage_return line)))) (is_long_line-long line many)
 
-by_recursion : (points : List ℕ) → all_scalars points ≡ true → AllByRecursion IsScalarValue points
-by_recursion [] e = tt
-by_recursion (c ∷ cs) e = let parts = and_parts (is_scalar_value c) (all_scalars cs) e in (parts.0, by_recursion cs parts.1)
+pub refused_body : (line body : List ℕ) (refusal : Refusal) → length line ≤ 1024 → body ≡ strip_carriage_return line → utf8_fault body ≡ Some refusal → line_refusal (body_of line) ≡ Some refusal
+refused_body line body refusal few is fault = ap line_refusal (body_of-short line few ∙ ap Some (sym is)) ∙ fault
 
-is_not_utf8 : (bytes : List ℕ) → ((points : List ℕ) → IsUtf8Of bytes points → ⊥) → (b : Bool) → is_utf8 bytes ≡ b → is_utf8 bytes ≡ false
-is_not_utf8 bytes none true e =
-    let is = IsUtf8-from_is_utf8 bytes e in
-    absurd (none is.0 (record { scalar_values = All-from_recursion IsScalarValue is.0 (by_recursion is.0 is.1.0); encoded = is.1.1 }))
-is_not_utf8 bytes none false e = e
+-- the body of a line stands at its front
+stripped_front : (line : List ℕ) → strip_carriage_return line ≡ take (length (strip_carriage_return line)) line
+stripped_front line = by_test (eqb (get_or line (length line - 1) 0) 13)
+  where
+    by_test : (b : Bool) → cond b (take (length line - 1) line) line ≡ take (length (cond b (take (length line - 1) line) line)) line
+    by_test true = sym (ap (λ n. take n line) (length-take (length line - 1) line) ∙ take_min (length line - 1) line)
+    by_test false = sym (take_all (length line) line (omega arith))
 
-pub refused_bytes : (line body : List ℕ) → length line ≤ 1024 → body ≡ strip_carriage_return line → ((points : List ℕ) → IsUtf8Of body points → ⊥) → line_refusal (body_of line) ≡ Some NotUtf8
-refused_bytes line body few is none =
-    ap line_refusal (body_of-short line few ∙ ap Some (sym is))
-    ∙ ap (λ b. cond b (first_fault (chars body)) (Some NotUtf8)) (is_not_utf8 body none (is_utf8 body) refl)
-
-pub refused_label : (line body points : List ℕ) (refusal : Refusal) → length line ≤ 1024 → body ≡ strip_carriage_return line → IsUtf8Of body points → first_fault points ≡ Some refusal → line_refusal (body_of line) ≡ Some refusal
-refused_label line body points refusal few is read fault =
-    ap line_refusal (body_of-short line few ∙ ap Some (sym is))
-    ∙ ap (λ b. cond b (first_fault (chars body)) (Some NotUtf8)) (is_utf8-from_IsUtf8 body (IsUtf8-from_points body points read))
-    ∙ ap first_fault (points_from_utf8 body points read) ∙ fault
+-- a body without a fault is the UTF-8 of a label that may be registered
+pub IsReadAs-body : (line body : List ℕ) (len : ℕ) → length line ≤ 1024 → body ≡ strip_carriage_return line → len ≡ length body → utf8_fault body ≡ None → IsReadAs line len (chars (take len line))
+IsReadAs-body line body len few is count none =
+    let front : body ≡ take (length body) line = is ∙ stripped_front line ∙ ap (λ (b : List ℕ). take (length b) line) (sym is) in
+    let here : take len line ≡ body = ap (λ n. take n line) count ∙ sym front in
+    let label = utf8_fault-none body none in
+    subst (λ (b : List ℕ). IsReadAs line len (chars b)) (sym here) (record {
+      within = omega (arith, count, ap length front, length-take (length body) line);
+      body = body_of-short line few ∙ ap Some (sym is ∙ sym here);
+      read = subst (λ (b : List ℕ). IsUtf8Of b (chars body)) (sym here) label.0;
+      registrable = label.1;
+    })
 
 -- ---- the lines so far
 
@@ -168,11 +173,7 @@ IsOutOfOrder-seen line len labels last label o b read is e f t = elim is [
 
 -- a label that may be registered is right by itself
 pub accepted_label : (line : List ℕ) (len : ℕ) (label : List ℕ) → IsReadAs line len label → line_refusal (body_of line) ≡ None
-accepted_label line len label is =
-    let body : List ℕ = take len line in
-    ap line_refusal is.body
-    ∙ ap (λ b. cond b (first_fault (chars body)) (Some NotUtf8)) (is_utf8-from_IsUtf8 body (IsUtf8-from_points body label is.read))
-    ∙ ap first_fault (points_from_utf8 body label is.read) ∙ is.registrable
+accepted_label line len label is = ap line_refusal is.body ∙ utf8_fault-points (take len line) label is.read ∙ is.registrable
 
 pub IsFaultOf-refused : (text : List ℕ) (line : ℕ) (refusal : Refusal) → (refusal ≢ refusals.Memory → IsFirstWrong text line (IsWrongBy refusal text)) → IsFaultOf text (fault_of line refusal)
 IsFaultOf-refused text line refusals.Memory h = tt
@@ -181,3 +182,8 @@ IsFaultOf-refused text line refusal h = h (λ e. cc)
 -- one label more is the last
 pub IsLastOf-more : (labels : List (List ℕ)) (label : List ℕ) → IsLastOf (labels ++ label ∷ []) label
 IsLastOf-more labels label = inr (labels, refl)
+
+-- the comparison of two labels by their UTF-8
+pub compared_bytes : (last bytes body : List ℕ) (o : Ordering) → o ≡ label_cmp last bytes → utf8_of (chars last) ≡ last → bytes ≡ body → utf8_of (chars body) ≡ body → o ≡ label_cmp (chars last) (chars body)
+compared_bytes last bytes body o is key same encoded =
+    is ∙ ap (λ (b : List ℕ). label_cmp b bytes) (sym key) ∙ ap (label_cmp (utf8_of (chars last))) (same ∙ sym encoded) ∙ utf8_of-cmp (chars last) (chars body)

@@ -1,12 +1,11 @@
 -- The text of a registry's labels: one on each line, each greater than the one before.
-use Rattle.std.specs.Prelude.{◌≡◌, ◌⊎◌, ℕ, ◌+◌, ◌≤◌, ◌^◌, List, [], ◌∷◌, ◌++◌, length, map, chars, Option, Some, None, if◌then◌else◌}
-use Rattle.std.specs.Str.{is_utf8}
+use Rattle.std.specs.Prelude.{◌≡◌, ◌⊎◌, ℕ, ◌+◌, ◌≤◌, ◌^◌, List, [], ◌∷◌, ◌++◌, length, map, Option, Some, None}
 use Rattle.idn_text.specs.Lines.{raw_lines, body_of}
 use Rattle.idn_text.specs.Points.{utf8_of}
 use Rattle.idn_text.specs.declared.refusal.Refusal.{Refusal}
-use Rattle.idn_text.specs.declared.refusal.Refusal.TheVariants.{LineTooLong, NotUtf8, OutOfOrder, FileTooLong}
+use Rattle.idn_text.specs.declared.refusal.Refusal.TheVariants.{LineTooLong, OutOfOrder, FileTooLong}
 use Rattle.idn_text.specs.declared.refusal.Refusal.TheVariants as refusals
-use Rattle.idn_label.specs.FirstFault.{first_fault, IsRegistrable}
+use Rattle.idn_label.specs.FirstFault.{utf8_fault, IsRegistrable}
 use Rattle.variant_list.specs.Labels.{IsBelow}
 use Rattle.registered_labels.specs.declared.labels.RegisterFault.{RegisterFault}
 use Rattle.registered_labels.specs.declared.labels.RegisterFault.TheVariants.{Refused, Memory}
@@ -24,7 +23,7 @@ pub record IsTextOf (text : List ℕ) (labels : List (List ℕ)) : Type 0 where
 -- what is wrong with the body of a line alone
 abbrev pub line_refusal : Option (List ℕ) → Option Refusal
 line_refusal None = Some LineTooLong
-line_refusal (Some bytes) = if is_utf8 bytes then first_fault (chars bytes) else Some NotUtf8
+line_refusal (Some bytes) = utf8_fault bytes
 
 -- all lines before the line of this number, from 1, are labels in label order, and the line is wrong after them
 pub record IsFirstWrong (text : List ℕ) (number : ℕ) (IsWrong : List (List ℕ) → Option (List ℕ) → Type 0) : Type 0 where

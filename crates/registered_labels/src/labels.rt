@@ -1,5 +1,5 @@
 //! Registered labels in memory.
-ghost use Rattle.std.specs.Prelude.{◌≡◌, ◌≢◌, ◌<◌, ◌≤◌, ℕ, List, length, slice_get, option_map, Some, IfOk, IfErr};
+ghost use Rattle.std.specs.Prelude.{◌≡◌, ◌≢◌, ◌<◌, ◌≤◌, ℕ, List, length, take, chars, slice_get, option_map, Some, IfOk, IfErr};
 ghost use Rattle.idn_text.specs.Lines.{body_of};
 ghost use Rattle.std.specs.Ordering.{is_lt};
 ghost use Rattle.idn_text.specs.Points.{AreScalarValues, utf8_of};
@@ -9,8 +9,7 @@ ghost use Rattle.registered_labels.specs.Registered.{AreRegistered, IsBetween, I
 ghost use Rattle.registered_labels.specs.inner.Readings.{IsLineEnd, IsReadAs};
 
 use arrayvec::ArrayVec;
-use idn_class::KeptLabel;
-use idn_label::test_label;
+use idn_label::test_utf8;
 use idn_text::{MAX_LINE_LEN, Refusal, decode_points, put_points, without_carriage_return};
 use memchr::memchr;
 use std::alloc::{AllocError, AllocFailed, Global};
@@ -78,18 +77,20 @@ impl<'a> RegisteredLabels<'a> {
     {
         let mut spans = Vec::new(alloc);
         let mut points = ArrayVec::new();
-        // The empty label is below all others.
-        let mut last = KeptLabel::new();
+        // No byte: that is below all labels.
+        let mut last = &text[..0];
         let mut at = 0;
         let mut number: u64 = 0;
         while at < text.len() {
             number += 1;
             let end = line_end(text, at);
-            let body = match read_label(alloc, &text[at..end], &mut points) {
-                Ok(body) => body,
+            let len = match read_label(alloc, &text[at..end], &mut points) {
+                Ok(len) => len,
                 Err(refusal) => return Err(refused(number, refusal)),
             };
-            if !last.as_slice().cmp(&points.as_slice()).is_lt() {
+            // The byte order of UTF-8 is label order.
+            let label = &text[at..at + len];
+            if !last.cmp(&label).is_lt() {
                 return Err(refused(number, Refusal::OutOfOrder));
             }
             if end > MAX_TEXT_LEN {
@@ -97,9 +98,9 @@ impl<'a> RegisteredLabels<'a> {
             }
             spans.push(Span {
                 start: at as u32,
-                end: (at + body) as u32,
+                end: (at + len) as u32,
             })?;
-            last.replace(points.as_slice());
+            last = label;
             at = end + 1;
         }
         Ok(RegisteredLabels { text, spans })
@@ -219,25 +220,22 @@ fn line_end(text: &[u8], at: usize) -> usize
     }
 }
 
-/// Leaves the code points of a line in `points`, if they are a label that may be registered, and returns how many bytes of
-/// the line they take: one carriage return at its end doesn't count.
+/// Tests a line as a label that may be registered, and returns how many of its bytes are the label: one carriage return at
+/// its end doesn't count. `points` is room for the work.
 fn read_label(
     alloc: Global,
     line: &[u8],
     points: &mut ArrayVec<u32, MAX_LINE_LEN>,
 ) -> Result<usize, Refusal>
-    ensures read { IfOk result (λ len. IsReadAs line.now len points.new.items) }
+    ensures read { IfOk result (λ len. IsReadAs line.now len (chars (take len line.now))) }
     ensures refused { IfErr result (λ refusal. refusal ≢ Refusal.Memory → line_refusal (body_of line.now) ≡ Some refusal) }
 {
     if line.len() > MAX_LINE_LEN {
         return Err(Refusal::LineTooLong);
     }
     let body = without_carriage_return(line);
-    let Ok(()) = decode_points(body, points) else {
-        return Err(Refusal::NotUtf8);
-    };
-    match test_label(alloc, points.as_slice()) {
-        Ok(_) => Ok(body.len()),
+    match test_utf8(alloc, body, points) {
+        Ok(()) => Ok(body.len()),
         Err(refusal) => Err(refusal),
     }
 }

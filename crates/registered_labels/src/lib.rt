@@ -5,5 +5,5 @@ mod collisions;
 mod labels;
 pub mod laws;
 
-pub use collisions::{Collisions, all_collisions};
+pub use collisions::Collisions;
 pub use labels::{RegisterFault, RegisteredLabels};

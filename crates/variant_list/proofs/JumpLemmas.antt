@@ -132,3 +132,7 @@ Jumps-found b old new text plan net same found none stays looks = record {
     of_none : (b : Bool) → OnFalse b (HasNoneFrom (IsRead plan) text) → OnFalse b (HasNoneFrom (IsCandidate old.net) text)
     of_none true h = h
     of_none false h = HasNoneFrom-same (IsRead plan) (IsCandidate old.net) read text h
+
+-- how many edges were looked at before plays no part
+pub Jumps-anew : (old new : Position) (text : List ℕ) (b : Bool) → Jumps (record old { edge_tests = 0 }) text b new → Jumps old text b new
+Jumps-anew old new text b h = record { net = h.net; found = h.found; none = h.none; stays = h.stays; edge_tests = h.edge_tests }

@@ -125,7 +125,7 @@ fn serve_mode<R: Source, W: Sink, E: Sink>(
             let mode = Lookup { std3: options.std3 };
             serve_lines(alloc, &mode, input, console)
         }
-        Mode::Register => serve_lines(alloc, &ByPoints { mode: &Register }, input, console),
+        Mode::Register => serve_lines(alloc, &Register, input, console),
         Mode::Decode => serve_lines(alloc, &Decode, input, console),
         Mode::Variants => serve_variants(alloc, options, table, registered, input, console),
         Mode::Jump => serve_jumps(alloc, options, table, input, console),

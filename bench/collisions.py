@@ -1,0 +1,276 @@
+#!/usr/bin/env python3
+"""Times the look for registered labels among variants: python3 bench/collisions.py
+
+All times are of the processor, in the program and for it in the kernel, in seconds, and the least of some rounds, as in
+bench.py. What the lines of the tables say:
+
+    load        `idn2 --variants TABLE --among FILE` with an empty input, beside `LC_ALL=C sort -c` on the same file: labels
+                like German words under tables/german.txt, labels of Han characters with variants under tables/han.txt.
+                Resident memory beside what is wanted: that of a run with an empty file, the file, and 8 bytes a label
+    search      what one label or all of them take beyond the load:
+                one label with 2^62 variants among random letters, which may take no longer than the load
+                one label among labels that each lie between two of its 2^30 variants, so with a jump for each; in
+                microseconds a jump
+                each of these words, or of these Han labels, asked for among all of them
+    jump        `idn2 --variants TABLE --jump`, in microseconds a jump: requests from a file, by the processor; and one at a
+                time from a co-process, by the clock, with what Python takes for it
+
+Before anything is timed, the answers for some labels are compared with the whole listings of the same program and the
+file. `--labels 10000000` shows what ten million take. With `--instructions` callgrind counts those of a load, a label, and
+of a jump.
+
+To be installed (Debian's names), each left out with a word where it is missing: time for the memory, valgrind for the
+instructions.
+"""
+
+import argparse
+import bisect
+import pathlib
+import random
+import subprocess
+import sys
+import tempfile
+import time
+
+import registered
+from bench import OURS
+from inputs import SEED, TABLE, write
+from runs import ENVIRONMENT, Failed, Run, found, in_turn, version
+
+# How often the load may take what sort takes, and how many bytes it may hold of a label beside the file.
+LOAD_WANTED, BYTES_WANTED = 2, 8
+# Microseconds of a jump, and seconds of a million labels among a million.
+JUMP_WANTED, ALL_WANTED = 1, 10
+# The most labels that are asked for, those whose answers are compared, and those of the jumps.
+ASKED, COMPARED, JUMPS = 1_000_000, 1_000, 20_000
+# The labels that callgrind is given.
+COUNTED = 20_000
+
+
+class Registered:
+    """Registered labels in a file, the table under which they are asked for, and some inputs."""
+
+    def __init__(self, options, folder, name, table, labels):
+        self.options, self.folder, self.name, self.table, self.labels = options, folder, name, table, labels
+        self.file = write(folder, name, labels)
+        self.nothing = write(folder, "nothing", [])
+
+    def run(self, source, file=None):
+        words = ["--variants", str(self.table), "--among", str(file or self.file)]
+        return Run(self.options.ours, words, source)
+
+    def load(self):
+        return self.run(self.nothing)
+
+    def asking(self, labels):
+        return self.run(write(self.folder, "asked", labels))
+
+    def part(self, count):
+        return Registered(self.options, self.folder, f"{self.name}, a part", self.table, self.labels[:count])
+
+
+def sort_check(file, nothing):
+    return Run(found("sort"), ["-c", str(file)], nothing, locale="C")
+
+
+# Answers.
+
+
+def listed(ours, table, labels):
+    """For each label the variants that the program lists."""
+    given = "".join(label + "\n" for label in labels).encode()
+    words = [ours, "--variants", table, "--tries", "1000000000"]
+    blocks, variants = [], []
+    for line in subprocess.run(words, input=given, capture_output=True, env=ENVIRONMENT).stdout.decode().splitlines():
+        if line.startswith("#"):
+            blocks.append(variants)
+            variants = []
+        else:
+            variants.append(line.split("\t")[0])
+    return blocks
+
+
+class CoProcess:
+    """The program, asked for one jump at a time."""
+
+    def __init__(self, ours, table):
+        words = [ours, "--variants", table, "--jump"]
+        self.process = subprocess.Popen(words, stdin=subprocess.PIPE, stdout=subprocess.PIPE, env=ENVIRONMENT)
+
+    def jump(self, label, text):
+        self.process.stdin.write(f"{label}\t{text}\n".encode())
+        self.process.stdin.flush()
+        return self.process.stdout.readline().decode().rstrip("\n")
+
+    def end(self):
+        self.process.stdin.close()
+        self.process.stdout.close()
+        if self.process.wait() != 0:
+            raise Failed(f"--jump ended with status {self.process.returncode}")
+
+
+def collisions_by_jumps(jump, labels, label):
+    """The registered labels that a label spells, where the labels are a list in order."""
+    place = 0
+    while place < len(labels):
+        candidate = jump(label, labels[place])
+        if candidate == "#end":
+            return
+        if candidate == labels[place]:
+            yield candidate
+            place += 1
+        else:
+            place = bisect.bisect_left(labels, candidate)
+
+
+def compare_answers(kept):
+    """Of some labels: what the whole listings have of the file, what --among lists, and what jumps find."""
+    asked = random.Random(SEED).sample(kept.labels, min(COMPARED, len(kept.labels)))
+    known = set(kept.labels)
+    wanted = [[each for each in variants if each in known] for variants in listed(kept.options.ours, kept.table, asked)]
+    blocks, lines = [], []
+    for line in kept.asking(asked).output().splitlines():
+        if line.startswith("#"):
+            blocks.append(lines)
+            lines = []
+        else:
+            lines.append(line.split("\t")[0])
+    process = CoProcess(kept.options.ours, kept.table)
+    jumps = [list(collisions_by_jumps(process.jump, kept.labels, label)) for label in asked]
+    process.end()
+    if not wanted == blocks == jumps or len(wanted) != len(asked):
+        raise Failed(f"{kept.name}: the answers of listings, of --among and of --jump differ")
+    return sum(map(len, wanted))
+
+
+# The tables.
+
+
+def cells(*texts):
+    print(f"{texts[0]:<34}" + "".join(f"{text:>12}" for text in texts[1:]))
+
+
+def show_loads(options, files):
+    print("\nload: seconds of the processor, and MiB of resident memory at the peak")
+    cells("", "labels", "MB", "ours", "sort -c", "ratio", "wanted", "MiB", "wanted")
+    gnu_time = found("time")
+    for kept in files:
+        ours, sort = in_turn([kept.load(), sort_check(kept.file, kept.nothing)], options.rounds)
+        size = kept.file.stat().st_size
+        memory = ["-", "-"]
+        if gnu_time:
+            least = kept.run(kept.nothing, kept.nothing).kibibytes(gnu_time) / 1024
+            wanted = least + (size + BYTES_WANTED * len(kept.labels)) / 2**20
+            memory = [f"{kept.load().kibibytes(gnu_time) / 1024:.1f}", f"{wanted:.1f}"]
+        cells(kept.name, f"{len(kept.labels):,}", f"{size / 1e6:.1f}", f"{ours.processor:.3f}", f"{sort.processor:.3f}",
+              f"{ours.processor / sort.processor:.1f}", LOAD_WANTED, *memory)
+    if not gnu_time:
+        print("memory: no GNU time here (Debian's package time)")
+
+
+def beyond_load(options, kept, asked):
+    """Seconds of the load, and beyond it of an input."""
+    load, all_of_it = in_turn([kept.load(), kept.asking(asked)], options.rounds)
+    return load.processor, all_of_it.processor - load.processor
+
+
+def show_searches(options, all_letters, between, asked_of_themselves):
+    print("\nsearch: seconds of the processor beyond the load")
+    cells("", "labels", "asked", "load", "search", "wanted")
+    load, search = beyond_load(options, all_letters, ["a" * registered.MANY_PLACES])
+    count = f"{len(all_letters.labels):,}"
+    cells("one label with 2^62 variants", count, 1, f"{load:.3f}", f"{search:.3f}", f"{load:.3f}")
+    for kept in asked_of_themselves:
+        asked = kept.labels[:ASKED]
+        load, search = beyond_load(options, kept, asked)
+        counts = f"{len(kept.labels):,}", f"{len(asked):,}"
+        cells(f"{kept.name}, each", *counts, f"{load:.3f}", f"{search:.3f}", ALL_WANTED)
+    print("\njump: microseconds")
+    cells("", "jumps", "", "", "a jump", "wanted")
+    _, search = beyond_load(options, between, ["a" * registered.FEW_PLACES])
+    count = len(between.labels)
+    cells("a label between each two variants", f"{count:,}", "", "", f"{1e6 * search / count:.2f}", JUMP_WANTED)
+
+
+def requests_of(kept):
+    """Jumps of labels, each to another one: as many answers are found as not."""
+    asked = random.Random(SEED).sample(kept.labels, min(JUMPS, len(kept.labels)))
+    return list(zip(asked, asked[1:] + asked[:1]))
+
+
+def show_jumps(options, files):
+    for kept in files:
+        requests = requests_of(kept)
+        source = write(kept.folder, "requests", [f"{label}\t{text}" for label, text in requests])
+        start, jumps = in_turn([Run(options.ours, ["--variants", str(kept.table), "--jump"], file)
+                                for file in (kept.nothing, source)], options.rounds)
+        cells(f"--jump, {kept.name}", f"{len(requests):,}", "", "",
+              f"{1e6 * (jumps.processor - start.processor) / len(requests):.2f}", "-")
+        process = CoProcess(options.ours, kept.table)
+        begin = time.perf_counter()
+        for label, text in requests:
+            process.jump(label, text)
+        taken = time.perf_counter() - begin
+        process.end()
+        cells(f"--jump, {kept.name}, one by one", f"{len(requests):,}", "", "", f"{1e6 * taken / len(requests):.2f}", "-")
+
+
+def show_instructions(options, files, between):
+    if not found("valgrind"):
+        print("\ninstructions: no valgrind here (Debian's package valgrind)")
+        return
+    print("\ninstructions")
+    cells("", "labels", "ours", "sort -c", "ratio")
+    for kept in (kept.part(COUNTED) for kept in files):
+        count = len(kept.labels)
+        ours, without = kept.load().instructions(0), kept.run(kept.nothing, kept.nothing).instructions(0)
+        sort, sort_without = (sort_check(file, kept.nothing).instructions(0) for file in (kept.file, kept.nothing))
+        ours, sort = (ours - without) / count, (sort - sort_without) / count
+        cells(f"load, {kept.name}, a label", f"{count:,}", f"{ours:,.0f}", f"{sort:,.0f}", f"{ours / sort:.1f}")
+    kept = between.part(COUNTED)
+    search = kept.asking(["a" * registered.FEW_PLACES])
+    jumps = search.instructions(1) - kept.load().instructions(0)
+    cells("a jump between each two variants", f"{COUNTED:,}", f"{jumps / len(kept.labels):,.0f}", "-", "-")
+
+
+def read_options():
+    words = argparse.ArgumentParser(description="Times the look for registered labels among variants.")
+    words.add_argument("--ours", default=OURS, type=pathlib.Path, help="our program")
+    words.add_argument("--labels", default=1_000_000, type=int, help="registered labels of each file")
+    words.add_argument("--rounds", default=3, type=int, help="rounds of which the least times are taken")
+    words.add_argument("--instructions", action="store_true", help="count instructions too, by callgrind")
+    options = words.parse_args()
+    if not options.ours.exists():
+        raise Failed(f"{options.ours} is not there: run make first, or name our program by --ours")
+    return options
+
+
+def measure(options, folder):
+    print("ours:    " + version(options.ours))
+    print(f"least of {options.rounds} rounds, seed {SEED}", flush=True)
+    make = lambda name, table, labels: Registered(options, folder, name, table, labels)
+    two_letters = registered.two_letters(folder)
+    words = make("German words", registered.GERMAN, registered.german_words(options.labels))
+    han = make("Han labels", TABLE, registered.han_labels(options.labels))
+    all_letters = make("random letters", two_letters, registered.letters(options.labels))
+    between = make("between variants", two_letters, registered.between_variants(options.labels))
+    for kept in (words, han):
+        found_alike = compare_answers(kept)
+        print(f"{kept.name}: {found_alike:,} collisions of some labels, by listings, --among and --jump alike", flush=True)
+    show_loads(options, (words, han))
+    show_searches(options, all_letters, between, (words, han))
+    show_jumps(options, (words, han))
+    if options.instructions:
+        show_instructions(options, (words, han), between)
+
+
+def main():
+    try:
+        with tempfile.TemporaryDirectory() as folder:
+            measure(read_options(), pathlib.Path(folder))
+    except Failed as failure:
+        return str(failure)
+
+
+if __name__ == "__main__":
+    sys.exit(main())

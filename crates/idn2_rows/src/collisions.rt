@@ -1,0 +1,165 @@
+//! Registered labels in memory, those of them that a label spells, and the least label from a text on. The expected
+//! answers were worked out by hand.
+use crate::label_calls::points_of;
+use crate::nets::{BLIND, SHARP_S, net, points};
+use idn_text::Refusal;
+use registered_labels::{Collisions, RegisterFault, RegisteredLabels};
+use std::alloc::Global;
+use std::process::Abort;
+use std::test::Fail;
+use variant_list::{Cursor, Net};
+use variant_table::Table;
+
+/// `a` and `b` are variants of each other, and there are other letters.
+const LETTERS: &[u8] = b"0061|0062\n0062|0061\n0063\n006F\n007A\n";
+
+/// 62 times `a`, which spells 2^62 labels.
+const MANY: &str = "aaaaaaaaaaaaaaaaaaaaaaaaaaaaaaaaaaaaaaaaaaaaaaaaaaaaaaaaaaaaaa";
+
+/// The registered labels after a text that a label spells, each with a space behind it, and how many jumps that took.
+fn found(
+    alloc: Global,
+    table: &[u8],
+    file: &str,
+    label: &str,
+    after: &str,
+) -> Result<(String, u64), Fail> {
+    let table = Table::read(alloc, table)?;
+    let registered = RegisteredLabels::read(alloc, file.as_bytes())?;
+    let label = points(alloc, label)?;
+    let after = points_of(after)?;
+    if label.is_empty() || label.len() > 63 {
+        return Err("a label of no code point, or of more than 63".into());
+    }
+    let net = Net::build(alloc, &table, &label)?;
+    let mut text = String::new(alloc);
+    let mut search = Collisions::new(alloc, &net, &registered, after.as_slice())?;
+    for _ in 0..1000 {
+        if !search.advance() {
+            break;
+        }
+        for point in search.label() {
+            text.push(char::from_u32(*point).ok_or("no character")?)?;
+        }
+        text.push(' ')?;
+    }
+    Ok((text, search.jumps()))
+}
+
+/// Tables, files, labels and texts; the collisions, and how many jumps found them.
+const CASES: [(&[u8], &str, &str, &str, &str, u64); 7] = [
+    (SHARP_S, "rat\nsss\nsß\nt\nßs\n", "sss", "", "sss sß ßs ", 5),
+    (SHARP_S, "rat\nsss\nt\nßs\n", "sss", "sss", "ßs ", 2),
+    (SHARP_S, "", "sss", "", "", 0),
+    (SHARP_S, "ßs\n", "sß", "", "", 1),
+    (LETTERS, "abba\nabc\nbac\nc\nzoo\n", MANY, "", "", 4),
+    (
+        LETTERS,
+        "abba\nabc\nbaab\nbac\nc\n",
+        "aaaa",
+        "",
+        "abba baab ",
+        5,
+    ),
+    (LETTERS, "b\r\nba", "aa", "", "ba ", 2),
+];
+
+#[test]
+fn collisions_and_the_jumps_that_find_them(rt: HostRuntime) -> Result<(), Fail> {
+    for (table, file, label, after, want, jumps) in CASES.iter() {
+        let got = found(rt.alloc(), table, file, label, after)?;
+        assert_eq!(&rt;
+            (got.0.as_str(), got.1),
+            (*want, *jumps),
+            "{label} after {after:?} among {file:?}"
+        );
+    }
+    Ok(())
+}
+
+/// The fault of a file.
+fn fault(alloc: Global, file: &[u8]) -> Result<RegisterFault, Fail> {
+    match RegisteredLabels::read(alloc, file) {
+        Ok(_) => Err("no fault".into()),
+        Err(fault) => Ok(fault),
+    }
+}
+
+/// Files with the line of their first fault and the refusal.
+const FAULTS: [(&[u8], u64, Refusal); 8] = [
+    (b"a\nb\n\xFF\n", 3, Refusal::NotUtf8),
+    (b"a\n\nb\n", 2, Refusal::Empty),
+    (b"a\nB\n", 2, Refusal::Disallowed),
+    (b"a\nxn--strae-oqa\n", 2, Refusal::Hyphen),
+    (b"a\nc\nb\n", 3, Refusal::OutOfOrder),
+    (b"a\r\na", 2, Refusal::OutOfOrder),
+    (b"\xC3\x9F\nss\n", 2, Refusal::OutOfOrder),
+    (b"a\nb\r\r\n", 2, Refusal::Disallowed),
+];
+
+#[test]
+fn faults_of_files(rt: HostRuntime) -> Result<(), Fail> {
+    for (file, line, refusal) in FAULTS.iter() {
+        let got = fault(rt.alloc(), file)?;
+        let want = RegisterFault::Refused {
+            line: *line,
+            refusal: *refusal,
+        };
+        assert_eq!(&rt; got, want, "{}", file.escape_ascii());
+    }
+    Ok(())
+}
+
+/// The label to which a new cursor jumps from a text on, or `#` where there is none.
+fn jumped(alloc: Global, net: &Net, text: &str) -> Result<Vec<u32>, Fail> {
+    let mut cursor = Cursor::new(alloc, net, &[])?;
+    if cursor.jump(points_of(text)?.as_slice()) {
+        Ok(cursor.last().to_vec(alloc)?)
+    } else {
+        Ok(points(alloc, "#")?)
+    }
+}
+
+/// Tables, labels and texts, and the least candidates from them on.
+const JUMPS: [(&[u8], &str, &str, &str); 8] = [
+    (SHARP_S, "sss", "", "sss"),
+    (SHARP_S, "sss", "sss", "sss"),
+    (SHARP_S, "sss", "ssss", "sß"),
+    (SHARP_S, "sss", "t", "ßs"),
+    (SHARP_S, "sss", "ßt", "#"),
+    (BLIND, "ab", "ac", "c"),
+    // A text longer than any label.
+    (
+        LETTERS,
+        "ab",
+        "aaaaaaaaaaaaaaaaaaaaaaaaaaaaaaaaaaaaaaaaaaaaaaaaaaaaaaaaaaaaaaaaaaaa",
+        "ab",
+    ),
+    (
+        LETTERS,
+        MANY,
+        "aaaaaaaaaaaaaaaaaaaaaaaaaaaaaaaaaaaaaaaaaaaaaaaaaaaaaaaaaaaaaaaaaaaa",
+        "aaaaaaaaaaaaaaaaaaaaaaaaaaaaaaaaaaaaaaaaaaaaaaaaaaaaaaaaaaaaab",
+    ),
+];
+
+/// A jump from this text on comes to that label.
+fn assert_jump(
+    rt: &impl Abort,
+    alloc: Global,
+    (table, label, text, want): (&[u8], &str, &str, &str),
+) -> Result<(), Fail> {
+    let net = net(alloc, table, label)?;
+    let got = jumped(alloc, &net, text)?;
+    let want = points(alloc, want)?;
+    assert_eq!(rt; got.as_slice(), want.as_slice(), "{label} from {text}");
+    Ok(())
+}
+
+#[test]
+fn jumps_to_the_least_candidate(rt: HostRuntime) -> Result<(), Fail> {
+    for case in JUMPS {
+        assert_jump(&rt, rt.alloc(), case)?;
+    }
+    Ok(())
+}

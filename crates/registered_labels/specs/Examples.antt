@@ -1,0 +1,76 @@
+-- Worked examples of the definitions, by computation.
+use Rattle.std.specs.Prelude.{◌≡◌, ℕ, List, [], ◌∷◌, ◌++◌, Some, None, false, true, codes}
+use Rattle.idn_text.specs.declared.refusal.Refusal.TheVariants.{Empty, LineTooLong, NotUtf8}
+use Rattle.variant_table.specs.Entries.{Variant, Entry}
+use Rattle.variant_list.specs.Examples.{allocatable}
+use Rattle.variant_list.specs.Positions.{Built}
+use Rattle.registered_labels.specs.Collisions.{collisions}
+use Rattle.registered_labels.specs.Texts.{line_refusal}
+
+-- a source without variants, and one with a single variant
+abbrev pub plain : List ℕ → Entry
+plain source = record { source = source; variants = [] }
+
+abbrev pub pair : List ℕ → List ℕ → Entry
+pair source variant = record { source = source; variants = allocatable variant ∷ [] }
+
+-- ß
+abbrev pub sharp : List ℕ
+sharp = 223 ∷ []
+
+-- the letters of a few words, with ss and ß as variants of each other
+abbrev pub german : List Entry
+german =
+    plain (codes "a") ∷ plain (codes "e") ∷ plain (codes "h") ∷ plain (codes "m") ∷ plain (codes "r") ∷ plain (codes "s") ∷ plain (codes "t") ∷ plain (codes "u")
+    ∷ pair (codes "ss") sharp ∷ pair sharp (codes "ss") ∷ []
+
+-- o with 0 as a blocked variant, and ss with ß
+abbrev pub alike : List Entry
+alike =
+    plain (codes "0") ∷ record { source = codes "o"; variants = record { sequence = codes "0"; blocked = true } ∷ [] } ∷ plain (codes "s") ∷ plain (codes "t")
+    ∷ pair (codes "ss") sharp ∷ []
+
+-- two characters for China, of which the second has two forms
+abbrev pub han : List Entry
+han = plain (0x4E2D ∷ []) ∷ pair (0x56FD ∷ []) (0x570B ∷ []) ∷ pair (0x570B ∷ []) (0x56FD ∷ []) ∷ []
+
+-- a with b as a variant, and b without a: a gap
+abbrev pub gap : List Entry
+gap = pair (codes "a") (codes "b") ∷ plain (codes "b") ∷ []
+
+-- the registered labels after a text that a label spells under a table
+abbrev pub found : List Entry → List ℕ → List (List ℕ) → List ℕ → List (List ℕ)
+found table label registered after = collisions (record { table = table; label = label }) registered after
+
+abbrev pub strasse : List ℕ
+strasse = codes "strasse"
+
+abbrev pub strasze : List ℕ
+strasze = codes "stra" ++ (223 ∷ codes "e")
+
+-- sss, sß and ßs
+abbrev pub three : List (List ℕ)
+three = codes "sss" ∷ (115 ∷ sharp) ∷ (223 ∷ codes "s") ∷ []
+
+-- a label finds its variants and itself, as far as they are registered, in order; sß and ßs are variants of sss and not of each
+-- other; a text cuts off what is not greater; blocked variants count; and through a gap a collision is seen from one side alone
+pub record ExamplesOfCollisions : Type 0 where
+  pub variant : found german strasze (codes "haus" ∷ strasse ∷ []) [] ≡ strasse ∷ []
+  pub both : found german strasse (strasse ∷ strasze ∷ []) [] ≡ strasse ∷ strasze ∷ []
+  pub itself : found german (codes "haus") (codes "haus" ∷ []) [] ≡ codes "haus" ∷ []
+  pub none : found german (codes "maus") (codes "haus" ∷ strasse ∷ []) [] ≡ []
+  pub neighbours : found german (115 ∷ sharp) ((223 ∷ codes "s") ∷ []) [] ≡ []
+  pub all : found german (codes "sss") three [] ≡ three
+  pub after_one : found german (codes "sss") three (115 ∷ sharp) ≡ (223 ∷ codes "s") ∷ []
+  pub after_a_stranger : found german (codes "sss") three (codes "sz") ≡ (115 ∷ sharp) ∷ (223 ∷ codes "s") ∷ []
+  pub blocked : found alike (codes "toss") (codes "t0ss" ∷ (codes "to" ++ sharp) ∷ []) [] ≡ codes "t0ss" ∷ (codes "to" ++ sharp) ∷ []
+  pub forms : found han (0x4E2D ∷ 0x570B ∷ []) ((0x4E2D ∷ 0x56FD ∷ []) ∷ (0x4E2D ∷ 0x570B ∷ []) ∷ []) [] ≡ (0x4E2D ∷ 0x56FD ∷ []) ∷ (0x4E2D ∷ 0x570B ∷ []) ∷ []
+  pub nothing_registered : found german (codes "haus") [] [] ≡ []
+  pub over_a_gap : found gap (codes "a") (codes "b" ∷ []) [] ≡ codes "b" ∷ []
+  pub back_over_a_gap : found gap (codes "b") (codes "a" ∷ []) [] ≡ []
+
+-- what is wrong with a line by itself: it is too long, no UTF-8, or empty
+pub record ExamplesOfLines : Type 0 where
+  pub too_long : line_refusal None ≡ Some LineTooLong
+  pub not_utf8 : line_refusal (Some (0xFF ∷ [])) ≡ Some NotUtf8
+  pub empty : line_refusal (Some []) ≡ Some Empty
