@@ -484,18 +484,20 @@ def answers_of_a_database_no_more_than_is_known(kit):
 
 @in_each_setting
 def refuses_a_database_in_another_order(kit):
-    for name, statements in (
-        ("utf16.db", ("pragma encoding = 'UTF-16le'", "create table registered (label text primary key)",
-                      "insert into registered values ('haus')")),
-        ("blob.db", ("create table registered (label blob primary key)",
-                     "insert into registered values (x'68617573')")),
-        ("numbers.db", ("create table registered (label)", "insert into registered values (7)",
-                        "insert into registered values (x'68')")),
+    no_label = b"no label, but registered: "
+    for name, message, *statements in (
+        ("utf16.db", b"the database is not in UTF-8\n", "pragma encoding = 'UTF-16le'",
+         "create table registered (label text)", "insert into registered values ('haus')"),
+        ("blob.db", no_label, "create table registered (label blob)", "insert into registered values (x'68617573')"),
+        ("number.db", no_label, "create table registered (label)", "insert into registered values (7)",
+         "insert into registered values (x'68')"),
+        ("lines.db", no_label, "create table registered (label text)", "insert into registered values ('haut' || char(10))"),
+        ("long.db", no_label, "create table registered (label text)", f"insert into registered values ('{'i' * 64}')"),
     ):
         with sqlite3.connect(os.path.join(kit.folder, name)) as database:
             for statement in statements:
                 database.execute(statement)
-        kit.expect_unknown(["collisions.py", GERMAN, name], b"the database is not in ", given=b"haus\n")
+        kit.expect_unknown(["collisions.py", GERMAN, name], message, given=b"haus\n")
     # An index in another order makes no difference, since the query names the one that it needs.
     with sqlite3.connect(os.path.join(kit.folder, "nocase.db")) as database:
         database.execute("create table registered (label text primary key collate nocase) without rowid")
