@@ -166,7 +166,8 @@ class Fuzz:
         letters = self.chance.choice(ALPHABETS)
         table, entries = self.table(letters)
         starts = [self.sequence(letters, 6) for _ in range(3)]
-        words = ["--variants", "table", *self.some_of({"--limit=": LIMITS, "--tries=": ("1", "2", "5", "40"), "--after=": starts})]
+        options = {"--limit=": LIMITS, "--tries=": ("1", "2", "5", "40"), "--after=": starts}
+        words = ["--variants", "table", *self.some_of(options)]
         longest = self.chance.choice((3, 5, 8, 8, 70))
         return self.compare(words, self.lines(lambda: "".join(self.sources(entries, longest))), table=table)
 
@@ -250,7 +251,8 @@ class Fuzz:
         return self.compare(["--check-table", "table"], b"", table=table)
 
     def words(self):
-        words = self.chance.choice(([], ["--variants", "table"])) + self.chance.choices(WORDS, k=self.chance.randint(0, 6))
+        words = self.chance.choice(([], ["--variants", "table"]))
+        words = words + self.chance.choices(WORDS, k=self.chance.randint(0, 6))
         table, _ = self.table("ab")
         registered = self.registered([self.sequence("ab") for _ in range(4)])
         given = self.lines(lambda: self.chance.choice(("ab", "ab\tb")))
