@@ -13,10 +13,13 @@ import re
 import resource
 import shutil
 import signal
+import sqlite3
 import subprocess
 import sys
 
-from program import LIMIT, PROGRAM, ROOT, TABLES, is_registrable, markdown_files, run_tests, spelled
+from postgresql import server
+from program import (LIMIT, PROGRAM, ROOT, TABLES, expect_session, is_registrable, markdown_blocks, markdown_files,
+                     run_tests, sessions_of, spelled)
 
 with open(os.path.join(ROOT, "docs", "GUIDE.md"), encoding="utf-8") as file:
     GUIDE = file.read()
@@ -28,11 +31,13 @@ GERMAN, HAN = "tables/german.txt", "tables/han.txt"
 # Of this label 131,072 variants are listed, and the scripts stop before that.
 LONG = "国" * 17
 CONTROL_CHARACTERS = [bytes([byte]) for byte in (*range(0x20), 0x7F)]
-INTERPRETERS = {"ask.sh": "bash", "ask.py": sys.executable, "combine.py": sys.executable}
+INTERPRETERS = {"ask.sh": "bash", **{name: sys.executable for name in SCRIPTS if name.endswith(".py")}}
 # A question for each script that asks the program of one label, or of some. 'mass' and '中國' are taken.
 QUESTIONS = (
     ["accept.sh", GERMAN, GERMAN, "registered.txt", "mass"],
     ["taken.sh", GERMAN, "registered.txt", "mass"],
+    ["registered.sh", "names.txt", "made.txt"],
+    ["register.sh", GERMAN, GERMAN, "names.txt", "laus"],
     ["list_all.sh", GERMAN, "mass"],
     ["keys.sh", HAN, "中國"],
     ["key_taken.sh", HAN, "keys.txt", "中國"],
@@ -60,6 +65,10 @@ class Kit:
     def write(self, name, text):
         with open(os.path.join(self.folder, name), "wb") as file:
             file.write(text if isinstance(text, bytes) else text.encode())
+
+    def read(self, name):
+        with open(os.path.join(self.folder, name), "rb") as file:
+            return file.read()
 
     def command(self, script, *words):
         return [INTERPRETERS.get(script, "sh"), script, *words]
@@ -116,13 +125,13 @@ def has_each_script_in_the_guide(folder):
     for name, text in SCRIPTS.items():
         called = re.findall(r"\$here/(\S+?)\"", text)
         assert set(called) <= SCRIPTS.keys(), (name, called)
-        lists = "--variants" in text and not re.search(r"--limit 1 --tries 1 ", text)
+        lists = "--variants" in text and not re.search(r"--limit 1 --tries 1 |--among |--jump", text)
         assert not lists or "--tries" in text, f"{name} lists without --tries"
 
 
 @in_each_setting
 def accepts_and_refuses_labels(kit):
-    kit.write("registered.txt", "strasse\nhaus\n")
+    kit.write("registered.txt", "haus\nstrasse\n")
     words = ["accept.sh", GERMAN, GERMAN, "registered.txt"]
     for label, output, status, message in (
         ("maß", b"xn--ma-hia\n", 0, b""),
@@ -151,12 +160,52 @@ def accepts_and_refuses_labels(kit):
 @in_each_setting
 def finds_registered_labels_in_either_form(kit):
     line = "straße\txn--strae-oqa\tallocatable\n".encode()
-    for text in ("straße", "xn--strae-oqa", "abc\nstraße\nxyz\n", "xn--strae-oqa\r\nabc\r\n",
-                 "straße\nxn--strae-oqa\n"):
-        kit.write("registered.txt", text)
+    for text in ("straße", "xn--strae-oqa", "xyz\nstraße\nabc\n", "xn--strae-oqa\r\nabc\r\n",
+                 "straße\nxn--strae-oqa\n", "XN--STRAE-OQA\nstraße"):
+        kit.write("names.txt", text)
+        kit.expect(["registered.sh", "names.txt", "registered.txt"], b"", 0)
         for label in ("strasse", "straße"):
-            kit.expect(["taken.sh", GERMAN, "registered.txt", label], line * text.count("stra"), 1)
+            kit.expect(["taken.sh", GERMAN, "registered.txt", label], line, 1)
         kit.expect(["accept.sh", GERMAN, GERMAN, "registered.txt", "xn--strae-oqa"], b"", 1, line)
+    assert sorted(name for name in os.listdir(kit.folder) if "registered.txt" in name) == ["registered.txt"]
+
+
+@in_each_setting
+def makes_the_file_whole_or_leaves_it(kit):
+    unread = b"not all of these can be read: "
+    kit.write("made.txt", "haus\n")
+    for text in (b"Haus\n", b"haus\n\nmaus\n", b"haus \n", b"ma\xff\n", b"xn--maus\n", b"#end\nmaus\n", b"a.b\n",
+                 b"-\n"):
+        kit.write("names.txt", text)
+        kit.expect_unknown(["registered.sh", "names.txt", "made.txt"], unread)
+        kit.expect_unknown(["register.sh", GERMAN, GERMAN, "names.txt", "maus"], unread)
+        assert kit.read("made.txt") == b"haus\n" and kit.read("names.txt") == text, text
+    kit.expect_unknown(["registered.sh", "absent", "made.txt"], unread)
+    kit.expect_unknown(["register.sh", GERMAN, GERMAN, "absent", "maus"], b"absent")
+    kit.write("names.txt", "maus\nhaus\nxn--fa-hia\n")
+    _, message, status = kit.run("registered.sh", "names.txt", "made.txt", preexec_fn=on_a_full_disk)
+    assert status == NOT_KNOWN and message and kit.read("made.txt") == b"haus\n", (message, status)
+    kit.expect(["registered.sh", "names.txt", "made.txt"], b"", 0)
+    assert kit.read("made.txt") == "faß\nhaus\nmaus\n".encode()
+
+
+@in_each_setting
+def registers_what_is_accepted(kit):
+    """One label after the other, and many at once, of which one of each two that collide is registered."""
+    kit.write("names.txt", "strasse")
+    words = ["register.sh", GERMAN, GERMAN, "names.txt"]
+    kit.expect([*words, "maß"], b"xn--ma-hia\n", 0)
+    kit.expect([*words, "mass"], b"", 1, "maß\txn--ma-hia\tallocatable\n".encode())
+    kit.expect([*words, "straße"], b"", 1, b"strasse\tstrasse\tallocatable\n")
+    kit.expect([*words, "Maus"], b"", 1, b"idn2: line 1: 10 disallowed code point\n")
+    assert kit.read("names.txt") == b"strasse\nxn--ma-hia\n"
+    kit.write("names.txt", "")
+    labels = [f"{label}{number}" for number in range(8) for label in ("strasse", "straße")]
+    with concurrent.futures.ThreadPoolExecutor(8) as pool:
+        found = list(pool.map(lambda label: kit.run(*words, label), labels))
+    assert sorted(status for _, _, status in found) == [0] * 8 + [1] * 8, found
+    answers = sorted(output for output, _, status in found if status == 0)
+    assert sorted(kit.read("names.txt").splitlines(keepends=True)) == answers, (answers, kit.read("names.txt"))
 
 
 @in_each_setting
@@ -173,7 +222,7 @@ def takes_a_label_for_no_option(kit):
 
 @in_each_setting
 def refuses_each_control_character(kit):
-    kit.write("registered.txt", "strasse\nhaus\n")
+    kit.write("registered.txt", "haus\nstrasse\n")
     message = b"control character\n"
     for character in CONTROL_CHARACTERS[1:]:
         for label in (b"ma\xc3\x9f" + character, character + b"ma\xc3\x9f", b"ma" + character + b"\xc3\x9f"):
@@ -192,7 +241,7 @@ def refuses_each_control_character(kit):
 @in_each_setting
 def keeps_runs_at_once_apart(kit):
     """Forty labels at once in one folder, each accepted or refused by itself."""
-    kit.write("registered.txt", "".join(f"strasse{number}\n" for number in range(0, 40, 2)))
+    kit.write("registered.txt", "".join(sorted(f"strasse{number}\n" for number in range(0, 40, 2))))
     ask = lambda number: kit.run("accept.sh", GERMAN, GERMAN, "registered.txt", f"straße{number}")
     with concurrent.futures.ThreadPoolExecutor(8) as pool:
         for number, found in enumerate(pool.map(ask, range(40))):
@@ -207,8 +256,6 @@ def takes_a_stop_for_unknown(kit):
     """Where a listing stops, where the least variant isn't found, and where one label of many is the long one."""
     kit.write("registered.txt", "haus\n")
     stopped = b"stopped: not all variants are listed\n"
-    kit.expect_unknown(["taken.sh", HAN, "registered.txt", LONG], stopped)
-    kit.expect_unknown(["accept.sh", HAN, HAN, "registered.txt", LONG], stopped)
     kit.expect_unknown(["list_all.sh", HAN], stopped, given=f"中国\n{LONG}\n中国\n".encode())
     kit.write("labels.txt", f"中国\n{LONG}\n")
     kit.expect_unknown(["change.sh", HAN, HAN, "labels.txt"], stopped)
@@ -217,9 +264,14 @@ def takes_a_stop_for_unknown(kit):
     late = "q\u0301" * 18
     kit.expect_unknown(["keys.sh", "marks.txt", late], b"no variant was found\n")
     kit.expect_unknown(["key_taken.sh", "marks.txt", "registered.txt", late], b"no variant was found\n")
-    kit.expect_unknown(["taken.sh", "marks.txt", "registered.txt", late], stopped)
-    # At the 100,000th tested label a listing stops, also if it is the last one; and with 65,536 it is whole.
-    kit.expect(["taken.sh", HAN, "registered.txt", "国" * 16], b"", 0)
+    kit.expect_unknown(["list_all.sh", "marks.txt", late], stopped)
+    # What is registered is found without a stop, however many variants there are.
+    kit.expect(["taken.sh", HAN, "registered.txt", LONG], b"", 0)
+    kit.expect(["taken.sh", "marks.txt", "registered.txt", late], b"", 0)
+    other = "國" * 17
+    kit.write("registered.txt", other)
+    line = other.encode() + b"\txn--" + other.encode("punycode") + b"\n"
+    kit.expect(["taken.sh", HAN, "registered.txt", LONG], line, 1)
 
 
 @in_each_setting
@@ -239,13 +291,24 @@ def takes_what_it_cannot_read_for_unknown(kit):
                           ["change.sh", bad, GERMAN, "registered.txt"], ["combine.py", GERMAN, bad]):
                 kit.expect_unknown(words, b"idn2: ")
     kit.expect_unknown(["keys.sh", GERMAN, "maus"], b"a sequence has several code points: tables/german.txt\n")
-    for text in (b"", b"Haus\n", b"haus\n\nmaus\n", b"haus \n", b"ma\xff\n", b"xn--Ma-hia\n", b"#end\nmaus\n"):
+    for text, message in (
+        (b"Haus\n", b"1: 10 disallowed code point\n"),
+        (b"haus\n\nmaus\n", b"2: 3 empty\n"),
+        (b"haus \n", b"1: 10 disallowed code point\n"),
+        (b"ma\xff\n", b"1: 1 not UTF-8\n"),
+        (b"xn--ma-hia\n", b"1: 13 hyphen out of place\n"),
+        (b"maus\nhaus\n", b"2: 4 out of order\n"),
+        (b"haus\nhaus\n", b"2: 4 out of order\n"),
+    ):
         kit.write("labels.txt", text)
-        words = ["taken.sh", GERMAN, "labels.txt", "maus"]
-        kit.expect(words, b"", 0) if text == b"" else kit.expect_unknown(words, b"not all of these can be read: ")
+        kit.expect_unknown(["taken.sh", GERMAN, "labels.txt", "maus"], b"idn2: registered line " + message)
+        kit.expect_unknown(["accept.sh", GERMAN, GERMAN, "labels.txt", "maus"], b"idn2: registered line " + message)
+    kit.write("labels.txt", "")
+    kit.expect(["taken.sh", GERMAN, "labels.txt", "maus"], b"", 0)
+    kit.expect_unknown(["taken.sh", GERMAN, GERMAN, "maus"], b"idn2: 50 usage\n")
     for bad in ("absent", "directory", ""):
-        kit.expect_unknown(["taken.sh", GERMAN, bad, "maus"], b"not all of these can be read: ")
-        kit.expect_unknown(["accept.sh", GERMAN, GERMAN, bad, "maus"], b"not all of these can be read: ")
+        kit.expect_unknown(["taken.sh", GERMAN, bad, "maus"], b"idn2: 60 read fault\n")
+        kit.expect_unknown(["accept.sh", GERMAN, GERMAN, bad, "maus"], b"idn2: 60 read fault\n")
         kit.expect_unknown(["key_taken.sh", HAN, bad, "中国"], b"not all of these can be read: ")
         kit.expect_unknown(["change.sh", GERMAN, GERMAN, bad], b"not all variants are known: ")
 
@@ -284,6 +347,7 @@ def takes_a_full_disk_for_unknown(kit):
 def takes_a_lost_program_for_unknown(kit):
     """The program is killed, or fails, behind the first bytes of its answer."""
     kit.write("registered.txt", "maß\n")
+    kit.write("names.txt", "maß\nabc\n")
     kit.write("keys.txt", "xn--fiqs8s\n")
     part = "#!/bin/sh\ncase $* in *--check-table*) exec {0} \"$@\" ;; esac\n{0} \"$@\" | head -c {1}\n{2}\n"
     for end in ("kill -9 $$", "exit 3", "exit 4"):
@@ -295,7 +359,8 @@ def takes_a_lost_program_for_unknown(kit):
     assert glob.glob(kit.folder + "/pages/[0-9]") == []
     # A listing without its trailer, though the status is 0.
     kit.instead_of("idn2", part.format(PROGRAM, 30, "exit 0"))
-    for words in (["list_all.sh", GERMAN, "strasse"], ["change.sh", GERMAN, GERMAN, "registered.txt"]):
+    for words in (["list_all.sh", GERMAN, "strasse"], ["change.sh", GERMAN, GERMAN, "registered.txt"],
+                  ["taken.sh", GERMAN, "registered.txt", "mass"]):
         assert kit.run(*words)[::2] == (b"", NOT_KNOWN), words
 
 
@@ -305,9 +370,8 @@ def takes_a_lost_end_of_the_lines_for_unknown(kit):
     kit.write("registered.txt", "haus\nmaß\nlaus\n")
     for count in range(5):
         kit.instead_of("awk", f"#!/bin/sh\nhead -n {count} | {shutil.which('awk')} \"$@\"\n")
-        for words in (["taken.sh", GERMAN, "registered.txt", "strasse"], ["keys.sh", HAN, "中國", "中国"]):
-            _, message, status = kit.run(*words)
-            assert status == NOT_KNOWN, (words, count, message, status)
+        _, message, status = kit.run("keys.sh", HAN, "中國", "中国")
+        assert status == NOT_KNOWN, (count, message, status)
 
 
 def random_table(chance, letters, longest):
@@ -337,6 +401,10 @@ def registrable_labels(chance, letters, longest, count):
     return sorted({label for label in labels if is_registrable(label)})
 
 
+def lines_of(labels):
+    return "".join(label + "\n" for label in labels)
+
+
 @in_each_setting
 def finds_the_collisions_that_sets_have(kit):
     """Beside whole sets of what labels spell, under random tables without gaps."""
@@ -347,11 +415,11 @@ def finds_the_collisions_that_sets_have(kit):
         kit.write("table.txt", written(table, chance))
         registered = registrable_labels(chance, "abc-", 4, 6)
         line_end = chance.choice(("\n", "\r\n"))
-        kit.write("registered.txt", line_end.join(chance.sample(registered, len(registered))))
+        kit.write("registered.txt", line_end.join(registered))
         for label in registrable_labels(chance, "abc-", 4, 4):
             collisions = sorted(set(registered) & spelled(table, label))
             output, message, status = kit.run("taken.sh", "table.txt", "registered.txt", label)
-            found = sorted(line.split("\t")[0] for line in output.decode().splitlines())
+            found = [line.split("\t")[0] for line in output.decode().splitlines()]
             wanted = collisions, 1 if collisions else 0
             assert (found, status) == wanted, (table, registered, label, output, message, status)
             if longest == 1:
@@ -360,6 +428,117 @@ def finds_the_collisions_that_sets_have(kit):
                 assert (status, keys.count(b"\n")) == (0, len(registered)), (table, registered)
                 found = kit.run("key_taken.sh", "table.txt", "keys.txt", label)[2]
                 assert found == (1 if collisions else 0), (table, registered, label, found)
+
+
+def collisions_told(table, registered, labels):
+    """What collisions.py prints, by whole sets of what labels spell."""
+    found = (sorted(set(registered) & spelled(table, label)) for label in labels)
+    return lines_of(" ".join(["taken:", *each]) if each else "free" for each in found).encode()
+
+
+@in_each_setting
+def finds_by_a_database_what_sets_have(kit):
+    """What is registered need not be registrable by the program."""
+    chance = random.Random(3492)
+    for round in range(6):
+        table = random_table(chance, "abß-", 2)
+        kit.write("table.txt", written(table, chance))
+        labels = registrable_labels(chance, "abß-", 4, 12)
+        registered = sorted({"".join(chance.choices("abß-", k=chance.randint(1, 4))) for _ in range(60)})
+        kit.expect(["fill.py", f"{round}.db"], b"", 0, given=lines_of(registered).encode())
+        wanted = collisions_told(table, registered, labels)
+        kit.expect(["collisions.py", "table.txt", f"{round}.db"], wanted, 0, given=lines_of(labels).encode())
+
+
+@in_each_setting
+def answers_of_a_database_no_more_than_is_known(kit):
+    ask = ["collisions.py", GERMAN, "registered.db"]
+    for bad in ("registered.db", "tables", "", "postgresql:///nowhere?host=/nowhere"):
+        output, message, status = kit.run(*ask[:2], bad, given=b"maus\n")
+        assert (output, status) == (b"", NOT_KNOWN) and message, (bad, output, message, status)
+    for given in (b"haus\nhaus\n", b"haus\nma\xff\n", b"haus\nxn--ma-hia\n"):
+        output, message, status = kit.run("fill.py", "registered.db", given=given)
+        assert (output, status) == (b"", NOT_KNOWN) and message, (given, output, message, status)
+        kit.expect_unknown(ask, b"no such table: registered\n", given=b"haus\n")
+    kit.expect(["fill.py", "registered.db"], b"", 0, given=b"haus\nmass\n")
+    output, message, status = kit.run("fill.py", "registered.db", given=b"maus\n")
+    assert (output, status) == (b"", NOT_KNOWN) and message, (output, message, status)
+    requests = "Maus\nmaus\n\nmaß\r\nmaß\tmaus\nстол\nmaß\n".encode() + b"ma\xff\nhaus"
+    answers = (b"refused: 10 disallowed code point\nfree\nrefused: 3 empty\nrefused: control character\n"
+               b"refused: control character\nrefused: 40 not made of table entries\ntaken: mass\nrefused: 1 not UTF-8\n"
+               b"taken: haus\n")
+    kit.expect(ask, answers, 0, given=requests)
+    kit.write("gap.txt", "0061|0062\n0062\n")
+    for bad in ("gap.txt", "absent", ""):
+        kit.expect_unknown(["collisions.py", bad, "registered.db"], b"no table, or one with gaps: ", given=b"a\n")
+    with open("/dev/full", "wb") as full:
+        _, message, status = kit.run(*ask, given=b"haus\n", stdout=full)
+        assert status == NOT_KNOWN and message, (message, status)
+    # Each label takes two jumps, and the program ends behind some.
+    part = "#!/bin/sh\ncase $* in *--jump*) sed -u {0}q | {1} \"$@\" ;; *) exec {1} \"$@\" ;; esac\n"
+    for count, answers in ((1, b""), (2, b"free\n"), (3, b"free\n")):
+        kit.instead_of("idn2", part.format(count, PROGRAM))
+        output, message, status = kit.run(*ask, given=b"laus\nlaus\n")
+        assert (output, status) == (answers, NOT_KNOWN) and message, (count, output, message, status)
+
+
+@in_each_setting
+def refuses_a_database_in_another_order(kit):
+    no_label = b"no label, but registered: "
+    for name, message, *statements in (
+        ("utf16.db", b"the database is not in UTF-8\n", "pragma encoding = 'UTF-16le'",
+         "create table registered (label text)", "insert into registered values ('haus')"),
+        ("blob.db", no_label, "create table registered (label blob)", "insert into registered values (x'68617573')"),
+        ("number.db", no_label, "create table registered (label)", "insert into registered values (7)",
+         "insert into registered values (x'68')"),
+        ("lines.db", no_label, "create table registered (label text)", "insert into registered values ('haut' || char(10))"),
+        ("long.db", no_label, "create table registered (label text)", f"insert into registered values ('{'i' * 64}')"),
+    ):
+        with sqlite3.connect(os.path.join(kit.folder, name)) as database:
+            for statement in statements:
+                database.execute(statement)
+        kit.expect_unknown(["collisions.py", GERMAN, name], message, given=b"haus\n")
+    # An index in another order makes no difference, since the query names the one that it needs.
+    with sqlite3.connect(os.path.join(kit.folder, "nocase.db")) as database:
+        database.execute("create table registered (label text primary key collate nocase) without rowid")
+        database.executemany("insert into registered values (?)", (("haus",), ("maß",), ("üb",), ("Z",)))
+    kit.expect(["collisions.py", GERMAN, "nocase.db"], "taken: haus\ntaken: maß\nfree\n".encode(), 0,
+               given="haus\nmass\nzz\n".encode())
+
+
+def finds_by_postgresql_what_sets_have(folder):
+    """The sessions of the guide, and random tables. The server's own order is not that of code points."""
+    with server() as (clients, python):
+        if not clients:
+            return
+        for locale, shell in SETTINGS:
+            inner = os.path.join(folder, locale)
+            os.mkdir(inner)
+            kit = Kit(inner, locale, shell)
+            kit.environment.update(clients)
+            os.symlink(python, os.path.join(kit.bin, "python3"))
+            query = lambda text: subprocess.run(["psql", "-q", "registry", "-c", text], env=kit.environment, check=True,
+                                                capture_output=True, timeout=LIMIT)
+            blocks = [sessions_of(block) for block in markdown_blocks(GUIDE)]
+            [block] = [block for block in blocks if any("psql " in command for command, _ in block)]
+            for command, lines in block:
+                expect_session(command, lines, kit.folder, kit.environment)
+            chance = random.Random(5890)
+            words = ["collisions.py", "table.txt", "postgresql:///registry"]
+            for round in range(6):
+                table = random_table(chance, "abß-", 2)
+                kit.write("table.txt", written(table, chance))
+                labels = registrable_labels(chance, "abß-", 4, 12)
+                registered = sorted({"".join(chance.choices("abß-", k=chance.randint(1, 4))) for _ in range(60)})
+                query("drop table registered")
+                query("create table registered (label text primary key)")
+                query("insert into registered values " + ", ".join(f"('{label}')" for label in registered))
+                found = subprocess.run([python, *words], input=lines_of(labels).encode(), cwd=kit.folder,
+                                       env=kit.environment, capture_output=True, timeout=LIMIT)
+                wanted = collisions_told(table, registered, labels)
+                case = (table, registered, labels, found)
+                assert (found.stdout, found.stderr, found.returncode) == (wanted, b"", 0), case
+            query("drop table registered")
 
 
 @in_each_setting
@@ -649,6 +828,8 @@ TESTS = [
     has_each_script_in_the_guide,
     accepts_and_refuses_labels,
     finds_registered_labels_in_either_form,
+    makes_the_file_whole_or_leaves_it,
+    registers_what_is_accepted,
     takes_a_label_for_no_option,
     refuses_each_control_character,
     keeps_runs_at_once_apart,
@@ -658,6 +839,10 @@ TESTS = [
     takes_a_lost_program_for_unknown,
     takes_a_lost_end_of_the_lines_for_unknown,
     finds_the_collisions_that_sets_have,
+    finds_by_a_database_what_sets_have,
+    answers_of_a_database_no_more_than_is_known,
+    refuses_a_database_in_another_order,
+    finds_by_postgresql_what_sets_have,
     joins_tables_so_that_nothing_is_missed,
     joins_ranges_and_the_tables_that_come_with_the_program,
     chooses_among_tables,

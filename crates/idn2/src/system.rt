@@ -11,8 +11,9 @@ use std::io::{self, BufWriter, ErrorKind, Read, Stdout};
 /// One byte more than a table's text may have: no later byte changes what is wrong with it.
 const TABLE_BYTES: u64 = 1_048_577;
 
-/// One byte more than the file of registered labels may have.
-const REGISTERED_BYTES: u64 = 4_294_967_296;
+/// As many bytes of the file of registered labels as can matter: 2^32, and behind these a line of 1,024 bytes with its line
+/// feed, so that the first line that ends too late is there as far as it is tested.
+const REGISTERED_BYTES: u64 = 4_294_968_321;
 
 /// How many bytes of the output are kept until they are written.
 const OUTPUT_BUFFER_LEN: usize = 65_536;
