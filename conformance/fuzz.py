@@ -44,6 +44,7 @@ WORDS = ["-l", "--lookup", "-r", "--register", "-d", "--decode", "-N", "--tr46nt
          "", "a", "aß", "1", "2", "1000000000", "1000000001", "--variants=table", "--check-table=table", "a\nb"]
 
 
+LIMITS = ("1", "2", "3", "7")
 # Where ranges begin: the three code points behind each are letters or digits, too.
 RANGES = (0x30, 0x61, 0x62, 0x6B, 0xDF, 0x0430, 0x05D0, 0x0627, 0x0660, 0x06F0, 0x4E2D, 0x56FD)
 VERSION_LINE = "%version 2"
@@ -164,14 +165,15 @@ class Fuzz:
     def variants(self):
         letters = self.chance.choice(ALPHABETS)
         table, entries = self.table(letters)
-        words = ["--variants", "table", *self.options_of_a_listing(letters, "--limit=", "--tries=", "--after=")]
+        starts = [self.sequence(letters, 6) for _ in range(3)]
+        options = {"--limit=": LIMITS, "--tries=": ("1", "2", "5", "40"), "--after=": starts}
+        words = ["--variants", "table", *self.some_of(options)]
         longest = self.chance.choice((3, 5, 8, 8, 70))
         return self.compare(words, self.lines(lambda: "".join(self.sources(entries, longest))), table=table)
 
-    def options_of_a_listing(self, letters, *names):
-        values = {"--limit=": ("1", "2", "3", "7"), "--tries=": ("1", "2", "5", "40"),
-                  "--after=": [self.sequence(letters, 6) for _ in range(3)]}
-        return [name + self.chance.choice(values[name]) for name in names if self.chance.random() < 0.4]
+    def some_of(self, values):
+        """Some of the options, each with one of its values."""
+        return [name + self.chance.choice(values[name]) for name in values if self.chance.random() < 0.4]
 
     def sources(self, entries, longest):
         """Some sources of a table, one behind the other: what a label is made of."""
@@ -198,10 +200,10 @@ class Fuzz:
         """Variants of labels, among registered labels: mostly such as these labels spell, and their neighbours."""
         letters = self.chance.choice(ALPHABETS)
         table, entries = self.table(letters)
-        words = ["--variants", "table", "--among", "registered"]
-        words += self.options_of_a_listing(letters, "--limit=", "--after=")
         labels = [self.requested(entries) for _ in range(self.chance.randint(1, 4))]
         near = [self.near(entries, letters, self.chance.choice(labels)) for _ in range(self.chance.randint(0, 20))]
+        starts = [self.sequence(letters, 6), *near, *(each + letters[0] * 64 for each in near)]
+        words = ["--variants", "table", "--among", "registered", *self.some_of({"--limit=": LIMITS, "--after=": starts})]
         given = self.lines(lambda: "".join(self.chance.choice(labels)))
         return self.compare(words, given, table=table, registered=self.registered(near))
 
@@ -249,7 +251,8 @@ class Fuzz:
         return self.compare(["--check-table", "table"], b"", table=table)
 
     def words(self):
-        words = self.chance.choice(([], ["--variants", "table"])) + self.chance.choices(WORDS, k=self.chance.randint(0, 6))
+        words = self.chance.choice(([], ["--variants", "table"]))
+        words = words + self.chance.choices(WORDS, k=self.chance.randint(0, 6))
         table, _ = self.table("ab")
         registered = self.registered([self.sequence("ab") for _ in range(4)])
         given = self.lines(lambda: self.chance.choice(("ab", "ab\tb")))

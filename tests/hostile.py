@@ -453,8 +453,8 @@ def tells_of_memory_within_any_address_space(folder):
     registered = table_file(folder, block_of_labels(3), "registered.txt")
     requests = ("\u4e10" * 9 + "\t" + "\u4e11" * 8 + "\n").encode() * 3
     for words, given in ((["-l"], lines), (["-r"], lines), (["-d"], lines), (["--check-table", table], b""),
-                         (listing(table), labels), (listing(blocking), labels),
-                         (["--variants", blocking, "--among", registered], labels), (["--variants", table, "--jump"], requests)):
+                         (listing(table), labels), (listing(blocking), labels), (["--variants", table, "--jump"], requests),
+                         (["--variants", blocking, "--among", registered], labels)):
         whole, refused = run(words, given), 0
         assert whole.returncode in (0, 1), whole
         for space in range(2 << 20, 14 << 20, 128 << 10):
