@@ -276,6 +276,21 @@ def states_the_bounds_that_are_proved(folder):
         assert statement in folded(text_of(document)) and clause in text_of(file), (document, statement, file, clause)
 
 
+def number_in(file, name):
+    """The number that a constant of the code has."""
+    [written] = re.findall(rf"\bconst {name}: \w+ = (0x[0-9A-F_]+|[0-9_]+);", text_of(file))
+    return int(written, 0)
+
+
+def reads_as_much_of_a_file_as_can_matter(folder):
+    """Of a file of registered labels that is too long, a whole line behind the last byte that it may have. Else it could be
+    cut where a line ends, and be taken for a shorter one. A file of that size is tried by hand."""
+    most = number_in("crates/registered_labels/src/labels.rt", "MAX_TEXT_LEN")
+    line = number_in("crates/idn_text/src/body.rt", "MAX_LINE_LEN")
+    # Two line feeds: that behind the last byte, and that of the line behind it.
+    assert number_in("crates/idn2/src/system.rt", "REGISTERED_BYTES") == most + 1 + line + 1
+
+
 def names_only_paths_that_are_there(folder):
     """Each document of the repository; what is built is left out."""
     documents = [*glob.glob(os.path.join(ROOT, "*.md")), *glob.glob(os.path.join(ROOT, "docs", "*"))]
@@ -318,6 +333,7 @@ TESTS = [
     installs_under_no_name_of_a_path,
     packs_each_path_that_its_documents_name,
     states_the_bounds_that_are_proved,
+    reads_as_much_of_a_file_as_can_matter,
     names_only_paths_that_are_there,
     ends_as_the_readme_shows,
     needs_no_newer_python_than_is_said,
