@@ -173,7 +173,7 @@ def shows_help_in_80_columns(folder):
 
 
 def has_the_options_of_the_help_in_each_page(folder):
-    """The manual page under OPTIONS, with its forms and values; there in the synopsis, and in the README, with its forms."""
+    """The manual page under OPTIONS, with forms and values; its synopsis, and the README, with the forms."""
     helped = options_of_the_help()
     page = text_of("docs", "idn2.1").replace("\\-", "-").replace("\\~", " ")
     synopsis, options = (re.search(rf"^\.SH {name}\n(.*?)^\.SH ", page, re.MULTILINE | re.DOTALL).group(1)
@@ -283,8 +283,8 @@ def number_in(file, name):
 
 
 def reads_as_much_of_a_file_as_can_matter(folder):
-    """Of a file of registered labels that is too long, a whole line behind the last byte that it may have. Else it could be
-    cut where a line ends, and be taken for a shorter one. A file of that size is tried by hand."""
+    """Of a file of registered labels that is too long, a whole line behind the last byte that it may have. Else it
+    could be cut where a line ends, and be taken for a shorter one. A file of that size is tried by hand."""
     most = number_in("crates/registered_labels/src/labels.rt", "MAX_TEXT_LEN")
     line = number_in("crates/idn_text/src/body.rt", "MAX_LINE_LEN")
     # Two line feeds: that behind the last byte, and that of the line behind it.
