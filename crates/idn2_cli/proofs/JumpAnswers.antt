@@ -1,11 +1,10 @@
 -- The answer to a request is the least label from its text on.
-use Rattle.std.proofs.Common.{◌≡◌, ◌==◌, ◌⊎◌, inl, inr, ℕ, List, [], ◌∷◌, Bool, true, Option, Some, None, Ok, Err, length, refl, sym, ap, subst, ◌∙◌, if◌then◌else◌}
+use Rattle.std.proofs.Common.{◌≡◌, ◌⊎◌, inl, inr, ℕ, List, [], ◌∷◌, Bool, true, Option, Some, Err, refl, sym, ap, subst}
 use Rattle.std.specs.Prelude.{slice_get, codes}
 use Rattle.std.specs.Bool.{OnTrue}
 use Rattle.std.proofs.lemmas.Bool.{OnTrue_at}
 use Rattle.idn_text.specs.Points.{utf8_of}
 use Rattle.idn_text.specs.declared.refusal.Refusal.{Refusal}
-use Rattle.idn_text.specs.declared.refusal.Refusal.TheVariants.{NotInTable}
 use Rattle.idn_label.specs.Answers.{unless_fault}
 use Rattle.idn_label.specs.FirstFault.{first_fault, IsRegistrable}
 use Rattle.variant_table.specs.Entries.{TableValue}
@@ -17,7 +16,7 @@ use Rattle.variant_list.specs.Jumps.{IsFrom, IsLeastFrom, HasNoneFrom, IsCandida
 use Rattle.variant_list.proofs.FromLemmas.{candidates_from-IsListOf}
 use Rattle.variant_list.proofs.ListMembers.{Contains-head, Contains-none, Contains-cases}
 use Rattle.variant_list.proofs.ListedLemmas.{above_first}
-use Rattle.idn2_cli.specs.Answers.{IsJump, IsJumpAnswer, LineAnswer, built, jump_answer, jump_line, least_answer, requested_label, requested_text}
+use Rattle.idn2_cli.specs.Answers.{IsJump, IsJumpAnswer, built, jump_answer, jump_line, least_answer, requested_label, requested_text}
 use Rattle.idn2_cli.proofs.SegmentedLabels.{segmented_answer, unsegmented_answer, segmented_or_not}
 
 -- the first of the candidates from a text on is the least

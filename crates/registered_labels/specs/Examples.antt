@@ -1,9 +1,8 @@
 -- Worked examples of the definitions, by computation.
-use Rattle.std.specs.Prelude.{◌≡◌, ℕ, List, [], ◌∷◌, ◌++◌, Some, None, false, true, codes}
+use Rattle.std.specs.Prelude.{◌≡◌, ℕ, List, [], ◌∷◌, ◌++◌, Some, None, true, codes}
 use Rattle.idn_text.specs.declared.refusal.Refusal.TheVariants.{Empty, LineTooLong, NotUtf8}
-use Rattle.variant_table.specs.Entries.{Variant, Entry}
+use Rattle.variant_table.specs.Entries.{Entry}
 use Rattle.variant_list.specs.Examples.{allocatable}
-use Rattle.variant_list.specs.Positions.{Built}
 use Rattle.registered_labels.specs.Collisions.{collisions}
 use Rattle.registered_labels.specs.Texts.{line_refusal}
 

@@ -1,6 +1,6 @@
 -- The candidates from a text on that compute, and the first of them.
-use Rattle.std.proofs.Common.{◌≡◌, ◌⊎◌, inl, inr, ◌↔◌, ℕ, List, Bool, true, false, not, ◌&&◌, Ordering, Option, refl, sym, ap, ◌∙◌}
-use Rattle.std.specs.Prelude.{IsTrue, slice_get, Some, None, filter}
+use Rattle.std.proofs.Common.{◌≡◌, inl, inr, ℕ, List, Bool, not, ◌&&◌, Ordering, refl, sym, ap}
+use Rattle.std.specs.Prelude.{IsTrue, slice_get, Some, None}
 use Rattle.std.specs.declared.cmp.Ordering.TheVariants.{Less, Equal, Greater}
 use Rattle.std.specs.Ordering.{is_lt, MatchOrdering}
 use Rattle.std.proofs.lemmas.Bool.{false≢true}
@@ -10,7 +10,7 @@ use Rattle.variant_list.specs.Positions.{Built}
 use Rattle.variant_list.specs.Spelled.{spelled}
 use Rattle.variant_list.specs.Variants.{fits_label, in_order}
 use Rattle.variant_list.specs.Jumps.{IsFrom, IsLeastFrom, HasNoneFrom, IsCandidate, candidates_from}
-use Rattle.variant_list.proofs.OrderLemmas.{Less_from_below, below_both, ranked_labels}
+use Rattle.variant_list.proofs.OrderLemmas.{below_both, ranked_labels}
 use Rattle.variant_list.proofs.RisingLists.{IsRising-filter, Contains-filter}
 use Rattle.variant_list.proofs.VariantLists.{IsRising-in_order, Contains-in_order, both, joined}
 use Rattle.variant_list.proofs.RecursionLemmas.{spelled-Spells}

@@ -1,5 +1,5 @@
 -- The least label that is no less than a text, of a net and of a cursor.
-use Rattle.std.proofs.Common.{◌≡◌, ◌⊎◌, inl, inr, ◌↔◌, ℕ, zero, suc, ◌+◌, ◌-◌, ◌*◌, ◌<◌, ◌≤◌, Bool, true, false, List, [], ◌∷◌, ◌++◌, length, take, min, refl, sym, ap, subst, ◌∙◌, arith, length-take}
+use Rattle.std.proofs.Common.{◌≡◌, inl, inr, ◌↔◌, ℕ, zero, suc, ◌*◌, ◌<◌, ◌≤◌, Bool, true, false, List, [], ◌∷◌, length, take, min, refl, sym, ap, subst, ◌∙◌, arith, length-take}
 use Rattle.std.specs.Bool.{OnTrue, OnFalse}
 use Rattle.std.proofs.lemmas.Bool.{false_from_ne_true}
 use Rattle.std.proofs.lemmas.List.{take_all, take_min}
@@ -9,10 +9,10 @@ use Rattle.variant_list.specs.Positions.{Position}
 use Rattle.variant_list.specs.Jumps.{IsFrom, IsLeastFrom, HasNoneFrom, IsCandidate, Jumps}
 use Rattle.variant_list.specs.inner.Least.{IsNext, HasNoNext}
 use Rattle.variant_list.specs.inner.NetPlans.{IsOf}
-use Rattle.variant_list.specs.inner.Plans.{Plan, first_place}
+use Rattle.variant_list.specs.inner.Plans.{Plan}
 use Rattle.variant_list.specs.inner.Holding.{BitRows, Holds}
 use Rattle.variant_list.specs.inner.Scans.{Reached, IsRead, IsReadApart}
-use Rattle.variant_list.specs.inner.Searches.{Standing, IsPlaced}
+use Rattle.variant_list.specs.inner.Searches.{IsPlaced}
 use Rattle.variant_list.proofs.BeginningLemmas.{shares-within}
 use Rattle.variant_list.proofs.ListingLemmas.{cut-IsBelow}
 

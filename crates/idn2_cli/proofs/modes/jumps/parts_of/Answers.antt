@@ -1,6 +1,5 @@
-use Rattle.std.proofs.Common.{◌≡◌, ◌+◌, ◌-◌, ◌≤◌, ℕ, List, length, take, drop, ap, ◌∙◌, arith, length-drop}
+use Rattle.std.proofs.Common.{◌+◌, ◌-◌, ℕ, List, length, take, drop, ap, ◌∙◌, arith, length-drop}
 use Rattle.std.proofs.lemmas.List.{drop_min, take_all}
-use Rattle.idn2_cli.specs.Answers.{requested_label, requested_text}
 use Rattle.idn2_cli.proofs.modes.jumps.parts_of.Goals as goal
 
 pub returns-clause-label : goal.returns-clause-label

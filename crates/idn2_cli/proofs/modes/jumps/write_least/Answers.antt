@@ -1,18 +1,17 @@
-use Rattle.std.proofs.Common.{[], ◌∷◌, ◌++◌, ◌≡◌, ◌∙◌, ℕ, List, Option, Some, None, ap, subst, sym, arith, length}
-use Rattle.std.specs.Prelude.{slice_get}
+use Rattle.std.proofs.Common.{[], ◌∷◌, ◌++◌, ◌≡◌, ◌∙◌, ℕ, List, Option, ap, subst, arith, length}
 use Rattle.std.proofs.lemmas.Bool.{OnFalse_at}
 use Rattle.std.proofs.lemmas.Result.{err_from_is_err_and}
 use Rattle.idn_text.specs.Points.{utf8_of}
 use Rattle.idn_text.proofs.Utf8Lemmas.{length-utf8_of-le}
 use Rattle.variant_list.specs.Positions.{Built, Position}
-use Rattle.variant_list.specs.Jumps.{HasNoneFrom, IsCandidate, IsLeastFrom, candidates_from}
+use Rattle.variant_list.specs.Jumps.{HasNoneFrom, IsCandidate, IsLeastFrom}
 use Rattle.variant_list.proofs.FromLemmas.{candidates_from-first, candidates_from-none}
 use Rattle.idn2_cli.specs.Answers.{jump_line}
 use Rattle.idn2_cli.specs.Transcript.{Output}
 use Rattle.idn2_cli.specs.inner.Emitting.{Emits}
 use Rattle.idn2_cli.proofs.WrittenPieces.{stops_first, emits_as}
 use Rattle.idn2_cli.proofs.JumpAnswers.{jumped_to}
-use Rattle.idn2_cli.proofs.ListingLemmas.{IsWritable, candidate-writable}
+use Rattle.idn2_cli.proofs.ListingLemmas.{candidate-writable}
 use Rattle.idn2_cli.proofs.modes.jumps.write_least.Goals as goal
 
 pub returns-in_err-cursor : goal.returns-in_err-cursor

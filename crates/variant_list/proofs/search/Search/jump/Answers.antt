@@ -1,10 +1,10 @@
-use Rattle.std.proofs.Common.{rules, ◌≡◌, ◌∙◌, ◌+◌, ◌*◌, ◌<◌, ◌≤◌, true, false, List, ℕ, length, take, min, sym, ap, subst, arith, length-take}
+use Rattle.std.proofs.Common.{rules, ◌≡◌, ◌∙◌, ◌+◌, ◌<◌, ◌≤◌, true, false, List, ℕ, length, take, sym, ap, subst, arith, length-take}
 use Rattle.std.proofs.Math.Nat.{mul-le-mul_right}
 use Rattle.std.proofs.lemmas.List.{take_all}
 use Rattle.variant_list.specs.Jumps.{IsLeastFrom}
 use Rattle.variant_list.specs.inner.Plans.{Plan}
 use Rattle.variant_list.specs.inner.Scans.{IsRead}
-use Rattle.variant_list.proofs.JumpLemmas.{IsRead-reached, IsLeastFrom-itself, OnTrue-least, OnFalse-none, take-cut, unread-short, unread-long}
+use Rattle.variant_list.proofs.JumpLemmas.{IsRead-reached, IsLeastFrom-itself, OnTrue-least, OnFalse-none, take-cut, unread-short}
 use Rattle.variant_list.proofs.search.Search.jump.Goals as goal
 use Rattle.variant_list.proofs.search.Search.jump.Goals.{else-text-le-MAX_LABEL_LEN-via-then-text-le-MAX_LABEL_LEN+else-is_complete, else-text-le-MAX_LABEL_LEN-via-else-text-le-MAX_LABEL_LEN}
 
