@@ -2,8 +2,9 @@
 """Counts the figures of docs/PROFILE.md: python3 conformance/profile_figures.py
 
 It prints each statement there that has a figure, a code point or a script, as it must stand. Unicode's properties are
-those of the kit's tables (kit_data.py), the profile is read from its definitions in crates/idn_class/specs. A test
-compares the document with what is printed. After a change of either, edit the document by it.
+those of the kit's tables (kit_data.py). The profile is read from its definitions in crates/idn_class/specs, the blocks of
+the Bidi classes from the laws that are proved of them (Profile.antt). A test compares the document with what is printed.
+After a change of either, edit the document by it.
 """
 
 import collections
@@ -33,10 +34,10 @@ class Profile:
         marks = {name: [(point, point) for point, category in classes.category.items() if category == name]
                  for name in ("Mn", "Me")}
         self.left_out = profile_ranges("Class", "is_outside_profile")
-        self.right_to_left = profile_ranges("BidiClass", "is_right_to_left")
-        self.arabic_letters = profile_ranges("BidiClass", "is_arabic_letter")
-        self.arabic_numbers = profile_ranges("BidiClass", "is_arabic_number")
-        self.european_numbers = profile_ranges("BidiClass", "is_european_number")
+        self.right_to_left = profile_ranges("Profile", "right_to_left_blocks")
+        self.arabic_letters = profile_ranges("Profile", "arabic_blocks")
+        self.arabic_numbers = profile_ranges("Profile", "arabic_digits")
+        self.european_numbers = profile_ranges("Profile", "european_digits")
         self.bidi_classes = by_the_first({
             "BN": profile_ranges("BidiClass", "is_boundary_neutral"),
             "ES": profile_ranges("BidiClass", "is_european_separator"),
@@ -44,7 +45,7 @@ class Profile:
             "R": self.right_to_left, "AL": self.arabic_letters,
         })
         self.joining_types = by_the_first({
-            "R": profile_ranges("JoiningType", "is_right_joining"), "D": profile_ranges("JoiningType", "is_dual_joining"),
+            "R": profile_ranges("JoiningType", "right_joining"), "D": profile_ranges("JoiningType", "dual_joining"),
             "T": marks["Mn"],
         })
         self.viramas = [first for first, _ in profile_ranges("JoiningType", "is_virama")]

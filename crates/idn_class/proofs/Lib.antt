@@ -36,3 +36,5 @@ pub mod HopelessShortest
 pub mod ComputedLabels
 -- What is known of a beginning, and of one that is longer by a code point.
 pub mod KnownLemmas
+-- The lists of the profile: which code points have each class and type.
+pub mod ProfileLemmas

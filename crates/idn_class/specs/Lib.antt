@@ -8,6 +8,7 @@ pub mod JoiningType
 pub mod LeadingMark
 pub mod Neighbors
 pub mod Rows
+pub mod Profile
 pub mod Tests
 pub mod Hopeless
 pub mod Shared

@@ -35,8 +35,8 @@ pub use joining_type::JoiningType;
 pub use kept_beginnings::KeptBeginnings;
 pub use kept_label::KeptLabel;
 pub use laws::{
-    bidi_rows, class_rows, hopeless_for_good, hopeless_rows, joiner_rows, mark_rows,
-    only_rtl_labels_pass, other_rows, tests_are_rules,
+    bidi_rows, class_rows, hopeless_for_good, hopeless_rows, joiner_rows, lists_of_the_profile,
+    mark_rows, only_rtl_labels_pass, other_rows, tests_are_rules,
 };
 pub use mark::leading_mark;
 pub use shared::shared_len;
