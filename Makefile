@@ -14,9 +14,9 @@ LANES ?= $(shell awk -v processors="$$(nproc)" '/MemAvailable/ { lanes = int($$2
 
 .PHONY: all try run test wrong-bodies install program-name dist check-tables bench conformance fuzz clean
 
-# Proves every function that the program uses, the first time with several crates at once, and builds the program.
+# Proves every function that the program uses, the first time with several crates at once, and builds and tries the program.
 all:
-	test -x $(PROGRAM) || (cd crates/idn2 && $(RT) all check --jobs $(LANES))
+	test -x $(PROGRAM) || (cd crates/idn2 && $(RT) all test --jobs $(LANES))
 	cd crates/idn2 && $(RT) run < stdin > /dev/null
 
 # The main job: the variants of a label under a table.
@@ -34,7 +34,7 @@ test:
 
 # The wrong bodies that the gate leaves out, of all crates or of those that CRATES names.
 wrong-bodies:
-	RT=$(RT) LANES=$(LANES) tests/wrong-bodies $(CRATES)
+	RT=$(RT) LANES=$(LANES) python3 tests/planted.py wrong-bodies $(CRATES)
 
 # The program, its manual page and its completions for bash, below $(DESTDIR)$(PREFIX), each under PROGRAM_NAME.
 BIN = $(DESTDIR)$(PREFIX)/bin/$(PROGRAM_NAME)

@@ -1,0 +1,204 @@
+#!/usr/bin/env python3
+"""Tries wrong bodies, many in one check: python3 tests/planted.py FOLDER [CRATE..], with FOLDER must-fail or wrong-bodies.
+
+Each edit below crates/*/FOLDER must be refused at a goal of a function that it edits. To read a crate costs more than to
+prove a function anew, so edits of different functions are planted in one copy of the crate and checked at once. All that
+one function knows of another is its contract, so no body is refused for what is planted in another one. An edit that has no
+refusal of its own there is tried again by itself. So is one that edits anything but bodies, as a constant.
+
+What refuses an edit is told behind it: a goal in the code; or a proof that was written for the right code and no longer
+serves, which says less of the contract. An edit that is refused only since a proof names what it takes away says nothing:
+it counts as a failure, as do one that is proved and one that doesn't compile. The copies begin with what earlier checks
+kept; LANES is how many crates are tried side by side. The last line is 'N passed, M failed', and the exit status is 0 where
+nothing failed."""
+
+import collections
+import concurrent.futures
+import glob
+import os
+import re
+import shutil
+import subprocess
+import sys
+import tempfile
+
+from edits import replacements, text_of
+from program import ROOT
+
+CRATES = os.path.join(ROOT, "crates")
+# How many edits are planted at once, at most: where one of them doesn't compile, all are tried again one by one.
+MOST = 16
+
+HEAD = re.compile(r"^( *)(?:pub(?:\(\w+\))? )?(?:final )?(?:const )?(?:unsafe )?fn (\w+)")
+GOAL = re.compile(r"^(?:note: )?(?:\./)?(src/\S+?):(\d+):\d+: (?:error: )?(.*)")
+PROOF = re.compile(r"^(?:\./)?(proofs/\S+?)/\w+\.antt:\d+:\d+: error: (.*)")
+NAMED = re.compile(r"has no field|is not in scope|has no `|was not admitted|were not checked")
+UNREADABLE = re.compile(r"\berror\[[\w-]+\]")
+
+# Its replacements, and the bodies that it edits; none where it edits anything else.
+Edit = collections.namedtuple("Edit", "name pairs bodies")
+Body = collections.namedtuple("Body", "file function first last")
+
+
+def bodies_of(file, text):
+    """Each function of a file that has a body, by the layout that rt fmt makes."""
+    lines = text.split("\n")
+    for first, line in enumerate(lines):
+        head = HEAD.match(line)
+        if not head:
+            continue
+        end = head[1] + "}"
+        # a goal may be told at an attribute
+        top = next(row for row in range(first, -1, -1) if row == 0 or not lines[row - 1].strip())
+        for last in range(first, len(lines)):
+            if lines[last] == end:
+                yield Body(file, head[2], top + 1, last + 1)
+                break
+            if lines[last].endswith(";") and not any(row.endswith("{") for row in lines[first:last + 1]):
+                break  # a declaration
+
+
+def read_edit(crate, path):
+    texts, bodies = {}, set()
+    pairs = list(replacements(path))
+    for file, old, new in pairs:
+        text = texts.get(file) or text_of(os.path.join(CRATES, crate, file))
+        line = text[:text.index(old)].count("\n") + 1
+        around = [body for body in bodies_of(file, text) if body.first < line < body.last]
+        bodies.add(around[-1] if around else None)
+        texts[file] = text.replace(old, new)
+    return Edit(os.path.basename(path), pairs, frozenset() if None in bodies else frozenset(bodies))
+
+
+def batches_of(edits):
+    """Edits of different bodies, up to so many at once; what edits anything else stands alone."""
+    batches = []
+    for edit in edits:
+        room = next((batch for batch in batches if edit.bodies and len(batch) < MOST and batch[0].bodies
+                     and not any(edit.bodies & other.bodies for other in batch)), None)
+        if room is None:
+            batches.append([edit])
+        else:
+            room.append(edit)
+    return batches
+
+
+def needed_by(crate):
+    """The lines of crates.txt of the crate and of those that it stands on, by their names."""
+    lines = [line for line in text_of(os.path.join(ROOT, "crates.txt")).splitlines() if line[:1] not in ("", "#")]
+    needs = {line.split(":")[0]: line for line in lines}
+    found, left = {}, [crate]
+    while left:
+        name = left.pop()
+        if name in needs and name not in found:
+            found[name] = needs[name]
+            left += needs[name].split(":")[1].split()
+    return found
+
+
+class Copy:
+    """A copy of a crate, with what it stands on, in which edits are planted."""
+
+    def __init__(self, crate):
+        self.crate = crate
+        self.folder = tempfile.mkdtemp(prefix="planted-")
+        needed = needed_by(crate)
+        with open(os.path.join(self.folder, "crates.txt"), "w", encoding="utf-8") as file:
+            file.writelines(line + "\n" for line in needed.values())
+        for name in needed:
+            shutil.copytree(os.path.join(CRATES, name), os.path.join(self.folder, "crates", name))
+        self.home = os.path.join(self.folder, "crates", crate)
+        shutil.rmtree(os.path.join(self.home, "must-fail"), ignore_errors=True)
+
+    def __enter__(self):
+        return self
+
+    def __exit__(self, *_):
+        shutil.rmtree(self.folder, ignore_errors=True)
+
+    def check(self, edits=()):
+        """What the check of the crate with these edits says: its status and its lines."""
+        texts = {}
+        for edit in edits:
+            for file, old, new in edit.pairs:
+                texts[file] = (texts.get(file) or text_of(os.path.join(CRATES, self.crate, file))).replace(old, new)
+        for file, text in texts.items():
+            self.write(file, text)
+        ran = subprocess.run([os.environ.get("RT", "rt"), "check"], cwd=self.home, stdin=subprocess.DEVNULL,
+                             stdout=subprocess.PIPE, stderr=subprocess.STDOUT, encoding="utf-8", errors="replace")
+        for file in texts:
+            self.write(file, text_of(os.path.join(CRATES, self.crate, file)))
+        return ran.returncode, ran.stdout.splitlines()
+
+    def write(self, file, text):
+        with open(os.path.join(self.home, file), "w", encoding="utf-8") as it:
+            it.write(text)
+
+
+def is_of(body, folder):
+    """Whether the proof of a body stands in this folder: its module, its type if it is a method, and its own name."""
+    module = body.file.removeprefix("src/").removesuffix(".rt")
+    return folder.startswith(f"proofs/{module}/") and folder.endswith(f"/{body.function}")
+
+
+def refusal_of(edit, lines):
+    """What refuses an edit: a goal of a body that it changes, or a proof of one. None if there is neither."""
+    for line in lines:
+        goal = GOAL.match(line)
+        if goal and (not edit.bodies or any(goal[1] == body.file and body.first <= int(goal[2]) <= body.last for body in edit.bodies)):
+            return f"{goal[1]}:{goal[2]}: {goal[3][:120]}"
+    for line in lines:
+        proof = PROOF.match(line)
+        if proof and not NAMED.search(proof[2]) and (not edit.bodies or any(is_of(body, proof[1]) for body in edit.bodies)):
+            return f"by the shape of a proof: {proof[1]}: {proof[2][:120]}"
+    return None
+
+
+def verdicts(copy, batch):
+    """(edit, whether it is refused, what is said of it) for each edit of a batch."""
+    status, lines = copy.check(batch)
+    unread = next((line for line in lines if UNREADABLE.search(line)), None)
+    for edit in batch:
+        refusal = None if status == 0 or unread else refusal_of(edit, lines)
+        if refusal:
+            yield edit, True, refusal
+        elif len(batch) > 1:
+            yield from verdicts(copy, [edit])
+        elif status == 0:
+            yield edit, False, "NOT REFUSED: the crate is still proved"
+        elif unread:
+            yield edit, False, f"it doesn't compile: {unread[:160]}"
+        else:
+            named = next((line for line in lines if PROOF.match(line)), None)
+            yield edit, False, f"refused by a name alone: {named[:160]}" if named else f"no verdict: {lines[-1:]}"
+
+
+def try_crate(crate, folder):
+    """How many edits of a crate are refused, and how many are not."""
+    edits = [read_edit(crate, path) for path in sorted(glob.glob(os.path.join(CRATES, crate, folder, "*.edit")))]
+    passed = failed = 0
+    with Copy(crate) as copy:
+        if copy.check()[0] != 0:
+            print(f"planted {crate}: it isn't proved as it stands", flush=True)
+            return 0, len(edits)
+        for batch in batches_of(edits):
+            for edit, is_refused, said in verdicts(copy, batch):
+                passed, failed = passed + is_refused, failed + (not is_refused)
+                print(f"planted {crate}/{edit.name} ... {'ok' if is_refused else 'FAILED'}: {said}", flush=True)
+    return passed, failed
+
+
+def main():
+    folder, names = sys.argv[1], sys.argv[2:]
+    crates = [name for name in os.listdir(CRATES) if not names or name in names]
+    counts = {crate: len(glob.glob(os.path.join(CRATES, crate, folder, "*.edit"))) for crate in crates}
+    crates = sorted((crate for crate in crates if counts[crate]), key=lambda crate: -counts[crate])
+    with concurrent.futures.ThreadPoolExecutor(int(os.environ.get("LANES", "1"))) as lanes:
+        results = list(lanes.map(lambda crate: try_crate(crate, folder), crates))
+    passed, failed = (sum(column) for column in zip(*results)) if results else (0, 0)
+    print(f"{passed} passed, {failed} failed")
+    return 0 if passed and not failed else 1
+
+
+if __name__ == "__main__":
+    sys.exit(main())
