@@ -25,7 +25,7 @@ use Rattle.variant_list.proofs.RisingLists.{IsRising-filter, Contains-filter}
 use Rattle.variant_list.proofs.ListedLemmas.{IsListOf-same}
 use Rattle.variant_list.proofs.TestedLaws.{tested_are_listed}
 use Rattle.variant_list.proofs.VariantLists.{variants-AreVariants}
-use Rattle.idn2_cli.specs.Settings.{Settings}
+use Rattle.idn2_options.specs.Settings.{Settings}
 use Rattle.idn_label.specs.Answers.{unless_fault}
 use Rattle.idn2_cli.specs.Answers.{is_among, is_registrable, kept_to, tested_unless_kept, variants_after, tested_after, stop_of, disposition, block, listing_answer, variants_answer}
 use Rattle.idn2_cli.specs.Answers.{IsKept, IsListed, IsTried, IsBlock, IsListing}

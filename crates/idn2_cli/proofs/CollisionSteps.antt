@@ -13,7 +13,7 @@ use Rattle.variant_list.proofs.VariantLists.{variants-AreVariants}
 use Rattle.registered_labels.specs.Registered.{AreRegistered}
 use Rattle.registered_labels.specs.Collisions.{Matching, IsBegun, collisions, collisions_ahead}
 use Rattle.registered_labels.proofs.ListedCollisions.{collisions-exactly, collisions-variants}
-use Rattle.idn2_cli.specs.Settings.{Settings, IsCount, IsWithinLimits, keeping}
+use Rattle.idn2_options.specs.Settings.{Settings, IsCount, IsWithinLimits, keeping}
 use Rattle.idn2_cli.specs.Transcript.{Piece, Output, output_lines}
 use Rattle.idn2_cli.specs.Answers.{is_among, is_registrable, lesser_label, nth, nth_if_given, trailer, variant_line, variants_after, block_to}
 use Rattle.idn2_cli.specs.inner.Dispositions.{block_by}

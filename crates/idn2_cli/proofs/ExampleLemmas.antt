@@ -21,7 +21,7 @@ use Rattle.variant_list.specs.Labels.{label_cmp}
 use Rattle.variant_list.specs.Spelled.{spelled}
 use Rattle.variant_list.specs.Variants.{variants, in_order}
 use Rattle.variant_list.specs.Examples.{a_or_two, letter_or_hyphen}
-use Rattle.idn2_cli.specs.Settings.{Settings}
+use Rattle.idn2_options.specs.Settings.{Settings}
 use Rattle.idn2_cli.specs.Answers.{block, block_to, disposition, is_registrable, kept_to, lesser_label, nth, nth_if_given, one_line, tested_after}
 use Rattle.std.specs.Char.{encode_utf8}
 use Rattle.std.specs.Str.{is_utf8, chars}

@@ -1,15 +1,3 @@
--- The command is a simple one, with no rule between arguments, and its builder makes it so.
-mod AppLemmas
--- What the getters of a parse say of the definition's entries.
-mod EntryLemmas
--- A short numeral is read whole.
-mod CountLemmas
--- Options that the rules allow are within the limits of a run.
-mod LimitLemmas
--- The definition of a command without subcommands names one kind of error at most.
-mod SingleErrorKind
--- From what `clap` gives to the answer.
-mod AnswerLemmas
 -- The messages of faults, written out.
 mod FaultLemmas
 -- What is written, piece by piece.
@@ -42,10 +30,6 @@ pub mod BlockMembers
 pub mod RefusedLines
 -- A listing under way: what it has written, and what is still to come.
 pub mod ListingProgress
--- Options that the rules allow suit their mode.
-pub mod SuitLemmas
--- The mode that the words name.
-pub mod ModeLemmas
 -- The examples, computed.
 pub mod ExampleLemmas
 -- The shortest hopeless beginning of a label, as a listing asks for it.
@@ -56,3 +40,5 @@ pub mod KeptLineLemmas
 pub mod CollisionSteps
 -- The answer to a request is the least label from its text on.
 pub mod JumpAnswers
+-- A run has printed the listings of its lines.
+pub mod HeadlineLemmas

@@ -24,7 +24,7 @@ use Rattle.variant_list.proofs.ListedLemmas.{variants-IsListed, variants-behind}
 use Rattle.variant_list.proofs.ListingLemmas.{fits_label-short}
 use Rattle.variant_list.proofs.TestedLaws.{variants_are_accepted_tested, tested-cut}
 use Rattle.variant_list.proofs.VariantLists.{both}
-use Rattle.idn2_cli.specs.Settings.{Settings, IsCount, keeping}
+use Rattle.idn2_options.specs.Settings.{Settings, IsCount, keeping}
 use Rattle.idn2_cli.specs.Transcript.{Piece, Output, output_lines}
 use Rattle.idn2_cli.specs.Answers.{is_registrable, nth, nth_if_given, lesser_label, up_to, variant_line, trailer, block_to}
 use Rattle.idn2_cli.specs.inner.Dispositions.{block_by}

@@ -4,13 +4,13 @@ use Rattle.idn_text.specs.Reading.{Reading, IsUnread}
 use Rattle.idn_text.specs.declared.refusal.Refusal.{Refusal}
 use Rattle.idn_text.proofs.ReadingLemmas.{has_read_nothing}
 use Rattle.std.proofs.lemmas.Bool.{false≢true}
-use Rattle.idn2_cli.specs.Settings.{Settings, keeping}
+use Rattle.idn2_options.specs.Settings.{Settings, keeping}
 use Rattle.idn2_cli.specs.Memory.{NeedsNoMemory}
 use Rattle.idn2_cli.specs.Transcript.{TableGiven, IsReadAs, IsTableOf, Piece, check_pieces, check_status}
 use Rattle.idn2_cli.specs.Ends.{Held, TakesText, closing_message, Job, Does, Ends, Closes, mode_job, refusal_of}
 use Rattle.idn2_cli.specs.inner.Emitting.{Emits}
-use Rattle.idn2_cli.specs.declared.command_line.mode.Mode.{Mode}
-use Rattle.idn2_cli.specs.declared.command_line.mode.Mode.TheVariants.{Variants, Jump, CheckTable}
+use Rattle.idn2_options.specs.declared.command_line.mode.Mode.{Mode}
+use Rattle.idn2_options.specs.declared.command_line.mode.Mode.TheVariants.{Variants, Jump, CheckTable}
 use Rattle.idn2_cli.specs.declared.session.status.Status.{Status}
 use Rattle.idn2_cli.specs.declared.session.stop.Stop.{Stop}
 use Rattle.idn2_cli.specs.declared.session.stop.Stop.TheVariants as stop

@@ -19,9 +19,9 @@ use Rattle.variant_table.specs.declared.version.Version.{Version}
 use Rattle.variant_table.specs.declared.version.Version.TheVariants.{One, Two}
 use Rattle.variant_table.specs.Entries.{Entry, TableValue, unblocked}
 use Rattle.variant_list.specs.Spelled.{spelled}
-use Rattle.idn2_cli.specs.Settings.{Settings}
-use Rattle.idn2_cli.specs.declared.command_line.mode.Mode.{Mode}
-use Rattle.idn2_cli.specs.declared.command_line.mode.Mode.TheVariants.{Lookup, Register, Decode, Variants, Jump, CheckTable}
+use Rattle.idn2_options.specs.Settings.{Settings}
+use Rattle.idn2_options.specs.declared.command_line.mode.Mode.{Mode}
+use Rattle.idn2_options.specs.declared.command_line.mode.Mode.TheVariants.{Lookup, Register, Decode, Variants, Jump, CheckTable}
 use Rattle.idn_label.specs.ALabel.{a_label_of}
 use Rattle.variant_list.specs.Labels.{label_cmp, IsBelow, IsListOf}
 use Rattle.variant_list.specs.Segmentations.{HasSegmentation}

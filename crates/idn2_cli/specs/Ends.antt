@@ -13,11 +13,11 @@ use Rattle.idn2_cli.specs.declared.session.stop.Stop.{Stop}
 use Rattle.idn_text.specs.Lines.{Numbered}
 use Rattle.idn_text.specs.Reading.{Reading, HasRead, HasStopped}
 use Rattle.idn_text.specs.declared.lines.State.TheVariants.{Ended, Stopped}
-use Rattle.idn2_cli.specs.Settings.{Settings}
+use Rattle.idn2_options.specs.Settings.{Settings}
 use Rattle.idn2_cli.specs.Answers.{LineAnswer}
 use Rattle.idn2_cli.specs.Memory.{NeedsNoMemory, BodyNeedsNone}
-use Rattle.idn2_cli.specs.declared.command_line.mode.Mode.{Mode}
-use Rattle.idn2_cli.specs.declared.command_line.mode.Mode.TheVariants.{CheckTable}
+use Rattle.idn2_options.specs.declared.command_line.mode.Mode.{Mode}
+use Rattle.idn2_options.specs.declared.command_line.mode.Mode.TheVariants.{CheckTable}
 use Rattle.idn2_cli.specs.declared.session.stop.Stop.TheVariants as stop
 
 -- ---- the two writers

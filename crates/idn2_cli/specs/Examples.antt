@@ -1,5 +1,5 @@
 -- Worked examples of the definitions, by computation.
-use Rattle.std.specs.Prelude.{◌≡◌, ℕ, List, [], ◌∷◌, ◌++◌, true, false, Some, None, Option, Ok, Err, codes}
+use Rattle.std.specs.Prelude.{◌≡◌, ℕ, List, [], ◌∷◌, ◌++◌, true, Some, None, Option, Ok, Err, codes}
 use Rattle.idn_text.specs.Points.{utf8_of}
 use Rattle.idn_text.specs.Lines.{lines_of}
 use Rattle.idn_text.specs.declared.refusal.Refusal.TheVariants.{Disallowed, Empty, LineTooLong, NotUtf8, Syntax, WriteFault}
@@ -7,13 +7,12 @@ use Rattle.variant_table.specs.declared.version.Version.TheVariants.{One, Two}
 use Rattle.variant_table.specs.Entries.{Variant, Entry, TableValue}
 use Rattle.variant_table.specs.Ranges.{range_entries}
 use Rattle.variant_list.specs.Examples.{allocatable, a_or_two, letter_or_hyphen}
-use Rattle.idn2_cli.specs.Settings.{Settings}
+use Rattle.idn2_options.specs.Settings.{Settings}
+use Rattle.idn2_options.specs.Examples.{plain_run}
 use Rattle.idn2_cli.specs.Transcript.{Output, Message, line_message, table_message, table_line, transcript, status_of, no_table}
 use Rattle.idn2_cli.specs.Ends.{closing_message}
 use Rattle.idn2_cli.specs.Answers.{block, nth, nth_if_given, lesser_label, up_to, trailer, LineAnswer, line_answer}
-use Rattle.idn2_cli.specs.Words.{Answer, options_of, chosen, bad}
-use Rattle.idn2_cli.specs.declared.command_line.mode.Mode.{Mode}
-use Rattle.idn2_cli.specs.declared.command_line.mode.Mode.TheVariants.{Lookup, Register, Variants}
+use Rattle.idn2_options.specs.declared.command_line.mode.Mode.TheVariants.{Register, Variants}
 use Rattle.idn2_cli.specs.declared.session.status.Status.TheVariants.{Refused}
 
 -- sss, sß and ßs
@@ -40,11 +39,6 @@ pub record ExamplesOfLines (answer : List ℕ → LineAnswer) : Type 0 where
   pub too_long : line_answer answer None ≡ Err LineTooLong
   pub empty : line_answer answer (Some []) ≡ Err Empty
   pub not_utf8 : line_answer answer (Some (0xFF ∷ [])) ≡ Err NotUtf8
-
--- a run of the mode, with no other option
-abbrev pub plain_run : Mode → List (List ℕ) → Settings
-plain_run mode strings =
-    record { mode = mode; std3 = false; file = []; strings = strings; after = []; limit = None; tries = 1000000; among = None; registered = None }
 
 -- a listing from the start, with these bounds
 abbrev pub listing : Option ℕ → ℕ → Settings
@@ -94,12 +88,3 @@ three_lines = codes "abc\na-\nb\n"
 pub record ExamplesOfTranscripts : Type 0 where
   pub between : transcript (plain_run Register []) (Ok no_table) (lines_of three_lines) ≡ Output (codes "abc\n") ∷ Message (codes "idn2: line 2: 13 hyphen out of place\n") ∷ Output (codes "b\n") ∷ []
   pub status : status_of (plain_run Register []) (Ok no_table) (lines_of three_lines) ≡ Refused
-
--- what the words after the program's name request
-abbrev pub asked : List (List ℕ) → Answer
-asked words = options_of (codes "idn2" ∷ words)
-
-pub record ExamplesOfWords : Type 0 where
-  pub two_modes : asked (codes "-r" ∷ codes "-d" ∷ codes "x" ∷ []) ≡ bad
-  pub switches : asked (codes "-N" ∷ codes "--quiet" ∷ codes "x" ∷ []) ≡ chosen (plain_run Lookup (codes "x" ∷ []))
-  pub after_alone : asked (codes "--after" ∷ [] ∷ codes "x" ∷ []) ≡ bad

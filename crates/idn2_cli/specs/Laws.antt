@@ -1,31 +1,11 @@
 -- Laws of the definitions.
-use Rattle.std.specs.Prelude.{◌≡◌, ◌≢◌, ◌&&◌, ℕ, Bool, not, true, false, List, [], codes}
-use Rattle.clap.specs.Words.{Row}
+use Rattle.std.specs.Prelude.{◌≡◌, ℕ, false, List, [], codes}
 use Rattle.variant_table.specs.declared.version.Version.TheVariants.{One, Two}
 use Rattle.variant_table.specs.Entries.{Entry, TableValue, has_blocked, unblocked}
 use Rattle.variant_table.specs.WellFormed.{IsWellFormed}
 use Rattle.variant_list.specs.Segmentations.{HasSegmentation}
 use Rattle.variant_list.specs.Spelling.{Spells}
 use Rattle.idn2_cli.specs.Answers.{disposition}
-use Rattle.idn2_cli.specs.Words.{has_flag, has_value, is_allowed, mode_of}
-use Rattle.idn2_cli.specs.declared.command_line.mode.Mode.{Mode}
-use Rattle.idn2_cli.specs.declared.command_line.mode.Mode.TheVariants.{Lookup, Register, Decode, Variants, Jump, CheckTable}
-use Rattle.idn2_cli.specs.declared.command_line.arguments.TheConstants.{CHECK_TABLE, DECODE, JUMP, LOOKUP, REGISTER, VARIANTS}
-
--- a word of the command line names the mode
-abbrev pub is_named : Mode → List Row → Bool
-is_named Lookup rows = has_flag LOOKUP.now rows
-is_named Register rows = has_flag REGISTER.now rows
-is_named Decode rows = has_flag DECODE.now rows
-is_named Variants rows = has_value VARIANTS.now rows && not (has_flag JUMP.now rows)
-is_named Jump rows = has_flag JUMP.now rows
-is_named CheckTable rows = has_value CHECK_TABLE.now rows
-
--- the mode is the one that is named, or lookup where none is; where two are named, the words are refused
-pub record ModeIsTheOneNamed : Type 0 where
-  pub named : (rows : List Row) (mode : Mode) → is_allowed rows ≡ true → is_named mode rows ≡ true → mode_of rows ≡ mode
-  pub none_named : (rows : List Row) → ((mode : Mode) → is_named mode rows ≡ false) → mode_of rows ≡ Lookup
-  pub two_named : (rows : List Row) (mode other : Mode) → mode ≢ other → is_named mode rows ≡ true → is_named other rows ≡ true → is_allowed rows ≡ false
 
 -- the third field of a variant's line. Version 1 has none; a label may itself be allocated, whatever is blocked; where no variant is
 -- blocked, each of a label's variants may be; and what may be allocated is a variant of the label

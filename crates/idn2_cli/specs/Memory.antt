@@ -2,9 +2,9 @@
 use Rattle.std.specs.Prelude.{ℕ, List, chars, All, IsAscii, Option, Some, None}
 use Rattle.idna.specs.Labels.{labels_of}
 use Rattle.idn_label.specs.Memory.{LooksUpWithoutMemory, RegistersWithoutMemory, DecodesWithoutMemory}
-use Rattle.idn2_cli.specs.Settings.{Settings}
-use Rattle.idn2_cli.specs.declared.command_line.mode.Mode.{Mode}
-use Rattle.idn2_cli.specs.declared.command_line.mode.Mode.TheVariants.{Lookup, Register, Decode, Variants, Jump, CheckTable}
+use Rattle.idn2_options.specs.Settings.{Settings}
+use Rattle.idn2_options.specs.declared.command_line.mode.Mode.{Mode}
+use Rattle.idn2_options.specs.declared.command_line.mode.Mode.TheVariants.{Lookup, Register, Decode, Variants, Jump, CheckTable}
 
 -- the bytes of a name in ASCII of which each label is decoded without memory
 abbrev pub DecodesLineWithoutMemory : List ℕ → Type 0

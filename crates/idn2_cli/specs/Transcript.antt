@@ -8,13 +8,13 @@ use Rattle.variant_table.specs.declared.version.Version.TheVariants.{One}
 use Rattle.variant_table.specs.Entries.{Entry, TableValue}
 use Rattle.variant_table.specs.Texts.{IsTextOf, IsFaultOf}
 use Rattle.variant_table.specs.Faults.{LineFault}
-use Rattle.idn2_cli.specs.declared.command_line.mode.Mode.{Mode}
-use Rattle.idn2_cli.specs.declared.command_line.mode.Mode.TheVariants.{Variants, Jump, CheckTable}
+use Rattle.idn2_options.specs.declared.command_line.mode.Mode.{Mode}
+use Rattle.idn2_options.specs.declared.command_line.mode.Mode.TheVariants.{Variants, Jump, CheckTable}
 use Rattle.idn_text.specs.Lines.{Numbered}
 use Rattle.idn_text.specs.Refusals.{refusal_number, refusal_text}
 use Rattle.variant_table.specs.Canonical.{sequence_text}
 use Rattle.variant_table.specs.Gaps.{gaps_of, AreGapsOf}
-use Rattle.idn2_cli.specs.Settings.{Settings}
+use Rattle.idn2_options.specs.Settings.{Settings}
 use Rattle.idn2_cli.specs.Answers.{LineAnswer, mode_answer, line_answer}
 use Rattle.idn2_cli.specs.declared.session.status.Status.{Status}
 use Rattle.idn2_cli.specs.declared.session.status.Status.TheVariants.{Clean, Refused, Unusable}

@@ -1,13 +1,8 @@
 //! Laws of the definitions that the contract of `run` speaks of. Each holds by its proof alone.
 ghost use Rattle.std.specs.Prelude.{ℕ, List};
 ghost use Rattle.idn2_cli.specs.Answers.{LineAnswer};
-ghost use Rattle.idn2_cli.specs.Laws.{DispositionsAreTold, ModeIsTheOneNamed};
-ghost use Rattle.idn2_cli.specs.Examples.{ExamplesOfARun, ExamplesOfLines, ExamplesOfBlocks, ExamplesOfTranscripts, ExamplesOfWords};
-
-/// The mode of a run is the one that its words name.
-pub fn mode_is_the_one_named()
-    ensures { ModeIsTheOneNamed }
-{}
+ghost use Rattle.idn2_cli.specs.Laws.{DispositionsAreTold};
+ghost use Rattle.idn2_cli.specs.Examples.{ExamplesOfARun, ExamplesOfLines, ExamplesOfBlocks, ExamplesOfTranscripts};
 
 /// The third field of a variant's line, by what the table blocks.
 pub fn dispositions_are_told()
@@ -20,9 +15,4 @@ pub fn examples_hold()
     ensures lines { (answer : List ℕ → LineAnswer) → ExamplesOfLines answer }
     ensures blocks { ExamplesOfBlocks }
     ensures transcripts { ExamplesOfTranscripts }
-{}
-
-/// Worked examples of command lines.
-pub fn words_are_read()
-    ensures { ExamplesOfWords }
 {}

@@ -1,16 +1,11 @@
-//! The command `idn2` as a library: its options, one run, its messages and statuses.
+//! The command `idn2` as a library: one run, its messages and statuses. The options of a run are those of `idn2_options`.
 #![tactic(auto)]
 
-mod command_line;
 pub mod laws;
 mod modes;
 mod session;
 
-pub use command_line::mode::Mode;
-pub use command_line::options::Options;
-pub use command_line::strings::input_text;
-pub use command_line::usage::Usage;
-pub use command_line::words::read_options;
+pub use idn2_options::{Mode, Options, Usage, input_text, read_options};
 pub use session::report::{report, report_registered};
 pub use session::run::{run, run_among};
 pub use session::status::Status;

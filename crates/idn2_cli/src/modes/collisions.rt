@@ -2,12 +2,11 @@
 
 ghost use Rattle.std.specs.Prelude.{Some};
 ghost use Rattle.variant_table.specs.WellFormed.{IsWellFormed};
-ghost use Rattle.idn2_cli.specs.Settings.{IsWithinLimits, keeping};
+ghost use Rattle.idn2_options.specs.Settings.{IsWithinLimits, keeping};
 ghost use Rattle.idn2_cli.specs.Transcript.{output_lines};
 ghost use Rattle.idn2_cli.specs.inner.Dispositions.{block_by, field_by, TellsWell};
 ghost use Rattle.idn2_cli.specs.inner.Emitting.{Emits};
 
-use crate::command_line::options::Options;
 use crate::modes::block::{is_reached, write_end, write_stop, write_variant};
 use crate::modes::dispositions::Dispositions;
 use crate::modes::kept_line::KeptLine;
@@ -15,6 +14,7 @@ use crate::session::console::Console;
 use crate::session::stop::Stop;
 use idn_label::test_label;
 use idn_text::Sink;
+use idn2_options::Options;
 use registered_labels::{Collisions, RegisteredLabels};
 use std::alloc::Global;
 use variant_list::Net;

@@ -5,15 +5,14 @@ ghost use Rattle.std.specs.Option.{option_copied};
 ghost use Rattle.idn_text.specs.Reading.{IsUnread};
 ghost use Rattle.idn_label.specs.FirstFault.{IsRegistrable};
 ghost use Rattle.variant_table.specs.Entries.{TableValue};
-ghost use Rattle.idn2_cli.specs.Settings.{IsWithinLimits, keeping};
+ghost use Rattle.idn2_options.specs.Settings.{IsWithinLimits, keeping};
 ghost use Rattle.idn2_cli.specs.Answers.{jump_answer, requested_label, variants_answer, IsJumpAnswer, IsListing};
 ghost use Rattle.idn2_cli.specs.Ends.{held, closing_status, Does, Ends, Closes, mode_job, refusal_of};
 ghost use Rattle.idn2_cli.specs.Transcript.{TableGiven, IsCheck, IsReadAs, IsTableOf, check_lines, check_pieces, check_status};
+ghost use Rattle.idn2_cli.specs.Headline.{PrintsListings};
 ghost use Rattle.idn2_cli.specs.inner.Emitting.{Emits};
-ghost use Rattle.idn2_cli.specs.declared.command_line.mode.Mode.TheVariants as modes;
+ghost use Rattle.idn2_options.specs.declared.command_line.mode.Mode.TheVariants as modes;
 
-use crate::command_line::mode::Mode;
-use crate::command_line::options::Options;
 use crate::modes::code_points::ByPoints;
 use crate::modes::{Decode, Dispositions, Jumps, Lookup, Register, Variants, check_table};
 use crate::session::console::Console;
@@ -23,6 +22,7 @@ use crate::session::status::Status;
 use crate::session::stop::Stop;
 use crate::session::table::refuse_table;
 use idn_text::{Lines, Sink, Source};
+use idn2_options::{Mode, Options};
 use registered_labels::RegisteredLabels;
 use std::alloc::Global;
 use variant_table::Table;
@@ -44,6 +44,9 @@ pub fn run<R: Source, W: Sink, E: Sink>(
     ensures ends { (given : TableGiven) × IsTableOf options.now.mode table.now given
         × Ends (mode_job options.now given) input.old input.new
         (held (W.state out.old) (E.state err.old)) (held (W.state out.new) (E.state err.new)) result }
+    // The theorem of a listing: these bytes of this output are the lines of these labels.
+    ensures headline { (given : TableValue) → options.now.mode ≡ modes.Variants → IsReadAs table.now (Ok given) →
+        PrintsListings options.now given input.old input.new (W.state out.old).contents (W.state out.new).contents result }
     // What the transcript has for a label that may be registered, for a request, and for the check of a table.
     ensures listing { (given : TableValue) (label : List ℕ) → IsReadAs table.now (Ok given) → IsRegistrable label →
         IsListing options.now given label (variants_answer options.now given label) }
@@ -72,6 +75,9 @@ pub fn run_among<R: Source, W: Sink, E: Sink>(
     ensures ends { (given : TableGiven) × IsTableOf options.now.mode table.now given
         × Ends (mode_job (keeping (option_copied registered.entry) options.now) given) input.old input.new
         (held (W.state out.old) (E.state err.old)) (held (W.state out.new) (E.state err.new)) result }
+    ensures headline { (given : TableValue) → options.now.mode ≡ modes.Variants → IsReadAs table.now (Ok given) →
+        PrintsListings (keeping (option_copied registered.entry) options.now) given input.old input.new
+        (W.state out.old).contents (W.state out.new).contents result }
     ensures listing { (given : TableValue) (label : List ℕ) → IsReadAs table.now (Ok given) → IsRegistrable label →
         IsListing (keeping (option_copied registered.entry) options.now) given label
         (variants_answer (keeping (option_copied registered.entry) options.now) given label) }

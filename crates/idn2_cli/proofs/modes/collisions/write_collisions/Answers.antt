@@ -4,7 +4,7 @@ use Rattle.std.proofs.lemmas.Result.{err_from_is_err_and}
 use Rattle.idn_text.specs.Points.{AreScalarValues}
 use Rattle.idn_label.proofs.ALabels.{registrable_scalars}
 use Rattle.idn_label.proofs.RequirementLemmas.{MeetsRequirements-registrable}
-use Rattle.idn2_cli.specs.Settings.{Settings}
+use Rattle.idn2_options.specs.Settings.{Settings}
 use Rattle.idn2_cli.specs.Answers.{variant_line}
 use Rattle.idn2_cli.specs.inner.Dispositions.{field_by}
 use Rattle.idn2_cli.specs.inner.LineAnswers.{reaches}

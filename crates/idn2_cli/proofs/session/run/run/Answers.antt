@@ -1,9 +1,10 @@
 use Rattle.std.proofs.Common.{ap, sym, ◌≡◌, ◌∙◌, None}
-use Rattle.idn2_cli.specs.Settings.{Settings, keeping}
+use Rattle.idn2_options.specs.Settings.{Settings, keeping}
 use Rattle.idn2_cli.specs.Ends.{mode_job}
 use Rattle.idn2_cli.proofs.BlockMembers.{variants_answer-IsListing, check_lines-IsCheck}
 use Rattle.idn2_cli.proofs.JumpAnswers.{jump_answer-IsJumpAnswer}
 use Rattle.idn2_cli.proofs.RunEnds.{ends_as}
+use Rattle.idn2_cli.proofs.HeadlineLemmas.{headline}
 use Rattle.idn2_cli.proofs.session.run.run.Goals as goal
 
 pub returns-clause-ends : goal.returns-clause-ends
@@ -11,6 +12,13 @@ returns-clause-ends g c =
     let ended = c.run_among.ensures.ends in
     let none : keeping None c.args.options.now ≡ c.args.options.now = ap (keeping None) (sym c.options.view_is) ∙ c.options.view_is in
     (ended.0, ended.1, ends_as _ _ _ _ _ _ c.run_among.result (ap (λ (o : Settings). mode_job o ended.0) none) ended.2)
+
+pub returns-clause-headline : goal.returns-clause-headline
+returns-clause-headline g c = λ table is text.
+    let ended = c.run_among.ensures.ends in
+    let none : keeping None c.args.options.now ≡ c.args.options.now = ap (keeping None) (sym c.options.view_is) ∙ c.options.view_is in
+    headline c.args.options.now _ table ended.0 _ _ _ _ c.run_among.result is text ended.1
+    (ends_as _ _ _ _ _ _ c.run_among.result (ap (λ (o : Settings). mode_job o ended.0) none) ended.2)
 
 pub returns-clause-listing : goal.returns-clause-listing
 returns-clause-listing g c = λ table label text registrable. variants_answer-IsListing c.args.options.now table label text.lines.well_formed.well_formed registrable

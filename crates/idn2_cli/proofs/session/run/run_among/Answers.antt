@@ -1,8 +1,9 @@
 use Rattle.std.proofs.Common.{ap, sym, ◌∙◌, rules}
 use Rattle.std.specs.Option.{option_copied}
-use Rattle.idn2_cli.specs.Settings.{keeping}
+use Rattle.idn2_options.specs.Settings.{keeping}
 use Rattle.idn2_cli.specs.Ends.{Held}
 use Rattle.idn2_cli.proofs.LentWriters.{same_loans, given_back}
+use Rattle.idn2_cli.proofs.HeadlineLemmas.{headline}
 use Rattle.idn2_cli.proofs.BlockMembers.{variants_answer-IsListing}
 use Rattle.idn2_cli.proofs.session.run.run_among.Goals as goal
 
@@ -17,6 +18,11 @@ returns-clause-ends g c =
       given_back _ _ _ _ _ _ _ _ (ap g.W.Sink.state (search (rules, output)) ∙ ap (λ (h : Held). h.output) c.console.view_is)
           (ap g.E.Sink.state (search (rules, messages)) ∙ ap (λ (h : Held). h.messages) c.console.view_is) ended.2,
     )
+
+pub returns-clause-headline : goal.returns-clause-headline
+returns-clause-headline g c = λ table is text.
+    let ended = returns-clause-ends g c in
+    headline (keeping (option_copied c.args.registered) c.args.options.now) _ table ended.0 _ _ _ _ _ is text ended.1 ended.2
 
 pub returns-clause-listing : goal.returns-clause-listing
 returns-clause-listing g c = λ table label text registrable. variants_answer-IsListing (keeping (option_copied c.args.registered) c.args.options.now) table label text.lines.well_formed.well_formed registrable

@@ -1,5 +1,5 @@
 use Rattle.std.proofs.Common.{Ok, refl}
-use Rattle.idn2_cli.specs.declared.command_line.mode.Mode.TheVariants.{Jump}
+use Rattle.idn2_options.specs.declared.command_line.mode.Mode.TheVariants.{Jump}
 use Rattle.idn2_cli.proofs.RunEnds.{as_mode, jumps_by_table, refused_lines}
 use Rattle.idn2_cli.proofs.session.run.serve_jumps.Goals as goal
 

@@ -2,11 +2,11 @@ use Rattle.std.proofs.Common.{refl, ap, sym, ◌∙◌, Ok, ℕ, List, Bool}
 use Rattle.idn_label.specs.Lookup.{lookup_answer}
 use Rattle.idn_label.specs.Memory.{LooksUpWithoutMemory}
 use Rattle.std.specs.Option.{option_copied}
-use Rattle.idn2_cli.specs.Settings.{Settings, keeping}
+use Rattle.idn2_options.specs.Settings.{Settings, keeping}
 use Rattle.idn2_cli.specs.Answers.{LineAnswer, one_line}
 use Rattle.idn2_cli.specs.Transcript.{no_table}
 use Rattle.idn2_cli.specs.Ends.{lines_job}
-use Rattle.idn2_cli.specs.declared.command_line.mode.Mode.TheVariants.{Lookup, Register, Decode}
+use Rattle.idn2_options.specs.declared.command_line.mode.Mode.TheVariants.{Lookup, Register, Decode}
 use Rattle.idn2_cli.proofs.RunEnds.{as_mode, checked, does_as, jump_job-kept}
 use Rattle.idn2_cli.proofs.session.run.serve_mode.Goals as goal
 

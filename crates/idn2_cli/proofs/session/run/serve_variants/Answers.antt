@@ -1,8 +1,8 @@
 use Rattle.std.proofs.Common.{Ok, refl}
 use Rattle.std.specs.Option.{option_copied}
-use Rattle.idn2_cli.specs.Settings.{keeping}
+use Rattle.idn2_options.specs.Settings.{keeping}
 use Rattle.std.proofs.lemmas.Result.{err_from_is_err_and}
-use Rattle.idn2_cli.specs.declared.command_line.mode.Mode.TheVariants.{Variants}
+use Rattle.idn2_options.specs.declared.command_line.mode.Mode.TheVariants.{Variants}
 use Rattle.idn2_cli.proofs.RunEnds.{as_mode, lists_by_table, refused_lines, unread_stopped}
 use Rattle.idn2_cli.proofs.session.run.serve_variants.Goals as goal
 

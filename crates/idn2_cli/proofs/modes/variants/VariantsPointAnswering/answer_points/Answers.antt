@@ -1,5 +1,5 @@
 use Rattle.std.specs.Option.{option_copied}
-use Rattle.idn2_cli.specs.Settings.{keeping}
+use Rattle.idn2_options.specs.Settings.{keeping}
 use Rattle.idn2_cli.proofs.ListingProgress.{answer-refused}
 use Rattle.idn2_cli.proofs.RefusedLines.{emits_refusal}
 use Rattle.idn2_cli.proofs.modes.variants.VariantsPointAnswering.answer_points.Goals as goal

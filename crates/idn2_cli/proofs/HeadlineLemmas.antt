@@ -1,0 +1,271 @@
+-- A run that ends as it should has printed the listings of its lines.
+use Rattle.std.proofs.Common.{◌≡◌, ◌⊎◌, inl, inr, ℕ, Bool, true, false, ◌==◌, List, [], ◌∷◌, ◌++◌, length, map, take, drop, Option, Some, None, Ok, Err, refl, sym, ap, subst, ◌∙◌, append_assoc, if◌then◌else◌, arith}
+use Rattle.std.specs.List.{concat}
+use Rattle.std.specs.Io.KnownBytes.{Appends}
+use Rattle.std.specs.Str.{is_utf8, chars}
+use Rattle.std.proofs.lemmas.Bool.{cases_Bool}
+use Rattle.std.proofs.lemmas.Bool.Decides.{nat_tests}
+use Rattle.std.proofs.lemmas.Grind.{flat_map-append}
+use Rattle.std.proofs.lemmas.List.{append-nil, take-append-drop}
+use Rattle.idn_text.specs.Points.{IsUtf8Of, utf8_of}
+use Rattle.idn_text.specs.Lines.{Numbered}
+use Rattle.idn_text.specs.Reading.{Reading}
+use Rattle.idn_text.specs.Writers.{Writer}
+use Rattle.idn_text.specs.declared.refusal.Refusal.{Refusal}
+use Rattle.idn_text.specs.declared.refusal.Refusal.TheVariants.{Empty, LineTooLong, NotUtf8}
+use Rattle.idn_text.proofs.Utf8Lemmas.{points_from_utf8}
+use Rattle.idn_label.specs.Answers.{unless_fault}
+use Rattle.idn_label.specs.FirstFault.{first_fault, IsRegistrable}
+use Rattle.idn_label.proofs.ALabels.{registrable_scalars}
+use Rattle.variant_table.specs.Entries.{TableValue}
+use Rattle.variant_table.specs.WellFormed.{IsWellFormed}
+use Rattle.variant_table.proofs.TextLemmas.{one_table, not_both}
+use Rattle.idn2_options.specs.Settings.{Settings}
+use Rattle.idn2_options.specs.declared.command_line.mode.Mode.{Mode}
+use Rattle.idn2_options.specs.declared.command_line.mode.Mode.TheVariants.{Variants}
+use Rattle.idn2_cli.specs.Answers.{LineAnswer, IsListing, line_answer, listing_answer, variants_answer}
+use Rattle.idn2_cli.specs.Transcript.{Piece, Output, Message, TableGiven, IsReadAs, IsTableOf, mode_pieces, line_pieces, lines_pieces, output_lines, output_of, pieces_for}
+use Rattle.idn2_cli.specs.Ends.{Held, Job, reads_lines, Does, Ends, Stands, Stops, StopsAtLine, StopsUnread, IsCutBy, Closes, closing_status, mode_job, refusal_of}
+use Rattle.idn2_cli.specs.Headline.{printed_of, IsLineOf, IsPrintedFor, ArePrintedFor, PrintsListings}
+use Rattle.idn2_cli.specs.declared.session.status.Status.{Status}
+use Rattle.idn2_cli.specs.declared.session.status.Status.TheVariants.{Clean, Refused, Faulty, OutOfMemory}
+use Rattle.idn2_cli.specs.declared.session.stop.Stop.{Stop}
+use Rattle.idn2_cli.specs.declared.session.stop.Stop.TheVariants as stop
+use Rattle.idn2_cli.proofs.BlockMembers.{variants_answer-IsListing}
+use Rattle.idn2_cli.proofs.TextAnswers.{text_answer-none, text_answer-points, chars-encoded, utf8-of_chars}
+use Rattle.idn2_cli.proofs.WrittenPieces.{output_of-append}
+
+-- ---- what is printed for a line
+
+output_lines-printed : (lines : List (List ℕ)) → output_of (output_lines lines) ≡ printed_of (Ok lines)
+output_lines-printed [] = refl
+output_lines-printed (line ∷ lines) = ap (λ (rest : List ℕ). (line ++ 10 ∷ []) ++ rest) (output_lines-printed lines)
+
+pieces_for-printed : (number : ℕ) (answer : LineAnswer) → output_of (pieces_for number answer) ≡ printed_of answer
+pieces_for-printed number (Ok lines) = output_lines-printed lines
+pieces_for-printed number (Err refusal) = refl
+
+empty_is_faulty : IsRegistrable [] → ⊥
+unfolding first_fault
+empty_is_faulty none = let clash : Some Empty ≡ None = none in cc
+
+-- the UTF-8 of a label that may be registered
+utf8-given : (label : List ℕ) → IsRegistrable label → IsUtf8Of (utf8_of label) label
+utf8-given label registrable = record { scalar_values = registrable_scalars label registrable; encoded = refl }
+
+utf8-some : (label : List ℕ) → IsRegistrable label → (length (utf8_of label) == 0) ≡ false
+unfolding chars
+utf8-some label registrable = by (utf8_of label) refl
+  where
+    by : (bytes : List ℕ) → utf8_of label ≡ bytes → (length bytes == 0) ≡ false
+    by [] none =
+        let same : [] ≡ label = ap chars (sym none) ∙ points_from_utf8 (utf8_of label) label (utf8-given label registrable) in
+        absurd (empty_is_faulty (subst IsRegistrable (sym same) registrable))
+    by (byte ∷ bytes) some = grind (arith, nat_tests)
+
+module _ (o : Settings) (table : TableValue) where
+  -- what is printed for a line, by the pieces that a run writes for it
+  abbrev printed_line : Numbered → List ℕ
+  printed_line line = output_of (line_pieces (variants_answer o table) line)
+
+  listing-printed : IsWellFormed table.entries → (line : Numbered) (label : List ℕ) → IsLineOf label line
+      → (answer : LineAnswer) × IsListing o table label answer × (printed_line line ≡ printed_of answer)
+  listing-printed formed line label is =
+      let answers : line_answer (variants_answer o table) line.body ≡ variants_answer o table label =
+      ap (line_answer (variants_answer o table)) is.utf8
+      ∙ text_answer-points (variants_answer o table) (utf8_of label) label (utf8-given label is.registrable) (utf8-some label is.registrable) in (
+        variants_answer o table label,
+        variants_answer-IsListing o table label formed is.registrable,
+        pieces_for-printed line.number (line_answer (variants_answer o table) line.body) ∙ ap printed_of answers,
+      )
+
+  -- a line that is no label that may be registered is refused
+  refused-printed : (line : Numbered) (fault : Refusal) → line_answer (variants_answer o table) line.body ≡ Err fault → printed_line line ≡ []
+  refused-printed line fault refused =
+      pieces_for-printed line.number (line_answer (variants_answer o table) line.body) ∙ ap printed_of refused
+
+  other-refused : (body : Option (List ℕ)) → ((label : List ℕ) → IsRegistrable label → body ≡ Some (utf8_of label) → ⊥)
+      → (fault : Refusal) × (line_answer (variants_answer o table) body ≡ Err fault)
+  other-refused None none = (LineTooLong, refl)
+  other-refused (Some bytes) none = by_utf8 (cases_Bool (is_utf8 bytes))
+    where
+      by_fault : (fault : Option Refusal) → first_fault (chars bytes) ≡ fault → is_utf8 bytes ≡ true → (length bytes == 0) ≡ false
+          → (fault : Refusal) × (line_answer (variants_answer o table) (Some bytes) ≡ Err fault)
+      by_fault None registrable utf8 some = absurd (none (chars bytes) registrable (ap Some (sym (chars-encoded bytes utf8))))
+      by_fault (Some refusal) refused utf8 some = (
+        refusal,
+        text_answer-points (variants_answer o table) bytes (chars bytes) (utf8-of_chars bytes utf8) some
+            ∙ ap (λ (f : Option Refusal). unless_fault f (listing_answer o table (chars bytes))) refused,
+      )
+
+      by_length : (length bytes == 0) ≡ true ⊎ (length bytes == 0) ≡ false → is_utf8 bytes ≡ true
+          → (fault : Refusal) × (line_answer (variants_answer o table) (Some bytes) ≡ Err fault)
+      by_length (inl empty) utf8 = (Empty, text_answer-none (variants_answer o table) bytes empty)
+      by_length (inr some) utf8 = by_fault (first_fault (chars bytes)) refl utf8 some
+
+      by_utf8 : is_utf8 bytes ≡ true ⊎ is_utf8 bytes ≡ false → (fault : Refusal) × (line_answer (variants_answer o table) (Some bytes) ≡ Err fault)
+      by_utf8 (inl utf8) = by_length (cases_Bool (length bytes == 0)) utf8
+      by_utf8 (inr other) = (
+        NotUtf8,
+        ap (λ (b : Bool). let r : LineAnswer = if b then (if length bytes == 0 then Err Empty else variants_answer o table (chars bytes)) else Err NotUtf8 in r) other,
+      )
+
+  line-printed : IsWellFormed table.entries → (line : Numbered) → IsPrintedFor o table line (printed_line line)
+  line-printed formed line = record {
+    listing = listing-printed formed line;
+    nothing = λ none.
+        let other = other-refused line.body (λ label registrable utf8. none label (record { registrable = registrable; utf8 = utf8 })) in
+        refused-printed line other.0 other.1;
+  }
+
+  lines-printed : IsWellFormed table.entries → (lines : List Numbered) → ArePrintedFor o table lines (map printed_line lines)
+  lines-printed formed [] = tt
+  lines-printed formed (line ∷ lines) = (line-printed formed line, lines-printed formed lines)
+
+  -- joined, it is what the pieces of these lines put on the output
+  lines-joined : (lines : List Numbered) → concat (map printed_line lines) ≡ output_of (lines_pieces (variants_answer o table) lines)
+  lines-joined [] = refl
+  lines-joined (line ∷ lines) =
+      ap (λ (rest : List ℕ). printed_line line ++ rest) (lines-joined lines)
+      ∙ sym (output_of-append (line_pieces (variants_answer o table) line) (lines_pieces (variants_answer o table) lines))
+
+-- ---- what a stop leaves
+
+-- of what pieces put on the output a beginning is there
+abbrev IsBegun : List Piece → List Piece → Type 0
+IsBegun pieces written = (missing : List ℕ) × (output_of pieces ≡ output_of written ++ missing)
+
+begun-all : (pieces : List Piece) → IsBegun pieces pieces
+begun-all pieces = ([], sym (append-nil (output_of pieces)))
+
+begun-before : (before pieces written : List Piece) → IsBegun pieces written → IsBegun (before ++ pieces) (before ++ written)
+begun-before before pieces written begun = (
+  begun.0,
+  output_of-append before pieces ∙ ap (λ (rest : List ℕ). output_of before ++ rest) begun.1
+      ∙ sym (append_assoc (output_of before) (output_of written) begun.0)
+      ∙ ap (λ (start : List ℕ). start ++ begun.0) (sym (output_of-append before written)),
+)
+
+begun-output : (text : List ℕ) (taken : ℕ) (after : List Piece) → IsBegun (Output text ∷ after) (Output (take taken text) ∷ [])
+begun-output text taken after = (
+  drop taken text ++ output_of after,
+  ap (λ (whole : List ℕ). whole ++ output_of after) (sym (take-append-drop taken text))
+      ∙ append_assoc (take taken text) (drop taken text) (output_of after)
+      ∙ ap (λ (start : List ℕ). start ++ (drop taken text ++ output_of after)) (sym (append-nil (take taken text))),
+)
+
+begun-cut : (why : Stop) (pieces written : List Piece) → IsCutBy why pieces written → IsBegun pieces written
+begun-cut stop.Reading pieces written cut = absurd cut
+begun-cut stop.Output pieces written cut =
+    rw (cut.split, cut.cut) (begun-before cut.before (Output cut.text ∷ cut.after) (Output (take cut.taken cut.text) ∷ []) (begun-output cut.text cut.taken cut.after))
+begun-cut stop.Messages pieces written cut =
+    rw (cut.split, cut.cut) (begun-before cut.before (Message cut.text ∷ cut.after) (Message (take cut.taken cut.text) ∷ []) (output_of cut.after, refl))
+begun-cut stop.Memory pieces written cut = (output_of cut.0, ap output_of cut.1 ∙ output_of-append written cut.0)
+
+module _ (o : Settings) (table : TableValue) (formed : IsWellFormed table.entries) (is : o.mode ≡ Variants) where
+  abbrev job : Job
+  job = mode_job o (Ok table)
+
+  pieces-lines : (lines : List Numbered) → job.pieces lines ≡ lines_pieces (variants_answer o table) lines
+  pieces-lines lines = ap (λ (m : Mode). mode_pieces m o table lines) is
+
+  pieces-one : (before : List Numbered) (line : Numbered)
+      → lines_pieces (variants_answer o table) (before ++ line ∷ []) ≡ lines_pieces (variants_answer o table) before ++ lines_pieces (variants_answer o table) (line ∷ [])
+  pieces-one before line = flat_map-append (line_pieces (variants_answer o table)) before (line ∷ [])
+
+  begun-line : (why : Stop) (lines : List Numbered) (now : Reading) (written : List Piece) → StopsAtLine job why lines now written
+      → IsBegun (lines_pieces (variants_answer o table) lines) written
+  begun-line why lines now written stops =
+      let part : IsBegun (lines_pieces (variants_answer o table) (stops.line ∷ [])) stops.part =
+      begun-cut why _ stops.part (subst (λ (pieces : List Piece). IsCutBy why pieces stops.part) (pieces-lines (stops.line ∷ [])) stops.cut) in
+      let all = begun-before (lines_pieces (variants_answer o table) stops.before) (lines_pieces (variants_answer o table) (stops.line ∷ [])) stops.part part in
+      rw (stops.last, pieces-one stops.before stops.line, stops.stand, pieces-lines stops.before) all
+
+  begun-unread : (why : Stop) (lines : List Numbered) (start now : Reading) (written : List Piece) → StopsUnread job why lines start now written
+      → IsBegun (lines_pieces (variants_answer o table) lines) written
+  begun-unread why lines start now written stops =
+      rw stops.no_line (begun-cut why [] written (subst (λ (pieces : List Piece). IsCutBy why pieces written) (pieces-lines []) stops.cut))
+
+  begun-either : (why : Stop) (lines : List Numbered) (start now : Reading) (written : List Piece)
+      → StopsAtLine job why lines now written ⊎ StopsUnread job why lines start now written
+      → IsBegun (lines_pieces (variants_answer o table) lines) written
+  begun-either why lines start now written stands =
+      elim stands [ inl at ↦ begun-line why lines now written at | inr unread ↦ begun-unread why lines start now written unread ]
+
+  begun-stop : (why : Stop) (lines : List Numbered) (start now : Reading) (written : List Piece) → Stands job why lines start now written
+      → IsBegun (lines_pieces (variants_answer o table) lines) written
+  begun-stop stop.Reading lines start now written stands =
+      subst (IsBegun (lines_pieces (variants_answer o table) lines)) (sym (stands.2 ∙ pieces-lines lines)) (begun-all (lines_pieces (variants_answer o table) lines))
+  begun-stop stop.Output lines start now written stands = begun-either stop.Output lines start now written stands
+  begun-stop stop.Messages lines start now written stands = begun-either stop.Messages lines start now written stands
+  begun-stop stop.Memory lines start now written stands = begun-either stop.Memory lines start now written stands
+
+  -- the last message leaves the output as it is
+  output-stays : (why : Stop) (middle new : Held) → Closes why middle new → new.output ≡ middle.output
+  output-stays stop.Reading middle new closes = ap (λ (h : Held). h.output) closes.0
+  output-stays stop.Output middle new closes = ap (λ (h : Held). h.output) closes.0
+  output-stays stop.Messages middle new closes = ap (λ (h : Held). h.output) closes
+  output-stays stop.Memory middle new closes = ap (λ (h : Held). h.output) closes.0
+
+  -- a run that stopped answers neither 0 nor 1
+  stopped-status : (why : Stop) → (closing_status (refusal_of why) ≡ Clean) ⊎ (closing_status (refusal_of why) ≡ Refused) → ⊥
+  stopped-status stop.Reading which = elim which [ inl clash ↦ let no : Faulty ≡ Clean = clash in cc | inr clash ↦ let no : Faulty ≡ Refused = clash in cc ]
+  stopped-status stop.Output which = elim which [ inl clash ↦ let no : Faulty ≡ Clean = clash in cc | inr clash ↦ let no : Faulty ≡ Refused = clash in cc ]
+  stopped-status stop.Messages which = elim which [ inl clash ↦ let no : Faulty ≡ Clean = clash in cc | inr clash ↦ let no : Faulty ≡ Refused = clash in cc ]
+  stopped-status stop.Memory which = elim which [ inl clash ↦ let no : OutOfMemory ≡ Clean = clash in cc | inr clash ↦ let no : OutOfMemory ≡ Refused = clash in cc ]
+
+  reads-lines : job.reads ≡ true
+  reads-lines = ap (λ (m : Mode). reads_lines m (Ok table)) is
+
+  done-prints : (start now : Reading) (old new : Held) (status : Status) → Does job start now old new (Ok status)
+      → PrintsListings o table start now old.output.contents new.output.contents status
+  done-prints start now old new status does = record {
+    given = does.given;
+    lines = does.lines;
+    read = does.read;
+    printed = map (printed_line o table) does.lines;
+    each = lines-printed o table formed does.lines;
+    taken = output_of (job.pieces does.lines);
+    missing = [];
+    joined = lines-joined o table does.lines ∙ sym (ap output_of (pieces-lines does.lines)) ∙ sym (append-nil (output_of (job.pieces does.lines)));
+    output = does.ending.pieces.takes.output;
+    whole = λ _. (does.ending.ended reads-lines, refl);
+  }
+
+  stopped-prints : (start now : Reading) (old new : Held) (status : Status) → Stops job start now old new status
+      → PrintsListings o table start now old.output.contents new.output.contents status
+  stopped-prints start now old new status stops =
+      let does = stops.stopped in
+      let begun = begun-stop stops.why does.lines start now does.ending.written does.ending.stands in
+      record {
+        given = does.given;
+        lines = does.lines;
+        read = does.read;
+        printed = map (printed_line o table) does.lines;
+        each = lines-printed o table formed does.lines;
+        taken = output_of does.ending.written;
+        missing = begun.0;
+        joined = lines-joined o table does.lines ∙ begun.1;
+        output = subst (λ (w : Writer). Appends old.output.contents w.contents (output_of does.ending.written))
+            (sym (output-stays stops.why stops.middle new stops.closes)) does.ending.pieces.takes.output;
+        whole = λ which. absurd (stopped-status stops.why (subst (λ (s : Status). (s ≡ Clean) ⊎ (s ≡ Refused)) stops.answered which));
+      }
+
+  ends-prints : (start now : Reading) (old new : Held) (status : Status) → Ends job start now old new status
+      → PrintsListings o table start now old.output.contents new.output.contents status
+  ends-prints start now old new status ends =
+      elim ends [ inl does ↦ done-prints start now old new status does | inr stops ↦ stopped-prints start now old new status stops ]
+
+-- the table that a run is given is the one that its text spells
+same_table : (text : List ℕ) (given : TableGiven) (table : TableValue) → IsReadAs text given → IsReadAs text (Ok table) → given ≡ Ok table
+same_table text (Ok other) table read spelled = ap Ok (one_table text other table read spelled)
+same_table text (Err fault) table read spelled = absurd (not_both text table fault.0 read.0 spelled read.2)
+
+-- the law: what a run ends with is the theorem of a listing
+pub headline : (o : Settings) (text : List ℕ) (table : TableValue) (given : TableGiven) (start now : Reading) (old new : Held) (status : Status)
+    → o.mode ≡ Variants → IsReadAs text (Ok table) → IsTableOf o.mode text given → Ends (mode_job o given) start now old new status
+    → PrintsListings o table start now old.output.contents new.output.contents status
+headline o text table given start now old new status is spelled read ends =
+    let same = same_table text given table (subst (λ (m : Mode). IsTableOf m text given) is read) spelled in
+    ends-prints o table spelled.lines.well_formed.well_formed is start now old new status
+    (subst (λ (g : TableGiven). Ends (mode_job o g) start now old new status) same ends)

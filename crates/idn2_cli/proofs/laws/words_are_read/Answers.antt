@@ -1,9 +1,0 @@
-use Rattle.std.proofs.Common.{refl}
-use Rattle.clap.proofs.OnLiterals.{clap_on_literals}
-use Rattle.idn2_cli.specs.CommandLine.{app}
-use Rattle.idn2_cli.specs.Words.{options_of}
-use Rattle.idn2_cli.proofs.laws.words_are_read.Goals as goal
-
-pub returns : goal.returns
-unfolding options_of app clap_on_literals
-returns c = record { two_modes = refl; switches = refl; after_alone = refl }

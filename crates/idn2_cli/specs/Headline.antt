@@ -1,0 +1,51 @@
+-- The variant-list theorem in one record: what stands on the output of a run, line for line of its input.
+use Rattle.std.specs.Prelude.{◌≡◌, ◌⊎◌, ℕ, List, [], ◌∷◌, ◌++◌, Option, Some, Ok, Err}
+use Rattle.std.specs.List.{concat, flat_map}
+use Rattle.std.specs.Io.KnownBytes.{Appends}
+use Rattle.idn_text.specs.Points.{utf8_of}
+use Rattle.idn_text.specs.Lines.{Numbered}
+use Rattle.idn_text.specs.Reading.{Reading, HasRead}
+use Rattle.idn_text.specs.declared.lines.State.TheVariants.{Ended}
+use Rattle.idn_label.specs.FirstFault.{IsRegistrable}
+use Rattle.variant_table.specs.Entries.{TableValue}
+use Rattle.idn2_options.specs.Settings.{Settings}
+use Rattle.idn2_cli.specs.Answers.{LineAnswer, IsListing}
+use Rattle.idn2_cli.specs.declared.session.status.Status.{Status}
+use Rattle.idn2_cli.specs.declared.session.status.Status.TheVariants.{Clean, Refused}
+
+-- the lines of an answer, each with its line feed; a refusal puts nothing on the output
+abbrev pub printed_of : LineAnswer → List ℕ
+printed_of (Ok lines) = flat_map (λ line. line ++ 10 ∷ []) lines
+printed_of (Err refusal) = []
+
+-- the line is this label in UTF-8, and the label may be registered
+pub record IsLineOf (label : List ℕ) (line : Numbered) : Type 0 where
+  pub registrable : IsRegistrable label
+  pub utf8 : line.body ≡ Some (utf8_of label)
+
+-- these bytes stand on the output for a line: those of the listing of its label, or none where it is no label that may be
+-- registered
+pub record IsPrintedFor (o : Settings) (table : TableValue) (line : Numbered) (printed : List ℕ) : Type 0 where
+  pub listing : (label : List ℕ) → IsLineOf label line → (answer : LineAnswer) × IsListing o table label answer × (printed ≡ printed_of answer)
+  pub nothing : ((label : List ℕ) → IsLineOf label line → ⊥) → printed ≡ []
+
+-- the same for each of these lines, in their order
+abbrev pub ArePrintedFor : Settings → TableValue → List Numbered → List (List ℕ) → Type 0
+ArePrintedFor o table [] [] = Unit {0}
+ArePrintedFor o table (line ∷ lines) (printed ∷ others) = IsPrintedFor o table line printed × ArePrintedFor o table lines others
+ArePrintedFor o table [] (printed ∷ others) = ⊥
+ArePrintedFor o table (line ∷ lines) [] = ⊥
+
+-- from here to there these lines of the input were read, and the output took what is printed for each of them, one behind the
+-- other: if the run answers 0 or 1, for all lines of the input and to the end, else up to where it stopped
+pub record PrintsListings (o : Settings) (table : TableValue) (start now : Reading) (old new : Option (List ℕ)) (status : Status) : Type 0 where
+  pub given : List ℕ
+  pub lines : List Numbered
+  pub read : HasRead start now given lines
+  pub printed : List (List ℕ)
+  pub each : ArePrintedFor o table lines printed
+  pub taken : List ℕ
+  pub missing : List ℕ
+  pub joined : concat printed ≡ taken ++ missing
+  pub output : Appends old new taken
+  pub whole : (status ≡ Clean) ⊎ (status ≡ Refused) → (now.state ≡ Ended) × (missing ≡ [])

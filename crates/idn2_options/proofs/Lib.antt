@@ -1,0 +1,16 @@
+-- The command is a simple one, with no rule between arguments, and its builder makes it so.
+mod AppLemmas
+-- What the getters of a parse say of the definition's entries.
+mod EntryLemmas
+-- A short numeral is read whole.
+mod CountLemmas
+-- Options that the rules allow are within the limits of a run.
+mod LimitLemmas
+-- The definition of a command without subcommands names one kind of error at most.
+mod SingleErrorKind
+-- From what `clap` gives to the answer.
+mod AnswerLemmas
+-- Options that the rules allow suit their mode.
+pub mod SuitLemmas
+-- The mode that the words name.
+pub mod ModeLemmas

@@ -1,0 +1,76 @@
+-- Options that the rules allow are within the limits of a run.
+use Rattle.std.proofs.Common.{◌≡◌, ◌≤◌, ◌&&◌, ℕ, Bool, List, [], ◌∷◌, Option, Some, None, IfSome, true, false, length, refl, subst, arith, nat_le, cond}
+use Rattle.std.specs.Prelude.{IsUtf8, option_and_then, unwrap_or}
+use Rattle.std.specs.Str.{chars}
+use Rattle.std.specs.Str.Parse.{digits_value}
+use Rattle.std.proofs.Math.Utf8.{scalar, scalars}
+use Rattle.std.proofs.lemmas.Bool.Decides.{nat_tests}
+use Rattle.std.proofs.lemmas.List.Elements.{All-cons, All-nil}
+use Rattle.std.proofs.lemmas.Str.{encodes-chars, length-le-encodes, scalars-chars}
+use Rattle.clap.specs.Words.{Row, Text}
+use Rattle.idn_text.specs.Points.{AreScalarValues, IsScalarValue}
+use Rattle.idn2_options.specs.Settings.{IsCount, IsWithinLimits}
+use Rattle.idn2_options.specs.Words.{bounds_variants, checks_alone, count_of, has_counts, has_short_start, is_allowed, is_count, is_short_numeral, jumps_by_table, names_one_mode, settings_of, start_of, suits_among, value_of}
+use Rattle.idn2_options.specs.declared.command_line.arguments.TheConstants.{LIMIT, TRIES}
+
+pub le-test : (m n : ℕ) → nat_le m n ≡ true → m ≤ n
+le-test m n test = grind (arith, nat_tests)
+
+count-test : (n : ℕ) → is_count n ≡ true → IsCount n
+count-test n test = grind (arith, nat_tests)
+
+right-test : (a b : Bool) → a && b ≡ true → b ≡ true
+right-test true b both = both
+right-test false b both = absurd (let bad : false ≡ true = both in cc)
+
+left-test : (a b : Bool) → a && b ≡ true → a ≡ true
+left-test true b both = refl
+left-test false b both = both
+
+-- a count is in its range
+counted : (short fits : Bool) (n : ℕ) → (fits ≡ true → IsCount n) → IfSome (cond (short && fits) (Some n) None) IsCount
+counted true true n in_range = in_range refl
+counted true false n in_range = tt
+counted false fits n in_range = tt
+
+IsCount-count_of : (text : Text) → IfSome (count_of text) IsCount
+IsCount-count_of text =
+    counted (is_short_numeral text) (is_count (digits_value 10 text)) (digits_value 10 text) (count-test (digits_value 10 text))
+
+IsCount-limit : (given : Option Text) → IfSome (option_and_then count_of given) IsCount
+IsCount-limit None = tt
+IsCount-limit (Some text) = IsCount-count_of text
+
+or_default : (count : Option ℕ) → IfSome count IsCount → IsCount (unwrap_or count 1000000)
+or_default None _ = (omega arith, omega arith)
+or_default (Some n) in_range = in_range
+
+-- the characters of a text are scalar values
+scalar-test : (c : ℕ) → scalar c ≡ true → IsScalarValue c
+scalar-test c test = grind (arith, nat_tests)
+
+all-scalar : (points : List ℕ) → scalars points ≡ true → AreScalarValues points
+all-scalar [] tests = All-nil IsScalarValue
+all-scalar (c ∷ cs) tests =
+    All-cons IsScalarValue c cs (scalar-test c (left-test (scalar c) (scalars cs) tests)) (all-scalar cs (right-test (scalar c) (scalars cs) tests))
+
+-- no text has more characters than bytes
+length-chars : (text : Text) → IsUtf8 text → length (chars text) ≤ length text
+length-chars text is_text =
+    subst (λ (bytes : List ℕ). length (chars text) ≤ length bytes) (encodes-chars text is_text) (length-le-encodes (chars text))
+
+short-start : (rows : List Row) → is_allowed rows ≡ true → length (start_of rows) ≤ 1024
+short-start rows allowed =
+    let first : Bool = names_one_mode rows && bounds_variants rows && jumps_by_table rows && suits_among rows && has_counts rows in
+    le-test _ _ (right-test first (has_short_start rows) (left-test (first && has_short_start rows) (checks_alone rows) allowed))
+
+pub within_limits : (rows : List Row) → IsUtf8 (start_of rows) → is_allowed rows ≡ true → IsWithinLimits (settings_of rows)
+within_limits rows is_text allowed =
+    let fewer = length-chars (start_of rows) is_text in
+    let short = short-start rows allowed in
+    record {
+      after_length = omega arith;
+      after_points = all-scalar (chars (start_of rows)) (scalars-chars (start_of rows) is_text);
+      limit = IsCount-limit (value_of LIMIT.now rows);
+      tries = or_default _ (IsCount-limit (value_of TRIES.now rows));
+    }

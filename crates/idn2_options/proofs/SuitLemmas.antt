@@ -1,0 +1,177 @@
+-- Options that the rules allow suit their mode.
+use Rattle.std.proofs.Common.{◌≡◌, ◌≢◌, ◌≤◌, ◌&&◌, ◌||◌, ◌==◌, ℕ, Bool, List, [], ◌∷◌, Option, Some, None, true, false, cond, length, ap, refl, sym, ◌∙◌, arith, not, is_some}
+use Rattle.std.specs.Prelude.{count_by, option_and_then, unwrap_or}
+use Rattle.std.specs.Str.{bytes_eq, chars}
+use Rattle.std.proofs.lemmas.Bool.{and_parts}
+use Rattle.std.proofs.lemmas.Bool.Decides.{nat_tests}
+use Rattle.std.proofs.lemmas.Str.{chars-nil}
+use Rattle.clap.specs.Words.{Row, Text}
+use Rattle.idn2_options.specs.Settings.{SuitsMode}
+use Rattle.idn2_options.specs.Words.{among_of, bounds_variants, checks_alone, count_of, file_of, has_counts, has_flag, has_short_start, has_strings, has_value, is_allowed, jumps_by_table, mode_of, names_one_mode, settings_of, start_of, strings_of, suits_among, value_of}
+use Rattle.idn2_options.specs.declared.command_line.mode.Mode.{Mode}
+use Rattle.idn2_options.specs.declared.command_line.mode.Mode.TheVariants.{Lookup, Register, Decode, Variants, Jump, CheckTable}
+use Rattle.idn2_options.proofs.LimitLemmas.{le-test}
+use Rattle.idn2_options.specs.declared.command_line.arguments.TheConstants.{AFTER, AMONG, CHECK_TABLE, DECODE, JUMP, LIMIT, LOOKUP, REGISTER, TRIES, VARIANTS}
+
+-- ---- tests
+
+pub no_weight : (b : Bool) → cond {A = ℕ} b 1 0 ≡ 0 → b ≡ false
+no_weight true none = absurd (omega arith)
+no_weight false none = refl
+
+neither : (a b : Bool) → not (a || b) ≡ true → (a ≡ false) × (b ≡ false)
+neither true b none = absurd (let bad : false ≡ true = none in cc)
+neither false true none = absurd (let bad : false ≡ true = none in cc)
+neither false false none = (refl, refl)
+
+not-given : {X : Type 0} (o : Option X) → is_some o ≡ false → o ≡ None
+not-given None none = refl
+not-given (Some x) none = absurd (let bad : true ≡ false = none in cc)
+
+no-length : (n : ℕ) → not (n == 0) ≡ false → n ≡ 0
+no-length n none = grind (arith, nat_tests)
+
+no-strings : (strings : List Text) → not (length strings == 0) ≡ false → strings ≡ []
+no-strings [] none = refl
+no-strings (s ∷ ss) none =
+    let bad : length (s ∷ ss) ≡ 0 = no-length (length (s ∷ ss)) none in
+    absurd (omega arith)
+
+pub false-where : (b : Bool) → (b ≡ true → ⊥) → b ≡ false
+false-where true never = absurd (never refl)
+false-where false never = refl
+
+second-test : (a b : Bool) → a || b ≡ true → a ≡ false → b ≡ true
+second-test true b either first = absurd (let bad : true ≡ false = first in cc)
+second-test false b either first = either
+
+-- ---- the mode
+
+abbrev pub mode_by : Bool → Bool → Bool → Bool → Bool → Mode
+mode_by register decode variants jump check =
+    cond register Register (cond decode Decode (cond variants (cond jump Jump Variants) (cond check CheckTable Lookup)))
+
+check-named : (r d v j k : Bool) → mode_by r d v j k ≡ CheckTable → k ≡ true
+check-named true d v j k is = absurd (let bad : Register ≡ CheckTable = is in cc)
+check-named false true v j k is = absurd (let bad : Decode ≡ CheckTable = is in cc)
+check-named false false true true k is = absurd (let bad : Jump ≡ CheckTable = is in cc)
+check-named false false true false k is = absurd (let bad : Variants ≡ CheckTable = is in cc)
+check-named false false false j true is = refl
+check-named false false false j false is = absurd (let bad : Lookup ≡ CheckTable = is in cc)
+
+-- at most one of five is named
+abbrev pub IsOne : Bool → Bool → Bool → Bool → Bool → Type 0
+IsOne l r d v k = count_by (λ named. named) (l ∷ r ∷ d ∷ v ∷ k ∷ []) ≤ 1
+
+pub variants-alone : (l r d v j k : Bool) → IsOne l r d v k → v ≡ true → mode_by r d v j k ≡ cond j Jump Variants
+variants-alone l r d v j k one is_v =
+    let weight : cond {A = ℕ} v 1 0 ≡ 1 = rw is_v refl in
+    rw (no_weight r (omega arith), no_weight d (omega arith), is_v) refl
+
+pub check-alone : (l r d v j k : Bool) → IsOne l r d v k → k ≡ true → mode_by r d v j k ≡ CheckTable
+check-alone l r d v j k one is_k =
+    let weight : cond {A = ℕ} k 1 0 ≡ 1 = rw is_k refl in
+    rw (no_weight r (omega arith), no_weight d (omega arith), no_weight v (omega arith), is_k) refl
+
+-- ---- the rules, one by one
+
+pub record Rules (rows : List Row) : Type 0 where
+  pub one : IsOne (has_flag LOOKUP.now rows) (has_flag REGISTER.now rows) (has_flag DECODE.now rows) (has_value VARIANTS.now rows) (has_value CHECK_TABLE.now rows)
+  pub bounds : bounds_variants rows ≡ true
+  pub jumps : jumps_by_table rows ≡ true
+  pub among : suits_among rows ≡ true
+  pub alone : checks_alone rows ≡ true
+
+pub rules : (rows : List Row) → is_allowed rows ≡ true → Rules rows
+rules rows allowed =
+    let tests : Bool = names_one_mode rows && bounds_variants rows && jumps_by_table rows && suits_among rows in
+    let last = and_parts (tests && has_counts rows && has_short_start rows) (checks_alone rows) allowed in
+    let start = and_parts (tests && has_counts rows) (has_short_start rows) last.0 in
+    let counts = and_parts tests (has_counts rows) start.0 in
+    let among = and_parts (names_one_mode rows && bounds_variants rows && jumps_by_table rows) (suits_among rows) counts.0 in
+    let jumps = and_parts (names_one_mode rows && bounds_variants rows) (jumps_by_table rows) among.0 in
+    let first = and_parts (names_one_mode rows) (bounds_variants rows) jumps.0 in
+    record { one = le-test _ 1 first.0; bounds = first.1; jumps = jumps.1; among = among.1; alone = last.1 }
+
+-- a test of two that holds nowhere but in another mode
+both-false : (a b : Bool) → (a ≡ true → b ≡ true → ⊥) → (a && b) ≡ false
+both-false true true never = absurd (never refl refl)
+both-false true false never = refl
+both-false false b never = refl
+
+no_jump : (j : Bool) → not j ≡ true → j ≡ false
+no_jump true none = absurd (let bad : false ≡ true = none in cc)
+no_jump false none = refl
+
+-- the mode is another than the listing
+no-listing : (rows : List Row) → Rules rows → mode_of rows ≢ Variants → (has_value VARIANTS.now rows && not (has_flag JUMP.now rows)) ≡ false
+no-listing rows r other = both-false (has_value VARIANTS.now rows) (not (has_flag JUMP.now rows)) (λ named listed.
+    other (variants-alone _ _ _ _ _ _ r.one named ∙ ap (λ (j : Bool). cond j Jump Variants) (no_jump (has_flag JUMP.now rows) listed)))
+
+no-check : (rows : List Row) → Rules rows → mode_of rows ≢ CheckTable → has_value CHECK_TABLE.now rows ≡ false
+no-check rows r other = false-where (has_value CHECK_TABLE.now rows) (λ named. other (check-alone _ _ _ _ _ _ r.one named))
+
+-- nothing that bounds a listing is given
+record NoBounds (rows : List Row) : Type 0 where
+  after : value_of AFTER.now rows ≡ None
+  limit : value_of LIMIT.now rows ≡ None
+  tries : value_of TRIES.now rows ≡ None
+  among : value_of AMONG.now rows ≡ None
+
+none-given : (rows : List Row) → Rules rows → mode_of rows ≢ Variants → NoBounds rows
+none-given rows r other =
+    let after = has_value AFTER.now rows in
+    let limit = has_value LIMIT.now rows in
+    let tries = has_value TRIES.now rows in
+    let among = has_value AMONG.now rows in
+    let none = neither (after || limit || tries) among (second-test (has_value VARIANTS.now rows && not (has_flag JUMP.now rows)) (not (after || limit || tries || among)) r.bounds (no-listing rows r other)) in
+    let second = neither (after || limit) tries (ap not none.0) in
+    let first = neither after limit (ap not second.0) in
+    record {
+      after = not-given (value_of AFTER.now rows) first.0;
+      limit = not-given (value_of LIMIT.now rows) first.1;
+      tries = not-given (value_of TRIES.now rows) second.1;
+      among = not-given (value_of AMONG.now rows) none.1;
+    }
+
+no-bounds : (rows : List Row) → Rules rows → mode_of rows ≢ Variants
+    → (chars (start_of rows) ≡ []) × (option_and_then count_of (value_of LIMIT.now rows) ≡ None)
+    × (unwrap_or (option_and_then count_of (value_of TRIES.now rows)) 1000000 ≡ 1000000)
+no-bounds rows r other =
+    let none = none-given rows r other in (
+      ap (λ (o : Option Text). chars (unwrap_or o [])) none.after ∙ chars-nil,
+      ap (option_and_then count_of) none.limit,
+      ap (λ (o : Option Text). unwrap_or (option_and_then count_of o) 1000000) none.tries,
+    )
+
+-- where registered labels are named, no number of tries is
+untried : (rows : List Row) → Rules rows → value_of AMONG.now rows ≢ None → unwrap_or (option_and_then count_of (value_of TRIES.now rows)) 1000000 ≡ 1000000
+untried rows r named =
+    let given : not (has_value AMONG.now rows) ≡ false = false-where (not (has_value AMONG.now rows)) (λ none. named (not-given (value_of AMONG.now rows) (no_jump (has_value AMONG.now rows) none))) in
+    let rest = and_parts (not (has_value TRIES.now rows)) (not (bytes_eq (file_of rows) (among_of rows)))
+    (second-test (not (has_value AMONG.now rows)) (not (has_value TRIES.now rows) && not (bytes_eq (file_of rows) (among_of rows))) r.among given) in
+    ap (λ (o : Option Text). unwrap_or (option_and_then count_of o) 1000000) (not-given (value_of TRIES.now rows) (no_jump (has_value TRIES.now rows) rest.0))
+
+no-variants : (rows : List Row) → Rules rows → mode_of rows ≢ Variants → mode_of rows ≢ Jump → has_value VARIANTS.now rows ≡ false
+no-variants rows r other jump = false-where (has_value VARIANTS.now rows) (λ named. either (has_flag JUMP.now rows) (variants-alone _ _ _ _ _ _ r.one named))
+  where
+    either : (j : Bool) → mode_of rows ≡ cond j Jump Variants → ⊥
+    either true is = jump is
+    either false is = other is
+
+no-file : (rows : List Row) → Rules rows → mode_of rows ≢ Variants → mode_of rows ≢ Jump → mode_of rows ≢ CheckTable → file_of rows ≡ []
+no-file rows r variants jump check =
+    let v = not-given (value_of VARIANTS.now rows) (no-variants rows r variants jump) in
+    let k = not-given (value_of CHECK_TABLE.now rows) (no-check rows r check) in
+    ap (λ (o : Option Text). unwrap_or o (unwrap_or (value_of CHECK_TABLE.now rows) [])) v ∙ ap (λ (o : Option Text). unwrap_or o []) k
+
+alone : (rows : List Row) → Rules rows → mode_of rows ≡ CheckTable → strings_of rows ≡ []
+alone rows r is =
+    let named = check-named (has_flag REGISTER.now rows) (has_flag DECODE.now rows) (has_value VARIANTS.now rows) (has_flag JUMP.now rows) (has_value CHECK_TABLE.now rows) is in
+    let none = second-test (not (has_value CHECK_TABLE.now rows)) (not (has_strings rows)) r.alone (ap not named) in
+    no-strings (strings_of rows) (false-where (has_strings rows) (λ some. let bad : false ≡ true = ap not (sym some) ∙ none in cc))
+
+pub suits_mode : (rows : List Row) → is_allowed rows ≡ true → SuitsMode (settings_of rows)
+suits_mode rows allowed =
+    let r = rules rows allowed in
+    record { bounds = no-bounds rows r; among = λ other. (none-given rows r other).among; untried = untried rows r; file = no-file rows r; strings = alone rows r }

@@ -1,0 +1,9 @@
+use Rattle.std.proofs.Common.{refl}
+use Rattle.clap.proofs.OnLiterals.{clap_on_literals}
+use Rattle.idn2_options.specs.CommandLine.{app}
+use Rattle.idn2_options.specs.Words.{options_of}
+use Rattle.idn2_options.proofs.laws.words_are_read.Goals as goal
+
+pub returns : goal.returns
+unfolding options_of app clap_on_literals
+returns c = record { two_modes = refl; switches = refl; after_alone = refl }

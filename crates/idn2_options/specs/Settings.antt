@@ -1,0 +1,41 @@
+-- The options of a run, as contracts see them.
+use Rattle.std.specs.Prelude.{◌≡◌, ◌≢◌, ◌≤◌, ℕ, Bool, List, [], Option, None, IfSome, length}
+use Rattle.idn_text.specs.Points.{AreScalarValues}
+use Rattle.idn2_options.specs.declared.command_line.mode.Mode.{Mode}
+use Rattle.idn2_options.specs.declared.command_line.mode.Mode.TheVariants.{Variants, Jump, CheckTable}
+
+-- an `Options`, with the bytes of each text; and the registered labels to which listings are kept, if there are some. An
+-- `Options` has only the name of their file: they are given to a run beside it
+pub record Settings : Type 0 where
+  pub mode : Mode
+  pub std3 : Bool
+  pub file : List ℕ
+  pub strings : List (List ℕ)
+  pub after : List ℕ
+  pub limit : Option ℕ
+  pub tries : ℕ
+  pub among : Option (List ℕ)
+  pub registered : Option (List (List ℕ))
+
+-- the same options, with listings kept to these labels, or to none in particular
+abbrev pub keeping : Option (List (List ℕ)) → Settings → Settings
+keeping labels o = record o { registered = labels }
+
+-- a number that `--limit` and `--tries` take
+abbrev pub IsCount : ℕ → Type 0
+IsCount n = (1 ≤ n) × (n ≤ 1000000000)
+
+-- the options are within the limits of a run
+pub record IsWithinLimits (o : Settings) : Type 0 where
+  pub after_length : length o.after ≤ 1024
+  pub after_points : AreScalarValues o.after
+  pub limit : IfSome o.limit IsCount
+  pub tries : IsCount o.tries
+
+-- what belongs to another mode is as if it were left out
+pub record SuitsMode (o : Settings) : Type 0 where
+  pub bounds : o.mode ≢ Variants → (o.after ≡ []) × (o.limit ≡ None) × (o.tries ≡ 1000000)
+  pub among : o.mode ≢ Variants → o.among ≡ None
+  pub untried : o.among ≢ None → o.tries ≡ 1000000
+  pub file : o.mode ≢ Variants → o.mode ≢ Jump → o.mode ≢ CheckTable → o.file ≡ []
+  pub strings : o.mode ≡ CheckTable → o.strings ≡ []

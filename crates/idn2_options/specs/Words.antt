@@ -1,0 +1,182 @@
+-- What the words of the command line request: what `clap`'s definition of the command gives for
+-- them, and then the rules that the program has of its own.
+use Rattle.std.specs.Prelude.{ℕ, ◌≡◌, ◌≢◌, ◌&&◌, ◌||◌, Bool, true, false, not, List, [], ◌∷◌, length, Option, Some, None}
+use Rattle.std.specs.Prelude.{codes, count_by, if◌then◌else◌, is_some, nat_eq, nat_le, option_and_then, unwrap_or}
+use Rattle.std.specs.Prelude.{Result, Ok, Err}
+use Rattle.std.specs.Option.{option_map_or}
+use Rattle.std.specs.Char.{is_ascii_digit}
+use Rattle.std.specs.List.{list_all}
+use Rattle.std.specs.Str.{bytes_eq, chars}
+use Rattle.std.specs.Str.Parse.{digits_value}
+use Rattle.clap.specs.Words.{Row, Text, all_of, fault_of, first_of, matches_of, one_of}
+use Rattle.clap.specs.Kinds.{Kinds}
+use Rattle.clap.specs.declared.error.ErrorKind.{ErrorKind}
+use Rattle.clap.specs.declared.error.ErrorKind.TheVariants.{DisplayHelp, DisplayVersion, OutOfMemory}
+use Rattle.idn2_options.specs.CommandLine.{app}
+use Rattle.idn2_options.specs.Settings.{Settings}
+use Rattle.idn2_options.specs.declared.command_line.mode.Mode.{Mode}
+use Rattle.idn2_options.specs.declared.command_line.mode.Mode.TheVariants.{Lookup, Register, Decode, Variants, Jump, CheckTable}
+use Rattle.idn2_options.specs.declared.command_line.usage.Usage.{Usage}
+use Rattle.idn2_options.specs.declared.command_line.usage.Usage.TheVariants.{Bad, Show, Memory}
+use Rattle.idn2_options.specs.declared.command_line.arguments.TheConstants.{AFTER, AMONG, CHECK_TABLE, DECODE, JUMP, LIMIT, LOOKUP, REGISTER, STD3, STRINGS, TRIES, VARIANTS}
+
+-- ---- what `clap` found
+
+-- the flag is set
+abbrev pub has_flag : Text → List Row → Bool
+has_flag name rows = option_map_or (λ text. bytes_eq text (codes "true")) (one_of name rows) false
+
+-- the value of the option
+abbrev pub value_of : Text → List Row → Option Text
+value_of = first_of
+
+-- the option is given
+abbrev pub has_value : Text → List Row → Bool
+has_value name rows = is_some (value_of name rows)
+
+-- the words that belong to no option
+abbrev pub strings_of : List Row → List Text
+strings_of rows = unwrap_or (all_of STRINGS.now rows) []
+
+-- there are some
+abbrev pub has_strings : List Row → Bool
+has_strings rows = not (nat_eq (length (strings_of rows)) 0)
+
+-- ---- numbers
+
+-- 1 to 10 ASCII digits
+abbrev pub is_short_numeral : Text → Bool
+is_short_numeral text = nat_le 1 (length text) && nat_le (length text) 10 && list_all is_ascii_digit text
+
+-- 1 to 1,000,000,000
+abbrev pub is_count : ℕ → Bool
+is_count number = nat_le 1 number && nat_le number 1000000000
+
+-- the count that a text writes
+abbrev pub count_of : Text → Option ℕ
+count_of text =
+    if is_short_numeral text && is_count (digits_value 10 text) then Some (digits_value 10 text) else None
+
+-- the option is left out, or its value is a count
+abbrev pub is_count_if_given : Text → List Row → Bool
+is_count_if_given name rows = option_map_or (λ text. is_some (count_of text)) (value_of name rows) true
+
+-- ---- files
+
+-- the name of the table's file; empty where the mode has no table
+abbrev pub file_of : List Row → Text
+file_of rows = unwrap_or (value_of VARIANTS.now rows) (unwrap_or (value_of CHECK_TABLE.now rows) [])
+
+-- the name of the file of registered labels; empty where there is none
+abbrev pub among_of : List Row → Text
+among_of rows = unwrap_or (value_of AMONG.now rows) []
+
+-- ---- the program's own rules
+
+-- at most one of the five modes is named
+abbrev pub names_one_mode : List Row → Bool
+names_one_mode rows = nat_le (count_by (λ named. named)
+    (has_flag LOOKUP.now rows ∷ has_flag REGISTER.now rows ∷ has_flag DECODE.now rows
+    ∷ has_value VARIANTS.now rows ∷ has_value CHECK_TABLE.now rows ∷ [])) 1
+
+-- `--after`, `--limit`, `--tries` or `--among` is given, which say what a listing has
+abbrev pub bounds_listing : List Row → Bool
+bounds_listing rows =
+    has_value AFTER.now rows || has_value LIMIT.now rows || has_value TRIES.now rows || has_value AMONG.now rows
+
+-- these come with `--variants` alone, and not with `--jump`, which lists nothing
+abbrev pub bounds_variants : List Row → Bool
+bounds_variants rows = (has_value VARIANTS.now rows && not (has_flag JUMP.now rows)) || not (bounds_listing rows)
+
+-- `--jump` comes with `--variants` alone
+abbrev pub jumps_by_table : List Row → Bool
+jumps_by_table rows = has_value VARIANTS.now rows || not (has_flag JUMP.now rows)
+
+-- with `--among` nothing is tried, so `--tries` does not come with it; and its file is not that of the table
+abbrev pub suits_among : List Row → Bool
+suits_among rows =
+    not (has_value AMONG.now rows) || (not (has_value TRIES.now rows) && not (bytes_eq (file_of rows) (among_of rows)))
+
+-- `--limit` and `--tries` have a count
+abbrev pub has_counts : List Row → Bool
+has_counts rows = is_count_if_given LIMIT.now rows && is_count_if_given TRIES.now rows
+
+-- the text of `--after`, which is empty where it is left out
+abbrev pub start_of : List Row → Text
+start_of rows = unwrap_or (value_of AFTER.now rows) []
+
+-- that text has at most 1,024 bytes
+abbrev pub has_short_start : List Row → Bool
+has_short_start rows = nat_le (length (start_of rows)) 1024
+
+-- `--check-table` comes without STRINGS
+abbrev pub checks_alone : List Row → Bool
+checks_alone rows = not (has_value CHECK_TABLE.now rows) || not (has_strings rows)
+
+-- all of these rules hold
+abbrev pub is_allowed : List Row → Bool
+is_allowed rows =
+    names_one_mode rows && bounds_variants rows && jumps_by_table rows && suits_among rows && has_counts rows && has_short_start rows
+    && checks_alone rows
+
+-- ---- the options
+
+-- the mode that is named; lookup where none is
+abbrev pub mode_of : List Row → Mode
+mode_of rows =
+    if has_flag REGISTER.now rows then Register
+    else (if has_flag DECODE.now rows then Decode
+    else (if has_value VARIANTS.now rows then (if has_flag JUMP.now rows then Jump else Variants)
+    else (if has_value CHECK_TABLE.now rows then CheckTable
+    else Lookup)))
+
+-- the options, part by part
+abbrev pub settings_of : List Row → Settings
+settings_of rows = record {
+  mode = mode_of rows;
+  std3 = has_flag STD3.now rows;
+  file = file_of rows;
+  strings = strings_of rows;
+  after = chars (start_of rows);
+  limit = option_and_then count_of (value_of LIMIT.now rows);
+  tries = unwrap_or (option_and_then count_of (value_of TRIES.now rows)) 1000000;
+  among = value_of AMONG.now rows;
+  registered = None;
+}
+
+-- ---- the answer
+
+-- what the words request: a run with these options, a text to be shown, or nothing that can be read
+pub data Answer : Type 0 where
+  chosen : Settings → Answer
+  shown : Answer
+  bad : Answer
+
+-- `clap` was asked for help or for the version
+abbrev pub asks_to_show : ErrorKind → Bool
+asks_to_show DisplayHelp = true
+asks_to_show DisplayVersion = true
+asks_to_show _ = false
+
+-- `clap`'s refusal comes first, the program's own rules after it. Its definition names one kind of
+-- refusal at most (`lone-app` of `proofs/SingleErrorKind.antt`), so nothing is left open
+abbrev pub answer_of : Kinds → List Row → Answer
+answer_of [] rows = if is_allowed rows then chosen (settings_of rows) else bad
+answer_of (kind ∷ _) rows = if asks_to_show kind then shown else bad
+
+-- the options of a list of words, of which the first is the program's name
+unfoldable pub options_of : List Text → Answer
+options_of words = answer_of (fault_of app words) (matches_of app words)
+
+-- `clap`'s refusal of this kind comes to that
+abbrev pub IsUsage : ErrorKind → Usage → Type 0
+IsUsage kind Bad = (asks_to_show kind ≡ false) × (kind ≢ OutOfMemory)
+IsUsage kind (Show text) = asks_to_show kind ≡ true
+IsUsage kind Memory = Unit {0}
+
+-- the result is that answer, unless memory ran out
+abbrev pub IsAnswer : Answer → Result Settings Usage → Type 0
+IsAnswer answer (Ok options) = answer ≡ chosen options
+IsAnswer answer (Err Bad) = answer ≡ bad
+IsAnswer answer (Err (Show text)) = answer ≡ shown
+IsAnswer answer (Err Memory) = Unit {0}

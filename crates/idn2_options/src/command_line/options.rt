@@ -1,0 +1,46 @@
+use crate::command_line::mode::Mode;
+use std::marker::Model;
+
+/// What the words of the command line request. `read_options` keeps the ranges below, and a run
+/// requires them.
+#[derive(Debug, Drop)]
+pub struct Options {
+    /// What is done with each line, or with the table.
+    pub mode: Mode,
+    /// Lookup refuses ASCII code points other than letters, digits and hyphens (UseSTD3ASCIIRules
+    /// of UTS #46). The other modes don't read it.
+    pub std3: bool,
+    /// The name of the table's file. Empty where the mode has no table.
+    pub file: String,
+    /// The lines given as words. Where there are none, the standard input is read.
+    pub strings: Vec<String>,
+    /// The code points that each listed variant is greater than: at most 1,024 scalar values.
+    pub after: Vec<u32>,
+    /// At most how many variants of a line are listed: 1 to 1,000,000,000, or no limit.
+    pub limit: Option<u64>,
+    /// At most how many labels of a line are tested: 1 to 1,000,000,000.
+    pub tries: u64,
+    /// The name of the file of registered labels to which listings are kept, if they are.
+    pub among: Option<String>,
+}
+
+/// Contracts see the bytes of each `String`, and a list for each `Vec`. Of the registered labels only the name of their
+/// file is known here.
+impl Model for Options {
+    ghost use Rattle.std.specs.Prelude.{None, map, option_map, string_bytes};
+    ghost use Rattle.idn2_options.specs.Settings.{Settings};
+
+    ghost Value = { Settings };
+
+    ghost view = { λ o. record {
+      mode = o.mode;
+      std3 = o.std3;
+      file = string_bytes o.file;
+      strings = map string_bytes o.strings.items;
+      after = o.after.items;
+      limit = o.limit;
+      tries = o.tries;
+      among = option_map string_bytes o.among;
+      registered = None;
+    } };
+}

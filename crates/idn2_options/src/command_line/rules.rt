@@ -1,0 +1,131 @@
+//! The program's own rules on its options, which `clap` does not know.
+ghost use Rattle.std.specs.Prelude.{◌≡◌, count_by};
+ghost use Rattle.clap.specs.Words.{found_of, rows_of};
+ghost use Rattle.idn2_options.specs.Words.{among_of, bounds_listing, bounds_variants, checks_alone, file_of, has_counts, has_short_start, is_allowed, is_count_if_given, jumps_by_table, names_one_mode, start_of, suits_among};
+
+use crate::command_line::arguments::{
+    AFTER, AMONG, CHECK_TABLE, DECODE, JUMP, LIMIT, LOOKUP, REGISTER, TRIES, VARIANTS, has_flag,
+    has_strings, has_value, value_of,
+};
+use crate::command_line::counts::count_of;
+use clap::ArgMatches;
+
+/// The most bytes of `--after`.
+const MAX_START: usize = 1_024;
+
+/// Whether the options may stand together, and their values are in their ranges.
+pub(crate) fn is_allowed(matches: &ArgMatches<'_>) -> bool
+    ensures { result ≡ is_allowed (rows_of (found_of matches.now)) }
+{
+    names_one_mode(matches)
+        && bounds_variants(matches)
+        && jumps_by_table(matches)
+        && suits_among(matches)
+        && has_counts(matches)
+        && has_short_start(matches)
+        && checks_alone(matches)
+}
+
+/// The text of `--after`, which is empty where it is left out.
+pub(crate) fn start_of<'a>(matches: &ArgMatches<'a>) -> &'a str
+    ensures { result.now ≡ start_of (rows_of (found_of matches.now)) }
+{
+    match value_of(matches, AFTER) {
+        Some(text) => text,
+        None => "",
+    }
+}
+
+fn names_one_mode(matches: &ArgMatches<'_>) -> bool
+    ensures { result ≡ names_one_mode (rows_of (found_of matches.now)) }
+{
+    let named = [
+        has_flag(matches, LOOKUP),
+        has_flag(matches, REGISTER),
+        has_flag(matches, DECODE),
+        has_value(matches, VARIANTS),
+        has_value(matches, CHECK_TABLE),
+    ];
+    count_true(&named) <= 1
+}
+
+fn count_true(tests: &[bool]) -> usize
+    ensures { result ≡ count_by (λ test. test) tests.now }
+{
+    tests.iter().filter(|test| **test).count()
+}
+
+fn bounds_variants(matches: &ArgMatches<'_>) -> bool
+    ensures { result ≡ bounds_variants (rows_of (found_of matches.now)) }
+{
+    has_value(matches, VARIANTS) && !has_flag(matches, JUMP) || !bounds_listing(matches)
+}
+
+fn bounds_listing(matches: &ArgMatches<'_>) -> bool
+    ensures { result ≡ bounds_listing (rows_of (found_of matches.now)) }
+{
+    has_value(matches, AFTER)
+        || has_value(matches, LIMIT)
+        || has_value(matches, TRIES)
+        || has_value(matches, AMONG)
+}
+
+fn jumps_by_table(matches: &ArgMatches<'_>) -> bool
+    ensures { result ≡ jumps_by_table (rows_of (found_of matches.now)) }
+{
+    has_value(matches, VARIANTS) || !has_flag(matches, JUMP)
+}
+
+fn suits_among(matches: &ArgMatches<'_>) -> bool
+    ensures { result ≡ suits_among (rows_of (found_of matches.now)) }
+{
+    !has_value(matches, AMONG)
+        || !has_value(matches, TRIES) && file_of(matches) != among_of(matches)
+}
+
+/// The name of the table's file, which is empty where the mode has no table.
+pub(crate) fn file_of<'a>(matches: &ArgMatches<'a>) -> &'a str
+    ensures { result.now ≡ file_of (rows_of (found_of matches.now)) }
+{
+    match (value_of(matches, VARIANTS), value_of(matches, CHECK_TABLE)) {
+        (Some(file), _) => file,
+        (None, Some(file)) => file,
+        (None, None) => "",
+    }
+}
+
+fn among_of<'a>(matches: &ArgMatches<'a>) -> &'a str
+    ensures { result.now ≡ among_of (rows_of (found_of matches.now)) }
+{
+    match value_of(matches, AMONG) {
+        Some(file) => file,
+        None => "",
+    }
+}
+
+fn has_counts(matches: &ArgMatches<'_>) -> bool
+    ensures { result ≡ has_counts (rows_of (found_of matches.now)) }
+{
+    is_count_if_given(matches, LIMIT) && is_count_if_given(matches, TRIES)
+}
+
+fn is_count_if_given(matches: &ArgMatches<'_>, name: &str) -> bool
+    ensures { result ≡ is_count_if_given name.now (rows_of (found_of matches.now)) }
+{
+    match value_of(matches, name) {
+        Some(text) => count_of(text).is_some(),
+        None => true,
+    }
+}
+
+fn has_short_start(matches: &ArgMatches<'_>) -> bool
+    ensures { result ≡ has_short_start (rows_of (found_of matches.now)) }
+{
+    start_of(matches).len() <= MAX_START
+}
+
+fn checks_alone(matches: &ArgMatches<'_>) -> bool
+    ensures { result ≡ checks_alone (rows_of (found_of matches.now)) }
+{
+    !has_value(matches, CHECK_TABLE) || !has_strings(matches)
+}

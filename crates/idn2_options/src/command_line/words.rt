@@ -1,0 +1,139 @@
+//! The options that the words of the command line request.
+ghost use Rattle.std.specs.Prelude.{◌≡◌, IfOk, IsUtf8, OnOk, IfErr, List, [], codes, is_some, length, map, option_and_then, option_map, string_bytes, true};
+ghost use Rattle.std.specs.Str.{chars};
+ghost use Rattle.clap.specs.Words.{FailsBy, found_of, kind_of, rows_of};
+ghost use Rattle.idn2_options.specs.Settings.{IsWithinLimits, SuitsMode};
+ghost use Rattle.idn2_options.specs.Words.{IsAnswer, IsUsage, count_of, mode_of, options_of, settings_of, start_of, strings_of, value_of};
+
+use crate::command_line::arguments::{
+    AMONG, CHECK_TABLE, DECODE, JUMP, LIMIT, REGISTER, STD3, STRINGS, TRIES, VARIANTS, has_flag,
+    has_value, value_of,
+};
+use crate::command_line::command;
+use crate::command_line::counts::count_of;
+use crate::command_line::mode::Mode;
+use crate::command_line::options::Options;
+use crate::command_line::rules::{file_of, is_allowed, start_of};
+use crate::command_line::usage::Usage;
+use clap::error::ErrorKind;
+use clap::{ArgMatches, Error};
+use std::alloc::{AllocError, Global};
+
+/// `--tries` where it is left out.
+const DEFAULT_TRIES: u64 = 1_000_000;
+
+/// The options that the words request; the first word is the program's name. `clap`'s refusal comes
+/// first, the program's own rules after it, so that `--limit 0 -h` shows the help and `--bogus -h`
+/// is refused.
+pub fn read_options(alloc: Global, words: &[String]) -> Result<Options, Usage>
+    ensures answer { IsAnswer (options_of (map string_bytes words.now)) result }
+    ensures limits { IfOk result IsWithinLimits }
+    ensures suits { IfOk result SuitsMode }
+{
+    let matches = match command::matches(alloc, words) {
+        Ok(matches) => matches,
+        Err(error) => return Err(usage_of(alloc, &error)),
+    };
+    if !is_allowed(&matches) {
+        return Err(Usage::Bad);
+    }
+    Ok(settings_of(alloc, &matches)?)
+}
+
+// What `clap`'s error comes to: only help and the version have a text to be shown.
+fn usage_of(alloc: Global, error: &Error) -> Usage
+    ensures { IsUsage (kind_of error.now) result }
+{
+    match error.kind() {
+        ErrorKind::DisplayHelp | ErrorKind::DisplayVersion => {
+            match format!(in alloc; "{error}") {
+                Ok(text) => Usage::Show(text),
+                Err(_) => Usage::Memory,
+            }
+        }
+        ErrorKind::OutOfMemory => Usage::Memory,
+        _ => Usage::Bad,
+    }
+}
+
+fn settings_of(alloc: Global, matches: &ArgMatches<'_>) -> Result<Options, AllocError>
+    ensures value { IfOk result (λ options. options ≡ settings_of (rows_of (found_of matches.now))) }
+    ensures is_text { OnOk result (IsUtf8 (start_of (rows_of (found_of matches.now)))) }
+{
+    Ok(Options {
+        mode: mode_of(matches),
+        std3: has_flag(matches, STD3),
+        file: String::from_str(alloc, file_of(matches))?,
+        strings: strings_of(alloc, matches)?,
+        after: points_of(alloc, start_of(matches))?,
+        limit: count_at(matches, LIMIT),
+        tries: count_at(matches, TRIES).unwrap_or(DEFAULT_TRIES),
+        among: among_at(alloc, matches)?,
+    })
+}
+
+fn mode_of(matches: &ArgMatches<'_>) -> Mode
+    ensures { result ≡ mode_of (rows_of (found_of matches.now)) }
+{
+    if has_flag(matches, REGISTER) {
+        Mode::Register
+    } else if has_flag(matches, DECODE) {
+        Mode::Decode
+    } else if has_value(matches, VARIANTS) {
+        if has_flag(matches, JUMP) {
+            Mode::Jump
+        } else {
+            Mode::Variants
+        }
+    } else if has_value(matches, CHECK_TABLE) {
+        Mode::CheckTable
+    } else {
+        Mode::Lookup
+    }
+}
+
+/// The name of the file of registered labels, if there is one.
+fn among_at(alloc: Global, matches: &ArgMatches<'_>) -> Result<Option<String>, AllocError>
+    ensures { IfOk result (λ name. option_map string_bytes name ≡ value_of AMONG.now (rows_of (found_of matches.now))) }
+{
+    match value_of(matches, AMONG) {
+        Some(name) => Ok(Some(String::from_str(alloc, name)?)),
+        None => Ok(None),
+    }
+}
+
+fn strings_of(alloc: Global, matches: &ArgMatches<'_>) -> Result<Vec<String>, AllocError>
+    ensures { IfOk result (λ strings. map string_bytes strings.items ≡ strings_of (rows_of (found_of matches.now))) }
+{
+    match matches.get_strs(STRINGS) {
+        Some(strings) => copies(alloc, strings),
+        None => Ok(Vec::new(alloc)),
+    }
+}
+
+fn copies(alloc: Global, texts: &[&str]) -> Result<Vec<String>, AllocError>
+    ensures { IfOk result (λ copies. map string_bytes copies.items ≡ map (λ text. text.now) texts.now) }
+{
+    let mut copies = Vec::new(alloc);
+    for text in texts {
+        copies.push(String::from_str(alloc, text)?)?;
+    }
+    Ok(copies)
+}
+
+fn points_of(alloc: Global, text: &str) -> Result<Vec<u32>, AllocError>
+    ensures { IfOk result (λ points. points.items ≡ chars text.now) }
+{
+    // Not by `collect`, which goes on where the room that it takes ahead is refused.
+    let mut points = Vec::with_capacity(alloc, text.len())?;
+    for c in text.chars() {
+        points.push(u32::from(c))?;
+    }
+    Ok(points)
+}
+
+fn count_at(matches: &ArgMatches<'_>, name: &str) -> Option<u64>
+    ensures { result ≡ option_and_then count_of (value_of name.now (rows_of (found_of matches.now))) }
+{
+    count_of(value_of(matches, name)?)
+}

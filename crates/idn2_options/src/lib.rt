@@ -1,0 +1,11 @@
+//! What the words of the command line request: the options of a run, and the input that the words give.
+#![tactic(auto)]
+
+mod command_line;
+pub mod laws;
+
+pub use command_line::mode::Mode;
+pub use command_line::options::Options;
+pub use command_line::strings::input_text;
+pub use command_line::usage::Usage;
+pub use command_line::words::read_options;
