@@ -1,7 +1,9 @@
 -- A listing that is kept to registered labels, step by step.
-use Rattle.std.proofs.Common.{◌≡◌, ◌≤◌, ◌+◌, ◌-◌, ℕ, zero, suc, List, [], ◌∷◌, ◌++◌, Bool, true, false, Option, Some, None, IfSome, Result, Err, length, refl, sym, ap, subst, ◌∙◌, if◌then◌else◌, arith}
+use Rattle.std.proofs.Common.{◌≡◌, ◌≤◌, ◌+◌, ◌-◌, ℕ, zero, suc, List, [], ◌∷◌, ◌++◌, Bool, true, false, Option, Some, None, IfSome, Result, Err, All, length, drop, refl, sym, ap, subst, ◌∙◌, if◌then◌else◌, arith}
 use Rattle.std.specs.List.{filter, slice_get}
 use Rattle.std.proofs.lemmas.List.{append_assoc}
+use Rattle.std.proofs.lemmas.List.Elements.{All-drop, All-filter, All-head, All-tail}
+use Rattle.idn_label.specs.FirstFault.{IsRegistrable}
 use Rattle.variant_table.specs.WellFormed.{IsWellFormed}
 use Rattle.variant_list.specs.Labels.{IsRising}
 use Rattle.variant_list.specs.Positions.{Built}
@@ -11,7 +13,7 @@ use Rattle.variant_list.proofs.OrderLemmas.{IsRising-unique}
 use Rattle.variant_list.specs.Variants.{variants}
 use Rattle.variant_list.proofs.VariantLists.{variants-AreVariants}
 use Rattle.registered_labels.specs.Registered.{AreRegistered}
-use Rattle.registered_labels.specs.Collisions.{Matching, IsBegun, collisions, collisions_ahead}
+use Rattle.registered_labels.specs.Collisions.{Matching, IsBegun, collisions, collisions_ahead, is_spelled}
 use Rattle.registered_labels.proofs.ListedCollisions.{collisions-exactly, collisions-variants}
 use Rattle.idn2_options.specs.Settings.{Settings, IsCount, IsWithinLimits, keeping}
 use Rattle.idn2_cli.specs.Transcript.{Piece, Output, output_lines}
@@ -105,6 +107,7 @@ module _ (field : List ℕ → List ℕ) where
     pub split : output_lines (block_by field (keeping (Some labels) o) net.table net.label) ≡ so_far ++ output_lines (lines_from (line_of field) o.limit count (collisions_ahead s))
     pub pieces : Writes old now so_far
     pub few : count + length (collisions_ahead s) ≤ total
+    pub registrable : All IsRegistrable (collisions_ahead s)
 
   filter-few : (test : List ℕ → Bool) (xs : List (List ℕ)) → length (filter test xs) ≤ length xs
   filter-few test [] = omega arith
@@ -123,6 +126,8 @@ module _ (field : List ℕ → List ℕ) where
         split = ap output_lines (block-from o net labels formed all limits.limit) ∙ ap (λ (l : List (List ℕ)). output_lines (lines_from (line_of field) o.limit 0 l)) (sym ahead);
         pieces = writes_nothing old;
         few = omega (arith, count, same_total);
+        registrable = subst (λ (ls : List (List ℕ)). All IsRegistrable (filter (is_spelled s.net) (drop s.passed ls))) (sym begun.registered)
+            (All-filter (is_spelled s.net) IsRegistrable (drop s.passed labels) (All-drop IsRegistrable s.passed labels all.registrable));
       }
 
   -- no label is left
@@ -138,6 +143,12 @@ module _ (field : List ℕ → List ℕ) where
       → output_lines (block_by field (keeping (Some labels) o) net.table net.label) ≡ h.so_far ++ (Output (line_of field next.label ++ 10 ∷ []) ∷ output_lines (lines_behind (line_of field) o.limit count next.label (collisions_ahead next)))
   next-split o net labels old now s next count total h found =
       h.split ∙ ap (λ (l : List (List ℕ)). h.so_far ++ output_lines (lines_from (line_of field) o.limit count l)) found
+
+  -- it may be registered
+  pub under_way-registrable : {o : Settings} {net : Built} {labels : List (List ℕ)} {old now : Held} {count total : ℕ} (s next : Matching) (v : List ℕ) → IsUnderWay o net labels old now s count total
+      → collisions_ahead s ≡ next.label ∷ collisions_ahead next → v ≡ next.label → IsRegistrable v
+  under_way-registrable s next v h found is =
+      subst IsRegistrable (sym is) (All-head IsRegistrable next.label (collisions_ahead next) (subst (All IsRegistrable) found h.registrable))
 
   -- its line could not be written whole
   pub under_way-broken : {A : Type 0} (o : Settings) (net : Built) (labels : List (List ℕ)) (old now new : Held) (s next : Matching) (count total : ℕ) (v : List ℕ) (r : Result A Stop) (why : Stop) → IsUnderWay o net labels old now s count total
@@ -160,6 +171,7 @@ module _ (field : List ℕ → List ℕ) where
             ∙ sym (append_assoc h.so_far line (output_lines (lines_from (line_of field) o.limit (count + 1) (collisions_ahead next))));
         pieces = writes_join old now new h.so_far line h.pieces (subst (λ (u : List ℕ). Writes now new (Output (line_of field u ++ 10 ∷ []) ∷ [])) is written);
         few = omega (arith, h.few, fewer);
+        registrable = All-tail IsRegistrable next.label (collisions_ahead next) (subst (All IsRegistrable) found h.registrable);
       }
 
   -- its line is written, and is the last

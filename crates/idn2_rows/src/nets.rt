@@ -1,7 +1,7 @@
 //! Nets and the tables that they are made of, for the tests of listings.
 use std::alloc::{AllocError, Global};
 use std::test::Fail;
-use variant_list::{Net, NetFault};
+use variant_list::{Net, NetFault, SpellingTest};
 use variant_table::Table;
 
 /// a and aa for each other.
@@ -108,6 +108,24 @@ fn labels_that_are_spelled(rt: HostRuntime) -> Result<(), Fail> {
     for (table, label, other, want) in SPELLED.iter() {
         let is_spelled = spells(rt.alloc(), table, label, other)?;
         assert_eq!(&rt; is_spelled, *want, "{label} spells {other}");
+    }
+    Ok(())
+}
+
+/// A test answers each label as if it were the first that it is asked.
+#[test]
+fn labels_that_are_spelled_one_after_the_other(rt: HostRuntime) -> Result<(), Fail> {
+    for (table, label, other, want) in SPELLED.iter() {
+        let net = net(rt.alloc(), table, label)?;
+        let mut test = SpellingTest::new(rt.alloc(), net)?;
+        let label_points = points(rt.alloc(), label)?;
+        let other_points = points(rt.alloc(), other)?;
+        for time in 1..4 {
+            let is_spelled = test.spells(&other_points);
+            assert_eq!(&rt; is_spelled, *want, "{label} spells {other}, time {time}");
+            let itself = test.spells(&label_points);
+            assert!(&rt; itself, "{label} spells itself, time {time}");
+        }
     }
     Ok(())
 }

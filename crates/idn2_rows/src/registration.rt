@@ -2,7 +2,7 @@
 //! sections of RFC 5891, RFC 5892 and RFC 5893.
 use crate::a_labels_of_others::{LIBIDN2, RFC_3492};
 use crate::label_calls::{letters, points_of, told};
-use idn_label::{register, test_label};
+use idn_label::{encode_label, register, test_label};
 use idn_text::Refusal;
 use std::alloc::Global;
 use std::process::Abort;
@@ -90,7 +90,7 @@ fn have_a_labels(rt: &impl Abort, alloc: Global, pairs: &[(&str, &str)]) -> Resu
     Ok(())
 }
 
-/// Tests a label as it stands, and asserts the answer.
+/// Tests a label as it stands, and asserts the answer; one that may be registered is encoded without a test, too.
 fn passes(
     rt: &impl Abort,
     alloc: Global,
@@ -100,6 +100,10 @@ fn passes(
     let points = points_of(label)?;
     let tested = test_label(alloc, &points);
     assert_eq!(rt; told(&tested), expected, "{label}");
+    if tested.is_ok() {
+        let a_label = encode_label(&points);
+        assert_eq!(rt; Ok(a_label.as_str()), expected, "{label}");
+    }
     Ok(())
 }
 

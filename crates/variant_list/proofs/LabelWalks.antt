@@ -1,7 +1,5 @@
 -- What a walk of a label over a net knows of the rest of the label.
-use Rattle.std.proofs.Common.{◌≡◌, ℕ, ◌<◌, ◌≤◌, List, [], ◌∷◌, Bool, length, refl, sym, subst, inl, inr, ◌↔◌}
-use Rattle.std.specs.Prelude.{Result, Ok, Err, IsTrue, IfOk}
-use Rattle.std.specs.declared.alloc.AllocError.{AllocError}
+use Rattle.std.proofs.Common.{◌≡◌, ℕ, ◌<◌, ◌≤◌, List, [], ◌∷◌, length, refl, sym, subst, inl, inr, ◌↔◌}
 use Rattle.variant_list.specs.inner.Holding.{BitRows, Holds, HoldsInside, Gains}
 use Rattle.variant_list.specs.inner.Plans.{Plan, IsPlan, Reads, first_place}
 use Rattle.variant_list.specs.inner.Scans.{IsFilled}
@@ -41,8 +39,3 @@ module _ (net : Plan) (old new : BitRows) (row into point within : ℕ) (filled 
 -- no code point is left
 pub ReadsFromRow-end : (net : Plan) (rows : BitRows) (level : ℕ) → ReadsFromRow net rows level [] ↔ Holds rows level 0
 ReadsFromRow-end net rows level = (λ h. subst (Holds rows level) h.2 h.1, λ h. (0, h, refl))
-
--- an answer that tells whether P holds tells the same of Q
-pub IfOk-same : (answer : Result Bool AllocError) (P Q : Type 0) → P ↔ Q → IfOk answer (λ b. IsTrue b ↔ P) → IfOk answer (λ b. IsTrue b ↔ Q)
-IfOk-same (Ok b) P Q same h = (λ t. same.0 (h.0 t), λ q. h.1 (same.1 q))
-IfOk-same (Err e) P Q same h = tt

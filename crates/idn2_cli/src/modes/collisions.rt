@@ -12,7 +12,7 @@ use crate::modes::dispositions::Dispositions;
 use crate::modes::kept_line::KeptLine;
 use crate::session::console::Console;
 use crate::session::stop::Stop;
-use idn_label::test_label;
+use idn_label::encode_label;
 use idn_text::Sink;
 use idn2_options::Options;
 use registered_labels::{Collisions, RegisteredLabels};
@@ -42,10 +42,7 @@ pub(crate) fn write_collisions<W: Sink, E: Sink>(
     let mut line = KeptLine::new();
     'collisions: while search.advance() {
         let label = search.label();
-        // Each may be registered, so only memory can be wanting.
-        let Ok(a_label) = test_label(alloc, label) else {
-            return Err(Stop::Memory);
-        };
+        let a_label = encode_label(label);
         let field = dispositions.field(alloc, label)?;
         write_variant(label, &a_label, field, &mut line, console)?;
         count += 1;

@@ -10,7 +10,7 @@ use Rattle.idn2_cli.specs.inner.Dispositions.{field_by}
 use Rattle.idn2_cli.specs.inner.LineAnswers.{reaches}
 use Rattle.idn2_cli.specs.Transcript.{Output}
 use Rattle.idn2_cli.proofs.WrittenPieces.{stops_first, emits_as, writes_as}
-use Rattle.idn2_cli.proofs.CollisionSteps.{under_way-start, under_way-ended, under_way-broken, under_way-found, under_way-reached}
+use Rattle.idn2_cli.proofs.CollisionSteps.{under_way-start, under_way-ended, under_way-broken, under_way-registrable, under_way-found, under_way-reached}
 use Rattle.idn2_cli.proofs.modes.collisions.write_collisions.Goals as goal
 
 -- the line with the same field
@@ -35,13 +35,21 @@ returns-in_err-write_variant g c =
     (OnTrue_at c.collisions-test.true c.advance.ensures.found) c.label-label.ensures
     (emits_as _ _ Output _ _ c.write_variant.result (line_is c.label-label.result.now c.in_ok-field.ensures.field) c.write_variant.ensures) (c.in_err-write_variant.was ∙ ap Err (sym p.2)))
 
+pub encode_label-a_label-requires : goal.encode_label-a_label-requires
+encode_label-a_label-requires g c = under_way-registrable (field_by c.args.dispositions.now) c.collisions.search c.advance.new.self c.label-label.result.now c.collisions.invariant.under_way (OnTrue_at c.collisions-test.true c.advance.ensures.found) c.label-label.ensures
+
+pub write_variant-requires-clause-registrable : goal.write_variant-requires-clause-registrable
+write_variant-requires-clause-registrable g c = under_way-registrable (field_by c.args.dispositions.now) c.collisions.search c.advance.new.self c.label-label.result.now c.collisions.invariant.under_way (OnTrue_at c.collisions-test.true c.advance.ensures.found) c.label-label.ensures
+
 pub write_stop-requires-clause-short : goal.write_stop-requires-clause-short
 write_stop-requires-clause-short g c =
-    subst (λ (v : List ℕ). length v ≤ 63) (c.label-label.ensures ∙ sym c.label.ensures) (MeetsRequirements-registrable c.label-label.result.now c.in-Ok.ensures.registrable).points
+    let registrable = under_way-registrable (field_by c.args.dispositions.now) c.collisions.search c.advance.new.self c.label-label.result.now c.collisions.invariant.under_way (OnTrue_at c.collisions-test.true c.advance.ensures.found) c.label-label.ensures in
+    subst (λ (v : List ℕ). length v ≤ 63) (c.label-label.ensures ∙ sym c.label.ensures) (MeetsRequirements-registrable c.label-label.result.now registrable).points
 
 pub write_stop-requires-clause-scalar_values : goal.write_stop-requires-clause-scalar_values
 write_stop-requires-clause-scalar_values g c =
-    subst AreScalarValues (c.label-label.ensures ∙ sym c.label.ensures) (registrable_scalars c.label-label.result.now c.in-Ok.ensures.registrable)
+    let registrable = under_way-registrable (field_by c.args.dispositions.now) c.collisions.search c.advance.new.self c.label-label.result.now c.collisions.invariant.under_way (OnTrue_at c.collisions-test.true c.advance.ensures.found) c.label-label.ensures in
+    subst AreScalarValues (c.label-label.ensures ∙ sym c.label.ensures) (registrable_scalars c.label-label.result.now registrable)
 
 pub returns-then-is_reached : goal.returns-then-is_reached
 returns-then-is_reached g c =

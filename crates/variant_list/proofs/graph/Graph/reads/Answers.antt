@@ -20,7 +20,7 @@ loop-index-preserved c =
     let next : drop index label ≡ point ∷ rest = drop_more label index 0 less in
     record {
       low = omega arith;
-      inside = HoldsInside-next net c.loop-index.rows c.fill.new.rows row (1 - row) point within c.fill.ensures.filled c.places.ensures.is_net;
+      inside = HoldsInside-next net c.loop-index.rows c.fill.new.rows row (1 - row) point within c.fill.ensures.filled c.first.ensures.is_net;
       wide = omega (arith, c.loop-index.invariant.wide, ap (λ w. 64 * w) c.fill.ensures.size);
       reads = (
         λ h. step.0 (subst (ReadsFromRow net c.loop-index.rows row) next (before.0 h)),
@@ -28,8 +28,8 @@ loop-index-preserved c =
       );
     }
 
-pub returns : goal.returns
-returns c =
+pub returns-clause-reads : goal.returns-clause-reads
+returns-clause-reads c =
     let net : Plan = c.args.self.now in
     let label : List ℕ = c.args.label.now in
     let none : drop c.loop-index.index label ≡ [] = drop_all c.loop-index.index label (omega arith) in
