@@ -4,6 +4,7 @@ and lines at each limit, registered labels in files of every kind, and listings 
 line is 'N passed, M failed', and the exit status is 0 where nothing failed."""
 
 import concurrent.futures
+import fcntl
 import os
 import resource
 import subprocess
@@ -126,7 +127,10 @@ class Refusing:
 
     def run(self, case, **refused):
         """What is answered, and whether anything was refused."""
-        told, teller = os.pipe()
+        told, low = os.pipe()
+        # Far from the numbers of the files that the program opens: FROM names the first of them, 3.
+        teller = fcntl.fcntl(low, fcntl.F_DUPFD_CLOEXEC, 64)
+        os.close(low)
         with tempfile.TemporaryDirectory(dir=self.folder) as here:
             case.write_files(here)
             env = {name: str(value) for name, value in refused.items()}
