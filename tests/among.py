@@ -208,6 +208,53 @@ def refuses_options_that_do_not_go_together(folder):
         expect(words, b"haus\n", b"", b"idn2: 50 usage\n", 2)
 
 
+def refuses_a_pipe_for_two(folder):
+    """What is read second would be empty: lines of which none is answered, or labels that all seem free. Nobody writes into
+    the FIFO, so nothing may wait for it."""
+    among = [*TABLE_WORDS, "--among"]
+    fifo, link, input_link = (os.path.join(folder, name) for name in ("fifo", "link", "input"))
+    os.mkfifo(fifo)
+    os.symlink(fifo, link)
+    os.symlink("/dev/stdin", input_link)
+    names = ("/dev/stdin", "/dev/fd/0", "/proc/self/fd/0", "/dev/../dev/stdin", input_link)
+    for words in (*([*among, name] for name in names), *(["--variants", name] for name in names),
+                  ["--variants", "/dev/stdin", "--jump"],
+                  ["--variants", "/dev/stdin", "--among", "/dev/fd/0", "haus"],
+                  ["--variants", "/dev/fd/0", "--among", input_link],
+                  ["--variants", fifo, "--among", link, "haus"],
+                  ["--variants", link, "--among", fifo]):
+        expect(words, b"haus\n", b"", b"idn2: 50 usage\n", 2)
+    read, write = os.pipe()
+    copy = os.dup(read)
+    os.close(write)
+    done = run(["--variants", f"/dev/fd/{read}", "--among", f"/dev/fd/{copy}", "haus"], pass_fds=[read, copy])
+    assert (done.stdout, done.stderr, done.returncode) == (b"", b"idn2: 50 usage\n", 2), done
+    os.close(read)
+    os.close(copy)
+
+
+def reads_a_stream_where_nobody_else_does(folder):
+    """A pipe where STRINGS are given or no line is read, two pipes, a file that is opened twice, and what is empty."""
+    block = b"haus\thaus\tallocatable\n#end 1\n"
+    among = [*TABLE_WORDS, "--among"]
+    expect([*among, "/dev/stdin", "haus"], b"haus\n", block, b"", 0)
+    expect(["--variants", "/dev/stdin", "--among", registered_file(folder, "a\n"), "a"], b"0061\n", b"a\ta\n#end 1\n", b"", 0)
+    expect(["--check-table", "/dev/stdin"], b"0061\n", b"#table 1 0\n", b"", 0)
+    expect([*among, "-", "haus"], b"haus\n", b"", b"idn2: 60 read fault\n", 3)
+    with open(registered_file(folder, "haus\n"), "rb") as labels:
+        done = subprocess.run([PROGRAM, *among, "/dev/stdin"], stdin=labels, capture_output=True, timeout=LIMIT)
+    assert (done.stdout, done.stderr, done.returncode) == (block, b"", 0), done
+    for words in (["--variants", "/dev/null", "--among", labels.name], [*among, "/dev/null"]):
+        done = subprocess.run([PROGRAM, *words], stdin=subprocess.DEVNULL, capture_output=True, timeout=LIMIT)
+        assert (done.stdout, done.stderr, done.returncode) == (b"", b"", 0), done
+    pipe, writer = os.pipe()
+    os.write(writer, b"haus\n")
+    os.close(writer)
+    done = run([*among, f"/dev/fd/{pipe}"], b"haus\n", pass_fds=[pipe])
+    os.close(pipe)
+    assert (done.stdout, done.stderr, done.returncode) == (block, b"", 0), done
+
+
 def answers_the_least_label_from_a_text_on(folder):
     for table, lines, answers, messages in JUMPS:
         words = ["--variants", table_of(folder, table), "--jump"]
@@ -398,6 +445,8 @@ TESTS = [
     refuses_a_file_by_its_first_wrong_line,
     tells_which_file_is_faulty,
     refuses_options_that_do_not_go_together,
+    refuses_a_pipe_for_two,
+    reads_a_stream_where_nobody_else_does,
     answers_the_least_label_from_a_text_on,
     finds_the_same_in_three_ways,
     jumps_to_the_least_of_all_that_is_spelled,

@@ -42,9 +42,6 @@ class Case(NamedTuple):
     def given(self):
         return "".join(line for line, _, _ in self.lines).encode()
 
-    def refuses_registered(self):
-        return self.whole()[1].startswith(b"idn2: registered line ")
-
     def write_files(self, folder):
         table_file(folder, self.table, "table")
         if self.registered is not None:
@@ -207,11 +204,10 @@ def each_byte_of_the_output_is_refused(folder):
 
 
 def each_byte_of_the_messages_is_refused(folder):
-    """The bytes before it stand, with the answers before its message, and no further line is served. Where the registered
-    labels are refused, nothing is served anyway, and the status stays."""
+    """The bytes before it stand, with the answers before its message, and no further line is served."""
     def wanted(case, number):
         output, messages = stopped_at(case, False, number)
-        return [(output, messages, 2 if case.refuses_registered() else 3)]
+        return [(output, messages, 3)]
     for once in (0, 1):
         Refusing(folder).each("WRITE", wanted, TO=2, PIECE=1, ONCE=once)
 

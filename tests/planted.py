@@ -170,7 +170,9 @@ def verdicts(copy, batch):
             yield edit, False, f"it doesn't compile: {unread[:160]}"
         else:
             named = next((line for line in lines if PROOF.match(line)), None)
-            yield edit, False, f"refused by a name alone: {named[:160]}" if named else f"no verdict: {lines[-1:]}"
+            # what the prover says of code that it can't take, if it does
+            told = next((line for line in lines if ": no proof: " in line), lines[-1] if lines else "")
+            yield edit, False, f"refused by a name alone: {named[:160]}" if named else f"no verdict: {told[:300]}"
 
 
 def try_crate(crate, folder):

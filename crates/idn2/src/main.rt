@@ -1,6 +1,7 @@
 //! The command `idn2`: its words, its files, and one run from its input to its output.
 #![tactic(auto)]
 
+mod pipes;
 mod streams;
 mod system;
 
@@ -38,6 +39,9 @@ fn serve(rt: &HostRuntime) -> Result<Status, Refusal>
         Err(Usage::Memory) => return Err(Refusal::Memory),
     };
     let given = input_text(rt.alloc(), &options)?;
+    if pipes::is_read_twice(rt, &options, given.is_some()) {
+        return Err(Refusal::Usage);
+    }
     let table = read_table(rt, &options)?;
     let file = read_registered(rt, &options)?;
     let registered = match labels_of(rt.alloc(), &file) {

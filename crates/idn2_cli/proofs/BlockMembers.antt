@@ -78,8 +78,8 @@ hope-rule (c ∷ v) h (suc k) bad = by_length (nat_le (suc k) (length (c ∷ v))
 
 same_tried : (o : Settings) (table : List Entry) (label v : List ℕ) → (IsTested hopeless table label o.after v × (o.registered ≡ None) → IsTried o table label v) × (IsTried o table label v → IsTested hopeless table label o.after v × (o.registered ≡ None))
 same_tried o table label v = (
-  λ t. record { short = t.0.short; hope = hope-rule v t.0.hope; greater = t.0.greater; spelled = t.0.spelled; all = t.1 },
-  λ t. (record { spelled = t.spelled; short = t.short; greater = t.greater; hope = λ k low high. clear (take k v) (t.hope k) }, t.all),
+  λ t. record { short = t.0.short; hope = hope-rule v t.0.hope; greater = t.0.greater; spelled = t.0.spelled; whole = t.1 },
+  λ t. (record { spelled = t.spelled; short = t.short; greater = t.greater; hope = λ k low high. clear (take k v) (t.hope k) }, t.whole),
 )
 
 -- all of a list are tested, or none

@@ -197,14 +197,14 @@ pub record IsListed (o : Settings) (table : List Entry) (label v : List ℕ) : T
   pub spelled : Spells table label v
   pub kept : IsKept o.registered v
 
--- a label of at most 63 code points that arises so, greater than the text, with no hopeless beginning; none, if the listing is
--- kept to registered labels
+-- a label of at most 63 code points that arises so, greater than the text, with no hopeless beginning, where the listing is
+-- whole: one that is kept to registered labels tries none
 pub record IsTried (o : Settings) (table : List Entry) (label v : List ℕ) : Type 0 where
   pub short : length v ≤ 63
   pub hope : HasHope v
   pub greater : IsBelow o.after v
   pub spelled : Spells table label v
-  pub all : o.registered ≡ None
+  pub whole : o.registered ≡ None
 
 -- a field that says whether this holds, in the words of version 2; version 1 has none
 abbrev pub IsFieldOf : Version → Type 0 → List ℕ → Type 0

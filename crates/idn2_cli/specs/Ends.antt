@@ -167,18 +167,21 @@ closing_status WriteFault = Faulty
 closing_status Memory = OutOfMemory
 closing_status _ = Unusable
 
--- what is told of a file that is not read as registered labels, and the status
-abbrev pub unread_message : RegisterFault → List ℕ
-unread_message (registers.Refused line refusal) = registered_message line refusal
-unread_message registers.Memory = closing_message Memory
-
-abbrev pub unread_status : RegisterFault → Status
-unread_status (registers.Refused line refusal) = Unusable
-unread_status registers.Memory = OutOfMemory
+-- a writer failed, and took a proper prefix of the text
+abbrev pub LosesText : List ℕ → Writer → Writer → Type 0
+LosesText text old new = (taken : ℕ) × TakesPart old new text taken
 
 -- a writer took the text, or a proper prefix of it where it failed
 abbrev pub TakesText : List ℕ → Writer → Writer → Type 0
-TakesText text old new = TakesWhole old new text ⊎ ((taken : ℕ) × TakesPart old new text taken)
+TakesText text old new = TakesWhole old new text ⊎ LosesText text old new
+
+-- what a file leads to that is not read as registered labels, its message and the status: 2, or 3 where the writer failed,
+-- for a line that is wrong, as for a table's; for want of memory as ever
+abbrev pub TellsUnread : RegisterFault → Writer → Writer → Status → Type 0
+TellsUnread (registers.Refused line refusal) old new status =
+    (TakesWhole old new (registered_message line refusal) × (status ≡ Unusable))
+    ⊎ (LosesText (registered_message line refusal) old new × (status ≡ Faulty))
+TellsUnread registers.Memory old new status = TakesText (closing_message Memory) old new × (status ≡ closing_status Memory)
 
 -- the refusal that is reported where a run stops
 abbrev pub refusal_of : Stop → Refusal

@@ -17,7 +17,7 @@ pub record Settings : Type 0 where
   pub among : Option (List ℕ)
   pub registered : Option (List (List ℕ))
 
--- the same options, with listings kept to these labels, or to none in particular
+-- the same options, with listings kept to these labels; or whole, where there are none
 abbrev pub keeping : Option (List (List ℕ)) → Settings → Settings
 keeping labels o = record o { registered = labels }
 

@@ -9,7 +9,7 @@ use Rattle.std.specs.Str.Lines.{strip_carriage_return}
 use Rattle.std.proofs.lemmas.Bool.{cases_lt}
 use Rattle.std.proofs.lemmas.List.{append-nil, map-append, take-append-drop, take_all, take_min}
 use Rattle.idn_text.specs.Points.{IsUtf8Of, utf8_of}
-use Rattle.idn_text.specs.Lines.{raw_lines, body_of}
+use Rattle.idn_text.specs.Lines.{raw_lines, joined_lines, body_of}
 use Rattle.idn_text.specs.declared.refusal.Refusal.{Refusal}
 use Rattle.idn_text.specs.declared.refusal.Refusal.TheVariants.{LineTooLong, NotUtf8}
 use Rattle.idn_text.specs.declared.refusal.Refusal.TheVariants as refusals
@@ -105,9 +105,19 @@ pub record HasRead (text : List ℕ) (at number : ℕ) (labels : List (List ℕ)
   pub split : raw_lines text ≡ front ++ raw_lines (drop at text)
   pub read : AreLinesOf front labels
   pub counted : number ≡ length front
+  pub placed : at ≡ length (joined_lines front)
 
 pub HasRead-none : (text : List ℕ) → HasRead text 0 0 []
-HasRead-none text = record { front = []; split = refl; read = refl; counted = refl }
+HasRead-none text = record { front = []; split = refl; read = refl; counted = refl; placed = refl }
+
+-- a line and its line feed more
+length-joined : (lines : List (List ℕ)) (line : List ℕ) → length (joined_lines (lines ++ line ∷ [])) ≡ length (joined_lines lines) + length line + 1
+length-joined [] line = omega (arith, length-append line (10 ∷ []))
+length-joined (first ∷ lines) line =
+    omega (arith, length-append first (10 ∷ joined_lines (lines ++ line ∷ [])), length-append first (10 ∷ joined_lines lines), length-joined lines line)
+
+pub length-next : (text : List ℕ) (at end : ℕ) → IsLineEnd text at end → length (slice_range text at end) ≡ end - at
+length-next text at end is = omega (arith, is.reached, is.within, length-take (end - at) (drop at text), length-drop at text)
 
 pub HasRead-more : (text : List ℕ) (at end number len : ℕ) (labels : List (List ℕ)) (label : List ℕ) → at < length text → IsLineEnd text at end → IsReadAs (slice_range text at end) len label → HasRead text at number labels → HasRead text (end + 1) (number + 1) (labels ++ label ∷ [])
 HasRead-more text at end number len labels label more is read h =
@@ -118,6 +128,7 @@ HasRead-more text at end number len labels label more is read h =
       split = h.split ∙ ap (λ xs. h.front ++ xs) (raw_lines-next text at end more is) ∙ sym (append_assoc h.front (line ∷ []) (raw_lines (drop (end + 1) text)));
       read = map-append body_of h.front (line ∷ []) ∙ ap (λ xs. xs ++ body_of line ∷ []) h.read ∙ ap (λ o. map (λ v. Some (utf8_of v)) labels ++ o ∷ []) body ∙ sym (map-append (λ v. Some (utf8_of v)) labels (label ∷ []));
       counted = omega (arith, h.counted, length-append h.front (line ∷ []));
+      placed = omega (arith, is.reached, h.placed, length-joined h.front line, length-next text at end is);
     }
 
 pub IsTextOf-read : (text : List ℕ) (at number : ℕ) (labels : List (List ℕ)) → length text ≤ at → HasRead text at number labels → AreRegistered labels → IsTextOf text labels
@@ -126,7 +137,7 @@ IsTextOf-read text at number labels past h all = record {
   registered = all;
 }
 
-pub IsFirstWrong-here : (text : List ℕ) (at end number : ℕ) (labels : List (List ℕ)) (W : List (List ℕ) → Option (List ℕ) → Type 0) → at < length text → IsLineEnd text at end → HasRead text at number labels → AreRegistered labels → W labels (body_of (slice_range text at end)) → IsFirstWrong text (number + 1) W
+pub IsFirstWrong-here : (text : List ℕ) (at end number : ℕ) (labels : List (List ℕ)) (W : ℕ → List (List ℕ) → List ℕ → Type 0) → at < length text → IsLineEnd text at end → HasRead text at number labels → AreRegistered labels → W at labels (slice_range text at end) → IsFirstWrong text (number + 1) W
 IsFirstWrong-here text at end number labels W more is h all wrong = record {
   before = h.front;
   line = slice_range text at end;
@@ -136,7 +147,7 @@ IsFirstWrong-here text at end number labels W more is h all wrong = record {
   labels = labels;
   read = h.read;
   registered = all;
-  wrong = wrong;
+  wrong = subst (λ n. W n labels (slice_range text at end)) h.placed wrong;
 }
 
 -- ---- the last label
@@ -172,7 +183,7 @@ IsOutOfOrder-seen line len labels last label o b read is e f t = elim is [
 pub accepted_label : (line : List ℕ) (len : ℕ) (label : List ℕ) → IsReadAs line len label → line_refusal (body_of line) ≡ None
 accepted_label line len label is = ap line_refusal is.body ∙ utf8_fault-points (take len line) label is.read ∙ is.registrable
 
-pub IsFaultOf-refused : (text : List ℕ) (line : ℕ) (refusal : Refusal) → (refusal ≢ refusals.Memory → IsFirstWrong text line (IsWrongBy refusal text)) → IsFaultOf text (fault_of line refusal)
+pub IsFaultOf-refused : (text : List ℕ) (line : ℕ) (refusal : Refusal) → (refusal ≢ refusals.Memory → IsFirstWrong text line (IsWrongBy refusal)) → IsFaultOf text (fault_of line refusal)
 IsFaultOf-refused text line refusals.Memory h = tt
 IsFaultOf-refused text line refusal h = h (λ e. cc)
 

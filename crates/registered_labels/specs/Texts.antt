@@ -1,6 +1,6 @@
 -- The text of a registry's labels: one on each line, each greater than the one before.
 use Rattle.std.specs.Prelude.{◌≡◌, ◌⊎◌, ℕ, ◌+◌, ◌≤◌, ◌^◌, List, [], ◌∷◌, ◌++◌, length, map, Option, Some, None}
-use Rattle.idn_text.specs.Lines.{raw_lines, body_of}
+use Rattle.idn_text.specs.Lines.{raw_lines, joined_lines, body_of}
 use Rattle.idn_text.specs.Points.{utf8_of}
 use Rattle.idn_text.specs.declared.refusal.Refusal.{Refusal}
 use Rattle.idn_text.specs.declared.refusal.Refusal.TheVariants.{LineTooLong, OutOfOrder, FileTooLong}
@@ -25,8 +25,9 @@ abbrev pub line_refusal : Option (List ℕ) → Option Refusal
 line_refusal None = Some LineTooLong
 line_refusal (Some bytes) = utf8_fault bytes
 
--- all lines before the line of this number, from 1, are labels in label order, and the line is wrong after them
-pub record IsFirstWrong (text : List ℕ) (number : ℕ) (IsWrong : List (List ℕ) → Option (List ℕ) → Type 0) : Type 0 where
+-- all lines before the line of this number, from 1, are labels in label order, and the line, behind so many bytes of the text,
+-- is wrong after them
+pub record IsFirstWrong (text : List ℕ) (number : ℕ) (IsWrong : ℕ → List (List ℕ) → List ℕ → Type 0) : Type 0 where
   pub before : List (List ℕ)
   pub line : List ℕ
   pub rest : List (List ℕ)
@@ -35,7 +36,7 @@ pub record IsFirstWrong (text : List ℕ) (number : ℕ) (IsWrong : List (List �
   pub labels : List (List ℕ)
   pub read : AreLinesOf before labels
   pub registered : AreRegistered labels
-  pub wrong : IsWrong labels (body_of line)
+  pub wrong : IsWrong (length (joined_lines before)) labels line
 
 -- the line is a label that may be registered, but is not greater than the last of these
 pub record IsOutOfOrder (labels : List (List ℕ)) (body : Option (List ℕ)) : Type 0 where
@@ -47,16 +48,17 @@ pub record IsOutOfOrder (labels : List (List ℕ)) (body : Option (List ℕ)) : 
   pub ending : labels ≡ front ++ last ∷ []
   pub not_greater : ¬ IsBelow last label
 
--- a line after these labels is wrong by itself; or it is not greater than the last of them; or the text has 2^32 bytes or more
-abbrev pub IsWrongBy : Refusal → List ℕ → List (List ℕ) → Option (List ℕ) → Type 0
-IsWrongBy refusal text labels body =
-    (line_refusal body ≡ Some refusal)
-    ⊎ ((refusal ≡ OutOfOrder) × IsOutOfOrder labels body)
-    ⊎ ((refusal ≡ FileTooLong) × (line_refusal body ≡ None) × (2 ^ 32 ≤ length text))
+-- a line behind so many bytes of the text, and after these labels, is wrong by itself; or it is not greater than the last of
+-- them; or it is a label that may be registered, and it ends after byte 2^32 - 1 of the text, where the first is byte 1
+abbrev pub IsWrongBy : Refusal → ℕ → List (List ℕ) → List ℕ → Type 0
+IsWrongBy refusal at labels line =
+    (line_refusal (body_of line) ≡ Some refusal)
+    ⊎ ((refusal ≡ OutOfOrder) × IsOutOfOrder labels (body_of line))
+    ⊎ ((refusal ≡ FileTooLong) × (line_refusal (body_of line) ≡ None) × (2 ^ 32 ≤ at + length line))
 
 -- the first fault of a text; want of memory is none of a text
 abbrev pub IsFaultOf : List ℕ → RegisterFault → Type 0
-IsFaultOf text (Refused line refusal) = IsFirstWrong text line (IsWrongBy refusal text)
+IsFaultOf text (Refused line refusal) = IsFirstWrong text line (IsWrongBy refusal)
 IsFaultOf text Memory = Unit {0}
 
 -- the fault of a line that is refused; want of memory is none

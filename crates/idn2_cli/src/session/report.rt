@@ -1,6 +1,6 @@
 //! What ends the program outside a line.
 ghost use Rattle.std.specs.Prelude.{◌≡◌};
-ghost use Rattle.idn2_cli.specs.Ends.{IsFault, TakesText, closing_message, closing_status, unread_message, unread_status};
+ghost use Rattle.idn2_cli.specs.Ends.{IsFault, TakesText, TellsUnread, closing_message, closing_status};
 
 use crate::session::message::registered_message;
 use crate::session::status::Status;
@@ -27,17 +27,18 @@ fn tell<E: Sink>(text: &[u8], err: &mut E)
     let _ = write_text(err, text);
 }
 
-/// Writes why a file is not read as registered labels, and answers the status. The status is the same where the writer
-/// fails, and then a proper prefix of the message stands. It takes no memory.
+/// Writes why a file is not read as registered labels, and answers the status. Where the writer fails, a proper prefix of
+/// the message stands, and the status of a wrong line is that of a fault. It takes no memory.
 pub fn report_registered<E: Sink>(fault: &RegisterFault, err: &mut E) -> Status
-    ensures status { result ≡ unread_status fault.now }
-    ensures message { TakesText (unread_message fault.now) (E.state err.old) (E.state err.new) }
+    ensures { TellsUnread fault.now (E.state err.old) (E.state err.new) result }
 {
     match fault {
         RegisterFault::Refused { line, refusal } => {
             let message = registered_message(*line, refusal);
-            tell(message.as_str().as_bytes(), err);
-            Status::Unusable
+            match write_text(err, message.as_str().as_bytes()) {
+                Ok(()) => Status::Unusable,
+                Err(_fault) => Status::Faulty,
+            }
         }
         RegisterFault::Memory => report(&Refusal::Memory, err),
     }

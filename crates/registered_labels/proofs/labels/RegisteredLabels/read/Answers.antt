@@ -10,7 +10,7 @@ use Rattle.registered_labels.proofs.ReadLabels.{IsAboveAll, AreLabelsIn-more, Is
 use Rattle.idn_text.specs.declared.refusal.Refusal.TheVariants.{OutOfOrder, FileTooLong}
 use Rattle.registered_labels.specs.Texts.{IsWrongBy, IsFaultOf}
 use Rattle.registered_labels.proofs.LabelLists.{AreRegistered-in}
-use Rattle.registered_labels.proofs.TextLines.{HasRead, HasRead-none, HasRead-more, IsTextOf-read, IsFirstWrong-here, IsFaultOf-refused, IsLastOf, IsLastOf-more, IsOutOfOrder-seen, accepted_label, compared_bytes}
+use Rattle.registered_labels.proofs.TextLines.{HasRead, HasRead-none, HasRead-more, IsTextOf-read, IsFirstWrong-here, IsFaultOf-refused, IsLastOf, IsLastOf-more, IsOutOfOrder-seen, accepted_label, compared_bytes, length-next}
 use Rattle.registered_labels.proofs.ReadLabels.{AreLabelsIn-none}
 use Rattle.registered_labels.proofs.labels.RegisteredLabels.read.Goals as goal
 
@@ -62,7 +62,7 @@ returns-in-Err-clause-fault c =
     let labels : List (List ℕ) = labels_at c.args.text.now c.loop-at.spans.items in
     subst (IsFaultOf c.args.text.now) (sym c.refused.ensures)
     (IsFaultOf-refused c.args.text.now (c.loop-at.number + 1) c.in-Err.refusal (λ other.
-    IsFirstWrong-here c.args.text.now c.loop-at.at c.line_end-end.result c.loop-at.number labels (IsWrongBy c.in-Err.refusal c.args.text.now)
+    IsFirstWrong-here c.args.text.now c.loop-at.at c.line_end-end.result c.loop-at.number labels (IsWrongBy c.in-Err.refusal)
     c.loop-at-test.true c.line_end-end.ensures c.loop-at.invariant.lines (AreRegistered-in c.args.text.now c.loop-at.spans.items c.loop-at.invariant.labels)
     (inl (c.in-Err.ensures.refused other))))
 
@@ -78,7 +78,7 @@ returns-then-not-is_lt-clause-fault c =
     let same : bytes ≡ body = sym (body_is text c.loop-at.at end c.in-Ok.len (chars body) few c.line_end-end.ensures.reached c.line_end-end.ensures.within read) in
     let compared : c.cmp.result ≡ label_cmp (chars c.loop-at.last.now) (chars body) = compared_bytes c.loop-at.last.now bytes body c.cmp.result c.cmp.ensures c.loop-at.invariant.key same (read.read).encoded in
     subst (IsFaultOf c.args.text.now) (sym c.refused-then-not-is_lt.ensures)
-    (IsFirstWrong-here c.args.text.now c.loop-at.at c.line_end-end.result c.loop-at.number labels (IsWrongBy OutOfOrder c.args.text.now)
+    (IsFirstWrong-here c.args.text.now c.loop-at.at c.line_end-end.result c.loop-at.number labels (IsWrongBy OutOfOrder)
     c.loop-at-test.true c.line_end-end.ensures c.loop-at.invariant.lines (AreRegistered-in c.args.text.now c.loop-at.spans.items c.loop-at.invariant.labels)
     (inr (inl (refl, IsOutOfOrder-seen (slice_range c.args.text.now c.loop-at.at c.line_end-end.result) c.in-Ok.len labels (chars c.loop-at.last.now) (chars body) c.cmp.result c.is_lt.result c.in-Ok.ensures.read c.loop-at.invariant.last_label compared c.is_lt.ensures c.if-not-is_lt.true))))
 
@@ -86,9 +86,9 @@ pub returns-then-end-gt-MAX_TEXT_LEN-clause-fault : goal.returns-then-end-gt-MAX
 returns-then-end-gt-MAX_TEXT_LEN-clause-fault c =
     let labels : List (List ℕ) = labels_at c.args.text.now c.loop-at.spans.items in
     subst (IsFaultOf c.args.text.now) (sym c.refused-then-end-gt-MAX_TEXT_LEN.ensures)
-    (IsFirstWrong-here c.args.text.now c.loop-at.at c.line_end-end.result c.loop-at.number labels (IsWrongBy FileTooLong c.args.text.now)
+    (IsFirstWrong-here c.args.text.now c.loop-at.at c.line_end-end.result c.loop-at.number labels (IsWrongBy FileTooLong)
     c.loop-at-test.true c.line_end-end.ensures c.loop-at.invariant.lines (AreRegistered-in c.args.text.now c.loop-at.spans.items c.loop-at.invariant.labels)
-    (inr (inr (refl, accepted_label (slice_range c.args.text.now c.loop-at.at c.line_end-end.result) c.in-Ok.len (chars (take c.in-Ok.len (slice_range c.args.text.now c.loop-at.at c.line_end-end.result))) c.in-Ok.ensures.read, omega (arith, c.line_end-end.ensures.within)))))
+    (inr (inr (refl, accepted_label (slice_range c.args.text.now c.loop-at.at c.line_end-end.result) c.in-Ok.len (chars (take c.in-Ok.len (slice_range c.args.text.now c.loop-at.at c.line_end-end.result))) c.in-Ok.ensures.read, omega (arith, c.line_end-end.ensures.reached, length-next c.args.text.now c.loop-at.at c.line_end-end.result c.line_end-end.ensures)))))
 
 pub returns-clause-labels : goal.returns-clause-labels
 returns-clause-labels c =
