@@ -6,28 +6,28 @@ Where it does not know, since a code point is newer than the data here, or since
 """
 
 import check
+from notation import reading
+from notation.faults import TableFault
+from notation.ruleset import Entry, Mapped, Ruleset
 from registration import a_label
+from ruleset_labels import NOT_MADE_OF_ENTRIES, NOT_VALID, RulesetLabels, Unknown
 
 LINE_LIMIT, TEXT_LIMIT, LABEL_LIMIT = 1024, 1024, 63
 COUNT_LIMIT, TRIES = 1_000_000_000, 1_000_000
-SPELLED_LIMIT = 1_000
 
 TEXTS = {
     1: "not UTF-8", 2: "line too long", 3: "empty", 4: "out of order", 10: "disallowed code point", 11: "unassigned code point",
     12: "not in NFC", 13: "hyphen out of place", 14: "leading combining mark", 15: "joiner out of context",
     16: "code point out of context", 17: "Bidi rule broken", 18: "label too long", 19: "not an A-label",
-    40: "not made of table entries", 50: "usage", 60: "read fault",
+    NOT_MADE_OF_ENTRIES: "not made of table entries", NOT_VALID: "not valid under the table", 50: "usage", 60: "read fault",
 }
 FLAGS = {"-l": "lookup", "--lookup": "lookup", "-r": "register", "--register": "register", "-d": "decode",
          "--decode": "decode", "-N": "nontransitional", "--tr46nt": "nontransitional", "--quiet": "quiet",
          "--usestd3asciirules": "std3", "--jump": "jump", "-h": "show", "--help": "show", "-V": "show", "--version": "show"}
-VALUES = {"--variants", "--check-table", "--among", "--after", "--limit", "--tries"}
+LISTINGS, CHECKS = {"--variants", "--ruleset"}, {"--check-table", "--check-ruleset"}
 OF_A_LISTING = {"--among", "--after", "--limit", "--tries"}
-MODES = ("lookup", "register", "decode", "--variants", "--check-table")
-
-
-class Unknown(Exception):
-    """The second writing can't tell."""
+VALUES = LISTINGS | CHECKS | OF_A_LISTING
+MODES = {"lookup", "register", "decode"} | LISTINGS | CHECKS
 
 
 class Bad(Exception):
@@ -86,10 +86,10 @@ class Options:
         self.given[name] = value
 
     def obey_rules(self):
-        modes = [mode for mode in MODES if mode in self.given]
-        if len(modes) > 1 or ("--check-table" in modes and self.strings):
+        modes = MODES & self.given.keys()
+        if len(modes) > 1 or (modes & CHECKS and self.strings):
             raise Bad
-        self.mode = modes[0] if modes else "lookup"
+        self.mode = modes.pop() if modes else "lookup"
         self.obey_rules_of_variants()
         self.after = self.given.get("--after", "")
         if len(self.after.encode()) > TEXT_LIMIT:
@@ -100,16 +100,16 @@ class Options:
         """Options of a listing need one, a jump needs a table and is no listing, and `--among` tries nothing."""
         given_for_listing = OF_A_LISTING & self.given.keys()
         is_jump = "jump" in self.given
-        if self.mode != "--variants" and (given_for_listing or is_jump):
+        if self.mode not in LISTINGS and (given_for_listing or is_jump):
             raise Bad
         if is_jump and given_for_listing:
             raise Bad
-        if "--among" in self.given and ("--tries" in self.given or self.given["--among"] == self.given["--variants"]):
+        if "--among" in self.given and ("--tries" in self.given or self.given["--among"] == self.given[self.mode]):
             raise Bad
 
     def files(self):
         """The names of the files that are read."""
-        return [self.given[name] for name in ("--variants", "--check-table", "--among") if name in self.given]
+        return [self.given[name] for name in LISTINGS | CHECKS | {"--among"} if name in self.given]
 
     def count(self, name, default):
         text = self.given.get(name)
@@ -141,11 +141,11 @@ class Run:
     def serve(self, options, given, files):
         if any(name not in files for name in options.files()):
             return b"", message(60), 3
-        if options.mode == "--check-table":
-            return self.check_table(files[options.given["--check-table"]])
+        if options.mode in CHECKS:
+            return self.check(options.mode, files[options.given[options.mode]])
         try:
             registered, table = self.read_files(options, files)
-        except (RegisteredFault, check.TableFault) as fault:
+        except (RegisteredFault, TableFault) as fault:
             return b"", f"{fault}\n".encode(), 2
         output, messages = [], []
         for number, body in enumerate(bodies(given), 1):
@@ -160,9 +160,16 @@ class Run:
         registered = table = None
         if "--among" in options.given:
             registered = self.registered_labels(files[options.given["--among"]])
-        if options.mode == "--variants":
-            table = check.read(files[options.given["--variants"]], self.classes)
+        if options.mode in LISTINGS:
+            table = self.table(options.mode, files[options.given[options.mode]])
         return registered, table
+
+    def table(self, mode, text):
+        """What the table or ruleset says of labels, and whether a listing has the third field."""
+        if mode == "--ruleset":
+            return RulesetLabels(reading.read(text, self.classes.may_stand)), True
+        table = check.read(text, self.classes)
+        return RulesetLabels(as_ruleset(table)), table.version == 2
 
     def registered_labels(self, text):
         """The labels of a file of less than 4 GiB: one on each line, each greater than the one before."""
@@ -178,8 +185,8 @@ class Run:
             labels.append(label)
         return set(labels)
 
-    def check_table(self, text):
-        lines, is_clean = check.check(text, self.classes)
+    def check(self, mode, text):
+        lines, is_clean = (check.check if mode == "--check-table" else check.check_ruleset)(text, self.classes)
         printed = "".join(line + "\n" for line in lines).encode()
         return (b"", printed, 2) if printed.startswith(b"idn2: ") else (printed, b"", 0 if is_clean else 1)
 
@@ -194,7 +201,7 @@ class Run:
             raise Unknown
         if "jump" in options.given:
             return self.jump(table, *parts_of(text))
-        if options.mode == "--variants":
+        if options.mode in LISTINGS:
             return self.block(options, table, registered, text)
         answer, refusal = getattr(self.registration, options.mode)(self.known(text))
         return ([], refusal) if answer is None else ([answer], None)
@@ -221,9 +228,10 @@ class Run:
         candidates, refusal = self.candidates(table, label)
         if refusal is not None:
             return [], refusal
+        labels, has_third_field = table
         after = [each for each in candidates if each > options.after]
-        variants = [each for each in after if self.registration.first_fault(self.known(each)) is None]
-        tested = [each for each in after if self.registration.has_hope(each)]
+        variants = [each for each in after if self.is_variant(labels, each)]
+        tested = [each for each in after if self.registration.has_hope(each) and not has_lost_beginning(labels, each)]
         if registered is not None:
             variants, tested = [each for each in variants if each in registered], []
         stops = tested[options.tries - 1:options.tries]
@@ -232,40 +240,33 @@ class Run:
         if stops:
             variants = [each for each in variants if each <= min(stops)]
         trailer = f"#stop {len(variants)} {min(stops)}" if stops else f"#end {len(variants)}"
-        fields = self.fields(table, label)
-        return [f"{each}\t{a_label(each)}{fields(each)}" for each in variants] + [trailer], None
+        allocatable = labels.allocatable(label) if has_third_field else set()
+        field = lambda each: "" if not has_third_field else "\tallocatable" if each in allocatable else "\tblocked"
+        return [f"{each}\t{a_label(each)}{field(each)}" for each in variants] + [trailer], None
+
+    def is_variant(self, labels, label):
+        return self.registration.first_fault(self.known(label)) is None and labels.is_valid(label)
 
     def candidates(self, table, label):
         """The labels of at most 63 code points that a label spells, in order, and no refusal, or none and a number."""
-        fault = self.registration.first_fault(self.known(label))
-        if fault is not None:
+        labels, _ = table
+        fault = self.registration.first_fault(self.known(label)) or labels.refusal(label)
+        if fault:
             return [], fault
-        spelled = self.spelled(table.entries, label, {})
-        return sorted(each for each in spelled if len(each) <= LABEL_LIMIT), None if spelled else 40
+        return sorted(each for each in labels.spelled(label) if len(each) <= LABEL_LIMIT), None
 
-    def fields(self, table, label):
-        """What stands behind the A-label of a variant: in version 2 whether it is allocatable, thus spelled without the
-        blocked variants of the table, or blocked."""
-        if table.version == 1:
-            return lambda variant: ""
-        allocatable = self.spelled(table.unblocked().entries, label, {})
-        return lambda variant: "\tallocatable" if variant in allocatable else "\tblocked"
 
-    def spelled(self, entries, label, known):
-        """All labels that arise by cutting the label into sources and replacing each by itself or a variant."""
-        if not label:
-            return {""}
-        if label not in known:
-            found = set()
-            for source, variants in entries.items():
-                begin = "".join(map(chr, source))
-                if label.startswith(begin):
-                    ends = self.spelled(entries, label[len(begin):], known)
-                    found |= {"".join(map(chr, first)) + end for first in (source, *variants) for end in ends}
-            if len(found) > SPELLED_LIMIT:
-                raise Unknown
-            known[label] = found
-        return known[label]
+def as_ruleset(table):
+    """A table of version 1 or 2 as the ruleset that says the same."""
+    entries = {}
+    for source, variants in table.entries.items():
+        mapped = tuple(Mapped(variant, is_blocked) for variant, is_blocked in variants.items())
+        entries[source] = Entry(Mapped(source), mapped)
+    return Ruleset(entries=entries)
+
+
+def has_lost_beginning(labels, label):
+    return any(labels.is_lost(label[:count]) for count in range(1, len(label) + 1))
 
 
 def message(number):

@@ -7,6 +7,7 @@ tables/check.py) must answer so, and so must the program, where it is built.
 
 import argparse
 import collections
+import functools
 import pathlib
 import subprocess
 import sys
@@ -15,10 +16,14 @@ import tempfile
 from compare import HERE, PROGRAM
 
 import check
+import ruleset_rows
+from notation import canonical, reading
+from notation.faults import TEXTS as FAULT_TEXTS
 from registration import Registration
 from second_run import TEXTS, Run, Unknown
 from unicode_data import Classes
 
+RULESET_MODES = {"--ruleset", "--check-ruleset"}
 SHARP_S = "0061\n0065\n0072\n0073\n0074\n0073-0073|00DF\n00DF|0073-0073\n"
 
 # The words before the table's file, the table, the label, and what is printed.
@@ -200,9 +205,10 @@ def rows():
     for table, output in CHECKS:
         yield ["--check-table", "table"], "", {"table": table}, (output, "", 0 if output.endswith(" 0\n") else 1)
     for table, line, number in FAULTS:
-        message = f"idn2: table line {line}: {number} {check.TEXTS[number]}\n"
+        message = f"idn2: table line {line}: {number} {FAULT_TEXTS[number]}\n"
         yield ["--check-table", "table"], "", {"table": table}, ("", message, 2)
         yield ["--variants", "table", "a"], "", {"table": table}, ("", message, 2)
+    yield from ruleset_rows.rows()
 
 
 def in_bytes(text):
@@ -217,15 +223,31 @@ def program_answer(program, words, given, files):
     return done.stdout.decode(), done.stderr.decode(), done.returncode
 
 
+@functools.cache
+def knows_rulesets(program):
+    """Whether the program is there and reads rulesets."""
+    return program.exists() and b"--ruleset" in subprocess.run([program.resolve(), "--help"], capture_output=True).stdout
+
+
 def answers(run, program, words, given, files):
-    """Who was asked, and the answer: the second writing where it can tell, and the program where it is built."""
+    """Who was asked, and the answer: the second writing where it can tell, and the program where it is built and knows the
+    words."""
     try:
         output, messages, status = run.answer(words, given, files)
         yield "the second writing", (output.decode(), messages.decode(), status)
     except Unknown:
         pass
-    if program.exists():
+    if knows_rulesets(program) if words[0] in RULESET_MODES else program.exists():
         yield "the program", program_answer(program.resolve(), words, given, files)
+
+
+def canonical_texts(classes):
+    """Each text, what the second writing makes of it, and what is expected."""
+    for table, wanted in CANONICAL:
+        yield table, check.canonical_text(check.read(table.encode(), classes)), wanted
+    for ruleset, wanted in ruleset_rows.CANONICAL:
+        text = (ruleset_rows.VERSION_LINE + ruleset).encode()
+        yield ruleset, canonical.text_of(reading.read(text, classes.may_stand)), ruleset_rows.VERSION_LINE + wanted
 
 
 def main():
@@ -242,13 +264,15 @@ def main():
                 wrong += 1
                 shown = {file: text[:80] for file, text in files.items()}
                 print(f"{words}, {given[:80]!r}, {shown}: {name} answered {answer}, expected {wanted}")
-    for table, canonical in CANONICAL:
+    for table, found, wanted in canonical_texts(classes):
         asked["canonical texts"] += 1
-        if (found := check.canonical_text(check.read(table.encode(), classes))) != canonical:
+        if found != wanted:
             wrong += 1
-            print(f"{table!r}: canonical text {found!r}, expected {canonical!r}")
+            print(f"{table!r}: canonical text {found!r}, expected {wanted!r}")
     if not program.exists():
         print(f"{program} is not there, so the second writing alone was asked")
+    elif not knows_rulesets(program):
+        print(f"{program} has no --ruleset yet, so of rulesets the second writing alone was asked")
     print(f"{asked['worked rows']} worked rows and {asked['canonical texts']} canonical texts, {wrong} answered otherwise; "
           f"asked of the second writing {asked['the second writing']}, of the program {asked['the program']}")
     return 1 if wrong else 0

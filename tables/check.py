@@ -3,14 +3,20 @@
 
 Written from docs/NOTATION.md alone, with the classes of Unicode's own data (unicode_data.py), so that the program
 can be compared with it. For each table it prints what `idn2 --check-table` prints: the gaps and the last line, or
-the message of the first faulty line. Status 0 if no table has a fault or a gap, else 1.
+the message of the first faulty line. A file whose first line is that of version 3 is checked as a ruleset, by notation/.
+Status 0 if no table has a fault or a gap, else 1.
 """
 
 import dataclasses
 import re
 import sys
 
-from unicode_data import MAY_STAND_IN_A_TABLE, Classes
+from notation import gaps as pairs
+from notation import reading
+from notation.faults import TableFault
+from notation.lines import first_line, raw_lines, without_return
+from notation.points import is_scalar_value, spelled
+from unicode_data import Classes
 
 MOST_LINE_BYTES = 1024
 MOST_TEXT_BYTES = 1_048_576
@@ -19,14 +25,6 @@ MOST_VARIANTS = 16
 MOST_POINTS = 8
 
 VERSION_LINE = b"%version 2"
-
-TEXTS = {
-    30: "table syntax",
-    31: "source given twice",
-    32: "variant given twice",
-    33: "code point not allowed in a table",
-    34: "table limit",
-}
 
 POINT = rb"(?:[Uu]\+)?([0-9A-Fa-f]{4,6})"
 SEQUENCE = rb"%s(?:[ \t]*-[ \t]*%s)*" % (POINT, POINT)
@@ -40,11 +38,6 @@ RANGE = re.compile(rb"[ \t]*%s[ \t]*\.\.[ \t]*%s[ \t]*" % (POINT, POINT))
 BLANK_OR_COMMENT = re.compile(rb"[ \t]*(#.*)?", re.DOTALL)
 
 
-class TableFault(Exception):
-    def __init__(self, line, number):
-        super().__init__(f"idn2: table line {line}: {number} {TEXTS[number]}")
-
-
 @dataclasses.dataclass
 class Table:
     """Its entries in order: for each source its variants in order, each with whether it is blocked."""
@@ -52,34 +45,13 @@ class Table:
     version: int
     entries: dict
 
-    def unblocked(self):
-        """The same sources without the blocked variants."""
-        kept = {source: {variant: False for variant, is_blocked in variants.items() if not is_blocked}
-                for source, variants in self.entries.items()}
-        return Table(self.version, kept)
-
-
-def raw_lines(text):
-    """The bytes before each LF, and a rest that is not empty."""
-    lines = text.split(b"\n")
-    return lines if lines[-1] else lines[:-1]
-
-
-def without_return(raw):
-    """The line less one CR at its end."""
-    return raw[:-1] if raw.endswith(b"\r") else raw
-
 
 def version_of(text):
-    return 2 if without_return(text.split(b"\n")[0]) == VERSION_LINE else 1
+    return 2 if first_line(text) == VERSION_LINE else 1
 
 
 def sequence_of(text):
     return tuple(int(digits, 16) for digits in re.findall(POINT, text))
-
-
-def is_scalar_value(point):
-    return point <= 0x10FFFF and not 0xD800 <= point <= 0xDFFF
 
 
 def entries_of(line, version):
@@ -131,7 +103,7 @@ def fault_of(source, variants, classes):
     sequences = [source, *(variant for variant, _ in variants)]
     if any(len(sequence) > MOST_POINTS for sequence in sequences) or len(variants) > MOST_VARIANTS:
         return 34
-    if any(classes.of(point) not in MAY_STAND_IN_A_TABLE for sequence in sequences for point in sequence):
+    if not all(classes.may_stand(point) for sequence in sequences for point in sequence):
         return 33
     return 32 if len(set(sequences)) < len(sequences) else None
 
@@ -146,34 +118,33 @@ def canonical_text(table):
     return head + "".join(canonical_line(source, variants.items()) + "\n" for source, variants in table.entries.items())
 
 
-def gaps(table):
-    """The pairs that symmetry or transitivity asks for and that the table lacks, in order. Marks count for nothing."""
-    pairs = {(source, variant) for source, variants in table.entries.items() for variant in variants}
-    asked = {(variant, source) for source, variant in pairs}
-    asked |= {(a, b) for a, c in pairs for b in table.entries.get(c, ())}
-    return sorted((a, b) for a, b in asked - pairs if a != b)
-
-
-def spelled(sequence):
-    return "-".join(f"{point:04X}" for point in sequence)
-
-
 def check(text, classes):
     """What `idn2 --check-table` prints, and whether there is neither a fault nor a gap."""
+    return report(lambda: read(text, classes).entries)
+
+
+def check_ruleset(text, classes):
+    """What a check of a ruleset prints, and whether there is neither a fault nor a gap."""
+    return report(lambda: reading.read(text, classes.may_stand).variants_of())
+
+
+def report(variants_of):
+    """The gaps of what is read, for each source its variants, and how many sources and gaps there are; or the fault."""
     try:
-        table = read(text, classes)
+        entries = variants_of()
     except TableFault as fault:
         return [str(fault)], False
-    missing = gaps(table)
+    missing = pairs.gaps(entries)
     lines = [f"missing {spelled(a)}|{spelled(b)}" for a, b in missing]
-    return lines + [f"#table {len(table.entries)} {len(missing)}"], not missing
+    return lines + [f"#table {len(entries)} {len(missing)}"], not missing
 
 
 def main(paths):
     classes, clean = Classes(), True
     for path in paths:
         with open(path, "rb") as file:
-            lines, is_clean = check(file.read(), classes)
+            text = file.read()
+        lines, is_clean = (check_ruleset if reading.is_ruleset(text) else check)(text, classes)
         clean = clean and is_clean
         print(f"{path}: " + "\n".join(lines))
     return 0 if clean else 1

@@ -93,6 +93,10 @@ class Classes:
         """The class in this project, which registers nothing of the blocks left out."""
         return DISALLOWED if is_in(LEFT_OUT, point) else self.by_the_standard(point)
 
+    def may_stand(self, point):
+        """Whether the code point may stand in a table."""
+        return self.of(point) in MAY_STAND_IN_A_TABLE
+
     def by_the_standard(self, point):
         if point > 0x10FFFF or 0xD800 <= point <= 0xDFFF:
             return DISALLOWED

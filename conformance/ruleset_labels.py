@@ -1,0 +1,183 @@
+"""What a ruleset of version 3 says of labels, definition by definition from docs/NOTATION.md: plain and slow.
+
+Which labels RFC 5891 lets be registered is no matter of it. Labels are texts; a place is a number of letters before it.
+"""
+
+from notation.patterns import Group, Many, Optional, Point, Set, Sign
+from notation.reading import MOST_POINTS
+
+NOT_MADE_OF_ENTRIES, NOT_VALID = 40, 41
+SPELLED_LIMIT = 1_000
+
+
+class Unknown(Exception):
+    """The second writing can't tell. Here: a label spells more labels than are looked at."""
+
+
+class RulesetLabels:
+    def __init__(self, ruleset, most_spelled=SPELLED_LIMIT):
+        self.ruleset, self.most_spelled = ruleset, most_spelled
+        self.entries = {text_of(source): entry for source, entry in ruleset.entries.items()}
+        self.inside = {source for source, entry in self.entries.items() if not entry.is_outside}
+        self.pieces = self.all_pieces()
+
+    # Patterns: in which places of a label a part can end that begins in one of some places.
+
+    def ends(self, branches, label, starts):
+        return {end for items in branches for end in self.ends_of_branch(items, label, starts)}
+
+    def ends_of_branch(self, items, label, starts):
+        for item in items:
+            starts = self.ends_of_item(item, label, starts)
+        return starts
+
+    def ends_of_item(self, item, label, starts):
+        if item is Sign.START:
+            return starts & {0}
+        if item is Sign.END:
+            return starts & {len(label)}
+        if isinstance(item, Group):
+            return self.ends(item.branches, label, starts)
+        if isinstance(item, Optional):
+            return starts | self.ends_of_item(item.atom, label, starts)
+        if isinstance(item, Many):
+            found, more = set(), starts
+            while more - found:
+                found |= more
+                more = self.ends_of_item(item.atom, label, more)
+            return found
+        return {start + 1 for start in starts if start < len(label) and self.is_matched(item, ord(label[start]))}
+
+    def is_matched(self, item, point):
+        if isinstance(item, Set):
+            return any(first <= point <= last for first, last in self.ruleset.sets[item.name])
+        return item is Sign.ANY or (isinstance(item, Point) and item.point == point)
+
+    def matches_up_to(self, branch, label):
+        """The places in which a part ends that matches the branch, wherever it begins."""
+        return self.ends_of_branch(branch, label, set(range(len(label) + 1)))
+
+    def holds(self, condition, label, start, end):
+        """Whether a condition, or none, holds in the label for the part between two places."""
+        if condition is None:
+            return True
+        is_there = any(start in self.matches_up_to(before, label) and self.ends_of_branch(behind, label, {end})
+                       for before, behind in self.ruleset.rules[condition.rule])
+        return is_there == (condition.word == "when")
+
+    # Valid labels.
+
+    def all_pieces(self):
+        """Each with its condition: the sources, and the variants that can't be cut into sources."""
+        pieces = {source: entry.source.condition for source, entry in self.entries.items()}
+        variants = {text_of(variant.points) for entry in self.entries.values() for variant in entry.variants}
+        pieces.update((variant, None) for variant in variants if not is_cut(variant, self.entries))
+        return pieces
+
+    def is_valid(self, label):
+        holds = lambda piece, start: self.holds(self.pieces[piece], label, start, start + len(piece))
+        return self.keeps_demands(label) and len(label) in reached(label, self.pieces, holds)
+
+    def keeps_demands(self, label):
+        return all(self.is_somewhere(demand.pattern, label) == (demand.word == "%always")
+                   for demand in self.ruleset.demands)
+
+    def is_somewhere(self, branches, label):
+        return bool(self.ends(branches, label, set(range(len(label) + 1))))
+
+    def refusal(self, label):
+        """The number by which the ruleset refuses a label, or None."""
+        if not is_cut(label, self.inside):
+            return NOT_MADE_OF_ENTRIES
+        return None if label in self.spelled(label) and self.keeps_demands(label) else NOT_VALID
+
+    # What a label spells.
+
+    def spelled(self, label, is_in=lambda replacement: True):
+        """All labels that arise by cutting the label into sources, as far as their conditions hold in it, and putting one
+        replacement in place of each, of those that are `is_in` and whose conditions hold there."""
+        return self.spelled_from(label, 0, is_in, {len(label): {""}})
+
+    def spelled_from(self, label, start, is_in, known):
+        if start not in known:
+            found = set()
+            for end in ends_from(start, label):
+                firsts = self.replacements(label, start, end, is_in)
+                lasts = self.spelled_from(label, end, is_in, known) if firsts else ()
+                found |= {first + last for first in firsts for last in lasts}
+            if len(found) > self.most_spelled:
+                raise Unknown
+            known[start] = found
+        return known[start]
+
+    def replacements(self, label, start, end, is_in):
+        """What may stand in place of the part of the label between two places."""
+        entry = self.entries.get(label[start:end])
+        if entry is None or entry.is_outside or not self.holds(entry.source.condition, label, start, end):
+            return []
+        return [text_of(each.points) for each in entry.replacements()
+                if is_in(each) and self.holds(each.condition, label, start, end)]
+
+    def allocatable(self, label):
+        """The label, and what some sub-table spells."""
+        return {label}.union(*(self.spelled(label, is_in) for is_in in self.sub_tables()))
+
+    def sub_tables(self):
+        """Of each sub-table whether a replacement is in it: one for each tag; where there are none, one."""
+        if not self.ruleset.tags:
+            return [lambda each: not each.is_marked]
+        return [lambda each, tag=tag: not each.is_marked and (not each.tags or tag in each.tags)
+                for tag in self.ruleset.tags]
+
+    # Beginnings of labels that a listing passes over.
+
+    def is_lost(self, beginning):
+        """Whether the ruleset has ruled out each label that begins so: a demand is broken whatever follows, or no piece that
+        might go on ends near the end."""
+        if any(demand.word == "%never" and not has_end(demand.pattern) and self.is_somewhere(demand.pattern, beginning)
+               for demand in self.ruleset.demands):
+            return True
+        may_stand = lambda piece, start: not self.is_barred(self.pieces[piece], beginning, start)
+        first_of_last = len(beginning) - max(map(len, self.pieces), default=0) + 1
+        return not any(place >= first_of_last for place in reached(beginning, self.pieces, may_stand))
+
+    def is_barred(self, condition, label, start):
+        """Whether the condition can't hold of a part that begins there, whatever follows."""
+        if condition is None:
+            return False
+        contexts = [(start in self.matches_up_to(before, label), behind)
+                    for before, behind in self.ruleset.rules[condition.rule]]
+        if condition.word == "when":
+            return not any(is_there for is_there, _ in contexts)
+        return any(is_there and not behind for is_there, behind in contexts)
+
+
+def text_of(points):
+    return "".join(map(chr, points))
+
+
+def reached(label, pieces, may_stand):
+    """The places that are reached from the first by pieces that may stand where they begin."""
+    places = {0}
+    for start in range(len(label)):
+        if start in places:
+            places |= {end for end in ends_from(start, label)
+                       if label[start:end] in pieces and may_stand(label[start:end], start)}
+    return places
+
+
+def ends_from(start, label):
+    """Where a sequence that begins at a place may end."""
+    return range(start + 1, min(len(label), start + MOST_POINTS) + 1)
+
+
+def is_cut(label, sources):
+    """Whether the label is a joining of sources, conditions not asked."""
+    return len(label) in reached(label, sources, lambda source, start: True)
+
+
+def has_end(branches):
+    """Whether a '$' stands in a pattern."""
+    items = [item for branch in branches for item in branch]
+    atoms = [item.atom if isinstance(item, Optional | Many) else item for item in items]
+    return any(atom is Sign.END or (isinstance(atom, Group) and has_end(atom.branches)) for atom in atoms)

@@ -1,0 +1,20 @@
+"""Code points and sequences of them."""
+
+import re
+
+POINT = re.compile(rb"(?:[Uu]\+)?([0-9A-Fa-f]{4,6})")
+
+
+def point_of(word):
+    """The scalar value that a word names, or None."""
+    match = POINT.fullmatch(word)
+    point = int(match.group(1), 16) if match else None
+    return point if match and is_scalar_value(point) else None
+
+
+def is_scalar_value(point):
+    return point <= 0x10FFFF and not 0xD800 <= point <= 0xDFFF
+
+
+def spelled(sequence):
+    return "-".join(f"{point:04X}" for point in sequence)

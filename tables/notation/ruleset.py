@@ -1,0 +1,71 @@
+"""What a text of version 3 spells: a ruleset."""
+
+import dataclasses
+import re
+
+NAME = re.compile(rb"[A-Za-z][A-Za-z0-9_]{0,31}")
+
+
+def name_of(word):
+    """The name that a word is, or None."""
+    return word.decode() if NAME.fullmatch(word) else None
+
+
+@dataclasses.dataclass(frozen=True)
+class Condition:
+    """Where a sequence may be used: where the rule holds; or, with 'unless', where it doesn't."""
+
+    word: str
+    rule: str
+
+
+@dataclasses.dataclass(frozen=True)
+class Mapped:
+    """A source or a variant. The mark is '!': before a source, that it is outside; before a variant, that it is blocked."""
+
+    points: tuple
+    is_marked: bool = False
+    tags: tuple = ()
+    condition: Condition | None = None
+
+
+@dataclasses.dataclass(frozen=True)
+class Entry:
+    source: Mapped
+    variants: tuple = ()
+
+    @property
+    def is_outside(self):
+        return self.source.is_marked
+
+    def mapped(self):
+        return (self.source, *self.variants)
+
+    def replacements(self):
+        """What may stand in place of the source: itself first. Where the source may stand is no condition of it."""
+        itself = Mapped(self.source.points, tags=self.source.tags)
+        return (itself, *self.variants)
+
+
+@dataclasses.dataclass(frozen=True)
+class Demand:
+    """What no part of a valid label matches ('%never'), or some part of each one ('%always')."""
+
+    word: str
+    pattern: tuple
+
+
+@dataclasses.dataclass
+class Ruleset:
+    """Each kind in the order of the lines. `sets` has for each name its spans, (first, last) each; `rules` the contexts of
+    each name; `entries` each entry by its source."""
+
+    tags: list = dataclasses.field(default_factory=list)
+    sets: dict = dataclasses.field(default_factory=dict)
+    rules: dict = dataclasses.field(default_factory=dict)
+    demands: list = dataclasses.field(default_factory=list)
+    entries: dict = dataclasses.field(default_factory=dict)
+
+    def variants_of(self):
+        """For each source its variants, as sequences."""
+        return {source: [variant.points for variant in entry.variants] for source, entry in self.entries.items()}

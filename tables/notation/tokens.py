@@ -1,0 +1,18 @@
+"""What a line is cut into: signs, runs of full stops, and words.
+
+A token is its bytes, and by them it is known what it is, since a word has no sign and no full stop.
+"""
+
+import re
+
+TOKEN = re.compile(rb"\.+|[-|:!,/()?*^$]|[^-|:!,/()?*^$. \t]+")
+SIGNS = frozenset((b"-", b"|", b":", b"!", b",", b"/", b"(", b")", b"?", b"*", b"^", b"$"))
+TO, ANY = b"..", b"."
+
+
+def tokens_of(line):
+    return TOKEN.findall(line)
+
+
+def is_word(token):
+    return token not in SIGNS and not token.startswith(b".")
