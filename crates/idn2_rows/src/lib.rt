@@ -15,6 +15,8 @@ mod decoded_names;
 #[cfg(test)]
 mod faults;
 #[cfg(test)]
+mod first_faults;
+#[cfg(test)]
 mod hopeless;
 #[cfg(test)]
 mod label_calls;

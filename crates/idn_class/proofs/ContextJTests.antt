@@ -7,9 +7,9 @@ use Rattle.idn_class.specs.declared.joining_type.JoiningType.TheVariants.{Transp
 use Rattle.idn_class.specs.JoiningType.{is_virama, joins_next, joins_previous}
 use Rattle.idn_class.specs.Neighbors.{before}
 use Rattle.idn_class.specs.ContextJ.{type_at, JoinsBefore, JoinsAfter, FollowsVirama, JoinerPasses, PassesContextJ}
-use Rattle.idn_class.specs.Tests.{first_other, joins_before, joins_after, follows_virama, non_joiner_passes, joiner_passes, contextj_ok}
+use Rattle.idn_class.specs.Tests.{first_other, joins_before, joins_after, follows_virama, non_joiner_passes, joiner_passes, joiner_at, contextj_ok}
 use Rattle.idn_class.proofs.JoiningLemmas.{joins_before_here, joins_after_here, clear_joins_not_left, clear_joins_not_right}
-use Rattle.idn_class.proofs.TestLemmas.{same_test, all_places-from, all_places-at, is_some_and-gives, is_some_and-from, asked_at-gives, asked_at-from}
+use Rattle.idn_class.proofs.TestLemmas.{all_places-from, all_places-at, is_some_and-gives, is_some_and-from, asked_at-gives, asked_at-from}
 
 cases_type : (t : JoiningType) → (t ≡ Transparent) ⊎ (t ≡ Transparent → ⊥)
 cases_type Transparent = inl refl
@@ -147,11 +147,7 @@ non_joiner-from label p within passes =
           (joins_after-from label p (p + 1) (length label - (p + 1)) (omega arith) (omega arith) (λ k low high. absurd (omega arith)) joins.1))
     ]
 
-passes_at : List ℕ → ℕ → Bool
-passes_at label p = non_joiner_passes (slice_index label p == 0x200C) label p && joiner_passes (slice_index label p == 0x200D) label p
-
-JoinerPasses-from : (label : List ℕ) (p : ℕ) → p < length label → passes_at label p ≡ true → JoinerPasses label p
-unfolding passes_at
+JoinerPasses-from : (label : List ℕ) (p : ℕ) → p < length label → joiner_at label p ≡ true → JoinerPasses label p
 JoinerPasses-from label p within h =
     let c = slice_index label p in
     let parts = and_parts (non_joiner_passes (c == 0x200C) label p) (joiner_passes (c == 0x200D) label p) h in
@@ -160,27 +156,25 @@ JoinerPasses-from label p within h =
       joiner = λ is. is_some_and-gives (before label p) is_virama (asked_at-gives c 0x200D (λ b. joiner_passes b label p) parts.1 is);
     }
 
-passes_at-from : (label : List ℕ) (p : ℕ) → p < length label → JoinerPasses label p → passes_at label p ≡ true
-unfolding passes_at
-passes_at-from label p within passes =
+joiner_at-from : (label : List ℕ) (p : ℕ) → p < length label → JoinerPasses label p → joiner_at label p ≡ true
+joiner_at-from label p within passes =
     let c = slice_index label p in
     and_from (non_joiner_passes (c == 0x200C) label p) (joiner_passes (c == 0x200D) label p)
     (asked_at-from c 0x200C (λ b. non_joiner_passes b label p) refl (λ is. non_joiner-from label p within (passes.non_joiner is)))
     (asked_at-from c 0x200D (λ b. joiner_passes b label p) refl (λ is. is_some_and-from (before label p) is_virama (passes.joiner is)))
 
 contextj_ok-gives : (label : List ℕ) → contextj_ok label ≡ true → PassesContextJ label
-unfolding contextj_ok passes_at
-contextj_ok-gives label ok p within = JoinerPasses-from label p within (all_places-at (length label) (passes_at label) ok p within)
+unfolding contextj_ok
+contextj_ok-gives label ok p within = JoinerPasses-from label p within (all_places-at (length label) (joiner_at label) ok p within)
 
 contextj_ok-from : (label : List ℕ) → PassesContextJ label → contextj_ok label ≡ true
-unfolding contextj_ok passes_at
-contextj_ok-from label passes = all_places-from (length label) (passes_at label) (λ p within. passes_at-from label p within (passes p within))
+unfolding contextj_ok
+contextj_ok-from label passes = all_places-from (length label) (joiner_at label) (λ p within. joiner_at-from label p within (passes p within))
 
 -- the test is the rule
 pub contextj_ok-PassesContextJ : (label : List ℕ) → (contextj_ok label ≡ true) ↔ PassesContextJ label
 contextj_ok-PassesContextJ label = (contextj_ok-gives label, contextj_ok-from label)
 
--- one joiner against its rule fails the test
-pub contextj_ok-failing : (label : List ℕ) (p : ℕ) → p < length label → (JoinerPasses label p → ⊥) → false ≡ contextj_ok label
-contextj_ok-failing label p within misfit =
-    same_test false (contextj_ok label) (λ no. cc) (λ ok. absurd (misfit (contextj_ok-gives label ok p within)))
+-- the test at a place is the rule there
+pub joiner_at-rule : (label : List ℕ) (p : ℕ) → p < length label → (joiner_at label p ≡ true) ↔ JoinerPasses label p
+joiner_at-rule label p within = (JoinerPasses-from label p within, joiner_at-from label p within)

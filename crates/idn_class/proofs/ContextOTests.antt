@@ -1,5 +1,5 @@
 -- The test of the other code points that need a context agrees with their rule.
-use Rattle.std.proofs.Common.{◌≡◌, ℕ, ◌<◌, Bool, true, false, ◌&&◌, not, ◌==◌, ◌↔◌, List, length, Option, None, Some, IsSomeAnd, IsTrue, Any, refl, sym, ap, ◌∙◌, slice_index}
+use Rattle.std.proofs.Common.{◌≡◌, ℕ, Bool, true, false, not, ◌==◌, ◌↔◌, List, length, Option, None, Some, IsSomeAnd, IsTrue, Any, refl, sym, ap, ◌∙◌, slice_index}
 use Rattle.std.specs.List.{list_any}
 use Rattle.std.proofs.lemmas.Bool.{and_parts, and_from, not-true, not_from_false, false_from_ne_true, eqb-true}
 use Rattle.std.proofs.lemmas.List.Folds.{Any-from_list_any, list_any-from_Any}
@@ -8,8 +8,8 @@ use Rattle.ucd_script.specs.declared.Script.TheVariants.{Greek, Hebrew}
 use Rattle.unicode.specs.Script.{script}
 use Rattle.idn_class.specs.Neighbors.{before, after}
 use Rattle.idn_class.specs.ContextO.{is_japanese, is_arabic_digit, is_extended_arabic_digit, OtherPasses, PassesContextO}
-use Rattle.idn_class.specs.Tests.{is_some_and, is_greek, is_hebrew, middle_dot_passes, keraia_passes, geresh_passes, katakana_middle_dot_passes, digit_passes, contexto_ok}
-use Rattle.idn_class.proofs.TestLemmas.{same_test, all_places-from, all_places-at, asked-gives, asked-from, asked_at-gives, asked_at-from}
+use Rattle.idn_class.specs.Tests.{is_some_and, is_greek, is_hebrew, middle_dot_passes, keraia_passes, geresh_passes, katakana_middle_dot_passes, digit_passes, other_at, contexto_ok}
+use Rattle.idn_class.proofs.TestLemmas.{all_places-from, all_places-at, asked-gives, asked-from, asked_at-gives, asked_at-from}
 
 -- ---- what each test asks of a neighbor, or of the label
 
@@ -73,17 +73,7 @@ pub record Parts (label : List ℕ) (p : ℕ) : Type 0 where
   pub arabic : digit_passes is_extended_arabic_digit (is_arabic_digit (slice_index label p)) label ≡ true
   pub extended : digit_passes is_arabic_digit (is_extended_arabic_digit (slice_index label p)) label ≡ true
 
-passes_at : List ℕ → ℕ → Bool
-passes_at label p =
-    middle_dot_passes (slice_index label p == 0xB7) label p && keraia_passes (slice_index label p == 0x375) label p
-    && geresh_passes (slice_index label p == 0x5F3) label p
-    && geresh_passes (slice_index label p == 0x5F4) label p
-    && katakana_middle_dot_passes (slice_index label p == 0x30FB) label
-    && digit_passes is_extended_arabic_digit (is_arabic_digit (slice_index label p)) label
-    && digit_passes is_arabic_digit (is_extended_arabic_digit (slice_index label p)) label
-
-Parts-from : (label : List ℕ) (p : ℕ) → passes_at label p ≡ true → Parts label p
-unfolding passes_at
+Parts-from : (label : List ℕ) (p : ℕ) → other_at label p ≡ true → Parts label p
 Parts-from label p h =
     let sixth = and_parts _ (digit_passes is_arabic_digit (is_extended_arabic_digit (slice_index label p)) label) h in
     let fifth = and_parts _ (digit_passes is_extended_arabic_digit (is_arabic_digit (slice_index label p)) label) sixth.0 in
@@ -101,9 +91,8 @@ Parts-from label p h =
       extended = sixth.1;
     }
 
-passes_at-Parts : (label : List ℕ) (p : ℕ) → Parts label p → passes_at label p ≡ true
-unfolding passes_at
-passes_at-Parts label p parts =
+other_at-Parts : (label : List ℕ) (p : ℕ) → Parts label p → other_at label p ≡ true
+other_at-Parts label p parts =
     and_from _ _ (and_from _ _ (and_from _ _ (and_from _ _ (and_from _ _ (and_from _ _ parts.middle_dot parts.keraia) parts.geresh) parts.gershayim) parts.katakana) parts.arabic) parts.extended
 
 OtherPasses-from : (label : List ℕ) (p : ℕ) → Parts label p → OtherPasses label p
@@ -133,19 +122,18 @@ Parts-OtherPasses label p passes =
     }
 
 contexto_ok-gives : (label : List ℕ) → contexto_ok label ≡ true → PassesContextO label
-unfolding contexto_ok passes_at
-contexto_ok-gives label ok p within = OtherPasses-from label p (Parts-from label p (all_places-at (length label) (passes_at label) ok p within))
+unfolding contexto_ok
+contexto_ok-gives label ok p within = OtherPasses-from label p (Parts-from label p (all_places-at (length label) (other_at label) ok p within))
 
 contexto_ok-from : (label : List ℕ) → PassesContextO label → contexto_ok label ≡ true
-unfolding contexto_ok passes_at
+unfolding contexto_ok
 contexto_ok-from label passes =
-    all_places-from (length label) (passes_at label) (λ p within. passes_at-Parts label p (Parts-OtherPasses label p (passes p within)))
+    all_places-from (length label) (other_at label) (λ p within. other_at-Parts label p (Parts-OtherPasses label p (passes p within)))
 
 -- the test is the rule
 pub contexto_ok-PassesContextO : (label : List ℕ) → (contexto_ok label ≡ true) ↔ PassesContextO label
 contexto_ok-PassesContextO label = (contexto_ok-gives label, contexto_ok-from label)
 
--- one code point against its rule fails the test
-pub contexto_ok-failing : (label : List ℕ) (p : ℕ) → p < length label → (OtherPasses label p → ⊥) → false ≡ contexto_ok label
-contexto_ok-failing label p within misfit =
-    same_test false (contexto_ok label) (λ no. cc) (λ ok. absurd (misfit (contexto_ok-gives label ok p within)))
+-- the test at a place is the rule there
+pub other_at-rule : (label : List ℕ) (p : ℕ) → (other_at label p ≡ true) ↔ OtherPasses label p
+other_at-rule label p = (λ h. OtherPasses-from label p (Parts-from label p h), λ passes. other_at-Parts label p (Parts-OtherPasses label p passes))

@@ -38,3 +38,7 @@ pub mod ComputedLabels
 pub mod KnownLemmas
 -- The lists of the profile: which code points have each class and type.
 pub mod ProfileLemmas
+-- The first place at which a test fails.
+pub mod CauseLemmas
+-- The condition of the Bidi rule that is told is the first that is broken, at the first place that breaks it.
+pub mod BrokenLemmas

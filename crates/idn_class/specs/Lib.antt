@@ -1,5 +1,6 @@
 pub mod BidiClass
 pub mod BidiRule
+pub mod Causes
 pub mod Class
 pub mod ContextJ
 pub mod ContextO

@@ -55,12 +55,14 @@ abbrev pub joiner_passes : Bool → List ℕ → ℕ → Bool
 joiner_passes true label place = follows_virama label place
 joiner_passes false label place = true
 
-unfoldable pub contextj_ok : List ℕ → Bool
-contextj_ok label =
-    all_places (length label)
-    (λ place.
+-- the joiner at a place, if one stands there, meets its rule
+abbrev pub joiner_at : List ℕ → ℕ → Bool
+joiner_at label place =
     let c = slice_index label place in
-    non_joiner_passes (c == 0x200C) label place && joiner_passes (c == 0x200D) label place)
+    non_joiner_passes (c == 0x200C) label place && joiner_passes (c == 0x200D) label place
+
+unfoldable pub contextj_ok : List ℕ → Bool
+contextj_ok label = all_places (length label) (joiner_at label)
 
 -- ---- other code points that need a context
 
@@ -93,15 +95,17 @@ abbrev pub digit_passes : (ℕ → Bool) → Bool → List ℕ → Bool
 digit_passes is_other true label = not (list_any is_other label)
 digit_passes is_other false label = true
 
-unfoldable pub contexto_ok : List ℕ → Bool
-contexto_ok label =
-    all_places (length label)
-    (λ place.
+-- the code point at a place meets its rule, if it has one
+abbrev pub other_at : List ℕ → ℕ → Bool
+other_at label place =
     let c = slice_index label place in
     middle_dot_passes (c == 0xB7) label place && keraia_passes (c == 0x375) label place && geresh_passes (c == 0x5F3) label place
     && geresh_passes (c == 0x5F4) label place && katakana_middle_dot_passes (c == 0x30FB) label
     && digit_passes is_extended_arabic_digit (is_arabic_digit c) label
-    && digit_passes is_arabic_digit (is_extended_arabic_digit c) label)
+    && digit_passes is_arabic_digit (is_extended_arabic_digit c) label
+
+unfoldable pub contexto_ok : List ℕ → Bool
+contexto_ok label = all_places (length label) (other_at label)
 
 -- ---- the Bidi rule
 

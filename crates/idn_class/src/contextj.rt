@@ -1,6 +1,7 @@
-ghost use Rattle.std.specs.Prelude.{◌≡◌, ◌↔◌, ◌<◌, ◌≤◌, length, IsTrue};
+ghost use Rattle.std.specs.Prelude.{◌≡◌, ◌↔◌, ◌<◌, ◌≤◌, length, IsTrue, MatchOption};
 ghost use Rattle.idn_class.specs.ContextJ.{FollowsVirama, JoinsBefore, JoinsAfter, JoinerPasses, PassesContextJ};
 ghost use Rattle.idn_class.specs.Tests.{contextj_ok};
+ghost use Rattle.idn_class.specs.Causes.{IsFirstFailing, misplaced_joiner};
 
 use crate::joining_type::{JoiningType, is_virama, joining_type};
 use crate::neighbor::before;
@@ -11,12 +12,20 @@ pub fn contextj_ok(label: &[u32]) -> bool
     ensures rule { IsTrue result ↔ PassesContextJ label.now }
     ensures test { result ≡ contextj_ok label.now }
 {
+    misplaced_joiner(label).is_none()
+}
+
+/// The place of the first joiner that does not meet its rule, from 0. `None` where each of them meets it.
+pub fn misplaced_joiner(label: &[u32]) -> Option<usize>
+    ensures rule { MatchOption result (PassesContextJ label.now) (IsFirstFailing label.now (JoinerPasses label.now)) }
+    ensures test { result ≡ misplaced_joiner label.now }
+{
     for place in 0..label.len() {
         if !joiner_passes(label, place) {
-            return false;
+            return Some(place);
         }
     }
-    true
+    None
 }
 
 /// Whether the joiner at a place, if one stands there, meets its rule.

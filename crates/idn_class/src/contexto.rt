@@ -1,7 +1,8 @@
-ghost use Rattle.std.specs.Prelude.{◌≡◌, ◌↔◌, ◌<◌, length, IsTrue, IsSomeAnd, Any};
+ghost use Rattle.std.specs.Prelude.{◌≡◌, ◌↔◌, ◌<◌, length, IsTrue, MatchOption, IsSomeAnd, Any};
 ghost use Rattle.unicode.specs.Script.{script};
 ghost use Rattle.idn_class.specs.ContextO.{is_arabic_digit, is_extended_arabic_digit, is_japanese, OtherPasses, PassesContextO};
 ghost use Rattle.idn_class.specs.Tests.{contexto_ok};
+ghost use Rattle.idn_class.specs.Causes.{IsFirstFailing, misplaced_other};
 
 use crate::category::script_of;
 use crate::neighbor::{after, before};
@@ -13,12 +14,21 @@ pub fn contexto_ok(label: &[u32]) -> bool
     ensures rule { IsTrue result ↔ PassesContextO label.now }
     ensures test { result ≡ contexto_ok label.now }
 {
+    misplaced_other(label).is_none()
+}
+
+/// The place of the first code point that needs a context, is no joiner and does not meet its rule, from 0. `None` where each
+/// of them meets it.
+pub fn misplaced_other(label: &[u32]) -> Option<usize>
+    ensures rule { MatchOption result (PassesContextO label.now) (IsFirstFailing label.now (OtherPasses label.now)) }
+    ensures test { result ≡ misplaced_other label.now }
+{
     for place in 0..label.len() {
         if !other_passes(label, place) {
-            return false;
+            return Some(place);
         }
     }
-    true
+    None
 }
 
 /// Whether the code point at a place meets its rule, if it has one.

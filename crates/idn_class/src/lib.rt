@@ -7,6 +7,7 @@
 mod beginning;
 mod bidi;
 mod bidi_class;
+mod broken;
 mod category;
 mod class;
 mod class_table;
@@ -27,16 +28,17 @@ mod stability;
 pub use beginning::{hopeless, shortest_hopeless};
 pub use bidi::bidi_ok;
 pub use bidi_class::BidiClass;
+pub use broken::{Broken, Condition, broken_condition};
 pub use class::{Class, class_of};
-pub use contextj::contextj_ok;
-pub use contexto::contexto_ok;
+pub use contextj::{contextj_ok, misplaced_joiner};
+pub use contexto::{contexto_ok, misplaced_other};
 pub use facts::{Fact, Facts};
 pub use joining_type::JoiningType;
 pub use kept_beginnings::KeptBeginnings;
 pub use kept_label::KeptLabel;
 pub use laws::{
-    bidi_rows, class_rows, hopeless_for_good, hopeless_rows, joiner_rows, lists_of_the_profile,
-    mark_rows, only_rtl_labels_pass, other_rows, tests_are_rules,
+    bidi_rows, class_rows, first_faults_are_told, hopeless_for_good, hopeless_rows, joiner_rows,
+    lists_of_the_profile, mark_rows, only_rtl_labels_pass, other_rows, tests_are_rules,
 };
 pub use mark::leading_mark;
 pub use shared::shared_len;
