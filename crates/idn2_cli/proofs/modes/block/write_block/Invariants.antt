@@ -1,3 +1,4 @@
+use Rattle.std.proofs.Common.{◌≡◌}
 use Rattle.idn2_cli.specs.inner.Dispositions.{field_by}
 use Rattle.idn2_cli.proofs.ListingProgress.{IsListing}
 use Rattle.idn2_cli.proofs.modes.block.write_block.Given as goal
@@ -6,7 +7,8 @@ use Rattle.idn2_cli.proofs.modes.block.write_block.Given as goal
 abbrev pub invariant-variants : goal.invariant-variants
 invariant-variants g l =
     record {
-      listing : IsListing (field_by l.dispositions) l.options l.net
+      same : l.dispositions ≡ l.fn.dispositions;
+      listing : IsListing (field_by l.fn.dispositions) l.options l.net
           l.fn.console
           l.console
           l.cursor l.count l.tries;
