@@ -1,0 +1,86 @@
+"""The entries of a ruleset that labels can have, what they join to, and which of them are outside: sources with which each
+label is refused by its types, so that they are there to be variants only."""
+
+from .losses import Loss
+from .outcomes import Kind, Outcome
+from .program import DISALLOWED, UNASSIGNED
+from .ruleset import Fault, spelled
+from .table import is_cut
+
+
+class Repertoire:
+    """`refusals` has for each code point of the ruleset the number by which the program refuses it, or None."""
+
+    def __init__(self, ruleset, refusals, losses):
+        self.is_closed, self.losses = ruleset.is_closed, losses
+        self.possible = {point for point in refusals if refusals[point] not in (DISALLOWED, UNASSIGNED)}
+        self.entries = [entry for entry in ruleset.entries if self.is_possible(entry)]
+        if not self.entries:
+            raise Fault(None, "\n".join(["no entry of it can stand in a table", *losses.lines(Loss.NARROWER)]))
+        self.sources = {entry.source for entry in self.entries}
+        self.points = {point for source in self.sources for point in source}
+        self.parts = Parts(self.sources)
+        self.outside = set()
+
+    def is_possible(self, entry):
+        if self.possible.issuperset(entry.source):
+            return True
+        name = f"{spelled(entry.source)} of {entry.name}" if entry.is_of_range else entry.name
+        self.losses.add(Loss.NARROWER, entry.line, name, "left out, since it has a code point that no label can have")
+        return False
+
+    def is_outside(self, entry):
+        return entry.source in self.outside
+
+    def inside(self):
+        return [entry for entry in self.entries if not self.is_outside(entry)]
+
+    def find_outside(self, outcomes, kind_of):
+        """Tells the sources that are outside by the kinds of their parts, as long as they stand for themselves."""
+        kinds = {entry.source: kind_of(entry) for entry in self.entries}
+        every = frozenset(kinds.values())
+        invalid = {kind for kind in every - {Kind.UNMAPPED} if outcomes.is_always(Outcome.INVALID, kind, every)}
+        self.outside = {source for source, kind in kinds.items() if kind in invalid}
+        if len(self.outside) == len(self.entries):
+            raise Fault(None, "each label is refused by the types of its code points")
+        self.check_outside()
+
+    def check_outside(self):
+        """An outside source has no part in cutting the label that is given, so it isn't found in one that is accepted."""
+        parts = Parts(self.sources - self.outside)
+        reason = "each label with it is refused, but labels of other entries can have it, and then variants"
+        for entry in self.entries:
+            if self.is_outside(entry) and entry.others() and parts.join_around(entry.source):
+                self.losses.add(Loss.UNSAYABLE, entry.line, entry.name, reason)
+
+    def is_made_of_entries(self, entry, variant):
+        """Whether the variant can be cut into sources. One that can't be is told: no label has it, or no table can say so."""
+        if not self.is_closed or is_cut(variant.points, self.sources):
+            return True
+        name = f"{entry.name}, variant {spelled(variant.points)}"
+        if self.parts.join_around(variant.points):
+            reason = "it is not made of entries, but labels can have it together with what stands beside it"
+            self.losses.add(Loss.UNSAYABLE, variant.line, name, reason)
+        else:
+            self.losses.add(Loss.NARROWER, variant.line, name, "left out, since it is not made of entries")
+        return False
+
+
+class Parts:
+    """The parts of sources, to tell what can stand in joinings of them."""
+
+    def __init__(self, sources):
+        self.sources = sources
+        lengths = lambda source: range(1, len(source) + 1)
+        self.firsts = {source[:length] for source in sources for length in lengths(source)}
+        self.lasts = {source[-length:] for source in sources for length in lengths(source)}
+        self.within = {first[-length:] for first in self.firsts for length in lengths(first)}
+
+    def join_around(self, sequence):
+        """Whether some joining of sources has the sequence somewhere in it."""
+        ends = {end for end in range(len(sequence)) if end == 0 or sequence[:end] in self.lasts}
+        for start in range(len(sequence)):
+            if start in ends:
+                ends |= {end for end in range(start + 1, len(sequence) + 1) if sequence[start:end] in self.sources}
+        is_joined = len(sequence) in ends or any(sequence[end:] in self.firsts for end in ends if end < len(sequence))
+        return is_joined or sequence in self.within or sequence in self.lasts
