@@ -298,6 +298,12 @@ FAULTS = [
 ]
 # What is left out, or makes no difference, is told: the data, the rules, the lines, and the messages.
 LABELS = [
+    (char("0061 0062", tag="t") + char("0062", tag="t") + char("0063"), refusing('<class from-tag="t"/><end/>'),
+     ["%never 0062 $", "0061-0062", "0062..0063"],
+     "line 2: char 0061-0062: its tag makes no difference, since a class is of single code points\n"),
+    # The variant would have to end within a source.
+    (char("0061", ("0062", "blocked")) + char("0062 0063"), "", ["0061", "0062-0063"],
+     "line 2: char 0061, variant 0062: left out, since it is not made of entries\n"),
     ('<range first-cp="0060" last-cp="0062"/>' + char("0063", ("0041", "blocked"), ("0064", "blocked")), "",
      ["0061..0063"],
      "line 2: 0060 of range 0060..0062 and 1 more: left out, since it has a code point that no label can have\n"

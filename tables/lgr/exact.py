@@ -92,7 +92,7 @@ class Exact:
         return kinds[0] if kinds else Kind.UNMAPPED
 
     def check_types(self):
-        """The types that no action names, and reflexive variants with a condition."""
+        """The types that no action names; tags that no class has; and reflexive variants with a condition."""
         variants = [variant for entry in self.repertoire.entries for variant in entry.variants]
         kinds = frozenset(map(self.kind_of, variants)) | {Kind.UNMAPPED}
         if len(kinds) > MOST_KINDS:
@@ -101,6 +101,8 @@ class Exact:
             if isinstance(kind, str) and not any(action.names(kind) for action in self.outcomes.actions):
                 self.tell_of_type(kind, next(each.line for each in variants if self.kind_of(each) == kind))
         for entry in self.repertoire.entries:
+            if entry.tags and len(entry.source) > 1:
+                self.tell(entry.line, entry.name, "its tag makes no difference, since a class is of single code points")
             for variant in entry.reflexive():
                 if variant.condition and not self.outcomes.are_same(self.kind_of(variant), Kind.UNMAPPED, kinds):
                     self.refuse(variant.line, entry.name, "a reflexive variant with a condition, and a type that counts")
