@@ -26,7 +26,7 @@ class Repertoire:
         if self.possible.issuperset(entry.source):
             return True
         name = f"{spelled(entry.source)} of {entry.name}" if entry.is_of_range else entry.name
-        self.losses.add(Loss.NARROWER, entry.line, name, "left out, since it has a code point that no label can have")
+        self.losses.tell(entry.line, name, "left out, since it has a code point that no label can have")
         return False
 
     def is_outside(self, entry):
@@ -53,7 +53,7 @@ class Repertoire:
         for entry in self.entries:
             is_within = self.is_outside(entry) and entry.others() and points.issuperset(entry.source)
             if is_within and can_be_both(entry.source, self.sources, inside):
-                self.losses.add(Loss.UNSAYABLE, entry.line, entry.name, reason)
+                self.losses.refuse(entry.line, entry.name, reason)
 
     def is_made_of_entries(self, entry, variant):
         """Whether the variant can be cut into sources. One that can't be is told: no label has it, or no table can say so."""
@@ -62,9 +62,9 @@ class Repertoire:
         name = f"{entry.name}, variant {spelled(variant.points)}"
         if self.points.issuperset(variant.points) and can_be_both(variant.points, self.replacements, self.sources):
             reason = "it is not made of entries, but labels can have it together with what stands beside it"
-            self.losses.add(Loss.UNSAYABLE, variant.line, name, reason)
+            self.losses.refuse(variant.line, name, reason)
         else:
-            self.losses.add(Loss.NARROWER, variant.line, name, "left out, since it is not made of entries")
+            self.losses.tell(variant.line, name, "left out, since it is not made of entries")
         return False
 
 
