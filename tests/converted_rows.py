@@ -298,6 +298,12 @@ FAULTS = [
 ]
 # What is left out, or makes no difference, is told: the data, the rules, the lines, and the messages.
 LABELS = [
+    (char("0061 0062", tag="t") + char("0062", tag="t") + char("0063"), refusing('<class from-tag="t"/><end/>'),
+     ["%never 0062 $", "0061-0062", "0062..0063"],
+     "line 2: char 0061-0062: its tag makes no difference, since a class is of single code points\n"),
+    # The variant would have to end within a source.
+    (char("0061", ("0062", "blocked")) + char("0062 0063"), "", ["0061", "0062-0063"],
+     "line 2: char 0061, variant 0062: left out, since it is not made of entries\n"),
     ('<range first-cp="0060" last-cp="0062"/>' + char("0063", ("0041", "blocked"), ("0064", "blocked")), "",
      ["0061..0063"],
      "line 2: 0060 of range 0060..0062 and 1 more: left out, since it has a code point that no label can have\n"
@@ -318,23 +324,27 @@ LABELS = [
      "the table has 1 gap: tables/check.py prints them\n"),
 ]
 # Each limit of the notation.
+TOO_LONG = "it is too long, or has too many parts within each other\n"
 LIMITS = [
     ('<range first-cp="4E00" last-cp="9FFF"/><range first-cp="AC00" last-cp="D7A3"/>'
-     '<range first-cp="20000" last-cp="2825C"/>', "",
-     "line 2: range 20000..2825C: it passes a limit of docs/NOTATION.md\n"),
+     '<range first-cp="20000" last-cp="2825C"/>', "", "the ruleset: 65,537 entries, and it can have 65,536\n"),
     (char("0061", *((f"{0x4E00 + each:04X}", "valid") for each in range(17))) + '<range first-cp="4E00" last-cp="4E20"/>', "",
-     "line 2: char 0061: it passes a limit of docs/NOTATION.md\n"),
-    (char(" ".join(["0061"] * 9)), "",
-     "line 2: char 0061-0061-0061-0061-0061-0061-0061-0061-0061: it passes a limit of docs/NOTATION.md\n"),
+     "line 2: char 0061: 17 variants, and an entry can have 16\n"),
+    (char(" ".join(["0061"] * 9)) + char("0061", (" ".join(["0061"] * 10),)), "",
+     f"line 2: char {'-'.join(['0061'] * 9)}: 9 code points, and a sequence can have 8\n"
+     f"line 2: char 0061, variant {'-'.join(['0061'] * 10)}: 10 code points, and a sequence can have 8\n"),
     (ABC, refusing("<choice><any/><rule><any/>" * 10 + "<any/>" + "</rule></choice>" * 10),
-     "line 4: action 'invalid': it passes a limit of docs/NOTATION.md\n"),
+     f"line 4: action 'invalid': {TOO_LONG}"),
     (ABC, refusing('<rule count="0+"><any/>' * 3 + "<any/>" + "</rule>" * 3 + '<char cp="0061"/><end/>'),
-     "line 4: action 'invalid': it passes a limit of docs/NOTATION.md\n"),
+     f"line 4: action 'invalid': {TOO_LONG}"),
+    (ABC, refusing("<class>0061-0062</class>" * 1200), f"line 4: action 'invalid': {TOO_LONG}"),
+    (ABC.replace('"0062"', '"0062" when="r"'),
+     rule("<look-behind>" + "<class>0061-0062</class>" * 1200 + "</look-behind><anchor/>"), f"line 4: rule 'r': {TOO_LONG}"),
     (ABC, rule('<char cp="0061 0062"/>') + '<action disp="invalid" match="r"/>' * 257,
-     "line 4: action 'invalid': it passes a limit of docs/NOTATION.md\n"),
+     "the ruleset: 257 rules and demands, and it can have 256\n"),
     (char("0061", *((f"{0x62 + each:04X}", f"x{each}") for each in range(9))) + '<range first-cp="0062" last-cp="006A"/>',
      "".join(f'<action disp="valid" all-variants="x{each}"/>' for each in range(9)) + '<action disp="blocked" any-variant="'
-     + " ".join(f"x{each}" for each in range(9)) + '"/>', "tag 'x8': it passes a limit of docs/NOTATION.md\n"),
+     + " ".join(f"x{each}" for each in range(9)) + '"/>', "the ruleset: 9 tags, and it can have 8\n"),
 ]
 
 

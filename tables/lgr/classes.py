@@ -8,10 +8,16 @@ from .ruleset import point_of
 
 OPERATORS = {"union": "union", "intersection": "intersection", "difference": "difference",
              "symmetric-difference": "symmetric_difference"}
-MARKS = ("Mn", "Mc", "Me")
-# The long names of the categories that rules are known to ask for; a short name is its own.
-CATEGORIES = {"m": MARKS, "mark": MARKS, "combiningmark": MARKS, "nonspacingmark": ("Mn",), "spacingmark": ("Mc",),
-              "enclosingmark": ("Me",)}
+# The categories by their names, in lower case and without what stands between the words; a short name is its own.
+LETTERS, CASED = ("Lu", "Ll", "Lt", "Lm", "Lo"), ("Lu", "Ll", "Lt")
+MARKS, NUMBERS = ("Mn", "Mc", "Me"), ("Nd", "Nl", "No")
+CATEGORIES = {
+    "l": LETTERS, "letter": LETTERS, "lc": CASED, "casedletter": CASED, "uppercaseletter": ("Lu",),
+    "lowercaseletter": ("Ll",), "titlecaseletter": ("Lt",), "modifierletter": ("Lm",), "otherletter": ("Lo",),
+    "m": MARKS, "mark": MARKS, "combiningmark": MARKS, "nonspacingmark": ("Mn",), "spacingmark": ("Mc",),
+    "enclosingmark": ("Me",), "n": NUMBERS, "number": NUMBERS, "decimalnumber": ("Nd",), "digit": ("Nd",),
+    "letternumber": ("Nl",), "othernumber": ("No",),
+}
 SHORT_CATEGORY = re.compile(r"L[ulmto]|M[nce]|N[dlo]|P[cdseifo]|S[mcko]|Z[slp]|C[cfos]")
 
 

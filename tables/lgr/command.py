@@ -9,9 +9,8 @@ from notation.gaps import gaps as pairs_missing
 from . import gaps, rfc4290, rfc7940
 from .convert import ALLOCATABLE, Converter
 from .exact import Exact
-from .losses import Loss, Losses, counted
+from .losses import Loss, Losses, Unsayable, counted
 from .program import Program, Unusable
-from .rules import Unsayable
 from .ruleset import Fault
 from .ruleset_text import RulesetText
 from .table import check_limits, check_size, check_versions
@@ -90,7 +89,8 @@ def ruleset_of(ruleset, program, options, losses):
     try:
         entries = exact.entries()
     except Unsayable as error:
-        losses.add(Loss.UNSAYABLE, error.line, "the ruleset", error.reason)
+        losses.refuse(error.line, "the ruleset", error.reason)
+    if losses.count(Loss.UNSAYABLE):
         return b"", 0
     text = RulesetText(head_of(ruleset, options) + losses.lines(Loss.NARROWER), exact.definitions, entries)
     read_again = text.read(exact.repertoire.possible.__contains__, losses)

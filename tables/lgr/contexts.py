@@ -8,7 +8,7 @@ import enum
 
 from . import expressions
 from .expressions import ANCHOR, EMPTY, END, NOTHING, START
-from .rules import Unsayable
+from .losses import Unsayable
 
 
 class Holds(enum.Enum):

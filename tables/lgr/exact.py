@@ -4,21 +4,20 @@ What no label can have is left out, and what makes no difference is told. Each c
 there is no such ruleset.
 """
 
-import contextlib
-
 from notation.ruleset import Entry, Mapped
 
 from .contexts import Contexts, Holds
 from .definitions import Definitions, Origin
-from .expressions import ANCHOR, EMPTY, NOTHING, has, is_everywhere
-from .losses import Loss
-from .outcomes import DISPOSITIONS, MOST_KINDS, Kind, Outcomes, is_demand
+from .demands import say_demands
+from .expressions import EMPTY
+from .kinds import Kinds
+from .limits import check_counts
+from .outcomes import DISPOSITIONS, Outcomes, is_demand
 from .repertoire import Repertoire
-from .rules import Rules, Unsayable
+from .rules import Rules
 from .ruleset import spelled
 from .sub_tables import SubTables
-
-OUT_OF_REPERTOIRE = "out-of-repertoire-var"
+from .tags import Tags
 
 
 class Exact:
@@ -26,53 +25,31 @@ class Exact:
     type of variants that have none, or None."""
 
     def __init__(self, ruleset, refusals, untyped, losses):
-        self.ruleset, self.losses = ruleset, losses
-        self.no_type = untyped or Kind.NO_TYPE
-        self.repertoire = Repertoire(ruleset, refusals, losses)
+        self.losses, self.repertoire = losses, Repertoire(ruleset, refusals, losses)
         self.rules = Rules(ruleset, self.repertoire.points)
         self.contexts = Contexts(self.rules)
         self.definitions = Definitions(self.repertoire.points)
         self.outcomes = Outcomes([action for action in ruleset.actions if self.is_known(action)])
+        self.kinds = Kinds(untyped, self.outcomes, losses)
 
     def entries(self):
         """The entries, each with its origin. What they name is defined."""
-        self.check_types()
-        self.repertoire.find_outside(self.outcomes, self.original_kind)
+        self.kinds.check(self.repertoire.entries)
+        self.repertoire.find_outside(self.outcomes, self.kinds.of_original)
         kept = [(entry, self.kept_variants(entry)) for entry in self.repertoire.entries]
-        inside = [(entry, variants) for entry, variants in kept if not self.repertoire.is_outside(entry)]
-        originals = {self.original_kind(entry) for entry, _ in inside}
-        mapped = {self.kind_of(variant) for _, variants in inside for variant, _ in variants}
-        self.sub_tables = SubTables(self.outcomes, originals, mapped, self.refuse_action)
-        self.name_tags()
-        for action in self.outcomes.demands:
-            with self.refusing(f"action '{action.disposition}'"):
-                self.say_demand(action)
+        self.sub_tables = self.sub_tables_of(kept)
+        self.tags = Tags(self.sub_tables, self.definitions)
+        say_demands(self.outcomes.demands, self.rules, self.definitions, self.losses)
         entries = [(self.entry_of(entry, variants), Origin(entry.line, entry.name, "")) for entry, variants in kept]
         for element in self.rules.unused():
-            self.tell(element.line, f"{element.name} '{element.attributes['name']}'", "it makes no difference")
+            self.losses.tell(element.line, f"{element.name} '{element.attributes['name']}'", "it makes no difference")
+        check_counts(self.definitions, entries, self.losses)
         return entries
 
-    def tell(self, line, name, reason):
-        self.losses.add(Loss.NARROWER, line, name, reason)
-
-    def refuse(self, line, name, reason):
-        self.losses.add(Loss.UNSAYABLE, line, name, reason)
-
-    def refuse_action(self, action, reason):
-        place = (action.line, f"action '{action.disposition}'") if action.line else (None, "the default actions")
-        self.refuse(*place, reason)
-
-    @contextlib.contextmanager
-    def refusing(self, name):
-        try:
-            yield
-        except Unsayable as error:
-            self.refuse(error.line, name, error.reason)
-
-    # Actions and types.
+    # Actions.
 
     def is_known(self, action):
-        """Whether the disposition is one of the standard, and the rules are there."""
+        """Whether the disposition is one of the standard. The rules are there."""
         for name in (action.match, action.not_match):
             if name is not None:
                 self.rules.check_name(name, action.line)
@@ -80,145 +57,93 @@ class Exact:
             self.refuse_action(action, "a disposition that is none of RFC 7940, section 7.3")
             return False
         if action.has_rule() and not is_demand(action):
-            self.tell(action.line, f"action '{action.disposition}'", "its rule makes no difference")
+            self.losses.tell(action.line, f"action '{action.disposition}'", "its rule makes no difference")
         return True
 
-    def kind_of(self, variant):
-        return self.no_type if variant.type is None else variant.type
+    def refuse_action(self, action, reason):
+        name = f"action '{action.disposition}'" if action.line else "the default actions"
+        self.losses.refuse(action.line or None, name, reason)
 
-    def original_kind(self, entry):
-        """The kind of a part that stands for itself. A reflexive variant with a condition makes no difference."""
-        kinds = [self.kind_of(variant) for variant in entry.reflexive() if not variant.condition]
-        return kinds[0] if kinds else Kind.UNMAPPED
+    def sub_tables_of(self, kept):
+        inside = [(entry, variants) for entry, variants in kept if not self.repertoire.is_outside(entry)]
+        originals = {self.kinds.of_original(entry) for entry, _ in inside}
+        mapped = {self.kinds.of(variant) for _, variants in inside for variant, _ in variants}
+        return SubTables(self.outcomes, originals, mapped, self.refuse_action)
 
-    def check_types(self):
-        """The types that no action names, and reflexive variants with a condition."""
-        variants = [variant for entry in self.repertoire.entries for variant in entry.variants]
-        kinds = frozenset(map(self.kind_of, variants)) | {Kind.UNMAPPED}
-        if len(kinds) > MOST_KINDS:
-            raise Unsayable(None, f"{len(kinds)} types of variants, and {MOST_KINDS} are looked at")
-        for kind in kinds:
-            if isinstance(kind, str) and not any(action.names(kind) for action in self.outcomes.actions):
-                self.tell_of_type(kind, next(each.line for each in variants if self.kind_of(each) == kind))
-        for entry in self.repertoire.entries:
-            for variant in entry.reflexive():
-                if variant.condition and not self.outcomes.are_same(self.kind_of(variant), Kind.UNMAPPED, kinds):
-                    self.refuse(variant.line, entry.name, "a reflexive variant with a condition, and a type that counts")
-
-    def tell_of_type(self, kind, line):
-        if kind == OUT_OF_REPERTOIRE:
-            self.refuse(line, f"type '{kind}'", "no action names it, so that it would refuse no label")
-        else:
-            self.tell(line, f"type '{kind}'", "no action names it, so that it refuses and blocks no label")
-
-    def name_tags(self):
-        """The tags of the sub-tables. Sources that are in none of these are in one by themselves."""
-        tables, self.tags, self.tag_apart = self.sub_tables, [], None
-        if not tables.are_tags_needed():
-            return
-        for number, greatest in enumerate(tables.greatest):
-            own = sorted(kind for kind in greatest & tables.mapped
-                         if isinstance(kind, str) and tables.numbers(kind) == [number])
-            text = own[0] if own else f"table_{number + 1}"
-            self.tags.append(self.definitions.tag(text))
-        if tables.apart():
-            self.tag_apart = self.definitions.tag("itself")
-
-    def tags_of(self, kind):
-        numbers = self.sub_tables.numbers(kind)
-        if not self.tags or (not self.tag_apart and len(numbers) == len(self.tags)):
-            return ()
-        return tuple(self.tags[number] for number in numbers)
-
-    # Demands.
-
-    def say_demand(self, action):
-        """An action that refuses labels by a rule: no part of a label matches it, or some part does."""
-        name = f"action '{action.disposition}'"
-        if None not in (action.match, action.not_match):
-            raise Unsayable(action.line, "it asks for one rule and against another")
-        is_never = action.match is not None
-        rule = action.match if is_never else action.not_match
-        expression = self.rules.rule(rule, action.line)
-        if has(expression, ANCHOR):
-            raise Unsayable(action.line, "its rule has an anchor, so that it is about a place and not about a label")
-        if expression != NOTHING and not is_everywhere(expression):
-            self.definitions.demand("%never" if is_never else "%always", expression, Origin(action.line, name, rule))
-        elif (expression != NOTHING) == is_never:
-            raise Unsayable(action.line, "it refuses each label")
-        else:
-            self.tell(action.line, name, "no label of these entries triggers it")
-
-    # Entries.
+    # Variants that labels can have.
 
     def kept_variants(self, entry):
-        """The variants that labels can have, each with where its condition holds."""
-        kept = []
-        for variant in entry.others():
-            name = f"{entry.name}, variant {spelled(variant.points)}"
-            if not variant.points:
-                self.refuse(variant.line, entry.name, "a null variant, which no table can have")
-            elif not self.repertoire.possible.issuperset(variant.points):
-                self.tell(variant.line, name, "left out, since it has a code point that no label can have")
-            elif self.repertoire.is_made_of_entries(entry, variant):
-                holds = self.holds(variant.condition, entry.source, variant.line)
-                if holds is Holds.NEVER:
-                    self.tell(variant.line, name, f"left out, since {variant.condition} never holds there")
-                else:
-                    kept.append((variant, holds))
-        return kept
+        """The variants that are not left out, each with where its condition holds."""
+        if entry.tags and len(entry.source) > 1:
+            reason = "its tag makes no difference, since a class is of single code points"
+            self.losses.tell(entry.line, entry.name, reason)
+        return [kept for variant in entry.others() if (kept := self.kept(entry, variant))]
+
+    def kept(self, entry, variant):
+        """The variant, with where its condition holds; None if it is left out, or can't be said."""
+        name = f"{entry.name}, variant {spelled(variant.points)}"
+        if not variant.points:
+            self.losses.refuse(variant.line, entry.name, "a null variant, which no table can have")
+        elif not self.repertoire.possible.issuperset(variant.points):
+            self.losses.tell(variant.line, name, "left out, since it has a code point that no label can have")
+        elif self.repertoire.is_made_of_entries(entry, variant):
+            holds = self.holds(variant.condition, entry.source, variant.line)
+            if holds is not Holds.NEVER:
+                return variant, holds
+            self.losses.tell(variant.line, name, f"left out, since {variant.condition} never holds there")
+        return None
+
+    # Conditions.
 
     def holds(self, condition, source, line):
-        """Where a condition holds for the source. What no table can say is told, and then it doesn't matter."""
-        if condition is None:
-            return Holds.ALWAYS
-        with self.refusing(f"rule '{condition.rule}'"):
-            return self.contexts.of(condition, source, line)
+        """Where a condition holds for the source; always, where it can't be said, which is told."""
+        if condition is not None:
+            with self.losses.refusing(f"rule '{condition.rule}'"):
+                return self.contexts.of(condition, source, line)
         return Holds.ALWAYS
 
-    def condition_of(self, holds, rule):
+    def said(self, holds, condition):
         """The condition by a name that is defined; None where it holds always."""
         if holds is Holds.ALWAYS:
             return None
+        if holds is Holds.NEVER:
+            return self.always("unless")
         word, contexts = holds
-        return self.definitions.condition(word, contexts, Origin(self.rules.line_of(rule), f"rule '{rule}'", rule))
+        origin = Origin(self.rules.line_of(condition.rule), f"rule '{condition.rule}'", condition.rule)
+        return self.definitions.condition(word, contexts, origin)
 
     def always(self, word):
+        """A condition by a rule that holds always."""
         return self.definitions.condition(word, ((EMPTY, EMPTY),), Origin(None, "rule 'always'", "always"))
+
+    # Entries.
 
     def entry_of(self, entry, variants):
         is_outside = self.repertoire.is_outside(entry)
         holds = self.holds(entry.condition, entry.source, entry.line)
         if holds is Holds.NEVER:
-            self.tell(entry.line, entry.name, f"no label has it, since {entry.condition} never holds there")
-            condition = self.always("unless")
-        else:
-            condition = self.condition_of(holds, entry.condition and entry.condition.rule)
-        kind = self.original_kind(entry)
-        is_apart = not is_outside and self.tag_apart and kind in self.sub_tables.apart()
-        tags = (self.tag_apart,) if is_apart else () if is_outside else self.tags_of(kind)
-        return Entry(Mapped(entry.source, is_outside, tags, condition), self.variants_of(entry, variants))
+            self.losses.tell(entry.line, entry.name, f"no label has it, since {entry.condition} never holds there")
+        tags = () if is_outside else self.tags.of_source(self.kinds.of_original(entry))
+        source = Mapped(entry.source, is_outside, tags, self.said(holds, entry.condition))
+        kinds = self.kinds_by_condition(entry, variants)
+        # Where a variant stands without a condition and with some, its condition is one that holds always.
+        twice = {points for points, condition in kinds if condition and (points, None) in kinds}
+        return Entry(source, tuple(
+            self.mapped(points, condition or (self.always("when") if points in twice else None), each, is_outside)
+            for (points, condition), each in kinds.items()))
 
-    def variants_of(self, entry, variants):
-        """The variants, each under a condition once. Where one stands without a condition and with some, its condition is one
-        that always holds."""
-        said = {}
+    def kinds_by_condition(self, entry, variants):
+        """The kinds of each variant under each of its conditions. None of them makes each label invalid."""
+        kinds = {}
         for variant, holds in variants:
-            if self.kind_of(variant) in self.sub_tables.left_out and not self.repertoire.is_outside(entry):
+            kind = self.kinds.of(variant)
+            if kind in self.sub_tables.left_out and not self.repertoire.is_outside(entry):
                 name = f"{entry.name}, variant {spelled(variant.points)}"
-                self.tell(variant.line, name, "left out, since each label with it is refused by its type")
-                continue
-            condition = self.condition_of(holds, variant.condition and variant.condition.rule)
-            said.setdefault((variant.points, condition), []).append(self.kind_of(variant))
-        twice = {points for points, condition in said if condition and (points, None) in said}
-        return tuple(self.mapped(entry, points, self.always("when") if points in twice and not condition else condition, kinds)
-                     for (points, condition), kinds in said.items())
+                self.losses.tell(variant.line, name, "left out, since each label with it is refused by its type")
+            else:
+                kinds.setdefault((variant.points, self.said(holds, variant.condition)), []).append(kind)
+        return kinds
 
-    def mapped(self, entry, points, condition, kinds):
-        """A variant of these kinds: blocked if each of them is in no sub-table, else in the sub-tables of them all."""
-        allowed = [kind for kind in kinds if self.sub_tables.numbers(kind)]
-        if not allowed or self.repertoire.is_outside(entry):
-            return Mapped(points, True, (), condition)
-        each = list(map(self.tags_of, allowed))
-        tags = () if () in each else tuple(tag for tag in self.tags if any(tag in tags for tags in each))
-        return Mapped(points, False, tags, condition)
+    def mapped(self, points, condition, kinds, is_outside):
+        tags = None if is_outside else self.tags.of_variant(kinds)
+        return Mapped(points, tags is None, tags or (), condition)

@@ -19,14 +19,14 @@ class Repertoire:
             raise Fault(None, "\n".join(["no entry of it can stand in a table", *losses.lines(Loss.NARROWER)]))
         self.sources = {entry.source for entry in self.entries}
         self.points = {point for source in self.sources for point in source}
-        self.parts = Parts(self.sources)
-        self.outside = set()
+        targets = {variant.points for entry in self.entries for variant in entry.others()} - {()}
+        self.replacements, self.outside = self.sources | targets, set()
 
     def is_possible(self, entry):
         if self.possible.issuperset(entry.source):
             return True
         name = f"{spelled(entry.source)} of {entry.name}" if entry.is_of_range else entry.name
-        self.losses.add(Loss.NARROWER, entry.line, name, "left out, since it has a code point that no label can have")
+        self.losses.tell(entry.line, name, "left out, since it has a code point that no label can have")
         return False
 
     def is_outside(self, entry):
@@ -47,40 +47,43 @@ class Repertoire:
 
     def check_outside(self):
         """An outside source has no part in cutting the label that is given, so it isn't found in one that is accepted."""
-        parts = Parts(self.sources - self.outside)
+        inside = self.sources - self.outside
+        points = {point for source in inside for point in source}
         reason = "each label with it is refused, but labels of other entries can have it, and then variants"
         for entry in self.entries:
-            if self.is_outside(entry) and entry.others() and parts.join_around(entry.source):
-                self.losses.add(Loss.UNSAYABLE, entry.line, entry.name, reason)
+            is_within = self.is_outside(entry) and entry.others() and points.issuperset(entry.source)
+            if is_within and can_be_both(entry.source, self.sources, inside):
+                self.losses.refuse(entry.line, entry.name, reason)
 
     def is_made_of_entries(self, entry, variant):
         """Whether the variant can be cut into sources. One that can't be is told: no label has it, or no table can say so."""
         if not self.is_closed or is_cut(variant.points, self.sources):
             return True
         name = f"{entry.name}, variant {spelled(variant.points)}"
-        if self.parts.join_around(variant.points):
+        if self.points.issuperset(variant.points) and can_be_both(variant.points, self.replacements, self.sources):
             reason = "it is not made of entries, but labels can have it together with what stands beside it"
-            self.losses.add(Loss.UNSAYABLE, variant.line, name, reason)
+            self.losses.refuse(variant.line, name, reason)
         else:
-            self.losses.add(Loss.NARROWER, variant.line, name, "left out, since it is not made of entries")
+            self.losses.tell(variant.line, name, "left out, since it is not made of entries")
         return False
 
 
-class Parts:
-    """The parts of sources, to tell what can stand in joinings of them."""
-
-    def __init__(self, sources):
-        self.sources = sources
-        lengths = lambda source: range(1, len(source) + 1)
-        self.firsts = {source[:length] for source in sources for length in lengths(source)}
-        self.lasts = {source[-length:] for source in sources for length in lengths(source)}
-        self.within = {first[-length:] for first in self.firsts for length in lengths(first)}
-
-    def join_around(self, sequence):
-        """Whether some joining of sources has the sequence somewhere in it."""
-        ends = {end for end in range(len(sequence)) if end == 0 or sequence[:end] in self.lasts}
-        for start in range(len(sequence)):
-            if start in ends:
-                ends |= {end for end in range(start + 1, len(sequence) + 1) if sequence[start:end] in self.sources}
-        is_joined = len(sequence) in ends or any(sequence[end:] in self.firsts for end in ends if end < len(sequence))
-        return is_joined or sequence in self.within or sequence in self.lasts
+def can_be_both(word, words, others):
+    """Whether some joining of words, with this word among them, is a joining of others, too."""
+    seen, states = set(), [(False, False, ())]
+    while states:
+        # The two are made side by side. `rest` is what the longer one has more: that of others, if `is_other`.
+        has_word, is_other, rest = state = states.pop()
+        if not rest and has_word:
+            return True
+        if state in seen:
+            continue
+        seen.add(state)
+        more = [(has_word, each) for each in (words if is_other else others)] + [(True, word)] * is_other
+        for has_it, each in more:
+            length = min(len(rest), len(each))
+            if rest[:length] == each[:length]:
+                is_longer = len(each) > length
+                longer = each[length:] if is_longer else rest[length:]
+                states.append((has_it, bool(longer) and is_other != is_longer, longer))
+    return False

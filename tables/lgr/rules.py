@@ -6,6 +6,7 @@ import re
 from . import expressions
 from .classes import Classes
 from .expressions import ANCHOR, END, START
+from .losses import Unsayable
 from .references import References
 from .ruleset import Fault, points_of
 
@@ -13,14 +14,6 @@ SIGNS = {"start": START, "end": END, "anchor": ANCHOR}
 LOOKS = ("look-behind", "look-ahead")
 # A rule that takes more to write is in no table.
 MOST_ATOMS = 4096
-
-
-class Unsayable(Exception):
-    """What a table can't say, on a line of the ruleset."""
-
-    def __init__(self, line, reason):
-        super().__init__(reason)
-        self.line, self.reason = line, reason
 
 
 class Rules:

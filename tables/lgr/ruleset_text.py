@@ -3,7 +3,6 @@
 from notation import canonical, reading
 from notation.faults import LIMIT, TableFault
 
-from .losses import Loss
 from .program import Unusable
 from .writing import VERSION_LINES, comment
 
@@ -14,7 +13,7 @@ class RulesetText:
     def __init__(self, head, definitions, entries):
         self.lines = [(VERSION_LINES[3], None)]
         for text in head:
-            self.lines += [(line, None) for line in comment(text).splitlines(keepends=True)]
+            self.lines += [(line + "\n", None) for line in comment(text).split("\n")[:-1]]
         self.lines += [(line + "\n", origin) for line, origin in definitions.lines()]
         self.lines += [(line_of(group), group[0][1]) for group in groups_of(entries)]
 
@@ -22,14 +21,15 @@ class RulesetText:
         return "".join(line for line, _ in self.lines).encode("utf-8", "surrogateescape")
 
     def read(self, may_stand, losses):
-        """The ruleset that the text spells; None where it passes a limit, which is told. Nothing else can be wrong with it."""
+        """The ruleset that the text spells; None where it passes a limit, which is told. Nothing else can be wrong with it. It
+        is called where no number of things is too great."""
         try:
             return reading.read(self.encoded(), may_stand)
         except TableFault as fault:
             origin = self.lines[fault.line - 1][1]
             if fault.number != LIMIT or origin is None:
                 raise Unusable(f"the ruleset that was made can't be read: {fault}") from fault
-            losses.add(Loss.UNSAYABLE, origin.line, origin.name, "it passes a limit of docs/NOTATION.md")
+            losses.refuse(origin.line, origin.name, "it is too long, or has too many parts within each other")
             return None
 
 

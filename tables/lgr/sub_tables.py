@@ -81,9 +81,6 @@ class SubTables:
         """The kinds of parts that stand for themselves and are in no sub-table, though there are some."""
         return {kind for kind in self.originals if self.greatest and not self.numbers(kind)}
 
-    def are_tags_needed(self):
-        return len(self.greatest) > 1 or bool(self.apart())
-
 
 def named(kinds):
     """The kinds in words, the types in quotes."""
