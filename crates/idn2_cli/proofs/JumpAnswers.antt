@@ -1,8 +1,6 @@
 -- The answer to a request is the least label from its text on.
-use Rattle.std.proofs.Common.{◌≡◌, ◌⊎◌, inl, inr, ℕ, List, [], ◌∷◌, Bool, true, Option, Some, Err, refl, sym, ap, subst}
+use Rattle.std.proofs.Common.{◌≡◌, ◌⊎◌, inl, inr, ℕ, List, [], ◌∷◌, Option, Some, Err, refl, sym, ap, subst}
 use Rattle.std.specs.Prelude.{slice_get, codes}
-use Rattle.std.specs.Bool.{OnTrue}
-use Rattle.std.proofs.lemmas.Bool.{OnTrue_at}
 use Rattle.idn_text.specs.Points.{utf8_of}
 use Rattle.idn_text.specs.declared.refusal.Refusal.{Refusal}
 use Rattle.idn_label.specs.Answers.{unless_fault}
@@ -59,8 +57,8 @@ pub jump-refused : (table : TableValue) (request : List ℕ) (refusal : Refusal)
 jump-refused table request refusal fault = ap (λ (f : Option Refusal). unless_fault f (least_answer table (requested_label request) (requested_text request))) fault
 
 -- the label to which a new cursor of a net jumped
-pub jumped_to : (net : Built) (after : List ℕ) (old new : Position) (text last : List ℕ) (is_found : Bool) → old ≡ record { net = net; last = after; edge_tests = 0 }
-    → OnTrue is_found (IsLeastFrom (IsCandidate old.net) text new.last) → is_found ≡ true → last ≡ new.last → IsLeastFrom (IsCandidate net) text last
-jumped_to net after old new text last is_found begun found is at =
+pub jumped_to : (net : Built) (after : List ℕ) (old new : Position) (text last : List ℕ) → old ≡ record { net = net; last = after; edge_tests = 0 }
+    → IsLeastFrom (IsCandidate old.net) text new.last → last ≡ new.last → IsLeastFrom (IsCandidate net) text last
+jumped_to net after old new text last begun found at =
     subst (IsLeastFrom (IsCandidate net) text) (sym at)
-    (subst (λ (p : Position). IsLeastFrom (IsCandidate p.net) text new.last) begun (OnTrue_at is found))
+    (subst (λ (p : Position). IsLeastFrom (IsCandidate p.net) text new.last) begun found)

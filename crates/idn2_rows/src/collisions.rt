@@ -35,7 +35,7 @@ fn found(
     let mut text = String::new(alloc);
     let mut search = Collisions::new(alloc, &net, &registered, after.as_slice())?;
     for _ in 0..1000 {
-        if !search.advance() {
+        if search.advance().is_none() {
             break;
         }
         for point in search.label() {
@@ -113,7 +113,7 @@ fn faults_of_files(rt: HostRuntime) -> Result<(), Fail> {
 /// The label to which a new cursor jumps from a text on, or `#` where there is none.
 fn jumped(alloc: Global, net: &Net, text: &str) -> Result<Vec<u32>, Fail> {
     let mut cursor = Cursor::new(alloc, net, &[])?;
-    if cursor.jump(points_of(text)?.as_slice()) {
+    if cursor.jump(points_of(text)?.as_slice()).is_some() {
         Ok(cursor.last().to_vec(alloc)?)
     } else {
         Ok(points(alloc, "#")?)

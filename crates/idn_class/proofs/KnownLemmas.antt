@@ -1,8 +1,9 @@
 -- What is known of a beginning, and of one that is longer by a code point.
-use Rattle.std.proofs.Common.{◌≡◌, ℕ, zero, suc, ◌+◌, ◌<◌, Bool, true, false, ◌||◌, List, [], ◌∷◌, ◌++◌, length, take, set, get_or, Some, None, refl, sym, ap, ap₂, ◌∙◌, subst, inl, inr, append_assoc, append-nil, length-append, length-take, arith}
+use Rattle.std.proofs.Common.{◌≡◌, ℕ, zero, suc, ◌+◌, ◌<◌, Bool, true, false, ◌||◌, List, [], ◌∷◌, ◌++◌, length, take, get_or, Some, None, refl, sym, ap, ap₂, ◌∙◌, subst, inl, inr, append_assoc, append-nil, length-append, length-take, arith}
 use Rattle.std.proofs.lemmas.Bool.{cases_lt, cases_order}
-use Rattle.std.proofs.lemmas.Grind.{get_or-set_at}
-use Rattle.std.proofs.lemmas.List.{take_all, take-take, take_more, take-append-le, get_or-set_other}
+use Rattle.std.proofs.Math.ListN.{get_or-append}
+use Rattle.std.proofs.Math.Seq.{get_or-append_seam}
+use Rattle.std.proofs.lemmas.List.{take_all, take-take, take_more, take-append-le, get_or-take}
 use Rattle.std.proofs.lemmas.List.Folds.{list_any-append}
 use Rattle.idn_class.specs.declared.direction.Direction.{Direction}
 use Rattle.idn_class.specs.declared.facts.Fact.{Fact}
@@ -10,7 +11,7 @@ use Rattle.idn_class.specs.declared.facts.Facts.{Facts}
 use Rattle.idn_class.specs.declared.known.Known.{Known}
 use Rattle.idn_class.specs.inner.Directions.{HasNone, IsShortest, breaks_at_first, breaks_behind, begun, lengthened}
 use Rattle.idn_class.specs.Facts.{contains, has_fact}
-use Rattle.idn_class.specs.inner.Known.{IsKnown, AreKnown}
+use Rattle.idn_class.specs.Known.{IsKnown, AreKnown}
 use Rattle.idn_class.proofs.HopelessSteps.{breaks_after, breaks_at_first-cons, breaks_behind-cons, breaks_behind-nil}
 use Rattle.idn_class.proofs.HopelessShortest.{HasNone-nil, HasNone-behind}
 
@@ -51,39 +52,46 @@ IsKnown-longer w known c more joined e h of both is =
       ];
     }
 
--- ---- what is kept for each place
+-- ---- what is kept of each beginning
 
-pub AreKnown-nil : (known : List Known) → AreKnown [] known
-AreKnown-nil known i d within = absurd (omega (arith, within))
+pub AreKnown-nil : (label : List ℕ) → AreKnown label []
+AreKnown-nil label = record { within = omega arith; each = λ i d within. absurd (omega (arith, within)) }
 
-pub AreKnown-push : (label : List ℕ) (known : List Known) (c : ℕ) (k : Known) → AreKnown label known → length label < length known → IsKnown (label ++ c ∷ []) k → AreKnown (label ++ c ∷ []) (set known (length label) k)
-AreKnown-push label known c k h room is i d within =
-    let n = length label in
-    let longer = length-append label (c ∷ []) in
-    elim (cases_order i n) [
-      | inl last ↦
-          subst (λ v. IsKnown v (get_or (set known n k) i d)) (sym (take_all (i + 1) (label ++ c ∷ []) (omega (arith, longer, last))))
-          (subst (IsKnown (label ++ c ∷ [])) (sym (get_or-set_at known n i k d last room)) is)
-      | inr other ↦ elim other [
-        | inl less ↦
-            subst (λ v. IsKnown v (get_or (set known n k) i d)) (sym (take-append-le (i + 1) label (c ∷ []) (omega (arith, less))))
-            (subst (IsKnown (take (i + 1) label)) (sym (get_or-set_other known n i k d (λ same. omega (arith, same, less)))) (h i d less))
-        | inr more ↦ absurd (omega (arith, within, longer, more))
-      ]
+pub AreKnown-push : (label : List ℕ) (known : List Known) (k : Known) → AreKnown label known → length known < length label → IsKnown (take (length known + 1) label) k → AreKnown label (known ++ k ∷ [])
+AreKnown-push label known k h room is = record {
+  within = omega (arith, room, length-append known (k ∷ []));
+  each = λ i d within. elim (cases_order i (length known)) [
+    | inl last ↦
+        subst (λ n. IsKnown (take (n + 1) label) (get_or (known ++ k ∷ []) n d)) (sym last)
+        (subst (IsKnown (take (length known + 1) label)) (sym (get_or-append_seam known k [] d)) is)
+    | inr other ↦ elim other [
+      | inl less ↦ subst (IsKnown (take (i + 1) label)) (sym (get_or-append known (k ∷ []) d i less)) (h.each i d less)
+      | inr more ↦ absurd (omega (arith, within, length-append known (k ∷ []), more))
     ]
+  ];
+}
 
-pub AreKnown-take : (label : List ℕ) (known : List Known) (n : ℕ) → AreKnown label known → AreKnown (take n label) known
-AreKnown-take label known n h i d within =
-    let short = length-take n label in
-    subst (λ v. IsKnown v (get_or known i d)) (sym (take-take (i + 1) n label (omega (arith, within, short)))) (h i d (omega (arith, within, short)))
+-- what is known of the first n beginnings of a label is known of those of each label that begins with the same n code points
+pub AreKnown-keep : (before label : List ℕ) (known : List Known) (n : ℕ) → AreKnown before known → take n before ≡ take n label → AreKnown label (take n known)
+AreKnown-keep before label known n h same =
+    let few = length-take n known in
+    record {
+      within = omega (arith, few, h.within, ap length same, length-take n before, length-take n label);
+      each = λ i d within.
+          let less : i < n = omega (arith, few, within) in
+          let here : take (i + 1) before ≡ take (i + 1) label =
+          sym (take-take (i + 1) n before (omega (arith, less))) ∙ ap (take (i + 1)) same ∙ take-take (i + 1) n label (omega (arith, less)) in
+          subst (λ w. IsKnown w (get_or (take n known) i d)) here
+          (subst (IsKnown (take (i + 1) before)) (sym (get_or-take n known i d less)) (h.each i d (omega (arith, few, within))));
+    }
 
-pub IsKnown-whole : (label : List ℕ) (known : List Known) (n : ℕ) (d : Known) → AreKnown label known → length label ≡ n + 1 → IsKnown label (get_or known n d)
-IsKnown-whole label known n d h long =
-    subst (λ v. IsKnown v (get_or known n d)) (take_all (n + 1) label (omega (arith, long))) (h n d (omega (arith, long)))
+pub IsKnown-last : (label : List ℕ) (known : List Known) (n : ℕ) (d : Known) → AreKnown label known → length known ≡ n + 1 → IsKnown (take (length known) label) (get_or known n d)
+IsKnown-last label known n d h long =
+    subst (λ m. IsKnown (take m label) (get_or known n d)) (sym long) (h.each n d (omega (arith, long)))
 
-pub AreKnown-unbroken : (label : List ℕ) (known : List Known) (d : Known) → AreKnown label known → HasNone breaks_at_first label
-AreKnown-unbroken [] known d h = HasNone-nil
-AreKnown-unbroken (c ∷ w) known d h = (IsKnown-whole (c ∷ w) known (length w) d h (omega arith)).unbroken
+pub AreKnown-unbroken : (label : List ℕ) (known : List Known) (d : Known) → AreKnown label known → HasNone breaks_at_first (take (length known) label)
+AreKnown-unbroken label [] d h = HasNone-nil
+AreKnown-unbroken label (k ∷ known) d h = (IsKnown-last label (k ∷ known) (length known) d h (omega arith)).unbroken
 
 -- ---- going on to the end of a label
 

@@ -13,5 +13,6 @@ pub mod Rows
 pub mod Profile
 pub mod Tests
 pub mod Hopeless
+pub mod Known
 pub mod Shared
 pub mod inner

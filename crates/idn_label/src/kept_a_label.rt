@@ -1,7 +1,8 @@
 //! The test of one label after another, which keeps the A-label, and of the Punycode what both labels share.
-ghost use Rattle.std.specs.Prelude.{◌≡◌, ◌≢◌, ◌≤◌, [], length, true, Some, Err, IfErr, OnOk};
+ghost use Rattle.std.specs.Prelude.{◌≡◌, ◌≢◌, ◌≤◌, ℕ, List, [], min, length, take, true, Some, Err, IfErr, OnOk};
 ghost use Rattle.idna.specs.Validity.{is_all_ascii};
 ghost use Rattle.idn_class.specs.Facts.{AreFactsOf};
+ghost use Rattle.idn_punycode.specs.Kept.{IsTakenApart};
 ghost use Rattle.idn_label.specs.ALabel.{a_label_of};
 ghost use Rattle.idn_label.specs.FirstFault.{first_fault, IsRegistrable};
 ghost use Rattle.idn_label.specs.Memory.{NeedsNoMemory};
@@ -16,16 +17,16 @@ use std::alloc::Global;
 use std::marker::Model;
 
 /// Tests labels for registration, and keeps the A-label of the last one. The digits that the next one's begins with too
-/// are not written again. Contracts see the A-label.
+/// are not written again. Contracts see the A-label, and what the first code points are taken apart into.
 #[derive(Drop)]
 pub struct KeptALabel {
     a_label: KeptPunycode,
 }
 
 impl Model for KeptALabel {
-    ghost use Rattle.std.specs.Prelude.{ℕ, List};
+    ghost use Rattle.idn_punycode.specs.Kept.{Kept};
 
-    ghost Value = { List ℕ };
+    ghost Value = { Kept };
 
     ghost view = { λ kept. kept.a_label };
 
@@ -33,9 +34,10 @@ impl Model for KeptALabel {
 }
 
 impl KeptALabel {
-    /// Of the empty label.
+    /// Of no label yet.
     pub fn new() -> KeptALabel
-        ensures { result ≡ [] }
+        ensures text { result.text ≡ [] }
+        ensures apart { (label : List ℕ) → IsTakenApart label result }
     {
         KeptALabel {
             a_label: KeptPunycode::new(),
@@ -44,18 +46,30 @@ impl KeptALabel {
 
     /// The A-label of the last label, if it may be registered.
     pub fn a_label(&self) -> &ALabel
-        ensures { result.now.bytes ≡ self.now }
+        ensures { result.now.bytes ≡ self.now.text }
     {
         self.a_label.text()
     }
 
+    /// Goes over to labels that begin with the same `count` code points.
+    #[inline]
+    pub fn keep(&mut self, count: usize)
+        ensures count { self.new.apart ≡ min self.old.apart count }
+        ensures apart { (before label : List ℕ) → IsTakenApart before self.old → take count before ≡ take count label → IsTakenApart label self.new }
+    {
+        self.a_label.keep(count);
+    }
+
     /// Keeps the A-label of a label that may be registered, else tells its first fault, as the function `test_label`
-    /// does. The facts of the label are known. At a fault nothing is said of the A-label that is then kept.
+    /// does. The facts of the label are known, and what is taken apart must be of it. At a fault nothing is said of the
+    /// A-label that is then kept.
     #[tactic(auto, using(crate::proofs::FaultLemmas::measured), unfolding(crate::specs::ALabel::a_label_of))]
     pub fn test_label(&mut self, alloc: Global, label: &[u32], facts: Facts) -> Result<(), Refusal>
-        requires { AreFactsOf facts label.now }
+        requires facts { AreFactsOf facts label.now }
+        requires begun { IsTakenApart label.now self.old }
+        ensures apart { IsTakenApart label.now self.new }
         ensures registrable { OnOk result (IsRegistrable label.now) }
-        ensures a_label { OnOk result (self.new ≡ a_label_of label.now) }
+        ensures a_label { OnOk result (self.new.text ≡ a_label_of label.now) }
         ensures fault { IfErr result (λ refusal. refusal ≢ Refusal.Memory → first_fault label.now ≡ Some refusal) }
         ensures no_memory { NeedsNoMemory label.now → result ≢ Err Refusal.Memory }
     {
@@ -75,7 +89,7 @@ impl KeptALabel {
     fn keep_ascii(&mut self, label: &[u32])
         requires short { length label.now ≤ 63 }
         requires ascii { is_all_ascii label.now ≡ true }
-        ensures { self.new ≡ label.now }
+        ensures { self.new ≡ record self.old { text = label.now } }
     {
         self.a_label.put(ascii_text(label));
     }

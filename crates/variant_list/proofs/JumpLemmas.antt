@@ -1,11 +1,13 @@
 -- The least label that is no less than a text, of a net and of a cursor.
-use Rattle.std.proofs.Common.{◌≡◌, inl, inr, ◌↔◌, ℕ, zero, suc, ◌*◌, ◌<◌, ◌≤◌, Bool, true, false, List, [], ◌∷◌, length, take, min, refl, sym, ap, subst, ◌∙◌, arith, length-take}
+use Rattle.std.proofs.Common.{◌≡◌, inl, inr, ◌↔◌, ℕ, zero, suc, ◌*◌, ◌<◌, ◌≤◌, Bool, false, List, [], ◌∷◌, length, take, min, Option, Some, None, is_some, refl, sym, ap, subst, ◌∙◌, arith, length-take}
 use Rattle.std.specs.Bool.{OnTrue, OnFalse}
+use Rattle.std.specs.Prelude.{IfSome, IfNone}
 use Rattle.std.proofs.lemmas.Bool.{false_from_ne_true}
-use Rattle.std.proofs.lemmas.List.{take_all, take_min}
+use Rattle.std.proofs.lemmas.List.{take_all, take_min, take-take}
 use Rattle.variant_list.specs.Labels.{IsBelow}
 use Rattle.variant_list.specs.Beginnings.{shares}
 use Rattle.variant_list.specs.Positions.{Position}
+use Rattle.variant_list.specs.Sharing.{IsShared, IsSharedThrough}
 use Rattle.variant_list.specs.Jumps.{IsFrom, IsLeastFrom, HasNoneFrom, IsCandidate, Jumps}
 use Rattle.variant_list.specs.inner.Least.{IsNext, HasNoNext}
 use Rattle.variant_list.specs.inner.NetPlans.{IsOf}
@@ -87,17 +89,46 @@ module _ (net old : Plan) (n : ℕ) (text last v : List ℕ) (same : net ≡ old
   long_start : length (take 63 text) < n
   long_start = subst (λ l. length l < n) stands long
 
-  pub OnTrue-least : (b : Bool) → OnTrue b (IsNext (IsReadApart net n last) last v) → OnTrue b (IsLeastFrom (IsRead old) text v)
-  OnTrue-least true next =
+  pub least-next : IsNext (IsReadApart net n last) last v → IsLeastFrom (IsRead old) text v
+  least-next next =
       subst (λ p. IsLeastFrom (IsRead p) text v) same
       (IsLeastFrom-next net n (take 63 text) text long_start (above-cut net text unread) v (subst (λ l. IsNext (IsReadApart net n l) l v) stands next))
-  OnTrue-least false next = next
 
-  pub OnFalse-none : (b : Bool) → OnFalse b (HasNoNext (IsReadApart net n last) last) → OnFalse b (HasNoneFrom (IsRead old) text)
-  OnFalse-none true none = none
-  OnFalse-none false none =
+  pub none-next : HasNoNext (IsReadApart net n last) last → HasNoneFrom (IsRead old) text
+  none-next none =
       subst (λ p. HasNoneFrom (IsRead p) text) same
       (HasNoneFrom-none net n (take 63 text) text long_start (above-cut net text unread) (subst (λ l. HasNoNext (IsReadApart net n l) l) stands none))
+
+-- ---- what is shared with the last label
+
+module _ (text before start : List ℕ) (cut : start ≡ take 63 text) where
+  -- a text that is a label itself
+  pub IsSharedThrough-itself : (n : ℕ) → start ≡ text → IsShared before start n → IsSharedThrough text before start n
+  IsSharedThrough-itself n whole shared = record {
+    in_first = shared.in_first;
+    in_second = shared.in_second;
+    first = shared.same ∙ ap (take n) whole;
+    second = ap (take n) whole;
+    longest = λ m in_a in_b a b. shared.longest m in_a in_b (a ∙ ap (take m) (sym whole));
+  }
+
+  -- a label that goes on from the start of the text
+  pub IsSharedThrough-next : (v : List ℕ) (n level : ℕ) → length v ≤ 63 → IsShared before start n → IsShared start v level → IsSharedThrough text before v (min n level)
+  IsSharedThrough-next v n level fits shared turned =
+      let least : ℕ = min n level in
+      let short : n ≤ 63 = omega (arith, shared.in_second, ap length cut, length-take 63 text) in
+      let in_text : take least start ≡ take least text = ap (take least) cut ∙ take-take least 63 text (omega (arith, short)) in
+      record {
+        in_first = omega (arith, shared.in_first);
+        in_second = omega (arith, turned.in_second);
+        first = sym (take-take least n before (omega arith)) ∙ ap (take least) shared.same ∙ take-take least n start (omega arith) ∙ in_text;
+        second = sym (take-take least level v (omega arith)) ∙ ap (take least) (sym turned.same) ∙ take-take least level start (omega arith) ∙ in_text;
+        longest = λ m in_a in_b a b.
+            let whole : take m start ≡ take m text = ap (take m) cut ∙ take-take m 63 text (omega (arith, in_b, fits)) in
+            let long : m ≤ length start = omega (arith, ap length (whole ∙ sym b), length-take m start, length-take m v, in_b) in
+            let first = shared.longest m in_a long (a ∙ sym whole) in
+            let second = turned.longest m long in_b (whole ∙ sym b) in omega (arith, first, second);
+      }
 
 -- ---- a jump of a cursor
 
@@ -108,14 +139,14 @@ module _ (P Q : List ℕ → Type 0) (same : (v : List ℕ) → P v ↔ Q v) whe
   HasNoneFrom-same : (text : List ℕ) → HasNoneFrom P text → HasNoneFrom Q text
   HasNoneFrom-same text h w q up = h w ((same w).1 q) up
 
-pub Jumps-found : (b : Bool) (old new : Position) (text : List ℕ) (plan : Plan) → IsOf old.net.table old.net.label plan → new.net ≡ old.net
-    → OnTrue b (IsLeastFrom (IsRead plan) text new.last) → OnFalse b (HasNoneFrom (IsRead plan) text) → OnFalse b (new.last ≡ take 63 text)
-    → new.edge_tests ≤ 189 * length plan.edges → Jumps old text b new
-Jumps-found b old new text plan net same found none stays looks = record {
+pub Jumps-found : (r : Option ℕ) (old new : Position) (text : List ℕ) (plan : Plan) → IsOf old.net.table old.net.label plan → new.net ≡ old.net
+    → IfSome r (λ _. IsLeastFrom (IsRead plan) text new.last) → IfNone r (HasNoneFrom (IsRead plan) text) → IfNone r (new.last ≡ take 63 text)
+    → new.edge_tests ≤ 189 * length plan.edges → Jumps old text (is_some r) new
+Jumps-found r old new text plan net same found none stays looks = record {
   net = same;
-  found = of_found b found;
-  none = of_none b none;
-  stays = stays;
+  found = of_found r found;
+  none = of_none r none;
+  stays = where_it_stays r stays;
   edge_tests = omega (arith, looks, net.net.edges);
 }
   where
@@ -125,13 +156,17 @@ Jumps-found b old new text plan net same found none stays looks = record {
       λ k. record { path = (net.net.reads v).1 k.spelled; short = k.short },
     )
 
-    of_found : (b : Bool) → OnTrue b (IsLeastFrom (IsRead plan) text new.last) → OnTrue b (IsLeastFrom (IsCandidate old.net) text new.last)
-    of_found true h = IsLeastFrom-same (IsRead plan) (IsCandidate old.net) read text new.last h
-    of_found false h = h
+    of_found : (r : Option ℕ) → IfSome r (λ _. IsLeastFrom (IsRead plan) text new.last) → OnTrue (is_some r) (IsLeastFrom (IsCandidate old.net) text new.last)
+    of_found (Some n) h = IsLeastFrom-same (IsRead plan) (IsCandidate old.net) read text new.last h
+    of_found None h = h
 
-    of_none : (b : Bool) → OnFalse b (HasNoneFrom (IsRead plan) text) → OnFalse b (HasNoneFrom (IsCandidate old.net) text)
-    of_none true h = h
-    of_none false h = HasNoneFrom-same (IsRead plan) (IsCandidate old.net) read text h
+    of_none : (r : Option ℕ) → IfNone r (HasNoneFrom (IsRead plan) text) → OnFalse (is_some r) (HasNoneFrom (IsCandidate old.net) text)
+    of_none (Some n) h = h
+    of_none None h = HasNoneFrom-same (IsRead plan) (IsCandidate old.net) read text h
+
+    where_it_stays : (r : Option ℕ) → IfNone r (new.last ≡ take 63 text) → OnFalse (is_some r) (new.last ≡ take 63 text)
+    where_it_stays (Some n) h = h
+    where_it_stays None h = h
 
 -- how many edges were looked at before plays no part
 pub Jumps-anew : (old new : Position) (text : List ℕ) (b : Bool) → Jumps (record old { edge_tests = 0 }) text b new → Jumps old text b new

@@ -3,18 +3,22 @@
 ghost use Rattle.std.specs.Prelude.{◌≡◌, ◌≤◌, ◌∷◌, [], ◌++◌, length, codes, decimal, All, None, Some, IfOk, IfErr, IsOk, OnErr};
 ghost use Rattle.idn_text.specs.Points.{AreScalarValues};
 ghost use Rattle.idn_class.specs.Hopeless.{hopeless};
+ghost use Rattle.idn_class.specs.Known.{AreKnown};
+ghost use Rattle.idn_punycode.specs.Kept.{IsTakenApart};
 ghost use Rattle.idn_label.specs.ALabel.{a_label_of};
 ghost use Rattle.idn_label.specs.FirstFault.{IsRegistrable};
 ghost use Rattle.idn_label.specs.Memory.{NeedsNoMemory};
 ghost use Rattle.idn_label.proofs.HopeLemmas.{none_hopeless};
 ghost use Rattle.variant_table.specs.WellFormed.{IsWellFormed};
 ghost use Rattle.variant_list.specs.Beginnings.{shortest_hopeless};
+ghost use Rattle.variant_list.specs.Sharing.{IsKeptOf};
 ghost use Rattle.variant_list.specs.Tested.{tested};
 ghost use Rattle.variant_list.specs.Verdicts.{IsVerdict};
 ghost use Rattle.idn2_options.specs.Settings.{IsWithinLimits, keeping};
 ghost use Rattle.idn2_cli.specs.Transcript.{output_lines, Output};
 ghost use Rattle.idn2_cli.specs.Answers.{is_registrable, variant_line, trailer};
 ghost use Rattle.idn2_cli.specs.inner.Dispositions.{block_by, field_by, TellsWell};
+ghost use Rattle.idn2_cli.specs.inner.KeptLines.{IsBegun};
 ghost use Rattle.idn2_cli.specs.inner.LineAnswers.{reaches};
 ghost use Rattle.idn2_cli.specs.inner.Emitting.{Emits, StopsForMemory};
 ghost use Rattle.idn2_cli.specs.declared.session.stop.Stop.TheVariants as stop;
@@ -53,32 +57,34 @@ pub(crate) fn write_block<W: Sink, E: Sink>(
     let mut judge = Registrable {
         beginnings: KeptBeginnings::new(),
         test: KeptALabel::new(),
+        line: KeptLine::new(),
     };
     let mut tries = options.tries;
     let mut count = 0;
-    let mut line = KeptLine::new();
     'variants: loop {
         match cursor.seek(alloc, &mut judge, &mut tries)? {
             Outcome::Found => {}
-            Outcome::Spent => return write_stop(count, cursor.last(), &mut line, console),
+            Outcome::Spent => return write_stop(count, cursor.last(), &mut judge.line, console),
             Outcome::Ended => return write_end(count, console),
         }
         let variant = cursor.last();
         let field = dispositions.field(variant);
-        write_variant(variant, judge.test.a_label(), field, &mut line, console)?;
+        let a_label = judge.test.a_label();
+        write_variant(variant, a_label, field, &mut judge.line, console)?;
         count += 1;
         if is_reached(options.limit, count) {
-            return write_stop(count, cursor.last(), &mut line, console);
+            return write_stop(count, cursor.last(), &mut judge.line, console);
         }
     }
 }
 
 /// Only labels that may be registered are listed (RFC 5891 section 4.2). What a label shares at its start with the one
-/// before is neither tested nor taken apart again.
+/// before is neither tested nor taken apart nor written again.
 #[derive(Drop)]
 struct Registrable {
     beginnings: KeptBeginnings,
     test: KeptALabel,
+    line: KeptLine,
 }
 
 impl Judge for Registrable {
@@ -86,19 +92,26 @@ impl Judge for Registrable {
 
     ghost lost = { λ _ label. hopeless label };
 
-    ghost tells = { λ judge label. judge.test ≡ a_label_of label };
+    ghost tells = { λ judge label. judge.test.text ≡ a_label_of label };
+
+    ghost keeps = { λ judge label. AreKnown label judge.beginnings × IsTakenApart label judge.test × IsBegun label judge.line };
 
     ghost needs_none = { λ _ label. NeedsNoMemory label };
 
     ghost lost_for_good = { λ _ w z lost. none_hopeless w z lost };
 
     /// It takes no memory for a label of which the test needs none.
-    fn judge(&mut self, alloc: Global, label: &[u32]) -> Result<Verdict, AllocError>
-        requires { length label.now ≤ 63 }
-        ensures verdict { IfOk result (IsVerdict is_registrable hopeless (λ v. self.new.test ≡ a_label_of v) label.now) }
+    fn judge(&mut self, alloc: Global, label: &[u32], shared: usize) -> Result<Verdict, AllocError>
+        requires short { length label.now ≤ 63 }
+        requires kept { IsKeptOf (λ v. AreKnown v self.old.beginnings × IsTakenApart v self.old.test × IsBegun v self.old.line) shared label.now }
+        ensures kept { AreKnown label.now self.new.beginnings × IsTakenApart label.now self.new.test × IsBegun label.now self.new.line }
+        ensures verdict { IfOk result (IsVerdict is_registrable hopeless (λ v. self.new.test.text ≡ a_label_of v) label.now) }
         ensures memory { OnErr result (shortest_hopeless hopeless label.now ≡ None) }
         ensures no_memory { NeedsNoMemory label.now → IsOk result }
     {
+        self.beginnings.keep(shared);
+        self.test.keep(shared);
+        self.line.keep(shared);
         if let Some(count) = self.beginnings.shortest_hopeless(label) {
             return Ok(Verdict::Hopeless(count));
         }
@@ -132,6 +145,8 @@ pub(crate) fn write_variant<W: Sink, E: Sink>(
     requires registrable { IsRegistrable label.now }
     requires a_label { a_label.now.bytes ≡ a_label_of label.now }
     requires short { length field.now ≤ 16 }
+    requires begun { IsBegun label.now line.old }
+    ensures begun { IsBegun label.now line.new }
     ensures written { Emits console.old console.new (Output (variant_line field.now label.now ++ 10 ∷ []) ∷ []) result }
     ensures why { IfErr result (λ why. why ≡ stop.Output) }
 {
@@ -156,6 +171,7 @@ pub(crate) fn write_stop<W: Sink, E: Sink>(
 ) -> Result<(), Stop>
     requires short { length last.now ≤ 63 }
     requires scalar_values { AreScalarValues last.now }
+    requires begun { IsBegun last.now kept.old }
     ensures written { Emits console.old console.new (Output (trailer count (Some last.now) ++ 10 ∷ []) ∷ []) result }
     ensures why { IfErr result (λ why. why ≡ stop.Output) }
 {

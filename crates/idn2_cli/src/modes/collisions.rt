@@ -42,7 +42,8 @@ pub(crate) fn write_collisions<W: Sink, E: Sink>(
     let mut search = Collisions::new(alloc, net, registered, &options.after)?;
     let mut count = 0;
     let mut line = KeptLine::new();
-    'collisions: while search.advance() {
+    'collisions: while let Some(shared) = search.advance() {
+        line.keep(shared);
         let label = search.label();
         let a_label = encode_label(label);
         let field = dispositions.field(label);

@@ -112,9 +112,9 @@ fn write_least<W: Sink, E: Sink>(
         (Output (jump_line (slice_get (candidates_from net.now.table net.now.label text.now) 0) ++ 10 ∷ []) ∷ []) result }
 {
     let mut cursor = Cursor::new(alloc, net, text)?;
-    if !cursor.jump(text) {
+    let Some(_shared) = cursor.jump(text) else {
         return console.output(b"#end\n");
-    }
+    };
     let mut line = KeptLine::new();
     line.begin(cursor.last());
     line.append(b"\n");

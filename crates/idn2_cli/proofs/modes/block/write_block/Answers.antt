@@ -1,16 +1,30 @@
-use Rattle.std.proofs.Common.{◌≡◌, ◌+◌, ◌-◌, ◌∙◌, ◌++◌, ◌∷◌, [], ℕ, List, Err, ap, sym, refl, inr}
+use Rattle.std.proofs.Common.{◌≡◌, ◌+◌, ◌-◌, ◌∙◌, ◌++◌, ◌∷◌, [], ℕ, List, Result, Ok, Err, ap, sym, subst, refl, inr}
+use Rattle.std.specs.declared.alloc.AllocError.{AllocError}
+use Rattle.idn_class.specs.Known.{AreKnown}
+use Rattle.idn_class.proofs.KnownLemmas.{AreKnown-nil}
+use Rattle.variant_list.specs.Steps.{IfDecided}
+use Rattle.variant_list.specs.declared.cursor.Outcome.{Outcome}
+use Rattle.variant_list.specs.declared.cursor.Outcome.TheVariants as outcome
+use Rattle.idn2_cli.specs.inner.KeptLines.{IsBegun}
 use Rattle.std.proofs.lemmas.Result.{err_from_is_err_and}
 use Rattle.variant_list.proofs.CallAnswers.{not_ok}
+use Rattle.variant_list.specs.Positions.{Built}
+use Rattle.idn2_cli.specs.declared.modes.dispositions.Dispositions.{Dispositions}
 use Rattle.idn2_options.specs.Settings.{Settings}
 use Rattle.idn2_cli.specs.Answers.{variant_line}
 use Rattle.idn2_cli.specs.inner.Dispositions.{field_by}
-use Rattle.idn2_cli.specs.declared.modes.dispositions.Dispositions.{Dispositions}
-use Rattle.variant_list.specs.Positions.{Built}
 use Rattle.idn2_cli.specs.inner.LineAnswers.{reaches}
 use Rattle.idn2_cli.specs.Transcript.{Output}
 use Rattle.idn2_cli.proofs.WrittenPieces.{stops_first, stops_after, emits_as, writes_as}
 use Rattle.idn2_cli.proofs.ListingProgress.{listing-start, listing-writable, listing-spent, listing-ended, listing-found, listing-broken, listing-reached, found-from, spent-from, ended-from}
 use Rattle.idn2_cli.proofs.modes.block.write_block.Goals as goal
+
+-- what holds where a label was found
+decided-found : (P : Type 0) (r : Result Outcome AllocError) → r ≡ Ok outcome.Found → IfDecided r P → P
+decided-found P (Ok outcome.Found) is h = h
+decided-found P (Ok outcome.Spent) is h = h
+decided-found P (Ok outcome.Ended) is h = cc
+decided-found P (Err e) is h = cc
 
 -- the field is told by what does not change
 told : {field : List ℕ} {now first : Dispositions Built} (v : List ℕ) → field ≡ field_by now v → now ≡ first → field ≡ field_by first v
@@ -30,6 +44,9 @@ variants-init g c = record {
   same = refl;
   listing = listing-start (field_by c.args.dispositions.now) c.args.options.now c.args.net.now _ c.in_ok-cursor.cursor c.deref.result.now c.options.inside.tries c.requires.limits
       (c.deref.ensures.value ∙ ap (λ (o : Settings). o.after) c.options.view_is) (ap (λ (o : Settings). o.tries) c.options.view_is) c.in_ok-cursor.ensures;
+  known = subst (AreKnown c.in_ok-cursor.cursor.last) (sym c.new-2.ensures) (AreKnown-nil c.in_ok-cursor.cursor.last);
+  apart = c.new-3.ensures.apart c.in_ok-cursor.cursor.last;
+  begun = c.new-4.ensures c.in_ok-cursor.cursor.last;
 }
 
 pub write_stop-requires-clause-scalar_values : goal.write_stop-requires-clause-scalar_values
@@ -69,11 +86,15 @@ pub variants-preserved : goal.variants-preserved
 variants-preserved g c =
     let found = found-from c.variants.cursor _ c.variants.tries c.seek.new.tries c.seek.result c.in_ok-seek.field-0 c.in_ok-seek.was c.seek.ensures.decided
     c.last-variant.result.now c.in-Found.is (c.last-variant.ensures.value ∙ c.seek.ensures.moves.last) in
+    let kept = decided-found _ c.seek.result (c.in_ok-seek.was ∙ ap Ok c.in-Found.is) c.seek.ensures.kept in
     let going = sym (ap (λ (o : Settings). reaches o.limit (c.variants.count + 1)) c.options.view_is) ∙ sym c.is_reached.ensures ∙ c.if-is_reached.false in
     record {
       same = c.field-field.ensures.same ∙ c.variants.invariant.same;
       listing = listing-found (field_by c.args.dispositions.now) _ _ _ _ _ c.variants.cursor c.seek.new.self _ c.variants.tries c.seek.new.tries c.last-variant.result.now c.requires.table c.variants.invariant.listing
           c.seek.ensures.moves.net c.seek.ensures.moves.last found (writes_as _ _ Output _ _ (line_is c.last-variant.result.now (told c.last-variant.result.now c.field-field.ensures.field c.variants.invariant.same)) c.in_ok-write_variant.ensures.written) going;
+      known = kept.0;
+      apart = kept.1;
+      begun = subst (λ v. IsBegun v c.write_variant.new.line) c.last-variant.ensures.value c.write_variant.ensures.begun;
     }
 
 pub returns-in_err-seek-clause-written : goal.returns-in_err-seek-clause-written

@@ -1,6 +1,7 @@
 use Rattle.std.proofs.Common.{◌≡◌, length}
 use Rattle.registered_labels.specs.Collisions.{collisions_ahead}
 use Rattle.idn2_cli.specs.inner.Dispositions.{field_by}
+use Rattle.idn2_cli.specs.inner.KeptLines.{IsBegun}
 use Rattle.idn2_cli.proofs.CollisionSteps.{IsUnderWay}
 use Rattle.idn2_cli.proofs.modes.collisions.write_collisions.Given as goal
 
@@ -13,6 +14,7 @@ invariant-collisions g l =
           l.fn.console
           l.console
           l.search l.count l.total;
+      begun : IsBegun l.search.label l.line;
     }
 
 abbrev pub decreases-collisions : goal.decreases-collisions
