@@ -6,6 +6,7 @@ pub mod Register
 pub mod Decode
 pub mod Lookup
 pub mod LdhNames
+pub mod LdhEnds
 pub mod Steps
 pub mod Requirements
 pub mod Examples
