@@ -10,6 +10,7 @@ ghost use Rattle.registered_labels.specs.declared.labels.RegisterFault.TheVarian
 ghost use Rattle.registered_labels.specs.Registered.{AreRegistered, IsBetween, IsFirstFrom, IsFirstAfter};
 ghost use Rattle.registered_labels.specs.inner.Readings.{IsLineEnd, IsReadAs};
 
+use crate::order::order_of;
 use arrayvec::ArrayVec;
 use idn_label::{ldh_end, test_utf8};
 use idn_text::{MAX_LINE_LEN, Refusal, decode_points, put_points, without_carriage_return};
@@ -81,6 +82,8 @@ impl<'a> RegisteredLabels<'a> {
         let mut room = [0; MAX_LINE_LEN];
         // No byte: that is below all labels.
         let mut last = &text[..0];
+        // The text from the last label on.
+        let mut from_last = text;
         let mut at = 0;
         let mut number: u64 = 0;
         while at < text.len() {
@@ -93,7 +96,7 @@ impl<'a> RegisteredLabels<'a> {
             };
             // The byte order of UTF-8 is label order.
             let label = &text[at..at + len];
-            if !last.cmp(&label).is_lt() {
+            if !order_of(from_last, last.len(), &text[at..], len).is_lt() {
                 return Err(refused(number, Refusal::OutOfOrder));
             }
             if end > MAX_TEXT_LEN {
@@ -104,6 +107,7 @@ impl<'a> RegisteredLabels<'a> {
                 end: (at + len) as u32,
             })?;
             last = label;
+            from_last = &text[at..];
             at = end + 1;
         }
         Ok(RegisteredLabels { text, spans })

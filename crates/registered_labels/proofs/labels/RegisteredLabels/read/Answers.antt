@@ -1,5 +1,6 @@
-use Rattle.std.proofs.Common.{inl, inr, ◌≡◌, ◌+◌, ◌-◌, ◌≤◌, List, ℕ, [], ◌∷◌, ◌++◌, length, chars, take, refl, sym, ap, ◌∙◌, subst, arith}
+use Rattle.std.proofs.Common.{inl, inr, ◌≡◌, ◌+◌, ◌-◌, ◌≤◌, List, ℕ, [], ◌∷◌, ◌++◌, length, chars, take, drop, length-take, length-drop, refl, sym, ap, ap₂, ◌∙◌, subst, arith}
 use Rattle.std.specs.List.{slice_range}
+use Rattle.std.proofs.lemmas.List.{take_rest}
 use Rattle.std.proofs.lemmas.Str.{chars-nil}
 use Rattle.idn_text.specs.Points.{utf8_of}
 use Rattle.variant_list.specs.Labels.{IsBelow, label_cmp}
@@ -13,6 +14,14 @@ use Rattle.registered_labels.proofs.LabelLists.{AreRegistered-in}
 use Rattle.registered_labels.proofs.TextLines.{HasRead, HasRead-none, HasRead-more, IsTextOf-read, IsFirstWrong-here, IsFaultOf-refused, IsLastOf, IsLastOf-more, IsOutOfOrder-seen, accepted_label, compared_bytes, length-next}
 use Rattle.registered_labels.proofs.ReadLabels.{AreLabelsIn-none}
 use Rattle.registered_labels.proofs.labels.RegisteredLabels.read.Goals as goal
+
+-- so many bytes from a place on
+part_from : (text : List ℕ) (at len : ℕ) → take len (slice_range text at (length text)) ≡ slice_range text at (at + len)
+part_from text at len = ap (take len) (take_rest text at) ∙ ap (λ n. take n (drop at text)) (let e : len ≡ at + len - at = omega arith in e)
+
+pub order_of-requires-clause-one : goal.order_of-requires-clause-one
+order_of-requires-clause-one c =
+    omega (arith, ap length c.loop-at.invariant.stands, length-take (length c.loop-at.last.now) c.loop-at.from_last.now)
 
 pub loop-at-preserved : goal.loop-at-preserved
 loop-at-preserved c =
@@ -30,16 +39,18 @@ loop-at-preserved c =
     let reached : at ≤ end = c.line_end-line.ensures.end.reached in
     let within : end ≤ length text = c.line_end-line.ensures.end.within in
     let same : bytes ≡ body = sym (body_is text at end len label few reached within read) in
-    let compared : c.cmp.result ≡ label_cmp last label = compared_bytes c.loop-at.last.now bytes body c.cmp.result c.cmp.ensures c.loop-at.invariant.key same (read.read).encoded in
-    let greater : IsBelow last label = below_from_test last label c.cmp.result c.is_lt.result compared c.is_lt.ensures c.if-not-is_lt.false in
+    let compared : c.order_of.result ≡ label_cmp last label = compared_bytes c.loop-at.last.now bytes body c.order_of.result (c.order_of.ensures ∙ ap₂ label_cmp c.loop-at.invariant.stands (part_from text at len)) c.loop-at.invariant.key same (read.read).encoded in
+    let greater : IsBelow last label = below_from_test last label c.order_of.result c.is_lt.result compared c.is_lt.ensures c.if-not-is_lt.false in
     let span : Span = record { start = at; end = at + len } in
     let pushed : c.push.new.self.items ≡ spans ++ span ∷ [] = c.in_ok-push.ensures.items in
     let labels : labels_at text c.push.new.self.items ≡ labels_at text spans ++ label ∷ [] =
     ap (labels_at text) pushed ∙ labels_push text at end len label few reached within read spans last c.loop-at.invariant.labels c.loop-at.invariant.last greater in
     let now : label ≡ chars bytes = ap chars (sym same) in
+    let size : length bytes ≡ len = omega (arith, length-take (at + len - at) (drop at text), length-drop at text, few, reached, within) in
     record {
       labels = subst (AreLabelsIn text) (sym pushed) (AreLabelsIn-more text at end len label few reached within read spans last c.loop-at.invariant.labels c.loop-at.invariant.last greater);
       key = ap utf8_of (sym now) ∙ (read.read).encoded ∙ sym same;
+      stands = ap (λ n. take n (slice_range text at (length text))) size ∙ part_from text at len;
       last = subst (IsAboveAll (labels_at text c.push.new.self.items)) now
           (subst (λ (ss : List Span). IsAboveAll (labels_at text ss) label) (sym pushed) (IsAboveAll-more text at end len label few reached within read spans last c.loop-at.invariant.labels c.loop-at.invariant.last greater));
       counted = omega (arith, c.loop-at.invariant.counted, reached);
@@ -51,6 +62,7 @@ pub loop-at-init : goal.loop-at-init
 loop-at-init c = record {
   labels = subst (AreLabelsIn c.args.text.now) (sym c.new-spans.ensures.items) (AreLabelsIn-none c.args.text.now);
   key = ap utf8_of chars-nil;
+  stands = refl;
   last = subst (λ spans. IsAboveAll (labels_at c.args.text.now spans) (chars [])) (sym c.new-spans.ensures.items) (λ w b. tt);
   counted = omega arith;
   lines = subst (λ spans. HasRead c.args.text.now 0 0 (labels_at c.args.text.now spans)) (sym c.new-spans.ensures.items) (HasRead-none c.args.text.now);
@@ -76,11 +88,11 @@ returns-then-not-is_lt-clause-fault c =
     let few : c.in-Ok.len ≤ end - c.loop-at.at = omega (arith, read.within, length-line text c.loop-at.at end) in
     let bytes : List ℕ = slice_range text c.loop-at.at (c.loop-at.at + c.in-Ok.len) in
     let same : bytes ≡ body = sym (body_is text c.loop-at.at end c.in-Ok.len (chars body) few c.line_end-line.ensures.end.reached c.line_end-line.ensures.end.within read) in
-    let compared : c.cmp.result ≡ label_cmp (chars c.loop-at.last.now) (chars body) = compared_bytes c.loop-at.last.now bytes body c.cmp.result c.cmp.ensures c.loop-at.invariant.key same (read.read).encoded in
+    let compared : c.order_of.result ≡ label_cmp (chars c.loop-at.last.now) (chars body) = compared_bytes c.loop-at.last.now bytes body c.order_of.result (c.order_of.ensures ∙ ap₂ label_cmp c.loop-at.invariant.stands (part_from text c.loop-at.at c.in-Ok.len)) c.loop-at.invariant.key same (read.read).encoded in
     subst (IsFaultOf c.args.text.now) (sym c.refused-then-not-is_lt.ensures)
     (IsFirstWrong-here c.args.text.now c.loop-at.at c.line_end-line.result.end c.loop-at.number labels (IsWrongBy OutOfOrder)
     c.loop-at-test.true c.line_end-line.ensures.end c.loop-at.invariant.lines (AreRegistered-in c.args.text.now c.loop-at.spans.items c.loop-at.invariant.labels)
-    (inr (inl (refl, IsOutOfOrder-seen (slice_range c.args.text.now c.loop-at.at c.line_end-line.result.end) c.in-Ok.len labels (chars c.loop-at.last.now) (chars body) c.cmp.result c.is_lt.result c.in-Ok.ensures.read c.loop-at.invariant.last_label compared c.is_lt.ensures c.if-not-is_lt.true))))
+    (inr (inl (refl, IsOutOfOrder-seen (slice_range c.args.text.now c.loop-at.at c.line_end-line.result.end) c.in-Ok.len labels (chars c.loop-at.last.now) (chars body) c.order_of.result c.is_lt.result c.in-Ok.ensures.read c.loop-at.invariant.last_label compared c.is_lt.ensures c.if-not-is_lt.true))))
 
 pub returns-then-end-gt-MAX_TEXT_LEN-clause-fault : goal.returns-then-end-gt-MAX_TEXT_LEN-clause-fault
 returns-then-end-gt-MAX_TEXT_LEN-clause-fault c =
