@@ -35,7 +35,7 @@ pub(crate) fn read_points(label: &[u8], room: &mut [u32; MAX_LINE_LEN]) -> Optio
 }
 
 /// A short label as characters, which takes no memory.
-pub(crate) fn short_chars(label: &[u32]) -> ArrayVec<char, 63>
+pub fn short_chars(label: &[u32]) -> ArrayVec<char, 63>
     requires short { length label.now ≤ 63 }
     requires scalars { AreScalarValues label.now }
     ensures { result.items ≡ label.now }
@@ -48,7 +48,7 @@ pub(crate) fn short_chars(label: &[u32]) -> ArrayVec<char, 63>
 }
 
 /// A label as characters.
-pub(crate) fn chars_of(alloc: Global, label: &[u32]) -> Result<Vec<char>, AllocError>
+pub fn chars_of(alloc: Global, label: &[u32]) -> Result<Vec<char>, AllocError>
     requires { AreScalarValues label.now }
     ensures { IfOk result (λ chars. chars.items ≡ label.now) }
 {
