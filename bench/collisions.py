@@ -4,8 +4,10 @@
 All times are of the processor, in the program and for it in the kernel, in seconds, and the least of some rounds, as in
 bench.py. What the lines of the tables say:
 
-    load        `idn2 --variants TABLE --among FILE` with an empty input, beside `LC_ALL=C sort -c` on the same file: labels
-                like German words under tables/german.txt, labels of Han characters with variants under tables/han.txt.
+    load        `idn2 --variants TABLE --among FILE` with an empty input, beside `LC_ALL=C sort -c` on the same file: random
+                letters, labels like German words under tables/german.txt, and labels of Han characters with variants
+                under tables/han.txt. `least` is bench/least_load.cpp, a program that keeps the lines, compares them,
+                checks their UTF-8 and looks up each code point once, and tests no rule of a label.
                 Resident memory beside what is wanted: that of a run with an empty file, the file, and 8 bytes a label
     search      what one label or all of them take beyond the load:
                 one label with 2^62 variants among random letters, which may take no longer than the load
@@ -19,8 +21,8 @@ Before anything is timed, the answers for some labels are compared with the whol
 file. `--labels 10000000` shows what ten million take. With `--instructions` callgrind counts those of a load, a label, and
 of a jump.
 
-To be installed (Debian's names), each left out with a word where it is missing: time for the memory, valgrind for the
-instructions.
+To be installed (Debian's names), each left out with a word where it is missing: time for the memory, g++ for the least
+work, valgrind for the instructions.
 """
 
 import argparse
@@ -33,7 +35,7 @@ import tempfile
 import time
 
 import registered
-from bench import OURS
+from bench import HERE, OURS
 from inputs import SEED, TABLE, write
 from runs import ENVIRONMENT, Failed, Run, found, in_turn, version
 
@@ -71,6 +73,17 @@ class Registered:
 
 def sort_check(file, nothing):
     return Run(found("sort"), ["-c", str(file)], nothing, locale="C")
+
+
+def least_load(folder):
+    """The program that does the least work of a load, built into the folder; or nothing."""
+    compiler = found("g++")
+    if not compiler:
+        print("\nleast work: no g++ here (Debian's package g++)")
+        return None
+    program = folder / "least_load"
+    subprocess.run([compiler, "-O2", "-std=c++17", "-o", program, HERE / "least_load.cpp"], check=True)
+    return program
 
 
 # Answers.
@@ -150,12 +163,14 @@ def cells(*texts):
     print(f"{texts[0]:<34}" + "".join(f"{text:>12}" for text in texts[1:]))
 
 
-def show_loads(options, files):
+def show_loads(options, files, least):
     print("\nload: seconds of the processor, and MiB of resident memory at the peak")
-    cells("", "labels", "MB", "ours", "sort -c", "ratio", "wanted", "MiB", "wanted")
+    cells("", "labels", "MB", "ours", "sort -c", "ratio", "wanted", "least", "MiB", "wanted")
     gnu_time = found("time")
     for kept in files:
-        ours, sort = in_turn([kept.load(), sort_check(kept.file, kept.nothing)], options.rounds)
+        runs = [kept.load(), sort_check(kept.file, kept.nothing)]
+        runs += [Run(least, [str(kept.file)], kept.nothing)] if least else []
+        ours, sort, *others = in_turn(runs, options.rounds)
         size = kept.file.stat().st_size
         memory = ["-", "-"]
         if gnu_time:
@@ -163,7 +178,7 @@ def show_loads(options, files):
             wanted = least + (size + BYTES_WANTED * len(kept.labels)) / 2**20
             memory = [f"{kept.load().kibibytes(gnu_time) / 1024:.1f}", f"{wanted:.1f}"]
         cells(kept.name, f"{len(kept.labels):,}", f"{size / 1e6:.1f}", f"{ours.processor:.3f}", f"{sort.processor:.3f}",
-              f"{ours.processor / sort.processor:.1f}", LOAD_WANTED, *memory)
+              f"{ours.processor / sort.processor:.1f}", LOAD_WANTED, *[f"{it.processor:.3f}" for it in others] or ["-"], *memory)
     if not gnu_time:
         print("memory: no GNU time here (Debian's package time)")
 
@@ -257,11 +272,11 @@ def measure(options, folder):
     for kept in (words, han):
         found_alike = compare_answers(kept)
         print(f"{kept.name}: {found_alike:,} collisions of some labels, by listings, --among and --jump alike", flush=True)
-    show_loads(options, (words, han))
+    show_loads(options, (all_letters, words, han), least_load(folder))
     show_searches(options, all_letters, between, (words, han))
     show_jumps(options, (words, han))
     if options.instructions:
-        show_instructions(options, (words, han), between)
+        show_instructions(options, (all_letters, words, han), between)
 
 
 def main():

@@ -1,6 +1,7 @@
 -- The first fault, step by step.
-use Rattle.std.proofs.Common.{◌≡◌, ℕ, ◌+◌, ◌<◌, ◌≤◌, true, false, ◌==◌, List, [], ◌∷◌, ◌++◌, length, codes, le-ltb, map, drop, All, Option, Some, None, get_or, refl, sym, ap, ◌∙◌, inl, inr, arith}
-use Rattle.std.proofs.lemmas.Bool.{cases_Bool, true≢false}
+use Rattle.std.proofs.Common.{◌≡◌, ℕ, ◌+◌, ◌<◌, ◌≤◌, true, false, ◌==◌, List, [], ◌∷◌, ◌++◌, length, codes, cond, nat_lt, le-ltb, map, drop, All, Option, Some, None, get_or, refl, sym, ap, ◌∙◌, inl, inr, arith}
+use Rattle.std.proofs.Math.Bool.{or_self}
+use Rattle.std.proofs.lemmas.Bool.{cases_Bool, true≢false, cond-true}
 use Rattle.std.proofs.lemmas.Bool.Decides.{nat_tests}
 use Rattle.std.proofs.lemmas.List.{at_drop_more, at_drop_all}
 use Rattle.std.proofs.lemmas.List.Elements.{All-nil, All-cons, All-head, All-tail, All-weaker}
@@ -116,9 +117,16 @@ pub permitted-faultless : (label : List ℕ) → fault_but_length label ≡ None
 unfolding fault_but_length
 permitted-faultless label none = second-none _ _ _ none
 
--- a label that is not all ASCII is short enough, where it has few code points and its A-label few octets
-pub short_enough : (label : List ℕ) → is_all_ascii label ≡ false → length label ≤ 63 → length (codes "xn--" ++ encode label) ≤ 63 → is_too_long label ≡ false
+-- a label is short enough, where it has few code points and "xn--" and its Punycode few octets
+pub short_enough : (label : List ℕ) → length label ≤ 63 → length (codes "xn--" ++ encode label) ≤ 63 → is_too_long label ≡ false
 unfolding a_label_of
-short_enough label other points octets =
-    let a_label : length (a_label_of label) ≤ 63 = rw other octets in
+short_enough label points octets =
+    let a_label : length (a_label_of label) ≤ 63 = elim (is_all_ascii label) as (λ b. length (cond b label (codes "xn--" ++ encode label)) ≤ 63) [ true ↦ points | false ↦ octets ] in
     rw (le-ltb 63 (length label) points, le-ltb 63 (length (a_label_of label)) a_label) refl
+
+-- a label in ASCII is its own A-label
+pub ascii_long : (label : List ℕ) → is_all_ascii label ≡ true → is_too_long label ≡ nat_lt 63 (length label)
+unfolding a_label_of
+ascii_long label ascii =
+    let same : a_label_of label ≡ label = cond-true _ _ _ ascii in
+    rw same (or_self (nat_lt 63 (length label)))

@@ -7,6 +7,7 @@ pub mod Decode
 pub mod Lookup
 pub mod LabelEnds
 pub mod LdhNames
+pub mod LdhEnds
 pub mod Steps
 pub mod Requirements
 pub mod Examples

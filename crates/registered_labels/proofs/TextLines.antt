@@ -1,5 +1,5 @@
 -- The lines of a text, one after another, and the first that is wrong.
-use Rattle.std.proofs.Common.{◌≡◌, ◌≢◌, ◌⊎◌, inl, inr, ℕ, zero, suc, ◌+◌, ◌-◌, ◌<◌, ◌≤◌, Bool, true, false, cond, Option, Some, None, List, [], ◌∷◌, ◌++◌, length, map, take, drop, get_or, eqb, refl, sym, ap, subst, ◌∙◌, arith, add-one, append_assoc, length-append, length-take, length-drop, drop-cons}
+use Rattle.std.proofs.Common.{◌≡◌, ◌≢◌, ◌⊎◌, inl, inr, ℕ, zero, suc, ◌+◌, ◌-◌, ◌<◌, ◌≤◌, Bool, true, false, cond, Some, None, List, [], ◌∷◌, ◌++◌, length, map, take, drop, get_or, eqb, refl, sym, ap, subst, ◌∙◌, arith, add-one, append_assoc, length-append, length-take, length-drop, drop-cons}
 use Rattle.std.specs.List.{slice_range}
 use Rattle.std.specs.Ordering.{is_lt}
 use Rattle.std.specs.declared.cmp.Ordering.{Ordering}
@@ -37,7 +37,7 @@ pub refused_body : (line body : List ℕ) (refusal : Refusal) → length line �
 refused_body line body refusal few is fault = ap line_refusal (body_of-short line few ∙ ap Some (sym is)) ∙ fault
 
 -- the body of a line stands at its front
-stripped_front : (line : List ℕ) → strip_carriage_return line ≡ take (length (strip_carriage_return line)) line
+pub stripped_front : (line : List ℕ) → strip_carriage_return line ≡ take (length (strip_carriage_return line)) line
 stripped_front line = by_test (eqb (get_or line (length line - 1) 0) 13)
   where
     by_test : (b : Bool) → cond b (take (length line - 1) line) line ≡ take (length (cond b (take (length line - 1) line) line)) line

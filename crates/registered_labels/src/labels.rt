@@ -1,15 +1,18 @@
 //! Registered labels in memory.
-ghost use Rattle.std.specs.Prelude.{◌≡◌, ◌≢◌, ◌<◌, ◌≤◌, ℕ, List, length, take, chars, slice_get, option_map, Some, IfOk, IfErr};
+ghost use Rattle.std.specs.Prelude.{◌≡◌, ◌≢◌, ◌<◌, ◌≤◌, ℕ, List, length, take, chars, slice_get, slice_range, option_map, true, Some, IfOk, IfErr};
 ghost use Rattle.idn_text.specs.Lines.{body_of};
 ghost use Rattle.std.specs.Ordering.{is_lt};
+ghost use Rattle.std.specs.List.{list_all};
+ghost use Rattle.idn_label.specs.Steps.{is_ldh_point};
 ghost use Rattle.idn_text.specs.Points.{AreScalarValues, utf8_of};
 ghost use Rattle.variant_list.specs.Labels.{label_cmp};
 ghost use Rattle.registered_labels.specs.declared.labels.RegisterFault.TheVariants as faults;
 ghost use Rattle.registered_labels.specs.Registered.{AreRegistered, IsBetween, IsFirstFrom, IsFirstAfter};
 ghost use Rattle.registered_labels.specs.inner.Readings.{IsLineEnd, IsReadAs};
 
+use crate::order::order_of;
 use arrayvec::ArrayVec;
-use idn_label::test_utf8;
+use idn_label::{ldh_end, test_utf8};
 use idn_text::{MAX_LINE_LEN, Refusal, decode_points, put_points, without_carriage_return};
 use memchr::memchr;
 use std::alloc::{AllocError, AllocFailed, Global};
@@ -79,18 +82,21 @@ impl<'a> RegisteredLabels<'a> {
         let mut room = [0; MAX_LINE_LEN];
         // No byte: that is below all labels.
         let mut last = &text[..0];
+        // The text from the last label on.
+        let mut from_last = text;
         let mut at = 0;
         let mut number: u64 = 0;
         while at < text.len() {
             number += 1;
-            let end = line_end(text, at);
-            let len = match read_label(alloc, &text[at..end], &mut room) {
+            let line = line_end(text, at);
+            let end = line.end;
+            let len = match read_label(alloc, &text[at..end], line.is_ldh, &mut room) {
                 Ok(len) => len,
                 Err(refusal) => return Err(refused(number, refusal)),
             };
             // The byte order of UTF-8 is label order.
             let label = &text[at..at + len];
-            if !last.cmp(&label).is_lt() {
+            if !order_of(from_last, last.len(), &text[at..], len).is_lt() {
                 return Err(refused(number, Refusal::OutOfOrder));
             }
             if end > MAX_TEXT_LEN {
@@ -101,6 +107,7 @@ impl<'a> RegisteredLabels<'a> {
                 end: (at + len) as u32,
             })?;
             last = label;
+            from_last = &text[at..];
             at = end + 1;
         }
         Ok(RegisteredLabels { text, spans })
@@ -209,11 +216,38 @@ impl<'a> RegisteredLabels<'a> {
 
 ghost use Rattle.registered_labels.specs.Texts.{line_refusal, fault_of};
 
-/// The place of the first line feed of a text from a place on, or the text's end if there is none.
-fn line_end(text: &[u8], at: usize) -> usize
+/// The end of a line, and whether it is known to have only lower-case letters, digits and hyphens of ASCII.
+#[derive(Clone, Copy)]
+struct LineEnd {
+    end: usize,
+    is_ldh: bool,
+}
+
+/// The place of the first line feed of a text from a place on, or the text's end if there is none. Where the letters,
+/// digits and hyphens of most lines end, the line does, so these octets are looked at once.
+#[inline]
+fn line_end(text: &[u8], at: usize) -> LineEnd
     requires { at < length text.now }
+    ensures end { IsLineEnd text.now at result.end }
+    ensures ldh { result.is_ldh ≡ true → list_all is_ldh_point (slice_range text.now at result.end) ≡ true }
+{
+    let ldh = ldh_end(text, at);
+    let end = feed_from(text, ldh);
+    LineEnd {
+        end,
+        is_ldh: ldh == end,
+    }
+}
+
+/// The place of the first line feed of a text from a place on, or the text's end if there is none.
+#[inline]
+fn feed_from(text: &[u8], at: usize) -> usize
+    requires { at ≤ length text.now }
     ensures { IsLineEnd text.now at result }
 {
+    if at < text.len() && text[at] == b'\n' {
+        return at;
+    }
     match memchr(b'\n', &text[at..]) {
         Some(place) => at + place,
         None => text.len(),
@@ -221,12 +255,15 @@ fn line_end(text: &[u8], at: usize) -> usize
 }
 
 /// Tests a line as a label that may be registered, and returns how many of its bytes are the label: one carriage return at
-/// its end doesn't count. `room` is room for the work.
+/// its end doesn't count. Of some lines it is known that they are lower-case letters, digits and hyphens of ASCII. `room`
+/// is room for the work.
 fn read_label(
     alloc: Global,
     line: &[u8],
+    is_ldh: bool,
     room: &mut [u32; MAX_LINE_LEN],
 ) -> Result<usize, Refusal>
+    requires { is_ldh ≡ true → list_all is_ldh_point line.now ≡ true }
     ensures read { IfOk result (λ len. IsReadAs line.now len (chars (take len line.now))) }
     ensures refused { IfErr result (λ refusal. refusal ≢ Refusal.Memory → line_refusal (body_of line.now) ≡ Some refusal) }
 {
@@ -234,7 +271,7 @@ fn read_label(
         return Err(Refusal::LineTooLong);
     }
     let body = without_carriage_return(line);
-    match test_utf8(alloc, body, room) {
+    match test_utf8(alloc, body, is_ldh, room) {
         Ok(()) => Ok(body.len()),
         Err(refusal) => Err(refusal),
     }

@@ -4,6 +4,7 @@
 mod collisions;
 mod labels;
 pub mod laws;
+mod order;
 
 pub use collisions::Collisions;
 pub use labels::{RegisterFault, RegisteredLabels};

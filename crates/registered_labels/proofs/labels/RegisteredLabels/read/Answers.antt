@@ -1,5 +1,6 @@
-use Rattle.std.proofs.Common.{inl, inr, ◌≡◌, ◌+◌, ◌-◌, ◌≤◌, List, ℕ, [], ◌∷◌, ◌++◌, length, chars, take, refl, sym, ap, ◌∙◌, subst, arith}
+use Rattle.std.proofs.Common.{inl, inr, ◌≡◌, ◌+◌, ◌-◌, ◌≤◌, List, ℕ, [], ◌∷◌, ◌++◌, length, chars, take, drop, length-take, length-drop, refl, sym, ap, ap₂, ◌∙◌, subst, arith}
 use Rattle.std.specs.List.{slice_range}
+use Rattle.std.proofs.lemmas.List.{take_rest}
 use Rattle.std.proofs.lemmas.Str.{chars-nil}
 use Rattle.idn_text.specs.Points.{utf8_of}
 use Rattle.variant_list.specs.Labels.{IsBelow, label_cmp}
@@ -14,11 +15,19 @@ use Rattle.registered_labels.proofs.TextLines.{HasRead, HasRead-none, HasRead-mo
 use Rattle.registered_labels.proofs.ReadLabels.{AreLabelsIn-none}
 use Rattle.registered_labels.proofs.labels.RegisteredLabels.read.Goals as goal
 
+-- so many bytes from a place on
+part_from : (text : List ℕ) (at len : ℕ) → take len (slice_range text at (length text)) ≡ slice_range text at (at + len)
+part_from text at len = ap (take len) (take_rest text at) ∙ ap (λ n. take n (drop at text)) (let e : len ≡ at + len - at = omega arith in e)
+
+pub order_of-requires-clause-one : goal.order_of-requires-clause-one
+order_of-requires-clause-one c =
+    omega (arith, ap length c.loop-at.invariant.stands, length-take (length c.loop-at.last.now) c.loop-at.from_last.now)
+
 pub loop-at-preserved : goal.loop-at-preserved
 loop-at-preserved c =
     let text : List ℕ = c.args.text.now in
     let at : ℕ = c.loop-at.at in
-    let end : ℕ = c.line_end-end.result in
+    let end : ℕ = c.line_end-line.result.end in
     let len : ℕ = c.in-Ok.len in
     let last : List ℕ = chars c.loop-at.last.now in
     let spans : List Span = c.loop-at.spans.items in
@@ -27,23 +36,25 @@ loop-at-preserved c =
     let read : IsReadAs (slice_range text at end) len label = c.in-Ok.ensures.read in
     let few : len ≤ end - at = omega (arith, read.within, length-line text at end) in
     let bytes : List ℕ = slice_range text at (at + len) in
-    let reached : at ≤ end = c.line_end-end.ensures.reached in
-    let within : end ≤ length text = c.line_end-end.ensures.within in
+    let reached : at ≤ end = c.line_end-line.ensures.end.reached in
+    let within : end ≤ length text = c.line_end-line.ensures.end.within in
     let same : bytes ≡ body = sym (body_is text at end len label few reached within read) in
-    let compared : c.cmp.result ≡ label_cmp last label = compared_bytes c.loop-at.last.now bytes body c.cmp.result c.cmp.ensures c.loop-at.invariant.key same (read.read).encoded in
-    let greater : IsBelow last label = below_from_test last label c.cmp.result c.is_lt.result compared c.is_lt.ensures c.if-not-is_lt.false in
+    let compared : c.order_of.result ≡ label_cmp last label = compared_bytes c.loop-at.last.now bytes body c.order_of.result (c.order_of.ensures ∙ ap₂ label_cmp c.loop-at.invariant.stands (part_from text at len)) c.loop-at.invariant.key same (read.read).encoded in
+    let greater : IsBelow last label = below_from_test last label c.order_of.result c.is_lt.result compared c.is_lt.ensures c.if-not-is_lt.false in
     let span : Span = record { start = at; end = at + len } in
     let pushed : c.push.new.self.items ≡ spans ++ span ∷ [] = c.in_ok-push.ensures.items in
     let labels : labels_at text c.push.new.self.items ≡ labels_at text spans ++ label ∷ [] =
     ap (labels_at text) pushed ∙ labels_push text at end len label few reached within read spans last c.loop-at.invariant.labels c.loop-at.invariant.last greater in
     let now : label ≡ chars bytes = ap chars (sym same) in
+    let size : length bytes ≡ len = omega (arith, length-take (at + len - at) (drop at text), length-drop at text, few, reached, within) in
     record {
       labels = subst (AreLabelsIn text) (sym pushed) (AreLabelsIn-more text at end len label few reached within read spans last c.loop-at.invariant.labels c.loop-at.invariant.last greater);
       key = ap utf8_of (sym now) ∙ (read.read).encoded ∙ sym same;
+      stands = ap (λ n. take n (slice_range text at (length text))) size ∙ part_from text at len;
       last = subst (IsAboveAll (labels_at text c.push.new.self.items)) now
           (subst (λ (ss : List Span). IsAboveAll (labels_at text ss) label) (sym pushed) (IsAboveAll-more text at end len label few reached within read spans last c.loop-at.invariant.labels c.loop-at.invariant.last greater));
       counted = omega (arith, c.loop-at.invariant.counted, reached);
-      lines = subst (HasRead text (end + 1) (c.loop-at.number + 1)) (sym labels) (HasRead-more text at end c.loop-at.number len (labels_at text spans) label c.loop-at-test.true c.line_end-end.ensures read c.loop-at.invariant.lines);
+      lines = subst (HasRead text (end + 1) (c.loop-at.number + 1)) (sym labels) (HasRead-more text at end c.loop-at.number len (labels_at text spans) label c.loop-at-test.true c.line_end-line.ensures.end read c.loop-at.invariant.lines);
       last_label = subst (IsLastOf (labels_at text c.push.new.self.items)) now (subst (λ (ls : List (List ℕ)). IsLastOf ls label) (sym labels) (IsLastOf-more (labels_at text spans) label));
     }
 
@@ -51,6 +62,7 @@ pub loop-at-init : goal.loop-at-init
 loop-at-init c = record {
   labels = subst (AreLabelsIn c.args.text.now) (sym c.new-spans.ensures.items) (AreLabelsIn-none c.args.text.now);
   key = ap utf8_of chars-nil;
+  stands = refl;
   last = subst (λ spans. IsAboveAll (labels_at c.args.text.now spans) (chars [])) (sym c.new-spans.ensures.items) (λ w b. tt);
   counted = omega arith;
   lines = subst (λ spans. HasRead c.args.text.now 0 0 (labels_at c.args.text.now spans)) (sym c.new-spans.ensures.items) (HasRead-none c.args.text.now);
@@ -62,33 +74,33 @@ returns-in-Err-clause-fault c =
     let labels : List (List ℕ) = labels_at c.args.text.now c.loop-at.spans.items in
     subst (IsFaultOf c.args.text.now) (sym c.refused.ensures)
     (IsFaultOf-refused c.args.text.now (c.loop-at.number + 1) c.in-Err.refusal (λ other.
-    IsFirstWrong-here c.args.text.now c.loop-at.at c.line_end-end.result c.loop-at.number labels (IsWrongBy c.in-Err.refusal)
-    c.loop-at-test.true c.line_end-end.ensures c.loop-at.invariant.lines (AreRegistered-in c.args.text.now c.loop-at.spans.items c.loop-at.invariant.labels)
+    IsFirstWrong-here c.args.text.now c.loop-at.at c.line_end-line.result.end c.loop-at.number labels (IsWrongBy c.in-Err.refusal)
+    c.loop-at-test.true c.line_end-line.ensures.end c.loop-at.invariant.lines (AreRegistered-in c.args.text.now c.loop-at.spans.items c.loop-at.invariant.labels)
     (inl (c.in-Err.ensures.refused other))))
 
 pub returns-then-not-is_lt-clause-fault : goal.returns-then-not-is_lt-clause-fault
 returns-then-not-is_lt-clause-fault c =
     let labels : List (List ℕ) = labels_at c.args.text.now c.loop-at.spans.items in
     let text : List ℕ = c.args.text.now in
-    let end : ℕ = c.line_end-end.result in
+    let end : ℕ = c.line_end-line.result.end in
     let body : List ℕ = take c.in-Ok.len (slice_range text c.loop-at.at end) in
     let read : IsReadAs (slice_range text c.loop-at.at end) c.in-Ok.len (chars body) = c.in-Ok.ensures.read in
     let few : c.in-Ok.len ≤ end - c.loop-at.at = omega (arith, read.within, length-line text c.loop-at.at end) in
     let bytes : List ℕ = slice_range text c.loop-at.at (c.loop-at.at + c.in-Ok.len) in
-    let same : bytes ≡ body = sym (body_is text c.loop-at.at end c.in-Ok.len (chars body) few c.line_end-end.ensures.reached c.line_end-end.ensures.within read) in
-    let compared : c.cmp.result ≡ label_cmp (chars c.loop-at.last.now) (chars body) = compared_bytes c.loop-at.last.now bytes body c.cmp.result c.cmp.ensures c.loop-at.invariant.key same (read.read).encoded in
+    let same : bytes ≡ body = sym (body_is text c.loop-at.at end c.in-Ok.len (chars body) few c.line_end-line.ensures.end.reached c.line_end-line.ensures.end.within read) in
+    let compared : c.order_of.result ≡ label_cmp (chars c.loop-at.last.now) (chars body) = compared_bytes c.loop-at.last.now bytes body c.order_of.result (c.order_of.ensures ∙ ap₂ label_cmp c.loop-at.invariant.stands (part_from text c.loop-at.at c.in-Ok.len)) c.loop-at.invariant.key same (read.read).encoded in
     subst (IsFaultOf c.args.text.now) (sym c.refused-then-not-is_lt.ensures)
-    (IsFirstWrong-here c.args.text.now c.loop-at.at c.line_end-end.result c.loop-at.number labels (IsWrongBy OutOfOrder)
-    c.loop-at-test.true c.line_end-end.ensures c.loop-at.invariant.lines (AreRegistered-in c.args.text.now c.loop-at.spans.items c.loop-at.invariant.labels)
-    (inr (inl (refl, IsOutOfOrder-seen (slice_range c.args.text.now c.loop-at.at c.line_end-end.result) c.in-Ok.len labels (chars c.loop-at.last.now) (chars body) c.cmp.result c.is_lt.result c.in-Ok.ensures.read c.loop-at.invariant.last_label compared c.is_lt.ensures c.if-not-is_lt.true))))
+    (IsFirstWrong-here c.args.text.now c.loop-at.at c.line_end-line.result.end c.loop-at.number labels (IsWrongBy OutOfOrder)
+    c.loop-at-test.true c.line_end-line.ensures.end c.loop-at.invariant.lines (AreRegistered-in c.args.text.now c.loop-at.spans.items c.loop-at.invariant.labels)
+    (inr (inl (refl, IsOutOfOrder-seen (slice_range c.args.text.now c.loop-at.at c.line_end-line.result.end) c.in-Ok.len labels (chars c.loop-at.last.now) (chars body) c.order_of.result c.is_lt.result c.in-Ok.ensures.read c.loop-at.invariant.last_label compared c.is_lt.ensures c.if-not-is_lt.true))))
 
 pub returns-then-end-gt-MAX_TEXT_LEN-clause-fault : goal.returns-then-end-gt-MAX_TEXT_LEN-clause-fault
 returns-then-end-gt-MAX_TEXT_LEN-clause-fault c =
     let labels : List (List ℕ) = labels_at c.args.text.now c.loop-at.spans.items in
     subst (IsFaultOf c.args.text.now) (sym c.refused-then-end-gt-MAX_TEXT_LEN.ensures)
-    (IsFirstWrong-here c.args.text.now c.loop-at.at c.line_end-end.result c.loop-at.number labels (IsWrongBy FileTooLong)
-    c.loop-at-test.true c.line_end-end.ensures c.loop-at.invariant.lines (AreRegistered-in c.args.text.now c.loop-at.spans.items c.loop-at.invariant.labels)
-    (inr (inr (refl, accepted_label (slice_range c.args.text.now c.loop-at.at c.line_end-end.result) c.in-Ok.len (chars (take c.in-Ok.len (slice_range c.args.text.now c.loop-at.at c.line_end-end.result))) c.in-Ok.ensures.read, omega (arith, c.line_end-end.ensures.reached, length-next c.args.text.now c.loop-at.at c.line_end-end.result c.line_end-end.ensures)))))
+    (IsFirstWrong-here c.args.text.now c.loop-at.at c.line_end-line.result.end c.loop-at.number labels (IsWrongBy FileTooLong)
+    c.loop-at-test.true c.line_end-line.ensures.end c.loop-at.invariant.lines (AreRegistered-in c.args.text.now c.loop-at.spans.items c.loop-at.invariant.labels)
+    (inr (inr (refl, accepted_label (slice_range c.args.text.now c.loop-at.at c.line_end-line.result.end) c.in-Ok.len (chars (take c.in-Ok.len (slice_range c.args.text.now c.loop-at.at c.line_end-line.result.end))) c.in-Ok.ensures.read, omega (arith, c.line_end-line.ensures.end.reached, length-next c.args.text.now c.loop-at.at c.line_end-line.result.end c.line_end-line.ensures.end)))))
 
 pub returns-clause-labels : goal.returns-clause-labels
 returns-clause-labels c =
