@@ -163,13 +163,13 @@ def cells(*texts):
     print(f"{texts[0]:<34}" + "".join(f"{text:>12}" for text in texts[1:]))
 
 
-def show_loads(options, files, least):
+def show_loads(options, files, peer):
     print("\nload: seconds of the processor, and MiB of resident memory at the peak")
     cells("", "labels", "MB", "ours", "sort -c", "ratio", "wanted", "least", "MiB", "wanted")
     gnu_time = found("time")
     for kept in files:
         runs = [kept.load(), sort_check(kept.file, kept.nothing)]
-        runs += [Run(least, [str(kept.file)], kept.nothing)] if least else []
+        runs += [Run(peer, [str(kept.file)], kept.nothing)] if peer else []
         ours, sort, *others = in_turn(runs, options.rounds)
         size = kept.file.stat().st_size
         memory = ["-", "-"]

@@ -160,6 +160,51 @@ def refuses_a_file_by_its_first_wrong_line(folder):
         expect([*words, "haus"], b"", b"", message, 2)
 
 
+def encoded_length(label):
+    """How many octets the A-label of a label has, by Python's own Punycode."""
+    return len(label) if label.isascii() else len("xn--") + len(label.encode("punycode"))
+
+
+# Letters of one to four octets in UTF-8, and what they are mixed with. Each is a label as it stands.
+LETTERS = ["abcxyz", "äöüß", "абвгд", "กขคงจ", "中国國學生", "가나다", "\U00020000\U00020001\U0002A6D0"]
+
+
+def measured_labels(chance):
+    """Labels of all lengths up to some that are too long, so that their A-labels have from 1 to about 100 octets."""
+    for _ in range(3000):
+        letters = "".join(chance.sample(LETTERS, chance.randint(1, 3)))
+        yield "".join(chance.choices(letters, k=chance.randint(1, 70)))
+
+
+def measures_labels_as_another_program(folder):
+    """A label is too long exactly where its A-label has more than 63 octets, however many it has itself."""
+    labels = {*measured_labels(random.Random("lengths"))}
+    short = [label for label in labels if encoded_length(label) <= 63 and len(label) <= 63]
+    expect([*TABLE_WORDS, "--among", lines_file(folder, short)], b"", b"", b"", 0)
+    lengths = {encoded_length(label) for label in short}
+    assert lengths >= {*range(20, 64)}, lengths
+    barely = [label for label in labels if encoded_length(label) in (64, 65)]
+    assert len(barely) > 20, len(barely)
+    for label in barely:
+        message = b"idn2: registered line 1: 18 label too long\n"
+        expect([*TABLE_WORDS, "--among", registered_file(folder, label)], b"", b"", message, 2)
+
+
+def compares_lines_by_their_bytes(folder):
+    """Two lines that begin alike, the shorter and the longer than what is compared at once."""
+    chance = random.Random("order")
+    for _ in range(300):
+        shared = "".join(chance.choices("abß中", k=chance.randint(0, 20)))
+        first, second = (shared + "".join(chance.choices("aß中", k=chance.randint(1, 2))) for _ in range(2))
+        end = chance.choice(["\n", "\r\n"])
+        rest = chance.choice(["", end, end + "龍"])
+        words = [*TABLE_WORDS, "--among", registered_file(folder, first + end + second + rest)]
+        if encoded(first) < encoded(second):
+            expect(words, b"", b"", b"", 0)
+        else:
+            expect(words, b"", b"", b"idn2: registered line 2: 4 out of order\n", 2)
+
+
 def tells_which_file_is_faulty(folder):
     """A file that can't be read comes first, then the registered labels, then the table."""
     absent, faulty = os.path.join(folder, "absent"), table_file(folder, b"0061|\n")
@@ -443,6 +488,8 @@ def sees_a_collision_from_either_side(folder):
 TESTS = [
     lists_the_variants_that_are_registered,
     refuses_a_file_by_its_first_wrong_line,
+    measures_labels_as_another_program,
+    compares_lines_by_their_bytes,
     tells_which_file_is_faulty,
     refuses_options_that_do_not_go_together,
     refuses_a_pipe_for_two,
