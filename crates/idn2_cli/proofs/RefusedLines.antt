@@ -6,34 +6,33 @@ use Rattle.idn_text.specs.declared.refusal.Refusal.TheVariants.{Memory}
 use Rattle.idn2_cli.specs.Transcript.{Piece, pieces_for}
 use Rattle.idn2_cli.specs.Ends.{Held}
 use Rattle.idn2_cli.specs.Answers.{LineAnswer}
-use Rattle.idn2_cli.specs.inner.Emitting.{Emits}
+use Rattle.idn2_cli.specs.inner.Emitting.{Emits, StopsWithin}
 use Rattle.idn2_cli.specs.declared.session.stop.Stop.{Stop}
 use Rattle.idn2_cli.specs.declared.session.stop.Stop.TheVariants as stop
-use Rattle.idn2_cli.proofs.WrittenPieces.{stops, cut_before}
+use Rattle.idn2_cli.proofs.WrittenPieces.{stops_first}
 
 is_memory : (refusal : Refusal) → (refusal ≡ Memory) ⊎ (refusal ≢ Memory)
 is_memory Memory = inl refl
 is_memory other = inr (λ e. cc)
 
--- where memory was refused and nothing is written, nothing is written of any pieces
-none_of : {A : Type 0} (old new : Held) (r : Result A Stop) (pieces : List Piece) → r ≡ Err stop.Memory → Emits old new [] r → Emits old new pieces r
-none_of {A} old new r pieces e nothing =
-    let at = stops old new [] r stop.Memory nothing e in
-    subst (λ (s : Result A Stop). Emits old new pieces s) (sym e) (at.0, at.1, cut_before stop.Memory [] pieces at.0 at.2)
+-- where memory was refused before anything was written, nothing is written of any pieces
+none_of : {A : Type 0} (old new : Held) (r : Result A Stop) (pieces : List Piece) → r ≡ Err stop.Memory → new ≡ old → Emits old new pieces r
+none_of {A} old new r pieces e same =
+    subst (λ (s : Result A Stop). Emits old new pieces s) (sym e) (subst (λ (h : Held). StopsWithin stop.Memory old h pieces) (sym same) (stops_first old pieces))
 
 -- the answer is this refusal, unless memory was refused
 pub emits_refusal : {A : Type 0} (old new : Held) (number : ℕ) (refusal : Refusal) (answer : LineAnswer) (r : Result A Stop) → (refusal ≢ Memory → answer ≡ Err refusal)
-    → (refusal ≢ Memory → Emits old new (pieces_for number (Err refusal)) r) → (refusal ≡ Memory → (r ≡ Err stop.Memory) × Emits old new [] r)
+    → (refusal ≢ Memory → Emits old new (pieces_for number (Err refusal)) r) → (refusal ≡ Memory → r ≡ Err stop.Memory) → (r ≡ Err stop.Memory → new ≡ old)
     → Emits old new (pieces_for number answer) r
-emits_refusal old new number refusal answer r is told memory = elim (is_memory refusal) [
-  | inl e ↦ let m = memory e in none_of old new r (pieces_for number answer) m.0 m.1
+emits_refusal old new number refusal answer r is told memory begun = elim (is_memory refusal) [
+  | inl e ↦ none_of old new r (pieces_for number answer) (memory e) (begun (memory e))
   | inr other ↦ subst (λ (a : LineAnswer). Emits old new (pieces_for number a) r) (sym (is other)) (told other)
 ]
 
-pub refused_is : {X : Type 0} (refusal : Refusal) (answer : LineAnswer) (r : Result Bool Stop) → (refusal ≢ Memory → answer ≡ Err refusal)
-    → (refusal ≡ Memory → (r ≡ Err stop.Memory) × X) → IfOk r (λ refused. refused ≡ true) → IfOk r (λ refused. refused ≡ is_err answer)
+pub refused_is : (refusal : Refusal) (answer : LineAnswer) (r : Result Bool Stop) → (refusal ≢ Memory → answer ≡ Err refusal)
+    → (refusal ≡ Memory → r ≡ Err stop.Memory) → IfOk r (λ refused. refused ≡ true) → IfOk r (λ refused. refused ≡ is_err answer)
 refused_is refusal answer (Err why) is memory refused = tt
 refused_is refusal answer (Ok b) is memory refused = elim (is_memory refusal) [
-  | inl e ↦ absurd (let clash : Ok b ≡ Err stop.Memory = (memory e).0 in cc)
+  | inl e ↦ absurd (let clash : Ok b ≡ Err stop.Memory = memory e in cc)
   | inr other ↦ refused ∙ sym (ap is_err (is other))
 ]

@@ -5,7 +5,7 @@ use Rattle.idn_text.specs.declared.refusal.Refusal.{Refusal}
 use Rattle.idn_text.proofs.ReadingLemmas.{has_read_nothing}
 use Rattle.std.proofs.lemmas.Bool.{false≢true}
 use Rattle.idn2_options.specs.Settings.{Settings, keeping}
-use Rattle.idn2_cli.specs.Memory.{NeedsNoMemory}
+use Rattle.idn2_cli.specs.Memory.{AnswersWithoutMemory}
 use Rattle.idn2_cli.specs.Transcript.{TableGiven, IsReadAs, IsTableOf, Piece, check_pieces, check_status}
 use Rattle.idn2_cli.specs.Ends.{Held, TakesText, closing_message, Job, Does, Ends, Closes, mode_job, refusal_of}
 use Rattle.idn2_cli.specs.inner.Emitting.{Emits}
@@ -81,7 +81,7 @@ emits_memory {A} old pieces r why e memory =
 pub record WorksByTable (o : Settings) (mode : Mode) : Type 0 where
   pub named : o.mode ≡ mode
   pub reads : (text : List ℕ) (given : TableGiven) → IsReadAs text given → IsTableOf mode text given
-  pub needs : (p : Settings) (line : List ℕ) → ¬ NeedsNoMemory mode p line
+  pub needs : (p : Settings) (line : List ℕ) → ¬ AnswersWithoutMemory mode p line
 
 pub lists_by_table : (o : Settings) → o.mode ≡ Variants → WorksByTable o Variants
 lists_by_table o is = record { named = is; reads = λ text given read. read; needs = λ p line none. none }

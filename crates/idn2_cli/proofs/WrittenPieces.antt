@@ -76,7 +76,7 @@ until_here why a b p not_output not_messages w = record {
   messages_faults = λ _. w.messages_faults;
 }
 
-until_memory : (a b : Held) (p : List Piece) → Writes a b p → WritesUntil stop.Memory a b p
+pub until_memory : (a b : Held) (p : List Piece) → Writes a b p → WritesUntil stop.Memory a b p
 until_memory a b p w = until_here stop.Memory a b p (λ e. cc) (λ e. cc) w
 
 -- a proper prefix of one piece

@@ -15,7 +15,7 @@ use Rattle.idn_text.specs.Reading.{Reading, HasRead, HasStopped}
 use Rattle.idn_text.specs.declared.lines.State.TheVariants.{Ended, Stopped}
 use Rattle.idn2_options.specs.Settings.{Settings}
 use Rattle.idn2_cli.specs.Answers.{LineAnswer}
-use Rattle.idn2_cli.specs.Memory.{NeedsNoMemory, BodyNeedsNone}
+use Rattle.idn2_cli.specs.Memory.{AnswersWithoutMemory, GoesOnWithoutMemory, BodyNeedsNone}
 use Rattle.idn2_options.specs.declared.command_line.mode.Mode.{Mode}
 use Rattle.idn2_options.specs.declared.command_line.mode.Mode.TheVariants.{CheckTable}
 use Rattle.idn2_cli.specs.declared.session.stop.Stop.TheVariants as stop
@@ -75,17 +75,24 @@ pub record WritesUntil (why : Stop) (old new : Held) (pieces : List Piece) : Typ
 
 -- ---- what is to be done
 
--- whether lines are read, and what is written for them, with which status; and which lines are answered without memory
+-- whether lines are read, and what is written for them, with which status; which lines are answered without memory, and of which
+-- the answer, once begun, goes on without
 pub record Job : Type 1 where
   pub reads : Bool
   pub pieces : List Numbered → List Piece
   pub status : List Numbered → Status
   pub needs_none : List ℕ → Type 0
+  pub goes_on : List ℕ → Type 0
 
 -- to answer each line by itself
-abbrev pub lines_job : (List ℕ → LineAnswer) → (List ℕ → Type 0) → Job
-lines_job answer needs_none =
-    record { reads = true; pieces = lines_pieces answer; status = λ lines. status_if (has_refused answer lines); needs_none = needs_none }
+abbrev pub lines_job : (List ℕ → LineAnswer) → (needs_none goes_on : List ℕ → Type 0) → Job
+lines_job answer needs_none goes_on = record {
+  reads = true;
+  pieces = lines_pieces answer;
+  status = λ lines. status_if (has_refused answer lines);
+  needs_none = needs_none;
+  goes_on = goes_on;
+}
 
 -- the input is read in every mode but the check of a table, where no table has a fault
 abbrev pub reads_lines : Mode → TableGiven → Bool
@@ -95,8 +102,13 @@ reads_lines mode (Ok table) = true
 
 -- to serve a mode
 abbrev pub mode_job : Settings → TableGiven → Job
-mode_job o table =
-    record { reads = reads_lines o.mode table; pieces = transcript o table; status = status_of o table; needs_none = NeedsNoMemory o.mode o }
+mode_job o table = record {
+  reads = reads_lines o.mode table;
+  pieces = transcript o table;
+  status = status_of o table;
+  needs_none = AnswersWithoutMemory o.mode o;
+  goes_on = GoesOnWithoutMemory o.mode o table;
+}
 
 -- ---- to the end or to a stop
 
@@ -107,7 +119,8 @@ pub record EndsWell (job : Job) (lines : List Numbered) (now : Reading) (old new
   pub answered : status ≡ job.status lines
 
 -- a write or memory stopped the job at the last line that was read: all pieces of the lines before it are written, and then
--- those of its own pieces that the stop let through; memory does so only where the answer to that line may take some
+-- those of its own pieces that the stop let through; memory does so only where the answer to that line may take some, and then
+-- before any piece of it, or where going on with it may take some
 pub record StopsAtLine (job : Job) (why : Stop) (lines : List Numbered) (now : Reading) (written : List Piece) : Type 0 where
   pub before : List Numbered
   pub line : Numbered
@@ -116,6 +129,7 @@ pub record StopsAtLine (job : Job) (why : Stop) (lines : List Numbered) (now : R
   pub going : now.state ≢ Stopped
   pub cut : IsCutBy why (job.pieces (line ∷ [])) part
   pub memory : why ≡ stop.Memory → ¬ BodyNeedsNone job.needs_none line.body
+  pub begun : why ≡ stop.Memory → (part ≡ []) ⊎ (¬ BodyNeedsNone job.goes_on line.body)
   pub stand : written ≡ job.pieces before ++ part
 
 -- a write or memory stopped the job before a line was read, and the reader was not called: while the table was read, at the

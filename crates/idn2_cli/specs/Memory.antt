@@ -1,7 +1,9 @@
 -- Lines that a mode answers without memory.
-use Rattle.std.specs.Prelude.{ℕ, List, chars, All, IsAscii, Option, Some, None}
+use Rattle.std.specs.Prelude.{ℕ, List, chars, All, IsAscii, Option, Some, None, Ok}
 use Rattle.idna.specs.Labels.{labels_of}
-use Rattle.idn_label.specs.Memory.{LooksUpWithoutMemory, RegistersWithoutMemory, DecodesWithoutMemory}
+use Rattle.idn_label.specs.Memory.{NeedsNoMemory, LooksUpWithoutMemory, RegistersWithoutMemory, DecodesWithoutMemory}
+use Rattle.idn2_cli.specs.Answers.{tested_after}
+use Rattle.idn2_cli.specs.Transcript.{TableGiven}
 use Rattle.idn2_options.specs.Settings.{Settings}
 use Rattle.idn2_options.specs.declared.command_line.mode.Mode.{Mode}
 use Rattle.idn2_options.specs.declared.command_line.mode.Mode.TheVariants.{Lookup, Register, Decode, Variants, Jump, CheckTable}
@@ -11,13 +13,19 @@ abbrev pub DecodesLineWithoutMemory : List ℕ → Type 0
 DecodesLineWithoutMemory name = IsAscii name × All DecodesWithoutMemory (labels_of name)
 
 -- the bytes of a line; no line is said to be listed without memory
-abbrev pub NeedsNoMemory : Mode → Settings → List ℕ → Type 0
-NeedsNoMemory Lookup o line = LooksUpWithoutMemory o.std3 line
-NeedsNoMemory Register o line = RegistersWithoutMemory (chars line)
-NeedsNoMemory Decode o line = DecodesLineWithoutMemory line
-NeedsNoMemory Variants o line = ⊥
-NeedsNoMemory Jump o line = ⊥
-NeedsNoMemory CheckTable o line = ⊥
+abbrev pub AnswersWithoutMemory : Mode → Settings → List ℕ → Type 0
+AnswersWithoutMemory Lookup o line = LooksUpWithoutMemory o.std3 line
+AnswersWithoutMemory Register o line = RegistersWithoutMemory (chars line)
+AnswersWithoutMemory Decode o line = DecodesLineWithoutMemory line
+AnswersWithoutMemory Variants o line = ⊥
+AnswersWithoutMemory Jump o line = ⊥
+AnswersWithoutMemory CheckTable o line = ⊥
+
+-- the bytes of a line of which the listing, once begun, goes on without memory: no label that it may test needs any; what else is
+-- answered does so whatever the line is
+abbrev pub GoesOnWithoutMemory : Mode → Settings → TableGiven → List ℕ → Type 0
+GoesOnWithoutMemory Variants o (Ok table) line = All NeedsNoMemory (tested_after o table.entries (chars line))
+GoesOnWithoutMemory mode o given line = Unit {0}
 
 -- the body of a line; one that is too long is refused without memory
 abbrev pub BodyNeedsNone : (List ℕ → Type 0) → Option (List ℕ) → Type 0

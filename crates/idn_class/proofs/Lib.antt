@@ -42,3 +42,5 @@ pub mod ProfileLemmas
 pub mod CauseLemmas
 -- The condition of the Bidi rule that is told is the first that is broken, at the first place that breaks it.
 pub mod BrokenLemmas
+-- The line that is told of a code point which may not be registered.
+pub mod BarringLemmas

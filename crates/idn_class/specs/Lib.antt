@@ -1,3 +1,4 @@
+pub mod Barring
 pub mod BidiClass
 pub mod BidiRule
 pub mod Causes

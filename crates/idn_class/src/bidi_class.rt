@@ -33,6 +33,15 @@ pub enum BidiClass {
     NSM,
 }
 
+impl BidiClass {
+    /// Bidi_Class of a code point, by the list of the profile.
+    pub fn of(c: u32) -> BidiClass
+        ensures { result ≡ bidi_class c }
+    {
+        bidi_class(c)
+    }
+}
+
 /// Bidi_Class of a code point.
 #[tactic(auto, unfolding(crate::specs::BidiClass::bidi_class))]
 pub(crate) fn bidi_class(c: u32) -> BidiClass

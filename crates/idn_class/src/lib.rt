@@ -4,6 +4,7 @@
 //! point, which of these tests a label needs.
 #![tactic(auto)]
 
+mod barring;
 mod beginning;
 mod bidi;
 mod bidi_class;
@@ -25,6 +26,7 @@ mod neighbor;
 mod shared;
 mod stability;
 
+pub use barring::{BarringLine, barring_line};
 pub use beginning::{hopeless, shortest_hopeless};
 pub use bidi::bidi_ok;
 pub use bidi_class::BidiClass;
@@ -37,8 +39,9 @@ pub use joining_type::JoiningType;
 pub use kept_beginnings::KeptBeginnings;
 pub use kept_label::KeptLabel;
 pub use laws::{
-    bidi_rows, class_rows, first_faults_are_told, hopeless_for_good, hopeless_rows, joiner_rows,
-    lists_of_the_profile, mark_rows, only_rtl_labels_pass, other_rows, tests_are_rules,
+    barring_lines_are_told, bidi_rows, class_rows, first_faults_are_told, hopeless_for_good,
+    hopeless_rows, joiner_rows, lists_of_the_profile, mark_rows, only_rtl_labels_pass, other_rows,
+    tests_are_rules,
 };
 pub use mark::leading_mark;
 pub use shared::shared_len;

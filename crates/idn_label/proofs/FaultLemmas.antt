@@ -1,10 +1,12 @@
 -- The first fault, step by step.
-use Rattle.std.proofs.Common.{◌≡◌, ℕ, ◌+◌, ◌<◌, ◌≤◌, true, false, ◌==◌, List, [], ◌∷◌, ◌++◌, length, map, drop, All, Option, Some, None, get_or, refl, sym, ap, ◌∙◌, inl, inr, arith}
+use Rattle.std.proofs.Common.{◌≡◌, ℕ, ◌+◌, ◌<◌, ◌≤◌, true, false, ◌==◌, List, [], ◌∷◌, ◌++◌, length, codes, le-ltb, map, drop, All, Option, Some, None, get_or, refl, sym, ap, ◌∙◌, inl, inr, arith}
 use Rattle.std.proofs.lemmas.Bool.{cases_Bool, true≢false}
 use Rattle.std.proofs.lemmas.Bool.Decides.{nat_tests}
 use Rattle.std.proofs.lemmas.List.{at_drop_more, at_drop_all}
 use Rattle.std.proofs.lemmas.List.Elements.{All-nil, All-cons, All-head, All-tail, All-weaker}
 use Rattle.ucd_table.specs.Rows.{in_ranges}
+use Rattle.idna.specs.Punycode.{encode}
+use Rattle.idna.specs.Validity.{is_all_ascii}
 use Rattle.idn_text.specs.declared.refusal.Refusal.{Refusal}
 use Rattle.idn_text.specs.declared.refusal.Refusal.TheVariants.{Empty, Disallowed, LabelTooLong}
 use Rattle.idn_text.specs.Points.{is_scalar_value, IsScalarValue, AreScalarValues}
@@ -15,6 +17,7 @@ use Rattle.idn_class.specs.Class.{class_of, is_scalar}
 use Rattle.idn_class.specs.Facts.{is_barred_class, has_fact}
 use Rattle.idn_class.proofs.ClassNumbers.{class_of-no_scalar}
 use Rattle.idn_class.proofs.FactLabels.{Lacks, each_lacks, class_without}
+use Rattle.idn_label.specs.ALabel.{a_label_of}
 use Rattle.idn_label.specs.FirstFault.{first_of, fault_if, fault_of_class, code_point_fault, is_too_long, first_fault}
 use Rattle.idn_label.specs.inner.FaultSteps.{rule_faults, rule_fault, fault_but_length}
 
@@ -112,3 +115,10 @@ second-none _ _ _ none = cc
 pub permitted-faultless : (label : List ℕ) → fault_but_length label ≡ None → code_point_fault label ≡ None
 unfolding fault_but_length
 permitted-faultless label none = second-none _ _ _ none
+
+-- a label that is not all ASCII is short enough, where it has few code points and its A-label few octets
+pub short_enough : (label : List ℕ) → is_all_ascii label ≡ false → length label ≤ 63 → length (codes "xn--" ++ encode label) ≤ 63 → is_too_long label ≡ false
+unfolding a_label_of
+short_enough label other points octets =
+    let a_label : length (a_label_of label) ≤ 63 = rw other octets in
+    rw (le-ltb 63 (length label) points, le-ltb 63 (length (a_label_of label)) a_label) refl

@@ -7,7 +7,7 @@ use Rattle.std.proofs.lemmas.Bool.{cases_lt, cond-true, cond-false}
 use Rattle.std.proofs.lemmas.List.Elements.{All-from_get_or, AllWithin-more}
 use Rattle.std.proofs.lemmas.List.Splits.{slice_split_none}
 use Rattle.idna.specs.Labels.{is_full_stop, labels_of}
-use Rattle.idn_label.specs.inner.LabelEnds.{EndsLabel}
+use Rattle.idn_label.specs.LabelEnds.{EndsLabel}
 use Rattle.idn_label.proofs.DecodeLemmas.{labels_of-stop}
 
 abbrev pub IsNoStop : ℕ → Type 0

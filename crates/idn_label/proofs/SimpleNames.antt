@@ -38,7 +38,7 @@ use Rattle.idn_class.specs.declared.facts.Fact.TheVariants.{RightToLeft}
 use Rattle.idn_class.specs.Facts.{contains, has_fact, is_unicode_rtl_class, AreFactsOf}
 use Rattle.idn_class.proofs.FactLabels.{each_lacks, rtl_without}
 use Rattle.idn_label.specs.inner.SimpleNames.{IsTested, PassesInName}
-use Rattle.idn_label.specs.inner.LabelEnds.{EndsLabel}
+use Rattle.idn_label.specs.LabelEnds.{EndsLabel}
 use Rattle.idn_label.proofs.LabelsByPlace.{label_before, label_last}
 use Rattle.idn_label.proofs.NameLengths.{has_length, All-parts, join_terminated, measured}
 

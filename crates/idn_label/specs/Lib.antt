@@ -5,6 +5,7 @@ pub mod Answers
 pub mod Register
 pub mod Decode
 pub mod Lookup
+pub mod LabelEnds
 pub mod LdhNames
 pub mod Steps
 pub mod Requirements

@@ -1,4 +1,3 @@
 -- Words of inner functions and of private fields. No public contract cites them.
 pub mod SimpleNames
 pub mod FaultSteps
-pub mod LabelEnds

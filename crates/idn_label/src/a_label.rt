@@ -8,7 +8,7 @@ use arrayvec::ArrayString;
 use idn_punycode::{ACE_PREFIX, Encoder};
 
 /// The most octets that a label has in the DNS (RFC 1035 section 2.3.4). No label has more code points either.
-pub(crate) const MAX_LABEL_LEN: usize = 63;
+pub const MAX_LABEL_LEN: usize = 63;
 
 /// An A-label of at most 63 octets. A label in ASCII is its own A-label.
 pub type ALabel = ArrayString<63>;
@@ -42,7 +42,7 @@ impl ALabelEncoder {
 }
 
 /// A label in ASCII as text. There must be space for it.
-pub(crate) fn ascii_text<U: Unit, const N: usize>(label: &[U]) -> ArrayString<N>
+pub fn ascii_text<U: Unit, const N: usize>(label: &[U]) -> ArrayString<N>
     requires short { length label.now ≤ N }
     requires ascii { is_all_ascii (U.codes label.now) ≡ true }
     ensures { result.bytes ≡ U.codes label.now }

@@ -1,12 +1,41 @@
 //! Labels as numbers and as characters.
-ghost use Rattle.std.specs.Prelude.{◌≡◌, ◌≤◌, length, IfOk};
-ghost use Rattle.idn_text.specs.Points.{AreScalarValues, IsScalarValue};
+ghost use Rattle.std.specs.Prelude.{◌≡◌, ◌≤◌, ℕ, List, length, take, IfOk, IfSome, IfNone};
+ghost use Rattle.idn_class.specs.Facts.{AreFactsOf};
+ghost use Rattle.idn_text.specs.Points.{AreScalarValues, IsScalarValue, IsUtf8Of};
 
 use arrayvec::ArrayVec;
+use idn_class::Facts;
+use idn_text::{MAX_LINE_LEN, character_at};
 use std::alloc::{AllocError, Global};
 
+/// Reads a label in UTF-8 (RFC 3629) once: leaves its code points at the start of `room`, and returns how many they are
+/// and their facts. `None` where the octets are no UTF-8.
+#[inline]
+pub(crate) fn read_points(label: &[u8], room: &mut [u32; MAX_LINE_LEN]) -> Option<(usize, Facts)>
+    requires { length label.now ≤ MAX_LINE_LEN }
+    ensures count { IfSome result (λ read. read.0 ≤ MAX_LINE_LEN) }
+    ensures points { IfSome result (λ read. IsUtf8Of label.now (take read.0 room.new)) }
+    ensures facts { IfSome result (λ read. AreFactsOf read.1 (take read.0 room.new)) }
+    ensures refused { IfNone result ((list : List ℕ) → ¬ (IsUtf8Of label.now list)) }
+{
+    let mut facts = Facts::none();
+    let mut count = 0;
+    let mut at = 0;
+    while at < label.len() {
+        let Some((character, next)) = character_at(label, at) else {
+            return None;
+        };
+        let point = u32::from(character);
+        room[count] = point;
+        facts = facts.joined(Facts::of(point));
+        count += 1;
+        at = next;
+    }
+    Some((count, facts))
+}
+
 /// A short label as characters, which takes no memory.
-pub(crate) fn short_chars(label: &[u32]) -> ArrayVec<char, 63>
+pub fn short_chars(label: &[u32]) -> ArrayVec<char, 63>
     requires short { length label.now ≤ 63 }
     requires scalars { AreScalarValues label.now }
     ensures { result.items ≡ label.now }
@@ -19,7 +48,7 @@ pub(crate) fn short_chars(label: &[u32]) -> ArrayVec<char, 63>
 }
 
 /// A label as characters.
-pub(crate) fn chars_of(alloc: Global, label: &[u32]) -> Result<Vec<char>, AllocError>
+pub fn chars_of(alloc: Global, label: &[u32]) -> Result<Vec<char>, AllocError>
     requires { AreScalarValues label.now }
     ensures { IfOk result (λ chars. chars.items ≡ label.now) }
 {

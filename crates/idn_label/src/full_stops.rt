@@ -1,6 +1,6 @@
 //! The search for the full stop behind a label of a name.
 ghost use Rattle.std.specs.Prelude.{◌≤◌, length};
-ghost use Rattle.idn_label.specs.inner.LabelEnds.{EndsLabel};
+ghost use Rattle.idn_label.specs.LabelEnds.{EndsLabel};
 
 use crate::unit::{FULL_STOP, Unit};
 use std::simd::prelude::*;
@@ -10,7 +10,7 @@ pub(crate) const CHUNK_LEN: usize = 16;
 
 /// The place where the label that begins at `start` ends: at the first full stop from there on, or with the name.
 #[inline]
-pub(crate) fn label_end<U: Unit>(name: &[U], start: usize) -> usize
+pub fn label_end<U: Unit>(name: &[U], start: usize) -> usize
     requires { start ≤ length name.now }
     ensures { EndsLabel (U.codes name.now) start result }
 {

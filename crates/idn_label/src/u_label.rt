@@ -53,7 +53,7 @@ pub(crate) fn has_no_capital<U: Unit>(label: &[U]) -> bool
 }
 
 /// A label in ASCII, in lower case.
-fn lowercase_of<U: Unit>(label: &[U]) -> ArrayVec<u8, MAX_LINE_LEN>
+pub fn lowercase_of<U: Unit>(label: &[U]) -> ArrayVec<u8, MAX_LINE_LEN>
     requires ascii { is_all_ascii (U.codes label.now) ≡ true }
     requires short { length label.now ≤ MAX_LINE_LEN }
     ensures { result.items ≡ map to_ascii_lowercase (U.codes label.now) }

@@ -76,7 +76,7 @@ impl<'a> RegisteredLabels<'a> {
         ensures fault { IfErr result (IsFaultOf text.now) }
     {
         let mut spans = Vec::new(alloc);
-        let mut points = ArrayVec::new();
+        let mut room = [0; MAX_LINE_LEN];
         // No byte: that is below all labels.
         let mut last = &text[..0];
         let mut at = 0;
@@ -84,7 +84,7 @@ impl<'a> RegisteredLabels<'a> {
         while at < text.len() {
             number += 1;
             let end = line_end(text, at);
-            let len = match read_label(alloc, &text[at..end], &mut points) {
+            let len = match read_label(alloc, &text[at..end], &mut room) {
                 Ok(len) => len,
                 Err(refusal) => return Err(refused(number, refusal)),
             };
@@ -221,11 +221,11 @@ fn line_end(text: &[u8], at: usize) -> usize
 }
 
 /// Tests a line as a label that may be registered, and returns how many of its bytes are the label: one carriage return at
-/// its end doesn't count. `points` is room for the work.
+/// its end doesn't count. `room` is room for the work.
 fn read_label(
     alloc: Global,
     line: &[u8],
-    points: &mut ArrayVec<u32, MAX_LINE_LEN>,
+    room: &mut [u32; MAX_LINE_LEN],
 ) -> Result<usize, Refusal>
     ensures read { IfOk result (λ len. IsReadAs line.now len (chars (take len line.now))) }
     ensures refused { IfErr result (λ refusal. refusal ≢ Refusal.Memory → line_refusal (body_of line.now) ≡ Some refusal) }
@@ -234,7 +234,7 @@ fn read_label(
         return Err(Refusal::LineTooLong);
     }
     let body = without_carriage_return(line);
-    match test_utf8(alloc, body, points) {
+    match test_utf8(alloc, body, room) {
         Ok(()) => Ok(body.len()),
         Err(refusal) => Err(refusal),
     }

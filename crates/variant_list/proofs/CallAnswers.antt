@@ -1,10 +1,10 @@
 -- What a call answers where it ends, and that it pays for no more dead ends than it met.
-use Rattle.std.proofs.Common.{◌≡◌, ℕ, ◌+◌, ◌-◌, ◌*◌, ◌<◌, ◌≤◌, ◌⊎◌, inl, inr, Bool, true, false, cond, List, [], ◌∷◌, ◌++◌, length, take, None, slice_get, refl, sym, ap, ◌∙◌, subst, arith, append_assoc, append-nil, length-append}
-use Rattle.std.specs.List.{filter}
+use Rattle.std.proofs.Common.{◌≡◌, ℕ, ◌+◌, ◌-◌, ◌*◌, ◌<◌, ◌≤◌, ◌⊎◌, inl, inr, Bool, true, false, cond, List, [], ◌∷◌, ◌++◌, length, take, None, slice_get, All, Result, Err, IsOk, refl, sym, ap, ◌∙◌, subst, arith, append_assoc, append-nil, length-append}
+use Rattle.std.specs.List.{filter, AllByRecursion}
 use Rattle.std.specs.Ordering.{is_lt}
 use Rattle.std.specs.Option.{is_none}
 use Rattle.std.proofs.lemmas.List.{take_at}
-use Rattle.std.proofs.lemmas.List.Elements.{All-push, filter-append}
+use Rattle.std.proofs.lemmas.List.Elements.{All-push, filter-append, recursion_from_All}
 use Rattle.variant_list.specs.Labels.{IsRising, label_cmp}
 use Rattle.variant_list.specs.Positions.{Position, candidates_ahead, tested_ahead}
 use Rattle.variant_list.specs.Steps.{NoneAccepted, last_of, moved_over, IsFound, IsSpent, IsEnded, IsInterrupted, HasMovedOver}
@@ -16,6 +16,14 @@ use Rattle.variant_list.proofs.DeadEndSearches.{IsRising-ahead, edges-same}
 use Rattle.variant_list.proofs.DeadEndLemmas.{dead_ends-joined}
 use Rattle.variant_list.proofs.TestedLemmas.{tested-filter, below-front}
 use Rattle.variant_list.proofs.SeekSteps.{EndsIn, HasGone, HasPassed, HasGone-next, joined, no_shortest, one_tested}
+
+-- an error is no answer
+pub not_ok : {A E : Type 0} {r : Result A E} {e : E} → r ≡ Err e → ¬ IsOk r
+not_ok is ok = let bad : false ≡ true = subst IsOk is ok in cc
+
+middle : (P : List ℕ → Type 0) (before : List (List ℕ)) (v : List ℕ) (after : List (List ℕ)) → AllByRecursion P (before ++ v ∷ after) → P v
+middle P [] v after all = all.0
+middle P (u ∷ before) v after all = middle P before v after all.1
 
 module _ (hopeless : List ℕ → Bool) where
   -- the tested labels ahead of a call: those that it decided, and those ahead of where it is
@@ -29,6 +37,13 @@ module _ (hopeless : List ℕ → Bool) where
       ap (filter (has_hope hopeless)) found.whole ∙ filter-append (has_hope hopeless) found.passed (new.last ∷ candidates_ahead new)
       ∙ ap (λ vs. vs ++ filter (has_hope hopeless) (new.last ∷ candidates_ahead new)) (filter-none (has_hope hopeless) found.passed found.lost)
       ∙ ap (λ b. cond b (new.last ∷ filter (has_hope hopeless) (candidates_ahead new)) (filter (has_hope hopeless) (candidates_ahead new))) found.hope
+
+  -- what holds of all tested labels holds of the one at which a call is
+  pub undecided-tested : (P : List ℕ → Type 0) (old : Position) (tries : ℕ) (now new : Position) (left : ℕ) → HasGone hopeless old tries now left → FindsHope hopeless now new → All P (tested_ahead hopeless old) → P new.last
+  undecided-tested P old tries now new left h found all =
+      let decided = filter (has_hope hopeless) h.front in
+      let rest = filter (has_hope hopeless) (candidates_ahead new) in
+      middle P decided new.last rest (recursion_from_All P (decided ++ new.last ∷ rest) (subst (All P) (parts old tries now left h ∙ ap (λ vs. decided ++ vs) (first_tested now new found)) all))
 
   -- the last label is the last that was decided
   last_decided : (old : Position) (front : List (List ℕ)) (last : List ℕ) → ((front ≡ []) × (last ≡ old.last)) ⊎ EndsIn hopeless front last → last ≡ last_of old.last (filter (has_hope hopeless) front)

@@ -1,5 +1,5 @@
 //! A test of labels that also keeps what it found out.
-ghost use Rattle.std.specs.Prelude.{◌≡◌, ◌≤◌, ◌++◌, ℕ, Bool, false, List, length, IsTrue, None, IfOk, OnErr};
+ghost use Rattle.std.specs.Prelude.{◌≡◌, ◌≤◌, ◌++◌, ℕ, Bool, false, List, length, IsTrue, None, IfOk, IsOk, OnErr};
 ghost use Rattle.variant_list.specs.Beginnings.{shortest_hopeless};
 ghost use Rattle.variant_list.specs.Verdicts.{IsVerdict};
 
@@ -20,12 +20,17 @@ pub trait Judge {
     /// What the judge, once it accepted a label, tells of it.
     ghost tells: { Self → List ℕ → Type 0 };
 
+    /// Which labels are judged without memory.
+    ghost needs_none: { Self → List ℕ → Type 0 } = { λ _ _. ⊥ };
+
     /// The verdict on a label of at most 63 code points. Memory is needed only for a label without a hopeless
     /// beginning.
     fn judge(&mut self, alloc: Global, label: &[u32]) -> Result<Verdict, AllocError>
         requires { length label.now ≤ 63 }
         ensures verdict { IfOk result (IsVerdict (accepted self.old) (lost self.old) (tells self.new) label.now) }
         ensures memory { OnErr result (shortest_hopeless (lost self.old) label.now ≡ None) }
+        ensures no_memory { needs_none self.old label.now → IsOk result }
+        ensures same_needs { (v : List ℕ) → needs_none self.old v → needs_none self.new v }
         ensures same_labels { accepted self.new ≡ accepted self.old }
         ensures same_beginnings { lost self.new ≡ lost self.old };
 

@@ -4,7 +4,7 @@ ghost use Rattle.std.specs.Prelude.{◌≡◌, ◌≢◌, ◌≤◌, ℕ, List, 
 ghost use Rattle.std.specs.Result.{is_err};
 ghost use Rattle.idn2_cli.specs.Answers.{LineAnswer, text_answer};
 ghost use Rattle.idn2_cli.specs.Transcript.{Output, pieces_for};
-ghost use Rattle.idn2_cli.specs.inner.Emitting.{Emits};
+ghost use Rattle.idn2_cli.specs.inner.Emitting.{Emits, StopsForMemory};
 ghost use Rattle.idn2_cli.specs.declared.session.stop.Stop.TheVariants as stop;
 
 use crate::session::buffers::Buffers;
@@ -25,6 +25,9 @@ pub(crate) trait Answering {
     // The bytes of lines that it answers without memory.
     ghost needs_none: { Self → List ℕ → Type 0 } = { λ _ _. ⊥ };
 
+    // The bytes of lines of which the answer, once begun, goes on without memory.
+    ghost goes_on: { Self → List ℕ → Type 0 } = { λ _ _. Unit {0} };
+
     /// Writes the answer to the bytes of a line of this number, and returns whether it is a refusal.
     fn answer<W: Sink, E: Sink>(
         &self,
@@ -39,7 +42,8 @@ pub(crate) trait Answering {
         ensures written { Emits console.old console.new
             (pieces_for number (text_answer (answer_of self.now) text.now)) result }
         ensures refused { IfOk result (λ refused. refused ≡ is_err (text_answer (answer_of self.now) text.now)) }
-        ensures no_memory { needs_none self.now text.now → result ≢ Err stop.Memory };
+        ensures no_memory { needs_none self.now text.now → result ≢ Err stop.Memory }
+        ensures begun { StopsForMemory (goes_on self.now text.now) console.old console.new result };
 }
 
 /// Answers a line by one line, which ends in a line feed. It takes no memory.
@@ -69,8 +73,8 @@ pub(crate) fn refuse<W: Sink, E: Sink>(
     ensures told { refusal ≢ Refusal.Memory →
         Emits console.old console.new (pieces_for number (Err refusal)) result }
     ensures why { refusal ≢ Refusal.Memory → IfErr result (λ why. why ≡ stop.Messages) }
-    ensures memory { refusal ≡ Refusal.Memory → (result ≡ Err stop.Memory)
-        × Emits console.old console.new [] result }
+    ensures memory { refusal ≡ Refusal.Memory → result ≡ Err stop.Memory }
+    ensures begun { result ≡ Err stop.Memory → console.new ≡ console.old }
     ensures refused { IfOk result (λ refused. refused ≡ true) }
 {
     if let Refusal::Memory = refusal {

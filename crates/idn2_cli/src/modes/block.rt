@@ -1,6 +1,6 @@
 //! The block of a label: a line for each of its variants, and a trailer.
 
-ghost use Rattle.std.specs.Prelude.{◌≡◌, ◌≤◌, ◌∷◌, [], ◌++◌, length, codes, decimal, None, Some, IfOk, IfErr, IsOk, OnErr};
+ghost use Rattle.std.specs.Prelude.{◌≡◌, ◌≤◌, ◌∷◌, [], ◌++◌, length, codes, decimal, All, None, Some, IfOk, IfErr, IsOk, OnErr};
 ghost use Rattle.idn_text.specs.Points.{AreScalarValues};
 ghost use Rattle.idn_class.specs.Hopeless.{hopeless};
 ghost use Rattle.idn_label.specs.ALabel.{a_label_of};
@@ -9,13 +9,14 @@ ghost use Rattle.idn_label.specs.Memory.{NeedsNoMemory};
 ghost use Rattle.idn_label.proofs.HopeLemmas.{none_hopeless};
 ghost use Rattle.variant_table.specs.WellFormed.{IsWellFormed};
 ghost use Rattle.variant_list.specs.Beginnings.{shortest_hopeless};
+ghost use Rattle.variant_list.specs.Tested.{tested};
 ghost use Rattle.variant_list.specs.Verdicts.{IsVerdict};
 ghost use Rattle.idn2_options.specs.Settings.{IsWithinLimits, keeping};
 ghost use Rattle.idn2_cli.specs.Transcript.{output_lines, Output};
 ghost use Rattle.idn2_cli.specs.Answers.{is_registrable, variant_line, trailer};
 ghost use Rattle.idn2_cli.specs.inner.Dispositions.{block_by, field_by, TellsWell};
 ghost use Rattle.idn2_cli.specs.inner.LineAnswers.{reaches};
-ghost use Rattle.idn2_cli.specs.inner.Emitting.{Emits};
+ghost use Rattle.idn2_cli.specs.inner.Emitting.{Emits, StopsForMemory};
 ghost use Rattle.idn2_cli.specs.declared.session.stop.Stop.TheVariants as stop;
 
 use crate::modes::dispositions::Dispositions;
@@ -30,21 +31,23 @@ use idn_text::{Refusal, Sink};
 use idn2_options::Options;
 use itoa::Buffer;
 use std::alloc::{AllocError, Global};
-use variant_list::{Cursor, Judge, Net, Outcome, Verdict};
+use variant_list::{Cursor, Judge, Net, Outcome, SpellingTest, Verdict};
 
 /// Writes the block of a net's label, with all its variants.
 pub(crate) fn write_block<W: Sink, E: Sink>(
     alloc: Global,
     options: &Options,
     net: &Net,
-    dispositions: &Dispositions<Net>,
+    dispositions: &mut Dispositions<SpellingTest>,
     console: &mut Console<'_, '_, W, E>,
 ) -> Result<(), Stop>
     requires limits { IsWithinLimits options.now }
     requires table { IsWellFormed net.now.table }
-    requires dispositions { TellsWell dispositions.now }
-    ensures { Emits console.old console.new
-        (output_lines (block_by (field_by dispositions.now) (keeping None options.now) net.now.table net.now.label)) result }
+    requires dispositions { TellsWell dispositions.old }
+    ensures written { Emits console.old console.new
+        (output_lines (block_by (field_by dispositions.old) (keeping None options.now) net.now.table net.now.label)) result }
+    ensures begun { StopsForMemory (All NeedsNoMemory (tested hopeless net.now.table net.now.label options.now.after))
+        console.old console.new result }
 {
     let mut cursor = Cursor::new(alloc, net, &options.after)?;
     let mut judge = Registrable {
@@ -61,7 +64,7 @@ pub(crate) fn write_block<W: Sink, E: Sink>(
             Outcome::Ended => return write_end(count, console),
         }
         let variant = cursor.last();
-        let field = dispositions.field(alloc, variant)?;
+        let field = dispositions.field(variant);
         write_variant(variant, judge.test.a_label(), field, &mut line, console)?;
         count += 1;
         if is_reached(options.limit, count) {
@@ -84,6 +87,8 @@ impl Judge for Registrable {
     ghost lost = { λ _ label. hopeless label };
 
     ghost tells = { λ judge label. judge.test ≡ a_label_of label };
+
+    ghost needs_none = { λ _ label. NeedsNoMemory label };
 
     ghost lost_for_good = { λ _ w z lost. none_hopeless w z lost };
 
@@ -127,7 +132,8 @@ pub(crate) fn write_variant<W: Sink, E: Sink>(
     requires registrable { IsRegistrable label.now }
     requires a_label { a_label.now.bytes ≡ a_label_of label.now }
     requires short { length field.now ≤ 16 }
-    ensures { Emits console.old console.new (Output (variant_line field.now label.now ++ 10 ∷ []) ∷ []) result }
+    ensures written { Emits console.old console.new (Output (variant_line field.now label.now ++ 10 ∷ []) ∷ []) result }
+    ensures why { IfErr result (λ why. why ≡ stop.Output) }
 {
     line.begin(label);
     line.append(b"\t");

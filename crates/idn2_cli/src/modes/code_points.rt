@@ -5,7 +5,7 @@ ghost use Rattle.std.specs.Result.{is_err};
 ghost use Rattle.idn_text.specs.Points.{AreScalarValues};
 ghost use Rattle.idn2_cli.specs.Answers.{LineAnswer};
 ghost use Rattle.idn2_cli.specs.Transcript.{pieces_for};
-ghost use Rattle.idn2_cli.specs.inner.Emitting.{Emits};
+ghost use Rattle.idn2_cli.specs.inner.Emitting.{Emits, StopsForMemory};
 ghost use Rattle.idn2_cli.specs.declared.session.stop.Stop.TheVariants as stop;
 
 use crate::modes::answering::{Answering, refuse};
@@ -26,6 +26,9 @@ pub(crate) trait PointAnswering {
     // The code points of lines that it answers without memory.
     ghost needs_none: { Self → List ℕ → Type 0 } = { λ _ _. ⊥ };
 
+    // The code points of lines of which the answer, once begun, goes on without memory.
+    ghost goes_on: { Self → List ℕ → Type 0 } = { λ _ _. Unit {0} };
+
     /// Writes the answer to a line of this number, and returns whether it is a refusal.
     fn answer_points<W: Sink, E: Sink>(
         &self,
@@ -40,7 +43,8 @@ pub(crate) trait PointAnswering {
         ensures written { Emits console.old console.new
             (pieces_for number (answer_of self.now points.now)) result }
         ensures refused { IfOk result (λ refused. refused ≡ is_err (answer_of self.now points.now)) }
-        ensures no_memory { needs_none self.now points.now → result ≢ Err stop.Memory };
+        ensures no_memory { needs_none self.now points.now → result ≢ Err stop.Memory }
+        ensures begun { StopsForMemory (goes_on self.now points.now) console.old console.new result };
 }
 
 /// A mode that is handed them, as one that is handed bytes.
@@ -55,6 +59,8 @@ impl<'m, M: PointAnswering> Answering for ByPoints<'m, M> {
     ghost is_ready = { λ by. M.is_ready by.mode.now };
 
     ghost needs_none = { λ by line. M.needs_none by.mode.now (chars line) };
+
+    ghost goes_on = { λ by line. M.goes_on by.mode.now (chars line) };
 
     fn answer<W: Sink, E: Sink>(
         &self,

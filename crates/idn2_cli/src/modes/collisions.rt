@@ -1,11 +1,12 @@
 //! The block of a label that is kept to registered labels.
 
-ghost use Rattle.std.specs.Prelude.{Some};
+ghost use Rattle.std.specs.Prelude.{◌≡◌, Some, Err};
 ghost use Rattle.variant_table.specs.WellFormed.{IsWellFormed};
 ghost use Rattle.idn2_options.specs.Settings.{IsWithinLimits, keeping};
 ghost use Rattle.idn2_cli.specs.Transcript.{output_lines};
 ghost use Rattle.idn2_cli.specs.inner.Dispositions.{block_by, field_by, TellsWell};
 ghost use Rattle.idn2_cli.specs.inner.Emitting.{Emits};
+ghost use Rattle.idn2_cli.specs.declared.session.stop.Stop.TheVariants as stop;
 
 use crate::modes::block::{is_reached, write_end, write_stop, write_variant};
 use crate::modes::dispositions::Dispositions;
@@ -17,7 +18,7 @@ use idn_text::Sink;
 use idn2_options::Options;
 use registered_labels::{Collisions, RegisteredLabels};
 use std::alloc::Global;
-use variant_list::Net;
+use variant_list::{Net, SpellingTest};
 
 /// Writes the block of a net's label, with those of its variants that are registered. It goes from one of them to the next
 /// and tests no candidate, since what is registered may be.
@@ -26,14 +27,15 @@ pub(crate) fn write_collisions<W: Sink, E: Sink>(
     options: &Options,
     net: &Net,
     registered: &RegisteredLabels<'_>,
-    dispositions: &Dispositions<Net>,
+    dispositions: &mut Dispositions<SpellingTest>,
     console: &mut Console<'_, '_, W, E>,
 ) -> Result<(), Stop>
     requires limits { IsWithinLimits options.now }
     requires table { IsWellFormed net.now.table }
-    requires dispositions { TellsWell dispositions.now }
-    ensures { Emits console.old console.new
-        (output_lines (block_by (field_by dispositions.now) (keeping (Some registered.now) options.now) net.now.table net.now.label)) result }
+    requires dispositions { TellsWell dispositions.old }
+    ensures written { Emits console.old console.new
+        (output_lines (block_by (field_by dispositions.old) (keeping (Some registered.now) options.now) net.now.table net.now.label)) result }
+    ensures begun { result ≡ Err stop.Memory → console.new ≡ console.old }
 {
     // How many there are is more than the count ever is.
     let total = registered.len();
@@ -43,7 +45,7 @@ pub(crate) fn write_collisions<W: Sink, E: Sink>(
     'collisions: while search.advance() {
         let label = search.label();
         let a_label = encode_label(label);
-        let field = dispositions.field(alloc, label)?;
+        let field = dispositions.field(label);
         write_variant(label, &a_label, field, &mut line, console)?;
         count += 1;
         if is_reached(options.limit, count) {

@@ -7,11 +7,11 @@ ghost use Rattle.idn2_cli.specs.Answers.{disposition_field};
 ghost use Rattle.idn2_cli.specs.inner.Dispositions.{AreOfTable, AreOfLabel, CanBeCut, TellsWell, field_by};
 
 use std::alloc::{AllocError, Global};
-use variant_list::{Net, NetFault};
+use variant_list::{Net, NetFault, SpellingTest};
 use variant_table::Table;
 
 /// What tells the dispositions of variants, where need be by a table without its blocked variants, or by
-/// the net of such a table.
+/// the test of what a label spells under such a table.
 #[derive(Drop)]
 pub(crate) enum Dispositions<T> {
     /// None is told: the table is of version 1.
@@ -36,19 +36,19 @@ impl Dispositions<Table> {
         Ok(Dispositions::BySpelling(table.unblocked(alloc)?))
     }
 
-    /// What tells those of a label's variants.
-    pub fn of_label(&self, alloc: Global, label: &[u32]) -> Result<Dispositions<Net>, AllocError>
+    /// What tells those of a label's variants. It takes the memory for all of them.
+    pub fn of_label(&self, alloc: Global, label: &[u32]) -> Result<Dispositions<SpellingTest>, AllocError>
         requires some { 1 ≤ length label.now }
         requires short { length label.now ≤ 63 }
         requires cut { CanBeCut self.now label.now }
         ensures label { (table : TableValue) → AreOfTable table self.now → IfOk result (AreOfLabel table label.now) }
-        ensures net { IfOk result TellsWell }
+        ensures well { IfOk result TellsWell }
     {
         match self {
             Dispositions::Unstated => Ok(Dispositions::Unstated),
             Dispositions::AllAllocatable => Ok(Dispositions::AllAllocatable),
             Dispositions::BySpelling(table) => match Net::build(alloc, table, label) {
-                Ok(net) => Ok(Dispositions::BySpelling(net)),
+                Ok(net) => Ok(Dispositions::BySpelling(SpellingTest::new(alloc, net)?)),
                 Err(NetFault::Memory) => Err(AllocError),
                 // Blocked variants are left out, and no source.
                 Err(NetFault::NotInTable) => unreachable!(),
@@ -57,17 +57,18 @@ impl Dispositions<Table> {
     }
 }
 
-impl Dispositions<Net> {
-    /// The third field of a variant's line, with the tab before it; nothing where none is told.
-    pub fn field(&self, alloc: Global, variant: &[u32]) -> Result<&'static str, AllocError>
-        requires { TellsWell self.now }
-        ensures field { IfOk result (λ field. field.now ≡ field_by self.now variant.now) }
-        ensures short { IfOk result (λ field. length field.now ≤ 16) }
+impl Dispositions<SpellingTest> {
+    /// The third field of a variant's line, with the tab before it; nothing where none is told. Takes no memory.
+    pub fn field(&mut self, variant: &[u32]) -> &'static str
+        requires { TellsWell self.old }
+        ensures field { result.now ≡ field_by self.old variant.now }
+        ensures short { length result.now ≤ 16 }
+        ensures same { self.new ≡ self.old }
     {
         match self {
-            Dispositions::Unstated => Ok(""),
-            Dispositions::AllAllocatable => Ok(field_of(true)),
-            Dispositions::BySpelling(net) => Ok(field_of(net.spells(alloc, variant)?)),
+            Dispositions::Unstated => "",
+            Dispositions::AllAllocatable => field_of(true),
+            Dispositions::BySpelling(test) => field_of(test.spells(variant)),
         }
     }
 }

@@ -1,7 +1,7 @@
 //! The least label that a label spells from a text on. A database that has its labels in byte order finds by it which of
 //! them are variants of a label.
 
-ghost use Rattle.std.specs.Prelude.{◌≡◌, ◌≤◌, ◌==◌, ◌∷◌, [], ◌++◌, length, slice_get, IfOk};
+ghost use Rattle.std.specs.Prelude.{◌≡◌, ◌≤◌, ◌==◌, ◌∷◌, [], ◌++◌, length, slice_get, IfOk, Err};
 ghost use Rattle.std.specs.List.{position_or_len};
 ghost use Rattle.std.specs.Result.{is_err};
 ghost use Rattle.idn_text.specs.Points.{AreScalarValues};
@@ -11,6 +11,7 @@ ghost use Rattle.variant_list.specs.Jumps.{candidates_from};
 ghost use Rattle.idn2_cli.specs.Answers.{jump_answer, jump_line, least_answer, requested_label, requested_text};
 ghost use Rattle.idn2_cli.specs.Transcript.{Output, pieces_for};
 ghost use Rattle.idn2_cli.specs.inner.Emitting.{Emits};
+ghost use Rattle.idn2_cli.specs.declared.session.stop.Stop.TheVariants as stop;
 
 use crate::modes::answering::refuse;
 use crate::modes::code_points::PointAnswering;
@@ -86,6 +87,7 @@ fn answer_least<W: Sink, E: Sink>(
     ensures written { Emits console.old console.new
         (pieces_for number (least_answer table.now label.now text.now)) result }
     ensures refused { IfOk result (λ refused. refused ≡ is_err (least_answer table.now label.now text.now)) }
+    ensures begun { result ≡ Err stop.Memory → console.new ≡ console.old }
 {
     match Net::build(alloc, table, label) {
         Ok(net) => {
@@ -105,7 +107,8 @@ fn write_least<W: Sink, E: Sink>(
     console: &mut Console<'_, '_, W, E>,
 ) -> Result<(), Stop>
     requires { IsWellFormed net.now.table }
-    ensures { Emits console.old console.new
+    ensures begun { result ≡ Err stop.Memory → console.new ≡ console.old }
+    ensures written { Emits console.old console.new
         (Output (jump_line (slice_get (candidates_from net.now.table net.now.label text.now) 0) ++ 10 ∷ []) ∷ []) result }
 {
     let mut cursor = Cursor::new(alloc, net, text)?;

@@ -1,15 +1,16 @@
 //! The variants of a label under a table, all of them or those that are registered.
 
-ghost use Rattle.std.specs.Prelude.{◌≡◌, IfOk};
+ghost use Rattle.std.specs.Prelude.{◌≡◌, All, IfOk};
 ghost use Rattle.std.specs.Result.{is_err};
 ghost use Rattle.idn_label.specs.FirstFault.{IsRegistrable};
+ghost use Rattle.idn_label.specs.Memory.{NeedsNoMemory};
 ghost use Rattle.variant_table.specs.WellFormed.{IsWellFormed};
 ghost use Rattle.std.specs.Option.{option_copied};
 ghost use Rattle.idn2_options.specs.Settings.{IsWithinLimits, keeping};
-ghost use Rattle.idn2_cli.specs.Answers.{variants_answer, listing_answer};
+ghost use Rattle.idn2_cli.specs.Answers.{variants_answer, listing_answer, tested_after};
 ghost use Rattle.idn2_cli.specs.inner.Dispositions.{AreOfTable, TellsWell, block_by, field_by};
 ghost use Rattle.idn2_cli.specs.Transcript.{output_lines, pieces_for};
-ghost use Rattle.idn2_cli.specs.inner.Emitting.{Emits};
+ghost use Rattle.idn2_cli.specs.inner.Emitting.{Emits, StopsForMemory};
 
 use crate::modes::answering::refuse;
 use crate::modes::block::write_block;
@@ -23,7 +24,7 @@ use idn_text::{Refusal, Sink};
 use idn2_options::Options;
 use registered_labels::RegisteredLabels;
 use std::alloc::Global;
-use variant_list::{Net, NetFault};
+use variant_list::{Net, NetFault, SpellingTest};
 use variant_table::Table;
 
 /// The listing of variants by a table (RFC 7940 section 8). The options say after which text it
@@ -41,6 +42,8 @@ impl<'t, 'r, 'b> PointAnswering for Variants<'t, 'r, 'b> {
 
     ghost is_ready = { λ mode. IsWithinLimits mode.options.now × IsWellFormed mode.table.now.entries
         × AreOfTable mode.table.now mode.dispositions.now };
+
+    ghost goes_on = { λ mode label. All NeedsNoMemory (tested_after (keeping (option_copied mode.registered) mode.options.now) mode.table.now.entries label) };
 
     fn answer_points<W: Sink, E: Sink>(
         &self,
@@ -61,14 +64,17 @@ fn write_lines<W: Sink, E: Sink>(
     alloc: Global,
     mode: &Variants<'_, '_, '_>,
     net: &Net,
-    dispositions: &Dispositions<Net>,
+    dispositions: &mut Dispositions<SpellingTest>,
     console: &mut Console<'_, '_, W, E>,
 ) -> Result<(), Stop>
     requires limits { IsWithinLimits mode.now.options.now }
     requires table { IsWellFormed net.now.table }
-    requires dispositions { TellsWell dispositions.now }
-    ensures { Emits console.old console.new
-        (output_lines (block_by (field_by dispositions.now) (keeping (option_copied mode.now.registered) mode.now.options.now) net.now.table net.now.label)) result }
+    requires dispositions { TellsWell dispositions.old }
+    ensures written { Emits console.old console.new
+        (output_lines (block_by (field_by dispositions.old) (keeping (option_copied mode.now.registered) mode.now.options.now) net.now.table net.now.label)) result }
+    ensures begun { StopsForMemory
+        (All NeedsNoMemory (tested_after (keeping (option_copied mode.now.registered) mode.now.options.now) net.now.table net.now.label))
+        console.old console.new result }
 {
     match mode.registered {
         Some(registered) => {
@@ -94,11 +100,14 @@ fn list<W: Sink, E: Sink>(
         (pieces_for number (listing_answer (keeping (option_copied mode.now.registered) mode.now.options.now) mode.now.table.now label.now)) result }
     ensures refused { IfOk result
         (λ refused. refused ≡ is_err (listing_answer (keeping (option_copied mode.now.registered) mode.now.options.now) mode.now.table.now label.now)) }
+    ensures begun { StopsForMemory
+        (All NeedsNoMemory (tested_after (keeping (option_copied mode.now.registered) mode.now.options.now) mode.now.table.now.entries label.now))
+        console.old console.new result }
 {
     match Net::build(alloc, mode.table, label) {
         Ok(net) => {
-            let dispositions = mode.dispositions.of_label(alloc, label)?;
-            write_lines(alloc, mode, &net, &dispositions, console)?;
+            let mut dispositions = mode.dispositions.of_label(alloc, label)?;
+            write_lines(alloc, mode, &net, &mut dispositions, console)?;
             Ok(false)
         }
         Err(NetFault::NotInTable) => refuse(number, Refusal::NotInTable, console),

@@ -3,7 +3,7 @@
 ghost use Rattle.std.specs.Prelude.{◌≡◌, ◌≢◌, IfOk, Err};
 ghost use Rattle.std.specs.Result.{is_err};
 ghost use Rattle.idn_text.specs.Reading.{IsUnread, line_at};
-ghost use Rattle.idn2_cli.specs.inner.Emitting.{Emits};
+ghost use Rattle.idn2_cli.specs.inner.Emitting.{Emits, StopsForMemory};
 ghost use Rattle.idn2_cli.specs.Answers.{line_answer};
 ghost use Rattle.idn2_cli.specs.Transcript.{line_pieces};
 ghost use Rattle.idn2_cli.specs.Ends.{Does, lines_job};
@@ -27,7 +27,7 @@ pub(crate) fn serve_lines<M: Answering, R: Source, W: Sink, E: Sink>(
 ) -> Result<Status, Stop>
     requires ready { M.is_ready mode.now }
     requires unread { IsUnread input.old }
-    ensures { Does (lines_job (M.answer_of mode.now) (M.needs_none mode.now)) input.old input.new console.old console.new result }
+    ensures { Does (lines_job (M.answer_of mode.now) (M.needs_none mode.now) (M.goes_on mode.now)) input.old input.new console.old console.new result }
 {
     let mut buffers = Buffers::new();
     let mut has_refused = false;
@@ -56,6 +56,7 @@ fn serve_line<M: Answering, R: Source, W: Sink, E: Sink>(
         (line_pieces (M.answer_of mode.now) (line_at input.now)) result }
     ensures refused { IfOk result (λ refused. refused ≡ is_err (line_answer (M.answer_of mode.now) (line_at input.now).body)) }
     ensures no_memory { BodyNeedsNone (M.needs_none mode.now) (line_at input.now).body → result ≢ Err stop.Memory }
+    ensures begun { StopsForMemory (BodyNeedsNone (M.goes_on mode.now) (line_at input.now).body) console.old console.new result }
 {
     let number = input.number();
     match input.text() {

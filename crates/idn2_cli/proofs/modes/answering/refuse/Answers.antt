@@ -1,11 +1,8 @@
 use Rattle.std.proofs.Common.{[], ◌∷◌, ◌∙◌, sym, ap, refl, Err}
 use Rattle.std.proofs.lemmas.Result.{err_from_is_err_and}
 use Rattle.idn2_cli.specs.Transcript.{Message}
-use Rattle.idn2_cli.proofs.WrittenPieces.{emits_as, writes_as, stops, stops_first}
+use Rattle.idn2_cli.proofs.WrittenPieces.{emits_as, writes_as, stops}
 use Rattle.idn2_cli.proofs.modes.answering.refuse.Goals as goal
-
-pub returns-in-Memory-clause-memory : goal.returns-in-Memory-clause-memory
-returns-in-Memory-clause-memory g c = λ memory. (refl, stops_first _ _)
 
 pub returns-in-Memory-clause-told : goal.returns-in-Memory-clause-told
 returns-in-Memory-clause-told g c = λ other. absurd (other c.in-Memory.is)

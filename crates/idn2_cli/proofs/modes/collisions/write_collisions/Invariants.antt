@@ -1,4 +1,4 @@
-use Rattle.std.proofs.Common.{length}
+use Rattle.std.proofs.Common.{◌≡◌, length}
 use Rattle.registered_labels.specs.Collisions.{collisions_ahead}
 use Rattle.idn2_cli.specs.inner.Dispositions.{field_by}
 use Rattle.idn2_cli.proofs.CollisionSteps.{IsUnderWay}
@@ -8,7 +8,8 @@ use Rattle.idn2_cli.proofs.modes.collisions.write_collisions.Given as goal
 abbrev pub invariant-collisions : goal.invariant-collisions
 invariant-collisions g l =
     record {
-      under_way : IsUnderWay (field_by l.dispositions) l.options l.net l.fn.registered
+      same : l.dispositions ≡ l.fn.dispositions;
+      under_way : IsUnderWay (field_by l.fn.dispositions) l.options l.net l.fn.registered
           l.fn.console
           l.console
           l.search l.count l.total;

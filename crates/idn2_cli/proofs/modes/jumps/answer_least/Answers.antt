@@ -15,12 +15,12 @@ pub returns-in_err-write_least-in-Ok-clause-written : goal.returns-in_err-write_
 returns-in_err-write_least-in-Ok-clause-written g c =
     let p = err_from_is_err_and c.from_residual.result c.from_residual.ensures.1 in
     rw (p.1, segmented_answer c.args.table.now.entries c.args.label.now _ c.requires.table c.in-Ok.ensures.segmented)
-    (stops _ _ _ c.write_least.result p.0 (rw c.in-Ok.ensures.net at c.write_least.ensures) (c.in_err-write_least-in-Ok.was ∙ ap Err (sym p.2)))
+    (stops _ _ _ c.write_least.result p.0 (rw c.in-Ok.ensures.net at c.write_least.ensures.written) (c.in_err-write_least-in-Ok.was ∙ ap Err (sym p.2)))
 
 pub returns-in_ok-write_least-in-Ok-clause-written : goal.returns-in_ok-write_least-in-Ok-clause-written
 returns-in_ok-write_least-in-Ok-clause-written g c =
     rw (segmented_answer c.args.table.now.entries c.args.label.now _ c.requires.table c.in-Ok.ensures.segmented)
-    (rw c.in-Ok.ensures.net at c.in_ok-write_least-in-Ok.ensures)
+    (rw c.in-Ok.ensures.net at c.in_ok-write_least-in-Ok.ensures.written)
 
 pub returns-in_ok-write_least-in-Ok-clause-refused : goal.returns-in_ok-write_least-in-Ok-clause-refused
 returns-in_ok-write_least-in-Ok-clause-refused g c =

@@ -14,13 +14,13 @@ use Rattle.idn2_cli.proofs.JumpAnswers.{jumped_to}
 use Rattle.idn2_cli.proofs.ListingLemmas.{candidate-writable}
 use Rattle.idn2_cli.proofs.modes.jumps.write_least.Goals as goal
 
-pub returns-in_err-cursor : goal.returns-in_err-cursor
-returns-in_err-cursor g c =
+pub returns-in_err-cursor-clause-written : goal.returns-in_err-cursor-clause-written
+returns-in_err-cursor-clause-written g c =
     let p = err_from_is_err_and c.from_residual.result c.from_residual.ensures.1 in
     rw (p.1, p.2) (stops_first _ _)
 
-pub returns-then-not-jump : goal.returns-then-not-jump
-returns-then-not-jump g c =
+pub returns-then-not-jump-clause-written : goal.returns-then-not-jump-clause-written
+returns-then-not-jump-clause-written g c =
     let net : Built = c.args.net.now in
     let same : c.in_ok-cursor.cursor.net ≡ net = ap (λ (p : Position). p.net) c.in_ok-cursor.ensures in
     let none : HasNoneFrom (IsCandidate net) c.args.text.now = subst (λ (n : Built). HasNoneFrom (IsCandidate n) c.args.text.now) same (OnFalse_at c.if-not-jump.true c.jump.ensures.none) in
@@ -40,8 +40,8 @@ append-requires g c =
     let count = ap length c.begin.ensures in
     omega (arith, short, most, count)
 
-pub returns : goal.returns
-returns g c =
+pub returns-clause-written : goal.returns-clause-written
+returns-clause-written g c =
     let line : c.as_slice.result.now ≡ utf8_of c.last.result.now ++ 10 ∷ [] = c.as_slice.ensures ∙ c.append.ensures ∙ ap (λ (l : List ℕ). l ++ 10 ∷ []) c.begin.ensures in
     subst (λ (o : Option (List ℕ)). Emits c.args.console.now c.output-2.new.self (Output (jump_line o ++ 10 ∷ []) ∷ []) c.output-2.result)
     (candidates_from-first c.args.net.now c.args.text.now c.last.result.now c.requires

@@ -16,7 +16,7 @@ returns-in-Lookup g c =
     let mode = sym (ap (λ (v : Settings). v.mode) c.options.view_is) ∙ c.in-Lookup.is in
     let std3 = ap (λ (v : Settings). v.std3) c.options.view_is in
     let by : Bool → List ℕ → LineAnswer = λ b name. one_line (lookup_answer name b) in
-    as_mode o Lookup c.args.table.now (Ok no_table) _ _ _ _ _ c.serve_lines.result mode refl (ap (λ b. lines_job (by b) (LooksUpWithoutMemory b)) std3) c.serve_lines.ensures
+    as_mode o Lookup c.args.table.now (Ok no_table) _ _ _ _ _ c.serve_lines.result mode refl (ap (λ b. lines_job (by b) (LooksUpWithoutMemory b) (λ line. Unit {0})) std3) c.serve_lines.ensures
 
 pub returns-in-Register : goal.returns-in-Register
 returns-in-Register g c =

@@ -1,5 +1,6 @@
-use Rattle.std.proofs.Common.{◌∙◌, sym, subst}
+use Rattle.std.proofs.Common.{◌∙◌, ℕ, List, sym, subst}
 use Rattle.idn_text.proofs.Utf8Lemmas.{points_from_utf8}
+use Rattle.idn2_cli.specs.inner.Emitting.{StopsForMemory}
 use Rattle.idn2_cli.proofs.TextAnswers.{text_answer-not_utf8, text_answer-empty, text_answer-points}
 use Rattle.idn2_cli.proofs.modes.code_points.ByPointsAnswering.answer.Goals as goal
 
@@ -34,3 +35,8 @@ returns-in-Ok-2-clause-no_memory g c =
     λ none.
     let points = points_from_utf8 _ _ c.in-Ok-2.ensures.decoded ∙ sym c.as_slice.ensures.value in
     c.answer_points.ensures.no_memory (subst (g.M.PointAnswering.needs_none c.args.self.now.mode.now) points none)
+
+pub returns-in-Ok-2-clause-begun : goal.returns-in-Ok-2-clause-begun
+returns-in-Ok-2-clause-begun g c =
+    let points = points_from_utf8 _ _ c.in-Ok-2.ensures.decoded ∙ sym c.as_slice.ensures.value in
+    subst (λ (ps : List ℕ). StopsForMemory (g.M.PointAnswering.goes_on c.args.self.now.mode.now ps) c.args.console.now c.answer_points.new.console c.answer_points.result) (sym points) c.answer_points.ensures.begun

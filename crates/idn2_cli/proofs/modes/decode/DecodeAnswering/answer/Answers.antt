@@ -39,7 +39,7 @@ returns-in-Err-clause-written g c =
     let answer = in_utf8 (decode_answer text) in
     let some = sym c.is_empty.ensures ∙ c.if-is_empty.false in
     let ascii : IsAscii text = search rules in
-    emits_refusal _ _ _ c.in-Err.refusal _ c.refuse-in-Err.result (λ other. text_answer-ascii (λ name. one_line (in_utf8 (decode_answer name))) text ascii some ∙ one_line-refused answer c.in-Err.refusal (c.in-Err.ensures.answer other)) c.refuse-in-Err.ensures.told c.refuse-in-Err.ensures.memory
+    emits_refusal _ _ _ c.in-Err.refusal _ c.refuse-in-Err.result (λ other. text_answer-ascii (λ name. one_line (in_utf8 (decode_answer name))) text ascii some ∙ one_line-refused answer c.in-Err.refusal (c.in-Err.ensures.answer other)) c.refuse-in-Err.ensures.told c.refuse-in-Err.ensures.memory c.refuse-in-Err.ensures.begun
 
 pub returns-in-Err-clause-refused : goal.returns-in-Err-clause-refused
 returns-in-Err-clause-refused g c =

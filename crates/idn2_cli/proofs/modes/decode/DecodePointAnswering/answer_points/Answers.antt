@@ -7,4 +7,4 @@ use Rattle.idn2_cli.proofs.modes.decode.DecodePointAnswering.answer_points.Goals
 pub returns-in-Err-clause-written : goal.returns-in-Err-clause-written
 returns-in-Err-clause-written g c =
     emits_refusal _ _ _ c.in-Err.refusal _ c.refuse.result (λ other. one_line-refused (in_utf8 (decode_answer c.args.points.now)) c.in-Err.refusal (c.in-Err.ensures other))
-    c.refuse.ensures.told c.refuse.ensures.memory
+    c.refuse.ensures.told c.refuse.ensures.memory c.refuse.ensures.begun

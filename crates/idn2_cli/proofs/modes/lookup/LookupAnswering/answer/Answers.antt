@@ -21,7 +21,7 @@ pub returns-in-Err-clause-written : goal.returns-in-Err-clause-written
 returns-in-Err-clause-written g c =
     let std3 = c.args.self.now.std3 in
     let text = c.args.text.now in
-    emits_refusal _ _ _ c.in-Err.refusal _ c.refuse.result (λ other. text_answer-query std3 text ∙ one_line-refused (query_answer text std3) c.in-Err.refusal (c.in-Err.ensures.answer other)) c.refuse.ensures.told c.refuse.ensures.memory
+    emits_refusal _ _ _ c.in-Err.refusal _ c.refuse.result (λ other. text_answer-query std3 text ∙ one_line-refused (query_answer text std3) c.in-Err.refusal (c.in-Err.ensures.answer other)) c.refuse.ensures.told c.refuse.ensures.memory c.refuse.ensures.begun
 
 pub returns-in-Err-clause-refused : goal.returns-in-Err-clause-refused
 returns-in-Err-clause-refused g c =

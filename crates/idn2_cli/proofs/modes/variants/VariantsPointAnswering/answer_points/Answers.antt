@@ -7,4 +7,4 @@ use Rattle.idn2_cli.proofs.modes.variants.VariantsPointAnswering.answer_points.G
 pub returns-in-Err-clause-written : goal.returns-in-Err-clause-written
 returns-in-Err-clause-written g c =
     emits_refusal _ _ _ c.in-Err.refusal _ c.refuse.result (λ other. answer-refused (keeping (option_copied c.args.self.now.registered) c.args.self.now.options.now) c.args.self.now.table.now c.args.points.now c.in-Err.refusal (c.in-Err.ensures.fault other))
-    c.refuse.ensures.told c.refuse.ensures.memory
+    c.refuse.ensures.told c.refuse.ensures.memory c.refuse.ensures.begun

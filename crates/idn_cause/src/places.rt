@@ -1,0 +1,49 @@
+//! The first place at which a code point may not stand.
+ghost use Rattle.std.specs.Prelude.{◌≡◌, ◌<◌, length, slice_index, IfOk};
+ghost use Rattle.idn_cause.specs.Causes.{barred_place, is_hyphen_out_of_place, misplaced_hyphen};
+
+use idn_class::{Class, class_of};
+use idn_label::is_hyphen_at;
+use std::alloc::{AllocError, Global};
+
+/// The code point at a place, or 0 past the end.
+pub(crate) fn code_point_at(label: &[u32], place: usize) -> u32
+    ensures { result ≡ slice_index label.now place }
+{
+    if place < label.len() { label[place] } else { 0 }
+}
+
+/// The place of the first code point that may not be registered.
+pub(crate) fn barred_place(alloc: Global, label: &[u32]) -> Result<Option<usize>, AllocError>
+    ensures { IfOk result (λ place. place ≡ barred_place label.now) }
+{
+    for place in 0..label.len() {
+        match class_of(alloc, label[place])? {
+            Class::Disallowed | Class::Unassigned => return Ok(Some(place)),
+            Class::Pvalid | Class::Contextj | Class::Contexto => {}
+        }
+    }
+    Ok(None)
+}
+
+/// The first place at which a hyphen is out of place.
+pub(crate) fn misplaced_hyphen(label: &[u32]) -> Option<usize>
+    ensures { result ≡ misplaced_hyphen label.now }
+{
+    for place in 0..label.len() {
+        if is_hyphen_out_of_place(label, place) {
+            return Some(place);
+        }
+    }
+    None
+}
+
+fn is_hyphen_out_of_place(label: &[u32], place: usize) -> bool
+    requires { place < length label.now }
+    ensures { result ≡ is_hyphen_out_of_place label.now place }
+{
+    let is_barred = (place == 0)
+        | (place + 1 == label.len())
+        | (place == 2) & is_hyphen_at(label, 3);
+    is_hyphen_at(label, place) & is_barred
+}
