@@ -21,6 +21,7 @@ from version_3 import BY_PROGRAM
 sys.path += [os.path.join(ROOT, "conformance"), os.path.join(ROOT, "tables")]
 
 from lgr import command
+from lgr.joinings import Joinings
 from lgr.program import Program
 from lgr.ruleset import Fault
 from notation import reading
@@ -132,6 +133,22 @@ def says_large_rulesets(folder):
     assert behind == {"一": True, "丁": False, "丂": True, "寀": True, "寁": False}, behind
 
 
+def joins_in_two_ways(folder):
+    """Whether a label that words make, one of them among these, is one that others make, too."""
+    each = lambda text: {tuple(word) for word in text.split()}
+    for word, words, others, can in (
+        ("b", "a b bc", "a bc", False),
+        ("b", "a b bc c", "a bc", True),
+        ("ad", "a b c ad", "a b c db", True),
+        ("ad", "a c ad", "a b c db", False),
+        ("a", "a ab", "ab", False),
+        ("a", "a b ab", "ab", True),
+        ("aa", "a aa", "a", True),
+        ("bab", "bab a", "ab ba", True),
+    ):
+        assert Joinings(each(words), each(others)).can_have(tuple(word)) == can, (word, words, others)
+
+
 # Beside a plain reading.
 
 
@@ -218,6 +235,7 @@ TESTS = [
     tells_what_it_leaves_out,
     keeps_limits,
     says_large_rulesets,
+    joins_in_two_ways,
     says_what_stored_rulesets_say,
     says_what_random_rulesets_say,
     has_no_options_that_say_less,

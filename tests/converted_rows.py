@@ -301,6 +301,9 @@ LABELS = [
     (char("0061 0062", tag="t") + char("0062", tag="t") + char("0063"), refusing('<class from-tag="t"/><end/>'),
      ["%never 0062 $", "0061-0062", "0062..0063"],
      "line 2: char 0061-0062: its tag makes no difference, since a class is of single code points\n"),
+    (char("0061", when="r") + char("0062", not_when="r"), rule("<class>0078</class>"),
+     ["%rule always _", "0061 unless always", "0062"],
+     "line 2: char 0061: no label has it, since when 'r' never holds there\n"),
     # The variant would have to end within a source.
     (char("0061", ("0062", "blocked")) + char("0062 0063"), "", ["0061", "0062-0063"],
      "line 2: char 0061, variant 0062: left out, since it is not made of entries\n"),

@@ -16,7 +16,7 @@ For version 3, which says what the ruleset says:
 rules              the rules as expressions (expressions); contexts: of what stands beside an anchor
 outcomes           what the actions make of the kinds of a label's parts (kinds); sub_tables: which go together
 tags, demands      their tags; the actions that refuse by a rule
-repertoire         the entries that labels can have, and which are there to be variants only
+repertoire         the entries that labels can have, and which are there to be variants only; joinings: of these
 definitions        the tags, sets, rules and demands that are written
 exact              makes the definitions and entries of a Ruleset, and tells what can't be said (losses)
 limits             how much of each there may be; ruleset_text: the text

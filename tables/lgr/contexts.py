@@ -4,6 +4,7 @@ A condition holds always, or never, or where one of its contexts does. A context
 sequence, and what begins behind it.
 """
 
+import dataclasses
 import enum
 
 from . import expressions
@@ -16,41 +17,62 @@ class Holds(enum.Enum):
     NEVER = "never"
 
 
+@dataclasses.dataclass(frozen=True, eq=False)
+class Where:
+    """The contexts of which one has to be there, or with 'unless' none."""
+
+    word: str
+    contexts: tuple
+
+
 class Contexts:
+    """Where the conditions of a ruleset hold, each looked at once."""
+
     def __init__(self, rules):
-        self.rules = rules
+        self.rules, self.known, self.points = rules, {}, {}
         self.anything = expressions.repeat(expressions.one_of(rules.points), 0, None)
 
     def of(self, condition, source, line):
-        """Where the condition holds for the source: Holds, or ('when' or 'unless', contexts)."""
+        """Where the condition holds for the source: Holds or Where."""
         expression = self.rules.rule(condition.rule, line)
-        rule_line = self.rules.line_of(condition.rule)
-        contexts = self.contexts_of_rule(expression, source, rule_line)
-        if not contexts or (EMPTY, EMPTY) in contexts:
-            return Holds.ALWAYS if bool(contexts) == (condition.word == "when") else Holds.NEVER
-        return ("when" if condition.word == "when" else "unless"), tuple(contexts)
+        if condition.rule not in self.points:
+            self.points[condition.rule] = one_anywhere(expression)
+        points = self.points[condition.rule]
+        asked = condition, points is not None and not points.points.isdisjoint(source)
+        if asked not in self.known:
+            self.known[asked] = self.found(condition.word, expression, asked[1], self.rules.line_of(condition.rule))
+        if isinstance(self.known[asked], Unsayable):
+            raise self.known[asked]
+        return self.known[asked]
 
-    def contexts_of_rule(self, expression, source, line):
+    def found(self, word, expression, is_within, line):
+        try:
+            contexts = self.contexts_of_rule(expression, is_within, line)
+        except Unsayable as reason:
+            return reason
+        if not contexts or (EMPTY, EMPTY) in contexts:
+            return Holds.ALWAYS if bool(contexts) == (word == "when") else Holds.NEVER
+        return Where("when" if word == "when" else "unless", tuple(contexts))
+
+    def contexts_of_rule(self, expression, is_within, line):
         if expression == NOTHING:
             return []
         if not expressions.has(expression, ANCHOR):
-            return self.anywhere(expression, source, line)
+            return self.anywhere(expression, is_within, line)
         contexts = contexts_of(expression, line)
         for before, behind in contexts:
             if expressions.has(before, END) or expressions.has(behind, START):
                 raise Unsayable(line, "the end of a label before the anchor, or its start behind it, which no label has")
         return contexts
 
-    def anywhere(self, expression, source, line):
+    def anywhere(self, expression, is_within, line):
         """The contexts of a rule without an anchor. It holds at each place of a label that matches it: where it is about
         one code point, this stands somewhere before or behind the source, or within."""
-        if expressions.is_everywhere(expression):
+        if is_within or expressions.is_everywhere(expression):
             return [(EMPTY, EMPTY)]
         one = one_anywhere(expression)
         if one is None:
             raise Unsayable(line, "a rule without an anchor, in a condition, that is about more than one code point")
-        if one.points.intersection(source):
-            return [(EMPTY, EMPTY)]
         return [(expressions.sequence([one, self.anything]), EMPTY), (EMPTY, expressions.sequence([self.anything, one]))]
 
 
@@ -77,7 +99,7 @@ def one_anywhere(expression):
         return expression
     if isinstance(expression, expressions.Repeat):
         return one_anywhere(expression.part) if expression.least == 1 else None
-    if isinstance(expression, expressions.Choice):
+    if isinstance(expression, expressions.Choice) and expression != NOTHING:
         each = list(map(one_anywhere, expression.branches))
         return None if None in each else expressions.one_of(frozenset().union(*(one.points for one in each)))
     return None

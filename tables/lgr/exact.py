@@ -27,7 +27,7 @@ class Exact:
     def __init__(self, ruleset, refusals, untyped, losses):
         self.losses, self.repertoire = losses, Repertoire(ruleset, refusals, losses)
         self.rules = Rules(ruleset, self.repertoire.points)
-        self.contexts = Contexts(self.rules)
+        self.contexts, self.conditions = Contexts(self.rules), {}
         self.definitions = Definitions(self.repertoire.points)
         self.outcomes = Outcomes([action for action in ruleset.actions if self.is_known(action)])
         self.kinds = Kinds(untyped, self.outcomes, losses)
@@ -108,9 +108,10 @@ class Exact:
             return None
         if holds is Holds.NEVER:
             return self.always("unless")
-        word, contexts = holds
-        origin = Origin(self.rules.line_of(condition.rule), f"rule '{condition.rule}'", condition.rule)
-        return self.definitions.condition(word, contexts, origin)
+        if holds not in self.conditions:
+            origin = Origin(self.rules.line_of(condition.rule), f"rule '{condition.rule}'", condition.rule)
+            self.conditions[holds] = self.definitions.condition(holds.word, holds.contexts, origin)
+        return self.conditions[holds]
 
     def always(self, word):
         """A condition by a rule that holds always."""

@@ -1,6 +1,9 @@
 """The entries of a ruleset that labels can have, what they join to, and which of them are outside: sources with which each
 label is refused by its types, so that they are there to be variants only."""
 
+import functools
+
+from .joinings import Joinings
 from .losses import Loss
 from .outcomes import Kind, Outcome
 from .program import DISALLOWED, UNASSIGNED
@@ -19,8 +22,7 @@ class Repertoire:
             raise Fault(None, "\n".join(["no entry of it can stand in a table", *losses.lines(Loss.NARROWER)]))
         self.sources = {entry.source for entry in self.entries}
         self.points = {point for source in self.sources for point in source}
-        targets = {variant.points for entry in self.entries for variant in entry.others()} - {()}
-        self.replacements, self.outside = self.sources | targets, set()
+        self.outside = set()
 
     def is_possible(self, entry):
         if self.possible.issuperset(entry.source):
@@ -31,9 +33,6 @@ class Repertoire:
 
     def is_outside(self, entry):
         return entry.source in self.outside
-
-    def inside(self):
-        return [entry for entry in self.entries if not self.is_outside(entry)]
 
     def find_outside(self, outcomes, kind_of):
         """Tells the sources that are outside by the kinds of their parts, as long as they stand for themselves."""
@@ -49,41 +48,27 @@ class Repertoire:
         """An outside source has no part in cutting the label that is given, so it isn't found in one that is accepted."""
         inside = self.sources - self.outside
         points = {point for source in inside for point in source}
+        joinings = functools.cache(lambda: Joinings(self.sources, inside))
         reason = "each label with it is refused, but labels of other entries can have it, and then variants"
         for entry in self.entries:
             is_within = self.is_outside(entry) and entry.others() and points.issuperset(entry.source)
-            if is_within and can_be_both(entry.source, self.sources, inside):
+            if is_within and joinings().can_have(entry.source):
                 self.losses.refuse(entry.line, entry.name, reason)
+
+    @functools.cached_property
+    def replaced(self):
+        """What sources and variants join to that sources alone join to."""
+        variants = {variant.points for entry in self.entries for variant in entry.others()} - {()}
+        return Joinings(self.sources | variants, self.sources)
 
     def is_made_of_entries(self, entry, variant):
         """Whether the variant can be cut into sources. One that can't be is told: no label has it, or no table can say so."""
         if not self.is_closed or is_cut(variant.points, self.sources):
             return True
         name = f"{entry.name}, variant {spelled(variant.points)}"
-        if self.points.issuperset(variant.points) and can_be_both(variant.points, self.replacements, self.sources):
+        if self.points.issuperset(variant.points) and self.replaced.can_have(variant.points):
             reason = "it is not made of entries, but labels can have it together with what stands beside it"
             self.losses.refuse(variant.line, name, reason)
         else:
             self.losses.tell(variant.line, name, "left out, since it is not made of entries")
         return False
-
-
-def can_be_both(word, words, others):
-    """Whether some joining of words, with this word among them, is a joining of others, too."""
-    seen, states = set(), [(False, False, ())]
-    while states:
-        # The two are made side by side. `rest` is what the longer one has more: that of others, if `is_other`.
-        has_word, is_other, rest = state = states.pop()
-        if not rest and has_word:
-            return True
-        if state in seen:
-            continue
-        seen.add(state)
-        more = [(has_word, each) for each in (words if is_other else others)] + [(True, word)] * is_other
-        for has_it, each in more:
-            length = min(len(rest), len(each))
-            if rest[:length] == each[:length]:
-                is_longer = len(each) > length
-                longer = each[length:] if is_longer else rest[length:]
-                states.append((has_it, bool(longer) and is_other != is_longer, longer))
-    return False
