@@ -1,0 +1,6 @@
+mod PatternLemmas
+mod StateLemmas
+mod LexemeLemmas
+mod NameLemmas
+mod TokenLemmas
+mod SpanLemmas

@@ -1,0 +1,15 @@
+use Rattle.std.proofs.Common.{rules, ◌≡◌, sym, ap}
+use Rattle.std.specs.Prelude.{codes}
+use Rattle.std.proofs.lemmas.Slice.Eq.{text_from_reads}
+use Rattle.ruleset_text.specs.Definitions.{keyword_of}
+use Rattle.ruleset_text.proofs.definitions.keyword_of.Goals as goal
+
+pub returns-in-37-4 : goal.returns-in-37-4
+returns-in-37-4 c =
+    let is : c.args.word.now ≡ codes "%never" = text_from_reads c.args.word.now (codes "%never") (search rules) (search rules) in
+    sym (ap keyword_of is)
+
+pub returns-in-37-5 : goal.returns-in-37-5
+returns-in-37-5 c =
+    let is : c.args.word.now ≡ codes "%always" = text_from_reads c.args.word.now (codes "%always") (search rules) (search rules) in
+    sym (ap keyword_of is)

@@ -1,0 +1,12 @@
+pub mod Grammar
+pub mod Reading
+pub mod Frames
+pub mod Limits
+pub mod Rules
+pub mod Lexemes
+pub mod Names
+pub mod Tokens
+pub mod Spans
+pub mod Definitions
+pub mod Classes
+pub mod inner

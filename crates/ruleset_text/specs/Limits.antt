@@ -1,0 +1,49 @@
+-- What is limited in a pattern, and whether its sets are known.
+use Rattle.std.specs.Prelude.{ℕ, ◌+◌, ◌≤◌, max}
+use Rattle.label_patterns.specs.Patterns.{Pattern, Point, Set, Any, Start, End, Place, Group, Optional, Many, Then, Either}
+
+-- how many groups stand within each other
+abbrev pub groups : Pattern → ℕ
+groups (Point c) = 0
+groups (Set n) = 0
+groups Any = 0
+groups Start = 0
+groups End = 0
+groups Place = 0
+groups (Group p) = groups p + 1
+groups (Optional p) = groups p
+groups (Many p) = groups p
+groups (Then p q) = max (groups p) (groups q)
+groups (Either p q) = max (groups p) (groups q)
+
+-- how many '*' stand within each other
+abbrev pub stars : Pattern → ℕ
+stars (Point c) = 0
+stars (Set n) = 0
+stars Any = 0
+stars Start = 0
+stars End = 0
+stars Place = 0
+stars (Group p) = stars p
+stars (Optional p) = stars p
+stars (Many p) = stars p + 1
+stars (Then p q) = max (stars p) (stars q)
+stars (Either p q) = max (stars p) (stars q)
+
+-- how many atoms, '^' and '$' there are, groups counted
+abbrev pub atoms : Pattern → ℕ
+atoms (Point c) = 1
+atoms (Set n) = 1
+atoms Any = 1
+atoms Start = 1
+atoms End = 1
+atoms Place = 0
+atoms (Group p) = atoms p + 1
+atoms (Optional p) = atoms p
+atoms (Many p) = atoms p
+atoms (Then p q) = atoms p + atoms q
+atoms (Either p q) = atoms p + atoms q
+
+-- at most g groups and s '*' within each other
+abbrev pub IsWithin : ℕ → ℕ → Pattern → Type 0
+IsWithin g s p = (groups p ≤ g) × (stars p ≤ s)

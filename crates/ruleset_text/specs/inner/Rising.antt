@@ -1,0 +1,17 @@
+-- Spans that rise, and what may stand behind them.
+use Rattle.std.specs.Prelude.{ℕ, ◌<◌, List}
+use Rattle.std.specs.List.{AllByRecursion}
+use Rattle.label_patterns.specs.declared.span.Span.{Span}
+use Rattle.label_patterns.specs.Sets.{Rise}
+use Rattle.ruleset_text.specs.declared.spans.Held.{Held}
+use Rattle.ruleset_text.specs.declared.spans.Held.TheVariants as held
+
+-- the least code point that may follow
+abbrev pub least : Held → ℕ
+least (held.Above low) = low
+least (held.First c) = c
+least (held.Range c) = c
+
+-- the spans rise, and each ends below what may follow
+abbrev pub IsRising : List Span → Held → Type 0
+IsRising spans h = Rise spans × AllByRecursion (λ s. s.last < least h) spans

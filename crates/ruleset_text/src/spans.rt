@@ -1,0 +1,128 @@
+//! The spans of a set.
+ghost use Rattle.std.specs.Prelude.{◌≡◌, ◌+◌, IfOk, IfSome};
+ghost use Rattle.std.specs.Option.{option_map};
+ghost use Rattle.ruleset_text.specs.declared.spans.Held.TheVariants.{Above};
+ghost use Rattle.ruleset_text.specs.Spans as words;
+ghost use Rattle.ruleset_text.specs.Spans.{spans_of};
+ghost use Rattle.ruleset_text.specs.inner.Rising.{IsRising};
+
+use crate::lexemes::next_lexeme;
+use crate::tokens::without_prefix;
+use idn_text::hex_point;
+use label_patterns::{PointSet, Span};
+use std::alloc::{AllocError, Global};
+
+/// What a lexeme is among spans.
+#[derive(Clone, Copy, Debug, PartialEq, Eq)]
+enum Part {
+    Point(u32),
+    /// `..`
+    Range,
+    Other,
+}
+
+/// What is held behind the spans that are complete.
+#[derive(Clone, Copy, Debug, PartialEq, Eq)]
+enum Held {
+    /// Nothing: the next span begins with this number or above.
+    Above(u64),
+    /// A point that may begin a range.
+    First(u32),
+    /// The first point of a range.
+    Range(u32),
+}
+
+/// The set of the spans that a text spells: code points and ranges that rise; or none if it spells none.
+pub fn read_spans(alloc: Global, text: &[u8]) -> Result<Option<PointSet>, AllocError>
+    ensures { IfOk result (λ found. spans_of text.now ≡ found) }
+{
+    let mut spans = Vec::new(alloc);
+    let mut held = Held::Above(0);
+    let mut rest = text;
+    while let Some((lexeme, others)) = next_lexeme(rest) {
+        let Some(next) = step(&mut spans, held, part_of(lexeme))? else {
+            return Ok(None);
+        };
+        held = next;
+        rest = others;
+    }
+    ended(spans, held)
+}
+
+/// The spans with one part more, and what is then held; none if the part may not stand there.
+fn step(spans: &mut Vec<Span>, held: Held, part: Part) -> Result<Option<Held>, AllocError>
+    requires { IsRising spans.old.items held }
+    ensures step { IfOk result (λ found. words.step spans.old.items held part ≡ option_map (words.state spans.new.items) found) }
+    ensures rising { IfOk result (λ found. IfSome found (IsRising spans.new.items)) }
+{
+    match (held, part) {
+        (Held::Above(low), Part::Point(point)) => {
+            Ok(if low <= point as u64 {
+                Some(Held::First(point))
+            } else {
+                None
+            })
+        }
+        (Held::First(first), Part::Point(point)) => {
+            if first >= point {
+                return Ok(None);
+            }
+            spans.push(Span { first, last: first })?;
+            Ok(Some(Held::First(point)))
+        }
+        (Held::First(first), Part::Range) => Ok(Some(Held::Range(first))),
+        (Held::Range(first), Part::Point(last)) => {
+            if first > last {
+                return Ok(None);
+            }
+            spans.push(Span { first, last })?;
+            Ok(Some(behind(last)))
+        }
+        _ => Ok(None),
+    }
+}
+
+/// What is held behind a range that ends so.
+fn behind(last: u32) -> Held
+    ensures { result ≡ Above (last + 1) }
+{
+    Held::Above(last as u64 + 1)
+}
+
+/// The set, if no span is left open.
+fn ended(spans: Vec<Span>, held: Held) -> Result<Option<PointSet>, AllocError>
+    requires { IsRising spans.items held }
+    ensures { IfOk result (λ found. words.ended spans.items held ≡ found) }
+{
+    let mut spans = spans;
+    match held {
+        Held::Above(_) => Ok(if spans.is_empty() {
+            None
+        } else {
+            Some(PointSet::new(spans))
+        }),
+        Held::First(first) => {
+            spans.push(Span { first, last: first })?;
+            Ok(Some(PointSet::new(spans)))
+        }
+        Held::Range(_) => Ok(None),
+    }
+}
+
+fn part_of(lexeme: &[u8]) -> Part
+    ensures { result ≡ words.part_of lexeme.now }
+{
+    match lexeme {
+        b".." => Part::Range,
+        _ => point_part(hex_point(without_prefix(lexeme))),
+    }
+}
+
+fn point_part(point: Option<u32>) -> Part
+    ensures { result ≡ words.point_part point }
+{
+    match point {
+        Some(point) => Part::Point(point),
+        None => Part::Other,
+    }
+}
