@@ -82,6 +82,9 @@ ROWS = [
      + '<action disp="invalid" match="s"/>',
      ["%set gc_Mn 0301 094D", "%never ^ @gc_Mn", "%never 094D 0915", "0061", "0915", "094D", "0301"],
      {"a\u0301": "a\u0301", "\u0301a": "invalid", "\u0915\u094D\u0915": "invalid", "\u0915\u094Da": "\u0915\u094Da"}),
+    ("a class by a class of the Bidi rule", char("0061") + char("0628") + char("0661"),
+     refusing('<start/><class property="bc:AL"/><class property="Bidi_Class:AN"/>'),
+     ["%never ^ 0628 0661", "0061", "0628", "0661"], {"\u0628\u0661": "invalid", "\u0628\u0628\u0661": "\u0628\u0628\u0661"}),
     ("a union", ABC, refusing("<start/><union><class>0061</class><class>0062</class></union>"),
      ["%set r_set 0061..0062", "%never ^ @r_set", "0061..0063"], {"a": "invalid", "b": "invalid", "ca": "ca"}),
     ("an intersection", ABC, refusing("<intersection><class>0061-0062</class><class>0062-0063</class></intersection>"),
@@ -260,10 +263,10 @@ REFUSALS = [
      WITH_RULE + "a look-behind or look-ahead without an anchor beside it\n"),
     (char("0061", when="r"), rule("<choice/><anchor/>"), WITH_RULE + "a choice without a part\n"),
     (char("0061", when="r"), rule('<class property="sc:Latn"/>'),
-     WITH_RULE + "the property 'sc:Latn', and only General_Category and Canonical_Combining_Class are known\n"),
+     WITH_RULE + "the property 'sc:Latn', and only General_Category, Canonical_Combining_Class and Bidi_Class are known\n"),
     (char("0061"), '<class name="letters" property="Alphabetic:Y"/>' + refusing('<union><class by-ref="letters"/></union>'),
-     "line 4: action 'invalid': the property 'Alphabetic:Y', and only General_Category and Canonical_Combining_Class are "
-     "known\n"),
+     "line 4: action 'invalid': the property 'Alphabetic:Y', and only General_Category, Canonical_Combining_Class and "
+     "Bidi_Class are known\n"),
     (char("0061"), refusing("<union/>"), "line 4: action 'invalid': a set operator without its sets\n"),
     (ABC, refusing("<choice><any/><rule><any/><any/></rule></choice>" * 1100),
      "line 4: action 'invalid': a rule that takes more than 4,096 parts to write\n"),
