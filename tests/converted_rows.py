@@ -180,6 +180,13 @@ ROWS = [
      ["0061|!0062:!0063", "0062..0063"], {"a": "a !b !c"}),
     ("explicit actions before those of the standard", char("0061", ("0062", "blocked")) + char("0062"),
      '<action disp="valid" any-variant="blocked"/>', ["0061|0062", "0062"], {"a": "a b"}),
+    ("types that the actions name alike", "".join(char(f"{0x61 + each:04X}", (f"{0x71 + each:04X}", f"x{each}"))
+                                                  + char(f"{0x71 + each:04X}", (f"{0x61 + each:04X}", f"y{each}"))
+                                                  for each in range(8)),
+     f'<action disp="blocked" any-variant="{" ".join(f"x{each}" for each in range(8))}"/>'
+     f'<action disp="valid" any-variant="{" ".join(f"y{each}" for each in range(8))}"/>',
+     [line for each in range(8) for line in (f"{0x61 + each:04X}|!{0x71 + each:04X}", f"{0x71 + each:04X}|{0x61 + each:04X}")],
+     {"ab": "ab !qb !ar !qr", "qr": "qr ar qb ab", "ar": "ar ab !qr !qb"}),
     ("a refusal by a rule before an action that is never triggered", ABC,
      '<action disp="blocked" any-variant="x"/>' + refusing('<char cp="0062"/>'),
      ["%never 0062", "0061..0063"], {"b": "invalid"}),
@@ -246,8 +253,9 @@ REFUSALS = [
      "no type\n"),
     (TWO, '<action disp="blocked" only-variants="x"/><action disp="valid"/>',
      "line 4: action 'blocked': labels of 'x' are blocked, and allowed with further types\n"),
-    (char("0061", *((f"{0x62 + each:04X}", f"x{each}") for each in range(12))) + '<range first-cp="0062" last-cp="006D"/>', "",
-     "the ruleset: 13 types of variants, and 12 are looked at\n"),
+    (char("0061", *((f"{0x62 + each:04X}", f"x{each}") for each in range(12))) + '<range first-cp="0062" last-cp="006D"/>',
+     "".join(f'<action disp="blocked" any-variant="x{each}"/>' for each in range(12)),
+     "the ruleset: 13 kinds of variants, and 12 are looked at\n"),
     # Rules.
     (char("0061", when="r"), rule("<look-behind><any/><end/></look-behind><anchor/>"),
      WITH_RULE + "the end of a label before the anchor, or its start behind it, which no label has\n"),
