@@ -82,6 +82,9 @@ ROWS = [
      + '<action disp="invalid" match="s"/>',
      ["%set gc_Mn 0301 094D", "%never ^ @gc_Mn", "%never 094D 0915", "0061", "0915", "094D", "0301"],
      {"a\u0301": "a\u0301", "\u0301a": "invalid", "\u0915\u094D\u0915": "invalid", "\u0915\u094Da": "\u0915\u094Da"}),
+    ("a class by a class of the Bidi rule", char("0061") + char("0628") + char("0661"),
+     refusing('<start/><class property="bc:AL"/><class property="Bidi_Class:AN"/>'),
+     ["%never ^ 0628 0661", "0061", "0628", "0661"], {"\u0628\u0661": "invalid", "\u0628\u0628\u0661": "\u0628\u0628\u0661"}),
     ("a union", ABC, refusing("<start/><union><class>0061</class><class>0062</class></union>"),
      ["%set r_set 0061..0062", "%never ^ @r_set", "0061..0063"], {"a": "invalid", "b": "invalid", "ca": "ca"}),
     ("an intersection", ABC, refusing("<intersection><class>0061-0062</class><class>0062-0063</class></intersection>"),
@@ -177,6 +180,13 @@ ROWS = [
      ["0061|!0062:!0063", "0062..0063"], {"a": "a !b !c"}),
     ("explicit actions before those of the standard", char("0061", ("0062", "blocked")) + char("0062"),
      '<action disp="valid" any-variant="blocked"/>', ["0061|0062", "0062"], {"a": "a b"}),
+    ("types that the actions name alike", "".join(char(f"{0x61 + each:04X}", (f"{0x71 + each:04X}", f"x{each}"))
+                                                  + char(f"{0x71 + each:04X}", (f"{0x61 + each:04X}", f"y{each}"))
+                                                  for each in range(8)),
+     f'<action disp="blocked" any-variant="{" ".join(f"x{each}" for each in range(8))}"/>'
+     f'<action disp="valid" any-variant="{" ".join(f"y{each}" for each in range(8))}"/>',
+     [line for each in range(8) for line in (f"{0x61 + each:04X}|!{0x71 + each:04X}", f"{0x71 + each:04X}|{0x61 + each:04X}")],
+     {"ab": "ab !qb !ar !qr", "qr": "qr ar qb ab", "ar": "ar ab !qr !qb"}),
     ("a refusal by a rule before an action that is never triggered", ABC,
      '<action disp="blocked" any-variant="x"/>' + refusing('<char cp="0062"/>'),
      ["%never 0062", "0061..0063"], {"b": "invalid"}),
@@ -243,8 +253,9 @@ REFUSALS = [
      "no type\n"),
     (TWO, '<action disp="blocked" only-variants="x"/><action disp="valid"/>',
      "line 4: action 'blocked': labels of 'x' are blocked, and allowed with further types\n"),
-    (char("0061", *((f"{0x62 + each:04X}", f"x{each}") for each in range(12))) + '<range first-cp="0062" last-cp="006D"/>', "",
-     "the ruleset: 13 types of variants, and 12 are looked at\n"),
+    (char("0061", *((f"{0x62 + each:04X}", f"x{each}") for each in range(12))) + '<range first-cp="0062" last-cp="006D"/>',
+     "".join(f'<action disp="blocked" any-variant="x{each}"/>' for each in range(12)),
+     "the ruleset: 13 kinds of variants, and 12 are looked at\n"),
     # Rules.
     (char("0061", when="r"), rule("<look-behind><any/><end/></look-behind><anchor/>"),
      WITH_RULE + "the end of a label before the anchor, or its start behind it, which no label has\n"),
@@ -260,10 +271,10 @@ REFUSALS = [
      WITH_RULE + "a look-behind or look-ahead without an anchor beside it\n"),
     (char("0061", when="r"), rule("<choice/><anchor/>"), WITH_RULE + "a choice without a part\n"),
     (char("0061", when="r"), rule('<class property="sc:Latn"/>'),
-     WITH_RULE + "the property 'sc:Latn', and only General_Category and Canonical_Combining_Class are known\n"),
+     WITH_RULE + "the property 'sc:Latn', and only General_Category, Canonical_Combining_Class and Bidi_Class are known\n"),
     (char("0061"), '<class name="letters" property="Alphabetic:Y"/>' + refusing('<union><class by-ref="letters"/></union>'),
-     "line 4: action 'invalid': the property 'Alphabetic:Y', and only General_Category and Canonical_Combining_Class are "
-     "known\n"),
+     "line 4: action 'invalid': the property 'Alphabetic:Y', and only General_Category, Canonical_Combining_Class and "
+     "Bidi_Class are known\n"),
     (char("0061"), refusing("<union/>"), "line 4: action 'invalid': a set operator without its sets\n"),
     (ABC, refusing("<choice><any/><rule><any/><any/></rule></choice>" * 1100),
      "line 4: action 'invalid': a rule that takes more than 4,096 parts to write\n"),

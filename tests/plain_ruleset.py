@@ -80,6 +80,8 @@ class PlainRuleset:
             name, value = element.get("property").split(":")
             if name == "ccc":
                 return unicodedata.combining(letter) == int(value)
+            if name in ("bc", "Bidi_Class"):
+                return unicodedata.bidirectional(letter) == value
             assert name in ("gc", "General_Category"), element.get("property")
             return unicodedata.category(letter) == {"Nonspacing_Mark": "Mn"}.get(value, value)
         ranges = [(text.split("-") * 2)[:2] for text in element.text.split()]

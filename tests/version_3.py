@@ -138,6 +138,18 @@ def example_rulesets_hold(folder):
             assert found == variants, (name, label, found)
 
 
+def notation_shows_a_ruleset(folder):
+    """The example of docs/NOTATION.md is read, and says of labels what stands there."""
+    with open(os.path.join(ROOT, "docs", "NOTATION.md"), encoding="utf-8") as file:
+        [text] = re.findall(r"(?:^    .*\n)+", file.read().split("\n## Version 3\n")[1].split("\n###")[0], re.MULTILINE)
+    ruleset = reading.read(text.replace("\n    ", "\n").lstrip().encode(), BY_PROGRAM.may_stand)
+    labels = RulesetLabels(ruleset)
+    refused = {label: labels.refusal(label) for label in ("काa", "का", "ा", "क1", "क०", "1०", "a-1", "-a", "aa-a", "аa")}
+    assert refused == {"काa": None, "का": None, "ा": 41, "क1": None, "क०": None, "1०": 41, "a-1": None, "-a": 41,
+                       "aa-a": None, "аa": 40}, refused
+    assert labels.allocatable("国0") == {"国0", "國0"} and "國०" in labels.spelled("国0"), labels.allocatable("国0")
+
+
 def chinese_ruleset_is_made_anew(folder):
     """tables/chinese.py makes it from tables/han.txt."""
     path = os.path.join(ROOT, "tables", "rulesets", "chinese.txt")
@@ -155,6 +167,7 @@ TESTS = [
     second_writing_spells,
     program_answers,
     example_rulesets_hold,
+    notation_shows_a_ruleset,
     chinese_ruleset_is_made_anew,
 ]
 

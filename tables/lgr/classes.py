@@ -20,6 +20,8 @@ CATEGORIES = {
 }
 SHORT_CATEGORY = re.compile(r"L[ulmto]|M[nce]|N[dlo]|P[cdseifo]|S[mcko]|Z[slp]|C[cfos]")
 
+BIDI_CLASSES = ("L", "R", "AL", "EN", "ES", "ET", "AN", "CS", "NSM", "BN", "B", "S", "WS", "ON")
+
 
 class Classes:
     def __init__(self, ruleset, points):
@@ -70,7 +72,7 @@ class Classes:
             return "a set operator without its sets"
         if not self.are_all_known:
             return f"the property '{unknown[0]}', and this Python lacks code points of the ruleset: a newer one has them"
-        return f"the property '{unknown[0]}', and only General_Category and Canonical_Combining_Class are known"
+        return f"the property '{unknown[0]}', and only General_Category, Canonical_Combining_Class and Bidi_Class are known"
 
     def all_within(self, element, seen):
         """The element and those of which it is made; those with names are seen once."""
@@ -82,13 +84,18 @@ class Classes:
             yield from self.all_within(part, seen)
 
     def with_property(self, text):
-        """The code points of a General_Category or a Canonical_Combining_Class; no other property is known."""
+        """The code points of a General_Category, a Canonical_Combining_Class or a Bidi_Class; no other is known."""
         name, _, value = (re.sub(r"[\s_-]", "", part).lower() for part in text.partition(":"))
         if not self.are_all_known:
             return None
         if name in ("ccc", "canonicalcombiningclass") and re.fullmatch("[0-9]{1,3}", value):
-            return frozenset(point for point in self.points if unicodedata.combining(chr(point)) == int(value))
+            return self.where(lambda letter: unicodedata.combining(letter) == int(value))
+        if name in ("bc", "bidiclass") and value.upper() in BIDI_CLASSES:
+            return self.where(lambda letter: unicodedata.bidirectional(letter) == value.upper())
         wanted = CATEGORIES.get(value, (value.capitalize(),))
         if name not in ("gc", "generalcategory") or not all(map(SHORT_CATEGORY.fullmatch, wanted)):
             return None
-        return frozenset(point for point in self.points if unicodedata.category(chr(point)) in wanted)
+        return self.where(lambda letter: unicodedata.category(letter) in wanted)
+
+    def where(self, has):
+        return frozenset(point for point in self.points if has(chr(point)))

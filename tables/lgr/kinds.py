@@ -1,7 +1,7 @@
 """The kinds of the parts of labels, by the types of a ruleset's variants (RFC 7940, sections 5.3 and 7.2)."""
 
 from .losses import Unsayable
-from .outcomes import MOST_KINDS, Kind, in_order
+from .outcomes import MOST_KINDS, Kind
 
 OUT_OF_REPERTOIRE = "out-of-repertoire-var"
 
@@ -11,10 +11,16 @@ class Kinds:
 
     def __init__(self, untyped, outcomes, losses):
         self.no_type, self.outcomes, self.losses = untyped or Kind.NO_TYPE, outcomes, losses
+        # For each type the one that stands for it; and for each way to be named the first type.
+        self.alike, self.first = {}, {}
 
     def of(self, variant):
-        """The kind of a part that a variant made."""
-        return self.no_type if variant.type is None else variant.type
+        """The kind of a part that a variant made. Of types that each action names alike, one stands for all."""
+        kind = self.no_type if variant.type is None else variant.type
+        if isinstance(kind, str) and kind not in self.alike:
+            namings = tuple(kind in types for types in self.outcomes.named_types)
+            self.alike[kind] = self.first.setdefault(namings, kind)
+        return self.alike.get(kind, kind)
 
     def of_original(self, entry):
         """The kind of a part that stands for itself. A reflexive variant with a condition makes no difference to it."""
@@ -26,10 +32,10 @@ class Kinds:
         variants = [variant for entry in entries for variant in entry.variants]
         kinds = frozenset(map(self.of, variants)) | {Kind.UNMAPPED}
         if len(kinds) > MOST_KINDS:
-            raise Unsayable(None, f"{len(kinds)} types of variants, and {MOST_KINDS} are looked at")
-        for kind in in_order(kinds):
-            if isinstance(kind, str) and not any(action.names(kind) for action in self.outcomes.actions):
-                self.tell_of_type(kind, next(each.line for each in variants if self.of(each) == kind))
+            raise Unsayable(None, f"{len(kinds)} kinds of variants, and {MOST_KINDS} are looked at")
+        for variant in variants:
+            if variant.type is not None and not any(variant.type in types for types in self.outcomes.named_types):
+                self.tell_of_type(variant.type, variant.line)
         for entry in entries:
             for variant in entry.reflexive():
                 if variant.condition and not self.outcomes.are_same(self.of(variant), Kind.UNMAPPED, kinds):

@@ -5,6 +5,7 @@ decides, so a set of kinds has an outcome. Any kinds of a ruleset may come toget
 """
 
 import enum
+import functools
 import itertools
 
 from .dispositions import ALLOWING, Action
@@ -48,6 +49,13 @@ class Outcomes:
         self.actions = [*actions, *DEFAULTS]
         self.demands = [action for action in self.actions if is_demand(action)]
         self.known = {}
+
+    @functools.cached_property
+    def named_types(self):
+        """The sets of types that the actions name."""
+        each = [types for action in self.actions
+                for types in (action.any_variant, action.all_variants, action.only_variants)]
+        return list(filter(None, each))
 
     def deciding(self, kinds):
         """The actions that may decide about labels whose parts are of these kinds, in their order: each may, and the last
