@@ -4,3 +4,8 @@ mod LexemeLemmas
 mod NameLemmas
 mod TokenLemmas
 mod SpanLemmas
+mod HexLemmas
+mod PointLemmas
+mod SetWordLemmas
+mod TextLemmas
+mod BackLemmas

@@ -9,4 +9,5 @@ pub mod Tokens
 pub mod Spans
 pub mod Definitions
 pub mod Classes
+pub mod Canonical
 pub mod inner

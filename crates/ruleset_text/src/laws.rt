@@ -1,18 +1,27 @@
 //! Laws of the definitions, each the contract of a function that does nothing.
-ghost use Rattle.std.specs.Prelude.{◌≡◌, ◌↔◌, [], ◌∷◌, List, Some, None, true, false, codes};
+ghost use Rattle.std.specs.Prelude.{◌≡◌, ◌↔◌, ℕ, [], ◌∷◌, length, List, Some, None, true, false, codes};
 ghost use Rattle.label_patterns.specs.Patterns.{Pattern};
 ghost use Rattle.ruleset_text.specs.declared.token.Token.{Token};
 ghost use Rattle.label_patterns.specs.Patterns as patterns;
+ghost use Rattle.label_patterns.specs.Matches.{HasItsSets};
+ghost use Rattle.ruleset_text.specs.Canonical.{HasPoints, pattern_text};
 ghost use Rattle.ruleset_text.specs.Definitions.{contexts_of, demand_of};
-ghost use Rattle.ruleset_text.specs.Grammar.{SpellsPattern};
-ghost use Rattle.ruleset_text.specs.Names.{is_name};
+ghost use Rattle.ruleset_text.specs.Grammar.{Is, Whole, SpellsPattern};
+ghost use Rattle.ruleset_text.specs.Names.{AreNames, is_name};
 ghost use Rattle.ruleset_text.specs.Reading.{pattern_of};
 ghost use Rattle.ruleset_text.specs.Spans.{span, spans_of};
+ghost use Rattle.ruleset_text.specs.Tokens.{tokens_of};
 
 /// The function that reads a pattern tells exactly what the grammar says; so tokens spell one pattern at most.
 pub fn reading_a_pattern_is_exact()
     ensures exact { (ts : List Token) (p : Pattern) → (pattern_of ts ≡ Some p) ↔ SpellsPattern ts p }
     ensures one { (ts : List Token) (p q : Pattern) → SpellsPattern ts p → SpellsPattern ts q → p ≡ q }
+{}
+
+/// The canonical text of a pattern, cut into tokens, is read as that pattern, where its sets are among those that are named.
+pub fn canonical_text_is_read_back()
+    ensures { (names : List (List ℕ)) (p : Pattern) → AreNames names → HasItsSets (length names) p → HasPoints p → Is Whole p →
+        pattern_of (tokens_of names (pattern_text names p)) ≡ Some p }
 {}
 
 /// Examples, which the definitions compute; one set is defined, with the name A.

@@ -15,7 +15,9 @@ mod tokens;
 
 pub use classes::{has_bad_end, has_bad_point};
 pub use definitions::{Keyword, keyword_of, read_contexts, read_demand, read_name};
-pub use laws::{definitions_compute_the_examples, reading_a_pattern_is_exact};
+pub use laws::{
+    canonical_text_is_read_back, definitions_compute_the_examples, reading_a_pattern_is_exact,
+};
 pub use lexemes::next_lexeme;
 pub use limits::{has_its_sets, is_within, without_atoms};
 pub use names::{Name, is_name, number_of};

@@ -1,0 +1,60 @@
+-- The canonical text of a pattern.
+use Rattle.std.specs.Prelude.{◌≡◌, ℕ, ◌+◌, ◌<◌, ◌/◌, ◌%◌, nat_lt, List, [], ◌∷◌, ◌++◌, length, slice_index_or, IsTrue, if◌then◌else◌}
+use Rattle.std.specs.List.{AllByRecursion}
+use Rattle.idn_text.specs.Points.{is_scalar_value}
+use Rattle.label_patterns.specs.Patterns.{Pattern, Point, Set, Any, Start, End, Place, Group, Optional, Many, Then, Either}
+use Rattle.ruleset_text.specs.declared.token.Token.{Token}
+use Rattle.ruleset_text.specs.declared.token.Token.TheVariants as token
+use Rattle.ruleset_text.specs.Lexemes.{is_word_byte}
+use Rattle.ruleset_text.specs.Tokens.{token_of}
+
+-- the digit of a number below 16: 0 to 9, A to F
+abbrev pub hex_digit : ℕ → ℕ
+hex_digit d = if nat_lt d 10 then 48 + d else 55 + d
+
+-- the last four digits
+abbrev pub four_digits : ℕ → List ℕ
+four_digits c = hex_digit (c / 4096 % 16) ∷ hex_digit (c / 256 % 16) ∷ hex_digit (c / 16 % 16) ∷ hex_digit (c % 16) ∷ []
+
+-- a code point by four digits, or by five or six where it needs them
+unfoldable pub point_text : ℕ → List ℕ
+point_text c =
+    if nat_lt c 65536 then four_digits c else
+    if nat_lt c 1048576 then hex_digit (c / 65536 % 16) ∷ four_digits c else
+    hex_digit (c / 1048576 % 16) ∷ hex_digit (c / 65536 % 16) ∷ four_digits c
+
+-- '@' and the name of the set of this number
+abbrev pub set_text : List (List ℕ) → ℕ → List ℕ
+set_text names n = 64 ∷ slice_index_or names n []
+
+-- one blank between items and on both sides of '/'; none next to parentheses within them, none before '?' and '*'
+abbrev pub pattern_text : List (List ℕ) → Pattern → List ℕ
+pattern_text names (Point c) = point_text c
+pattern_text names (Set n) = set_text names n
+pattern_text names Any = 46 ∷ []
+pattern_text names Start = 94 ∷ []
+pattern_text names End = 36 ∷ []
+pattern_text names Place = 95 ∷ []
+pattern_text names (Group p) = 40 ∷ (pattern_text names p ++ 41 ∷ [])
+pattern_text names (Optional p) = pattern_text names p ++ 63 ∷ []
+pattern_text names (Many p) = pattern_text names p ++ 42 ∷ []
+pattern_text names (Then p q) = pattern_text names p ++ 32 ∷ pattern_text names q
+pattern_text names (Either p q) = pattern_text names p ++ 32 ∷ 47 ∷ 32 ∷ pattern_text names q
+
+-- the word is one word, and its token is this one
+abbrev pub IsWordOf : List (List ℕ) → Token → List ℕ → Type 0
+IsWordOf names t word = (0 < length word) × AllByRecursion (λ c. IsTrue (is_word_byte c)) word × (token_of names word ≡ t)
+
+-- each point of the pattern is a scalar value
+abbrev pub HasPoints : Pattern → Type 0
+HasPoints (Point c) = IsTrue (is_scalar_value c)
+HasPoints (Group p) = HasPoints p
+HasPoints (Optional p) = HasPoints p
+HasPoints (Many p) = HasPoints p
+HasPoints (Then p q) = HasPoints p × HasPoints q
+HasPoints (Either p q) = HasPoints p × HasPoints q
+HasPoints (Set n) = Unit {0}
+HasPoints Any = Unit {0}
+HasPoints Start = Unit {0}
+HasPoints End = Unit {0}
+HasPoints Place = Unit {0}
