@@ -11,8 +11,9 @@ import xml.etree.ElementTree
 
 NAMESPACE = "{urn:ietf:params:xml:ns:lgr-1.0}"
 ALLOWED = ("valid", "allocatable", "activated")
-# Section 7.6, and the reading of an unknown type as one that doesn't matter (section 8.3).
+# Section 7.6. A type that no action names doesn't matter (section 8.3).
 DEFAULT_ACTIONS = [
+    {"disp": "invalid", "any-variant": "invalid"},
     {"disp": "blocked", "any-variant": "blocked"},
     {"disp": "allocatable", "any-variant": "allocatable"},
     {"disp": "activated", "all-variants": "activated"},
@@ -30,7 +31,7 @@ class PlainRuleset:
         for element in root.iter():
             element.tag = element.tag.replace(NAMESPACE, "")
         # `parts` are what labels are made of to try the ruleset: entries, of a range its ends, letters of sequences.
-        self.entries, self.tags, self.parts = {}, {}, set()
+        self.entries, self.tags, self.parts, self.known = {}, {}, set(), {}
         for element in root.find("data"):
             self.add(element)
         rules = root.find("rules")
@@ -120,7 +121,11 @@ class PlainRuleset:
 
     def matches(self, rule, label, anchor=None):
         """Whether some part of the label matches the rule; with an anchor, the part around that place."""
-        return any(self.ends(list(self.rules[rule]), label, start, anchor) for start in range(len(label) + 1))
+        asked = rule, label, anchor
+        if asked not in self.known:
+            self.known[asked] = any(self.ends(list(self.rules[rule]), label, start, anchor)
+                                    for start in range(len(label) + 1))
+        return self.known[asked]
 
     def holds(self, conditions, label, place):
         return all(self.matches(rule, label, place) == (word == "when") for word, rule in conditions)

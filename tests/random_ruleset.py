@@ -11,13 +11,17 @@ class RandomRuleset:
 
     def __init__(self, seed):
         self.random = random.Random(seed)
-        points = self.random.sample(self.POINTS, self.random.choice((2, 3, 4)))
-        sequences = [(point,) for point in points]
-        sequences += [tuple(self.random.choices(points, k=2)) for _ in range(self.random.choice((0, 0, 1, 1, 2)))]
-        self.sequences = list(dict.fromkeys(sequences))
+        self.sequences = self.some_sequences()
         self.has_conditions, self.has_rules = self.random.random() < 0.3, self.random.random() < 0.3
         self.data = "\n".join(self.char(source) for source in self.sequences)
         self.rules = "\n".join(filter(None, [*self.patterns(), *self.actions()]))
+
+    def some_sequences(self):
+        """Code points, and sequences of two of them."""
+        points = self.random.sample(self.POINTS, self.random.choice((2, 3, 4)))
+        sequences = [(point,) for point in points]
+        sequences += [tuple(self.random.choices(points, k=2)) for _ in range(self.random.choice((0, 0, 1, 1, 2)))]
+        return list(dict.fromkeys(sequences))
 
     def maybe(self, chance, text):
         return text if self.random.random() < chance else ""

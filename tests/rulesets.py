@@ -534,7 +534,7 @@ def faults_of_the_file(folder):
         ("<char/>", "line 2: char has no 'cp'"),
         ("<char", "line 3: no XML: not well-formed (invalid token)"),
         ("", "no entry in it"),
-        ('<char cp="0061" notwhen="r"/>', "line 2: 'notwhen' is not an attribute of 'char' in RFC 7940"),
+        ('<char cp="0061" notwhen="r"/>', "line 2: 'notwhen' is not an attribute of 'char' in RFC 7940 here"),
         ('<char cp="0061"><variant cp="0062"/></char>', "line 2: 'variant' is not an element of RFC 7940 here"),
         ('<x:char xmlns:x="urn:x" cp="0061"/>', "line 2: '{urn:x}char' is not an element of RFC 7940 here"),
         ('<char cp="0061" when="p" not-when="q"/>', "line 2: char has both 'when' and 'not-when'"),
@@ -547,7 +547,7 @@ def faults_of_the_file(folder):
         (rule("<anchors/>"), "line 4: 'anchors' is not an element of RFC 7940 here"),
         (('<char cp="0061"/>', '<action disp="invalid" match="r"/>'), "line 4: no rule has the name 'r'"),
         (('<char cp="0061"/>', '<action disp="invalid" if="r"/>'),
-         "line 4: 'if' is not an attribute of 'action' in RFC 7940"),
+         "line 4: 'if' is not an attribute of 'action' in RFC 7940 here"),
     ):
         data = (data,) if isinstance(data, str) else data
         expect_refusal(ruleset(folder, *data), ["--accept-more"], fault + "\n")
@@ -587,7 +587,7 @@ def files_and_words_that_cannot_be_used(folder):
     expect_refusal(os.path.join(folder, "none.xml"), [], "No such file or directory\n", 2)
     expect_refusal(folder, [], "Is a directory\n", 2)
     path = stored("letters-digits-hyphen.xml")
-    for options in (["--leave-out"], ["--version", "3"], ["--version", "1", "--close-gaps"], ["--accept"], ["x.xml"]):
+    for options in (["--leave-out"], ["--version", "4"], ["--version", "1", "--close-gaps"], ["--accept"], ["x.xml"]):
         output, told, status = made(path, *options)
         assert (output, status) == ("", 2) and "Traceback" not in told, (options, told, status)
     # Another program of the same name, and none.

@@ -6,6 +6,7 @@ the built program. The last line is 'N passed, M failed', and the exit status is
 import functools
 import os
 import re
+import subprocess
 import sys
 
 from program import ROOT, run, run_tests, table_file
@@ -14,6 +15,8 @@ sys.path += [os.path.join(ROOT, "conformance"), os.path.join(ROOT, "tables")]
 
 import ruleset_rows
 from notation import canonical, reading
+from notation.gaps import gaps
+from ruleset_labels import RulesetLabels
 from second_run import Run, Unknown
 
 DISALLOWED, UNASSIGNED = 10, 11
@@ -94,7 +97,66 @@ def program_answers(folder):
         assert found == wanted, (words, given, files["table"][:400], told(found), told(wanted))
 
 
-TESTS = [second_writing_answers, second_writing_spells, program_answers]
+# The rulesets of tables/rulesets/: words that are to be accepted, labels that are not, each with its number, and variants that
+# are allocatable, blocked, or none.
+EXAMPLES = {
+    "devanagari.txt": {
+        "accepted": "हिन्दी भारत मराठी नेपाली क़लम गाँव संगठन दुःख ऑनलाइन फ़िल्म पुस्तक ज़्यादा काठमाडौँ कऱ्हाड वऱ्याड १२३ वेब2 ई-मेल",
+        "refused": {"काा": 41, "कंा": 41, "अा": 41, "कअ्": 41, "क्अ": 41, "घ़": 41, "क1१": 41, "कः्": 41, "ऱक": 40, "कa": 40},
+        "variants": {"वेब2": {"वेब2": True, "वेब२": False}, "12": {"12": True, "१२": False, "1२": None}},
+    },
+    "chinese.txt": {
+        "accepted": "中国 中國 学校 學校 a1",
+        "refused": {"あ": 40},
+        "variants": {"国学": {"国学": True, "國學": True, "国學": False, "國学": False},
+                     "国學": {"国學": True, "国学": True, "國學": True, "國学": False}},
+    },
+    "latin.txt": {
+        "accepted": "paypal x-ray 4you",
+        "refused": {"раураl": 40, "а": 40, "\u03B1": 40, "\u00E4": 40},
+        "variants": {"ac": {"ac": True, "\u0430c": False, "\u0430\u0441": False, "\u03B1\u0441": False, "\u0430d": None}},
+    },
+}
+
+
+def example_rulesets_hold(folder):
+    """Each is read, lacks no pair, and says of words what its script or its head says. What can't be registered isn't asked."""
+    names = os.listdir(os.path.join(ROOT, "tables", "rulesets"))
+    assert sorted(names) == sorted(EXAMPLES), names
+    for name, wanted in EXAMPLES.items():
+        with open(os.path.join(ROOT, "tables", "rulesets", name), "rb") as file:
+            ruleset = reading.read(file.read(), BY_PROGRAM.may_stand)
+        assert gaps(ruleset.variants_of()) == [], name
+        labels = RulesetLabels(ruleset)
+        refused = {word: labels.refusal(word) for word in wanted["accepted"].split()} | {
+            word: labels.refusal(word) for word in wanted["refused"]}
+        assert {word: number for word, number in refused.items() if number} == wanted["refused"], (name, refused)
+        assert not any(BY_PROGRAM.first_fault(word) for word in wanted["accepted"].split()), name
+        for label, variants in wanted["variants"].items():
+            allocatable, valid = labels.allocatable(label), set(filter(labels.is_valid, labels.spelled(label)))
+            found = {variant: variant in allocatable if variant in valid else None for variant in variants}
+            assert found == variants, (name, label, found)
+
+
+def chinese_ruleset_is_made_anew(folder):
+    """tables/chinese.py makes it from tables/han.txt."""
+    path = os.path.join(ROOT, "tables", "rulesets", "chinese.txt")
+    with open(path, "rb") as file:
+        before = file.read()
+    words = ["cp", "-r", os.path.join(ROOT, "tables"), folder]
+    subprocess.run(words, check=True)
+    subprocess.run([sys.executable, os.path.join(folder, "tables", "chinese.py")], check=True)
+    with open(os.path.join(folder, "tables", "rulesets", "chinese.txt"), "rb") as file:
+        assert file.read() == before
+
+
+TESTS = [
+    second_writing_answers,
+    second_writing_spells,
+    program_answers,
+    example_rulesets_hold,
+    chinese_ruleset_is_made_anew,
+]
 
 if __name__ == "__main__":
     sys.exit(run_tests("version_3", TESTS))

@@ -8,10 +8,16 @@ from .ruleset import point_of
 
 OPERATORS = {"union": "union", "intersection": "intersection", "difference": "difference",
              "symmetric-difference": "symmetric_difference"}
-MARKS = ("Mn", "Mc", "Me")
-# The long names of the categories that rules are known to ask for; a short name is its own.
-CATEGORIES = {"m": MARKS, "mark": MARKS, "combiningmark": MARKS, "nonspacingmark": ("Mn",), "spacingmark": ("Mc",),
-              "enclosingmark": ("Me",)}
+# The categories by their names, in lower case and without what stands between the words; a short name is its own.
+LETTERS, CASED = ("Lu", "Ll", "Lt", "Lm", "Lo"), ("Lu", "Ll", "Lt")
+MARKS, NUMBERS = ("Mn", "Mc", "Me"), ("Nd", "Nl", "No")
+CATEGORIES = {
+    "l": LETTERS, "letter": LETTERS, "lc": CASED, "casedletter": CASED, "uppercaseletter": ("Lu",),
+    "lowercaseletter": ("Ll",), "titlecaseletter": ("Lt",), "modifierletter": ("Lm",), "otherletter": ("Lo",),
+    "m": MARKS, "mark": MARKS, "combiningmark": MARKS, "nonspacingmark": ("Mn",), "spacingmark": ("Mc",),
+    "enclosingmark": ("Me",), "n": NUMBERS, "number": NUMBERS, "decimalnumber": ("Nd",), "digit": ("Nd",),
+    "letternumber": ("Nl",), "othernumber": ("No",),
+}
 SHORT_CATEGORY = re.compile(r"L[ulmto]|M[nce]|N[dlo]|P[cdseifo]|S[mcko]|Z[slp]|C[cfos]")
 
 
@@ -55,6 +61,25 @@ class Classes:
             first, last = point_of(first, element.line), point_of(last or first, element.line)
             points |= self.points.intersection(range(first, last + 1))
         return frozenset(points)
+
+    def reason_of(self, element):
+        """Why the code points of a class or of a set operator aren't known, in words."""
+        properties = [each.attributes["property"] for each in self.all_within(element, set()) if "property" in each.attributes]
+        unknown = [text for text in properties if self.with_property(text) is None]
+        if not unknown:
+            return "a set operator without its sets"
+        if not self.are_all_known:
+            return f"the property '{unknown[0]}', and this Python lacks code points of the ruleset: a newer one has them"
+        return f"the property '{unknown[0]}', and only General_Category and Canonical_Combining_Class are known"
+
+    def all_within(self, element, seen):
+        """The element and those of which it is made; those with names are seen once."""
+        yield element
+        name = element.attributes.get("by-ref")
+        parts = element.children if name is None else [] if name in seen else [self.names.elements[name]]
+        seen.add(name)
+        for part in parts:
+            yield from self.all_within(part, seen)
 
     def with_property(self, text):
         """The code points of a General_Category or a Canonical_Combining_Class; no other property is known."""

@@ -4,11 +4,15 @@ import argparse
 import contextlib
 import os
 
+from notation.gaps import gaps as pairs_missing
+
 from . import gaps, rfc4290, rfc7940
 from .convert import ALLOCATABLE, Converter
-from .losses import Loss, Losses, counted
+from .exact import Exact
+from .losses import Loss, Losses, Unsayable, counted
 from .program import Program, Unusable
 from .ruleset import Fault
+from .ruleset_text import RulesetText
 from .table import check_limits, check_size, check_versions
 from .writing import text_of
 
@@ -23,10 +27,11 @@ def options_of(words):
     parser = argparse.ArgumentParser(description="Makes a variant table from a ruleset of RFC 7940 or RFC 4290.",
                                      allow_abbrev=False)
     parser.add_argument("file", metavar="FILE")
-    parser.add_argument("--version", type=int, choices=(1, 2), default=2,
-                        help="of the table's notation; version 1 can't say that a variant is blocked [default: 2]")
-    parser.add_argument("--untyped", choices=(BLOCKED, ALLOCATABLE), default=BLOCKED,
-                        help="what variants without a type are [default: blocked]")
+    parser.add_argument("--version", type=int, choices=(1, 2, 3), default=2,
+                        help="of the table's notation; version 1 can't say that a variant is blocked, and idn2 doesn't "
+                             "read version 3 yet [default: 2]")
+    parser.add_argument("--untyped", choices=(BLOCKED, ALLOCATABLE),
+                        help="what variants without a type are [default: blocked; in version 3 by the actions, for RFC 7940]")
     parser.add_argument("--close-gaps", action="store_true",
                         help="add the reverse and transitive pairs that are missing, each blocked")
     parser.add_argument("--accept-more", action="store_true",
@@ -35,6 +40,8 @@ def options_of(words):
     options = parser.parse_args(words)
     if options.close_gaps and options.version == 1:
         parser.error("--close-gaps adds blocked variants, which version 1 can't say")
+    if options.version == 3 and (options.close_gaps or options.accept_more):
+        parser.error("version 3 says what the ruleset says: it has no --close-gaps and no --accept-more")
     return options
 
 
@@ -54,21 +61,40 @@ def read(path):
 def table_of(ruleset, program, options, losses):
     """The text of the table, as good as it can be said."""
     refusals = program.refusals(ruleset.points())
-    entries = Converter(ruleset, refusals, options.untyped, losses).table_entries()
+    entries = Converter(ruleset, refusals, options.untyped or BLOCKED, losses).table_entries()
     if not entries:
         raise Fault(None, "\n".join(["no entry of it can stand in a table", *losses.lines(Loss.NARROWER)]))
     added = gaps.close(entries, losses) if options.close_gaps else 0
     check_limits(entries, losses)
     check_versions(entries, options.version, losses)
-    head = [f"Made by tables/from_lgr.py from {os.path.basename(options.file)} ({ruleset.format})."]
-    if ruleset.facts:
-        head.append("It says of itself: " + "; ".join(ruleset.facts) + ".")
+    head = head_of(ruleset, options)
     if options.close_gaps:
         head.append(f"To close gaps {counted(added, 'pair')} {'was' if added == 1 else 'were'} added, each blocked.")
     head += losses.lines(Loss.CONDITION, Loss.RULE, Loss.NARROWER)
     text = text_of(entries, options.version, head, losses.warning())
     check_size(text, entries, losses)
     return text, added
+
+
+def head_of(ruleset, options):
+    head = [f"Made by tables/from_lgr.py from {os.path.basename(options.file)} ({ruleset.format})."]
+    return head + (["It says of itself: " + "; ".join(ruleset.facts) + "."] if ruleset.facts else [])
+
+
+def ruleset_of(ruleset, program, options, losses):
+    """The text of a ruleset of version 3, and how many gaps it has; what no ruleset says is among the losses."""
+    refusals = program.refusals(ruleset.points())
+    untyped = options.untyped or (None if ruleset.is_closed else BLOCKED)
+    exact = Exact(ruleset, refusals, untyped, losses)
+    try:
+        entries = exact.entries()
+    except Unsayable as error:
+        losses.refuse(error.line, "the ruleset", error.reason)
+    if losses.count(Loss.UNSAYABLE):
+        return b"", 0
+    text = RulesetText(head_of(ruleset, options) + losses.lines(Loss.NARROWER), exact.definitions, entries)
+    read_again = text.read(exact.repertoire.possible.__contains__, losses)
+    return text.encoded(), len(pairs_missing(read_again.variants_of())) if read_again else 0
 
 
 def refusal_of(losses, options):
@@ -82,26 +108,32 @@ def refusal_of(losses, options):
     return lines
 
 
-def convert(options, tell):
+def made(options, tell):
+    """The text of the table; None if there is no such table, which is told."""
     ruleset = read(options.file)
-    program, losses = Program(options.idn2), Losses()
-    text, added = table_of(ruleset, program, options, losses)
+    program, losses, added = Program(options.idn2), Losses(), 0
+    if options.version == 3:
+        text, open_gaps = ruleset_of(ruleset, program, options, losses)
+    else:
+        text, added = table_of(ruleset, program, options, losses)
     refusal = refusal_of(losses, options)
     if refusal:
         tell("\n".join(refusal))
-        return UNSAYABLE
-    open_gaps = program.gaps(text)
+        return None
+    if options.version != 3:
+        open_gaps = program.gaps(text)
     if options.close_gaps and open_gaps:
         raise Unusable(f"{program.path} finds {counted(open_gaps, 'gap')} in the table")
     for line in losses.lines(Loss.NARROWER, Loss.CONDITION, Loss.RULE):
         tell(line)
     if open_gaps:
-        tell(f"the table has {counted(open_gaps, 'gap')}: idn2 --check-table prints them")
+        printing = "tables/check.py" if options.version == 3 else "idn2 --check-table"
+        tell(f"the table has {counted(open_gaps, 'gap')}: {printing} prints them")
     if options.close_gaps:
         tell(f"{counted(added, 'pair')} added, each blocked")
     if losses.warning():
         tell(losses.warning())
-    return write(text)
+    return text
 
 
 def write(text):
@@ -125,7 +157,8 @@ def main(words):
             os.write(STANDARD_ERROR, lines.encode("utf-8", "surrogateescape"))
 
     try:
-        return convert(options, tell)
+        text = made(options, tell)
+        return UNSAYABLE if text is None else write(text)
     except Fault as fault:
         tell(str(fault))
         return UNSAYABLE

@@ -1,5 +1,6 @@
 """What a table doesn't say of a ruleset, and how that is told."""
 
+import contextlib
 import enum
 
 # So many lines of the file are named of each reason.
@@ -15,6 +16,14 @@ class Loss(enum.Enum):
     UNSAYABLE = "there is no such table"
 
 
+class Unsayable(Exception):
+    """What a table can't say, on a line of the ruleset."""
+
+    def __init__(self, line, reason):
+        super().__init__(reason)
+        self.line, self.reason = line, reason
+
+
 class Losses:
     def __init__(self):
         # Of each kind the reasons, each with the (line, name) of the elements that it holds for, each of them once.
@@ -22,6 +31,21 @@ class Losses:
 
     def add(self, loss, line, name, reason):
         self.elements[loss].setdefault(reason, {})[(line, name)] = None
+
+    def tell(self, line, name, reason):
+        """What is left out, or makes no difference."""
+        self.add(Loss.NARROWER, line, name, reason)
+
+    def refuse(self, line, name, reason):
+        self.add(Loss.UNSAYABLE, line, name, reason)
+
+    @contextlib.contextmanager
+    def refusing(self, name):
+        """What turns out to be unsayable is told under this name."""
+        try:
+            yield
+        except Unsayable as error:
+            self.refuse(error.line, name, error.reason)
 
     def count(self, loss):
         return sum(map(len, self.elements[loss].values()))

@@ -11,7 +11,7 @@ import re
 
 from .classes import Classes
 from .references import References
-from .ruleset import Fault, point_of
+from .ruleset import Fault, points_of
 
 START, END, ANCHOR = "start", "end", "anchor"
 # Longer rules are taken for unknown.
@@ -71,7 +71,7 @@ class Patterns:
         return [(step_of(element, self.classes.set_of(element)),)]
 
     def steps_of_char(self, element):
-        points = [point_of(digits, element.line) for digits in element.needed("cp").split()]
+        points = points_of(element)
         if len(points) == 1:
             return (step_of(element, self.points & set(points)),)
         needs_no_count(element)

@@ -4,31 +4,39 @@ An element or an attribute that the standard has not is a fault: it may be a con
 """
 
 from .dispositions import Action
-from .ruleset import Condition, Entry, Fault, Ruleset, Variant, check_sources, point_of, spelled
+from .ruleset import Condition, Entry, Fault, Ruleset, Variant, check_sources, point_of, points_of, spelled
 from .xml_tree import NAMESPACE, root_of
 
 NOTES = {"comment", "ref"}
 SETS = ("union", "intersection", "difference", "symmetric-difference", "complement")
-PATTERNS = {
-    "class": {"name", "from-tag", "property", "by-ref", "count"} | NOTES,
-    **{name: {"name", "count"} | NOTES for name in SETS},
-    "rule": {"name", "by-ref", "count"} | NOTES,
+CONTENTS_OF_CLASS = {"by-ref", "from-tag", "property"}
+ATTRIBUTES_OF_META = {
+    **{name: {"comment"} for name in ("version", "date", "language", "unicode-version", "validity-start", "validity-end")},
+    **{name: {"type", "comment"} for name in ("scope", "description")},
+    "references": {"comment"},
 }
+ATTRIBUTES_OF_REFERENCES = {"reference": {"id", "comment"}}
 ATTRIBUTES_OF_DATA = {
     "char": {"cp", "tag", "when", "not-when"} | NOTES,
     "range": {"first-cp", "last-cp", "tag", "when", "not-when"} | NOTES,
 }
 ATTRIBUTES_OF_VARIANTS = {"var": {"cp", "type", "when", "not-when"} | NOTES}
+# What has a name, and what stands within rules and within sets without one.
 ATTRIBUTES_OF_RULES = {
     "action": {"disp", "match", "not-match", "any-variant", "all-variants", "only-variants"} | NOTES,
-    **PATTERNS,
+    "class": {"name"} | CONTENTS_OF_CLASS | NOTES,
+    **{name: {"name"} | NOTES for name in (*SETS, "rule")},
 }
+ATTRIBUTES_WITHIN_SETS = {"class": CONTENTS_OF_CLASS | NOTES, **{name: NOTES for name in SETS}}
 ATTRIBUTES_WITHIN_RULES = {
     "char": {"cp", "count"} | NOTES,
-    **{name: {"count"} | NOTES for name in ("any", "choice")},
+    "class": {"count"} | CONTENTS_OF_CLASS | NOTES,
+    "rule": {"by-ref", "count"} | NOTES,
+    **{name: {"count"} | NOTES for name in ("any", "choice", *SETS)},
     **{name: NOTES for name in ("start", "end", "anchor", "look-behind", "look-ahead")},
-    **PATTERNS,
 }
+WITH_PARTS = ("rule", "choice", "look-behind", "look-ahead")
+WITH_TEXT = ("class", "reference", *(name for name in ATTRIBUTES_OF_META if name != "references"))
 FACTS = ("version", "date", "language", "scope", "unicode-version")
 
 
@@ -41,20 +49,33 @@ def read(data):
         if element.name not in parts or parts[element.name]:
             raise Fault(element.line, f"'{element.name}' is not an element of RFC 7940 here, or is given twice")
         parts[element.name] = element
+    check_each([root], {"lgr": set()})
+    check_each(root.children, {name: set() for name in parts})
     entries = [entry for element in children(parts["data"]) for entry in entries_of(element)]
     check_sources(entries)
     rules = children(parts["rules"])
-    for element in rules:
-        check_rule(element, ATTRIBUTES_OF_RULES)
+    check_rules(rules, ATTRIBUTES_OF_RULES)
     actions = [action_of(element) for element in rules if element.name == "action"]
     definitions = [element for element in rules if element.name != "action"]
-    texts = [(each.name, " ".join(each.text.split())) for each in children(parts["meta"])]
-    facts = [f"{name} {text}" for name, text in texts if name in FACTS and text]
-    return Ruleset("RFC 7940", entries, actions, definitions, facts)
+    return Ruleset("RFC 7940", entries, actions, definitions, facts_of(children(parts["meta"])))
+
+
+def facts_of(elements):
+    """What a ruleset says of itself."""
+    check_each(elements, ATTRIBUTES_OF_META)
+    for element in elements:
+        check_each(element.children, ATTRIBUTES_OF_REFERENCES if element.name == "references" else {})
+    texts = [(each.name, " ".join(each.text.split())) for each in elements]
+    return [f"{name} {text}" for name, text in texts if name in FACTS and text]
 
 
 def children(element):
     return element.children if element else []
+
+
+def check_each(elements, attributes):
+    for element in elements:
+        check_element(element, attributes)
 
 
 def check_element(element, attributes):
@@ -63,15 +84,31 @@ def check_element(element, attributes):
         raise Fault(element.line, f"'{element.name}' is not an element of RFC 7940 here")
     more = sorted(set(element.attributes) - attributes[element.name])
     if more:
-        raise Fault(element.line, f"'{more[0]}' is not an attribute of '{element.name}' in RFC 7940")
+        raise Fault(element.line, f"'{more[0]}' is not an attribute of '{element.name}' in RFC 7940 here")
     if "when" in element.attributes and "not-when" in element.attributes:
         raise Fault(element.line, f"{element.name} has both 'when' and 'not-when'")
+    if element.text.strip() and element.name not in WITH_TEXT:
+        raise Fault(element.line, f"{element.name} has a text within it")
 
 
-def check_rule(element, attributes):
-    check_element(element, attributes)
-    for child in element.children:
-        check_rule(child, ATTRIBUTES_WITHIN_RULES)
+def check_rules(elements, attributes):
+    """Rules, classes and actions, and what is within them."""
+    check_each(elements, attributes)
+    for element in elements:
+        if element.name in WITH_PARTS:
+            check_rules(element.children, ATTRIBUTES_WITHIN_RULES)
+        elif element.name in SETS:
+            check_rules(element.children, ATTRIBUTES_WITHIN_SETS)
+        else:
+            has_nothing_within(element)
+        ways = [name for name in element.attributes if name in CONTENTS_OF_CLASS]
+        if len(ways) + bool(element.children or element.text.strip()) > 1:
+            raise Fault(element.line, f"{element.name} says in two ways what it is")
+
+
+def has_nothing_within(element):
+    if element.children:
+        raise Fault(element.children[0].line, f"'{element.children[0].name}' is not an element of RFC 7940 here")
 
 
 def entries_of(element):
@@ -102,6 +139,7 @@ def entries_of_range(element, tags):
 
 def variant_of(element):
     check_element(element, ATTRIBUTES_OF_VARIANTS)
+    has_nothing_within(element)
     return Variant(element.line, points_of(element), element.attributes.get("type"), condition_of(element))
 
 
@@ -115,18 +153,12 @@ def check_variants(entry):
         others.append(variant.condition)
 
 
-def points_of(element):
-    return tuple(point_of(digits, element.line) for digits in element.needed("cp").split())
-
-
 def condition_of(element):
     return next((Condition(word, element.attributes[word]) for word in ("when", "not-when")
                  if word in element.attributes), None)
 
 
 def action_of(element):
-    if element.children:
-        raise Fault(element.line, "an action has nothing within it")
     types = (element.attributes.get(name) for name in ("any-variant", "all-variants", "only-variants"))
     types = (None if names is None else frozenset(names.split()) for names in types)
     match, not_match = element.attributes.get("match"), element.attributes.get("not-match")

@@ -91,3 +91,8 @@ def point_of(digits, line):
     if point > 0x10FFFF or 0xD800 <= point <= 0xDFFF:
         raise Fault(line, f"{digits} is not a scalar value")
     return point
+
+
+def points_of(element):
+    """The code points of an element's 'cp'."""
+    return tuple(point_of(digits, element.line) for digits in element.needed("cp").split())

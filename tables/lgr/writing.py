@@ -5,13 +5,13 @@ import textwrap
 from .ruleset import spelled
 from .table import canonical_line
 
-VERSION_LINE = "%version 2\n"
+VERSION_LINES = {1: "", 2: "%version 2\n", 3: "%version 3\n"}
 MOST_COLUMNS = 118
 
 
 def text_of(entries, version, head, warning):
     """Version line, head, entries, and the warning again as the last line if there is one."""
-    lines = [VERSION_LINE] if version == 2 else []
+    lines = [VERSION_LINES[version]]
     lines += [comment(text) for text in ([warning] if warning else []) + head]
     lines += map(line_of, groups_of(entries) if version == 2 else ([entry] for entry in entries))
     lines += [comment(warning)] if warning else []

@@ -1,0 +1,125 @@
+-- What stands before and behind a place.
+use Rattle.std.proofs.Common.{◌≡◌, ℕ, ◌≤◌, inl, inr, true, false, not, List, ◌++◌, length, refl, sym, ◌∙◌, arith}
+use Rattle.std.specs.Prelude.{◌↔◌}
+use Rattle.label_patterns.specs.declared.span.Span.{Span}
+use Rattle.label_patterns.specs.Laws.{seen, HasNoEndBefore, BeforeStays}
+use Rattle.label_patterns.specs.Patterns.{Pattern, Point, Set, Any, Start, End, Place, Group, Optional, Many, Then, Either}
+use Rattle.label_patterns.specs.Places.{Has, AreEnds, AreStarts}
+use Rattle.label_patterns.specs.Matches.{Seen, Matches}
+use Rattle.label_patterns.specs.Rules.{is_place, Before, EndsBefore, BeginsBehind}
+use Rattle.label_patterns.proofs.LawLemmas.{parts, stay}
+
+before-parts : (p : Pattern) (s : Seen) (k i : ℕ) → Before s p k i → k ≤ i
+before-parts (Point c) s k i h = absurd h
+before-parts (Set n) s k i h = absurd h
+before-parts Any s k i h = absurd h
+before-parts Start s k i h = absurd h
+before-parts End s k i h = absurd h
+before-parts Place s k i h = omega (arith, h)
+before-parts (Group p) s k i h = absurd h
+before-parts (Optional p) s k i h = absurd h
+before-parts (Many p) s k i h = absurd h
+before-parts (Then p q) s k i h = elim h [
+  | inl b ↦ omega (arith, b.1)
+  | inr b ↦ (let first = (parts p s k b.0 b.1).0 in let rest = before-parts q s b.0 i b.2 in omega (arith, first, rest))
+]
+before-parts (Either p q) s k i h = absurd h
+
+-- with all places as the start
+pub from-all : (p : Pattern) (s : Seen) (len all found : ℕ) → len ≡ length s.label → ((q : ℕ) → Has all q ↔ (q ≤ len))
+    → ((i : ℕ) → Has found i ↔ ((k : ℕ) × Has all k × Before s p k i)) → (i : ℕ) → i ≤ length s.label → Has found i ↔ EndsBefore s p i
+from-all p s len all found is all_are found_are i l = (
+  λ h. let b = (found_are i).0 h in (b.0, b.2),
+  λ h. (found_are i).1 (h.0, (all_are h.0).1 (let b = before-parts p s h.0 i h.1 in omega (arith, b, l, is)), h.1),
+)
+
+-- an item before '_'
+pub item-before : (p q : Pattern) (s : Seen) (places ends found : ℕ) → is_place p ≡ false → AreEnds (Matches s p) places ends
+    → ((i : ℕ) → Has found i ↔ ((k : ℕ) × Has ends k × Before s q k i)) → (i : ℕ) → Has found i ↔ ((k : ℕ) × Has places k × Before s (Then p q) k i)
+item-before p q s places ends found other are found_are i = (
+  λ h.
+      let b = (found_are i).0 h in
+      let e = (are b.0).0 b.1 in
+      (e.0, e.1, inr (b.0, e.2, b.2)),
+  λ h. elim h.2 [
+    | inl place ↦ absurd (let e : true ≡ false = sym place.0 ∙ other in cc)
+    | inr b ↦ (found_are i).1 (b.0, (are b.0).1 (h.0, h.1, b.1), b.2)
+  ],
+)
+
+-- what stands behind '_' at the end of a context: nothing
+pub none-behind : (s : Seen) (len all : ℕ) → len ≡ length s.label → ((q : ℕ) → Has all q ↔ (q ≤ len)) → (j : ℕ) → j ≤ length s.label → Has all j ↔ BeginsBehind s Place j
+none-behind s len all is are j l = (λ h. (j, refl), λ h. (are j).1 (omega (arith, is, l)))
+
+-- the items behind it
+pub items-behind : (p q : Pattern) (s : Seen) (len all found : ℕ) → is_place p ≡ true → len ≡ length s.label → ((i : ℕ) → Has all i ↔ (i ≤ len))
+    → AreStarts (Matches s q) all found → (j : ℕ) → j ≤ length s.label → Has found j ↔ BeginsBehind s (Then p q) j
+items-behind p q s len all found place is all_are are j l = (
+  λ h. let b = (are j).0 h in (b.0, inl (place, b.2)),
+  λ h. elim h.1 [
+    | inl b ↦ (are j).1 (h.0, (all_are h.0).1 (let k = (parts q s j h.0 b.1).1 l in omega (arith, k, is)), b.1)
+    | inr b ↦ absurd (let e : not (is_place p) ≡ true = b.0 in cc)
+  ],
+)
+
+-- an item before it is passed over
+pub item-passed : (p q : Pattern) (s : Seen) (found : ℕ) → is_place p ≡ false
+    → ((j : ℕ) → j ≤ length s.label → Has found j ↔ BeginsBehind s q j) → (j : ℕ) → j ≤ length s.label → Has found j ↔ BeginsBehind s (Then p q) j
+item-passed p q s found other are j l = (
+  λ h. let b = (are j l).0 h in (b.0, inr (let e : not (is_place p) ≡ true = cc in e, b.1)),
+  λ h. elim h.1 [
+    | inl b ↦ absurd (let e : true ≡ false = sym b.0 ∙ other in cc)
+    | inr b ↦ (are j l).1 (h.0, b.1)
+  ],
+)
+
+place-alone : (p : Pattern) (s : Seen) (i j : ℕ) → is_place p ≡ true → Matches s p i j → ⊥
+place-alone (Point c) s i j e h = cc
+place-alone (Set n) s i j e h = cc
+place-alone Any s i j e h = cc
+place-alone Start s i j e h = cc
+place-alone End s i j e h = cc
+place-alone Place s i j e h = h
+place-alone (Group p) s i j e h = cc
+place-alone (Optional p) s i j e h = cc
+place-alone (Many p) s i j e h = cc
+place-alone (Then p q) s i j e h = cc
+place-alone (Either p q) s i j e h = cc
+
+-- one way, and the way back
+abbrev Stays : Pattern → List (List Span) → List ℕ → List ℕ → ℕ → ℕ → Type 0
+Stays p sets label more k i = Before (seen sets label) p k i ↔ Before (seen sets (label ++ more)) p k i
+
+before-stays : (p : Pattern) (sets : List (List Span)) (label more : List ℕ) (k i : ℕ) → HasNoEndBefore p → i ≤ length label → Stays p sets label more k i
+before-stays (Point c) sets label more k i none l = (λ h. h, λ h. h)
+before-stays (Set n) sets label more k i none l = (λ h. h, λ h. h)
+before-stays Any sets label more k i none l = (λ h. h, λ h. h)
+before-stays Start sets label more k i none l = (λ h. h, λ h. h)
+before-stays End sets label more k i none l = (λ h. h, λ h. h)
+before-stays Place sets label more k i none l = (λ h. h, λ h. h)
+before-stays (Group p) sets label more k i none l = (λ h. h, λ h. h)
+before-stays (Optional p) sets label more k i none l = (λ h. h, λ h. h)
+before-stays (Many p) sets label more k i none l = (λ h. h, λ h. h)
+before-stays (Then p q) sets label more k i none l = (
+  λ h. elim h [
+    | inl b ↦ inl b
+    | inr b ↦ elim none [
+      | inl place ↦ absurd (place-alone p (seen sets label) k b.0 place b.1)
+      | inr less ↦ (let m : b.0 ≤ i = before-parts q (seen sets label) b.0 i b.2 in inr (b.0, (stay p sets label more k b.0 less.0 (omega (arith, m, l))).0 b.1, (before-stays q sets label more b.0 i less.1 l).0 b.2))
+    ]
+  ],
+  λ h. elim h [
+    | inl b ↦ inl b
+    | inr b ↦ elim none [
+      | inl place ↦ absurd (place-alone p (seen sets (label ++ more)) k b.0 place b.1)
+      | inr less ↦ (let m : b.0 ≤ i = before-parts q (seen sets (label ++ more)) b.0 i b.2 in inr (b.0, (stay p sets label more k b.0 less.0 (omega (arith, m, l))).1 b.1, (before-stays q sets label more b.0 i less.1 l).1 b.2))
+    ]
+  ],
+)
+before-stays (Either p q) sets label more k i none l = (λ h. h, λ h. h)
+
+pub stays-before : BeforeStays
+stays-before p sets label more i none l = (
+  λ h. (h.0, (before-stays p sets label more h.0 i none l).0 h.1),
+  λ h. (h.0, (before-stays p sets label more h.0 i none l).1 h.1),
+)

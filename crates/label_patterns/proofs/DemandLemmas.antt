@@ -1,0 +1,32 @@
+-- A pattern occurs where the set of its ends is not empty.
+use Rattle.std.proofs.Common.{◌≡◌, ℕ, ◌≤◌, ◌<◌, Bool, true, false, not, eqb, length, refl, sym, ap, ◌∙◌, subst, arith}
+use Rattle.std.specs.Prelude.{◌↔◌}
+use Rattle.std.proofs.lemmas.Bool.{eqb-true, eq-eqb}
+use Rattle.label_patterns.specs.Patterns.{Pattern}
+use Rattle.label_patterns.specs.Places.{Has, AreEnds}
+use Rattle.label_patterns.specs.Matches.{Seen, Matches}
+use Rattle.label_patterns.specs.Rules.{Occurs}
+use Rattle.label_patterns.proofs.PlaceLemmas.{not-in-none, some-place}
+
+pub occurs-some : (p : Pattern) (s : Seen) (len all ends : ℕ) → len ≡ length s.label → ((q : ℕ) → Has all q ↔ (q ≤ len)) → AreEnds (Matches s p) all ends
+    → ends < 18446744073709551616 → (ends ≡ 0 → ⊥) → Occurs s p
+occurs-some p s len all ends is all_are are l some =
+    let place = some-place ends l some in
+    let from = (are place.0).0 place.1 in
+    (from.0, place.0, (let inside = (all_are from.0).0 from.1 in omega (arith, inside, is)), from.2)
+
+pub occurs-none : (p : Pattern) (s : Seen) (len all ends : ℕ) → len ≡ length s.label → ((q : ℕ) → Has all q ↔ (q ≤ len)) → AreEnds (Matches s p) all ends
+    → ends ≡ 0 → Occurs s p → ⊥
+occurs-none p s len all ends is all_are are none h =
+    not-in-none h.1 (subst (λ n. Has n h.1) none ((are h.1).1 (h.0, (all_are h.0).1 (let l = h.2 in omega (arith, l, is)), h.3)))
+
+no_true : (b : Bool) → (b ≡ true → ⊥) → b ≡ false
+no_true true h = absurd (h refl)
+no_true false h = refl
+
+-- the test that a number is not 0
+pub some-from : (n : ℕ) → not (eqb n 0) ≡ true → n ≡ 0 → ⊥
+some-from n h none = let f : false ≡ true = sym (ap not (eq-eqb n 0 none)) ∙ h in cc
+
+pub some-to : (n : ℕ) → (n ≡ 0 → ⊥) → not (eqb n 0) ≡ true
+some-to n some = ap not (no_true (eqb n 0) (λ e. some (eqb-true n 0 e)))

@@ -1,0 +1,44 @@
+-- Laws of patterns.
+use Rattle.std.specs.Prelude.{ℕ, ◌≤◌, ◌↔◌, ◌⊎◌, IsTrue, List, ◌++◌, length}
+use Rattle.label_patterns.specs.declared.span.Span.{Span}
+use Rattle.label_patterns.specs.Patterns.{Pattern, Point, Set, Any, Start, End, Place, Group, Optional, Many, Then, Either}
+use Rattle.label_patterns.specs.Matches.{Seen, Matches}
+use Rattle.label_patterns.specs.Rules.{is_place, EndsBefore}
+
+-- the pattern doesn't ask for the end of the label
+abbrev pub HasNoEnd : Pattern → Type 0
+HasNoEnd End = ⊥
+HasNoEnd (Group p) = HasNoEnd p
+HasNoEnd (Optional p) = HasNoEnd p
+HasNoEnd (Many p) = HasNoEnd p
+HasNoEnd (Then p q) = HasNoEnd p × HasNoEnd q
+HasNoEnd (Either p q) = HasNoEnd p × HasNoEnd q
+HasNoEnd (Point c) = Unit {0}
+HasNoEnd (Set n) = Unit {0}
+HasNoEnd Any = Unit {0}
+HasNoEnd Start = Unit {0}
+HasNoEnd Place = Unit {0}
+
+-- a label under sets
+abbrev pub seen : List (List Span) → List ℕ → Seen
+seen sets label = record { sets = sets; label = label }
+
+-- a part of a label matches a pattern that doesn't ask for the end exactly if it matches it with whatever follows the
+-- label: a label that a 'never' pattern refuses for a part of it is refused with whatever follows
+abbrev pub MatchesStay : Type 0
+MatchesStay = (p : Pattern) (sets : List (List Span)) (label more : List ℕ) (i j : ℕ) → HasNoEnd p → j ≤ length label →
+    Matches (seen sets label) p i j ↔ Matches (seen sets (label ++ more)) p i j
+
+-- what stands before '_' in a context doesn't ask for the end of the label
+abbrev pub HasNoEndBefore : Pattern → Type 0
+HasNoEndBefore (Then p q) = IsTrue (is_place p) ⊎ (HasNoEnd p × HasNoEndBefore q)
+HasNoEndBefore p = Unit {0}
+
+-- what stands before a place of a label depends on the code points before it alone
+abbrev pub BeforeStays : Type 0
+BeforeStays = (context : Pattern) (sets : List (List Span)) (label more : List ℕ) (i : ℕ) → HasNoEndBefore context → i ≤ length label →
+    EndsBefore (seen sets label) context i ↔ EndsBefore (seen sets (label ++ more)) context i
+
+-- a pattern matches no part that ends before it begins, or behind the label's end
+abbrev pub MatchesParts : Type 0
+MatchesParts = (p : Pattern) (s : Seen) (i j : ℕ) → Matches s p i j → (i ≤ j) × (i ≤ length s.label → j ≤ length s.label)

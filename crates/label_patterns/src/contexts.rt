@@ -1,0 +1,112 @@
+//! The contexts of a rule, and where they hold.
+ghost use Rattle.std.specs.Prelude.{◌≡◌, ◌↔◌, ◌≤◌, length, IsTrue};
+ghost use Rattle.label_patterns.specs.Matches.{HasItsSets};
+ghost use Rattle.label_patterns.specs.Places.{Has};
+ghost use Rattle.label_patterns.specs.Rules.{is_place as is_place_pattern, Before, EndsBefore, BeginsBehind, Holds};
+ghost use Rattle.label_patterns.specs.Trees.{pattern};
+
+use crate::ends::ends;
+use crate::pattern_tree::PatternTree;
+use crate::places::{all_places, has};
+use crate::seen_label::SeenLabel;
+use crate::starts::starts;
+
+/// The places of a label such that what is before one of them ends in what stands before `_` in the context.
+pub fn places_before(context: &PatternTree, seen: &SeenLabel) -> u64
+    requires { HasItsSets (length seen.now.sets) (pattern context.now) }
+    ensures { (i : _) → i ≤ length seen.now.label → (Has result i ↔ EndsBefore seen.now (pattern context.now) i) }
+{
+    places_from(context, seen, all_places(seen.len()))
+}
+
+/// The places up to which what stands before `_` can be found, if it begins at one of `places`.
+fn places_from(context: &PatternTree, seen: &SeenLabel, places: u64) -> u64
+    requires { HasItsSets (length seen.now.sets) (pattern context.now) }
+    ensures { (i : _) → Has result i ↔ ((k : _) × Has places k × Before seen.now (pattern context.now) k i) }
+{
+    match context {
+        PatternTree::Place => places,
+        PatternTree::Then(item, rest) => {
+            if is_place(item) {
+                places
+            } else {
+                places_from(rest, seen, ends(item, seen, places))
+            }
+        }
+        PatternTree::Point(_) => 0,
+        PatternTree::Set(_) => 0,
+        PatternTree::Any => 0,
+        PatternTree::Start => 0,
+        PatternTree::End => 0,
+        PatternTree::Group(_) => 0,
+        PatternTree::Optional(_) => 0,
+        PatternTree::Many(_) => 0,
+        PatternTree::Either(_, _) => 0,
+    }
+}
+
+/// The places of a label such that what is behind one of them begins with what stands behind `_` in the context.
+pub fn places_behind(context: &PatternTree, seen: &SeenLabel) -> u64
+    requires { HasItsSets (length seen.now.sets) (pattern context.now) }
+    ensures { (j : _) → j ≤ length seen.now.label → (Has result j ↔ BeginsBehind seen.now (pattern context.now) j) }
+{
+    match context {
+        PatternTree::Place => all_places(seen.len()),
+        PatternTree::Then(item, rest) => {
+            if is_place(item) {
+                starts(rest, seen, all_places(seen.len()))
+            } else {
+                places_behind(rest, seen)
+            }
+        }
+        PatternTree::Point(_) => 0,
+        PatternTree::Set(_) => 0,
+        PatternTree::Any => 0,
+        PatternTree::Start => 0,
+        PatternTree::End => 0,
+        PatternTree::Group(_) => 0,
+        PatternTree::Optional(_) => 0,
+        PatternTree::Many(_) => 0,
+        PatternTree::Either(_, _) => 0,
+    }
+}
+
+fn is_place(tree: &PatternTree) -> bool
+    ensures { result ≡ is_place_pattern (pattern tree.now) }
+{
+    matches!(tree, PatternTree::Place)
+}
+
+/// Whether one context holds for the part of the label from `start` to `end`.
+fn context_holds(context: &PatternTree, seen: &SeenLabel, start: usize, end: usize) -> bool
+    requires known { HasItsSets (length seen.now.sets) (pattern context.now) }
+    requires start { start ≤ length seen.now.label }
+    requires end { end ≤ length seen.now.label }
+    ensures { IsTrue result ↔ (EndsBefore seen.now (pattern context.now) start × BeginsBehind seen.now (pattern context.now) end) }
+{
+    has(places_before(context, seen), start) && has(places_behind(context, seen), end)
+}
+
+/// Whether a rule holds for the part of the label from `start` to `end`.
+pub fn holds(rule: &PatternTree, seen: &SeenLabel, start: usize, end: usize) -> bool
+    requires known { HasItsSets (length seen.now.sets) (pattern rule.now) }
+    requires start { start ≤ length seen.now.label }
+    requires end { end ≤ length seen.now.label }
+    ensures { IsTrue result ↔ Holds seen.now (pattern rule.now) start end }
+{
+    match rule {
+        PatternTree::Either(context, others) => {
+            context_holds(context, seen, start, end) || holds(others, seen, start, end)
+        }
+        PatternTree::Then(_, _) => context_holds(rule, seen, start, end),
+        PatternTree::Place => true,
+        PatternTree::Point(_) => false,
+        PatternTree::Set(_) => false,
+        PatternTree::Any => false,
+        PatternTree::Start => false,
+        PatternTree::End => false,
+        PatternTree::Group(_) => false,
+        PatternTree::Optional(_) => false,
+        PatternTree::Many(_) => false,
+    }
+}

@@ -1,0 +1,93 @@
+-- The list that computes has exactly what uses spell.
+use Rattle.std.proofs.Common.{◌≡◌, ℕ, zero, suc, ◌+◌, ◌-◌, ◌≤◌, ◌<◌, List, [], ◌∷◌, ◌++◌, length, drop, map, get_or, refl, sym, ap, subst, ◌↔◌, arith, length-append}
+use Rattle.std.specs.Prelude.{slice_index_or}
+use Rattle.std.specs.List.{Contains}
+use Rattle.std.proofs.lemmas.List.{length-drop, length-map}
+use Rattle.std.proofs.lemmas.List.Sums.{sum_by-le}
+use Rattle.std.proofs.lemmas.List.Elements.{All-contains, Contains-get_or}
+use Rattle.variant_table.specs.Entries.{Entry, Variant, replacements}
+use Rattle.variant_table.specs.Places.{AreEntriesAt, entries_at}
+use Rattle.variant_table.specs.WellFormed.{IsSequence, IsEntry, IsWellFormed}
+use Rattle.variant_table.proofs.BeginningLemmas.{entries_are_at}
+use Rattle.variant_list.specs.inner.LabelSets.{SomeGives}
+use Rattle.variant_list.specs.inner.Layouts.{UseSpells}
+use Rattle.variant_list.specs.Uses.{Use, IsUse, AreUses, UsesSpell, spelled_from_each, spelled_by, uses_at, uses_from, uses_of}
+use Rattle.variant_list.proofs.ListMembers.{Contains-head, Contains-one, Contains-map, Contains-flat_map}
+use Rattle.variant_list.proofs.SpellingLemmas.{source_is_sequence}
+use Rattle.variant_list.proofs.UsesLemmas.{nothing_spelled, UsesSpell-here, uses_at-IsUseOf, length-uses_from}
+use Rattle.variant_list.proofs.UseCounts.{length-entries}
+
+-- from a later place on
+spelled_from-each : (uses : List (List Use)) (k : ℕ) → k ≤ length uses → slice_index_or (spelled_from_each uses) k [] ≡ spelled_by (drop k uses)
+spelled_from-each [] zero l = refl
+spelled_from-each [] (suc k) l = absurd (omega (arith, l))
+spelled_from-each (here ∷ later) zero l = refl
+spelled_from-each (here ∷ later) (suc k) l = spelled_from-each later k (omega (arith, l))
+
+AreUses-drop : (uses : List (List Use)) (k : ℕ) → AreUses uses → AreUses (drop k uses)
+AreUses-drop [] zero are = tt
+AreUses-drop [] (suc k) are = tt
+AreUses-drop (here ∷ later) zero are = are
+AreUses-drop (here ∷ later) (suc k) are = AreUses-drop later k are.2
+
+spelled_within : (n : ℕ) (uses : List (List Use)) (v : List ℕ) → AreUses uses → length uses ≤ n → Contains (spelled_by uses) v ↔ UsesSpell uses v
+spelled_within n [] v are short = (
+  λ c. ([], tt, Contains-one [] v c),
+  λ s. subst (Contains ([] ∷ [])) (nothing_spelled s.0 v s.1 s.2) (Contains-head [] []),
+)
+spelled_within zero (here ∷ later) v are short = absurd (omega (arith, short))
+spelled_within (suc n) (here ∷ later) v are short =
+    let behind : Use → List (List ℕ) = λ (u : Use). slice_index_or (spelled_from_each later) (u.covers - 1) [] in
+    let given : Use → List (List ℕ) = λ (u : Use). map (λ w. u.points ++ w) (behind u) in
+    let each : (u : Use) → Contains here u → IsUse (length later + 1) u = λ (u : Use) m. All-contains (IsUse (length later + 1)) here u are.0 m in
+    let first = UsesSpell-here here later (λ u m. ((each u m).some, (each u m).within)) v in
+    let at : (u : Use) → Contains here u → behind u ≡ spelled_by (drop (u.covers - 1) later) = λ (u : Use) m. (let is = each u m in spelled_from-each later (u.covers - 1) (omega (arith, is.some, is.within))) in
+    let rest : (u : Use) (w : List ℕ) → Contains (spelled_by (drop (u.covers - 1) later)) w ↔ UsesSpell (drop (u.covers - 1) later) w =
+    λ (u : Use) (w : List ℕ). spelled_within n (drop (u.covers - 1) later) w (AreUses-drop later (u.covers - 1) are.2) (omega (arith, short, length-drop (u.covers - 1) later)) in (
+      λ c. (let g = (Contains-flat_map given here v).0 c in
+          let u : Use = g.0 in
+          let h = (Contains-map (λ (w : List ℕ). u.points ++ w) (behind u) v).0 g.2 in
+          first.0 (u, g.1, (h.0, h.2, (rest u h.0).0 (subst (λ ws. Contains ws h.0) (at u g.1) h.1)))),
+      λ s. (let g : SomeGives (UseSpells later) here v = first.1 s in
+          let u : Use = g.0 in
+          let w : List ℕ = g.2.0 in
+          (Contains-flat_map given here v).1 (u, g.1, (Contains-map (λ (w : List ℕ). u.points ++ w) (behind u) v).1 (w, subst (λ ws. Contains ws w) (sym (at u g.1)) ((rest u w).1 g.2.2), g.2.1))),
+    )
+
+pub spelled_by-UsesSpell : (uses : List (List Use)) (v : List ℕ) → AreUses uses → Contains (spelled_by uses) v ↔ UsesSpell uses v
+spelled_by-UsesSpell uses v are = spelled_within (length uses) uses v are (omega arith)
+
+-- the uses under a well-formed table end within the label, and are few
+module _ (table : List Entry) (label : List ℕ) (formed : IsWellFormed table) where
+  is_use : (place n : ℕ) (u : Use) → place + suc n ≡ length label → Contains (uses_at table label place) u → IsUse (length (uses_from table label (suc place) n) + 1) u
+  is_use place n u whole m =
+      let is = (uses_at-IsUseOf table label place u).0 m in
+      let here = ((entries_are_at table label place formed).members is.entry).0 is.at in
+      let each : IsEntry is.entry = All-contains IsEntry table is.entry formed.entries here.0 in
+      let one : IsSequence u.points = All-contains IsSequence (replacements is.entry) u.points each.sequences is.replaces in
+      record {
+        some = omega (arith, source_is_sequence table is.entry formed.entries here.0, is.covers);
+        within = omega (arith, is.covers, ap length here.1.1, length-append is.entry.source here.1.0, length-drop place label, whole, length-uses_from table label n (suc place));
+        filled = one.filled;
+        short = one.short;
+      }
+
+  few_uses : (place : ℕ) → length (uses_at table label place) ≤ 136
+  few_uses place =
+      let here : List Entry = entries_at table label place in
+      let at : AreEntriesAt table label place here = entries_are_at table label place formed in
+      let of_entry : (e : Entry) → IsEntry e → length (replacements e) ≤ 17 = λ (e : Entry) is. omega (arith, length-map e.variants (λ (v : Variant). v.sequence), is.few) in
+      let each : (k : ℕ) (d : Entry) → k < length here → length (replacements (get_or here k d)) ≤ 17 =
+      λ (k : ℕ) (d : Entry) l. of_entry (get_or here k d) (All-contains IsEntry table (get_or here k d) formed.entries ((at.members (get_or here k d)).0 (Contains-get_or here k d l)).0) in
+      omega (arith, sum_by-le (λ (e : Entry). length (replacements e)) 17 here each, length-entries here, at.few)
+
+  AreUses-from : (place n : ℕ) → place + n ≡ length label → AreUses (uses_from table label place n)
+  AreUses-from place zero whole = tt
+  AreUses-from place (suc n) whole = (
+    λ k d l. is_use place n (get_or (uses_at table label place) k d) whole (Contains-get_or (uses_at table label place) k d l),
+    few_uses place,
+    AreUses-from (suc place) n (omega (arith, whole)),
+  )
+
+  pub AreUses-label : AreUses (uses_of table label)
+  AreUses-label = AreUses-from 0 (length label) (omega arith)

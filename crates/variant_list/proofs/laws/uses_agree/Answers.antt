@@ -1,0 +1,13 @@
+use Rattle.variant_list.proofs.UsesLemmas.{UsesSpell-label}
+use Rattle.variant_list.proofs.UseCounts.{use_count-label, use_edges-label}
+use Rattle.variant_list.proofs.SpelledByLemmas.{spelled_by-UsesSpell, AreUses-label}
+use Rattle.variant_list.proofs.laws.uses_agree.Goals as goal
+
+pub returns : goal.returns
+returns c = record {
+  spells = λ table label v formed. UsesSpell-label table label formed v;
+  computes = spelled_by-UsesSpell;
+  fit = AreUses-label;
+  count = use_count-label;
+  edges = use_edges-label;
+}

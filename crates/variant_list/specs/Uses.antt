@@ -1,0 +1,79 @@
+-- The uses of a label: what may stand in the place of which of its code points. The net of a label is laid out from them.
+use Rattle.std.specs.Prelude.{◌≡◌, ℕ, zero, suc, ◌+◌, ◌-◌, ◌≤◌, List, [], ◌∷◌, ◌++◌, length, drop, map, sum_by, slice_index_or, Contains, All}
+use Rattle.std.specs.List.{flat_map}
+use Rattle.variant_table.specs.Entries.{Entry, replacements}
+use Rattle.variant_table.specs.Places.{entries_at}
+
+-- these code points may stand in the place of so many code points of a label
+pub record Use : Type 0 where
+  pub covers : ℕ
+  pub points : List ℕ
+
+-- The uses of a label are a list for each of its places, in order, with those that begin there.
+
+-- the label is cut into what these uses cover, each at the place at which the one before ends
+abbrev pub IsCut : List (List Use) → List Use → Type 0
+IsCut [] [] = Unit {0}
+IsCut [] (u ∷ cut) = ⊥
+IsCut (here ∷ later) [] = ⊥
+IsCut (here ∷ later) (u ∷ cut) = Contains here u × (u.covers ≤ length later + 1) × IsCut (drop u.covers (here ∷ later)) cut
+
+-- what they put in the place of the label
+abbrev pub points_of : List Use → List ℕ
+points_of cut = flat_map (λ u. u.points) cut
+
+-- the uses spell v: by some of them the label is cut, and they put v in its place
+abbrev pub UsesSpell : List (List Use) → List ℕ → Type 0
+UsesSpell uses v = (cut : List Use) × IsCut uses cut × (points_of cut ≡ v)
+
+-- the same as a list that computes: from each place on what the uses spell, and at the end the empty label
+abbrev pub spelled_from_each : List (List Use) → List (List (List ℕ))
+spelled_from_each [] = ([] ∷ []) ∷ []
+spelled_from_each (here ∷ later) =
+    flat_map (λ u. map (λ w. u.points ++ w) (slice_index_or (spelled_from_each later) (u.covers - 1) [])) here ∷ spelled_from_each later
+
+abbrev pub spelled_by : List (List Use) → List (List ℕ)
+spelled_by uses = slice_index_or (spelled_from_each uses) 0 []
+
+-- a use that covers 1 to so many code points by 1 to 8
+pub record IsUse (room : ℕ) (u : Use) : Type 0 where
+  pub some : 1 ≤ u.covers
+  pub within : u.covers ≤ room
+  pub filled : 1 ≤ length u.points
+  pub short : length u.points ≤ 8
+
+-- uses that end within the label, at most 136 at each place
+abbrev pub AreUses : List (List Use) → Type 0
+AreUses [] = Unit {0}
+AreUses (here ∷ later) = All (IsUse (length later + 1)) here × (length here ≤ 136) × AreUses later
+
+-- how many uses there are, and how many code points they have: each is an edge of the net
+abbrev pub use_count : List (List Use) → ℕ
+use_count = sum_by length
+
+abbrev pub points_in : List Use → ℕ
+points_in = sum_by (λ u. length u.points)
+
+abbrev pub use_edges : List (List Use) → ℕ
+use_edges = sum_by points_in
+
+-- ---- the uses of a label under a table
+
+-- a replacement of the entry may stand in the place of its source
+abbrev pub use_of : Entry → List ℕ → Use
+use_of e r = record { covers = length e.source; points = r }
+
+abbrev pub uses_of_entry : Entry → List Use
+uses_of_entry e = map (use_of e) (replacements e)
+
+-- those at a place of the label
+abbrev pub uses_at : List Entry → List ℕ → ℕ → List Use
+uses_at table label place = flat_map uses_of_entry (entries_at table label place)
+
+-- those at so many places, from this one on
+abbrev pub uses_from : List Entry → List ℕ → ℕ → ℕ → List (List Use)
+uses_from table label place zero = []
+uses_from table label place (suc n) = uses_at table label place ∷ uses_from table label (suc place) n
+
+abbrev pub uses_of : List Entry → List ℕ → List (List Use)
+uses_of table label = uses_from table label 0 (length label)

@@ -1,0 +1,60 @@
+//! The uses of a label under a table, and the net that is laid out from them.
+ghost use Rattle.std.specs.Prelude.{◌≡◌, ◌+◌, ◌<◌, ◌≤◌, length, All, IfOk, OnOk};
+ghost use Rattle.variant_table.specs.Entries.{replacements};
+ghost use Rattle.variant_table.specs.WellFormed.{IsSequence, IsWellFormed};
+ghost use Rattle.variant_list.specs.Uses.{uses_of_entry, uses_at};
+ghost use Rattle.variant_list.specs.inner.NetPlans.{IsNetOf};
+ghost use Rattle.variant_list.specs.inner.Layouts.{IsSound, HasTaken};
+
+use crate::draft::NetDraft;
+use crate::graph::Graph;
+use std::alloc::{AllocError, Global};
+use variant_table::{Entry, Table};
+
+/// The net of the label: a place for each of its beginnings, and a chain of edges for each replacement of each
+/// entry at a place.
+pub(crate) fn lay_out(alloc: Global, table: &Table, label: &[u32]) -> Result<Graph, AllocError>
+    ensures net { IfOk result (IsNetOf table.now.entries label.now) }
+    ensures well_formed { IsWellFormed table.now.entries }
+{
+    // The length is read for its contract alone: a table is well-formed, so no source is empty.
+    let _entries = table.len();
+    let mut draft = NetDraft::new(alloc)?;
+    for count in 0..label.len() {
+        add_uses_at(&mut draft, table, label, label.len() - count - 1)?;
+        draft.end_place()?;
+    }
+    Ok(draft.finished())
+}
+
+/// Adds the uses that begin at a place of the label.
+fn add_uses_at(
+    draft: &mut NetDraft,
+    table: &Table,
+    label: &[u32],
+    place: usize,
+) -> Result<(), AllocError>
+    requires sound { IsSound draft.old }
+    requires place { place < length label.now }
+    requires count { place + length draft.old.places ≡ length label.now }
+    ensures { OnOk result (HasTaken draft.old (uses_at table.now.entries label.now place) draft.new) }
+{
+    for entry in table.entries_at(label, place) {
+        add_uses_of(draft, &entry)?;
+    }
+    Ok(())
+}
+
+/// Adds the uses of an entry: each of its replacements may stand in the place of its source.
+fn add_uses_of(draft: &mut NetDraft, entry: &Entry<'_>) -> Result<(), AllocError>
+    requires sound { IsSound draft.old }
+    requires sequences { All IsSequence (replacements entry.now) }
+    requires within { length entry.now.source ≤ length draft.old.places }
+    ensures { OnOk result (HasTaken draft.old (uses_of_entry entry.now) draft.new) }
+{
+    let covers = entry.source().len();
+    for number in 0..entry.replacements() {
+        draft.add_use(covers, entry.replacement(number))?;
+    }
+    Ok(())
+}

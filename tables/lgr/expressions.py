@@ -1,0 +1,133 @@
+"""Regular expressions over code points, by which rules are said: what a label matches, or a part of it.
+
+They are made by the functions below, and these leave out what can't match: NOTHING matches no part of any label, and stands in
+no other expression.
+"""
+
+import dataclasses
+
+# No label has more code points.
+MOST_LABEL_POINTS = 63
+
+
+@dataclasses.dataclass(frozen=True)
+class Points:
+    """One code point of a set; `name` is what the ruleset calls the set, if it has a name."""
+
+    points: frozenset
+    name: str | None = dataclasses.field(default=None, compare=False)
+
+
+@dataclasses.dataclass(frozen=True)
+class Sign:
+    """A place: the start or the end of a label, or the anchor."""
+
+    word: str
+
+
+@dataclasses.dataclass(frozen=True)
+class Sequence:
+    parts: tuple
+
+
+@dataclasses.dataclass(frozen=True)
+class Choice:
+    branches: tuple
+
+
+@dataclasses.dataclass(frozen=True)
+class Repeat:
+    """`least` to `most` times the part; without a limit where `most` is None."""
+
+    part: object
+    least: int
+    most: int | None
+
+
+START, END, ANCHOR = Sign("start"), Sign("end"), Sign("anchor")
+EMPTY, NOTHING = Sequence(()), Choice(())
+
+
+def one_of(points, name=None):
+    return Points(frozenset(points), name) if points else NOTHING
+
+
+def sequence(parts):
+    """The parts one behind the other."""
+    flat = []
+    for part in parts:
+        flat += part.parts if isinstance(part, Sequence) else [part]
+    if NOTHING in flat:
+        return NOTHING
+    return flat[0] if len(flat) == 1 else Sequence(tuple(flat))
+
+
+def choice(branches):
+    """One of the branches."""
+    flat = {}
+    for branch in branches:
+        flat.update(dict.fromkeys(branch.branches if isinstance(branch, Choice) else [branch]))
+    return next(iter(flat)) if len(flat) == 1 else Choice(tuple(flat))
+
+
+def repeat(part, least, most):
+    """The part `least` to `most` times."""
+    if most == 0 or part == EMPTY or (part == NOTHING and least == 0):
+        return EMPTY
+    if part == NOTHING or (least, most) == (1, 1):
+        return part
+    if isinstance(part, Sign):
+        return part if least else EMPTY
+    shortest = least_length(part)
+    if shortest == 0:
+        least = 0
+    elif least * shortest > MOST_LABEL_POINTS:
+        return NOTHING
+    elif most is not None and most * shortest >= MOST_LABEL_POINTS:
+        most = None
+    is_star = isinstance(part, Repeat) and (part.least, part.most) == (0, None)
+    return part if is_star else Repeat(part, least, most)
+
+
+def least_length(expression):
+    """How many code points a part has at least that matches."""
+    if isinstance(expression, Points):
+        return 1
+    if isinstance(expression, Sequence):
+        return sum(map(least_length, expression.parts))
+    if isinstance(expression, Choice):
+        return min(map(least_length, expression.branches), default=MOST_LABEL_POINTS + 1)
+    return expression.least * least_length(expression.part) if isinstance(expression, Repeat) else 0
+
+
+def parts_of(expression):
+    """The expressions of which this one is made."""
+    if isinstance(expression, Sequence):
+        return expression.parts
+    if isinstance(expression, Choice):
+        return expression.branches
+    return (expression.part,) if isinstance(expression, Repeat) else ()
+
+
+def has(expression, sign):
+    """Whether the sign stands in an expression."""
+    return expression == sign or any(has(part, sign) for part in parts_of(expression))
+
+
+def is_everywhere(expression):
+    """Whether an empty part matches at each place."""
+    if isinstance(expression, Sequence):
+        return all(map(is_everywhere, expression.parts))
+    if isinstance(expression, Choice):
+        return any(map(is_everywhere, expression.branches))
+    return isinstance(expression, Repeat) and (expression.least == 0 or is_everywhere(expression.part))
+
+
+def size(expression):
+    """How many atoms and signs it takes to write the expression."""
+    within = sum(map(size, parts_of(expression)))
+    if isinstance(expression, Repeat):
+        is_group = isinstance(expression.part, Sequence | Choice)
+        times = expression.least + 1 if expression.most is None else expression.most
+        return times * (within + is_group)
+    return within + isinstance(expression, Points | Sign | Choice)

@@ -1,0 +1,228 @@
+#!/usr/bin/env python3
+"""Makes rulesets of version 3 of the table notation with tables/from_lgr.py, and asks them for labels.
+
+Each part of RFC 7940 has a small ruleset here (converted_rows.py), with the text that it becomes and with answers that the RFC
+gives. Random rulesets (rich_ruleset.py) are asked beside a plain reading of the RFC (plain_ruleset.py). The program doesn't
+read such rulesets yet, so their answers are those of the second writing, conformance/ruleset_labels.py. The last line is
+'N passed, M failed', and the exit status is 0 where nothing failed."""
+
+import itertools
+import os
+import random
+import sys
+
+from converted_rows import FAULTS, LABELS, LIMITS, REFUSALS, ROWS, long_set, many_entries
+from plain_ruleset import PlainRuleset
+from program import PROGRAM, ROOT, run_tests, table_file
+from rich_ruleset import RichRuleset
+from rulesets import comments_of, entries_of, made, ruleset, stored
+from version_3 import BY_PROGRAM
+
+sys.path += [os.path.join(ROOT, "conformance"), os.path.join(ROOT, "tables")]
+
+from lgr import command
+from lgr.program import Program
+from lgr.ruleset import Fault
+from notation import reading
+from ruleset_labels import RulesetLabels, Unknown
+
+UNSAYABLE = "refused: there is no such table\n"
+SEEDS = range(1, 46)
+# So many random rulesets at least are converted, and so many of their labels accepted. Labels with more variants are left out.
+LEAST_CONVERTED, LEAST_ACCEPTED = 20, 300
+MOST_SPELLED = 60
+
+
+class KnownProgram(Program):
+    """Asks the program for each code point once."""
+
+    known = {}
+
+    def refusals(self, points):
+        new = set(points) - set(self.known)
+        self.known.update(super().refusals(new) if new else {})
+        return {point: self.known[point] for point in points}
+
+
+def converted(path):
+    """What is made of a file, without a process: the text, the messages and the status."""
+    told, command.Program = [], KnownProgram
+    try:
+        text = command.made(command.options_of(["--version", "3", "--idn2", PROGRAM, path]), told.append)
+    except Fault as fault:
+        text, told = None, [str(fault)]
+    messages = "".join(line + "\n" for line in told)
+    return ("", messages, 1) if text is None else (text.decode(), messages, 0)
+
+
+def labels_under(text):
+    return RulesetLabels(reading.read(text.encode(), BY_PROGRAM.may_stand), MOST_SPELLED)
+
+
+def answer(labels, label):
+    """None of a label that is refused; else its valid variants, with what becomes of them."""
+    if labels.refusal(label):
+        return None
+    allocatable = labels.allocatable(label)
+    return {variant: "allocatable" if variant in allocatable else "blocked"
+            for variant in labels.spelled(label) if labels.is_valid(variant)}
+
+
+def wanted(text):
+    """The answer that a row has: 'invalid', or variants with a mark before those that are blocked."""
+    if text == "invalid":
+        return None
+    return {word.lstrip("!"): "blocked" if word.startswith("!") else "allocatable" for word in text.split()}
+
+
+# What each part of the standard becomes.
+
+
+def says_each_part(folder):
+    for name, data, rules, lines, answers in ROWS:
+        path = ruleset(folder, data, rules)
+        text, told, status = converted(path)
+        assert status == 0, (name, told)
+        found = entries_of(text).removeprefix("%version 3\n")
+        assert found == "".join(line + "\n" for line in lines), (name, found)
+        labels, plain = labels_under(text), PlainRuleset(path)
+        for label, row in answers.items():
+            found = answer(labels, label), plain.variants(label)
+            assert found == (wanted(row), wanted(row)), (name, label, row, found)
+
+
+def refuses_what_no_table_says(folder):
+    """By the line and the reason, and nothing is printed."""
+    for data, rules, messages in REFUSALS:
+        found = converted(ruleset(folder, data, rules))
+        assert found == ("", messages + UNSAYABLE, 1), (data, rules, found)
+
+
+def refuses_faults(folder):
+    for data, rules, message in FAULTS:
+        found = converted(ruleset(folder, data, rules))
+        assert found == ("", message, 1), (data, rules, found)
+
+
+def tells_what_it_leaves_out(folder):
+    for data, rules, lines, messages in LABELS:
+        text, told, status = converted(ruleset(folder, data, rules))
+        assert (status, told) == (0, messages), (data, told)
+        assert entries_of(text) == "%version 3\n" + "".join(line + "\n" for line in lines), text
+        without_gaps = [line for line in messages.splitlines() if not line.startswith("the table has")]
+        assert all(f"# {line}\n" in comments_of(text) for line in without_gaps), text
+
+
+def keeps_limits(folder):
+    for data, rules, messages in LIMITS:
+        found = converted(ruleset(folder, data, rules))
+        assert found == ("", messages + UNSAYABLE, 1), (data[:200], rules[:200], found)
+
+
+def says_large_rulesets(folder):
+    """More entries than versions 1 and 2 take, and a set that takes more than one line."""
+    text, told, status = converted(ruleset(folder, *many_entries()))
+    assert (status, told, entries_of(text)) == (0, "", "%version 3\n4E00..9FFF\nAC00..D7A3\n"), (told, text[:400])
+    text, told, status = converted(ruleset(folder, *long_set()))
+    sets = [line.split()[1] for line in text.splitlines() if line.startswith("%set")]
+    assert (status, sets) == (0, ["many", "many_2"]), (told, sets)
+    assert "%rule r (@many / @many_2) _\n" in text, text[:400]
+    labels = labels_under(text)
+    behind = {letter: labels.refusal(letter + "a") is None for letter in "一丁丂寀寁"}
+    assert behind == {"一": True, "丁": False, "丂": True, "寀": True, "寁": False}, behind
+
+
+# Beside a plain reading.
+
+
+def says_what_stored_rulesets_say(folder):
+    refused = []
+    for name in sorted(os.listdir(os.path.dirname(stored("gaps.xml")))):
+        text, told, status = converted(stored(name))
+        if status:
+            refused.append((name, told.splitlines()[0]))
+        else:
+            assert compared(stored(name), text, random.Random(name), 60) > 10, name
+    assert refused == [
+        ("rfc4290.txt", "no entry of it can stand in a table"),
+        ("standard-rules.xml", "line 50: action 'invalid': the action on line 49 goes first, and is 'blocked'"),
+    ], refused
+
+
+def compared(path, text, chosen, count):
+    """Some labels of up to four parts have the answers of a plain reading. How many of them were accepted is the answer."""
+    plain, labels, accepted = PlainRuleset(path), labels_under(text), 0
+    parts = sorted(part for part in plain.parts if all(map(BY_PROGRAM.may_stand, map(ord, part))))
+    each = sorted({"".join(some) for size in (1, 2, 3) for some in itertools.product(parts, repeat=size)})
+    each = chosen.sample(each, min(len(each), count)) + ["".join(chosen.choices(parts, k=4))]
+    for label in each:
+        try:
+            found = answer(labels, label)
+        except Unknown:
+            continue
+        expected = plain.variants(label)
+        if expected is not None:
+            expected = {variant: kind for variant, kind in expected.items()
+                        if all(map(BY_PROGRAM.may_stand, map(ord, variant)))}
+        assert found == expected, (label.encode("unicode_escape"), found, expected)
+        accepted += found is not None
+    return accepted
+
+
+def says_what_random_rulesets_say(folder):
+    """Random rulesets, each with much of what RFC 7940 has: each is converted exactly, or refused."""
+    count = accepted = 0
+    for seed in SEEDS:
+        one = RichRuleset(seed)
+        path = ruleset(folder, one.data, one.rules)
+        text = converted(path)[0]
+        if text:
+            count += 1
+            try:
+                accepted += compared(path, text, random.Random(seed), 25)
+            except AssertionError as reason:
+                raise AssertionError(f"seed {seed}: {reason}: {one.data} {one.rules} {text}") from reason
+    assert count >= LEAST_CONVERTED and accepted >= LEAST_ACCEPTED, (count, accepted)
+
+
+# Options and other formats.
+
+
+def has_no_options_that_say_less(folder):
+    path = stored("hyphen-rule.xml")
+    for options in (["--accept-more"], ["--close-gaps"]):
+        output, told, status = made(path, "--version", "3", *options)
+        assert (output, status) == ("", 2) and "version 3" in told, (options, told)
+    assert entries_of(made(path)[0]).startswith("%version 2\n")
+
+
+def says_untyped_variants(folder):
+    """Of RFC 7940 by the actions, or as the option says; of RFC 4290, which has no types, blocked, or as it says."""
+    path = ruleset(folder, '<char cp="0061"><var cp="0062"/></char><char cp="0062"><var cp="0061"/></char>')
+    lines = table_file(folder, b"U+0061|U+0062\nU+0062|U+0061\n", "lines.txt")
+    for file, options, entries in (
+        (path, [], "0061|0062\n0062|0061\n"),
+        (path, ["--untyped", "allocatable"], "0061|0062\n0062|0061\n"),
+        (path, ["--untyped", "blocked"], "0061|!0062\n0062|!0061\n"),
+        (lines, [], "0061|!0062\n0062|!0061\n"),
+        (lines, ["--untyped", "allocatable"], "0061|0062\n0062|0061\n"),
+    ):
+        text, told, status = made(file, "--version", "3", *options)
+        assert (entries_of(text), told, status) == ("%version 3\n" + entries, "", 0), (file, options, text, told)
+
+
+TESTS = [
+    says_each_part,
+    refuses_what_no_table_says,
+    refuses_faults,
+    tells_what_it_leaves_out,
+    keeps_limits,
+    says_large_rulesets,
+    says_what_stored_rulesets_say,
+    says_what_random_rulesets_say,
+    has_no_options_that_say_less,
+    says_untyped_variants,
+]
+
+if __name__ == "__main__":
+    sys.exit(run_tests("converted", TESTS))

@@ -1,0 +1,360 @@
+"""Small rulesets of RFC 7940: what each becomes in version 3 of the table notation, and what the RFC says of labels.
+
+The entries of a ruleset are on line 2 of the file, the rules and actions on line 4. An answer is 'invalid', or the variants of
+a label, with '!' before those that are blocked.
+"""
+
+BEHIND_A = '<look-behind><char cp="0061"/></look-behind><anchor/>'
+CONSONANTS = "".join(f'<char cp="{cp}" tag="consonant"/>' for cp in ("0062", "0063", "0064"))
+ABC = "".join(f'<char cp="{cp}"/>' for cp in ("0061", "0062", "0063"))
+HAN = ("56FD", "570B"), ("5B66", "5B78")
+
+
+def rule(within, name="r"):
+    return f'<rule name="{name}">{within}</rule>'
+
+
+def refusing(within, word="match"):
+    return rule(within) + f'<action disp="invalid" {word}="r"/>'
+
+
+def char(cp, *variants, **attributes):
+    """An entry; a variant is (cp, type) or (cp, type, further attributes)."""
+    words = "".join(f' {name.replace("_", "-")}="{value}"' for name, value in attributes.items())
+    return f'<char cp="{cp}"{words}>' + "".join(var(*variant) for variant in variants) + "</char>"
+
+
+def var(cp, kind=None, more=""):
+    return f'<var cp="{cp}"' + (f' type="{kind}"' if kind else "") + more + "/>"
+
+
+def han(simplified="simp", traditional="trad"):
+    """Simplified and traditional characters, each a variant of the other, with reflexive types."""
+    return "".join(char(simp, (simp, f"r-{simplified}"), (trad, traditional))
+                   + char(trad, (trad, f"r-{traditional}"), (simp, simplified)) for simp, trad in HAN)
+
+
+HAN_ACTIONS = ('<action disp="valid" only-variants="r-simp r-trad"/>'
+               '<action disp="allocatable" only-variants="simp r-simp"/>'
+               '<action disp="allocatable" only-variants="trad r-trad"/>'
+               '<action disp="blocked" any-variant="simp trad"/>')
+HAN_LINES = ["%tag simp", "%tag trad", "56FD as simp|570B as trad", "570B as trad|56FD as simp",
+             "5B66 as simp|5B78 as trad", "5B78 as trad|5B66 as simp"]
+
+# What is shown, the data, the rules, the lines without comments, and answers.
+ROWS = [
+    # Section 5: entries.
+    ("a code point, a sequence and a range", char("0061") + char("0062 0063") + '<range first-cp="0030" last-cp="0032"/>', "",
+     ["0061", "0062-0063", "0030..0032"],
+     {"abc1": "abc1", "b": "invalid", "bca": "bca", "3": "invalid"}),
+    ("a context before", ABC.replace('"0062"', '"0062" when="r"'), rule(BEHIND_A),
+     ["%rule r 0061 _", "0061", "0062 when r", "0063"],
+     {"ab": "ab", "b": "invalid", "abb": "invalid", "cab": "cab", "acb": "invalid"}),
+    ("a context of a range, the other way round", char("0061") + '<range first-cp="0062" last-cp="0063" not-when="r"/>',
+     rule(BEHIND_A), ["%rule r 0061 _", "0061", "0062..0063 unless r"],
+     {"ba": "ba", "ab": "invalid", "bc": "bc", "abc": "invalid", "bac": "invalid"}),
+    ("a context behind", ABC.replace('"0062"', '"0062" when="r"'),
+     rule('<anchor/><look-ahead><char cp="0063"/><end/></look-ahead>'),
+     ["%rule r _ 0063 $", "0061", "0062 when r", "0063"], {"bc": "bc", "bca": "invalid", "abc": "abc", "b": "invalid"}),
+    ("both sides of a sequence", char("0061") + char("0062 0063", when="r"),
+     rule('<look-behind><start/><char cp="0061"/></look-behind><anchor/><look-ahead><char cp="0061"/></look-ahead>'),
+     ["%rule r ^ 0061 _ 0061", "0061", "0062-0063 when r"], {"abca": "abca", "aabca": "invalid", "abc": "invalid"}),
+    ("anchors in a choice, by their names, too", ABC.replace('"0062"', '"0062" not-when="r"'),
+     rule("<look-behind><start/></look-behind><anchor/>", "first")
+     + rule(f'<choice><rule by-ref="first"/><rule>{BEHIND_A}</rule></choice>'),
+     ["%rule r ^ _ / 0061 _", "0061", "0062 unless r", "0063"],
+     {"b": "invalid", "ab": "invalid", "cb": "cb", "cbb": "cbb"}),
+    ("parts beside a choice of anchors", ABC.replace('"0062"', '"0062" when="r"'),
+     rule(f'<choice><rule>{BEHIND_A}</rule><rule><look-behind><char cp="0063"/></look-behind><anchor/></rule></choice>'
+          "<end/>"),
+     ["%rule r 0061 _ $ / 0063 _ $", "0061", "0062 when r", "0063"], {"ab": "ab", "cb": "cb", "aba": "invalid"}),
+    # Section 6.2: classes.
+    ("tags", CONSONANTS + char("0061", tag="vowel sign", when="r") + char("0065", tag="vowel"),
+     rule('<look-behind><class from-tag="consonant"/></look-behind><anchor/>'),
+     ["%set consonant 0062..0064", "%rule r @consonant _", "0062..0064", "0061 when r", "0065"],
+     {"ba": "ba", "ea": "invalid", "da": "da"}),
+    ("a class by its code points, by a name", ABC,
+     '<class name="two">0061 0063-0070</class>' + refusing('<class by-ref="two"/><end/>'),
+     ["%set two 0061 0063", "%never @two $", "0061..0063"], {"b": "b", "ab": "ab", "ba": "invalid", "bc": "invalid"}),
+    ("classes by a combining class and a category", char("0061") + char("0915") + char("094D") + char("0301"),
+     refusing('<start/><class property="gc:Mn"/>')
+     + rule('<class property="ccc:9"/><class property="General_Category:Lo"/>', "s")
+     + '<action disp="invalid" match="s"/>',
+     ["%set gc_Mn 0301 094D", "%never ^ @gc_Mn", "%never 094D 0915", "0061", "0915", "094D", "0301"],
+     {"a\u0301": "a\u0301", "\u0301a": "invalid", "\u0915\u094D\u0915": "invalid", "\u0915\u094Da": "\u0915\u094Da"}),
+    ("a union", ABC, refusing("<start/><union><class>0061</class><class>0062</class></union>"),
+     ["%set r_set 0061..0062", "%never ^ @r_set", "0061..0063"], {"a": "invalid", "b": "invalid", "ca": "ca"}),
+    ("an intersection", ABC, refusing("<intersection><class>0061-0062</class><class>0062-0063</class></intersection>"),
+     ["%never 0062", "0061..0063"], {"ac": "ac", "ab": "invalid"}),
+    ("a difference", ABC, refusing("<difference><class>0061-0063</class><class>0062</class></difference><end/>"),
+     ["%set r_set 0061 0063", "%never @r_set $", "0061..0063"], {"ab": "ab", "c": "invalid"}),
+    ("a symmetric difference", ABC,
+     refusing("<symmetric-difference><class>0061-0062</class><class>0062-0063</class></symmetric-difference><end/>"),
+     ["%set r_set 0061 0063", "%never @r_set $", "0061..0063"], {"ab": "ab", "c": "invalid"}),
+    ("a complement, of what labels can have", ABC, refusing("<complement><class>0061 0078</class></complement><end/>"),
+     ["%set r_set 0062..0063", "%never @r_set $", "0061..0063"], {"ba": "ba", "c": "invalid"}),
+    # Section 6.3: rules.
+    ("any, the start and the end", ABC, refusing('<start/><any/><any/><char cp="0063"/><end/>'),
+     ["%never ^ . . 0063 $", "0061..0063"], {"abc": "invalid", "cabc": "cabc", "abca": "abca", "c": "c"}),
+    ("a count", ABC, refusing('<char cp="0061" count="3"/>'), ["%never 0061 0061 0061", "0061..0063"],
+     {"aa": "aa", "aaa": "invalid", "baaab": "invalid", "aaba": "aaba"}),
+    ("a count from one to three", ABC, refusing('<start/><char cp="0061" count="1:3"/><char cp="0062"/>'),
+     ["%never ^ 0061 0061? 0061? 0062", "0061..0063"], {"ab": "invalid", "aaab": "invalid", "aaaab": "aaaab", "b": "b"}),
+    ("a count from two on", ABC, refusing('<start/><char cp="0061" count="2+"/><char cp="0062"/>'),
+     ["%never ^ 0061 0061 0061* 0062", "0061..0063"], {"ab": "ab", "aab": "invalid", "aaaaab": "invalid"}),
+    ("a count from none on, of a sequence", ABC, refusing('<start/><char cp="0061 0062" count="0+"/><char cp="0063"/>'),
+     ["%never ^ (0061 0062)* 0063", "0061..0063"], {"c": "invalid", "ababc": "invalid", "abac": "abac"}),
+    ("a count of choices", ABC,
+     refusing('<start/><choice count="2"><char cp="0061"/><rule><char cp="0062"/><char cp="0063"/></rule></choice><end/>'),
+     ["%never ^ (0061 / 0062 0063) (0061 / 0062 0063) $", "0061..0063"],
+     {"aa": "invalid", "abc": "invalid", "bcbc": "invalid", "a": "a", "aaa": "aaa", "ba": "ba"}),
+    ("a choice that may match nothing", ABC,
+     refusing('<char cp="0061"/><choice><char cp="0062" count="0:1"/><char cp="0063"/></choice><end/>'),
+     ["%never 0061 (0062? / 0063) $", "0061..0063"], {"a": "invalid", "ab": "invalid", "ac": "invalid", "abb": "abb"}),
+    ("a rule within a rule", ABC, rule('<char cp="0061"/><char cp="0062"/>', "ab") + refusing('<rule by-ref="ab" count="2"/>'),
+     ["%never 0061 0062 0061 0062", "0061..0063"], {"abab": "invalid", "ab": "ab", "cabab": "invalid"}),
+    ("what has to match", ABC, refusing("<class>0061-0062</class>", "not-match"),
+     ["%set r_set 0061..0062", "%always @r_set", "0061..0063"], {"c": "invalid", "ca": "ca", "b": "b"}),
+    ("more than a label can have", ABC, refusing('<char cp="0061" count="1:63"/><char cp="0063" count="64"/>')
+     + rule('<start/><char cp="0061" count="1:99"/><end/>', "s") + '<action disp="invalid" match="s"/>',
+     ["%never ^ 0061 0061* $", "0061..0063"], {"aaa": "invalid", "ab": "ab"}),
+    ("a rule without an anchor, for a code point anywhere", char("00B7", when="r") + ABC, rule("<class>0061-0062</class>"),
+     ["%set r_set 0061..0062", "%rule r @r_set .* _ / _ .* @r_set", "00B7 when r", "0061..0063"],
+     {"\u00B7ca": "\u00B7ca", "c\u00B7": "invalid", "bc\u00B7": "bc\u00B7", "c": "c"}),
+    ("the same, for a code point that is one of them", char("0061", when="r") + char("0062", not_when="r") + char("0063"),
+     rule("<class>0061-0062</class>"), ["%rule always _", "0061", "0062 unless always", "0063"],
+     {"a": "a", "ac": "ac", "b": "invalid", "c": "c"}),
+    # Section 5.3: variants.
+    ("types of section 7.3",
+     char("0061", ("0062", "allocatable"), ("0063", "blocked"), ("0064", "activated"), ("0065", "valid"))
+     + "".join(map(char, ("0062", "0063", "0064", "0065"))), "",
+     ["0061|0062:!0063:0064:0065", "0062..0065"], {"a": "a b !c d e", "b": "b"}),
+    ("no type", char("0061", ("0062",)) + char("0062"), "", ["0061|0062", "0062"], {"a": "a b"}),
+    ("a type 'invalid', which makes no variant",
+     char("0061", ("0062", "invalid"), ("0063", "blocked")) + char("0062") + char("0063"), "",
+     ["0061|!0063", "0062..0063"], {"a": "a !c", "aa": "aa !ac !ca !cc"}),
+    ("each variant is a label of its own", char("0061", ("0062", "blocked")) + char("0062", when="r") + char("0063"),
+     rule('<look-behind><char cp="0063"/></look-behind><anchor/>'),
+     ["%rule r 0063 _", "0061|!0062", "0062 when r", "0063"], {"a": "a", "ca": "ca !cb", "caa": "caa !cba"}),
+    ("a demand on variants", char("0061", ("0062", "allocatable")) + char("0062"),
+     refusing('<char cp="0062"/><char cp="0062"/>'),
+     ["%never 0062 0062", "0061|0062", "0062"], {"aa": "aa ab ba", "ab": "ab"}),
+    ("a variant in a context, asked where its source stands",
+     char("0061", ("0062", "allocatable", ' when="r"')) + char("0062"),
+     rule(BEHIND_A), ["%rule r 0061 _", "0061|0062 when r", "0062"], {"aa": "aa ab", "aaa": "aaa aab aba abb", "ba": "ba"}),
+    ("one variant in two contexts",
+     char("0061", ("0062", "allocatable", ' when="r"'), ("0062", "blocked", ' not-when="r"')) + char("0062"),
+     rule("<anchor/><look-ahead><end/></look-ahead>"), ["%rule r _ $", "0061|0062 when r:!0062 unless r", "0062"],
+     {"a": "a b", "aa": "aa ab !ba !bb"}),
+    ("a variant in a context that holds always, and in another",
+     char("0061", ("0062", "allocatable", ' when="r"'), ("0062", "blocked", ' not-when="none"')) + char("0062"),
+     rule(BEHIND_A) + rule('<look-behind><char cp="0078"/></look-behind><anchor/>', "none"),
+     ["%rule r 0061 _", "%rule always _", "0061|0062 when r:!0062 when always", "0062"],
+     {"a": "a !b", "aa": "aa ab !ba !bb"}),
+    ("a sequence for a code point", char("0061 0065", ("00E4", "allocatable")) + char("00E4", ("0061 0065", "blocked"))
+     + char("0061") + char("0065"), "", ["0061-0065|00E4", "00E4|!0061-0065", "0061", "0065"],
+     {"aea": "aea \u00E4a", "\u00E4": "\u00E4 !ae"}),
+    ("sources that are outside", char("0061", ("0430", "blocked")) + char("0062")
+     + char("0430", ("0430", "out-of-repertoire-var"), ("0061", "blocked")),
+     '<action disp="invalid" any-variant="out-of-repertoire-var"/>', ["0061|!0430", "0062", "!0430|!0061"],
+     {"ab": "ab !\u0430b", "\u0430b": "invalid", "\u0430": "invalid"}),
+    ("an outside source in a context", char("0061", ("0430", "blocked")) + char("0062")
+     + char("0430", ("0430", "x"), not_when="r"),
+     '<action disp="invalid" any-variant="x"/>' + rule("<anchor/><look-ahead><end/></look-ahead>"),
+     ["%rule r _ $", "0061|!0430", "0062", "!0430 unless r"], {"aba": "aba !\u0430ba", "a": "a"}),
+    # Section 7: actions on types.
+    ("types that go together", han(), HAN_ACTIONS, HAN_LINES,
+     {"国学": "国学 !国學 !國学 國學", "國學": "國學 国学 !国學 !國学", "国學": "国學 国学 國學 !國学"}),
+    ("sources without a reflexive variant, under only-variants", han() + char("0061"), HAN_ACTIONS,
+     ["%tag simp", "%tag trad", "%tag itself", *HAN_LINES[2:], "0061 as itself"], {"国a": "国a !國a", "国": "国 國", "a": "a"}),
+    ("the same under all-variants, which looks at what is mapped", han() + char("0061"), HAN_ACTIONS.replace("only", "all"),
+     [*HAN_LINES, "0061"], {"国a": "国a 國a", "国学": "国学 !国學 !國学 國學", "a": "a"}),
+    ("the first action decides", char("0061", ("0062", "x"), ("0063", "y")) + char("0062") + char("0063"),
+     '<action disp="allocatable" all-variants="x"/><action disp="blocked" any-variant="x y"/>',
+     ["0061|0062:!0063", "0062..0063"], {"aa": "aa ab ba bb !ac !bc !ca !cb !cc"}),
+    ("the same actions the other way round", char("0061", ("0062", "x"), ("0063", "y")) + char("0062") + char("0063"),
+     '<action disp="blocked" any-variant="x y"/><action disp="allocatable" all-variants="x"/>',
+     ["0061|!0062:!0063", "0062..0063"], {"a": "a !b !c"}),
+    ("explicit actions before those of the standard", char("0061", ("0062", "blocked")) + char("0062"),
+     '<action disp="valid" any-variant="blocked"/>', ["0061|0062", "0062"], {"a": "a b"}),
+    ("a refusal by a rule before an action that is never triggered", ABC,
+     '<action disp="blocked" any-variant="x"/>' + refusing('<char cp="0062"/>'),
+     ["%never 0062", "0061..0063"], {"b": "invalid"}),
+    ("an action by a rule and types that makes no difference", char("0061", ("0062", "allocatable")) + char("0062"),
+     '<action disp="allocatable" all-variants="allocatable" not-match="r"/>' + rule('<char cp="0062"/>'),
+     ["0061|0062", "0062"], {"a": "a b"}),
+    ("a reflexive variant in a context, of a type without an effect", char("0061", ("0061", "x", ' when="r"')) + char("0062"),
+     rule(BEHIND_A) + '<action disp="blocked" any-variant="blocked"/>', ["0061..0062"], {"aa": "aa"}),
+    # Names of the notation.
+    ("names", char("0061", tag="0-vowel") + char("0062", when="a-rule-with-a-very-long-name-for-two") + char("0063", when="c d")
+     + char("0064", when="a-rule-with-a-very-long-name-for-three"),
+     rule('<look-behind><complement><class from-tag="0-vowel"/></complement></look-behind><anchor/>', "c d")
+     + rule(BEHIND_A, "a-rule-with-a-very-long-name-for-two")
+     + rule('<look-behind><char cp="0061"/><any/></look-behind><anchor/>', "a-rule-with-a-very-long-name-for-three"),
+     ["%set c_d_set 0062..0064", "%rule a_rule_with_a_very_long_nam 0061 _", "%rule c_d @c_d_set _",
+      "%rule a_rule_with_a_very_long_nam_2 0061 . _", "0061", "0062 when a_rule_with_a_very_long_nam", "0063 when c_d",
+      "0064 when a_rule_with_a_very_long_nam_2"], {"ab": "ab", "abc": "abc", "abd": "abd", "ad": "invalid"}),
+]
+
+TWO = char("0061", ("0062", "x"), ("0063", "y")) + char("0062") + char("0063")
+WITH_RULE = "line 4: rule 'r': "
+# The data, the rules, and the messages.
+REFUSALS = [
+    # Mappings.
+    (char("0061", ("",)), "", "line 2: char 0061: a null variant, which no table can have\n"),
+    (char("0061") + char("0062") + char("0063", ("0061 0063 0062", "blocked"), ("0061 0064", "blocked"))
+     + char("0064 0062"), "",
+     "line 2: char 0063, variant 0061-0064: it is not made of entries, but labels can have it together with what "
+     "stands beside it\n"),
+    (char("0061", ("0061", "x", ' when="r"')) + char("0062"), rule(BEHIND_A) + '<action disp="blocked" any-variant="x"/>',
+     "line 2: char 0061: a reflexive variant with a condition, and a type that counts\n"),
+    (char("0430", ("0430", "out-of-repertoire-var")) + char("0061"), "",
+     "line 2: type 'out-of-repertoire-var': no action names it, so that it would refuse no label\n"),
+    (char("0061 0061", ("0061 0061", "x"), ("0062", "blocked")) + char("0061") + char("0062"),
+     '<action disp="invalid" any-variant="x"/>',
+     "line 2: char 0061-0061: each label with it is refused, but labels of other entries can have it, and then variants\n"),
+    # Actions.
+    (ABC, '<action disp="allowed" any-variant="x"/>',
+     "line 4: action 'allowed': a disposition that is none of RFC 7940, section 7.3\n"),
+    (TWO, rule('<char cp="0061"/>') + '<action disp="blocked" match="r"/>',
+     "line 4: action 'blocked': it makes labels 'blocked' by a rule of no mapping\n"),
+    (TWO, rule('<char cp="0061"/>') + '<action disp="blocked" any-variant="x" not-match="r"/>',
+     "line 4: action 'blocked': it makes labels 'blocked' by a rule of 'x'\n"),
+    (TWO, '<action disp="blocked" any-variant="x"/>' + refusing('<char cp="0062"/>'),
+     "line 4: action 'invalid': the action on line 4 goes first, and is 'blocked'\n"),
+    (TWO, '<action disp="valid"/>' + refusing('<char cp="0062"/>'),
+     "line 4: action 'invalid': the action on line 4 goes first, and is 'valid'\n"),
+    (ABC, rule('<char cp="0061"/>') + '<action disp="invalid" match="r" not-match="r"/>',
+     "line 4: action 'invalid': it asks for one rule and against another\n"),
+    (ABC, refusing('<any count="0+"/>'), "line 4: action 'invalid': it refuses each label\n"),
+    (ABC, refusing('<char cp="0078"/>', "not-match"), "line 4: action 'invalid': it refuses each label\n"),
+    (ABC, refusing(BEHIND_A),
+     "line 4: action 'invalid': its rule has an anchor, so that it is about a place and not about a label\n"),
+    (ABC, '<action disp="blocked"/>',
+     "line 4: action 'blocked': it makes labels blocked that are asked about, by no mapping\n"),
+    (char("0061", ("0061", "x")) + char("0062", ("0062", "y")),
+     '<action disp="invalid" only-variants="x"/><action disp="valid" any-variant="x"/>',
+     "line 4: action 'invalid': it makes labels invalid that are asked about, by 'x'\n"),
+    (TWO, '<action disp="blocked" all-variants="x"/><action disp="invalid" any-variant="x"/>',
+     "line 4: action 'invalid': it makes variants invalid by several types at once: 'x', 'y'\n"),
+    (char("0061", ("0062", "x"), ("0063",)) + char("0062") + char("0063"),
+     '<action disp="valid" all-variants="x"/><action disp="blocked" any-variant="x"/>',
+     "line 4: action 'valid': it makes labels 'valid' by all types, where the standard can be read in two ways, of 'x', "
+     "no type\n"),
+    (TWO, '<action disp="blocked" only-variants="x"/><action disp="valid"/>',
+     "line 4: action 'blocked': labels of 'x' are blocked, and allowed with further types\n"),
+    (char("0061", *((f"{0x62 + each:04X}", f"x{each}") for each in range(12))) + '<range first-cp="0062" last-cp="006D"/>', "",
+     "the ruleset: 13 types of variants, and 12 are looked at\n"),
+    # Rules.
+    (char("0061", when="r"), rule("<look-behind><any/><end/></look-behind><anchor/>"),
+     WITH_RULE + "the end of a label before the anchor, or its start behind it, which no label has\n"),
+    (char("0061", not_when="r"), rule("<anchor/><look-ahead><start/></look-ahead>"),
+     WITH_RULE + "the end of a label before the anchor, or its start behind it, which no label has\n"),
+    (char("0061", when="r"), rule("<any/><any/>"),
+     WITH_RULE + "a rule without an anchor, in a condition, that is about more than one code point\n"),
+    (char("0061", when="r"), rule("<anchor/><anchor/>"), WITH_RULE + "two anchors one behind the other\n"),
+    (char("0061", when="r"), rule("<choice><anchor/><any/></choice>"),
+     WITH_RULE + "an anchor in one part of a choice, and none in another\n"),
+    (char("0061", when="r"), rule('<rule count="2"><anchor/></rule>'), WITH_RULE + "an anchor within what is counted\n"),
+    (char("0061", when="r"), rule("<look-behind><any/></look-behind>"),
+     WITH_RULE + "a look-behind or look-ahead without an anchor beside it\n"),
+    (char("0061", when="r"), rule("<choice/><anchor/>"), WITH_RULE + "a choice without a part\n"),
+    (char("0061", when="r"), rule('<class property="sc:Latn"/>'),
+     WITH_RULE + "the property 'sc:Latn', and only General_Category and Canonical_Combining_Class are known\n"),
+    (char("0061"), '<class name="letters" property="Alphabetic:Y"/>' + refusing('<union><class by-ref="letters"/></union>'),
+     "line 4: action 'invalid': the property 'Alphabetic:Y', and only General_Category and Canonical_Combining_Class are "
+     "known\n"),
+    (char("0061"), refusing("<union/>"), "line 4: action 'invalid': a set operator without its sets\n"),
+    (ABC, refusing("<choice><any/><rule><any/><any/></rule></choice>" * 1100),
+     "line 4: action 'invalid': a rule that takes more than 4,096 parts to write\n"),
+    # All of them are told.
+    (char("0061", ("",)) + "\n" + char("0062", ("",)), '<action disp="no" any-variant="x"/>',
+     "line 5: action 'no': a disposition that is none of RFC 7940, section 7.3\n"
+     "lines 2, 3: char 0061 and 1 more: a null variant, which no table can have\n"),
+]
+# What the file itself has wrong.
+FAULTS = [
+    (char("0061", when="r"), "", "line 2: no rule has the name 'r'\n"),
+    (ABC, '<action disp="blocked" any-variant="x" not-match="r"/>', "line 4: no rule has the name 'r'\n"),
+    (ABC, rule('<class by-ref="c"/>'), "line 4: no class has the name 'c'\n"),
+    (ABC, rule('<rule by-ref="r"/>'), "line 4: rule 'r' is a part of itself, or too deep in others\n"),
+    (ABC, refusing('<any count="2:1"/>'), "line 4: '2:1' is not a count\n"),
+    (ABC, refusing('<any count="1+"><start/></any>'), "line 4: 'start' is not an element of RFC 7940 here\n"),
+    (ABC, refusing('<class from-tag="t">0061</class>'), "line 4: class says in two ways what it is\n"),
+    (ABC, refusing('<class from-tag="t" property="gc:Mn"/>'), "line 4: class says in two ways what it is\n"),
+    (ABC, rule("<any/>", "s") + refusing('<rule by-ref="s"><any/></rule>'), "line 4: rule says in two ways what it is\n"),
+    (ABC, refusing('<rule name="s"><any/></rule>'), "line 4: 'name' is not an attribute of 'rule' in RFC 7940 here\n"),
+    (ABC, '<rule name="r" count="2"><any/></rule>', "line 4: 'count' is not an attribute of 'rule' in RFC 7940 here\n"),
+    (ABC, refusing('<union><class count="2">0061</class></union>'),
+     "line 4: 'count' is not an attribute of 'class' in RFC 7940 here\n"),
+    (ABC, refusing('<union><char cp="0061"/></union>'), "line 4: 'char' is not an element of RFC 7940 here\n"),
+    (ABC, refusing("<any/>behind"), "line 4: rule has a text within it\n"),
+    ('<char cp="0061">0062</char>', "", "line 2: char has a text within it\n"),
+    ('<char cp="0061"><var cp="0062"><var cp="0063"/></var></char>', "", "line 2: 'var' is not an element of RFC 7940 here\n"),
+    (char("0061", ("0061", "x")), '<action disp="invalid" any-variant="x"/>',
+     "each label is refused by the types of its code points\n"),
+    (char("0041"), "", "no entry of it can stand in a table\n"
+     "line 2: char 0041: left out, since it has a code point that no label can have\n"),
+]
+# What is left out, or makes no difference, is told: the data, the rules, the lines, and the messages.
+LABELS = [
+    (char("0061 0062", tag="t") + char("0062", tag="t") + char("0063"), refusing('<class from-tag="t"/><end/>'),
+     ["%never 0062 $", "0061-0062", "0062..0063"],
+     "line 2: char 0061-0062: its tag makes no difference, since a class is of single code points\n"),
+    # The variant would have to end within a source.
+    (char("0061", ("0062", "blocked")) + char("0062 0063"), "", ["0061", "0062-0063"],
+     "line 2: char 0061, variant 0062: left out, since it is not made of entries\n"),
+    ('<range first-cp="0060" last-cp="0062"/>' + char("0063", ("0041", "blocked"), ("0064", "blocked")), "",
+     ["0061..0063"],
+     "line 2: 0060 of range 0060..0062 and 1 more: left out, since it has a code point that no label can have\n"
+     "line 2: char 0063, variant 0064: left out, since it is not made of entries\n"),
+    (char("0061", ("0062", "x")) + char("0062"), '<action disp="invalid" any-variant="x"/>', ["0061..0062"],
+     "line 2: char 0061, variant 0062: left out, since each label with it is refused by its type\n"),
+    (char("0061", ("0062", "allocatable", ' when="r"')) + char("0062", when="r"),
+     rule('<look-behind><char cp="0078"/></look-behind><anchor/>'),
+     ["%rule always _", "0061", "0062 unless always"],
+     "line 2: char 0061, variant 0062: left out, since when 'r' never holds there\n"
+     "line 2: char 0062: no label has it, since when 'r' never holds there\n"),
+    (char("0061", ("0062", "typo")) + char("0062"),
+     rule("<any/>") + '<class name="c">0061</class>' + refusing('<char cp="0078"/>').replace('"r"', '"s"'),
+     ["0061|0062", "0062"],
+     "line 2: type 'typo': no action names it, so that it refuses and blocks no label\n"
+     "line 4: action 'invalid': no label of these entries triggers it\n"
+     "line 4: rule 'r' and 1 more: it makes no difference\n"
+     "the table has 1 gap: tables/check.py prints them\n"),
+]
+# Each limit of the notation.
+TOO_LONG = "it is too long, or has too many parts within each other\n"
+LIMITS = [
+    ('<range first-cp="4E00" last-cp="9FFF"/><range first-cp="AC00" last-cp="D7A3"/>'
+     '<range first-cp="20000" last-cp="2825C"/>', "", "the ruleset: 65,537 entries, and it can have 65,536\n"),
+    (char("0061", *((f"{0x4E00 + each:04X}", "valid") for each in range(17))) + '<range first-cp="4E00" last-cp="4E20"/>', "",
+     "line 2: char 0061: 17 variants, and an entry can have 16\n"),
+    (char(" ".join(["0061"] * 9)) + char("0061", (" ".join(["0061"] * 10),)), "",
+     f"line 2: char {'-'.join(['0061'] * 9)}: 9 code points, and a sequence can have 8\n"
+     f"line 2: char 0061, variant {'-'.join(['0061'] * 10)}: 10 code points, and a sequence can have 8\n"),
+    (ABC, refusing("<choice><any/><rule><any/>" * 10 + "<any/>" + "</rule></choice>" * 10),
+     f"line 4: action 'invalid': {TOO_LONG}"),
+    (ABC, refusing('<rule count="0+"><any/>' * 3 + "<any/>" + "</rule>" * 3 + '<char cp="0061"/><end/>'),
+     f"line 4: action 'invalid': {TOO_LONG}"),
+    (ABC, refusing("<class>0061-0062</class>" * 1200), f"line 4: action 'invalid': {TOO_LONG}"),
+    (ABC.replace('"0062"', '"0062" when="r"'),
+     rule("<look-behind>" + "<class>0061-0062</class>" * 1200 + "</look-behind><anchor/>"), f"line 4: rule 'r': {TOO_LONG}"),
+    (ABC, rule('<char cp="0061 0062"/>') + '<action disp="invalid" match="r"/>' * 257,
+     "the ruleset: 257 rules and demands, and it can have 256\n"),
+    (char("0061", *((f"{0x62 + each:04X}", f"x{each}") for each in range(9))) + '<range first-cp="0062" last-cp="006A"/>',
+     "".join(f'<action disp="valid" all-variants="x{each}"/>' for each in range(9)) + '<action disp="blocked" any-variant="'
+     + " ".join(f"x{each}" for each in range(9)) + '"/>', "the ruleset: 9 tags, and it can have 8\n"),
+]
+
+
+def many_entries():
+    """The data and the rules of a ruleset with 32,164 entries."""
+    return '<range first-cp="4E00" last-cp="9FFF"/><range first-cp="AC00" last-cp="D7A3"/>', ""
+
+
+def long_set():
+    """Those of a ruleset with a class that has no two code points one behind the other, and takes more than a line."""
+    points = " ".join(f"{point:04X}" for point in range(0x4E00, 0x5C00, 2))
+    return ('<range first-cp="4E00" last-cp="5BFF"/><char cp="0061" when="r"/>',
+            f'<class name="many">{points}</class>' + rule('<look-behind><class by-ref="many"/></look-behind><anchor/>'))
