@@ -14,7 +14,7 @@ _idn2() {
             mapfile -t COMPREPLY < <(compgen -f -- "$word")
             return
             ;;
-        --after | --limit | --tries) return ;;
+        --after | --limit | --tries | --steps) return ;;
     esac
     case $word in
         -*) mapfile -t COMPREPLY < <(compgen -W "$(_idn2_options)" -- "$word") ;;
@@ -43,9 +43,9 @@ _idn2_beside_variants() {
     case $1 in
         *" --jump "*) ;;
         *" --among "*) echo "--after --limit --among" ;;
-        *" --tries "*) echo "--after --limit --tries" ;;
-        *" --after "* | *" --limit "*) echo "--after --limit --tries --among" ;;
-        *) echo "--after --limit --tries --among --jump" ;;
+        *" --tries "* | *" --steps "*) echo "--after --limit --tries --steps" ;;
+        *" --after "* | *" --limit "*) echo "--after --limit --tries --steps --among" ;;
+        *) echo "--after --limit --tries --steps --among --jump" ;;
     esac
 }
 

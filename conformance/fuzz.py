@@ -37,10 +37,11 @@ ALPHABETS = ("ab", "sß", "abß-", "a-", "ab\u0301", "qa\u0301", "\u05d0\u05d1a"
 PIECES = [b"a", b"b", b".", b"-", b"--", b"xn--", b"XN--", b"\0", b"\r", b"\r\n", b"\n", b"\xff", b"\xc3", b"\xed\xa0\x80",
           b"\xf4\x90\x80\x80", b"\xc0\x80", "ß".encode(), "\u0301".encode(), "\U00010ffff".encode(), b"a" * 62, b"b" * 1000]
 WORDS = ["-l", "--lookup", "-r", "--register", "-d", "--decode", "-N", "--tr46nt", "--quiet", "--usestd3asciirules",
-         "-h", "--help", "-V", "--version", "--variants", "--check-table", "--after", "--limit", "--tries", "--",
+         "-h", "--help", "-V", "--version", "--variants", "--check-table", "--after", "--limit", "--tries", "--steps", "--",
          "--among", "--among=registered", "--among=absent", "--among=table", "--jump", "--jump=1", "registered",
          "-", "-rN", "-lr", "-hx", "-xh", "-r=1", "--register=1", "--bogus", "--after=", "--after=-a", "--limit=1",
-         "--limit=0", "--tries=2", "--tries=0000000002", "--limit=00000000001", "--limit=+1", "--limit= 1", "table", "absent",
+         "--limit=0", "--tries=2", "--tries=0000000002", "--steps=1", "--steps=2", "--steps=0000000000000000003",
+         "--steps=00000000000000000004", "--steps=1000000000000000000", "--steps=1000000000000000001", "--limit=00000000001", "--limit=+1", "--limit= 1", "table", "absent",
          "", "a", "aß", "1", "2", "1000000000", "1000000001", "--variants=table", "--check-table=table", "a\nb"]
 
 
@@ -166,7 +167,7 @@ class Fuzz:
         letters = self.chance.choice(ALPHABETS)
         table, entries = self.table(letters)
         starts = [self.sequence(letters, 6) for _ in range(3)]
-        options = {"--limit=": LIMITS, "--tries=": ("1", "2", "5", "40"), "--after=": starts}
+        options = {"--limit=": LIMITS, "--tries=": ("1", "2", "5", "40"), "--steps=": ("2", "3", "4", "6", "9", "30"), "--after=": starts}
         words = ["--variants", "table", *self.some_of(options)]
         longest = self.chance.choice((3, 5, 8, 8, 70))
         return self.compare(words, self.lines(lambda: "".join(self.sources(entries, longest))), table=table)

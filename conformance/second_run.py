@@ -25,7 +25,7 @@ FLAGS = {"-l": "lookup", "--lookup": "lookup", "-r": "register", "--register": "
          "--decode": "decode", "-N": "nontransitional", "--tr46nt": "nontransitional", "--quiet": "quiet",
          "--usestd3asciirules": "std3", "--jump": "jump", "-h": "show", "--help": "show", "-V": "show", "--version": "show"}
 LISTINGS, CHECKS = {"--variants", "--ruleset"}, {"--check-table", "--check-ruleset"}
-OF_A_LISTING = {"--among", "--after", "--limit", "--tries"}
+OF_A_LISTING = {"--among", "--after", "--limit", "--tries", "--steps"}
 VALUES = LISTINGS | CHECKS | OF_A_LISTING
 MODES = {"lookup", "register", "decode"} | LISTINGS | CHECKS
 
@@ -95,27 +95,29 @@ class Options:
         if len(self.after.encode()) > TEXT_LIMIT:
             raise Bad
         self.limit, self.tries = self.count("--limit", None), self.count("--tries", TRIES)
+        self.steps = self.count("--steps", None, 19, 2, 10 ** 18)
 
     def obey_rules_of_variants(self):
-        """Options of a listing need one, a jump needs a table and is no listing, and `--among` tries nothing."""
+        """Options of a listing need one, a jump needs a table and is no listing, and `--among` tries and passes over nothing."""
         given_for_listing = OF_A_LISTING & self.given.keys()
         is_jump = "jump" in self.given
         if self.mode not in LISTINGS and (given_for_listing or is_jump):
             raise Bad
         if is_jump and given_for_listing:
             raise Bad
-        if "--among" in self.given and ("--tries" in self.given or self.given["--among"] == self.given[self.mode]):
+        bounded = {"--tries", "--steps"} & self.given.keys()
+        if "--among" in self.given and (bounded or self.given["--among"] == self.given[self.mode]):
             raise Bad
 
     def files(self):
         """The names of the files that are read."""
         return [self.given[name] for name in LISTINGS | CHECKS | {"--among"} if name in self.given]
 
-    def count(self, name, default):
+    def count(self, name, default, digits=10, least=1, most=COUNT_LIMIT):
         text = self.given.get(name)
         if text is None:
             return default
-        if not (1 <= len(text) <= 10 and text.isascii() and text.isdigit() and 1 <= int(text) <= COUNT_LIMIT):
+        if not (1 <= len(text) <= digits and text.isascii() and text.isdigit() and least <= int(text) <= most):
             raise Bad
         return int(text)
 
@@ -231,10 +233,13 @@ class Run:
         labels, has_third_field = table
         after = [each for each in candidates if each > options.after]
         variants = [each for each in after if self.is_variant(labels, each)]
-        tested = [each for each in after if self.registration.has_hope(each) and not has_lost_beginning(labels, each)]
+        tested = [each for each in after if self.lost_beginning(labels, each) is None]
+        visited = [each for last, each in zip([None, *after], after) if self.is_visited(labels, last, each)]
         if registered is not None:
-            variants, tested = [each for each in variants if each in registered], []
+            variants, tested, visited = [each for each in variants if each in registered], [], []
         stops = tested[options.tries - 1:options.tries]
+        if options.steps is not None:
+            stops += visited[options.steps - 1:options.steps]
         if options.limit is not None:
             stops += variants[options.limit - 1:options.limit]
         if stops:
@@ -243,6 +248,17 @@ class Run:
         allocatable = labels.allocatable(label) if has_third_field else set()
         field = lambda each: "" if not has_third_field else "\tallocatable" if each in allocatable else "\tblocked"
         return [f"{each}\t{a_label(each)}{field(each)}" for each in variants] + [trailer], None
+
+    def lost_beginning(self, labels, label):
+        """How many letters the shortest beginning of the label has that no variant begins with, or None."""
+        beginnings = (label[:count] for count in range(1, len(label) + 1))
+        is_lost = lambda each: self.registration.is_hopeless([ord(letter) for letter in each]) or labels.is_lost(each)
+        return next((len(each) for each in beginnings if is_lost(each)), None)
+
+    def is_visited(self, labels, last, label):
+        """A step comes to each label that is tested, and to one whose lost beginning the candidate before it hasn't."""
+        count = self.lost_beginning(labels, label)
+        return count is None or last is None or last[:count] != label[:count]
 
     def is_variant(self, labels, label):
         return self.registration.first_fault(self.known(label)) is None and labels.is_valid(label)
@@ -263,10 +279,6 @@ def as_ruleset(table):
         mapped = tuple(Mapped(variant, is_blocked) for variant, is_blocked in variants.items())
         entries[source] = Entry(Mapped(source), mapped)
     return Ruleset(entries=entries)
-
-
-def has_lost_beginning(labels, label):
-    return any(labels.is_lost(label[:count]) for count in range(1, len(label) + 1))
 
 
 def message(number):

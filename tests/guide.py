@@ -126,7 +126,7 @@ def has_each_script_in_the_guide(folder):
         called = re.findall(r"\$here/(\S+?)\"", text)
         assert set(called) <= SCRIPTS.keys(), (name, called)
         lists = "--variants" in text and not re.search(r"--limit 1 --tries 1 |--among |--jump", text)
-        assert not lists or "--tries" in text, f"{name} lists without --tries"
+        assert not lists or "--tries" in text and "--steps" in text, f"{name} lists without --tries or --steps"
 
 
 @in_each_setting

@@ -81,7 +81,7 @@ def shows_help_and_version(folder):
         done = run(words)
         assert (done.returncode, done.stderr) == (0, b"") and done.stdout, words
     for option in (b"--register", b"--decode", b"--variants", b"--check-table", b"--among", b"--jump", b"--after",
-                   b"--limit", b"--tries"):
+                   b"--limit", b"--tries", b"--steps"):
         assert option in run(["--help"]).stdout, option
     assert b"Unicode" in run(["--version"]).stdout
 
@@ -151,6 +151,27 @@ def resumes_where_it_stopped(folder):
             break
         stops, start = stops + 1, trailer.split(b" ")[2].decode()
     assert (lines, stops, trailer) == (whole[:-1], 19, b"#end 1"), (stops, trailer)
+
+
+def stops_at_the_label_of_its_last_step(folder):
+    """A step comes to a tested label, or goes over all that share a hopeless beginning. Runs of two steps each, every one from
+    the stop of the one before, list what one run lists."""
+    words = ["--variants", table_file(folder, b"0061|002D\n")]
+    for steps, lines in (("2", "#stop 0 a--"), ("3", "a-a\ta-a\n#stop 1 a-a"), ("5", "a-a\ta-a\naaa\taaa\n#stop 2 aaa"),
+                         ("0000000000000000006", "a-a\ta-a\naaa\taaa\n#end 2")):
+        expect([*words, "--steps", steps, "aaa"], b"", lines.encode() + b"\n", b"", 0)
+    for steps in ("0", "1", "", "x", "+2", "1000000000000000001", "00000000000000000002"):
+        expect([*words, "--steps=" + steps, "aaa"], b"", b"", b"idn2: 50 usage\n", 2)
+    for more in (["--jump"], ["--among", "registered"]):
+        expect([*words, "--steps", "2", *more, "aaa"], b"", b"", b"idn2: 50 usage\n", 2)
+    whole, lines, start = run(words, b"aaaaaaaa\n").stdout.splitlines(), [], ""
+    while True:
+        *variants, trailer = run([*words, "--steps", "2", "--after=" + start], b"aaaaaaaa\n").stdout.splitlines()
+        lines += variants
+        if trailer.startswith(b"#end "):
+            break
+        start = trailer.split(b" ")[2].decode()
+    assert lines == whole[:-1], (lines, whole)
 
 
 def lists_any_number_of_lines_in_the_memory_of_ten(folder):
@@ -525,6 +546,7 @@ TESTS = [
     says_which_variants_are_blocked,
     says_it_for_labels_of_every_length,
     resumes_where_it_stopped,
+    stops_at_the_label_of_its_last_step,
     lists_any_number_of_lines_in_the_memory_of_ten,
     lists_what_sets_of_all_labels_list,
     checks_a_table,

@@ -18,8 +18,10 @@ use Rattle.variant_list.specs.Laws.{IsTested}
 use Rattle.variant_list.specs.Segmentations.{HasSegmentation}
 use Rattle.variant_list.specs.Labels.{IsListOf}
 use Rattle.variant_list.specs.Tested.{tested}
-use Rattle.variant_list.specs.Variants.{IsVariant, variants}
+use Rattle.variant_list.specs.Variants.{IsVariant, candidates, fits_label, variants}
+use Rattle.variant_list.proofs.CandidateLemmas.{short-fits_label}
 use Rattle.variant_list.proofs.ListMembers.{Contains-none}
+use Rattle.variant_list.proofs.ListingLemmas.{fits_label-short}
 use Rattle.variant_list.proofs.MutualLemmas.{has_variant-from, has_variant-is}
 use Rattle.variant_list.proofs.RisingLists.{IsRising-filter, Contains-filter}
 use Rattle.variant_list.proofs.ListedLemmas.{IsListOf-same}
@@ -27,8 +29,8 @@ use Rattle.variant_list.proofs.TestedLaws.{tested_are_listed}
 use Rattle.variant_list.proofs.VariantLists.{variants-AreVariants}
 use Rattle.idn2_options.specs.Settings.{Settings}
 use Rattle.idn_label.specs.Answers.{unless_fault}
-use Rattle.idn2_cli.specs.Answers.{is_among, is_registrable, kept_to, tested_unless_kept, variants_after, tested_after, stop_of, disposition, block, listing_answer, variants_answer}
-use Rattle.idn2_cli.specs.Answers.{IsKept, IsListed, IsTried, IsBlock, IsListing}
+use Rattle.idn2_cli.specs.Answers.{is_among, is_registrable, kept_to, unless_kept, variants_after, tested_after, stop_of, disposition, block, listing_answer, variants_answer}
+use Rattle.idn2_cli.specs.Answers.{IsAhead, IsKept, IsListed, IsTried, IsBlock, IsListing}
 use Rattle.idn2_cli.specs.Transcript.{IsCheck}
 use Rattle.idn2_cli.specs.Transcript.{check_lines}
 use Rattle.idn2_cli.proofs.DispositionLemmas.{disposition-IsDisposition}
@@ -82,10 +84,16 @@ same_tried o table label v = (
   λ t. (record { spelled = t.spelled; short = t.short; greater = t.greater; hope = λ k low high. clear (take k v) (t.hope k) }, t.whole),
 )
 
--- all of a list are tested, or none
-tested-IsListOf : (P : List ℕ → Type 0) (labels : Option (List (List ℕ))) (vs : List (List ℕ)) → IsListOf P vs → IsListOf (λ v. P v × (labels ≡ None)) (tested_unless_kept labels vs)
-tested-IsListOf P None vs list = record { rising = list.rising; members = λ v. (λ c. ((list.members v).0 c, refl), λ i. (list.members v).1 i.0) }
-tested-IsListOf P (Some labels) vs list = record { rising = tt; members = λ v. (λ c. absurd (Contains-none v c), λ i. absurd (let clash : Some labels ≡ None = i.1 in cc)) }
+same_ahead : (o : Settings) (table : List Entry) (label v : List ℕ) → (IsVariant fits_label table label o.after v × (o.registered ≡ None) → IsAhead o table label v) × (IsAhead o table label v → IsVariant fits_label table label o.after v × (o.registered ≡ None))
+same_ahead o table label v = (
+  λ i. record { short = fits_label-short v i.0.accepted; greater = i.0.greater; spelled = i.0.spelled; whole = i.1 },
+  λ a. (record { accepted = short-fits_label v a.short; spelled = a.spelled; greater = a.greater }, a.whole),
+)
+
+-- all of a list, or none
+whole-IsListOf : (P : List ℕ → Type 0) (labels : Option (List (List ℕ))) (vs : List (List ℕ)) → IsListOf P vs → IsListOf (λ v. P v × (labels ≡ None)) (unless_kept labels vs)
+whole-IsListOf P None vs list = record { rising = list.rising; members = λ v. (λ c. ((list.members v).0 c, refl), λ i. (list.members v).1 i.0) }
+whole-IsListOf P (Some labels) vs list = record { rising = tt; members = λ v. (λ c. absurd (Contains-none v c), λ i. absurd (let clash : Some labels ≡ None = i.1 in cc)) }
 
 block-IsBlock : (o : Settings) (table : TableValue) (label : List ℕ) → IsWellFormed table.entries → IsBlock o table label (block o table label)
 block-IsBlock o table label formed = record {
@@ -94,7 +102,10 @@ block-IsBlock o table label formed = record {
       (kept_to-IsListOf (IsVariant is_registrable table.entries label o.after) o.registered (variants is_registrable table.entries label o.after) (variants-AreVariants is_registrable table.entries label o.after formed.entries));
   tried = tested_after o table.entries label;
   exactly_tried = IsListOf-same (λ v. IsTested hopeless table.entries label o.after v × (o.registered ≡ None)) (IsTried o table.entries label) (tested_after o table.entries label) (same_tried o table.entries label)
-      (tested-IsListOf (IsTested hopeless table.entries label o.after) o.registered (tested hopeless table.entries label o.after) (tested_are_listed hopeless table.entries label o.after formed));
+      (whole-IsListOf (IsTested hopeless table.entries label o.after) o.registered (tested hopeless table.entries label o.after) (tested_are_listed hopeless table.entries label o.after formed));
+  ahead = unless_kept o.registered (candidates table.entries label o.after);
+  exactly_ahead = IsListOf-same (λ v. IsVariant fits_label table.entries label o.after v × (o.registered ≡ None)) (IsAhead o table.entries label) (unless_kept o.registered (candidates table.entries label o.after)) (same_ahead o table.entries label)
+      (whole-IsListOf (IsVariant fits_label table.entries label o.after) o.registered (candidates table.entries label o.after) (variants-AreVariants fits_label table.entries label o.after formed.entries));
   stop = stop_of o table.entries label;
   stops = refl;
   field = disposition table label;

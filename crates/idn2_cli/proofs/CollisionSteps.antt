@@ -42,19 +42,19 @@ module _ (line : List ℕ → List ℕ) where
   lines_behind limit count v vs = if reaches limit (count + 1) then trailer (count + 1) (Some v) ∷ [] else lines_from limit (count + 1) vs
 
   lines_to-from : (vs : List (List ℕ)) → IsRising vs → (count : ℕ) (place : Option ℕ)
-      → lines_to line count (get_if_given line vs place) vs ≡ lines_from (limit_from line count place) count vs
-  lines_to-from [] rising count None = ap (λ (n : ℕ). trailer n None ∷ []) (add_none line count)
-  lines_to-from [] rising count (Some i) = ap (λ (n : ℕ). trailer n None ∷ []) (add_none line count)
+      → lines_to line count (get_if_given vs place) vs ≡ lines_from (limit_from count place) count vs
+  lines_to-from [] rising count None = ap (λ (n : ℕ). trailer n None ∷ []) (add_none count)
+  lines_to-from [] rising count (Some i) = ap (λ (n : ℕ). trailer n None ∷ []) (add_none count)
   lines_to-from (v ∷ vs) rising count None =
       stops_later line count v vs None tt ∙ ap (λ (l : List (List ℕ)). line v ∷ l) (lines_to-from vs rising.1 (count + 1) None)
   lines_to-from (v ∷ vs) rising count (Some zero) =
       stops_at_variant line count v vs (Some v) rising.0 refl
-      ∙ ap (λ (b : Bool). line v ∷ (if b then trailer (count + 1) (Some v) ∷ [] else lines_from (limit_from line count (Some 0)) (count + 1) vs)) (sym (reaches-now line count))
+      ∙ ap (λ (b : Bool). line v ∷ (if b then trailer (count + 1) (Some v) ∷ [] else lines_from (limit_from count (Some 0)) (count + 1) vs)) (sym (reaches-now count))
   lines_to-from (v ∷ vs) rising count (Some (suc i)) =
-      stops_later line count v vs (slice_get vs i) (get-above line v vs i rising.0)
+      stops_later line count v vs (slice_get vs i) (get-above v vs i rising.0)
       ∙ ap (λ (l : List (List ℕ)). line v ∷ l) (lines_to-from vs rising.1 (count + 1) (Some i))
-      ∙ ap (λ (limit : Option ℕ). line v ∷ lines_from limit (count + 1) vs) (sym (limit_from-later line count i))
-      ∙ ap (λ (b : Bool). line v ∷ (if b then trailer (count + 1) (Some v) ∷ [] else lines_from (limit_from line count (Some (suc i))) (count + 1) vs)) (sym (reaches-later line count i))
+      ∙ ap (λ (limit : Option ℕ). line v ∷ lines_from limit (count + 1) vs) (sym (limit_from-later count i))
+      ∙ ap (λ (b : Bool). line v ∷ (if b then trailer (count + 1) (Some v) ∷ [] else lines_from (limit_from count (Some (suc i))) (count + 1) vs)) (sym (reaches-later count i))
 
 -- ---- the block is these lines
 
@@ -73,10 +73,12 @@ module _ (field : List ℕ → List ℕ) where
 
 -- ---- collisions are the variants that are kept
 
--- nothing is tried, so only the limit stops the listing
-no_try : (stop : Option (List ℕ)) (n : ℕ) → lesser_label stop (nth [] n) ≡ stop
-no_try None n = refl
-no_try (Some v) n = refl
+-- nothing is tried or passed over, so only the limit stops the listing
+no_try : (stop : Option (List ℕ)) (n : ℕ) (m : Option ℕ) → lesser_label stop (lesser_label (nth [] n) (nth_if_given [] m)) ≡ stop
+no_try None n None = refl
+no_try None n (Some m) = refl
+no_try (Some v) n None = refl
+no_try (Some v) n (Some m) = refl
 
 pub kept-collisions : (o : Settings) (net : Built) (labels : List (List ℕ)) → IsWellFormed net.table → AreRegistered labels
     → variants_after (keeping (Some labels) o) net.table net.label ≡ collisions net labels o.after
@@ -95,8 +97,8 @@ module _ (field : List ℕ → List ℕ) where
   block-from : (o : Settings) (net : Built) (labels : List (List ℕ)) → IsWellFormed net.table → AreRegistered labels → IfSome o.limit IsCount
       → block_by field (keeping (Some labels) o) net.table net.label ≡ lines_from (line_of field) o.limit 0 (collisions net labels o.after)
   block-from o net labels formed all limits =
-      ap (λ (vs : List (List ℕ)). block_to field (lesser_label (nth_if_given vs o.limit) (nth [] o.tries)) vs) (kept-collisions o net labels formed all)
-      ∙ ap (λ (stop : Option (List ℕ)). block_to field stop (collisions net labels o.after)) (no_try (nth_if_given (collisions net labels o.after) o.limit) o.tries)
+      ap (λ (vs : List (List ℕ)). block_to field (lesser_label (nth_if_given vs o.limit) (lesser_label (nth [] o.tries) (nth_if_given [] o.steps))) vs) (kept-collisions o net labels formed all)
+      ∙ ap (λ (stop : Option (List ℕ)). block_to field stop (collisions net labels o.after)) (no_try (nth_if_given (collisions net labels o.after) o.limit) o.tries o.steps)
       ∙ block-lines field (collisions net labels o.after) o.limit (collisions-exactly net labels o.after formed all).rising limits
 
   -- ---- a listing under way

@@ -22,7 +22,7 @@ use Rattle.variant_list.specs.Spelled.{spelled}
 use Rattle.variant_list.specs.Variants.{variants, in_order}
 use Rattle.variant_list.specs.Examples.{a_or_two, letter_or_hyphen}
 use Rattle.idn2_options.specs.Settings.{Settings}
-use Rattle.idn2_cli.specs.Answers.{block, block_to, disposition, is_registrable, kept_to, lesser_label, nth, nth_if_given, one_line, tested_after}
+use Rattle.idn2_cli.specs.Answers.{block, block_to, disposition, is_registrable, kept_to, lesser_label, nth, nth_if_given, one_line, tested_after, visited_in}
 use Rattle.std.specs.Char.{encode_utf8}
 use Rattle.std.specs.Str.{is_utf8, chars}
 use Rattle.idn_text.specs.Lines.{lines_of}
@@ -53,11 +53,11 @@ filter-passes after (v ∷ vs) ldh =
 abbrev ldh_block : Settings → TableValue → List ℕ → List (List ℕ)
 ldh_block o table label =
     let vs = kept_to o.registered (variants passes table.entries label o.after) in
-    block_to (disposition table label) (lesser_label (nth_if_given vs o.limit) (nth (tested_after o table.entries label) o.tries)) vs
+    block_to (disposition table label) (lesser_label (nth_if_given vs o.limit) (lesser_label (nth (tested_after o table.entries label) o.tries) (nth_if_given (visited_in o table.entries label) o.steps))) vs
 
 block-ldh : (o : Settings) (table : TableValue) (label : List ℕ) → AllLdh (in_order (spelled table.entries label)) → block o table label ≡ ldh_block o table label
 block-ldh o table label ldh =
-    ap (λ (all : List (List ℕ)). let vs = kept_to o.registered all in block_to (disposition table label) (lesser_label (nth_if_given vs o.limit) (nth (tested_after o table.entries label) o.tries)) vs)
+    ap (λ (all : List (List ℕ)). let vs = kept_to o.registered all in block_to (disposition table label) (lesser_label (nth_if_given vs o.limit) (lesser_label (nth (tested_after o table.entries label) o.tries) (nth_if_given (visited_in o table.entries label) o.steps))) vs)
     (filter-passes o.after (in_order (spelled table.entries label)) ldh)
 
 pub blocks : ExamplesOfBlocks
@@ -66,6 +66,7 @@ blocks = record {
   doubled = block-ldh (listing None 1000000) (version_one a_or_two) (codes "aa") (refl, (refl, (refl, tt))) ∙ refl;
   limited = block-ldh (listing (Some 2) 1000000) (version_one a_or_two) (codes "aa") (refl, (refl, (refl, tt))) ∙ refl;
   spent = block-ldh (listing None 4) (version_one letter_or_hyphen) (codes "aaa") (refl, (refl, (refl, (refl, (refl, (refl, (refl, (refl, tt)))))))) ∙ refl;
+  stepped = block-ldh (record (listing None 1000000) { steps = Some 3 }) (version_one letter_or_hyphen) (codes "aaa") (refl, (refl, (refl, (refl, (refl, (refl, (refl, (refl, tt)))))))) ∙ refl;
   y_blocked = block-ldh (listing None 1000000) y_or_z (codes "ax") (refl, (refl, (refl, tt))) ∙ refl;
   allocatable_by_one_cutting = block-ldh (listing None 1000000) one_or_both (codes "aa") (refl, (refl, (refl, (refl, tt)))) ∙ refl;
 }

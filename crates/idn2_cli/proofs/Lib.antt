@@ -4,8 +4,10 @@ mod FaultLemmas
 pub mod WrittenPieces
 -- What the bytes of a line are answered, by the code points that they spell.
 pub mod TextAnswers
--- A listing step by step, and that it is the block.
+-- Blocks: the least of several stops, and one line more.
 pub mod BlockSteps
+-- The stop of a listing, as it is seen from where the cursor stands.
+pub mod StopSteps
 -- One line more, and the end of the lines.
 pub mod LineSteps
 -- From the lines of the input, or none, to the end of a run.

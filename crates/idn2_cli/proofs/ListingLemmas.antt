@@ -1,5 +1,5 @@
 -- The listing of a label's variants, and the labels in it.
-use Rattle.std.proofs.Common.{◌≡◌, ◌≤◌, ◌+◌, ◌-◌, ℕ, zero, suc, List, [], ◌∷◌, ◌++◌, ◌&&◌, Bool, true, IsTrue, Option, Some, None, IfSome, All, Contains, map, length, take, drop, refl, sym, ap, subst, ◌∙◌, arith, take-append-drop, length-take}
+use Rattle.std.proofs.Common.{◌≡◌, ◌≤◌, ◌+◌, ◌-◌, ℕ, zero, suc, List, [], ◌∷◌, ◌++◌, ◌&&◌, ◌||◌, cond, Bool, true, false, IsTrue, Option, Some, None, IfSome, All, Contains, map, length, take, drop, refl, sym, ap, subst, ◌∙◌, arith, take-append-drop, length-take}
 use Rattle.std.specs.Option.{is_none}
 use Rattle.std.specs.List.{AllByRecursion, filter, slice_get}
 use Rattle.std.proofs.lemmas.List.Elements.{All-from_recursion, recursion_from_All}
@@ -10,25 +10,26 @@ use Rattle.idn_label.proofs.HopeLemmas.{none_hopeless}
 use Rattle.idn_label.proofs.RequirementLemmas.{MeetsRequirements-registrable}
 use Rattle.variant_table.specs.Entries.{Entry, replacements}
 use Rattle.variant_table.specs.WellFormed.{IsWellFormed, IsEntry, IsSequence}
-use Rattle.variant_list.specs.Labels.{IsRising}
+use Rattle.variant_list.specs.Labels.{IsBelow}
 use Rattle.variant_list.specs.Spelling.{JoinsReplacements}
-use Rattle.variant_list.specs.Beginnings.{has_hope}
+use Rattle.variant_list.specs.Beginnings.{has_hope, is_new, shortest_hopeless}
 use Rattle.variant_list.specs.Tested.{tested}
-use Rattle.variant_list.specs.Variants.{fits_label}
-use Rattle.variant_list.specs.Positions.{Built, Position, tested_ahead}
+use Rattle.variant_list.specs.Variants.{candidates, fits_label, variants}
+use Rattle.variant_list.specs.Visited.{visited, visited_ahead}
+use Rattle.variant_list.specs.Positions.{Built, Position, candidates_ahead, tested_ahead}
 use Rattle.variant_list.specs.Jumps.{IsCandidate}
 use Rattle.variant_list.specs.Steps.{last_of, moved_over}
 use Rattle.variant_list.proofs.ListMembers.{Contains-head, Contains-later}
 use Rattle.variant_list.proofs.RecursionLemmas.{spelled-Spells}
 use Rattle.variant_list.proofs.ListedLemmas.{variants-IsListed, variants-behind}
-use Rattle.variant_list.proofs.ListingLemmas.{fits_label-short}
+use Rattle.variant_list.proofs.ListingLemmas.{fits_label-short, variants-cut}
 use Rattle.variant_list.proofs.TestedLaws.{variants_are_accepted_tested, tested-cut}
-use Rattle.variant_list.proofs.VariantLists.{both}
-use Rattle.idn2_options.specs.Settings.{Settings, IsCount, keeping}
+use Rattle.idn2_options.specs.Settings.{Settings, IsBound, IsCount, IsWithinLimits, keeping}
 use Rattle.idn2_cli.specs.Transcript.{Piece, Output, output_lines}
 use Rattle.idn2_cli.specs.Answers.{is_registrable, nth, nth_if_given, lesser_label, up_to, variant_line, trailer, block_to}
 use Rattle.idn2_cli.specs.inner.Dispositions.{block_by}
-use Rattle.idn2_cli.proofs.BlockSteps.{walk, lines_to, lines_at-walk}
+use Rattle.idn2_cli.proofs.BlockSteps.{get_if_given, limit_from, lines_to}
+use Rattle.idn2_cli.proofs.StopSteps.{IsAbove, from_here, from_here_if, stop_from, variants_ahead}
 
 -- ---- labels that may be registered
 
@@ -51,39 +52,61 @@ line_by field v = variant_line (field v) v
 pub lines_to-none : (field : List ℕ → List ℕ) (stop : Option (List ℕ)) (vs : List (List ℕ)) → block_to field stop vs ≡ lines_to (line_by field) 0 stop vs
 lines_to-none field stop vs = ap (λ (n : ℕ). map (line_by field) (up_to stop vs) ++ trailer n stop ∷ []) (omega arith)
 
--- the block of lists is what the steps write
-block_lists : (field : List ℕ → List ℕ) (accepts : List ℕ → Bool) (limit : Option ℕ) (tries : ℕ) (cs : List (List ℕ)) (last : List ℕ) → IsRising cs → IfSome limit IsCount → IsCount tries
-    → block_to field (lesser_label (nth_if_given (filter accepts cs) limit) (nth cs tries)) (filter accepts cs) ≡ walk (line_by field) accepts limit 0 last cs tries
-block_lists field accepts limit zero cs last rising limits count = absurd (omega (arith, count.0))
-block_lists field accepts None (suc t) cs last rising limits count =
-    lines_to-none field (nth cs (suc t)) (filter accepts cs)
-    ∙ ap (λ (n : ℕ). lines_to (line_by field) 0 (slice_get cs n) (filter accepts cs)) (omega arith)
-    ∙ lines_at-walk (line_by field) accepts cs rising last 0 None t
-block_lists field accepts (Some zero) (suc t) cs last rising limits count = absurd (omega (arith, limits.0))
-block_lists field accepts (Some (suc m)) (suc t) cs last rising limits count =
-    let vs = filter accepts cs in
-    lines_to-none field (lesser_label (nth vs (suc m)) (nth cs (suc t))) vs
-    ∙ ap (λ (n : ℕ). lines_to (line_by field) 0 (lesser_label (nth vs (suc m)) (slice_get cs n)) vs) (let one : suc t - 1 ≡ t = omega arith in one)
-    ∙ ap (λ (n : ℕ). lines_to (line_by field) 0 (lesser_label (slice_get vs n) (slice_get cs t)) vs) (let one : suc m - 1 ≡ m = omega arith in one)
-    ∙ lines_at-walk (line_by field) accepts cs rising last 0 (Some m) t
-    ∙ ap (λ (n : ℕ). walk (line_by field) accepts (Some n) 0 last cs (suc t)) (let same : (0 + 1) + m ≡ suc m = omega arith in same)
+-- the block of these lists, by the places at which it may stop
+at_place : (vs : List (List ℕ)) (limit : Option ℕ) → IfSome limit IsCount → (place : Option ℕ) × (nth_if_given vs limit ≡ get_if_given vs place) × (limit ≡ limit_from 0 place)
+at_place vs None limits = (None, refl, refl)
+at_place vs (Some n) limits = (
+  Some (n - 1),
+  refl,
+  ap (λ (m : ℕ). let o : Option ℕ = Some m in o) (let same : n ≡ (0 + 1) + (n - 1) = omega (arith, limits.0) in same),
+)
+
+-- the n-th of the labels to come
+nth-here : (last : List ℕ) (vs : List (List ℕ)) (n : ℕ) → 1 ≤ n → nth vs n ≡ from_here last vs n
+nth-here last vs zero some = absurd (omega (arith, some))
+nth-here last vs (suc n) some = ap (slice_get vs) (let same : suc n - 1 ≡ n = omega arith in same)
+
+nth-here_if : (last : List ℕ) (vs : List (List ℕ)) (n : Option ℕ) → IfSome n IsBound → nth_if_given vs n ≡ from_here_if last vs n
+nth-here_if last vs None bound = refl
+nth-here_if last vs (Some n) bound = nth-here last vs n (omega (arith, bound.0))
+
+candidates-cut : (table : List Entry) (label after : List ℕ) → candidates table label after ≡ candidates table label (take 63 after)
+candidates-cut table label after = variants-cut fits_label fits_label-short table label after
+
+-- the start of a listing: its block are the lines up to the stop that is seen from there
+pub record IsStart (field : List ℕ → List ℕ) (o : Settings) (p : Position) : Type 0 where
+  pub place : Option ℕ
+  pub limit : o.limit ≡ limit_from 0 place
+  pub block : block_by field (keeping None o) p.net.table p.net.label ≡ lines_to (line_by field) 0 (stop_from place p o.tries o.steps) (variants_ahead p)
+
+pub block-start : (field : List ℕ → List ℕ) (o : Settings) (net : Built) → IsWithinLimits o → IsStart field o (record { net = net; last = take 63 o.after; edge_tests = 0 })
+block-start field o net limits =
+    let last : List ℕ = take 63 o.after in
+    let cs : List (List ℕ) = tested hopeless net.table net.label last in
+    let us : List (List ℕ) = visited hopeless None (candidates net.table net.label last) in
+    let place = at_place (filter is_registrable cs) o.limit limits.limit in
+    let vs : variants is_registrable net.table net.label o.after ≡ filter is_registrable cs =
+    variants_are_accepted_tested is_registrable hopeless registrable-short none_hopeless net.table net.label o.after ∙ ap (filter is_registrable) (tested-cut hopeless net.table net.label o.after) in
+    let tries : nth (tested hopeless net.table net.label o.after) o.tries ≡ from_here last cs o.tries =
+    ap (λ (ds : List (List ℕ)). nth ds o.tries) (tested-cut hopeless net.table net.label o.after) ∙ nth-here last cs o.tries limits.tries.0 in
+    let steps : nth_if_given (visited hopeless None (candidates net.table net.label o.after)) o.steps ≡ from_here_if last us o.steps =
+    ap (λ (ds : List (List ℕ)). nth_if_given (visited hopeless None ds) o.steps) (candidates-cut net.table net.label o.after) ∙ nth-here_if last us o.steps limits.steps in
+    record {
+      place = place.0;
+      limit = place.2;
+      block =
+          ap (λ (ds : List (List ℕ)). block_to field (lesser_label (nth_if_given ds o.limit) (lesser_label (nth (tested hopeless net.table net.label o.after) o.tries) (nth_if_given (visited hopeless None (candidates net.table net.label o.after)) o.steps))) ds) vs
+          ∙ ap (λ (t : Option (List ℕ)). block_to field (lesser_label (nth_if_given (filter is_registrable cs) o.limit) (lesser_label t (nth_if_given (visited hopeless None (candidates net.table net.label o.after)) o.steps))) (filter is_registrable cs)) tries
+          ∙ ap (λ (s : Option (List ℕ)). block_to field (lesser_label (nth_if_given (filter is_registrable cs) o.limit) (lesser_label (from_here last cs o.tries) s)) (filter is_registrable cs)) steps
+          ∙ ap (λ (l : Option (List ℕ)). block_to field (lesser_label l (lesser_label (from_here last cs o.tries) (from_here_if last us o.steps))) (filter is_registrable cs)) place.1
+          ∙ lines_to-none field (lesser_label (get_if_given (filter is_registrable cs) place.0) (lesser_label (from_here last cs o.tries) (from_here_if last us o.steps))) (filter is_registrable cs);
+    }
 
 -- the test of the labels that a listing tests
 abbrev fits_with_hope : List ℕ → Bool
 fits_with_hope v = fits_label v && has_hope hopeless v
 
-tested-rising : (table : List Entry) (label after : List ℕ) → IsRising (tested hopeless table label after)
-tested-rising table label after = (variants-IsListed fits_with_hope table label after).rising
-
-pub block-walk : (field : List ℕ → List ℕ) (o : Settings) (table : List Entry) (label last : List ℕ) → IfSome o.limit IsCount → IsCount o.tries
-    → block_by field (keeping None o) table label ≡ walk (line_by field) is_registrable o.limit 0 last (tested hopeless table label (take 63 o.after)) o.tries
-block-walk field o table label last limits count =
-    let cs = tested hopeless table label o.after in
-    ap (λ (vs : List (List ℕ)). block_to field (lesser_label (nth_if_given vs o.limit) (nth cs o.tries)) vs) (variants_are_accepted_tested is_registrable hopeless registrable-short none_hopeless table label o.after)
-    ∙ block_lists field is_registrable o.limit o.tries cs last (tested-rising table label o.after) limits count
-    ∙ ap (λ (ds : List (List ℕ)). walk (line_by field) is_registrable o.limit 0 last ds o.tries) (tested-cut hopeless table label o.after)
-
--- ---- tested labels can be written
+-- ---- labels that a listing comes to can be written, and are above the last one
 
 -- at most 63 code points, all scalar values
 pub record IsWritable (v : List ℕ) : Type 0 where
@@ -110,12 +133,12 @@ all_members : (P : List ℕ → Type 0) (vs : List (List ℕ)) → ((v : List �
 all_members P [] h = tt
 all_members P (v ∷ vs) h = (h v (Contains-head v vs), all_members P vs (λ w c. h w (Contains-later v vs w c)))
 
-pub tested-writable : (table : List Entry) → IsWellFormed table → (label after : List ℕ) → AllByRecursion IsWritable (tested hopeless table label after)
-tested-writable table formed label after = all_members IsWritable (tested hopeless table label after) (λ v c.
-    let is = ((variants-IsListed fits_with_hope table label after).members v).0 c in
+candidates-writable : (table : List Entry) → IsWellFormed table → (label after : List ℕ) → AllByRecursion IsWritable (candidates table label after)
+candidates-writable table formed label after = all_members IsWritable (candidates table label after) (λ v c.
+    let is = ((variants-IsListed fits_label table label after).members v).0 c in
     let spells = (spelled-Spells table label v formed.entries).0 is.spelled in
     record {
-      short = fits_label-short v (both (fits_label v) (has_hope hopeless v) is.accepted).0;
+      short = fits_label-short v is.accepted;
       scalar_values = All-from_recursion IsScalarValue v (joins_scalar table formed spells.0 spells.1.of_table v spells.2);
     })
 
@@ -135,9 +158,26 @@ take_all_of P zero xs all = tt
 take_all_of P (suc n) [] all = tt
 take_all_of P (suc n) (x ∷ xs) all = (all.0, take_all_of P n xs all.1)
 
+-- what holds of all labels holds of those that are visited
+visited-all : (P : List ℕ → Type 0) (before : Option (List ℕ)) (vs : List (List ℕ)) → AllByRecursion P vs → AllByRecursion P (visited hopeless before vs)
+visited-all P before [] all = tt
+visited-all P before (v ∷ vs) all = by_test (has_hope hopeless v || is_new before v (shortest_hopeless hopeless v)) (visited-all P (Some v) vs all.1)
+  where
+    by_test : (b : Bool) → AllByRecursion P (visited hopeless (Some v) vs) → AllByRecursion P (cond b (v ∷ visited hopeless (Some v) vs) (visited hopeless (Some v) vs))
+    by_test true h = (all.0, h)
+    by_test false h = h
+
 -- where a cursor comes to can be written, where it was can
-pub moved-writable : (count : ℕ) (p : Position) → IsWellFormed p.net.table → IsWritable p.last → IsWritable (moved_over hopeless count p).last
-moved-writable count p formed writable = last_of-writable p.last (take count (tested_ahead hopeless p)) writable (take_all_of IsWritable count (tested_ahead hopeless p) (tested-writable p.net.table formed p.net.label p.last))
+pub visited-writable : (count : ℕ) (p : Position) → IsWellFormed p.net.table → IsWritable p.last → IsWritable (last_of p.last (take count (visited_ahead hopeless p)))
+visited-writable count p formed writable =
+    last_of-writable p.last (take count (visited_ahead hopeless p)) writable
+    (take_all_of IsWritable count (visited_ahead hopeless p) (visited-all IsWritable None (candidates_ahead p) (candidates-writable p.net.table formed p.net.label p.last)))
+
+pub ahead-above : (p : Position) → IsAbove p
+ahead-above p = record {
+  tested = all_members (IsBelow p.last) (tested_ahead hopeless p) (λ v c. (((variants-IsListed fits_with_hope p.net.table p.net.label p.last).members v).0 c).greater);
+  visited = visited-all (IsBelow p.last) None (candidates_ahead p) (all_members (IsBelow p.last) (candidates_ahead p) (λ v c. (((variants-IsListed fits_label p.net.table p.net.label p.last).members v).0 c).greater));
+}
 
 -- what is ahead of it then
 pub moved-ahead : (count : ℕ) (p : Position) → tested_ahead hopeless (moved_over hopeless count p) ≡ drop count (tested_ahead hopeless p)

@@ -27,7 +27,8 @@ use Rattle.variant_list.specs.Labels.{label_cmp, IsBelow, IsListOf}
 use Rattle.variant_list.specs.Segmentations.{HasSegmentation}
 use Rattle.variant_list.specs.Spelling.{Spells}
 use Rattle.variant_list.specs.Tested.{tested}
-use Rattle.variant_list.specs.Variants.{variants}
+use Rattle.variant_list.specs.Variants.{candidates, variants}
+use Rattle.variant_list.specs.Visited.{visited}
 use Rattle.variant_list.specs.Positions.{Built}
 use Rattle.variant_list.specs.Jumps.{IsCandidate, IsLeastFrom, HasNoneFrom, candidates_from}
 
@@ -65,19 +66,27 @@ lesser_label None b = b
 lesser_label (Some a) None = Some a
 lesser_label (Some a) (Some b) = if is_le (label_cmp a b) then Some a else Some b
 
--- the labels that a listing tests: all of these, or none where it is kept to registered labels, which may be registered
-abbrev pub tested_unless_kept : Option (List (List ℕ)) → List (List ℕ) → List (List ℕ)
-tested_unless_kept None labels = labels
-tested_unless_kept (Some registered) labels = []
+-- all of these labels, or none where a listing is kept to registered labels: these may be registered, and the search for them goes
+-- from one to the next
+abbrev pub unless_kept : Option (List (List ℕ)) → List (List ℕ) → List (List ℕ)
+unless_kept None labels = labels
+unless_kept (Some registered) labels = []
 
 -- of the labels of at most 63 code points that the label spells, after the text of the settings, no beginning of which is hopeless
 abbrev pub tested_after : Settings → List Entry → List ℕ → List (List ℕ)
-tested_after o table label = tested_unless_kept o.registered (tested hopeless table label o.after)
+tested_after o table label = unless_kept o.registered (tested hopeless table label o.after)
 
--- the stop of a listing: the limit-th variant or the tries-th tested label, the lesser of those that exist
+-- the labels that the steps of a listing come to: of the same labels, hopeless or not, those that are tested, and the first of those
+-- that share a hopeless beginning
+abbrev pub visited_in : Settings → List Entry → List ℕ → List (List ℕ)
+visited_in o table label = visited hopeless None (unless_kept o.registered (candidates table label o.after))
+
+-- the stop of a listing: the limit-th variant, the tries-th tested label or the label of the last step, the least of those that
+-- exist
 abbrev pub stop_of : Settings → List Entry → List ℕ → Option (List ℕ)
 stop_of o table label =
-    lesser_label (nth_if_given (variants_after o table label) o.limit) (nth (tested_after o table label) o.tries)
+    lesser_label (nth_if_given (variants_after o table label) o.limit)
+    (lesser_label (nth (tested_after o table label) o.tries) (nth_if_given (visited_in o table label) o.steps))
 
 -- the labels that are not greater than the stop; all of them, if there is no stop
 abbrev pub up_to : Option (List ℕ) → List (List ℕ) → List (List ℕ)
@@ -206,6 +215,13 @@ pub record IsTried (o : Settings) (table : List Entry) (label v : List ℕ) : Ty
   pub spelled : Spells table label v
   pub whole : o.registered ≡ None
 
+-- a label of at most 63 code points that arises so, greater than the text, hopeless or not, where the listing is whole
+pub record IsAhead (o : Settings) (table : List Entry) (label v : List ℕ) : Type 0 where
+  pub short : length v ≤ 63
+  pub greater : IsBelow o.after v
+  pub spelled : Spells table label v
+  pub whole : o.registered ≡ None
+
 -- a field that says whether this holds, in the words of version 2; version 1 has none
 abbrev pub IsFieldOf : Version → Type 0 → List ℕ → Type 0
 IsFieldOf One allocatable field = field ≡ []
@@ -217,15 +233,17 @@ IsFieldOf Two allocatable field =
 abbrev pub IsDisposition : TableValue → List ℕ → List ℕ → List ℕ → Type 0
 IsDisposition table label v field = IsFieldOf table.version (Spells (unblocked table.entries) label v) field
 
--- the stop is the lesser of the limit-th label that is listed and the tries-th that is tried, as far as they exist; up to it
--- there is a line for each label that is listed, with its A-label and its third field, and then the trailer
+-- the stop is the least of the limit-th label that is listed, the tries-th that is tried and the steps-th that is visited, as far as
+-- they exist; up to it there is a line for each label that is listed, with its A-label and its third field, and then the trailer
 pub record IsBlock (o : Settings) (table : TableValue) (label : List ℕ) (lines : List (List ℕ)) : Type 0 where
   pub listed : List (List ℕ)
   pub exactly : IsListOf (IsListed o table.entries label) listed
   pub tried : List (List ℕ)
   pub exactly_tried : IsListOf (IsTried o table.entries label) tried
+  pub ahead : List (List ℕ)
+  pub exactly_ahead : IsListOf (IsAhead o table.entries label) ahead
   pub stop : Option (List ℕ)
-  pub stops : stop ≡ lesser_label (nth_if_given listed o.limit) (nth tried o.tries)
+  pub stops : stop ≡ lesser_label (nth_if_given listed o.limit) (lesser_label (nth tried o.tries) (nth_if_given (visited hopeless None ahead) o.steps))
   pub field : List ℕ → List ℕ
   pub disposed : (v : List ℕ) → IsDisposition table label v (field v)
   pub printed : lines ≡ map (λ v. variant_line (field v) v) (up_to stop listed) ++ trailer (length (up_to stop listed)) stop ∷ []

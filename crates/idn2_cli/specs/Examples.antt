@@ -70,12 +70,14 @@ one_or_both = record {
   entries = entry (codes "a") (blocked (codes "b") ∷ []) ∷ entry (codes "aa") (allocatable (codes "bb") ∷ []) ∷ [];
 }
 
--- aa spells aa, aaa and aaaa; of the labels that aaa spells, the four that have a hyphen first are not tested; ay is blocked; and
+-- aa spells aa, aaa and aaaa; of the labels that aaa spells, the four that have a hyphen first are not tested, and one step
+-- goes over them; ay is blocked; and
 -- bb, which is blocked as two letters, is allocatable as one pair
 pub record ExamplesOfBlocks : Type 0 where
   pub doubled : block (listing None 1000000) (version_one a_or_two) (codes "aa") ≡ codes "aa\taa" ∷ codes "aaa\taaa" ∷ codes "aaaa\taaaa" ∷ codes "#end 3" ∷ []
   pub limited : block (listing (Some 2) 1000000) (version_one a_or_two) (codes "aa") ≡ codes "aa\taa" ∷ codes "aaa\taaa" ∷ codes "#stop 2 aaa" ∷ []
   pub spent : block (listing None 4) (version_one letter_or_hyphen) (codes "aaa") ≡ codes "a-a\ta-a" ∷ codes "aaa\taaa" ∷ codes "#stop 2 aaa" ∷ []
+  pub stepped : block (record (listing None 1000000) { steps = Some 3 }) (version_one letter_or_hyphen) (codes "aaa") ≡ codes "a-a\ta-a" ∷ codes "#stop 1 a-a" ∷ []
   pub y_blocked : block (listing None 1000000) y_or_z (codes "ax") ≡ codes "ax\tax\tallocatable" ∷ codes "ay\tay\tblocked" ∷ codes "az\taz\tallocatable" ∷ codes "#end 3" ∷ []
   pub allocatable_by_one_cutting : block (listing None 1000000) one_or_both (codes "aa")
       ≡ codes "aa\taa\tallocatable" ∷ codes "ab\tab\tblocked" ∷ codes "ba\tba\tblocked" ∷ codes "bb\tbb\tallocatable" ∷ codes "#end 4" ∷ []

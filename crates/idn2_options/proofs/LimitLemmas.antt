@@ -9,15 +9,18 @@ use Rattle.std.proofs.lemmas.List.Elements.{All-cons, All-nil}
 use Rattle.std.proofs.lemmas.Str.{encodes-chars, length-le-encodes, scalars-chars}
 use Rattle.clap.specs.Words.{Row, Text}
 use Rattle.idn_text.specs.Points.{AreScalarValues, IsScalarValue}
-use Rattle.idn2_options.specs.Settings.{IsCount, IsWithinLimits}
-use Rattle.idn2_options.specs.Words.{bounds_variants, checks_alone, count_of, has_counts, has_short_start, is_allowed, is_count, is_short_numeral, jumps_by_table, names_one_mode, settings_of, start_of, suits_among, value_of}
-use Rattle.idn2_options.specs.declared.command_line.arguments.TheConstants.{LIMIT, TRIES}
+use Rattle.idn2_options.specs.Settings.{IsBound, IsCount, IsWithinLimits}
+use Rattle.idn2_options.specs.Words.{bounds_variants, checks_alone, count_of, has_counts, has_short_start, is_allowed, is_numeral, is_within, jumps_by_table, names_one_mode, settings_of, start_of, steps_of, suits_among, value_of}
+use Rattle.idn2_options.specs.declared.command_line.arguments.TheConstants.{LIMIT, STEPS, TRIES}
 
 pub le-test : (m n : ℕ) → nat_le m n ≡ true → m ≤ n
 le-test m n test = grind (arith, nat_tests)
 
-count-test : (n : ℕ) → is_count n ≡ true → IsCount n
+count-test : (n : ℕ) → is_within 1 1000000000 n ≡ true → IsCount n
 count-test n test = grind (arith, nat_tests)
+
+bound-test : (n : ℕ) → is_within 2 1000000000000000000 n ≡ true → IsBound n
+bound-test n test = grind (arith, nat_tests)
 
 right-test : (a b : Bool) → a && b ≡ true → b ≡ true
 right-test true b both = both
@@ -27,19 +30,24 @@ left-test : (a b : Bool) → a && b ≡ true → a ≡ true
 left-test true b both = refl
 left-test false b both = both
 
--- a count is in its range
-counted : (short fits : Bool) (n : ℕ) → (fits ≡ true → IsCount n) → IfSome (cond (short && fits) (Some n) None) IsCount
-counted true true n in_range = in_range refl
-counted true false n in_range = tt
-counted false fits n in_range = tt
+-- a number is in its range
+counted : (P : ℕ → Type 0) (short fits : Bool) (n : ℕ) → (fits ≡ true → P n) → IfSome (cond (short && fits) (Some n) None) P
+counted P true true n in_range = in_range refl
+counted P true false n in_range = tt
+counted P false fits n in_range = tt
 
 IsCount-count_of : (text : Text) → IfSome (count_of text) IsCount
 IsCount-count_of text =
-    counted (is_short_numeral text) (is_count (digits_value 10 text)) (digits_value 10 text) (count-test (digits_value 10 text))
+    counted IsCount (is_numeral 10 text) (is_within 1 1000000000 (digits_value 10 text)) (digits_value 10 text) (count-test (digits_value 10 text))
 
 IsCount-limit : (given : Option Text) → IfSome (option_and_then count_of given) IsCount
 IsCount-limit None = tt
 IsCount-limit (Some text) = IsCount-count_of text
+
+IsBound-steps : (given : Option Text) → IfSome (option_and_then steps_of given) IsBound
+IsBound-steps None = tt
+IsBound-steps (Some text) =
+    counted IsBound (is_numeral 19 text) (is_within 2 1000000000000000000 (digits_value 10 text)) (digits_value 10 text) (bound-test (digits_value 10 text))
 
 or_default : (count : Option ℕ) → IfSome count IsCount → IsCount (unwrap_or count 1000000)
 or_default None _ = (omega arith, omega arith)
@@ -73,4 +81,5 @@ within_limits rows is_text allowed =
       after_points = all-scalar (chars (start_of rows)) (scalars-chars (start_of rows) is_text);
       limit = IsCount-limit (value_of LIMIT.now rows);
       tries = or_default _ (IsCount-limit (value_of TRIES.now rows));
+      steps = IsBound-steps (value_of STEPS.now rows);
     }

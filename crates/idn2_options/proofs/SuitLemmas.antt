@@ -7,11 +7,11 @@ use Rattle.std.proofs.lemmas.Bool.Decides.{nat_tests}
 use Rattle.std.proofs.lemmas.Str.{chars-nil}
 use Rattle.clap.specs.Words.{Row, Text}
 use Rattle.idn2_options.specs.Settings.{SuitsMode}
-use Rattle.idn2_options.specs.Words.{among_of, bounds_variants, checks_alone, count_of, file_of, has_counts, has_flag, has_short_start, has_strings, has_value, is_allowed, jumps_by_table, mode_of, names_one_mode, settings_of, start_of, strings_of, suits_among, value_of}
+use Rattle.idn2_options.specs.Words.{among_of, bounds_variants, checks_alone, count_of, file_of, has_counts, has_flag, has_short_start, has_strings, has_value, is_allowed, jumps_by_table, mode_of, names_one_mode, settings_of, start_of, steps_of, strings_of, suits_among, value_of}
 use Rattle.idn2_options.specs.declared.command_line.mode.Mode.{Mode}
 use Rattle.idn2_options.specs.declared.command_line.mode.Mode.TheVariants.{Lookup, Register, Decode, Variants, Jump, CheckTable}
 use Rattle.idn2_options.proofs.LimitLemmas.{le-test}
-use Rattle.idn2_options.specs.declared.command_line.arguments.TheConstants.{AFTER, AMONG, CHECK_TABLE, DECODE, JUMP, LIMIT, LOOKUP, REGISTER, TRIES, VARIANTS}
+use Rattle.idn2_options.specs.declared.command_line.arguments.TheConstants.{AFTER, AMONG, CHECK_TABLE, DECODE, JUMP, LIMIT, LOOKUP, REGISTER, STEPS, TRIES, VARIANTS}
 
 -- ---- tests
 
@@ -116,6 +116,7 @@ record NoBounds (rows : List Row) : Type 0 where
   after : value_of AFTER.now rows ≡ None
   limit : value_of LIMIT.now rows ≡ None
   tries : value_of TRIES.now rows ≡ None
+  steps : value_of STEPS.now rows ≡ None
   among : value_of AMONG.now rows ≡ None
 
 none-given : (rows : List Row) → Rules rows → mode_of rows ≢ Variants → NoBounds rows
@@ -124,33 +125,43 @@ none-given rows r other =
     let limit = has_value LIMIT.now rows in
     let tries = has_value TRIES.now rows in
     let among = has_value AMONG.now rows in
-    let none = neither (after || limit || tries) among (second-test (has_value VARIANTS.now rows && not (has_flag JUMP.now rows)) (not (after || limit || tries || among)) r.bounds (no-listing rows r other)) in
-    let second = neither (after || limit) tries (ap not none.0) in
+    let steps = has_value STEPS.now rows in
+    let none = neither (after || limit || tries || steps) among (second-test (has_value VARIANTS.now rows && not (has_flag JUMP.now rows)) (not (after || limit || tries || steps || among)) r.bounds (no-listing rows r other)) in
+    let third = neither (after || limit || tries) steps (ap not none.0) in
+    let second = neither (after || limit) tries (ap not third.0) in
     let first = neither after limit (ap not second.0) in
     record {
       after = not-given (value_of AFTER.now rows) first.0;
       limit = not-given (value_of LIMIT.now rows) first.1;
       tries = not-given (value_of TRIES.now rows) second.1;
+      steps = not-given (value_of STEPS.now rows) third.1;
       among = not-given (value_of AMONG.now rows) none.1;
     }
 
 no-bounds : (rows : List Row) → Rules rows → mode_of rows ≢ Variants
     → (chars (start_of rows) ≡ []) × (option_and_then count_of (value_of LIMIT.now rows) ≡ None)
     × (unwrap_or (option_and_then count_of (value_of TRIES.now rows)) 1000000 ≡ 1000000)
+    × (option_and_then steps_of (value_of STEPS.now rows) ≡ None)
 no-bounds rows r other =
     let none = none-given rows r other in (
       ap (λ (o : Option Text). chars (unwrap_or o [])) none.after ∙ chars-nil,
       ap (option_and_then count_of) none.limit,
       ap (λ (o : Option Text). unwrap_or (option_and_then count_of o) 1000000) none.tries,
+      ap (option_and_then steps_of) none.steps,
     )
 
--- where registered labels are named, no number of tries is
-untried : (rows : List Row) → Rules rows → value_of AMONG.now rows ≢ None → unwrap_or (option_and_then count_of (value_of TRIES.now rows)) 1000000 ≡ 1000000
+-- where registered labels are named, no number of tries or steps is
+untried : (rows : List Row) → Rules rows → value_of AMONG.now rows ≢ None
+    → (unwrap_or (option_and_then count_of (value_of TRIES.now rows)) 1000000 ≡ 1000000) × (option_and_then steps_of (value_of STEPS.now rows) ≡ None)
 untried rows r named =
     let given : not (has_value AMONG.now rows) ≡ false = false-where (not (has_value AMONG.now rows)) (λ none. named (not-given (value_of AMONG.now rows) (no_jump (has_value AMONG.now rows) none))) in
-    let rest = and_parts (not (has_value TRIES.now rows)) (not (bytes_eq (file_of rows) (among_of rows)))
-    (second-test (not (has_value AMONG.now rows)) (not (has_value TRIES.now rows) && not (bytes_eq (file_of rows) (among_of rows))) r.among given) in
-    ap (λ (o : Option Text). unwrap_or (option_and_then count_of o) 1000000) (not-given (value_of TRIES.now rows) (no_jump (has_value TRIES.now rows) rest.0))
+    let bounds : Bool = not (has_value TRIES.now rows) && not (has_value STEPS.now rows) in
+    let rest = and_parts bounds (not (bytes_eq (file_of rows) (among_of rows)))
+    (second-test (not (has_value AMONG.now rows)) (bounds && not (bytes_eq (file_of rows) (among_of rows))) r.among given) in
+    let both = and_parts (not (has_value TRIES.now rows)) (not (has_value STEPS.now rows)) rest.0 in (
+      ap (λ (o : Option Text). unwrap_or (option_and_then count_of o) 1000000) (not-given (value_of TRIES.now rows) (no_jump (has_value TRIES.now rows) both.0)),
+      ap (option_and_then steps_of) (not-given (value_of STEPS.now rows) (no_jump (has_value STEPS.now rows) both.1)),
+    )
 
 no-variants : (rows : List Row) → Rules rows → mode_of rows ≢ Variants → mode_of rows ≢ Jump → has_value VARIANTS.now rows ≡ false
 no-variants rows r other jump = false-where (has_value VARIANTS.now rows) (λ named. either (has_flag JUMP.now rows) (variants-alone _ _ _ _ _ _ r.one named))

@@ -3,7 +3,7 @@
 use Rattle.std.specs.Prelude.{ℕ, ◌^◌, ◌-◌, Some, codes, true}
 use Rattle.clap.specs.Words.{App, Rule, Text, new_app, new_rule, with_rule}
 use Rattle.clap.specs.declared.builder.ArgAction.TheVariants.{SetTrue, Set, Append}
-use Rattle.idn2_options.specs.declared.command_line.arguments.TheConstants.{AFTER, AMONG, CHECK_TABLE, DECODE, JUMP, LIMIT, LOOKUP, QUIET, REGISTER, STD3, STRINGS, TR46NT, TRIES, VARIANTS}
+use Rattle.idn2_options.specs.declared.command_line.arguments.TheConstants.{AFTER, AMONG, CHECK_TABLE, DECODE, JUMP, LIMIT, LOOKUP, QUIET, REGISTER, STD3, STEPS, STRINGS, TR46NT, TRIES, VARIANTS}
 
 -- a flag, `--name`
 abbrev pub flag_rule : Text → Rule
@@ -46,12 +46,13 @@ with_switches a = with_rule (with_rule (with_rule a
     (flag_rule STD3.now))
     (flag_rule QUIET.now)
 
--- `--after TEXT`, `--limit N`, `--tries N`
+-- `--after TEXT`, `--limit N`, `--tries N`, `--steps N`
 abbrev pub with_bounds : App → App
-with_bounds a = with_rule (with_rule (with_rule a
+with_bounds a = with_rule (with_rule (with_rule (with_rule a
     (value_rule AFTER.now))
     (value_rule LIMIT.now))
-    (value_rule TRIES.now)
+    (value_rule TRIES.now))
+    (value_rule STEPS.now)
 
 -- a command of this name that has a version to show
 abbrev pub versioned_app : Text → App

@@ -8,7 +8,7 @@ use Rattle.idn2_options.specs.declared.command_line.mode.Mode.TheVariants.{Looku
 -- a run of the mode, with no other option
 abbrev pub plain_run : Mode → List (List ℕ) → Settings
 plain_run mode strings =
-    record { mode = mode; std3 = false; file = []; strings = strings; after = []; limit = None; tries = 1000000; among = None; registered = None }
+    record { mode = mode; std3 = false; file = []; strings = strings; after = []; limit = None; tries = 1000000; steps = None; among = None; registered = None }
 
 -- what the words after the program's name request
 abbrev pub asked : List (List ℕ) → Answer

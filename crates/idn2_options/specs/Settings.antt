@@ -14,6 +14,7 @@ pub record Settings : Type 0 where
   pub after : List ℕ
   pub limit : Option ℕ
   pub tries : ℕ
+  pub steps : Option ℕ
   pub among : Option (List ℕ)
   pub registered : Option (List (List ℕ))
 
@@ -25,17 +26,22 @@ keeping labels o = record o { registered = labels }
 abbrev pub IsCount : ℕ → Type 0
 IsCount n = (1 ≤ n) × (n ≤ 1000000000)
 
+-- a number that `--steps` takes
+abbrev pub IsBound : ℕ → Type 0
+IsBound n = (2 ≤ n) × (n ≤ 1000000000000000000)
+
 -- the options are within the limits of a run
 pub record IsWithinLimits (o : Settings) : Type 0 where
   pub after_length : length o.after ≤ 1024
   pub after_points : AreScalarValues o.after
   pub limit : IfSome o.limit IsCount
   pub tries : IsCount o.tries
+  pub steps : IfSome o.steps IsBound
 
 -- what belongs to another mode is as if it were left out
 pub record SuitsMode (o : Settings) : Type 0 where
-  pub bounds : o.mode ≢ Variants → (o.after ≡ []) × (o.limit ≡ None) × (o.tries ≡ 1000000)
+  pub bounds : o.mode ≢ Variants → (o.after ≡ []) × (o.limit ≡ None) × (o.tries ≡ 1000000) × (o.steps ≡ None)
   pub among : o.mode ≢ Variants → o.among ≡ None
-  pub untried : o.among ≢ None → o.tries ≡ 1000000
+  pub untried : o.among ≢ None → (o.tries ≡ 1000000) × (o.steps ≡ None)
   pub file : o.mode ≢ Variants → o.mode ≢ Jump → o.mode ≢ CheckTable → o.file ≡ []
   pub strings : o.mode ≡ CheckTable → o.strings ≡ []

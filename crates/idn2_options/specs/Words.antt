@@ -18,7 +18,7 @@ use Rattle.idn2_options.specs.declared.command_line.mode.Mode.{Mode}
 use Rattle.idn2_options.specs.declared.command_line.mode.Mode.TheVariants.{Lookup, Register, Decode, Variants, Jump, CheckTable}
 use Rattle.idn2_options.specs.declared.command_line.usage.Usage.{Usage}
 use Rattle.idn2_options.specs.declared.command_line.usage.Usage.TheVariants.{Bad, Show, Memory}
-use Rattle.idn2_options.specs.declared.command_line.arguments.TheConstants.{AFTER, AMONG, CHECK_TABLE, DECODE, JUMP, LIMIT, LOOKUP, REGISTER, STD3, STRINGS, TRIES, VARIANTS}
+use Rattle.idn2_options.specs.declared.command_line.arguments.TheConstants.{AFTER, AMONG, CHECK_TABLE, DECODE, JUMP, LIMIT, LOOKUP, REGISTER, STD3, STEPS, STRINGS, TRIES, VARIANTS}
 
 -- ---- what `clap` found
 
@@ -44,22 +44,33 @@ has_strings rows = not (nat_eq (length (strings_of rows)) 0)
 
 -- ---- numbers
 
--- 1 to 10 ASCII digits
-abbrev pub is_short_numeral : Text → Bool
-is_short_numeral text = nat_le 1 (length text) && nat_le (length text) 10 && list_all is_ascii_digit text
+-- so many ASCII digits at most, and one at least
+abbrev pub is_numeral : ℕ → Text → Bool
+is_numeral digits text = nat_le 1 (length text) && nat_le (length text) digits && list_all is_ascii_digit text
 
--- 1 to 1,000,000,000
-abbrev pub is_count : ℕ → Bool
-is_count number = nat_le 1 number && nat_le number 1000000000
+abbrev pub is_within : ℕ → ℕ → ℕ → Bool
+is_within least greatest number = nat_le least number && nat_le number greatest
 
--- the count that a text writes
+-- the number in a range that a text writes by so many digits at most
+abbrev pub number_of : ℕ → ℕ → ℕ → Text → Option ℕ
+number_of digits least greatest text =
+    if is_numeral digits text && is_within least greatest (digits_value 10 text) then Some (digits_value 10 text) else None
+
+-- a count: 1 to 1,000,000,000
 abbrev pub count_of : Text → Option ℕ
-count_of text =
-    if is_short_numeral text && is_count (digits_value 10 text) then Some (digits_value 10 text) else None
+count_of text = number_of 10 1 1000000000 text
+
+-- a number of steps: 2 to 10^18
+abbrev pub steps_of : Text → Option ℕ
+steps_of text = number_of 19 2 1000000000000000000 text
 
 -- the option is left out, or its value is a count
 abbrev pub is_count_if_given : Text → List Row → Bool
 is_count_if_given name rows = option_map_or (λ text. is_some (count_of text)) (value_of name rows) true
+
+-- `--steps` is left out, or its value is a number of steps
+abbrev pub is_bound_if_given : List Row → Bool
+is_bound_if_given rows = option_map_or (λ text. is_some (steps_of text)) (value_of STEPS.now rows) true
 
 -- ---- files
 
@@ -79,10 +90,10 @@ names_one_mode rows = nat_le (count_by (λ named. named)
     (has_flag LOOKUP.now rows ∷ has_flag REGISTER.now rows ∷ has_flag DECODE.now rows
     ∷ has_value VARIANTS.now rows ∷ has_value CHECK_TABLE.now rows ∷ [])) 1
 
--- `--after`, `--limit`, `--tries` or `--among` is given, which say what a listing has
+-- `--after`, `--limit`, `--tries`, `--steps` or `--among` is given, which say what a listing has
 abbrev pub bounds_listing : List Row → Bool
 bounds_listing rows =
-    has_value AFTER.now rows || has_value LIMIT.now rows || has_value TRIES.now rows || has_value AMONG.now rows
+    has_value AFTER.now rows || has_value LIMIT.now rows || has_value TRIES.now rows || has_value STEPS.now rows || has_value AMONG.now rows
 
 -- these come with `--variants` alone, and not with `--jump`, which lists nothing
 abbrev pub bounds_variants : List Row → Bool
@@ -92,14 +103,16 @@ bounds_variants rows = (has_value VARIANTS.now rows && not (has_flag JUMP.now ro
 abbrev pub jumps_by_table : List Row → Bool
 jumps_by_table rows = has_value VARIANTS.now rows || not (has_flag JUMP.now rows)
 
--- with `--among` nothing is tried, so `--tries` does not come with it; and its file is not that of the table
+-- with `--among` nothing is tried, and no label is passed over, so `--tries` and `--steps` do not come with it; and its file is
+-- not that of the table
 abbrev pub suits_among : List Row → Bool
 suits_among rows =
-    not (has_value AMONG.now rows) || (not (has_value TRIES.now rows) && not (bytes_eq (file_of rows) (among_of rows)))
+    not (has_value AMONG.now rows)
+    || (not (has_value TRIES.now rows) && not (has_value STEPS.now rows) && not (bytes_eq (file_of rows) (among_of rows)))
 
--- `--limit` and `--tries` have a count
+-- `--limit` and `--tries` have a count, and `--steps` a number of steps
 abbrev pub has_counts : List Row → Bool
-has_counts rows = is_count_if_given LIMIT.now rows && is_count_if_given TRIES.now rows
+has_counts rows = is_count_if_given LIMIT.now rows && is_count_if_given TRIES.now rows && is_bound_if_given rows
 
 -- the text of `--after`, which is empty where it is left out
 abbrev pub start_of : List Row → Text
@@ -140,6 +153,7 @@ settings_of rows = record {
   after = chars (start_of rows);
   limit = option_and_then count_of (value_of LIMIT.now rows);
   tries = unwrap_or (option_and_then count_of (value_of TRIES.now rows)) 1000000;
+  steps = option_and_then steps_of (value_of STEPS.now rows);
   among = value_of AMONG.now rows;
   registered = None;
 }

@@ -1,13 +1,13 @@
 -- What a call answers where it ends, and that it pays for no more dead ends than it met.
-use Rattle.std.proofs.Common.{◌≡◌, ℕ, ◌+◌, ◌-◌, ◌*◌, ◌<◌, ◌≤◌, ◌⊎◌, inl, inr, Bool, true, false, cond, List, [], ◌∷◌, ◌++◌, length, take, None, slice_get, All, Result, Err, IsOk, refl, sym, ap, ◌∙◌, subst, arith, append_assoc, append-nil, length-append}
+use Rattle.std.proofs.Common.{◌≡◌, ℕ, ◌+◌, ◌-◌, ◌*◌, ◌<◌, ◌≤◌, ◌⊎◌, inl, inr, Bool, true, false, cond, List, [], ◌∷◌, ◌++◌, length, take, drop, None, slice_get, All, Result, Err, IsOk, refl, sym, ap, ◌∙◌, subst, arith, append_assoc, append-nil, length-append}
 use Rattle.std.specs.List.{filter, AllByRecursion}
 use Rattle.std.specs.Ordering.{is_lt}
 use Rattle.std.specs.Option.{is_none}
-use Rattle.std.proofs.lemmas.List.{take_at}
+use Rattle.std.proofs.lemmas.List.{take_at, drop_at}
 use Rattle.std.proofs.lemmas.List.Elements.{All-push, filter-append, recursion_from_All}
 use Rattle.variant_list.specs.Labels.{IsRising, label_cmp}
 use Rattle.variant_list.specs.Positions.{Position, candidates_ahead, tested_ahead}
-use Rattle.variant_list.specs.Steps.{NoneAccepted, last_of, moved_over, IsFound, IsSpent, IsEnded, IsInterrupted, HasMovedOver}
+use Rattle.variant_list.specs.Steps.{NoneAccepted, last_of, moved_over, IsFound, IsSpent, IsEnded, IsHalted, IsInterrupted, HasMovedOver, HasGoneBeyond}
 use Rattle.variant_list.specs.Beginnings.{shortest_hopeless, has_hope, dead_ends}
 use Rattle.variant_list.specs.Tested.{dead_ends_after, dead_ends_between}
 use Rattle.variant_list.specs.inner.Skips.{edges_of_net, GoesBack, FindsHope, FindsNone}
@@ -108,6 +108,29 @@ module _ (hopeless : List ℕ → Bool) where
           none_accepted = subst (NoneAccepted accepts) (sym all) h.none_accepted;
           last = ap (last_of old.last) (first_decided old tries now left h.gone ∙ sym all);
           tries_left = omega (arith, h.gone.counted, some, ap length all);
+        }
+
+    -- the search for hope came to no tested label
+    pub IsHalted-passed : HasPassed accepts hopeless old tries now left → 0 < left → IsHalted accepts hopeless old tries left
+    IsHalted-passed h some =
+        let decided = filter (has_hope hopeless) h.gone.front in
+        let all : tested_ahead hopeless old ≡ decided ++ filter (has_hope hopeless) (candidates_ahead now) = parts old tries now left h.gone in
+        record {
+          decided = length decided;
+          within = omega (arith, h.gone.counted, some);
+          there = omega (arith, ap length all, length-append decided (filter (has_hope hopeless) (candidates_ahead now)));
+          none_accepted = subst (NoneAccepted accepts) (sym (ap (take (length decided)) all ∙ take_at decided (filter (has_hope hopeless) (candidates_ahead now)) (length decided) refl)) h.none_accepted;
+          tries_left = omega (arith, h.gone.counted, some);
+        }
+
+    pub HasGoneBeyond-passed : (new : Position) → HasPassed accepts hopeless old tries now left → new.net ≡ now.net → tested_ahead hopeless new ≡ tested_ahead hopeless now → HasGoneBeyond hopeless (tries - left) old new
+    HasGoneBeyond-passed new h net ahead =
+        let decided = filter (has_hope hopeless) h.gone.front in
+        let more = filter (has_hope hopeless) (candidates_ahead now) in
+        record {
+          net = net ∙ h.gone.net;
+          ahead = ahead ∙ tested-filter hopeless now.net.table now.net.label now.last
+              ∙ sym (ap (drop (tries - left)) (parts old tries now left h.gone) ∙ drop_at decided more (tries - left) (omega (arith, h.gone.counted)));
         }
 
     pub IsInterrupted-passed : (mid : Position) → HasPassed accepts hopeless old tries now left → FindsHope hopeless now mid → 0 < left → IsInterrupted accepts hopeless old tries (moved_over hopeless (tries - left) old) left

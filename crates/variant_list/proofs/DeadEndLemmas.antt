@@ -53,7 +53,7 @@ module _ (hopeless : List ℕ → Bool) where
       ∙ ap (λ hs. u ∷ hs) (dead_ends-passed n u u vs ws is (shares-itself n u is) share other)
 
   -- behind a label that has hope the dead_ends are those of what follows
-  hopeful_apart : (v w : List ℕ) (o : Option ℕ) → shortest_hopeless hopeless w ≡ o → shortest_hopeless hopeless v ≡ None → is_new (Some v) w o ≡ is_new None w o
+  pub hopeful_apart : (v w : List ℕ) (o : Option ℕ) → shortest_hopeless hopeless w ≡ o → shortest_hopeless hopeless v ≡ None → is_new (Some v) w o ≡ is_new None w o
   hopeful_apart v w None e hope = refl
   hopeful_apart v w (Some m) e hope = ap not (false_from_ne_true _ (λ h.
       let first : shortest_hopeless hopeless v ≡ Some m = shortest_hopeless-shares hopeless m w v (shares-sym m v w h) e in cc))

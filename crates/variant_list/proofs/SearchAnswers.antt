@@ -1,25 +1,31 @@
 -- What the answer of a search for a tested label says.
-use Rattle.std.proofs.Common.{◌≡◌, ℕ, Bool, List, Option, Some, None, Result, Ok, Err, subst}
+use Rattle.std.proofs.Common.{◌≡◌, ℕ, Bool, List, Option, Result, Ok, Err, subst}
 use Rattle.std.specs.declared.alloc.AllocError.{AllocError}
 use Rattle.variant_list.specs.Positions.{Position}
-use Rattle.variant_list.specs.inner.Skips.{Finds, FindsHope, FindsNone, IfTested}
+use Rattle.variant_list.specs.inner.Skips.{FindsHope}
+use Rattle.variant_list.specs.inner.Halts.{Finds, FindsHopeIn, FindsNoneIn, HaltsIn, IfTested, IfAsked}
+use Rattle.variant_list.specs.declared.cursor.Next.{Next}
+use Rattle.variant_list.specs.declared.cursor.Next.TheVariants.{Tested, Unfound, Halted}
 
-module _ (now hopeless : List ℕ → Bool) (same : now ≡ hopeless) (old new : Position) where
-  pub FindsHope-tested : (r : Result (Option Bool) AllocError) (o : Option Bool) (answer : Bool) → r ≡ Ok o → o ≡ Some answer → Finds now old r new → FindsHope hopeless old new
-  FindsHope-tested (Ok (Some a)) o answer is some finds = subst (λ h. FindsHope h old new) same finds
-  FindsHope-tested (Ok None) o answer is some finds = cc
-  FindsHope-tested (Err e) o answer is some finds = cc
+module _ (now hopeless : List ℕ → Bool) (same : now ≡ hopeless) (old new : Position) (steps left : Option ℕ) where
+  -- the answer in its case
+  told : (r : Result Next AllocError) (n m : Next) → r ≡ Ok n → n ≡ m → Finds now old steps r new left → Finds hopeless old steps (Ok m) new left
+  told r n m is at finds = subst (λ h. Finds h old steps (Ok m) new left) same (subst (λ (x : Next). Finds now old steps (Ok x) new left) at (subst (λ (x : Result Next AllocError). Finds now old steps x new left) is finds))
 
-  pub FindsNone-none : (r : Result (Option Bool) AllocError) (o : Option Bool) → r ≡ Ok o → o ≡ None → Finds now old r new → FindsNone hopeless old new
-  FindsNone-none (Ok (Some a)) o is none finds = cc
-  FindsNone-none (Ok None) o is none finds = subst (λ h. FindsNone h old new) same finds
-  FindsNone-none (Err e) o is none finds = cc
+  pub FindsHopeIn-tested : (r : Result Next AllocError) (n : Next) (answer : Bool) → r ≡ Ok n → n ≡ Tested answer → Finds now old steps r new left → FindsHopeIn hopeless old steps new left
+  FindsHopeIn-tested r n answer = told r n (Tested answer)
 
-  pub FindsHope-undecided : (r : Result (Option Bool) AllocError) (fault : AllocError) → r ≡ Err fault → Finds now old r new → FindsHope hopeless old new
-  FindsHope-undecided (Ok o) fault is finds = cc
-  FindsHope-undecided (Err e) fault is finds = subst (λ h. FindsHope h old new) same finds
+  pub FindsNoneIn-unfound : (r : Result Next AllocError) (n : Next) → r ≡ Ok n → n ≡ Unfound → Finds now old steps r new left → FindsNoneIn hopeless old steps new left
+  FindsNoneIn-unfound r n = told r n Unfound
 
-pub answer-tested : (P : Bool → Type 0) (r : Result (Option Bool) AllocError) (o : Option Bool) (answer : Bool) → r ≡ Ok o → o ≡ Some answer → IfTested r P → P answer
-answer-tested P (Ok (Some a)) o answer is some told = let same : a ≡ answer = cc in subst P same told
-answer-tested P (Ok None) o answer is some told = cc
-answer-tested P (Err e) o answer is some told = cc
+  pub HaltsIn-halted : (r : Result Next AllocError) (n : Next) → r ≡ Ok n → n ≡ Halted → Finds now old steps r new left → HaltsIn hopeless old steps new left
+  HaltsIn-halted r n = told r n Halted
+
+  pub FindsHope-undecided : (r : Result Next AllocError) (fault : AllocError) → r ≡ Err fault → Finds now old steps r new left → FindsHope hopeless old new
+  FindsHope-undecided r fault is finds = subst (λ h. FindsHope h old new) same (subst (λ (x : Result Next AllocError). Finds now old steps x new left) is finds)
+
+pub answer-tested : (P : Bool → Type 0) (r : Result Next AllocError) (n : Next) (answer : Bool) → r ≡ Ok n → n ≡ Tested answer → IfTested r P → P answer
+answer-tested P r n answer is at h = subst (λ (x : Next). IfTested (Ok x) P) at (subst (λ (x : Result Next AllocError). IfTested x P) is h)
+
+pub asked-last : (P : Type 0) (r : Result Next AllocError) (n m : Next) → r ≡ Ok n → n ≡ m → IfAsked r P → IfAsked (Ok m) P
+asked-last P r n m is at h = subst (λ (x : Next). IfAsked (Ok x) P) at (subst (λ (x : Result Next AllocError). IfAsked x P) is h)

@@ -60,11 +60,13 @@ pub(crate) fn write_block<W: Sink, E: Sink>(
         line: KeptLine::new(),
     };
     let mut tries = options.tries;
+    let mut steps = options.steps;
     let mut count = 0;
     'variants: loop {
-        match cursor.seek(alloc, &mut judge, &mut tries)? {
+        match cursor.seek(alloc, &mut judge, &mut tries, &mut steps)? {
             Outcome::Found => {}
             Outcome::Spent => return write_stop(count, cursor.last(), &mut judge.line, console),
+            Outcome::Halted => return write_stop(count, cursor.last(), &mut judge.line, console),
             Outcome::Ended => return write_end(count, console),
         }
         let variant = cursor.last();

@@ -37,7 +37,11 @@ impl Dispositions<Table> {
     }
 
     /// What tells those of a label's variants. It takes the memory for all of them.
-    pub fn of_label(&self, alloc: Global, label: &[u32]) -> Result<Dispositions<SpellingTest>, AllocError>
+    pub fn of_label(
+        &self,
+        alloc: Global,
+        label: &[u32],
+    ) -> Result<Dispositions<SpellingTest>, AllocError>
         requires some { 1 ≤ length label.now }
         requires short { length label.now ≤ 63 }
         requires cut { CanBeCut self.now label.now }

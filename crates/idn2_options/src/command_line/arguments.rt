@@ -32,6 +32,8 @@ pub(crate) const LIMIT: &str = "limit";
 
 pub(crate) const TRIES: &str = "tries";
 
+pub(crate) const STEPS: &str = "steps";
+
 pub(crate) const STRINGS: &str = "STRINGS";
 
 /// Whether the flag is set. Unlike `get_flag`, `get_one` says what it makes of each text.

@@ -5,8 +5,8 @@ ghost use Rattle.clap.specs.Words.{FailsBy, app_of, fault_of, found_of, matches_
 ghost use Rattle.idn2_options.specs.CommandLine.{app, flag_rule, short_flag_rule, value_rule, strings_rule, with_modes, with_collisions, with_switches, with_bounds};
 
 use crate::command_line::arguments::{
-    AFTER, AMONG, CHECK_TABLE, DECODE, JUMP, LIMIT, LOOKUP, QUIET, REGISTER, STD3, STRINGS, TR46NT,
-    TRIES, VARIANTS,
+    AFTER, AMONG, CHECK_TABLE, DECODE, JUMP, LIMIT, LOOKUP, QUIET, REGISTER, STD3, STEPS, STRINGS,
+    TR46NT, TRIES, VARIANTS,
 };
 use clap::{Arg, ArgAction, ArgMatches, Command, Error};
 use std::alloc::{AllocError, Global};
@@ -18,7 +18,7 @@ const ABOUT: &str = "Converts and tests internationalized domain names, and list
 
 /// The lines of the help have at most 80 columns.
 const AFTER_HELP: &str = "\
-Without --limit there is no limit; without --tries it is 1000000.
+Without --limit and --steps there is no limit; without --tries it is 1000000.
 Write --after=TEXT where TEXT begins with '-';
 strings that begin with '-' come after '--'.
 
@@ -159,12 +159,19 @@ fn with_bounds<'a>(command: Command<'a>, alloc: Global) -> Result<Command<'a>, A
         "N",
         "With --variants: stop after N variants of a line",
     )?;
-    with_option(
+    let command = with_option(
         command,
         alloc,
         TRIES,
         "N",
         "With --variants: stop after N tested labels",
+    )?;
+    with_option(
+        command,
+        alloc,
+        STEPS,
+        "N",
+        "With --variants: stop after N steps of the search",
     )
 }
 

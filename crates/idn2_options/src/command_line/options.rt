@@ -20,6 +20,8 @@ pub struct Options {
     pub limit: Option<u64>,
     /// At most how many labels of a line are tested: 1 to 1,000,000,000.
     pub tries: u64,
+    /// At most how many steps the search for a line's variants takes: 2 to 10^18, or no limit.
+    pub steps: Option<u64>,
     /// The name of the file of registered labels to which listings are kept, if they are.
     pub among: Option<String>,
 }
@@ -40,6 +42,7 @@ impl Model for Options {
       after = o.after.items;
       limit = o.limit;
       tries = o.tries;
+      steps = o.steps;
       among = option_map string_bytes o.among;
       registered = None;
     } };

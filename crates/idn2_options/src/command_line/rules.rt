@@ -1,13 +1,13 @@
 //! The program's own rules on its options, which `clap` does not know.
 ghost use Rattle.std.specs.Prelude.{◌≡◌, count_by};
 ghost use Rattle.clap.specs.Words.{found_of, rows_of};
-ghost use Rattle.idn2_options.specs.Words.{among_of, bounds_listing, bounds_variants, checks_alone, file_of, has_counts, has_short_start, is_allowed, is_count_if_given, jumps_by_table, names_one_mode, start_of, suits_among};
+ghost use Rattle.idn2_options.specs.Words.{among_of, bounds_listing, bounds_variants, checks_alone, file_of, has_counts, has_short_start, is_allowed, is_bound_if_given, is_count_if_given, jumps_by_table, names_one_mode, start_of, suits_among};
 
 use crate::command_line::arguments::{
-    AFTER, AMONG, CHECK_TABLE, DECODE, JUMP, LIMIT, LOOKUP, REGISTER, TRIES, VARIANTS, has_flag,
-    has_strings, has_value, value_of,
+    AFTER, AMONG, CHECK_TABLE, DECODE, JUMP, LIMIT, LOOKUP, REGISTER, STEPS, TRIES, VARIANTS,
+    has_flag, has_strings, has_value, value_of,
 };
-use crate::command_line::counts::count_of;
+use crate::command_line::counts::{count_of, steps_of};
 use clap::ArgMatches;
 
 /// The most bytes of `--after`.
@@ -67,6 +67,7 @@ fn bounds_listing(matches: &ArgMatches<'_>) -> bool
     has_value(matches, AFTER)
         || has_value(matches, LIMIT)
         || has_value(matches, TRIES)
+        || has_value(matches, STEPS)
         || has_value(matches, AMONG)
 }
 
@@ -80,7 +81,9 @@ fn suits_among(matches: &ArgMatches<'_>) -> bool
     ensures { result ≡ suits_among (rows_of (found_of matches.now)) }
 {
     !has_value(matches, AMONG)
-        || !has_value(matches, TRIES) && file_of(matches) != among_of(matches)
+        || !has_value(matches, TRIES)
+            && !has_value(matches, STEPS)
+            && file_of(matches) != among_of(matches)
 }
 
 /// The name of the table's file, which is empty where the mode has no table.
@@ -106,7 +109,9 @@ fn among_of<'a>(matches: &ArgMatches<'a>) -> &'a str
 fn has_counts(matches: &ArgMatches<'_>) -> bool
     ensures { result ≡ has_counts (rows_of (found_of matches.now)) }
 {
-    is_count_if_given(matches, LIMIT) && is_count_if_given(matches, TRIES)
+    is_count_if_given(matches, LIMIT)
+        && is_count_if_given(matches, TRIES)
+        && is_bound_if_given(matches)
 }
 
 fn is_count_if_given(matches: &ArgMatches<'_>, name: &str) -> bool
@@ -114,6 +119,15 @@ fn is_count_if_given(matches: &ArgMatches<'_>, name: &str) -> bool
 {
     match value_of(matches, name) {
         Some(text) => count_of(text).is_some(),
+        None => true,
+    }
+}
+
+fn is_bound_if_given(matches: &ArgMatches<'_>) -> bool
+    ensures { result ≡ is_bound_if_given (rows_of (found_of matches.now)) }
+{
+    match value_of(matches, STEPS) {
+        Some(text) => steps_of(text).is_some(),
         None => true,
     }
 }

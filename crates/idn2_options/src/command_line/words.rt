@@ -3,14 +3,14 @@ ghost use Rattle.std.specs.Prelude.{◌≡◌, IfOk, IsUtf8, OnOk, IfErr, List, 
 ghost use Rattle.std.specs.Str.{chars};
 ghost use Rattle.clap.specs.Words.{FailsBy, found_of, kind_of, rows_of};
 ghost use Rattle.idn2_options.specs.Settings.{IsWithinLimits, SuitsMode};
-ghost use Rattle.idn2_options.specs.Words.{IsAnswer, IsUsage, count_of, mode_of, options_of, settings_of, start_of, strings_of, value_of};
+ghost use Rattle.idn2_options.specs.Words.{IsAnswer, IsUsage, count_of, mode_of, options_of, settings_of, start_of, steps_of, strings_of, value_of};
 
 use crate::command_line::arguments::{
-    AMONG, CHECK_TABLE, DECODE, JUMP, LIMIT, REGISTER, STD3, STRINGS, TRIES, VARIANTS, has_flag,
-    has_value, value_of,
+    AMONG, CHECK_TABLE, DECODE, JUMP, LIMIT, REGISTER, STD3, STEPS, STRINGS, TRIES, VARIANTS,
+    has_flag, has_value, value_of,
 };
 use crate::command_line::command;
-use crate::command_line::counts::count_of;
+use crate::command_line::counts::{count_of, steps_of};
 use crate::command_line::mode::Mode;
 use crate::command_line::options::Options;
 use crate::command_line::rules::{file_of, is_allowed, start_of};
@@ -68,6 +68,7 @@ fn settings_of(alloc: Global, matches: &ArgMatches<'_>) -> Result<Options, Alloc
         after: points_of(alloc, start_of(matches))?,
         limit: count_at(matches, LIMIT),
         tries: count_at(matches, TRIES).unwrap_or(DEFAULT_TRIES),
+        steps: steps_at(matches),
         among: among_at(alloc, matches)?,
     })
 }
@@ -136,4 +137,10 @@ fn count_at(matches: &ArgMatches<'_>, name: &str) -> Option<u64>
     ensures { result ≡ option_and_then count_of (value_of name.now (rows_of (found_of matches.now))) }
 {
     count_of(value_of(matches, name)?)
+}
+
+fn steps_at(matches: &ArgMatches<'_>) -> Option<u64>
+    ensures { result ≡ option_and_then steps_of (value_of STEPS.now (rows_of (found_of matches.now))) }
+{
+    steps_of(value_of(matches, STEPS)?)
 }

@@ -1,6 +1,5 @@
 -- How a listing passes over hopeless beginnings: words of the cursor's inner steps.
-use Rattle.std.specs.Prelude.{◌≡◌, ◌≤◌, ◌+◌, ◌*◌, ℕ, Bool, true, false, not, List, ◌∷◌, ◌++◌, length, filter, Option, Some, None, Result, Ok, Err, slice_get, if◌then◌else◌}
-use Rattle.std.specs.declared.alloc.AllocError.{AllocError}
+use Rattle.std.specs.Prelude.{◌≡◌, ◌≤◌, ◌+◌, ◌*◌, ℕ, Bool, true, false, not, List, ◌∷◌, ◌++◌, length, filter, Some, None, slice_get, if◌then◌else◌}
 use Rattle.std.specs.List.{AllByRecursion}
 use Rattle.variant_list.specs.Beginnings.{has_hope, shares, dead_ends}
 use Rattle.variant_list.specs.Nets.{edge_count}
@@ -42,15 +41,3 @@ pub record FindsNone (hopeless : List ℕ → Bool) (old new : Position) : Type 
   pub net : new.net ≡ old.net
   pub lost : AllByRecursion (λ v. has_hope hopeless v ≡ false) (candidates_ahead old)
   pub looks : new.edge_tests ≤ old.edge_tests + 126 * (edges_of_net old * (length (dead_ends hopeless None (candidates_ahead old)) + 1))
-
--- the answer to a candidate that has hope; or none; where memory was refused, it was for a candidate that has hope
-abbrev pub Finds : (List ℕ → Bool) → Position → Result (Option Bool) AllocError → Position → Type 0
-Finds hopeless old (Ok (Some answer)) new = FindsHope hopeless old new
-Finds hopeless old (Ok None) new = FindsNone hopeless old new
-Finds hopeless old (Err e) new = FindsHope hopeless old new
-
--- P holds of the answer, if there is one
-abbrev pub IfTested : Result (Option Bool) AllocError → (Bool → Type 0) → Type 0
-IfTested (Ok (Some answer)) P = P answer
-IfTested (Ok None) P = Unit {0}
-IfTested (Err e) P = Unit {0}

@@ -15,16 +15,14 @@ use Rattle.idn2_cli.specs.Answers.{variant_line}
 use Rattle.idn2_cli.specs.inner.Dispositions.{field_by}
 use Rattle.idn2_cli.specs.inner.LineAnswers.{reaches}
 use Rattle.idn2_cli.specs.Transcript.{Output}
+use Rattle.idn2_cli.proofs.ListingLemmas.{IsWritable}
 use Rattle.idn2_cli.proofs.WrittenPieces.{stops_first, stops_after, emits_as, writes_as}
-use Rattle.idn2_cli.proofs.ListingProgress.{listing-start, listing-writable, listing-spent, listing-ended, listing-found, listing-broken, listing-reached, found-from, spent-from, ended-from}
+use Rattle.idn2_cli.proofs.ListingProgress.{listing-start, found-writable, spent-writable, halted-writable, listing-spent, listing-halted, listing-ended, listing-found, listing-broken, listing-reached, found-from, spent-from, halted-from, ended-from}
 use Rattle.idn2_cli.proofs.modes.block.write_block.Goals as goal
 
--- what holds where a label was found
-decided-found : (P : Type 0) (r : Result Outcome AllocError) → r ≡ Ok outcome.Found → IfDecided r P → P
-decided-found P (Ok outcome.Found) is h = h
-decided-found P (Ok outcome.Spent) is h = h
-decided-found P (Ok outcome.Ended) is h = cc
-decided-found P (Err e) is h = cc
+-- what the judge keeps is of the cursor's label, unless the listing has ended
+decided-as : (P : Type 0) (r : Result Outcome AllocError) (o x : Outcome) → r ≡ Ok o → o ≡ x → IfDecided r P → IfDecided (Ok x) P
+decided-as P r o x is same h = subst (λ (y : Outcome). IfDecided (Ok y) P) same (subst (λ (a : Result Outcome AllocError). IfDecided a P) is h)
 
 -- the field is told by what does not change
 told : {field : List ℕ} {now first : Dispositions Built} (v : List ℕ) → field ≡ field_by now v → now ≡ first → field ≡ field_by first v
@@ -42,56 +40,70 @@ returns-in_err-cursor-clause-written g c =
 pub variants-init : goal.variants-init
 variants-init g c = record {
   same = refl;
-  listing = listing-start (field_by c.args.dispositions.now) c.args.options.now c.args.net.now _ c.in_ok-cursor.cursor c.deref.result.now c.options.inside.tries c.requires.limits
-      (c.deref.ensures.value ∙ ap (λ (o : Settings). o.after) c.options.view_is) (ap (λ (o : Settings). o.tries) c.options.view_is) c.in_ok-cursor.ensures;
+  listing = listing-start (field_by c.args.dispositions.now) c.args.options.now c.args.net.now _ c.in_ok-cursor.cursor c.deref.result.now c.options.inside.tries c.options.inside.steps c.requires.limits
+      (c.deref.ensures.value ∙ ap (λ (o : Settings). o.after) c.options.view_is) (ap (λ (o : Settings). o.tries) c.options.view_is) (ap (λ (o : Settings). o.steps) c.options.view_is) c.in_ok-cursor.ensures;
   known = subst (AreKnown c.in_ok-cursor.cursor.last) (sym c.new-2.ensures) (AreKnown-nil c.in_ok-cursor.cursor.last);
   apart = c.new-3.ensures.apart c.in_ok-cursor.cursor.last;
   begun = c.new-4.ensures c.in_ok-cursor.cursor.last;
 }
 
+-- ---- where the listing stops
+
 pub write_stop-requires-clause-scalar_values : goal.write_stop-requires-clause-scalar_values
 write_stop-requires-clause-scalar_values g c =
-    (listing-writable (field_by c.args.dispositions.now) _ _ _ _ c.variants.cursor c.seek.new.self _ _ (c.variants.tries - c.seek.new.tries) c.last.result.now c.requires.table c.variants.invariant.listing c.seek.ensures.moves.last c.last.ensures.value).scalar_values
+    (subst IsWritable (sym c.last.ensures.value)
+    (spent-writable (field_by c.args.dispositions.now) _ _ _ _ c.variants.cursor c.seek.new.self c.variants.count c.variants.tries c.seek.new.tries c.variants.steps c.seek.new.steps c.requires.table c.variants.invariant.listing (spent-from c.variants.cursor c.seek.new.self c.variants.tries c.seek.new.tries c.variants.steps c.seek.new.steps c.seek.result c.in_ok-seek.field-0 c.in_ok-seek.was c.seek.ensures.decided c.seek.ensures.moves c.seek.ensures.steps c.in-Spent.is))).scalar_values
+
+pub write_stop-requires-in-Halted-clause-scalar_values : goal.write_stop-requires-in-Halted-clause-scalar_values
+write_stop-requires-in-Halted-clause-scalar_values g c =
+    (subst IsWritable (sym c.last-in-Halted.ensures.value)
+    (halted-writable (field_by c.args.dispositions.now) _ _ _ _ c.variants.cursor c.seek.new.self c.variants.count c.variants.tries c.seek.new.tries c.variants.steps c.seek.new.steps c.requires.table c.variants.invariant.listing (halted-from c.variants.cursor c.seek.new.self c.variants.tries c.seek.new.tries c.variants.steps c.seek.new.steps c.seek.result c.in_ok-seek.field-0 c.in_ok-seek.was c.seek.ensures.decided c.seek.ensures.moves c.seek.ensures.steps c.in-Halted.is))).scalar_values
 
 pub returns-in-Spent-clause-written : goal.returns-in-Spent-clause-written
 returns-in-Spent-clause-written g c =
-    let spent = spent-from c.variants.cursor _ c.variants.tries c.seek.new.tries c.seek.result c.in_ok-seek.field-0 c.in_ok-seek.was c.seek.ensures.decided c.in-Spent.is in
-    listing-spent (field_by c.args.dispositions.now) _ _ _ _ _ c.variants.cursor c.seek.new.self _ _ _ _ c.last.result.now c.write_stop.result c.variants.invariant.listing spent c.seek.ensures.moves.last c.last.ensures.value c.write_stop.ensures.written
+    let spent = spent-from c.variants.cursor c.seek.new.self c.variants.tries c.seek.new.tries c.variants.steps c.seek.new.steps c.seek.result c.in_ok-seek.field-0 c.in_ok-seek.was c.seek.ensures.decided c.seek.ensures.moves c.seek.ensures.steps c.in-Spent.is in
+    listing-spent (field_by c.args.dispositions.now) _ _ _ _ _ c.variants.cursor c.seek.new.self c.variants.count c.variants.tries c.seek.new.tries c.variants.steps c.seek.new.steps c.last.result.now c.write_stop.result c.variants.invariant.listing spent c.last.ensures.value c.write_stop.ensures.written
+
+pub returns-in-Halted-clause-written : goal.returns-in-Halted-clause-written
+returns-in-Halted-clause-written g c =
+    let halted = halted-from c.variants.cursor c.seek.new.self c.variants.tries c.seek.new.tries c.variants.steps c.seek.new.steps c.seek.result c.in_ok-seek.field-0 c.in_ok-seek.was c.seek.ensures.decided c.seek.ensures.moves c.seek.ensures.steps c.in-Halted.is in
+    listing-halted (field_by c.args.dispositions.now) _ _ _ _ _ c.variants.cursor c.seek.new.self c.variants.count c.variants.tries c.seek.new.tries c.variants.steps c.seek.new.steps c.last-in-Halted.result.now c.write_stop-in-Halted.result c.variants.invariant.listing halted c.last-in-Halted.ensures.value c.write_stop-in-Halted.ensures.written
 
 pub returns-in-Ended-clause-written : goal.returns-in-Ended-clause-written
 returns-in-Ended-clause-written g c =
-    let ended = ended-from c.variants.cursor _ c.variants.tries c.seek.new.tries c.seek.result c.in_ok-seek.field-0 c.in_ok-seek.was c.seek.ensures.decided c.in-Ended.is in
-    listing-ended (field_by c.args.dispositions.now) _ _ _ _ _ c.variants.cursor _ _ _ _ c.write_end.result c.variants.invariant.listing ended c.write_end.ensures.written
+    let ended = ended-from c.variants.cursor c.seek.new.self c.variants.tries c.seek.new.tries c.variants.steps c.seek.new.steps c.seek.result c.in_ok-seek.field-0 c.in_ok-seek.was c.seek.ensures.decided c.seek.ensures.moves c.seek.ensures.steps c.in-Ended.is in
+    listing-ended (field_by c.args.dispositions.now) _ _ _ _ _ c.variants.cursor c.variants.count c.variants.tries c.seek.new.tries c.variants.steps c.write_end.result c.variants.invariant.listing ended c.write_end.ensures.written
+
+-- ---- a variant
 
 pub returns-in_err-write_variant-clause-written : goal.returns-in_err-write_variant-clause-written
 returns-in_err-write_variant-clause-written g c =
     let p = err_from_is_err_and c.from_residual-in_err-write_variant.result c.from_residual-in_err-write_variant.ensures.1 in
-    let found = found-from c.variants.cursor _ c.variants.tries c.seek.new.tries c.seek.result c.in_ok-seek.field-0 c.in_ok-seek.was c.seek.ensures.decided
-    c.last-variant.result.now c.in-Found.is (c.last-variant.ensures.value ∙ c.seek.ensures.moves.last) in
-    rw p.1 (listing-broken (field_by c.args.dispositions.now) _ _ _ _ _ c.variants.cursor _ c.variants.tries c.seek.new.tries c.last-variant.result.now c.write_variant.result p.0 c.variants.invariant.listing found (emits_as _ _ Output _ _ c.write_variant.result (line_is c.last-variant.result.now (told c.last-variant.result.now c.field-field.ensures.field c.variants.invariant.same)) c.write_variant.ensures.written) (c.in_err-write_variant.was ∙ ap Err (sym p.2)))
+    let found = found-from c.variants.cursor c.seek.new.self c.variants.tries c.seek.new.tries c.variants.steps c.seek.new.steps c.seek.result c.in_ok-seek.field-0 c.in_ok-seek.was c.seek.ensures.decided c.seek.ensures.moves c.seek.ensures.steps c.in-Found.is in
+    rw p.1 (listing-broken (field_by c.args.dispositions.now) _ _ _ _ _ c.variants.cursor c.seek.new.self c.variants.count c.variants.tries c.seek.new.tries c.variants.steps c.seek.new.steps c.last-variant.result.now c.write_variant.result p.0 c.variants.invariant.listing found c.last-variant.ensures.value
+    (emits_as _ _ Output _ _ c.write_variant.result (line_is c.last-variant.result.now (told c.last-variant.result.now c.field-field.ensures.field c.variants.invariant.same)) c.write_variant.ensures.written) (c.in_err-write_variant.was ∙ ap Err (sym p.2)))
 
 pub write_stop-requires-then-is_reached-clause-scalar_values : goal.write_stop-requires-then-is_reached-clause-scalar_values
 write_stop-requires-then-is_reached-clause-scalar_values g c =
-    (listing-writable (field_by c.args.dispositions.now) _ _ _ _ c.variants.cursor c.seek.new.self _ _ (c.variants.tries - c.seek.new.tries) c.last-then-is_reached.result.now c.requires.table c.variants.invariant.listing c.seek.ensures.moves.last c.last-then-is_reached.ensures.value).scalar_values
+    (subst IsWritable (sym c.last-then-is_reached.ensures.value)
+    (found-writable (field_by c.args.dispositions.now) _ _ _ _ c.variants.cursor c.seek.new.self c.variants.count c.variants.tries c.seek.new.tries c.variants.steps c.seek.new.steps c.requires.table c.variants.invariant.listing (found-from c.variants.cursor c.seek.new.self c.variants.tries c.seek.new.tries c.variants.steps c.seek.new.steps c.seek.result c.in_ok-seek.field-0 c.in_ok-seek.was c.seek.ensures.decided c.seek.ensures.moves c.seek.ensures.steps c.in-Found.is))).scalar_values
 
 pub returns-then-is_reached-clause-written : goal.returns-then-is_reached-clause-written
 returns-then-is_reached-clause-written g c =
-    let found = found-from c.variants.cursor _ c.variants.tries c.seek.new.tries c.seek.result c.in_ok-seek.field-0 c.in_ok-seek.was c.seek.ensures.decided
-    c.last-variant.result.now c.in-Found.is (c.last-variant.ensures.value ∙ c.seek.ensures.moves.last) in
+    let found = found-from c.variants.cursor c.seek.new.self c.variants.tries c.seek.new.tries c.variants.steps c.seek.new.steps c.seek.result c.in_ok-seek.field-0 c.in_ok-seek.was c.seek.ensures.decided c.seek.ensures.moves c.seek.ensures.steps c.in-Found.is in
     let reached = sym (ap (λ (o : Settings). reaches o.limit (c.variants.count + 1)) c.options.view_is) ∙ sym c.is_reached.ensures ∙ c.if-is_reached.true in
-    listing-reached (field_by c.args.dispositions.now) _ _ _ _ _ _ c.variants.cursor c.seek.new.self _ c.variants.tries c.seek.new.tries c.last-variant.result.now c.last-then-is_reached.result.now c.write_stop-then-is_reached.result c.variants.invariant.listing
-    c.seek.ensures.moves.net c.seek.ensures.moves.last found (writes_as _ _ Output _ _ (line_is c.last-variant.result.now (told c.last-variant.result.now c.field-field.ensures.field c.variants.invariant.same)) c.in_ok-write_variant.ensures.written) reached c.last-then-is_reached.ensures.value c.write_stop-then-is_reached.ensures.written
+    listing-reached (field_by c.args.dispositions.now) _ _ _ _ _ _ c.variants.cursor c.seek.new.self c.variants.count c.variants.tries c.seek.new.tries c.variants.steps c.seek.new.steps c.last-variant.result.now c.last-then-is_reached.result.now c.write_stop-then-is_reached.result c.variants.invariant.listing
+    found c.last-variant.ensures.value (writes_as _ _ Output _ _ (line_is c.last-variant.result.now (told c.last-variant.result.now c.field-field.ensures.field c.variants.invariant.same)) c.in_ok-write_variant.ensures.written) reached c.last-then-is_reached.ensures.value c.write_stop-then-is_reached.ensures.written
 
 pub variants-preserved : goal.variants-preserved
 variants-preserved g c =
-    let found = found-from c.variants.cursor _ c.variants.tries c.seek.new.tries c.seek.result c.in_ok-seek.field-0 c.in_ok-seek.was c.seek.ensures.decided
-    c.last-variant.result.now c.in-Found.is (c.last-variant.ensures.value ∙ c.seek.ensures.moves.last) in
-    let kept = decided-found _ c.seek.result (c.in_ok-seek.was ∙ ap Ok c.in-Found.is) c.seek.ensures.kept in
+    let found = found-from c.variants.cursor c.seek.new.self c.variants.tries c.seek.new.tries c.variants.steps c.seek.new.steps c.seek.result c.in_ok-seek.field-0 c.in_ok-seek.was c.seek.ensures.decided c.seek.ensures.moves c.seek.ensures.steps c.in-Found.is in
+    let kept = decided-as _ c.seek.result c.in_ok-seek.field-0 outcome.Found c.in_ok-seek.was c.in-Found.is c.seek.ensures.kept in
     let going = sym (ap (λ (o : Settings). reaches o.limit (c.variants.count + 1)) c.options.view_is) ∙ sym c.is_reached.ensures ∙ c.if-is_reached.false in
     record {
       same = c.field-field.ensures.same ∙ c.variants.invariant.same;
-      listing = listing-found (field_by c.args.dispositions.now) _ _ _ _ _ c.variants.cursor c.seek.new.self _ c.variants.tries c.seek.new.tries c.last-variant.result.now c.requires.table c.variants.invariant.listing
-          c.seek.ensures.moves.net c.seek.ensures.moves.last found (writes_as _ _ Output _ _ (line_is c.last-variant.result.now (told c.last-variant.result.now c.field-field.ensures.field c.variants.invariant.same)) c.in_ok-write_variant.ensures.written) going;
+      listing = listing-found (field_by c.args.dispositions.now) _ _ _ _ _ c.variants.cursor c.seek.new.self c.variants.count c.variants.tries c.seek.new.tries c.variants.steps c.seek.new.steps c.last-variant.result.now c.requires.table c.variants.invariant.listing
+          found c.last-variant.ensures.value (writes_as _ _ Output _ _ (line_is c.last-variant.result.now (told c.last-variant.result.now c.field-field.ensures.field c.variants.invariant.same)) c.in_ok-write_variant.ensures.written) going;
       known = kept.0;
       apart = kept.1;
       begun = subst (λ v. IsBegun v c.write_variant.new.line) c.last-variant.ensures.value c.write_variant.ensures.begun;

@@ -1,0 +1,35 @@
+-- How far a call of `seek` goes, counted in steps.
+use Rattle.std.specs.Prelude.{◌≡◌, ℕ, ◌*◌, ◌<◌, ◌≤◌, Bool, List, length, take, drop, Option, Some, IfSome, Result, Ok, Err}
+use Rattle.std.specs.declared.alloc.AllocError.{AllocError}
+use Rattle.variant_list.specs.Nets.{edge_count}
+use Rattle.variant_list.specs.Positions.{Position}
+use Rattle.variant_list.specs.Steps.{last_of}
+use Rattle.variant_list.specs.Visited.{visited_ahead, Takes}
+use Rattle.variant_list.specs.declared.cursor.Outcome.{Outcome}
+use Rattle.variant_list.specs.declared.cursor.Outcome.TheVariants as outcome
+
+-- after so many steps the cursor stands at the label visited with the last of them, and goes on with those behind it
+pub record Visits (hopeless : List ℕ → Bool) (old : Position) (steps : Option ℕ) (new : Position) (left : Option ℕ) : Type 0 where
+  pub taken : ℕ
+  pub takes : Takes steps taken left
+  pub there : taken ≤ length (visited_ahead hopeless old)
+  pub last : new.last ≡ last_of old.last (take taken (visited_ahead hopeless old))
+  pub ahead : visited_ahead hopeless new ≡ drop taken (visited_ahead hopeless old)
+
+-- all steps were used: the cursor stands at the label visited with the last of them, tested or passed over, and looked at most
+-- 256 times at each edge for each step
+pub record Halts (hopeless : List ℕ → Bool) (old : Position) (steps : Option ℕ) (new : Position) (left : Option ℕ) : Type 0 where
+  pub count : ℕ
+  pub all : steps ≡ Some count
+  pub none : left ≡ Some 0
+  pub there : count ≤ length (visited_ahead hopeless old)
+  pub last : new.last ≡ last_of old.last (take count (visited_ahead hopeless old))
+  pub edge_tests : new.edge_tests ≤ 256 * (edge_count old.net.table old.net.label * count)
+
+-- what each answer says of the steps: where no label is left, there were more steps than labels to be visited
+abbrev pub StepsTo : (List ℕ → Bool) → Position → Option ℕ → Result Outcome AllocError → Position → Option ℕ → Type 0
+StepsTo hopeless old steps (Ok outcome.Found) new left = Visits hopeless old steps new left
+StepsTo hopeless old steps (Ok outcome.Spent) new left = Visits hopeless old steps new left
+StepsTo hopeless old steps (Ok outcome.Halted) new left = Halts hopeless old steps new left
+StepsTo hopeless old steps (Ok outcome.Ended) new left = IfSome steps (λ n. length (visited_ahead hopeless old) < n)
+StepsTo hopeless old steps (Err e) new left = Unit {0}
