@@ -26,10 +26,11 @@ Options:
       --after <TEXT>        With --variants: list only variants after TEXT
       --limit <N>           With --variants: stop after N variants of a line
       --tries <N>           With --variants: stop after N tested labels
+      --steps <N>           With --variants: stop after N steps of the search
   -h, --help                Print help
   -V, --version             Print version
 
-Without --limit there is no limit; without --tries it is 1000000.
+Without --limit and --steps there is no limit; without --tries it is 1000000.
 Write --after=TEXT where TEXT begins with '-';
 strings that begin with '-' come after '--'.
 
@@ -83,10 +84,11 @@ fn summary_of(alloc: Global, line: &str) -> Result<String, AllocError> {
                 after,
                 limit,
                 tries,
+                steps,
                 among,
             } = options;
             format!(in alloc;
-                "{mode:?} {std3} {file:?} {after:?} {limit:?} {tries} {among:?} {input:?}"
+                "{mode:?} {std3} {file:?} {after:?} {limit:?} {tries} {steps:?} {among:?} {input:?}"
             )
         }
         Err(Usage::Bad) => String::from_str(alloc, "bad"),
@@ -96,67 +98,75 @@ fn summary_of(alloc: Global, line: &str) -> Result<String, AllocError> {
 }
 
 /// Words, separated by bars, and what they are read as.
-const READ: [(&str, &str); 16] = [
-    ("idn2", "Lookup false \"\" [] None 1000000 None \"none\""),
+const READ: [(&str, &str); 18] = [
+    ("idn2", "Lookup false \"\" [] None 1000000 None None \"none\""),
     (
         "idn2|-r|faß",
-        "Register false \"\" [] None 1000000 None \"faß\\n\"",
+        "Register false \"\" [] None 1000000 None None \"faß\\n\"",
     ),
     (
         "idn2|-N|--quiet|faß",
-        "Lookup false \"\" [] None 1000000 None \"faß\\n\"",
+        "Lookup false \"\" [] None 1000000 None None \"faß\\n\"",
     ),
     (
         "idn2|-l|--usestd3asciirules|a_b",
-        "Lookup true \"\" [] None 1000000 None \"a_b\\n\"",
+        "Lookup true \"\" [] None 1000000 None None \"a_b\\n\"",
     ),
     (
         "idn2|b|--decode|a|--|-c",
-        "Decode false \"\" [] None 1000000 None \"b\\na\\n-c\\n\"",
+        "Decode false \"\" [] None 1000000 None None \"b\\na\\n-c\\n\"",
     ),
     (
         "idn2|--variants|t|-N|--usestd3asciirules|--quiet",
-        "Variants true \"t\" [] None 1000000 None \"none\"",
+        "Variants true \"t\" [] None 1000000 None None \"none\"",
     ),
     (
         "idn2|--check-table|t",
-        "CheckTable false \"t\" [] None 1000000 None \"none\"",
+        "CheckTable false \"t\" [] None 1000000 None None \"none\"",
     ),
     (
         "idn2|--variants=t|x|",
-        "Variants false \"t\" [] None 1000000 None \"x\\n\\n\"",
+        "Variants false \"t\" [] None 1000000 None None \"x\\n\\n\"",
     ),
     (
         "idn2|--variants||-",
-        "Variants false \"\" [] None 1000000 None \"-\\n\"",
+        "Variants false \"\" [] None 1000000 None None \"-\\n\"",
     ),
     (
         "idn2|--variants|t|--after|aß|--limit|0000000007|--tries|1|x",
-        "Variants false \"t\" [97, 223] Some(7) 1 None \"x\\n\"",
+        "Variants false \"t\" [97, 223] Some(7) 1 None None \"x\\n\"",
     ),
     (
         "idn2|--variants|t|--after=-x|--limit=1000000000|--tries=1000000000",
-        "Variants false \"t\" [45, 120] Some(1000000000) 1000000000 None \"none\"",
+        "Variants false \"t\" [45, 120] Some(1000000000) 1000000000 None None \"none\"",
     ),
     (
         "idn2|--variants|t|--after|",
-        "Variants false \"t\" [] None 1000000 None \"none\"",
+        "Variants false \"t\" [] None 1000000 None None \"none\"",
     ),
     (
         "idn2|--variants|t|--after|-",
-        "Variants false \"t\" [45] None 1000000 None \"none\"",
+        "Variants false \"t\" [45] None 1000000 None None \"none\"",
     ),
     (
         "idn2|--variants|t|--among|r|--limit|2|--after|a|x",
-        "Variants false \"t\" [97] Some(2) 1000000 Some(\"r\") \"x\\n\"",
+        "Variants false \"t\" [97] Some(2) 1000000 None Some(\"r\") \"x\\n\"",
     ),
     (
         "idn2|--among=|--variants=t",
-        "Variants false \"t\" [] None 1000000 Some(\"\") \"none\"",
+        "Variants false \"t\" [] None 1000000 None Some(\"\") \"none\"",
     ),
     (
         "idn2|--jump|--variants|t|x",
-        "Jump false \"t\" [] None 1000000 None \"x\\n\"",
+        "Jump false \"t\" [] None 1000000 None None \"x\\n\"",
+    ),
+    (
+        "idn2|--variants|t|--steps|2|--tries|3|x",
+        "Variants false \"t\" [] None 3 Some(2) None \"x\\n\"",
+    ),
+    (
+        "idn2|--variants|t|--steps=1000000000000000000",
+        "Variants false \"t\" [] None 1000000 Some(1000000000000000000) None \"none\"",
     ),
 ];
 
@@ -173,6 +183,13 @@ fn read_as_options(rt: HostRuntime) -> Result<(), Fail> {
 fn refused(rt: HostRuntime) -> Result<(), Fail> {
     let rows = [
         "idn2|-r|-d|x",
+        "idn2|--variants|t|--steps|1|x",
+        "idn2|--variants|t|--steps|0|x",
+        "idn2|--variants|t|--steps|1000000000000000001",
+        "idn2|--variants|t|--steps|two|x",
+        "idn2|--variants|t|--among|r|--steps|2|x",
+        "idn2|--jump|--variants|t|--steps|2|x",
+        "idn2|--steps|2|x",
         "idn2|-l|-d|x",
         "idn2|-l|--variants|t",
         "idn2|--variants|t|--check-table|t",
