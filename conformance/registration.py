@@ -105,10 +105,6 @@ class Registration:
         }
         return next((number for number, is_there in faults.items() if is_there), None)
 
-    def has_hope(self, label):
-        """No beginning of the label is hopeless, nor the whole: some label that begins so might be registered."""
-        return not any(self.is_hopeless([ord(letter) for letter in label[:count]]) for count in range(1, len(label) + 1))
-
     def is_hopeless(self, points):
         """A test of the hyphens, of a leading mark or of the Bidi rule has failed, whatever follows."""
         classes = {self.profile.bidi_class(point) for point in points}

@@ -33,9 +33,9 @@ class ByProgram:
     def knows(self, label):
         return True
 
-    def has_hope(self, label):
+    def is_hopeless(self, points):
         """No beginning of a label in the rows is hopeless."""
-        return True
+        return False
 
     @functools.cached_property
     def refused(self):

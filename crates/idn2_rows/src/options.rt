@@ -99,7 +99,10 @@ fn summary_of(alloc: Global, line: &str) -> Result<String, AllocError> {
 
 /// Words, separated by bars, and what they are read as.
 const READ: [(&str, &str); 18] = [
-    ("idn2", "Lookup false \"\" [] None 1000000 None None \"none\""),
+    (
+        "idn2",
+        "Lookup false \"\" [] None 1000000 None None \"none\"",
+    ),
     (
         "idn2|-r|faß",
         "Register false \"\" [] None 1000000 None None \"faß\\n\"",
