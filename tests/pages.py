@@ -308,6 +308,23 @@ def ends_as_the_readme_shows(folder):
     assert done.stdout.endswith("\n" + re.sub("(?m)^    ", "", shown)), (shown, done)
 
 
+def prose_lines(document):
+    """The lines of a document with their numbers: no table, no session, no script."""
+    fenced = False
+    for number, line in enumerate(text_of(document).splitlines(), 1):
+        if line.startswith("```"):
+            fenced = not fenced
+        elif not fenced and not line.startswith(("|", "    ")):
+            yield number, line
+
+
+def keeps_the_lines_of_its_prose_short(folder):
+    """So that an edit shows in few lines, and a page can be read in a terminal."""
+    documents = sorted(glob.glob("*.md", root_dir=ROOT) + glob.glob("docs/*.md", root_dir=ROOT))
+    wide = [(document, number) for document in documents for number, line in prose_lines(document) if len(line) > 130]
+    assert len(documents) > 10 and not wide, wide
+
+
 def needs_no_newer_python_than_is_said(folder):
     """The scripts have no syntax newer than that of the version that the README names."""
     version = re.search(r"Python (3)\.(\d+) or later", text_of("README.md")).groups()
@@ -336,6 +353,7 @@ TESTS = [
     reads_as_much_of_a_file_as_can_matter,
     names_only_paths_that_are_there,
     ends_as_the_readme_shows,
+    keeps_the_lines_of_its_prose_short,
     needs_no_newer_python_than_is_said,
 ]
 
