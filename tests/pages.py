@@ -16,6 +16,7 @@ from program import LIMIT, ROOT, TABLES, expect, manual_blocks, run, run_tests, 
 
 sys.path += [os.path.join(ROOT, "conformance"), os.path.join(ROOT, "tables")]
 
+import quoted
 import rules
 from kit_data import Kit
 from profile_figures import Figures
@@ -308,6 +309,42 @@ def ends_as_the_readme_shows(folder):
     assert done.stdout.endswith("\n" + re.sub("(?m)^    ", "", shown)), (shown, done)
 
 
+def quotes_definitions_as_they_stand(folder):
+    """Each definition that the tour quotes is all of one in its file, and the twelve to believe first are among them."""
+    text = text_of("docs", "DEFINITIONS.md")
+    quotes = quoted.quotes(text)
+    assert text.count("```antt\n") == len(quoted.BLOCK.findall(text)) and len(quotes) > 80, len(quotes)
+    changed = [(file, quoted.name_of(part)) for file, part in quotes if part not in quoted.definitions(file).values()]
+    assert not changed, (changed, "python3 tests/quoted.py --write")
+    first = re.findall(r"^\| \d+ \| \[`(\w+)`\]", text, re.MULTILINE)
+    assert len(first) == 12 and set(first) <= {quoted.name_of(part) for _, part in quotes}, first
+
+
+def has_an_example_by_each_definition(folder):
+    """Each part of the tour tells something in plain words, quotes it, and has one worked example of it."""
+    tour = text_of("docs", "DEFINITIONS.md").partition("\n## Text and lines\n")[2].partition("\n# ")[0]
+    parts = re.split(r"^(?=\*\*)", tour, flags=re.MULTILINE)[1:]
+    lacking = [part.splitlines()[0] for part in parts if not quoted.BLOCK.search(part) or part.count("*Example.*") != 1]
+    assert len(parts) > 35 and not lacking, lacking
+
+
+def prose_lines(document):
+    """The lines of a document with their numbers: no table, no session, no script."""
+    fenced = False
+    for number, line in enumerate(text_of(document).splitlines(), 1):
+        if line.startswith("```"):
+            fenced = not fenced
+        elif not fenced and not line.startswith(("|", "    ")):
+            yield number, line
+
+
+def keeps_the_lines_of_its_prose_short(folder):
+    """So that an edit shows in few lines, and a page can be read in a terminal."""
+    documents = sorted(glob.glob("*.md", root_dir=ROOT) + glob.glob("docs/*.md", root_dir=ROOT))
+    wide = [(document, number) for document in documents for number, line in prose_lines(document) if len(line) > 130]
+    assert len(documents) > 10 and not wide, wide
+
+
 def needs_no_newer_python_than_is_said(folder):
     """The scripts have no syntax newer than that of the version that the README names."""
     version = re.search(r"Python (3)\.(\d+) or later", text_of("README.md")).groups()
@@ -336,6 +373,9 @@ TESTS = [
     reads_as_much_of_a_file_as_can_matter,
     names_only_paths_that_are_there,
     ends_as_the_readme_shows,
+    quotes_definitions_as_they_stand,
+    has_an_example_by_each_definition,
+    keeps_the_lines_of_its_prose_short,
     needs_no_newer_python_than_is_said,
 ]
 

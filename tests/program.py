@@ -520,8 +520,8 @@ def prints_in_a_locale_what_the_documents_show(folder, locale):
     os.symlink(TABLES, os.path.join(folder, "tables"))
     environment = {**os.environ, "LC_ALL": locale, "PATH": folder + os.pathsep + os.environ["PATH"]}
     documents = {"README.md": markdown_blocks, "docs/GUIDE.md": markdown_blocks, "docs/NOTATION.md": markdown_blocks,
-                 "docs/idn2.1": manual_blocks}
-    for (name, blocks), least in zip(documents.items(), (8, 80, 7, 6)):
+                 "docs/DEFINITIONS.md": markdown_blocks, "docs/idn2.1": manual_blocks}
+    for (name, blocks), least in zip(documents.items(), (8, 80, 7, 14, 6)):
         with open(os.path.join(ROOT, name), encoding="utf-8") as file:
             text = file.read()
         sessions = [session for block in map(sessions_of, blocks(text)) if is_run(block) for session in block]
