@@ -284,11 +284,11 @@ def number_in(file, name):
 
 
 def reads_as_much_of_a_file_as_can_matter(folder):
-    """Of a file of registered labels that is too long, a whole line behind the last byte that it may have. Else it
+    """Of a file of registered labels that is too long, a whole line after the last byte that it may have. Else it
     could be cut where a line ends, and be taken for a shorter one. A file of that size is tried by hand."""
     most = number_in("crates/registered_labels/src/labels.rt", "MAX_TEXT_LEN")
     line = number_in("crates/idn_text/src/body.rt", "MAX_LINE_LEN")
-    # Two line feeds: that behind the last byte, and that of the line behind it.
+    # Two line feeds: that after the last byte, and that of the line after it.
     assert number_in("crates/idn2/src/system.rt", "REGISTERED_BYTES") == most + 1 + line + 1
 
 
