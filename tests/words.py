@@ -54,10 +54,11 @@ def pattern(words):
 
 
 def unused_in(text, where):
-    """The words in a text that aren't used, each with what is said in its place, after the exceptions are taken away."""
+    """The words in a text that aren't used, each with what is said in its place, after the exceptions are taken away. Where
+    it stands is everywhere, and has a narrower name or two."""
     unused, exceptions = glossary()
     for words, places in exceptions:
-        if where in places or places == ["everywhere"]:
+        if set(places) & {"everywhere", *where}:
             text = re.sub(pattern(words), "", text)
     return [f"{word}: say {unused.get(word) or unused[word[0].lower() + word[1:]]}" for word in pattern(unused).findall(text)]
 
@@ -93,7 +94,9 @@ def names_of(path):
 
 
 def expect_none(kind, texts):
-    found = {os.path.relpath(path, ROOT): words for path, text in texts if (words := unused_in(text, kind))}
+    """None in these texts, by their paths; an exception may be for the kind of text, or for the kind in one folder."""
+    named = [(os.path.relpath(path, ROOT), text) for path, text in texts]
+    found = {path: words for path, text in named if (words := unused_in(text, (kind, f"{kind} of {path.split('/')[0]}")))}
     assert not found, found
 
 
