@@ -29,7 +29,7 @@ CRATES = os.path.join(ROOT, "crates")
 # How many edits are planted at once, at most: where one of them doesn't compile, all are tried again one by one.
 MOST = 16
 
-# The type of an impl: behind `for` if it is one of a trait.
+# The type of an impl: after `for` if it is one of a trait.
 IMPL = re.compile(r"^impl\b(?:<.*?> )?(?:.* for )?&?\s*(\w+)")
 HEAD = re.compile(r"^( *)(?:pub(?:\(\w+\))? )?(?:final )?(?:const )?(?:unsafe )?fn (\w+)")
 GOAL = re.compile(r"^(?:note: )?(?:\./)?(src/\S+?):(\d+):\d+: (?:error: )?(.*)")
