@@ -85,10 +85,12 @@ dist:
 check-tables: all
 	for table in tables/*.txt; do $(PROGRAM) --check-table $$table || exit 1; done
 
-# Times the program against libidn2's, and prints one table of ratios. Then what a million registered labels take.
+# Times the program against libidn2's, and prints one table of ratios. Then what a million registered labels take, and
+# what one of what a limit bounds takes at worst.
 bench: all
 	python3 bench/bench.py
 	python3 bench/collisions.py
+	python3 bench/limits.py
 
 # Compares the program with libidn2, with a second writing of the rules and of the table notation, and with Unicode's
 # IDNA test file where IDNA_TEST_FILE names it.
