@@ -10,7 +10,7 @@ import os
 import re
 import sys
 
-from program import ROOT, run_tests
+from program import ROOT, run_tests, text_of
 
 # What goes up today, each to be removed: (crate, module, what it uses). No other may come.
 TO_BE_REMOVED = {
@@ -32,11 +32,6 @@ IN_CODE = re.compile(r"\bcrate::((?:\w+::)*\w+)")
 IN_A_CONTRACT = r"\bRattle\.{}\.specs\.declared\.((?:\w+\.)*\w+)"
 PASSED_ON = re.compile(r"^ *(?:pub(?:\(crate\))? )?use (\w+)::", re.MULTILINE)
 ANY_CRATE = re.compile(r"\bRattle\.(\w+)\.")
-
-
-def text_of(*parts):
-    with open(os.path.join(ROOT, *parts), encoding="utf-8") as file:
-        return file.read()
 
 
 @functools.cache

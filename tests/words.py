@@ -9,7 +9,7 @@ import os
 import re
 import sys
 
-from program import ROOT, run_tests
+from program import ROOT, run_tests, text_of
 
 DOCUMENTS = ("*.md", "docs/*")
 SOURCES = ("crates/*/src/**/*.rt", "crates/*/specs/**/*.antt", "crates/*/proofs/**/*.antt", "bench/*.py", "conformance/*.py",
@@ -19,11 +19,6 @@ GLOSSARY = os.path.join(ROOT, "docs", "GLOSSARY.md")
 COMMENT = {".rt": r"//[/!]?(.*)$", ".antt": r"--(.*)$", ".py": r"(?:^|\s)#(.*)$", "": r"(?:^|\s)#(.*)$"}
 # What defines a name in any of the languages here.
 DEFINED = re.compile(r"\b(?:fn|struct|enum|trait|const|mod|def|class|record|data|abbrev|unfoldable|pub) (\w+)")
-
-
-def text_of(path):
-    with open(path, encoding="utf-8") as file:
-        return file.read()
 
 
 def paths(patterns):
