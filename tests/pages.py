@@ -12,7 +12,7 @@ import shutil
 import subprocess
 import sys
 
-from program import LIMIT, PROGRAM, ROOT, TABLES, expect, manual_blocks, run, run_tests, sessions_of
+from program import LIMIT, PROGRAM, ROOT, TABLES, expect, manual_blocks, run, run_tests, sessions_of, text_of
 
 sys.path += [os.path.join(ROOT, "conformance"), os.path.join(ROOT, "tables")]
 
@@ -57,11 +57,6 @@ SAID_BY_SHORT_FORMS = {"--lookup", "--register", "--decode", "--tr46nt"}
 # A path below the top of the repository, or a document at its top.
 PATH = re.compile(r"(?<![\w/.-])((?:docs|tables|completions|conformance|crates|tests|bench)/[\w./-]*|[A-Z]+\.md)(?!\w)")
 BUILT = re.compile(r"crates/\w+/out/.*")
-
-
-def text_of(*parts):
-    with open(os.path.join(ROOT, *parts), encoding="utf-8") as file:
-        return file.read()
 
 
 def folded(text):

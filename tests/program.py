@@ -21,6 +21,12 @@ TABLES = os.path.join(ROOT, "tables")
 LIMIT = 60
 
 
+def text_of(*parts):
+    """The text of a file, by its path, which may be one below the top of the repository."""
+    with open(os.path.join(ROOT, *parts), encoding="utf-8") as file:
+        return file.read()
+
+
 def run(words, given=b"", **more):
     return subprocess.run([PROGRAM, *words], input=given, capture_output=True, timeout=LIMIT, **more)
 
