@@ -35,6 +35,17 @@ impl KeptLabel {
         }
     }
 
+    /// A copy of the label. It is copied as it lies, since a length that is known is copied faster.
+    #[inline]
+    pub fn copied(&self) -> KeptLabel
+        ensures { result ≡ self.now }
+    {
+        KeptLabel {
+            points: self.points,
+            len: self.len,
+        }
+    }
+
     /// How many code points there are.
     #[inline]
     pub fn len(&self) -> usize
@@ -69,15 +80,5 @@ impl KeptLabel {
     {
         self.points[self.len] = point;
         self.len += 1;
-    }
-
-    /// Puts these code points in place of all others.
-    #[inline]
-    pub fn replace(&mut self, label: &[u32])
-        requires { length label.now ≤ 63 }
-        ensures { self.new ≡ label.now }
-    {
-        self.points[..label.len()].copy_from_slice(label);
-        self.len = label.len();
     }
 }

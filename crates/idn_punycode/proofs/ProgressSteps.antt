@@ -44,7 +44,7 @@ digits_of_keys-append basic p (k ∷ keys) others =
 
 all_digits-parts : (n : ℕ) (keys : List ℕ) → all_digits keys ≡ all_digits (take n keys) ++ digits_of_keys 0 (behind_all (take n keys)) (drop n keys)
 all_digits-parts n keys =
-    ap all_digits (sym (take-append-drop n keys)) ∙ digits_of_keys-append 0 (behind_basic 0 0) (take n keys) (drop n keys)
+    ap all_digits (sym (take-append-drop n keys)) ∙ digits_of_keys-append 0 (behind_basic 0) (take n keys) (drop n keys)
 
 pub end_behind-le : (n : ℕ) (keys : List ℕ) → end_behind (take n keys) ≤ end_behind keys
 end_behind-le n keys =
@@ -56,10 +56,19 @@ take-digits n keys =
     ap (take (length digits)) (all_digits-parts n keys) ∙ take-append_seam digits (digits_of_keys 0 (behind_all (take n keys)) (drop n keys))
 
 pub all_digits-turn : (n : ℕ) (keys : List ℕ) → n < length keys → all_digits (take (n + 1) keys) ≡ all_digits (take n keys) ++ digits_of_key (behind_all (take n keys)) (get_or keys n 0)
-all_digits-turn n keys lt = ap all_digits (take_more keys n 0 lt) ∙ digits_of_keys-more 0 (behind_basic 0 0) (take n keys) (get_or keys n 0)
+all_digits-turn n keys lt = ap all_digits (take_more keys n 0 lt) ∙ digits_of_keys-more 0 (behind_basic 0) (take n keys) (get_or keys n 0)
 
 pub behind_all-turn : (n : ℕ) (keys : List ℕ) → n < length keys → behind_all (take (n + 1) keys) ≡ behind_key 0 (behind_all (take n keys)) (get_or keys n 0)
-behind_all-turn n keys lt = ap behind_all (take_more keys n 0 lt) ∙ behind_keys-more 0 (behind_basic 0 0) (take n keys) (get_or keys n 0)
+behind_all-turn n keys lt = ap behind_all (take_more keys n 0 lt) ∙ behind_keys-more 0 (behind_basic 0) (take n keys) (get_or keys n 0)
+
+-- each of the keys is handled
+pub behind_all-handled : (n : ℕ) (keys : List ℕ) → n ≤ length keys → (behind_all (take n keys)).handled ≡ n
+behind_all-handled zero keys le = ap (λ (p : Progress). p.handled) (behind_keys-none 0 (behind_basic 0))
+behind_all-handled (suc n) keys le =
+    let e : suc n ≡ n + 1 = omega arith in
+    ap (λ k. (behind_all (take k keys)).handled) e
+    ∙ ap (λ (p : Progress). p.handled) (behind_all-turn n keys (omega arith))
+    ∙ omega (arith, behind_all-handled n keys (omega arith))
 
 -- ---- what is kept for each key
 
@@ -87,18 +96,18 @@ AreOfKeys-more f keys xs n y h within room is i x lt =
 -- the turn of the key at the place i, where the writer has come to p
 abbrev TurnsAt : List ℕ → List ℕ → List ℕ → ℕ → Progress → ℕ → Type 0
 TurnsAt label keys code basic p i =
-    Turns label keys code basic p.handled p.code_point p.position p.bias p.places i × (basic ≤ p.handled)
+    Turns label keys code basic p.handled p.code_point p.position p.bias i × (basic ≤ p.handled)
 
-module _ (label keys start : List ℕ) (basic places : ℕ) (begun : Encodes label start basic basic 128 0 72) (short : length label ≤ 63) (h : HasKeys label keys (length label)) (marks : HasPlaces label places (length label)) where
+module _ (label keys start : List ℕ) (basic : ℕ) (begun : Encodes label start basic basic 128 0 72) (short : length label ≤ 63) (h : HasKeys label keys (length label)) where
   -- behind the digits of the keys before it
-  turns_at : (i : ℕ) → i ≤ length keys → TurnsAt label keys (start ++ digits_of_keys basic (behind_basic basic places) (take i keys)) basic (behind_keys basic (behind_basic basic places) (take i keys)) i
+  turns_at : (i : ℕ) → i ≤ length keys → TurnsAt label keys (start ++ digits_of_keys basic (behind_basic basic) (take i keys)) basic (behind_keys basic (behind_basic basic) (take i keys)) i
   turns_at zero le =
-      let p = behind_basic basic places in
+      let p = behind_basic basic in
       subst (λ q. TurnsAt label keys (start ++ digits_of_keys basic p []) basic q 0) (sym (behind_keys-none basic p))
       (subst (λ code. TurnsAt label keys code basic p 0) (sym (append-nil start) ∙ ap (λ xs. start ++ xs) (sym (digits_of_keys-none basic p)))
-      (Turns-start begun short h marks, omega arith))
+      (Turns-start begun short h, omega arith))
   turns_at (suc i) le =
-      let p = behind_basic basic places in
+      let p = behind_basic basic in
       let t = turns_at i (omega arith) in
       let e : i + 1 ≡ suc i = omega arith in
       let key = get_or keys i 0 in
@@ -109,21 +118,21 @@ module _ (label keys start : List ℕ) (basic places : ℕ) (begun : Encodes lab
       let longer : code ++ digits_of_key q key ≡ start ++ digits_of_keys basic p (take (suc i) keys) =
       append_assoc start (digits_of_keys basic p (take i keys)) (digits_of_key q key)
       ∙ ap (λ xs. start ++ xs) (sym (digits_of_keys-more basic p (take i keys) key) ∙ ap (digits_of_keys basic p) keys_are) in
-      let more : TurnsAt label keys (code ++ digits_of_key q key) basic (behind_key basic q key) (i + 1) = (Turns-more t.0 short h (omega arith) key refl _ refl t.1, omega (arith, t.1)) in
+      let more : TurnsAt label keys (code ++ digits_of_key q key) basic (behind_key basic q key) (i + 1) = (Turns-more t.0 short h (omega arith) key refl t.1, omega (arith, t.1)) in
       subst (λ n. TurnsAt label keys (start ++ digits_of_keys basic p (take (suc i) keys)) basic (behind_keys basic p (take (suc i) keys)) n) e
       (subst (λ r. TurnsAt label keys (start ++ digits_of_keys basic p (take (suc i) keys)) basic r (i + 1)) behind
       (subst (λ xs. TurnsAt label keys xs basic (behind_key basic q key) (i + 1)) longer more))
 
   -- each key comes next behind those before it
-  keys_next : (i : ℕ) → i < length keys → IsNextKey (behind_keys basic (behind_basic basic places) (take i keys)) (get_or keys i 0)
+  keys_next : (i : ℕ) → i < length keys → IsNextKey (behind_keys basic (behind_basic basic) (take i keys)) (get_or keys i 0)
   keys_next i lt =
       let t = turns_at i (omega arith) in Turns-next t.0 short h lt (get_or keys i 0) refl t.1
 
   -- the digits of all keys are what is left of the Punycode
-  digits-whole : start ++ digits_of_keys basic (behind_basic basic places) keys ≡ encode label
+  digits-whole : start ++ digits_of_keys basic (behind_basic basic) keys ≡ encode label
   digits-whole =
       let all : length keys ≤ length keys = omega arith in
-      ap (λ xs. start ++ digits_of_keys basic (behind_basic basic places) xs) (sym (take_all (length keys) keys all))
+      ap (λ xs. start ++ digits_of_keys basic (behind_basic basic) xs) (sym (take_all (length keys) keys all))
       ∙ Turns-end (turns_at (length keys) all).0 short all
 
 -- a label without a code point of ASCII
@@ -132,8 +141,8 @@ module _ {label keys : List ℕ} (short : length label ≤ 63) (h : HasKeys labe
   begun = Encodes-no_basic label [] (sym (HasPlaces-none marks refl)) refl
 
   pub all_digits-whole : all_digits keys ≡ encode label
-  all_digits-whole = digits-whole label keys [] 0 0 begun short h marks
+  all_digits-whole = digits-whole label keys [] 0 begun short h
 
   pub AreWritable-keys : AreWritable keys
   AreWritable-keys =
-      record { next = keys_next label keys [] 0 0 begun short h marks; ascii = subst IsAscii (sym all_digits-whole) (IsAscii-encode label) }
+      record { next = keys_next label keys [] 0 begun short h; ascii = subst IsAscii (sym all_digits-whole) (IsAscii-encode label) }

@@ -1,10 +1,10 @@
 //! What the writer of Punycode has come to behind a key (RFC 3492 section 6.3).
 ghost use Rattle.std.specs.Prelude.{◌≡◌, ◌<◌, ◌≤◌, ◌++◌, length, IfOk, OnOk, OnErr};
-ghost use Rattle.idn_punycode.specs.inner.Progress.{IsNextKey, behind_basic, behind_key, digits_of_key};
+ghost use Rattle.idn_punycode.specs.inner.Progress.{IsNextKey, behind, behind_basic, behind_key, digits_of_key};
 
 use crate::bias::adapt;
 use crate::integer::write_integer;
-use crate::key::{PLACE_LIMIT, count_before};
+use crate::key::{before_of, code_point_of};
 use crate::parameters::{INITIAL_BIAS, INITIAL_CODE_POINT};
 use arrayvec::{ArrayString, CapacityError};
 
@@ -14,27 +14,24 @@ pub(crate) struct Progress {
     /// How many code points are handled.
     handled: u32,
     /// The code point that was handled last.
-    code_point: u32,
+    code_point: u64,
     /// The place that a decoder has come to, among the code points that are handled.
-    position: u32,
+    position: u64,
     /// The bias of the next integer.
     bias: u32,
-    /// Where the code points that are handled stand, each as a bit.
-    places: u64,
 }
 
 impl Progress {
-    /// Behind the code points of ASCII, whose places are given as bits.
+    /// Behind the code points of ASCII.
     #[inline]
-    pub(crate) fn behind_basic(basic: u32, places: u64) -> Progress
-        ensures { result ≡ behind_basic basic places }
+    pub(crate) fn behind_basic(basic: u32) -> Progress
+        ensures { result ≡ behind_basic basic }
     {
         Progress {
             handled: basic,
-            code_point: INITIAL_CODE_POINT,
+            code_point: u64::from(INITIAL_CODE_POINT),
             position: 0,
             bias: INITIAL_BIAS,
-            places,
         }
     }
 
@@ -48,7 +45,7 @@ impl Progress {
     #[inline(always)]
     pub(crate) fn write_key(
         self,
-        key: u32,
+        key: u64,
         basic: u32,
         text: &mut ArrayString<63>,
     ) -> Result<Progress, CapacityError>
@@ -58,27 +55,25 @@ impl Progress {
         ensures behind { IfOk result (λ next. next ≡ behind_key basic self key) }
         ensures full { OnErr result (63 < length (text.old.bytes ++ digits_of_key self key)) }
     {
-        let before = count_before(self.places, key % PLACE_LIMIT);
-        let steps = (key / PLACE_LIMIT - self.code_point) * (self.handled + 1) + before;
-        let delta = steps - self.position;
+        let rounds = code_point_of(key) - self.code_point;
+        let steps = rounds * u64::from(self.handled + 1) + before_of(key);
+        let delta = (steps - self.position) as u32;
         write_integer(delta, self.bias, text)?;
         let bias = adapt(delta, self.handled + 1, self.handled == basic);
-        Ok(self.behind(key, bias))
+        Ok(Progress::behind(self.handled, key, bias))
     }
 
-    /// Behind the next key, whose digits leave this bias.
+    /// Behind a key, where so many code points were handled before it, and its digits leave this bias.
     #[inline(always)]
-    pub(crate) fn behind(self, key: u32, bias: u32) -> Progress
-        requires { self.handled ≤ 63 }
-        ensures { result ≡ record (behind_key 0 self key) { bias = bias } }
+    pub(crate) fn behind(handled: u32, key: u64, bias: u32) -> Progress
+        requires { handled ≤ 63 }
+        ensures { result ≡ behind handled key bias }
     {
-        let place = key % PLACE_LIMIT;
         Progress {
-            handled: self.handled + 1,
-            code_point: key / PLACE_LIMIT,
-            position: count_before(self.places, place) + 1,
+            handled: handled + 1,
+            code_point: code_point_of(key),
+            position: before_of(key) + 1,
             bias,
-            places: self.places | 1 << place,
         }
     }
 

@@ -43,7 +43,9 @@ impl SpellingTest {
         })
     }
 
-    /// Whether the label of the net spells this one, of any length. Takes no memory.
+    /// Whether the label of the net spells this one, of any length. Takes no memory. It stands apart, so that variants
+    /// without a disposition don't make room for it.
+    #[inline(never)]
     pub fn spells(&mut self, label: &[u32]) -> bool
         ensures spelled { IsTrue result ↔ Spells self.old.table self.old.label label.now }
         ensures net { self.new ≡ self.old }

@@ -137,6 +137,9 @@ pub(crate) fn is_reached(limit: Option<u64>, count: u64) -> bool
 }
 
 /// Writes a variant, its A-label and its third field.
+///
+/// Always inline: each kind of block calls it once, for each of its lines.
+#[inline(always)]
 pub(crate) fn write_variant<W: Sink, E: Sink>(
     label: &[u32],
     a_label: &ALabel,

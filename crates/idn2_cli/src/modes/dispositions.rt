@@ -63,6 +63,7 @@ impl Dispositions<Table> {
 
 impl Dispositions<SpellingTest> {
     /// The third field of a variant's line, with the tab before it; nothing where none is told. Takes no memory.
+    #[inline]
     pub fn field(&mut self, variant: &[u32]) -> &'static str
         requires { TellsWell self.old }
         ensures field { result.now ≡ field_by self.old variant.now }

@@ -13,11 +13,11 @@ digits_of_keys basic p (key ∷ keys) = digits_of_key p key ++ digits_of_keys ba
 
 -- what the writer has come to behind some keys
 abbrev pub behind_all : List ℕ → Progress
-behind_all keys = behind_keys 0 (behind_basic 0 0) keys
+behind_all keys = behind_keys 0 (behind_basic 0) keys
 
 -- the digits of some keys
 abbrev pub all_digits : List ℕ → List ℕ
-all_digits keys = digits_of_keys 0 (behind_basic 0 0) keys
+all_digits keys = digits_of_keys 0 (behind_basic 0) keys
 
 -- keys in whose order the digits of a label can be written
 pub record AreWritable (keys : List ℕ) : Type 0 where

@@ -1,19 +1,15 @@
 -- What the writer of Punycode has come to behind a key, and the digits of the next one.
-use Rattle.std.specs.Prelude.{ℕ, ◌+◌, ◌-◌, ◌*◌, ◌/◌, ◌%◌, ◌^◌, ◌≤◌, ◌==◌, List, bit_or, count_ones}
+use Rattle.std.specs.Prelude.{ℕ, ◌+◌, ◌-◌, ◌*◌, ◌/◌, ◌%◌, ◌≤◌, ◌==◌, List}
 use Rattle.idna.specs.Punycode.{adapt, write_integer}
 use Rattle.idn_punycode.specs.declared.progress.Progress.{Progress}
 
--- behind the code points of ASCII, whose places are given as bits: the first code point that may come is 128, the first bias 72
-abbrev pub behind_basic : ℕ → ℕ → Progress
-behind_basic basic places = record { handled = basic; code_point = 128; position = 0; bias = 72; places = places }
-
--- how many of the code points that are handled stand before the place of a key
-abbrev pub handled_before : Progress → ℕ → ℕ
-handled_before p key = count_ones (p.places % 2 ^ (key % 64))
+-- behind the code points of ASCII: the first code point that may come is 128, the first bias 72
+abbrev pub behind_basic : ℕ → Progress
+behind_basic basic = record { handled = basic; code_point = 128; position = 0; bias = 72 }
 
 -- the steps of a decoder from the start of the code point that is handled to the place of a key
 abbrev pub steps_to : Progress → ℕ → ℕ
-steps_to p key = (key / 64 - p.code_point) * (p.handled + 1) + handled_before p key
+steps_to p key = (key / 64 / 64 - p.code_point) * (p.handled + 1) + key % 64
 
 -- and from what the decoder has come to
 abbrev pub delta_to : Progress → ℕ → ℕ
@@ -23,19 +19,17 @@ delta_to p key = steps_to p key - p.position
 abbrev pub digits_of_key : Progress → ℕ → List ℕ
 digits_of_key p key = write_integer (delta_to p key) p.bias 36 (delta_to p key)
 
+-- behind a key, where so many were handled before it, and its digits leave this bias
+abbrev pub behind : ℕ → ℕ → ℕ → Progress
+behind handled key bias = record { handled = handled + 1; code_point = key / 64 / 64; position = key % 64 + 1; bias = bias }
+
 -- behind one key more, where so many code points are of ASCII
 abbrev pub behind_key : ℕ → Progress → ℕ → Progress
-behind_key basic p key = record {
-  handled = p.handled + 1;
-  code_point = key / 64;
-  position = handled_before p key + 1;
-  bias = adapt (delta_to p key) (p.handled + 1) (p.handled == basic);
-  places = bit_or p.places (1 * 2 ^ (key % 64) % 2 ^ 64);
-}
+behind_key basic p key = behind p.handled key (adapt (delta_to p key) (p.handled + 1) (p.handled == basic))
 
 -- the key comes behind those that are handled, and all numbers that lead to it fit
 pub record IsNextKey (p : Progress) (key : ℕ) : Type 0 where
-  pub later : p.code_point ≤ key / 64
+  pub later : p.code_point ≤ key / 64 / 64
   pub further : p.position ≤ steps_to p key
   pub fits : steps_to p key ≤ 0x43F_FFFF
   pub counted : p.handled + 1 ≤ 63

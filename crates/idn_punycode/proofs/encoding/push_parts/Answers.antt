@@ -50,19 +50,19 @@ loop-key-init g c =
     let basic : c.len.result - c.len-2.result ≡ length code = omega (arith, c.len.ensures.value, c.len-2.ensures.value) in
     elim c.if-basic-gt0.branch [
       | then-basic-gt0+in_ok-push_ascii w ↦
-          rw (c.behind_basic-progress.ensures, c.keys-key-items.ensures, c.places-2.ensures, basic) (
+          rw (c.behind_basic-progress.ensures, c.keys-key-items.ensures, basic) (
             code ++ 45 ∷ [],
             ap (λ t. t.bytes) w.longer-is ∙ w.in_ok-push_ascii.ensures.ok ∙ ap (λ xs. xs ++ 45 ∷ []) text ∙ append_assoc before code (45 ∷ []),
-            Turns-start (Encodes-basic _ _ refl (omega (arith, w.if-basic-gt0.true))) c.requires.short c.requires.keys c.requires.places,
+            Turns-start (Encodes-basic _ _ refl (omega (arith, w.if-basic-gt0.true))) c.requires.short c.requires.keys,
             c.requires.keys,
             omega arith,
             omega (arith, ap (λ t. length t.bytes) w.longer-is, w.in_ok-push_ascii.ensures.short),
           )
       | else-basic-gt0 w ↦
-          rw (c.behind_basic-progress.ensures, c.keys-key-items.ensures, c.places-2.ensures, basic) (
+          rw (c.behind_basic-progress.ensures, c.keys-key-items.ensures, basic) (
             code,
             ap (λ t. t.bytes) w.longer-is ∙ text,
-            Turns-start (Encodes-no_basic _ _ refl (omega (arith, w.if-basic-gt0.false))) c.requires.short c.requires.keys c.requires.places,
+            Turns-start (Encodes-no_basic _ _ refl (omega (arith, w.if-basic-gt0.false))) c.requires.short c.requires.keys,
             c.requires.keys,
             omega arith,
             omega (arith, ap (λ t. length t.bytes) w.longer-is, c.len.ensures.value, c.len.ensures.fits),
@@ -76,7 +76,7 @@ write_key-requires g c =
 pub returns-in_err-progress-clause-too_long : goal.returns-in_err-progress-clause-too_long
 returns-in_err-progress-clause-too_long g c =
     let i = c.loop-key.invariant in
-    let t = Turns-chosen i.2 c.requires.short i.3 c.loop-key-test.true _ refl _ refl in
+    let t = Turns-chosen i.2 c.requires.short i.3 c.loop-key-test.true _ refl in
     OnErr-always c.from_residual-in_err-progress.result
     (omega (arith, c.in_err-progress.ensures.full, Chosen-length t i.4, ap length i.1, length-append {A = ℕ}))
 
@@ -86,7 +86,7 @@ loop-key-preserved g c =
     rw c.in_ok-progress.ensures.behind (
       _,
       Appends-more _ _ _ i.1 c.in_ok-progress.ensures.ok,
-      Turns-more i.2 c.requires.short i.3 c.loop-key-test.true _ refl _ refl i.4,
+      Turns-more i.2 c.requires.short i.3 c.loop-key-test.true _ refl i.4,
       i.3,
       omega arith,
       c.in_ok-progress.ensures.short,

@@ -21,7 +21,7 @@ returns-then-count-eq0-clause-text c =
     let none : take c.args.count keys ≡ [] = ap (λ n. take n keys) c.if-count-eq0.true in
     c.push_str.ensures.bytes
     ∙ ap (λ xs. xs ++ codes "xn--") c.clear.ensures
-    ∙ ap (λ xs. codes "xn--" ++ xs) (sym (ap all_digits none ∙ digits_of_keys-none 0 (behind_basic 0 0)))
+    ∙ ap (λ xs. codes "xn--" ++ xs) (sym (ap all_digits none ∙ digits_of_keys-none 0 (behind_basic 0)))
 
 pub returns-else-count-eq0-clause-text : goal.returns-else-count-eq0-clause-text
 returns-else-count-eq0-clause-text c =
