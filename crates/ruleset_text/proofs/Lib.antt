@@ -18,3 +18,4 @@ mod SpanBackLemmas
 mod LineBackLemmas
 mod DefinitionsBackLemmas
 mod DefinedLemmas
+mod KnownPatternLemmas

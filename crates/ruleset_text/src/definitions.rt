@@ -1,5 +1,7 @@
 //! What the lines of a ruleset define.
 ghost use Rattle.std.specs.Prelude.{◌≡◌, ◌+◌, ◌<◌, ◌^◌, ◌||◌, length, map, OnOk, OnErr};
+ghost use Rattle.std.specs.List.{AllByRecursion};
+ghost use Rattle.label_patterns.specs.Matches.{HasItsSets};
 ghost use Rattle.label_patterns.specs.Trees.{pattern};
 ghost use Rattle.ruleset_text.specs.Canonical.{definition_text};
 ghost use Rattle.ruleset_text.specs.Definition as definition;
@@ -129,7 +131,7 @@ impl Definitions {
     /// The contexts of the rules, by their number.
     pub fn rules(&self) -> &[PatternTree]
         ensures is { map pattern result.now ≡ self.now.rules }
-        ensures without_fault { AreDefinitions self.now }
+        ensures known { AllByRecursion (HasItsSets (length self.now.sets)) self.now.rules }
     {
         &self.rules
     }
@@ -137,7 +139,7 @@ impl Definitions {
     /// The demands.
     pub fn demands(&self) -> &[Demand]
         ensures is { map demand result.now ≡ self.now.demands }
-        ensures without_fault { AreDefinitions self.now }
+        ensures known { AllByRecursion (λ d. HasItsSets (length self.now.sets) d.pattern) self.now.demands }
     {
         &self.demands
     }
