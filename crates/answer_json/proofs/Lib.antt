@@ -6,3 +6,9 @@ pub mod OneLine
 pub mod Plain
 -- What the laws of answers need.
 pub mod Written
+-- What is written of UTF-8 is UTF-8.
+pub mod Unicode
+-- The digits of some numbers.
+pub mod Decimals
+-- How a line is told of which the bytes are kept.
+pub mod Told

@@ -1,5 +1,5 @@
 -- What a refusal is told with: its number and its text, and then what its cause has.
-use Rattle.std.specs.Prelude.{ℕ, ◌≤◌, length, unwrap_or, Bool, true, List, [], ◌∷◌, ◌++◌, codes, Option, if◌then◌else◌}
+use Rattle.std.specs.Prelude.{ℕ, ◌≤◌, length, unwrap_or, Bool, true, false, None, List, [], ◌∷◌, ◌++◌, codes, Option, if◌then◌else◌}
 use Rattle.std.specs.Option.{option_copied}
 use Rattle.idn_text.specs.declared.refusal.Refusal.{Refusal}
 use Rattle.idn_text.specs.Refusals.{refusal_number, refusal_text}
@@ -29,6 +29,23 @@ pub record Details : Type 0 where
   pub alabel : Option (List ℕ)
   -- the place of a byte, from 1
   pub byte : Option ℕ
+
+-- nothing further
+abbrev pub no_details : Details
+no_details =
+    record {
+      label = None;
+      decoded = false;
+      code_point = None;
+      place = None;
+      rule = None;
+      bidi_class = None;
+      nfc = None;
+      code_points = None;
+      octets = None;
+      alabel = None;
+      byte = None;
+    }
 
 -- a code point by its number
 abbrev pub point : ℕ → Value

@@ -4,4 +4,6 @@ pub mod Inputs
 pub mod Hexadecimal
 pub mod Details
 pub mod Clear
+pub mod Examples
+pub mod Unicode
 pub mod inner

@@ -8,7 +8,7 @@ ghost use Rattle.answer_json.specs.Objects.{disposition_text, end_fields, traile
 ghost use Rattle.answer_json.specs.Details.{given_len};
 ghost use Rattle.answer_json.specs.inner.Texts.{fields_text};
 
-use crate::answered::{begin_line, end_line};
+use crate::ends::{begin_line, end_line};
 use crate::input::Input;
 use crate::member::{MAX_OBJECT_LEN, ObjectLine, put_flag, put_number, put_text};
 

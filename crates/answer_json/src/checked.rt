@@ -3,7 +3,7 @@ ghost use Rattle.std.specs.Prelude.{◌≡◌, ◌≤◌, length};
 ghost use Rattle.answer_json.specs.Answers.{line_of};
 ghost use Rattle.answer_json.specs.Objects.{checked, gap};
 
-use crate::answered::end_line;
+use crate::ends::end_line;
 use crate::member::{ObjectLine, put_number, put_text};
 
 /// Writes, in place of what was in `out`, the object of a pair of sequences that a table lacks, in its canonical texts, and

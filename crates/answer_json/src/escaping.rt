@@ -3,15 +3,41 @@ ghost use Rattle.std.specs.Prelude.{◌≡◌, ◌≤◌, ◌+◌, ◌*◌, ◌+
 ghost use Rattle.std.specs.Char.{digit_char};
 ghost use Rattle.arrayvec.specs.ArrayVec.{array_vec_len};
 ghost use Rattle.json.specs.Print.{escape, escape_byte};
+ghost use Rattle.answer_json.specs.inner.Texts.{is_plain, is_plain_byte};
 
 use arrayvec::ArrayVec;
 
-/// The most bytes that stand for one byte.
-pub const MAX_ESCAPE_LEN: usize = 6;
-
 /// Appends a text, for which there is space, with the shortest escape of each byte that needs one: the quotation mark, the
 /// backslash, and what is below the space.
+#[tactic(auto, using(crate::proofs::Plain::escape_plain))]
 pub fn append_escaped<const N: usize>(out: &mut ArrayVec<u8, N>, text: &[u8])
+    requires { array_vec_len out.old + 6 * length text.now ≤ N }
+    ensures escaped { out.new.items ≡ out.old.items ++ escape text.now }
+    ensures space { array_vec_len out.new ≤ array_vec_len out.old + 6 * length text.now }
+{
+    // Few texts have a byte that needs an escape.
+    if is_plain(text) {
+        append(out, text);
+    } else {
+        append_each(out, text);
+    }
+}
+
+/// Whether each byte of a text stands as it is.
+fn is_plain(text: &[u8]) -> bool
+    ensures { result ≡ is_plain text.now }
+{
+    text.iter().all(|byte| is_plain_byte(*byte))
+}
+
+fn is_plain_byte(byte: u8) -> bool
+    ensures { result ≡ is_plain_byte byte }
+{
+    byte >= b' ' && byte != b'"' && byte != b'\\'
+}
+
+/// Appends a text, with what stands for each byte.
+fn append_each<const N: usize>(out: &mut ArrayVec<u8, N>, text: &[u8])
     requires { array_vec_len out.old + 6 * length text.now ≤ N }
     ensures escaped { out.new.items ≡ out.old.items ++ escape text.now }
     ensures space { array_vec_len out.new ≤ array_vec_len out.old + 6 * length text.now }

@@ -6,6 +6,7 @@ ghost use Rattle.answer_json.specs.inner.Texts.{field_text};
 
 use crate::escaping::append;
 use crate::member::{MAX_OBJECT_LEN, ObjectLine, put_name, put_octets, put_text};
+use std::str;
 
 /// A line of input, without its end.
 #[derive(Clone, Copy, Debug)]
@@ -16,6 +17,23 @@ pub enum Input<'a> {
     Octets(&'a [u8]),
     /// A line that is too long, of which no byte is kept.
     NotKept,
+}
+
+impl<'a> Input<'a> {
+    ghost use Rattle.std.specs.Prelude.{◌≡◌, length, Some};
+    ghost use Rattle.answer_json.specs.Inputs.{told, told_len, told_of};
+
+    /// A line of which the bytes are kept.
+    #[tactic(auto, using(crate::proofs::Told::told_text, crate::proofs::Told::told_octets))]
+    pub fn of(line: &'a [u8]) -> Self
+        ensures told { told result ≡ told_of (Some line.now) }
+        ensures len { told_len result ≡ length line.now }
+    {
+        match str::from_utf8(line) {
+            Ok(_) => Input::Text(line),
+            Err(_) => Input::Octets(line),
+        }
+    }
 }
 
 /// Appends a line of input as a member.

@@ -7,8 +7,8 @@ ghost use Rattle.answer_json.specs.Inputs.{told, told_len};
 ghost use Rattle.answer_json.specs.Objects.{refused, table_fault};
 ghost use Rattle.answer_json.specs.inner.Texts.{refusal_text};
 
-use crate::answered::{begin_line, end_line};
 use crate::details::{put_lengths, put_rule, put_where};
+use crate::ends::{begin_line, end_line};
 use crate::input::Input;
 use crate::member::{MAX_OBJECT_LEN, ObjectLine, put_name, put_number, put_text};
 use crate::refusal_members::RefusalMembers;

@@ -2,7 +2,7 @@ use Rattle.std.proofs.Common.{[], ◌∷◌, ◌++◌, ap, ◌∙◌}
 use Rattle.answer_json.specs.Objects.{line_field}
 use Rattle.answer_json.specs.inner.Texts.{field_text}
 use Rattle.answer_json.proofs.Members.{first, with_one}
-use Rattle.answer_json.proofs.answered.begin_line.Goals as goal
+use Rattle.answer_json.proofs.ends.begin_line.Goals as goal
 
 pub returns-clause-begun : goal.returns-clause-begun
 returns-clause-begun c =
