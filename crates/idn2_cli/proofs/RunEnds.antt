@@ -5,7 +5,7 @@ use Rattle.idn_text.specs.declared.refusal.Refusal.{Refusal}
 use Rattle.idn_text.proofs.ReadingLemmas.{has_read_nothing}
 use Rattle.std.proofs.lemmas.Bool.{false≢true}
 use Rattle.idn2_options.specs.Settings.{Settings, keeping}
-use Rattle.idn2_cli.specs.Memory.{AnswersWithoutMemory}
+use Rattle.idn2_cli.specs.Memory.{AnswersWithoutMemory, ServesWithoutMemory}
 use Rattle.idn2_cli.specs.Transcript.{TableGiven, IsReadAs, IsTableOf, Piece, check_pieces, check_status}
 use Rattle.idn2_cli.specs.Ends.{Held, TakesText, closing_message, Job, Does, Ends, Closes, mode_job, refusal_of}
 use Rattle.idn2_cli.specs.inner.Emitting.{Emits}
@@ -65,7 +65,7 @@ pub checked : (o : Settings) (text : List ℕ) (given : TableGiven) (start : Rea
     → (table : TableGiven) × IsTableOf o.mode text table × Does (mode_job o table) start start old new r
 checked o text (Ok table) start old new r e read unread writes answered =
     let job = mode_job (record o { mode = CheckTable }) (Ok table) in
-    as_mode o CheckTable text (Ok table) job start start old new r e read refl (does_unread job start old new r unread writes (with_false r _ answered) (λ _ none. none))
+    as_mode o CheckTable text (Ok table) job start start old new r e read refl (does_unread job start old new r unread writes (with_false r _ answered) (λ _ none. none.answered))
 checked o text (Err fault) start old new r e read unread writes answered =
     let job = mode_job (record o { mode = CheckTable }) (Err fault) in
     as_mode o CheckTable text (Err fault) job start start old new r e read refl (does_unread job start old new r unread writes (with_false r _ answered) (λ _ none. none))
@@ -90,6 +90,11 @@ pub jumps_by_table : (o : Settings) → o.mode ≡ Jump → WorksByTable o Jump
 jumps_by_table o is = record { named = is; reads = λ text given read. read; needs = λ p line none. none }
 
 module _ (o : Settings) (mode : Mode) (works : WorksByTable o mode) (text : List ℕ) (start : Reading) where
+  -- no line is said to be served without memory
+  needs_some : (p : Settings) (given : TableGiven) (line : List ℕ) → ServesWithoutMemory mode p given line → ⊥
+  needs_some p (Ok table) line none = works.needs p line none.answered
+  needs_some p (Err fault) line none = works.needs p line none
+
   -- memory was refused while the table was read
   pub unread_stopped : (old : Held) (r : Result Status Stop) (why : Stop) → IsUnread start → r ≡ Err why → why ≡ stop.Memory
       → (table : TableGiven) × IsTableOf o.mode text table × Does (mode_job o table) start start old old r
@@ -98,7 +103,7 @@ module _ (o : Settings) (mode : Mode) (works : WorksByTable o mode) (text : List
       let job = mode_job (record o { mode = mode }) t.0 in
       as_mode o mode text t.0 job start start old old r works.named (works.reads text t.0 t.1) refl
       (does_unread job start old old r unread (emits_memory old (job.pieces []) r why is memory)
-      (subst (λ (s : Result Status Stop). IfOk s (λ status. (job.reads ≡ false) × (status ≡ job.status []))) (sym is) tt) (works.needs (record o { mode = mode })))
+      (subst (λ (s : Result Status Stop). IfOk s (λ status. (job.reads ≡ false) × (status ≡ job.status []))) (sym is) tt) (needs_some (record o { mode = mode }) t.0))
 
   -- the fault of the table is told
   faulty : (line : ℕ) (refusal : Refusal) (old new : Held) (r : Result Status Stop)
@@ -107,7 +112,7 @@ module _ (o : Settings) (mode : Mode) (works : WorksByTable o mode) (text : List
   faulty line refusal old new r read unread writes answered =
       let job = mode_job (record o { mode = mode }) (Err (line, refusal)) in
       as_mode o mode text (Err (line, refusal)) job start start old new r works.named (works.reads text (Err (line, refusal)) read) refl
-      (does_unread job start old new r unread writes (with_false r _ answered) (works.needs (record o { mode = mode })))
+      (does_unread job start old new r unread writes (with_false r _ answered) (needs_some (record o { mode = mode }) (Err (line, refusal))))
 
   -- the table is not read
   pub refused_lines : (fault : TableFault) (old new : Held) (r : Result Status Stop) → IsUnread start → IsToldOf text fault

@@ -1,8 +1,9 @@
 -- Lines that a mode answers without memory.
-use Rattle.std.specs.Prelude.{ℕ, List, chars, All, IsAscii, Option, Some, None, Ok}
+use Rattle.std.specs.Prelude.{ℕ, List, chars, All, IsAscii, Option, Some, None, Ok, Err}
 use Rattle.idna.specs.Labels.{labels_of}
 use Rattle.idn_label.specs.Memory.{NeedsNoMemory, LooksUpWithoutMemory, RegistersWithoutMemory, DecodesWithoutMemory}
-use Rattle.idn2_cli.specs.Answers.{tested_after}
+use Rattle.idn2_cli.specs.Answers.{LineAnswer, tested_after, mode_answer, text_answer}
+use Rattle.idn2_cli.specs.Explained.{Explained, SeeksNoCause, explained_in}
 use Rattle.idn2_cli.specs.Transcript.{TableGiven}
 use Rattle.idn2_options.specs.Settings.{Settings}
 use Rattle.idn2_options.specs.declared.command_line.mode.Mode.{Mode}
@@ -20,6 +21,16 @@ AnswersWithoutMemory Decode o line = DecodesLineWithoutMemory line
 AnswersWithoutMemory Variants o line = ⊥
 AnswersWithoutMemory Jump o line = ⊥
 AnswersWithoutMemory CheckTable o line = ⊥
+
+-- the bytes of a line that needs no memory for its answer, and none for a cause: it is answered, or causes are not told
+pub record NeedsNone (explained : Explained) (answer : List ℕ → LineAnswer) (needs_none : List ℕ → Type 0) (line : List ℕ) : Type 0 where
+  pub causeless : SeeksNoCause explained (text_answer answer line)
+  pub answered : needs_none line
+
+-- the same of a mode by its table; where that has a fault, no line is answered
+abbrev pub ServesWithoutMemory : Mode → Settings → TableGiven → List ℕ → Type 0
+ServesWithoutMemory mode o (Ok table) line = NeedsNone (explained_in mode o table) (mode_answer mode o table) (AnswersWithoutMemory mode o) line
+ServesWithoutMemory mode o (Err fault) line = AnswersWithoutMemory mode o line
 
 -- the bytes of a line of which the listing, once begun, goes on without memory: no label that it may test needs any; what else is
 -- answered does so whatever the line is

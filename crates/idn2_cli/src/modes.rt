@@ -16,7 +16,7 @@ mod variants;
 pub(crate) use check_table::check_table;
 pub(crate) use decode::Decode;
 pub(crate) use dispositions::Dispositions;
-pub(crate) use jumps::Jumps;
+pub(crate) use jumps::{Jumps, label_of_request};
 pub(crate) use lookup::Lookup;
 pub(crate) use register::Register;
 pub(crate) use variants::Variants;

@@ -1,0 +1,14 @@
+use Rattle.std.proofs.Common.{◌∙◌, Err, ap, refl}
+use Rattle.std.proofs.lemmas.Result.{err_from_is_err_and}
+use Rattle.idn2_cli.proofs.WrittenPieces.{stops_first}
+use Rattle.idn2_cli.proofs.session.refusing.refuse_points.Goals as goal
+
+pub returns-in_err-cause-in_default : goal.returns-in_err-cause-in_default
+returns-in_err-cause-in_default g c =
+    let p = err_from_is_err_and c.from_residual.result c.from_residual.ensures.1 in
+    record {
+      told = λ other. rw (p.1, p.2) (stops_first _ _);
+      memory = λ is. p.1 ∙ ap Err p.2;
+      begun = λ is. refl;
+      refused = rw p.1 tt;
+    }
