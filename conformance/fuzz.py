@@ -2,8 +2,9 @@
 """Compares the built program with a second writing of its rules on random input: python3 conformance/fuzz.py
 
 It draws words, tables, labels, registered labels, names and bytes from a seed, which it prints, until the given number of
-seconds is over. Each run's output, messages and status must be those of second_run.py, byte for byte. Names for lookup are
-compared with libidn2's answers, whose known kinds of difference are in kinds.py. Status 1 where anything differs.
+seconds is over. Each run's output, messages and status must be those of second_run.py, byte for byte, in half of the runs
+with the causes that causes.py tells. Names for lookup are compared with libidn2's answers, whose known kinds of difference
+are in kinds.py. Status 1 where anything differs.
 """
 
 import argparse
@@ -37,6 +38,7 @@ ALPHABETS = ("ab", "sß", "abß-", "a-", "ab\u0301", "qa\u0301", "\u05d0\u05d1a"
 PIECES = [b"a", b"b", b".", b"-", b"--", b"xn--", b"XN--", b"\0", b"\r", b"\r\n", b"\n", b"\xff", b"\xc3", b"\xed\xa0\x80",
           b"\xf4\x90\x80\x80", b"\xc0\x80", "ß".encode(), "\u0301".encode(), "\U00010ffff".encode(), b"a" * 62, b"b" * 1000]
 WORDS = ["-l", "--lookup", "-r", "--register", "-d", "--decode", "-N", "--tr46nt", "--quiet", "--usestd3asciirules",
+         "--explain",
          "-h", "--help", "-V", "--version", "--variants", "--check-table", "--after", "--limit", "--tries", "--steps", "--",
          "--among", "--among=registered", "--among=absent", "--among=table", "--jump", "--jump=1", "registered",
          "-", "-rN", "-lr", "-hx", "-xh", "-r=1", "--register=1", "--bogus", "--after=", "--after=-a", "--limit=1",
@@ -81,6 +83,7 @@ class Fuzz:
 
     def compare(self, words, given, **files):
         """One run, with the files of these names."""
+        words = self.chance.choice((words, ["--explain", *words]))
         for name, text in files.items():
             (self.folder / name).write_bytes(text)
         try:

@@ -119,16 +119,21 @@ class Registration:
 
     def passes_context_o(self, points):
         """RFC 5892, appendices A.3 to A.9."""
-        has = lambda first, last: any(is_in(((first, last),), point) for point in points)
-        for place, point in enumerate(points):
-            before = points[place - 1] if place > 0 else None
-            after = points[place + 1] if place + 1 < len(points) else None
-            if point == 0x00B7 and not before == after == 0x6C:
-                return False
-            if point == 0x0375 and self.scripts.get(after) != "Greek":
-                return False
-            if point in (0x05F3, 0x05F4) and self.scripts.get(before) != "Hebrew":
-                return False
-            if point == 0x30FB and not {self.scripts.get(each) for each in points} & {"Hiragana", "Katakana", "Han"}:
-                return False
-        return not (has(0x0660, 0x0669) and has(0x06F0, 0x06F9))
+        return all(self.passes_context_o_at(points, place) for place in range(len(points)))
+
+    def passes_context_o_at(self, points, place):
+        point = points[place]
+        before = points[place - 1] if place > 0 else None
+        after = points[place + 1] if place + 1 < len(points) else None
+        has = lambda first, last: any(first <= each <= last for each in points)
+        if point == 0x00B7:
+            return before == after == 0x6C
+        if point == 0x0375:
+            return self.scripts.get(after) == "Greek"
+        if point in (0x05F3, 0x05F4):
+            return self.scripts.get(before) == "Hebrew"
+        if point == 0x30FB:
+            return bool({self.scripts.get(each) for each in points} & {"Hiragana", "Katakana", "Han"})
+        if 0x0660 <= point <= 0x0669:
+            return not has(0x06F0, 0x06F9)
+        return not (0x06F0 <= point <= 0x06F9 and has(0x0660, 0x0669))

@@ -6,6 +6,7 @@ Where it does not know, since a code point is newer than the data here, or since
 """
 
 import check
+from causes import Causes
 from notation import reading
 from notation.faults import TableFault
 from notation.ruleset import Entry, Mapped, Ruleset
@@ -22,7 +23,7 @@ TEXTS = {
     NOT_MADE_OF_ENTRIES: "not made of table entries", NOT_VALID: "not valid under the table", 50: "usage", 60: "read fault",
 }
 FLAGS = {"-l": "lookup", "--lookup": "lookup", "-r": "register", "--register": "register", "-d": "decode",
-         "--decode": "decode", "-N": "nontransitional", "--tr46nt": "nontransitional", "--quiet": "quiet",
+         "--decode": "decode", "-N": "nontransitional", "--tr46nt": "nontransitional", "--quiet": "quiet", "--explain": "explain",
          "--usestd3asciirules": "std3", "--jump": "jump", "-h": "show", "--help": "show", "-V": "show", "--version": "show"}
 LISTINGS, CHECKS = {"--variants", "--ruleset"}, {"--check-table", "--check-ruleset"}
 OF_A_LISTING = {"--among", "--after", "--limit", "--tries", "--steps"}
@@ -126,7 +127,7 @@ class Run:
     """`registration` has the rules of labels, `classes` the classes of code points."""
 
     def __init__(self, registration, classes):
-        self.registration, self.classes = registration, classes
+        self.registration, self.classes, self.causes = registration, classes, Causes(registration, classes)
 
     def answer(self, words, given, files):
         """(output, messages, status); output is None where only its being there is known."""
@@ -154,8 +155,17 @@ class Run:
             lines, refusal = self.answer_line(options, table, registered, body)
             output += lines
             if refusal is not None:
-                messages.append(f"idn2: line {number}: {refusal} {TEXTS[refusal]}\n")
+                messages.append(f"idn2: line {number}: {refusal} {TEXTS[refusal]}{self.tail(options, table, body, refusal)}\n")
         return ("".join(line + "\n" for line in output).encode(), "".join(messages).encode(), 1 if messages else 0)
+
+    def tail(self, options, table, body, refusal):
+        """What the message of a refused line goes on with."""
+        if "explain" not in options.given:
+            return ""
+        mode = "jump" if "jump" in options.given else options.mode
+        sources = table[0].entries if table else ()
+        cause = self.causes.of_body(mode, body, refusal, sources)
+        return "" if cause is None else f": {cause}"
 
     def read_files(self, options, files):
         """The registered labels and the table, each None where the options name none. The labels are read first."""

@@ -108,6 +108,17 @@ CASES = [
     Case(AMONG, SHARP_S, [("", "", "idn2: registered line 2: 4 out of order\n")], 2, b"b\na\nc\n"),
     Case(AMONG, b"0061|", [("", "", "idn2: registered line 1: 1 not UTF-8\n")], 2, b"\xff\n"),
     Case(AMONG, b"0061|", [("", "", "idn2: table line 1: 30 table syntax\n")], 2, b"a\n"),
+    # The causes of refusals, which take memory of their own.
+    Case(["-r", "--explain"], b"",
+         [("Faß\n", "", "idn2: line 1: 10 disallowed code point: U+0046 at place 1: RFC 5892 2.2 Unstable\n"),
+          ("a\u0301\n", "", "idn2: line 2: 12 not in NFC: U+0061 at place 1: NFC has U+00E1\n"), ("abc\n", "abc\n", ""),
+          ("xn--a-\n", "", "idn2: line 4: 19 not an A-label: the A-label is a\n"),
+          ("a" * 62 + "ü\n", "", "idn2: line 5: 18 label too long: A-label of 70 octets\n")], 1),
+    Case(["-d", "--explain"], b"", [("xn--4db.XN--LS8H\n", "", "idn2: line 1: 10 disallowed code point: label 2, decoded: "
+                                     "U+1F4A9 at place 1: not RFC 5892 2.1 LetterDigits\n")], 1),
+    Case(["-l", "--explain"], b"", [("ü..b\n", "", "idn2: line 1: 21 name or label length: label 2: 0 octets\n")], 1),
+    Case(["--variants", "table", "--explain"], DOUBLED,
+         [("aab\n", "", "idn2: line 1: 40 not made of table entries: U+0062 at place 3\n"), ("aa\n", BLOCK, "")], 1),
     Case(JUMP, SHARP_S, [("sss\tsssa\n", "sß\n", ""), ("\tsss\n", "", "idn2: line 2: 3 empty\n"), ("sss\tt\n", "ßs\n", ""),
                          ("sss\tßt\n", "#end\n", ""), ("x\ta\n", "", "idn2: line 5: 40 not made of table entries\n")], 1),
 ]

@@ -26,6 +26,7 @@ use Rattle.idn2_cli.specs.Answers.{block, block_to, disposition, is_registrable,
 use Rattle.std.specs.Char.{encode_utf8}
 use Rattle.std.specs.Str.{is_utf8, chars}
 use Rattle.idn_text.specs.Lines.{lines_of}
+use Rattle.idn2_cli.specs.Explained.{Unexplained, points_cause}
 use Rattle.idn2_cli.specs.Transcript.{Output, Message, lines_pieces, has_refused, status_if}
 use Rattle.idn2_cli.specs.declared.session.status.Status.TheVariants.{Refused}
 use Rattle.idn2_cli.specs.Examples.{ExamplesOfBlocks, ExamplesOfTranscripts, listing, three_lines, version_one, y_or_z, one_or_both}
@@ -92,8 +93,8 @@ answered = (
 )
 
 written : (r : List ℕ → Result (List ℕ) Refusal) → Answered r
-    → lines_pieces (λ label. one_line (r label)) (lines_of three_lines) ≡ Output (codes "abc\n") ∷ Message (codes "idn2: line 2: 13 hyphen out of place\n") ∷ Output (codes "b\n") ∷ []
-unfolding Answered is_utf8 chars encode_utf8 digits
+    → lines_pieces Unexplained (λ label. one_line (r label)) (lines_of three_lines) ≡ Output (codes "abc\n") ∷ Message (codes "idn2: line 2: 13 hyphen out of place\n") ∷ Output (codes "b\n") ∷ []
+unfolding Answered is_utf8 chars encode_utf8 digits points_cause
 written r are = rw are.0 (rw are.1 (rw are.2 refl))
 
 status : (r : List ℕ → Result (List ℕ) Refusal) → Answered r → status_if (has_refused (λ label. one_line (r label)) (lines_of three_lines)) ≡ Refused

@@ -44,3 +44,7 @@ pub mod CollisionSteps
 pub mod JumpAnswers
 -- A run has printed the listings of its lines.
 pub mod HeadlineLemmas
+-- What messages of refused lines go on with.
+pub mod CauseLemmas
+-- The examples of causes, computed.
+pub mod CauseExampleLemmas

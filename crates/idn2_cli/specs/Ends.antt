@@ -15,7 +15,8 @@ use Rattle.idn_text.specs.Reading.{Reading, HasRead, HasStopped}
 use Rattle.idn_text.specs.declared.lines.State.TheVariants.{Ended, Stopped}
 use Rattle.idn2_options.specs.Settings.{Settings}
 use Rattle.idn2_cli.specs.Answers.{LineAnswer}
-use Rattle.idn2_cli.specs.Memory.{AnswersWithoutMemory, GoesOnWithoutMemory, BodyNeedsNone, reads_table}
+use Rattle.idn2_cli.specs.Explained.{Explained}
+use Rattle.idn2_cli.specs.Memory.{NeedsNone, ServesWithoutMemory, GoesOnWithoutMemory, BodyNeedsNone, reads_table}
 use Rattle.idn2_options.specs.declared.command_line.mode.Mode.{Mode}
 use Rattle.idn2_options.specs.declared.command_line.mode.Mode.TheVariants.{CheckTable}
 use Rattle.idn2_cli.specs.declared.session.stop.Stop.TheVariants as stop
@@ -86,13 +87,13 @@ pub record Job : Type 1 where
   pub goes_on : List ℕ → Type 0
 
 -- to answer each line by itself
-abbrev pub lines_job : (List ℕ → LineAnswer) → Bool → (needs_none goes_on : List ℕ → Type 0) → Job
-lines_job answer by_table needs_none goes_on = record {
+abbrev pub lines_job : Explained → (List ℕ → LineAnswer) → Bool → (needs_none goes_on : List ℕ → Type 0) → Job
+lines_job explained answer by_table needs_none goes_on = record {
   reads = true;
-  pieces = lines_pieces answer;
+  pieces = lines_pieces explained answer;
   status = λ lines. status_if (has_refused answer lines);
   reads_table = by_table;
-  needs_none = needs_none;
+  needs_none = NeedsNone explained answer needs_none;
   goes_on = goes_on;
 }
 
@@ -109,7 +110,7 @@ mode_job o table = record {
   pieces = transcript o table;
   status = status_of o table;
   reads_table = reads_table o.mode;
-  needs_none = AnswersWithoutMemory o.mode o;
+  needs_none = ServesWithoutMemory o.mode o table;
   goes_on = GoesOnWithoutMemory o.mode o table;
 }
 

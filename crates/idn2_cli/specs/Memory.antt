@@ -1,9 +1,10 @@
 -- Lines that a mode answers without memory.
-use Rattle.std.specs.Prelude.{ℕ, Bool, true, false, List, chars, All, IsAscii, Option, Some, None, Ok, ◌≢◌}
+use Rattle.std.specs.Prelude.{ℕ, Bool, true, false, List, chars, All, IsAscii, Option, Some, None, Ok, Err, ◌≢◌}
 use Rattle.idna.specs.Labels.{labels_of}
 use Rattle.idn_label.specs.FirstFault.{first_fault}
 use Rattle.idn_label.specs.Memory.{NeedsNoMemory, LooksUpWithoutMemory, RegistersWithoutMemory, DecodesWithoutMemory}
-use Rattle.idn2_cli.specs.Answers.{requested_label, tested_after}
+use Rattle.idn2_cli.specs.Answers.{LineAnswer, requested_label, tested_after, mode_answer, text_answer}
+use Rattle.idn2_cli.specs.Explained.{Explained, SeeksNoCause, explained_in}
 use Rattle.idn2_cli.specs.Transcript.{TableGiven}
 use Rattle.idn2_options.specs.Settings.{Settings}
 use Rattle.idn2_options.specs.declared.command_line.mode.Mode.{Mode}
@@ -32,6 +33,16 @@ reads_table Variants = true
 reads_table Jump = true
 reads_table CheckTable = true
 reads_table mode = false
+
+-- the bytes of a line that needs no memory for its answer, and none for a cause: it is answered, or causes are not told
+pub record NeedsNone (explained : Explained) (answer : List ℕ → LineAnswer) (needs_none : List ℕ → Type 0) (line : List ℕ) : Type 0 where
+  pub causeless : SeeksNoCause explained (text_answer answer line)
+  pub answered : needs_none line
+
+-- the same of a mode by its table; where that has a fault, no line is answered
+abbrev pub ServesWithoutMemory : Mode → Settings → TableGiven → List ℕ → Type 0
+ServesWithoutMemory mode o (Ok table) line = NeedsNone (explained_in mode o table) (mode_answer mode o table) (AnswersWithoutMemory mode o) line
+ServesWithoutMemory mode o (Err fault) line = AnswersWithoutMemory mode o line
 
 -- the bytes of a line of which the listing, once begun, goes on without memory: no label that it may test needs any; what else is
 -- answered does so whatever the line is

@@ -1,5 +1,5 @@
 -- The transcript of a run: all that it writes where nothing fails, piece by piece.
-use Rattle.std.specs.Prelude.{ℕ, List, [], ◌∷◌, ◌++◌, ◌≡◌, Result, Ok, Err, ◌==◌, Bool, not, length, map, codes, if◌then◌else◌}
+use Rattle.std.specs.Prelude.{ℕ, List, [], ◌∷◌, ◌++◌, ◌≡◌, Option, Result, Ok, Err, ◌==◌, Bool, not, length, map, codes, if◌then◌else◌}
 use Rattle.std.specs.List.{flat_map, list_any}
 use Rattle.std.specs.Result.{is_err}
 use Rattle.std.specs.Fmt.{decimal}
@@ -16,6 +16,8 @@ use Rattle.variant_table.specs.Canonical.{sequence_text}
 use Rattle.variant_table.specs.Gaps.{gaps_of, AreGapsOf}
 use Rattle.idn2_options.specs.Settings.{Settings}
 use Rattle.idn2_cli.specs.Answers.{LineAnswer, mode_answer, line_answer}
+use Rattle.idn2_cli.specs.CauseTexts.{tail_text}
+use Rattle.idn2_cli.specs.Explained.{Explained, body_cause, explained_in, points_cause}
 use Rattle.idn2_cli.specs.declared.session.status.Status.{Status}
 use Rattle.idn2_cli.specs.declared.session.status.Status.TheVariants.{Clean, Refused, Unusable}
 use Rattle.idn_text.specs.declared.refusal.Refusal.TheVariants as refusals
@@ -84,6 +86,12 @@ told refusal = decimal (refusal_number refusal) ++ (codes " " ++ (refusal_text r
 abbrev pub line_message : ℕ → Refusal → List ℕ
 line_message number refusal = codes "idn2: line " ++ (decimal number ++ (codes ": " ++ told refusal))
 
+-- the same, with what it goes on with before the line feed
+abbrev pub refused_message : ℕ → Refusal → List ℕ → List ℕ
+refused_message number refusal tail =
+    codes "idn2: line "
+    ++ (decimal number ++ (codes ": " ++ (decimal (refusal_number refusal) ++ (codes " " ++ (refusal_text refusal ++ (tail ++ codes "\n"))))))
+
 -- the message of a table that has a fault
 abbrev pub table_message : ℕ → Refusal → List ℕ
 table_message number refusal = codes "idn2: table line " ++ (decimal number ++ (codes ": " ++ told refusal))
@@ -98,18 +106,26 @@ registered_message number refusal = codes "idn2: registered line " ++ (decimal n
 abbrev pub output_lines : List (List ℕ) → List Piece
 output_lines lines = map (λ line. Output (line ++ 10 ∷ [])) lines
 
--- an answer's lines go to the output, a refusal to the messages
-abbrev pub pieces_for : ℕ → LineAnswer → List Piece
-pieces_for number (Ok lines) = output_lines lines
-pieces_for number (Err refusal) = Message (line_message number refusal) ∷ []
+-- an answer's lines go to the output, a refusal to the messages, with what its message goes on with
+abbrev pub pieces_for : (Refusal → List ℕ) → ℕ → LineAnswer → List Piece
+pieces_for tail number (Ok lines) = output_lines lines
+pieces_for tail number (Err refusal) = Message (refused_message number refusal (tail refusal)) ∷ []
+
+-- what the message of a refused line goes on with
+abbrev pub body_tail : Explained → Option (List ℕ) → Refusal → List ℕ
+body_tail explained body refusal = tail_text refusal (body_cause explained body refusal)
+
+-- the same of a line's code points
+abbrev pub points_tail : Explained → List ℕ → Refusal → List ℕ
+points_tail explained points refusal = tail_text refusal (points_cause explained points refusal)
 
 -- the pieces of a line
-abbrev pub line_pieces : (List ℕ → LineAnswer) → Numbered → List Piece
-line_pieces answer line = pieces_for line.number (line_answer answer line.body)
+abbrev pub line_pieces : Explained → (List ℕ → LineAnswer) → Numbered → List Piece
+line_pieces explained answer line = pieces_for (body_tail explained line.body) line.number (line_answer answer line.body)
 
 -- the pieces of lines, in order
-abbrev pub lines_pieces : (List ℕ → LineAnswer) → List Numbered → List Piece
-lines_pieces answer lines = flat_map (line_pieces answer) lines
+abbrev pub lines_pieces : Explained → (List ℕ → LineAnswer) → List Numbered → List Piece
+lines_pieces explained answer lines = flat_map (line_pieces explained answer) lines
 
 -- whether some line is refused
 abbrev pub has_refused : (List ℕ → LineAnswer) → List Numbered → Bool
@@ -156,7 +172,7 @@ check_status (Ok table) = status_if (not (length (gaps_of table.entries) == 0))
 -- the pieces of a mode over these lines; the check of a table reads none
 abbrev pub mode_pieces : Mode → Settings → TableValue → List Numbered → List Piece
 mode_pieces CheckTable o table lines = check_pieces (Ok table)
-mode_pieces mode o table lines = lines_pieces (mode_answer mode o table) lines
+mode_pieces mode o table lines = lines_pieces (explained_in mode o table) (mode_answer mode o table) lines
 
 -- 1 where a line is refused, else 0
 abbrev pub mode_status : Mode → Settings → TableValue → List Numbered → Status

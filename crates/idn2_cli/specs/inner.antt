@@ -5,3 +5,4 @@ pub mod TableFaults
 pub mod Dispositions
 pub mod GapSequences
 pub mod KeptLines
+pub mod Explaining

@@ -1,12 +1,19 @@
 //! Laws of the definitions that the contract of `run` speaks of. Each holds by its proof alone.
 ghost use Rattle.std.specs.Prelude.{ℕ, List};
 ghost use Rattle.idn2_cli.specs.Answers.{LineAnswer};
-ghost use Rattle.idn2_cli.specs.Laws.{DispositionsAreTold};
+ghost use Rattle.idn2_cli.specs.Laws.{CausesAreTold, DispositionsAreTold};
+ghost use Rattle.idn2_cli.specs.CauseExamples.{ExamplesOfCauses};
 ghost use Rattle.idn2_cli.specs.Examples.{ExamplesOfARun, ExamplesOfLines, ExamplesOfBlocks, ExamplesOfTranscripts};
 
 /// The third field of a variant's line, by what the table blocks.
 pub fn dispositions_are_told()
     ensures { DispositionsAreTold }
+{}
+
+/// What the message of a refused line goes on with.
+pub fn causes_are_told()
+    ensures laws { CausesAreTold }
+    ensures examples { ExamplesOfCauses }
 {}
 
 /// Worked examples hold of the definitions themselves.

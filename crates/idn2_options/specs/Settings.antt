@@ -9,6 +9,7 @@ use Rattle.idn2_options.specs.declared.command_line.mode.Mode.TheVariants.{Varia
 pub record Settings : Type 0 where
   pub mode : Mode
   pub std3 : Bool
+  pub explain : Bool
   pub file : List ℕ
   pub strings : List (List ℕ)
   pub after : List ℕ

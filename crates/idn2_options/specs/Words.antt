@@ -18,7 +18,7 @@ use Rattle.idn2_options.specs.declared.command_line.mode.Mode.{Mode}
 use Rattle.idn2_options.specs.declared.command_line.mode.Mode.TheVariants.{Lookup, Register, Decode, Variants, Jump, CheckTable}
 use Rattle.idn2_options.specs.declared.command_line.usage.Usage.{Usage}
 use Rattle.idn2_options.specs.declared.command_line.usage.Usage.TheVariants.{Bad, Show, Memory}
-use Rattle.idn2_options.specs.declared.command_line.arguments.TheConstants.{AFTER, AMONG, CHECK_TABLE, DECODE, JUMP, LIMIT, LOOKUP, REGISTER, STD3, STEPS, STRINGS, TRIES, VARIANTS}
+use Rattle.idn2_options.specs.declared.command_line.arguments.TheConstants.{AFTER, AMONG, CHECK_TABLE, DECODE, EXPLAIN, JUMP, LIMIT, LOOKUP, REGISTER, STD3, STEPS, STRINGS, TRIES, VARIANTS}
 
 -- ---- what `clap` found
 
@@ -148,6 +148,7 @@ abbrev pub settings_of : List Row → Settings
 settings_of rows = record {
   mode = mode_of rows;
   std3 = has_flag STD3.now rows;
+  explain = has_flag EXPLAIN.now rows;
   file = file_of rows;
   strings = strings_of rows;
   after = chars (start_of rows);

@@ -22,6 +22,7 @@ Options:
       --jump                With --variants: answer LABEL TAB TEXT by one label
   -N, --tr46nt              Non-transitional lookup, which lookup does anyway
       --usestd3asciirules   Lookup refuses ASCII but letters, digits and hyphens
+      --explain             Messages of refused lines go on with the cause
       --quiet               Accepted; there is no banner
       --after <TEXT>        With --variants: list only variants after TEXT
       --limit <N>           With --variants: stop after N variants of a line
@@ -79,6 +80,7 @@ fn summary_of(alloc: Global, line: &str) -> Result<String, AllocError> {
             let Options {
                 mode,
                 std3,
+                explain,
                 file,
                 strings: _,
                 after,
@@ -88,7 +90,7 @@ fn summary_of(alloc: Global, line: &str) -> Result<String, AllocError> {
                 among,
             } = options;
             format!(in alloc;
-                "{mode:?} {std3} {file:?} {after:?} {limit:?} {tries} {steps:?} {among:?} {input:?}"
+                "{mode:?} {std3} {explain} {file:?} {after:?} {limit:?} {tries} {steps:?} {among:?} {input:?}"
             )
         }
         Err(Usage::Bad) => String::from_str(alloc, "bad"),
@@ -98,78 +100,82 @@ fn summary_of(alloc: Global, line: &str) -> Result<String, AllocError> {
 }
 
 /// Words, separated by bars, and what they are read as.
-const READ: [(&str, &str); 18] = [
+const READ: [(&str, &str); 19] = [
     (
         "idn2",
-        "Lookup false \"\" [] None 1000000 None None \"none\"",
+        "Lookup false false \"\" [] None 1000000 None None \"none\"",
     ),
     (
         "idn2|-r|faß",
-        "Register false \"\" [] None 1000000 None None \"faß\\n\"",
+        "Register false false \"\" [] None 1000000 None None \"faß\\n\"",
     ),
     (
         "idn2|-N|--quiet|faß",
-        "Lookup false \"\" [] None 1000000 None None \"faß\\n\"",
+        "Lookup false false \"\" [] None 1000000 None None \"faß\\n\"",
     ),
     (
         "idn2|-l|--usestd3asciirules|a_b",
-        "Lookup true \"\" [] None 1000000 None None \"a_b\\n\"",
+        "Lookup true false \"\" [] None 1000000 None None \"a_b\\n\"",
     ),
     (
         "idn2|b|--decode|a|--|-c",
-        "Decode false \"\" [] None 1000000 None None \"b\\na\\n-c\\n\"",
+        "Decode false false \"\" [] None 1000000 None None \"b\\na\\n-c\\n\"",
     ),
     (
         "idn2|--variants|t|-N|--usestd3asciirules|--quiet",
-        "Variants true \"t\" [] None 1000000 None None \"none\"",
+        "Variants true false \"t\" [] None 1000000 None None \"none\"",
+    ),
+    (
+        "idn2|-r|--explain|faß",
+        "Register false true \"\" [] None 1000000 None None \"faß\\n\"",
     ),
     (
         "idn2|--check-table|t",
-        "CheckTable false \"t\" [] None 1000000 None None \"none\"",
+        "CheckTable false false \"t\" [] None 1000000 None None \"none\"",
     ),
     (
         "idn2|--variants=t|x|",
-        "Variants false \"t\" [] None 1000000 None None \"x\\n\\n\"",
+        "Variants false false \"t\" [] None 1000000 None None \"x\\n\\n\"",
     ),
     (
         "idn2|--variants||-",
-        "Variants false \"\" [] None 1000000 None None \"-\\n\"",
+        "Variants false false \"\" [] None 1000000 None None \"-\\n\"",
     ),
     (
         "idn2|--variants|t|--after|aß|--limit|0000000007|--tries|1|x",
-        "Variants false \"t\" [97, 223] Some(7) 1 None None \"x\\n\"",
+        "Variants false false \"t\" [97, 223] Some(7) 1 None None \"x\\n\"",
     ),
     (
         "idn2|--variants|t|--after=-x|--limit=1000000000|--tries=1000000000",
-        "Variants false \"t\" [45, 120] Some(1000000000) 1000000000 None None \"none\"",
+        "Variants false false \"t\" [45, 120] Some(1000000000) 1000000000 None None \"none\"",
     ),
     (
         "idn2|--variants|t|--after|",
-        "Variants false \"t\" [] None 1000000 None None \"none\"",
+        "Variants false false \"t\" [] None 1000000 None None \"none\"",
     ),
     (
         "idn2|--variants|t|--after|-",
-        "Variants false \"t\" [45] None 1000000 None None \"none\"",
+        "Variants false false \"t\" [45] None 1000000 None None \"none\"",
     ),
     (
         "idn2|--variants|t|--among|r|--limit|2|--after|a|x",
-        "Variants false \"t\" [97] Some(2) 1000000 None Some(\"r\") \"x\\n\"",
+        "Variants false false \"t\" [97] Some(2) 1000000 None Some(\"r\") \"x\\n\"",
     ),
     (
         "idn2|--among=|--variants=t",
-        "Variants false \"t\" [] None 1000000 None Some(\"\") \"none\"",
+        "Variants false false \"t\" [] None 1000000 None Some(\"\") \"none\"",
     ),
     (
         "idn2|--jump|--variants|t|x",
-        "Jump false \"t\" [] None 1000000 None None \"x\\n\"",
+        "Jump false false \"t\" [] None 1000000 None None \"x\\n\"",
     ),
     (
         "idn2|--variants|t|--steps|2|--tries|3|x",
-        "Variants false \"t\" [] None 3 Some(2) None \"x\\n\"",
+        "Variants false false \"t\" [] None 3 Some(2) None \"x\\n\"",
     ),
     (
         "idn2|--variants|t|--steps=1000000000000000000",
-        "Variants false \"t\" [] None 1000000 Some(1000000000000000000) None \"none\"",
+        "Variants false false \"t\" [] None 1000000 Some(1000000000000000000) None \"none\"",
     ),
 ];
 
@@ -198,6 +204,8 @@ fn refused(rt: HostRuntime) -> Result<(), Fail> {
         "idn2|--variants|t|--check-table|t",
         "idn2|-r|--register|x",
         "idn2|--quiet|--quiet",
+        "idn2|--explain|--explain|x",
+        "idn2|--explain=yes|x",
         "idn2|--variants|t|--variants|u",
         "idn2|--variants",
         "idn2|--check-table|t|x",

@@ -1,17 +1,20 @@
 //! What a mode does with one line.
 
-ghost use Rattle.std.specs.Prelude.{◌≡◌, ◌≢◌, ◌≤◌, ℕ, Bool, List, [], ◌∷◌, length, IfOk, IfErr, Err, true, false};
+ghost use Rattle.std.specs.Prelude.{◌≡◌, ◌≢◌, ◌≤◌, ℕ, Bool, List, [], ◌∷◌, length, IfOk, IfErr, Err, Some, false};
 ghost use Rattle.std.specs.Result.{is_err};
 ghost use Rattle.idn2_cli.specs.Answers.{LineAnswer, text_answer};
-ghost use Rattle.idn2_cli.specs.Transcript.{Output, pieces_for};
+ghost use Rattle.idn2_cli.specs.Explained.{Explained};
+ghost use Rattle.idn2_cli.specs.Memory.{NeedsNone};
+ghost use Rattle.idn2_cli.specs.Transcript.{Output, body_tail, pieces_for};
 ghost use Rattle.idn2_cli.specs.inner.Emitting.{Emits, StopsForMemory};
+ghost use Rattle.idn2_cli.specs.inner.Explaining.{explained_by};
 ghost use Rattle.idn2_cli.specs.declared.session.stop.Stop.TheVariants as stop;
 
 use crate::session::buffers::Buffers;
+use crate::session::cause::Explaining;
 use crate::session::console::Console;
-use crate::session::message::line_message;
 use crate::session::stop::Stop;
-use idn_text::{MAX_LINE_LEN, Refusal, Sink};
+use idn_text::{MAX_LINE_LEN, Sink};
 use std::alloc::Global;
 
 /// A mode that answers each line by itself.
@@ -19,17 +22,24 @@ pub(crate) trait Answering {
     // The answer to the code points of a line.
     ghost answer_of: { Self → List ℕ → LineAnswer };
 
+    // How it explains what it refuses.
+    ghost explains: { Self → Explained };
+
     // What the mode needs to answer.
     ghost is_ready: { Self → Type 0 } = { λ _. Unit {0} };
 
     // Whether it answers by a table.
     ghost reads_table: { Self → Bool } = { λ _. false };
 
-    // The bytes of lines that it answers without memory.
+    // The bytes of lines that it answers without memory, if it seeks no cause.
     ghost needs_none: { Self → List ℕ → Type 0 } = { λ _ _. ⊥ };
 
     // The bytes of lines of which the answer, once begun, goes on without memory.
     ghost goes_on: { Self → List ℕ → Type 0 } = { λ _ _. Unit {0} };
+
+    /// How it explains what it refuses.
+    fn explaining(&self) -> Explaining<'_>
+        ensures { explained_by result ≡ explains self.now };
 
     /// Writes the answer to the bytes of a line of this number, and returns whether it is a refusal.
     fn answer<W: Sink, E: Sink>(
@@ -43,9 +53,9 @@ pub(crate) trait Answering {
         requires ready { is_ready self.now }
         requires few { length text.now ≤ MAX_LINE_LEN }
         ensures written { Emits console.old console.new
-            (pieces_for number (text_answer (answer_of self.now) text.now)) result }
+            (pieces_for (body_tail (explains self.now) (Some text.now)) number (text_answer (answer_of self.now) text.now)) result }
         ensures refused { IfOk result (λ refused. refused ≡ is_err (text_answer (answer_of self.now) text.now)) }
-        ensures no_memory { needs_none self.now text.now → result ≢ Err stop.Memory }
+        ensures no_memory { NeedsNone (explains self.now) (answer_of self.now) (needs_none self.now) text.now → result ≢ Err stop.Memory }
         ensures begun { StopsForMemory (goes_on self.now text.now) console.old console.new result };
 }
 
@@ -61,29 +71,4 @@ pub(crate) fn reply<W: Sink, E: Sink>(
 {
     console.output(line)?;
     Ok(false)
-}
-
-/// Reports why a line is refused. Refused memory is no refusal of the line: nothing is reported, and the
-/// run stops.
-// Most lines are not refused.
-#[cold]
-#[inline(never)]
-pub(crate) fn refuse<W: Sink, E: Sink>(
-    number: u64,
-    refusal: Refusal,
-    console: &mut Console<'_, '_, W, E>,
-) -> Result<bool, Stop>
-    ensures told { refusal ≢ Refusal.Memory →
-        Emits console.old console.new (pieces_for number (Err refusal)) result }
-    ensures why { refusal ≢ Refusal.Memory → IfErr result (λ why. why ≡ stop.Messages) }
-    ensures memory { refusal ≡ Refusal.Memory → result ≡ Err stop.Memory }
-    ensures begun { result ≡ Err stop.Memory → console.new ≡ console.old }
-    ensures refused { IfOk result (λ refused. refused ≡ true) }
-{
-    if let Refusal::Memory = refusal {
-        return Err(Stop::Memory);
-    }
-    let message = line_message(number, &refusal);
-    console.message(message.as_str().as_bytes())?;
-    Ok(true)
 }

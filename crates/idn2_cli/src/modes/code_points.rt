@@ -4,13 +4,17 @@ ghost use Rattle.std.specs.Prelude.{◌≡◌, ◌≢◌, ◌≤◌, ℕ, Bool, 
 ghost use Rattle.std.specs.Result.{is_err};
 ghost use Rattle.idn_text.specs.Points.{AreScalarValues};
 ghost use Rattle.idn2_cli.specs.Answers.{LineAnswer};
-ghost use Rattle.idn2_cli.specs.Transcript.{pieces_for};
+ghost use Rattle.idn2_cli.specs.Explained.{Explained, SeeksNoCause};
+ghost use Rattle.idn2_cli.specs.Transcript.{pieces_for, points_tail};
 ghost use Rattle.idn2_cli.specs.inner.Emitting.{Emits, StopsForMemory};
+ghost use Rattle.idn2_cli.specs.inner.Explaining.{explained_by};
 ghost use Rattle.idn2_cli.specs.declared.session.stop.Stop.TheVariants as stop;
 
-use crate::modes::answering::{Answering, refuse};
+use crate::modes::answering::Answering;
 use crate::session::buffers::Buffers;
+use crate::session::cause::Explaining;
 use crate::session::console::Console;
+use crate::session::refusing::refuse;
 use crate::session::stop::Stop;
 use idn_text::{MAX_LINE_LEN, Refusal, Sink, decode_points};
 use std::alloc::Global;
@@ -20,17 +24,24 @@ pub(crate) trait PointAnswering {
     // The answer to the code points of a line.
     ghost answer_of: { Self → List ℕ → LineAnswer };
 
+    // How it explains what it refuses.
+    ghost explains: { Self → Explained };
+
     // What the mode needs to answer.
     ghost is_ready: { Self → Type 0 } = { λ _. Unit {0} };
 
     // Whether it answers by a table.
     ghost reads_table: { Self → Bool } = { λ _. false };
 
-    // The code points of lines that it answers without memory.
+    // The code points of lines that it answers without memory, if it seeks no cause.
     ghost needs_none: { Self → List ℕ → Type 0 } = { λ _ _. ⊥ };
 
     // The code points of lines of which the answer, once begun, goes on without memory.
     ghost goes_on: { Self → List ℕ → Type 0 } = { λ _ _. Unit {0} };
+
+    /// How it explains what it refuses.
+    fn explaining(&self) -> Explaining<'_>
+        ensures { explained_by result ≡ explains self.now };
 
     /// Writes the answer to a line of this number, and returns whether it is a refusal.
     fn answer_points<W: Sink, E: Sink>(
@@ -44,9 +55,9 @@ pub(crate) trait PointAnswering {
         requires few { length points.now ≤ MAX_LINE_LEN }
         requires scalar_values { AreScalarValues points.now }
         ensures written { Emits console.old console.new
-            (pieces_for number (answer_of self.now points.now)) result }
+            (pieces_for (points_tail (explains self.now) points.now) number (answer_of self.now points.now)) result }
         ensures refused { IfOk result (λ refused. refused ≡ is_err (answer_of self.now points.now)) }
-        ensures no_memory { needs_none self.now points.now → result ≢ Err stop.Memory }
+        ensures no_memory { SeeksNoCause (explains self.now) (answer_of self.now points.now) → needs_none self.now points.now → result ≢ Err stop.Memory }
         ensures begun { StopsForMemory (goes_on self.now points.now) console.old console.new result };
 }
 
@@ -59,6 +70,8 @@ pub(crate) struct ByPoints<'m, M: PointAnswering> {
 impl<'m, M: PointAnswering> Answering for ByPoints<'m, M> {
     ghost answer_of = { λ by. M.answer_of by.mode.now };
 
+    ghost explains = { λ by. M.explains by.mode.now };
+
     ghost is_ready = { λ by. M.is_ready by.mode.now };
 
     ghost reads_table = { λ by. M.reads_table by.mode.now };
@@ -66,6 +79,10 @@ impl<'m, M: PointAnswering> Answering for ByPoints<'m, M> {
     ghost needs_none = { λ by line. M.needs_none by.mode.now (chars line) };
 
     ghost goes_on = { λ by line. M.goes_on by.mode.now (chars line) };
+
+    fn explaining(&self) -> Explaining<'_> {
+        self.mode.explaining()
+    }
 
     fn answer<W: Sink, E: Sink>(
         &self,
@@ -76,8 +93,14 @@ impl<'m, M: PointAnswering> Answering for ByPoints<'m, M> {
         console: &mut Console<'_, '_, W, E>,
     ) -> Result<bool, Stop> {
         match decode_points(text, &mut buffers.points) {
-            Err(_) => refuse(number, Refusal::NotUtf8, console),
-            Ok(()) if text.is_empty() => refuse(number, Refusal::Empty, console),
+            Err(_) => {
+                let refusal = Refusal::NotUtf8;
+                refuse(alloc, number, text, refusal, self.explaining(), console)
+            }
+            Ok(()) if text.is_empty() => {
+                let refusal = Refusal::Empty;
+                refuse(alloc, number, text, refusal, self.explaining(), console)
+            }
             Ok(()) => {
                 self.mode
                     .answer_points(alloc, number, buffers.points.as_slice(), console)

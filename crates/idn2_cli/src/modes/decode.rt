@@ -7,14 +7,17 @@ ghost use Rattle.idn_label.specs.Decode.{decode_answer};
 ghost use Rattle.idn_label.specs.Memory.{DecodesWithoutMemory};
 ghost use Rattle.idna.specs.Labels.{labels_of};
 ghost use Rattle.idn2_cli.specs.Answers.{one_line};
+ghost use Rattle.idn2_cli.specs.Explained.{ByName, if_wanted};
 ghost use Rattle.idn_label.specs.Steps.{in_utf8};
 ghost use Rattle.idn2_cli.specs.inner.LineAnswers.{with_feed};
 ghost use Rattle.idn2_cli.specs.Memory.{DecodesLineWithoutMemory};
 
-use crate::modes::answering::{Answering, refuse, reply};
+use crate::modes::answering::{Answering, reply};
 use crate::modes::code_points::{ByPoints, PointAnswering};
 use crate::session::buffers::{Buffers, MAX_ANSWER_LEN};
+use crate::session::cause::Explaining;
 use crate::session::console::Console;
+use crate::session::refusing::{refuse, refuse_points};
 use crate::session::stop::Stop;
 use idn_label::{DecodedLabel, decode_ascii, decode_name};
 use idn_text::{MAX_LINE_LEN, Refusal, Sink};
@@ -22,12 +25,21 @@ use std::alloc::{AllocError, Global};
 
 /// Decoding (RFC 5891 section 5.3).
 #[derive(Clone, Copy)]
-pub(crate) struct Decode;
+pub(crate) struct Decode {
+    /// Whether causes are told.
+    pub explain: bool,
+}
 
 impl Answering for Decode {
     ghost answer_of = { λ _ name. one_line (in_utf8 (decode_answer name)) };
 
+    ghost explains = { λ mode. if_wanted mode.explain ByName };
+
     ghost needs_none = { λ _ name. DecodesLineWithoutMemory name };
+
+    fn explaining(&self) -> Explaining<'_> {
+        Explaining::Name.if_wanted(self.explain)
+    }
 
     fn answer<W: Sink, E: Sink>(
         &self,
@@ -38,7 +50,8 @@ impl Answering for Decode {
         console: &mut Console<'_, '_, W, E>,
     ) -> Result<bool, Stop> {
         if text.is_empty() {
-            return refuse(number, Refusal::Empty, console);
+            let explaining = Explaining::Name.if_wanted(self.explain);
+            return refuse(alloc, number, text, Refusal::Empty, explaining, console);
         }
         // A line past ASCII is answered by its code points.
         if !text.is_ascii() {
@@ -46,7 +59,10 @@ impl Answering for Decode {
         }
         match fill_line(alloc, text, &mut buffers.u_label, &mut buffers.answer) {
             Ok(len) => reply(&buffers.answer[..len], console),
-            Err(refusal) => refuse(number, refusal, console),
+            Err(refusal) => {
+                let explaining = Explaining::Name.if_wanted(self.explain);
+                refuse(alloc, number, text, refusal, explaining, console)
+            }
         }
     }
 }
@@ -75,6 +91,12 @@ fn fill_line(
 impl PointAnswering for Decode {
     ghost answer_of = { λ _ name. one_line (in_utf8 (decode_answer name)) };
 
+    ghost explains = { λ mode. if_wanted mode.explain ByName };
+
+    fn explaining(&self) -> Explaining<'_> {
+        Explaining::Name.if_wanted(self.explain)
+    }
+
     fn answer_points<W: Sink, E: Sink>(
         &self,
         alloc: Global,
@@ -84,7 +106,10 @@ impl PointAnswering for Decode {
     ) -> Result<bool, Stop> {
         match line_of(alloc, points) {
             Ok(line) => reply(line.as_bytes(), console),
-            Err(refusal) => refuse(number, refusal, console),
+            Err(refusal) => {
+                let explaining = Explaining::Name.if_wanted(self.explain);
+                refuse_points(alloc, number, points, refusal, explaining, console)
+            }
         }
     }
 }

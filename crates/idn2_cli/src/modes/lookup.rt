@@ -5,11 +5,14 @@ ghost use Rattle.idn_label.specs.Answers.{Gives};
 ghost use Rattle.idn_label.specs.Lookup.{lookup_answer};
 ghost use Rattle.idn_label.specs.Memory.{LooksUpWithoutMemory};
 ghost use Rattle.idn2_cli.specs.Answers.{one_line};
+ghost use Rattle.idn2_cli.specs.Explained.{ByQuery, if_wanted};
 ghost use Rattle.idn2_cli.specs.inner.LineAnswers.{with_feed, query_answer};
 
-use crate::modes::answering::{Answering, refuse, reply};
+use crate::modes::answering::{Answering, reply};
 use crate::session::buffers::Buffers;
+use crate::session::cause::Explaining;
 use crate::session::console::Console;
+use crate::session::refusing::refuse;
 use crate::session::stop::Stop;
 use idn_label::{LookupBuffers, lookup_utf8};
 use idn_text::{Refusal, Sink};
@@ -20,12 +23,20 @@ use std::alloc::Global;
 pub(crate) struct Lookup {
     /// Whether ASCII code points other than letters, digits and hyphens are refused.
     pub std3: bool,
+    /// Whether causes are told.
+    pub explain: bool,
 }
 
 impl Answering for Lookup {
     ghost answer_of = { λ mode name. one_line (lookup_answer name mode.std3) };
 
+    ghost explains = { λ mode. if_wanted mode.explain (ByQuery mode.std3) };
+
     ghost needs_none = { λ mode name. LooksUpWithoutMemory mode.std3 name };
+
+    fn explaining(&self) -> Explaining<'_> {
+        Explaining::Query(self.std3).if_wanted(self.explain)
+    }
 
     fn answer<W: Sink, E: Sink>(
         &self,
@@ -43,7 +54,7 @@ impl Answering for Lookup {
             &mut buffers.query,
         ) {
             Ok(len) => reply(&buffers.query[..len], console),
-            Err(refusal) => refuse(number, refusal, console),
+            Err(refusal) => refuse(alloc, number, text, refusal, self.explaining(), console),
         }
     }
 }

@@ -1,7 +1,8 @@
 //! The variants of a label under a table, all of them or those that are registered.
 
-ghost use Rattle.std.specs.Prelude.{◌≡◌, true, All, IfOk};
+ghost use Rattle.std.specs.Prelude.{◌≡◌, ◌≤◌, true, All, IfOk, length};
 ghost use Rattle.std.specs.Result.{is_err};
+ghost use Rattle.idn_text.specs.Points.{AreScalarValues};
 ghost use Rattle.idn_label.specs.FirstFault.{IsRegistrable};
 ghost use Rattle.idn_label.specs.Memory.{NeedsNoMemory};
 ghost use Rattle.variant_table.specs.WellFormed.{IsWellFormed};
@@ -9,19 +10,21 @@ ghost use Rattle.std.specs.Option.{option_copied};
 ghost use Rattle.idn2_options.specs.Settings.{IsWithinLimits, keeping};
 ghost use Rattle.idn2_cli.specs.Answers.{variants_answer, listing_answer, tested_after};
 ghost use Rattle.idn2_cli.specs.inner.Dispositions.{AreOfTable, TellsWell, block_by, field_by};
+ghost use Rattle.idn2_cli.specs.Explained.{ByTable, if_wanted};
 ghost use Rattle.idn2_cli.specs.Memory.{IsRefusedWithoutMemory};
-ghost use Rattle.idn2_cli.specs.Transcript.{output_lines, pieces_for};
+ghost use Rattle.idn2_cli.specs.Transcript.{output_lines, pieces_for, points_tail};
 ghost use Rattle.idn2_cli.specs.inner.Emitting.{Emits, StopsForMemory};
 
-use crate::modes::answering::refuse;
 use crate::modes::block::write_block;
 use crate::modes::code_points::PointAnswering;
 use crate::modes::collisions::write_collisions;
 use crate::modes::dispositions::Dispositions;
+use crate::session::cause::Explaining;
 use crate::session::console::Console;
+use crate::session::refusing::refuse_points;
 use crate::session::stop::Stop;
 use idn_label::test_label;
-use idn_text::{Refusal, Sink};
+use idn_text::{MAX_LINE_LEN, Refusal, Sink};
 use idn2_options::Options;
 use registered_labels::RegisteredLabels;
 use std::alloc::Global;
@@ -41,6 +44,8 @@ pub(crate) struct Variants<'t, 'r, 'b> {
 impl<'t, 'r, 'b> PointAnswering for Variants<'t, 'r, 'b> {
     ghost answer_of = { λ mode label. variants_answer (keeping (option_copied mode.registered) mode.options.now) mode.table.now label };
 
+    ghost explains = { λ mode. if_wanted mode.options.now.explain (ByTable mode.table.now.entries) };
+
     ghost is_ready = { λ mode. IsWithinLimits mode.options.now × IsWellFormed mode.table.now.entries
         × AreOfTable mode.table.now mode.dispositions.now };
 
@@ -49,6 +54,11 @@ impl<'t, 'r, 'b> PointAnswering for Variants<'t, 'r, 'b> {
     ghost needs_none = { λ _ label. IsRefusedWithoutMemory label };
 
     ghost goes_on = { λ mode label. All NeedsNoMemory (tested_after (keeping (option_copied mode.registered) mode.options.now) mode.table.now.entries label) };
+
+    fn explaining(&self) -> Explaining<'_> {
+        let options = self.options;
+        Explaining::Sources(self.table).if_wanted(options.explain)
+    }
 
     fn answer_points<W: Sink, E: Sink>(
         &self,
@@ -59,7 +69,9 @@ impl<'t, 'r, 'b> PointAnswering for Variants<'t, 'r, 'b> {
     ) -> Result<bool, Stop> {
         match test_label(alloc, points) {
             Ok(_) => list(alloc, self, number, points, console),
-            Err(refusal) => refuse(number, refusal, console),
+            Err(refusal) => {
+                refuse_points(alloc, number, points, refusal, self.explaining(), console)
+            }
         }
     }
 }
@@ -100,9 +112,12 @@ fn list<W: Sink, E: Sink>(
     requires limits { IsWithinLimits mode.now.options.now }
     requires table { IsWellFormed mode.now.table.now.entries }
     requires dispositions { AreOfTable mode.now.table.now mode.now.dispositions.now }
+    requires few { length label.now ≤ MAX_LINE_LEN }
+    requires scalar_values { AreScalarValues label.now }
     requires registrable { IsRegistrable label.now }
     ensures written { Emits console.old console.new
-        (pieces_for number (listing_answer (keeping (option_copied mode.now.registered) mode.now.options.now) mode.now.table.now label.now)) result }
+        (pieces_for (points_tail (if_wanted mode.now.options.now.explain (ByTable mode.now.table.now.entries)) label.now) number
+        (listing_answer (keeping (option_copied mode.now.registered) mode.now.options.now) mode.now.table.now label.now)) result }
     ensures refused { IfOk result
         (λ refused. refused ≡ is_err (listing_answer (keeping (option_copied mode.now.registered) mode.now.options.now) mode.now.table.now label.now)) }
     ensures begun { StopsForMemory
@@ -115,7 +130,18 @@ fn list<W: Sink, E: Sink>(
             write_lines(alloc, mode, &net, &mut dispositions, console)?;
             Ok(false)
         }
-        Err(NetFault::NotInTable) => refuse(number, Refusal::NotInTable, console),
+        Err(NetFault::NotInTable) => {
+            let options = mode.options;
+            let explaining = Explaining::Sources(mode.table).if_wanted(options.explain);
+            refuse_points(
+                alloc,
+                number,
+                label,
+                Refusal::NotInTable,
+                explaining,
+                console,
+            )
+        }
         Err(NetFault::Memory) => Err(Stop::Memory),
     }
 }

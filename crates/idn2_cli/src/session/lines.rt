@@ -7,15 +7,16 @@ ghost use Rattle.idn2_cli.specs.inner.Emitting.{Emits, StopsForMemory};
 ghost use Rattle.idn2_cli.specs.Answers.{line_answer};
 ghost use Rattle.idn2_cli.specs.Transcript.{line_pieces};
 ghost use Rattle.idn2_cli.specs.Ends.{Does, lines_job};
-ghost use Rattle.idn2_cli.specs.Memory.{BodyNeedsNone};
+ghost use Rattle.idn2_cli.specs.Memory.{BodyNeedsNone, NeedsNone};
 ghost use Rattle.idn2_cli.specs.declared.session.stop.Stop.TheVariants as stop;
 
-use crate::modes::answering::{Answering, refuse};
+use crate::modes::answering::Answering;
 use crate::session::buffers::Buffers;
 use crate::session::console::Console;
+use crate::session::refusing::refuse_long_line;
 use crate::session::status::Status;
 use crate::session::stop::Stop;
-use idn_text::{Lines, Refusal, Sink, Source};
+use idn_text::{Lines, Sink, Source};
 use std::alloc::Global;
 
 /// Answers each line to the end of the input, and gives the status of the run.
@@ -27,7 +28,7 @@ pub(crate) fn serve_lines<M: Answering, R: Source, W: Sink, E: Sink>(
 ) -> Result<Status, Stop>
     requires ready { M.is_ready mode.now }
     requires unread { IsUnread input.old }
-    ensures { Does (lines_job (M.answer_of mode.now) (M.reads_table mode.now) (M.needs_none mode.now) (M.goes_on mode.now)) input.old input.new console.old console.new result }
+    ensures { Does (lines_job (M.explains mode.now) (M.answer_of mode.now) (M.reads_table mode.now) (M.needs_none mode.now) (M.goes_on mode.now)) input.old input.new console.old console.new result }
 {
     let mut buffers = Buffers::new();
     let mut has_refused = false;
@@ -53,14 +54,14 @@ fn serve_line<M: Answering, R: Source, W: Sink, E: Sink>(
 ) -> Result<bool, Stop>
     requires { M.is_ready mode.now }
     ensures written { Emits console.old console.new
-        (line_pieces (M.answer_of mode.now) (line_at input.now)) result }
+        (line_pieces (M.explains mode.now) (M.answer_of mode.now) (line_at input.now)) result }
     ensures refused { IfOk result (λ refused. refused ≡ is_err (line_answer (M.answer_of mode.now) (line_at input.now).body)) }
-    ensures no_memory { BodyNeedsNone (M.needs_none mode.now) (line_at input.now).body → result ≢ Err stop.Memory }
+    ensures no_memory { BodyNeedsNone (NeedsNone (M.explains mode.now) (M.answer_of mode.now) (M.needs_none mode.now)) (line_at input.now).body → result ≢ Err stop.Memory }
     ensures begun { StopsForMemory (BodyNeedsNone (M.goes_on mode.now) (line_at input.now).body) console.old console.new result }
 {
     let number = input.number();
     match input.text() {
         Some(text) => mode.answer(alloc, number, text, buffers, console),
-        None => refuse(number, Refusal::LineTooLong, console),
+        None => refuse_long_line(number, mode.explaining(), console),
     }
 }

@@ -1,9 +1,13 @@
 //! The messages of refusals.
 
-ghost use Rattle.std.specs.Prelude.{◌≡◌, ◌≤◌, ◌++◌, length, codes, decimal, option_map};
+ghost use Rattle.std.specs.Prelude.{◌≡◌, ◌≤◌, ◌++◌, length, codes, decimal, option_map, Some};
 ghost use Rattle.idn2_cli.specs.inner.TableFaults.{told_of};
-ghost use Rattle.idn2_cli.specs.Transcript.{told, line_message, registered_message, table_message};
+ghost use Rattle.idn2_cli.specs.CauseTexts.{tail_text};
+ghost use Rattle.idn2_cli.specs.Transcript.{told, line_message, refused_message, registered_message, table_message};
 
+use crate::session::buffers::append;
+use crate::session::cause::LineCause;
+use crate::session::explaining::{ExplainedMessage, push_line_cause};
 use arrayvec::ArrayString;
 use idn_text::Refusal;
 use itoa::Buffer;
@@ -17,6 +21,28 @@ pub fn line_message(number: u64, refusal: &Refusal) -> Message
     ensures { result.bytes ≡ line_message number refusal.now }
 {
     message("idn2: line ", number, refusal)
+}
+
+/// The same with a cause.
+pub(crate) fn explained_message(
+    number: u64,
+    refusal: &Refusal,
+    cause: &LineCause,
+) -> ExplainedMessage
+    ensures { result.items ≡ refused_message number refusal.now (tail_text refusal.now (Some cause.now)) }
+{
+    let mut message = ExplainedMessage::new();
+    let mut digits = Buffer::new();
+    append(&mut message, b"idn2: line ");
+    append(&mut message, digits.format(number).as_bytes());
+    append(&mut message, b": ");
+    append(&mut message, digits.format(refusal.number()).as_bytes());
+    append(&mut message, b" ");
+    append(&mut message, refusal.text().as_bytes());
+    append(&mut message, b": ");
+    push_line_cause(&mut message, refusal, cause);
+    append(&mut message, b"\n");
+    message
 }
 
 /// The message of a table's fault. There is none for want of memory.

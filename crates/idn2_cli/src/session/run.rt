@@ -128,11 +128,24 @@ fn serve_mode<R: Source, W: Sink, E: Sink>(
 {
     match options.mode {
         Mode::Lookup => {
-            let mode = Lookup { std3: options.std3 };
+            let mode = Lookup {
+                std3: options.std3,
+                explain: options.explain,
+            };
             serve_lines(alloc, &mode, input, console)
         }
-        Mode::Register => serve_lines(alloc, &Register, input, console),
-        Mode::Decode => serve_lines(alloc, &Decode, input, console),
+        Mode::Register => {
+            let mode = Register {
+                explain: options.explain,
+            };
+            serve_lines(alloc, &mode, input, console)
+        }
+        Mode::Decode => {
+            let mode = Decode {
+                explain: options.explain,
+            };
+            serve_lines(alloc, &mode, input, console)
+        }
         Mode::Variants => serve_variants(alloc, options, table, registered, input, console),
         Mode::Jump => serve_jumps(alloc, options, table, input, console),
         Mode::CheckTable => serve_check(alloc, table, console),
@@ -185,7 +198,10 @@ fn serve_jumps<R: Source, W: Sink, E: Sink>(
         Ok(table) => table,
         Err(fault) => return refuse_table(fault, console),
     };
-    let mode = Jumps { table: &table };
+    let mode = Jumps {
+        table: &table,
+        explain: options.explain,
+    };
     serve_lines(alloc, &ByPoints { mode: &mode }, input, console)
 }
 

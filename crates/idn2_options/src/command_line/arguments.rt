@@ -24,6 +24,8 @@ pub(crate) const TR46NT: &str = "tr46nt";
 
 pub(crate) const STD3: &str = "usestd3asciirules";
 
+pub(crate) const EXPLAIN: &str = "explain";
+
 pub(crate) const QUIET: &str = "quiet";
 
 pub(crate) const AFTER: &str = "after";

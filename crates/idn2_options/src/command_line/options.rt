@@ -10,6 +10,8 @@ pub struct Options {
     /// Lookup refuses ASCII code points other than letters, digits and hyphens (UseSTD3ASCIIRules
     /// of UTS #46). The other modes don't read it.
     pub std3: bool,
+    /// The messages of refused lines go on with the cause. The check of a table, which reads no line, doesn't read it.
+    pub explain: bool,
     /// The name of the table's file. Empty where the mode has no table.
     pub file: String,
     /// The lines given as words. Where there are none, the standard input is read.
@@ -37,6 +39,7 @@ impl Model for Options {
     ghost view = { λ o. record {
       mode = o.mode;
       std3 = o.std3;
+      explain = o.explain;
       file = string_bytes o.file;
       strings = map string_bytes o.strings.items;
       after = o.after.items;

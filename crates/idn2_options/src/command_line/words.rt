@@ -6,8 +6,8 @@ ghost use Rattle.idn2_options.specs.Settings.{IsWithinLimits, SuitsMode};
 ghost use Rattle.idn2_options.specs.Words.{IsAnswer, IsUsage, count_of, mode_of, options_of, settings_of, start_of, steps_of, strings_of, value_of};
 
 use crate::command_line::arguments::{
-    AMONG, CHECK_TABLE, DECODE, JUMP, LIMIT, REGISTER, STD3, STEPS, STRINGS, TRIES, VARIANTS,
-    has_flag, has_value, value_of,
+    AMONG, CHECK_TABLE, DECODE, EXPLAIN, JUMP, LIMIT, REGISTER, STD3, STEPS, STRINGS, TRIES,
+    VARIANTS, has_flag, has_value, value_of,
 };
 use crate::command_line::command;
 use crate::command_line::counts::{count_of, steps_of};
@@ -63,6 +63,7 @@ fn settings_of(alloc: Global, matches: &ArgMatches<'_>) -> Result<Options, Alloc
     Ok(Options {
         mode: mode_of(matches),
         std3: has_flag(matches, STD3),
+        explain: has_flag(matches, EXPLAIN),
         file: String::from_str(alloc, file_of(matches))?,
         strings: strings_of(alloc, matches)?,
         after: points_of(alloc, start_of(matches))?,

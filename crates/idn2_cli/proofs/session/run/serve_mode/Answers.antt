@@ -1,9 +1,14 @@
-use Rattle.std.proofs.Common.{refl, ap, sym, ◌∙◌, Ok, ℕ, List, Bool, false}
+use Rattle.std.proofs.Common.{refl, ap, sym, ◌∙◌, Ok, ℕ, List, Bool, false, chars}
 use Rattle.idn_label.specs.Lookup.{lookup_answer}
-use Rattle.idn_label.specs.Memory.{LooksUpWithoutMemory}
+use Rattle.idn_label.specs.Decode.{decode_answer}
+use Rattle.idn_label.specs.Memory.{LooksUpWithoutMemory, RegistersWithoutMemory}
+use Rattle.idn_label.specs.Register.{register_answer}
+use Rattle.idn_label.specs.Steps.{in_utf8}
 use Rattle.std.specs.Option.{option_copied}
 use Rattle.idn2_options.specs.Settings.{Settings, keeping}
 use Rattle.idn2_cli.specs.Answers.{LineAnswer, one_line}
+use Rattle.idn2_cli.specs.Explained.{ByLabel, ByName, ByQuery, if_wanted}
+use Rattle.idn2_cli.specs.Memory.{DecodesLineWithoutMemory}
 use Rattle.idn2_cli.specs.Transcript.{no_table}
 use Rattle.idn2_cli.specs.Ends.{lines_job}
 use Rattle.idn2_options.specs.declared.command_line.mode.Mode.TheVariants.{Lookup, Register, Decode}
@@ -15,18 +20,24 @@ returns-in-Lookup g c =
     let o : Settings = keeping (option_copied c.args.registered) c.args.options.now in
     let mode = sym (ap (λ (v : Settings). v.mode) c.options.view_is) ∙ c.in-Lookup.is in
     let std3 = ap (λ (v : Settings). v.std3) c.options.view_is in
+    let explain = ap (λ (v : Settings). v.explain) c.options.view_is in
     let by : Bool → List ℕ → LineAnswer = λ b name. one_line (lookup_answer name b) in
-    as_mode o Lookup c.args.table.now (Ok no_table) _ _ _ _ _ c.serve_lines.result mode refl (ap (λ b. lines_job (by b) false (LooksUpWithoutMemory b) (λ line. Unit {0})) std3) c.serve_lines.ensures
+    as_mode o Lookup c.args.table.now (Ok no_table) _ _ _ _ _ c.serve_lines.result mode refl (ap (λ b. lines_job (if_wanted c.options.inside.explain (ByQuery b)) (by b) false (LooksUpWithoutMemory b) (λ line. Unit {0})) std3
+    ∙ ap (λ x. lines_job (if_wanted x (ByQuery o.std3)) (by o.std3) false (LooksUpWithoutMemory o.std3) (λ line. Unit {0})) explain) c.serve_lines.ensures
 
 pub returns-in-Register : goal.returns-in-Register
 returns-in-Register g c =
     let mode = sym (ap (λ (v : Settings). v.mode) c.options.view_is) ∙ c.in-Register.is in
-    as_mode (keeping (option_copied c.args.registered) c.args.options.now) Register c.args.table.now (Ok no_table) _ _ _ _ _ c.serve_lines-in-Register.result mode refl refl c.serve_lines-in-Register.ensures
+    as_mode (keeping (option_copied c.args.registered) c.args.options.now) Register c.args.table.now (Ok no_table) _ _ _ _ _ c.serve_lines-in-Register.result mode refl
+    (ap (λ x. lines_job (if_wanted x ByLabel) (λ label. one_line (register_answer label)) false (λ line. RegistersWithoutMemory (chars line)) (λ line. Unit {0})) (ap (λ (v : Settings). v.explain) c.options.view_is))
+    c.serve_lines-in-Register.ensures
 
 pub returns-in-Decode : goal.returns-in-Decode
 returns-in-Decode g c =
     let mode = sym (ap (λ (v : Settings). v.mode) c.options.view_is) ∙ c.in-Decode.is in
-    as_mode (keeping (option_copied c.args.registered) c.args.options.now) Decode c.args.table.now (Ok no_table) _ _ _ _ _ c.serve_lines-in-Decode.result mode refl refl c.serve_lines-in-Decode.ensures
+    as_mode (keeping (option_copied c.args.registered) c.args.options.now) Decode c.args.table.now (Ok no_table) _ _ _ _ _ c.serve_lines-in-Decode.result mode refl
+    (ap (λ x. lines_job (if_wanted x ByName) (λ name. one_line (in_utf8 (decode_answer name))) false DecodesLineWithoutMemory (λ line. Unit {0})) (ap (λ (v : Settings). v.explain) c.options.view_is))
+    c.serve_lines-in-Decode.ensures
 
 pub returns-in-CheckTable : goal.returns-in-CheckTable
 returns-in-CheckTable g c =

@@ -1,6 +1,6 @@
 use Rattle.std.proofs.Common.{◌+◌, ◌-◌, ℕ, List, length, take, drop, ap, ◌∙◌, arith, length-drop}
 use Rattle.std.proofs.lemmas.List.{drop_min, take_all}
-use Rattle.idn2_cli.proofs.modes.jumps.parts_of.Goals as goal
+use Rattle.idn2_cli.proofs.session.request.parts_of.Goals as goal
 
 pub returns-clause-label : goal.returns-clause-label
 returns-clause-label c = ap (λ n. take n c.args.points.now) c.label_len-end.ensures.place

@@ -1,0 +1,189 @@
+"""Causes of refusals written a second time, from docs/idn2.1 and the RFCs alone: what `--explain` tells after a message.
+
+A cause is the text after the colon, or None where none is told. Places and labels are counted from 1 in texts.
+"""
+
+import unicodedata
+
+from registration import (BAD_A_LABEL, BIDI, CONTEXT_J, CONTEXT_O, HYPHEN, IS_DISALLOWED, IS_UNASSIGNED, LABEL_TOO_LONG,
+                          LEADING_MARK, MOST_OCTETS, NOT_NFC, Refused, a_label, lowered)
+from rules import stands_between_joining
+from unicode_data import DISALLOWED, EXCEPTIONS, IGNORABLE_BLOCKS, LEFT_OUT, OLD_HANGUL_JAMO, UNASSIGNED, is_in
+
+NOT_UTF8, LINE_TOO_LONG, NOT_IN_TABLE = 1, 2, 40
+APPENDICES = {0x200C: 1, 0x200D: 2, 0xB7: 3, 0x375: 4, 0x5F3: 5, 0x5F4: 6, 0x30FB: 7}
+NEUTRAL = {"EN", "ES", "CS", "ET", "ON", "BN", "NSM"}
+
+
+def at(place, point):
+    return f"U+{point:04X} at place {place + 1}"
+
+
+def first(places, fails):
+    return next((place for place in places if fails(place)), None)
+
+
+class Causes:
+    def __init__(self, registration, classes):
+        self.registration, self.classes, self.profile = registration, classes, registration.profile
+        self.ignorable = classes.set_of("DerivedCoreProperties.txt", "Default_Ignorable_Code_Point")
+        self.ignorable |= classes.set_of("PropList.txt", "White_Space") | classes.noncharacters
+
+    def of_body(self, mode, body, refusal, sources=()):
+        """The cause of the refusal of a line's bytes, or of 2 where it is too long, in a mode, with the sources of its table."""
+        if refusal == LINE_TOO_LONG:
+            return "more than 1024 bytes"
+        if refusal == NOT_UTF8:
+            return self.of_bytes(body)
+        text = body.decode()
+        if mode == "register":
+            return self.of_a_label(text, refusal) if text.startswith("xn--") else self.of_label(text, refusal)
+        if mode == "decode":
+            return self.of_name(text, refusal)
+        label = text.partition("\t")[0] if mode == "jump" else text
+        return self.outside(label, sources) if refusal == NOT_IN_TABLE else self.of_label(label, refusal)
+
+    @staticmethod
+    def of_bytes(body):
+        try:
+            body.decode()
+        except UnicodeDecodeError as fault:
+            return f"byte 0x{body[fault.start]:02X} at byte {fault.start + 1}"
+        return None
+
+    def of_label(self, label, refusal):
+        points = [ord(letter) for letter in label]
+        return {
+            IS_DISALLOWED: self.barred, IS_UNASSIGNED: self.barred, NOT_NFC: self.changed, HYPHEN: self.hyphen,
+            LEADING_MARK: lambda points: at(0, points[0]), CONTEXT_J: self.joiner, CONTEXT_O: self.other, BIDI: self.condition,
+            LABEL_TOO_LONG: self.length,
+        }.get(refusal, lambda points: None)(points)
+
+    def barred(self, points):
+        place = first(range(len(points)), lambda place: self.classes.of(points[place]) in (DISALLOWED, UNASSIGNED))
+        return f"{at(place, points[place])}: {self.line(points[place])}"
+
+    def line(self, point):
+        """The first line of RFC 5892, section 3, that applies, after that of the profile."""
+        letter = chr(point)
+        stable = lambda text: unicodedata.normalize("NFKC", unicodedata.normalize("NFKC", text).casefold())
+        lines = (
+            ("outside the profile", is_in(LEFT_OUT, point)),
+            ("RFC 5892 2.6 Exceptions", point in EXCEPTIONS[DISALLOWED]),
+            ("RFC 5892 2.10 Unassigned", point not in self.classes.category and point not in self.classes.noncharacters),
+            ("RFC 5892 2.2 Unstable", stable(letter) != letter),
+            ("RFC 5892 2.3 IgnorableProperties", point in self.ignorable),
+            ("RFC 5892 2.4 IgnorableBlocks", is_in(IGNORABLE_BLOCKS, point)),
+            ("RFC 5892 2.9 OldHangulJamo", is_in(OLD_HANGUL_JAMO, point)),
+            ("not RFC 5892 2.1 LetterDigits", True),
+        )
+        return next(name for name, applies in lines if applies)
+
+    @staticmethod
+    def changed(points):
+        form = [ord(letter) for letter in unicodedata.normalize("NFC", "".join(map(chr, points)))]
+        place = first(range(len(points)), lambda place: points[place:place + 1] != form[place:place + 1])
+        return f"{at(place, points[place])}: " + (f"NFC has U+{form[place]:04X}" if place < len(form) else "NFC ends")
+
+    @staticmethod
+    def hyphen(points):
+        if points[0] == 0x2D:
+            return "place 1, the first"
+        if points[2:4] == [0x2D, 0x2D]:
+            return "place 3, with place 4"
+        return f"place {len(points)}, the last"
+
+    def joiner(self, points):
+        def fails(place):
+            after_virama = place > 0 and self.profile.is_virama(points[place - 1])
+            joins = points[place] == 0x200C and stands_between_joining(points, place, self.profile)
+            return points[place] in (0x200C, 0x200D) and not after_virama and not joins
+        return self.against_appendix(points, first(range(len(points)), fails))
+
+    def other(self, points):
+        passes = self.registration.passes_context_o_at
+        return self.against_appendix(points, first(range(len(points)), lambda place: not passes(points, place)))
+
+    @staticmethod
+    def against_appendix(points, place):
+        point = points[place]
+        appendix = APPENDICES.get(point, 8 if point < 0x06F0 else 9)
+        return f"{at(place, point)}: RFC 5892 A.{appendix}"
+
+    def condition(self, points):
+        classes = [self.profile.bidi_class(point) for point in points]
+        number, place = self.broken(classes)
+        return f"{at(place, points[place])} is {classes[place]}: RFC 5893 2, condition {number}"
+
+    @staticmethod
+    def broken(classes):
+        """The first condition of RFC 5893, section 2, that is broken, and where."""
+        places = range(len(classes))
+        if classes[0] == "L":
+            return 5, first(places, lambda place: classes[place] not in NEUTRAL | {"L"})
+        if classes[0] not in ("R", "AL"):
+            return 1, 0
+        place = first(places, lambda place: classes[place] not in NEUTRAL | {"R", "AL", "AN"})
+        if place is not None:
+            return 2, place
+        last = max(place for place in places if classes[place] != "NSM")
+        if classes[last] not in ("R", "AL", "EN", "AN"):
+            return 3, last
+        return 4, first(places, lambda place: {"EN", "AN"} <= set(classes[:place + 1]))
+
+    @staticmethod
+    def length(points):
+        if len(points) > MOST_OCTETS:
+            return f"{len(points)} code points"
+        return f"A-label of {len(a_label(''.join(map(chr, points))))} octets"
+
+    def of_a_label(self, label, refusal):
+        """Of what begins with `xn--`, in lower case."""
+        code = label[4:]
+        if refusal == BAD_A_LABEL and not code:
+            return "nothing behind xn--"
+        if refusal == BAD_A_LABEL and not code.isascii():
+            place = first(range(len(label)), lambda place: not label[place].isascii())
+            return f"{at(place, ord(label[place]))}: not ASCII"
+        decoded = self.decoded(code)
+        if decoded is None:
+            return "not RFC 3492 6.2 Punycode"
+        if refusal == BAD_A_LABEL:
+            return f"the A-label is {a_label(decoded)}"
+        cause = self.of_label(decoded, refusal)
+        return None if cause is None else f"decoded: {cause}"
+
+    @staticmethod
+    def decoded(code):
+        """What the code stands for, if it is Punycode. A delimiter with no code point before it is no digit."""
+        if code.rfind("-") == 0:
+            return None
+        try:
+            text = code.encode("ascii").decode("punycode")
+            text.encode()
+            return text
+        except (UnicodeError, ValueError, OverflowError):
+            return None
+
+    def of_name(self, name, refusal):
+        for number, label in enumerate(name.split("."), 1):
+            lower = lowered(label)
+            if not lower.startswith("xn--"):
+                continue
+            try:
+                self.registration.decoded(lower)
+            except Refused:
+                cause = self.of_a_label(lower, refusal)
+                separator = ", " if cause is not None and cause.startswith("decoded: ") else ": "
+                return None if cause is None else f"label {number}{separator}{cause}"
+        return None
+
+    @staticmethod
+    def outside(label, sources):
+        """The letter after the longest beginning that can be cut into sources."""
+        reached = {0}
+        for start in range(len(label)):
+            if start in reached:
+                reached |= {start + len(source) for source in sources if label.startswith(source, start)}
+        place = max(reached)
+        return at(place, ord(label[place]))

@@ -1,0 +1,101 @@
+-- The cause that is told of a refused line, where causes are wanted: `--explain`. Places and labels are counted from 0.
+use Rattle.std.specs.Prelude.{◌≡◌, ℕ, nat_le, Bool, List, length, chars, Option, Some, None, slice_index, Ok, Err, if◌then◌else◌}
+use Rattle.std.specs.Option.{option_map}
+use Rattle.std.specs.Str.{is_utf8}
+use Rattle.std.specs.Str.Lossy.{utf8_valid_len}
+use Rattle.idna.specs.Validity.{has_ace_prefix}
+use Rattle.idn_text.specs.Points.{utf8_of}
+use Rattle.idn_text.specs.declared.refusal.Refusal.{Refusal}
+use Rattle.idn_text.specs.declared.refusal.Refusal.TheVariants.{NotInTable}
+use Rattle.idn_cause.specs.declared.cause.Cause.{Cause}
+use Rattle.idn_cause.specs.declared.cause.Cause.TheVariants.{Point}
+use Rattle.idn_cause.specs.Causes.{cause_of}
+use Rattle.idn_cause.specs.ALabelCauses.{a_label_cause}
+use Rattle.idn_cause.specs.NameCauses.{name_cause, query_cause}
+use Rattle.variant_table.specs.Entries.{Entry, TableValue}
+use Rattle.variant_list.specs.Furthest.{furthest}
+use Rattle.idn2_options.specs.Settings.{Settings}
+use Rattle.idn2_options.specs.declared.command_line.mode.Mode.{Mode}
+use Rattle.idn2_options.specs.declared.command_line.mode.Mode.TheVariants.{Lookup, Register, Decode, Variants, Jump, CheckTable}
+use Rattle.idn2_cli.specs.Answers.{LineAnswer, requested_label}
+use Rattle.idn2_cli.specs.declared.session.cause.LineCause.{LineCause}
+use Rattle.idn2_cli.specs.declared.session.cause.LineCause.TheVariants.{Byte, LongLine, OfLabel, OfALabel, OfName, OfQuery}
+
+-- of what the cause is told: of nothing, of a label, of a name that is decoded, of one that is looked up, of a label by the sources
+-- of a table, or of the label of a request by them
+pub data Explained : Type 0 where
+  Unexplained : Explained
+  ByLabel : Explained
+  ByName : Explained
+  ByQuery : (std3 : Bool) → Explained
+  ByTable : (entries : List Entry) → Explained
+  ByRequest : (entries : List Entry) → Explained
+
+-- how a mode explains
+abbrev pub explained_by_mode : Mode → Settings → TableValue → Explained
+explained_by_mode Lookup o table = ByQuery o.std3
+explained_by_mode Register o table = ByLabel
+explained_by_mode Decode o table = ByName
+explained_by_mode Variants o table = ByTable table.entries
+explained_by_mode Jump o table = ByRequest table.entries
+explained_by_mode CheckTable o table = Unexplained
+
+-- the same, if causes are wanted
+abbrev pub if_wanted : Bool → Explained → Explained
+if_wanted explain explained = if explain then explained else Unexplained
+
+abbrev pub explained_in : Mode → Settings → TableValue → Explained
+explained_in mode o table = if_wanted o.explain (explained_by_mode mode o table)
+
+-- ---- the cause of a refusal
+
+-- of a label, or of what it stands for if it begins with "xn--"
+abbrev pub registered_cause : List ℕ → Refusal → Option LineCause
+registered_cause label refusal =
+    if has_ace_prefix label then option_map OfALabel (a_label_cause label refusal) else option_map OfLabel (cause_of label refusal)
+
+-- the code point behind those that sources of the table reach, of a label that is short enough to be registered (RFC 7940, section 8.1)
+abbrev pub outside_cause : List Entry → List ℕ → Option Cause
+outside_cause entries label =
+    if nat_le (length label) 63 then Some (Point (furthest entries label) (slice_index label (furthest entries label))) else None
+
+-- of a label by the sources of a table
+abbrev pub table_cause : List Entry → List ℕ → Refusal → Option Cause
+table_cause entries label NotInTable = outside_cause entries label
+table_cause entries label refusal = cause_of label refusal
+
+-- of the code points of a line
+unfoldable pub points_cause : Explained → List ℕ → Refusal → Option LineCause
+points_cause Unexplained points refusal = None
+points_cause ByLabel points refusal = registered_cause points refusal
+points_cause ByName points refusal = option_map OfName (name_cause points refusal)
+points_cause (ByQuery std3) points refusal = option_map OfQuery (query_cause (utf8_of points) std3 refusal)
+points_cause (ByTable entries) points refusal = option_map OfLabel (table_cause entries points refusal)
+points_cause (ByRequest entries) points refusal = option_map OfLabel (table_cause entries (requested_label points) refusal)
+
+-- the first byte that no UTF-8 goes on with (RFC 3629, section 3)
+abbrev pub bad_byte : List ℕ → LineCause
+bad_byte bytes = Byte (utf8_valid_len bytes) (slice_index bytes (utf8_valid_len bytes))
+
+-- a cause, if causes are told
+abbrev pub unless_unexplained : Explained → LineCause → Option LineCause
+unless_unexplained Unexplained cause = None
+unless_unexplained _ cause = Some cause
+
+-- of the bytes of a line, which may be no UTF-8
+abbrev pub text_cause : Explained → List ℕ → Refusal → Option LineCause
+text_cause explained bytes refusal =
+    if is_utf8 bytes then points_cause explained (chars bytes) refusal else unless_unexplained explained (bad_byte bytes)
+
+-- of the body of a line, which may be too long
+abbrev pub body_cause : Explained → Option (List ℕ) → Refusal → Option LineCause
+body_cause explained None refusal = unless_unexplained explained LongLine
+body_cause explained (Some bytes) refusal = text_cause explained bytes refusal
+
+-- ---- lines of which no cause is looked for
+
+-- the line is answered, or causes are not told
+abbrev pub SeeksNoCause : Explained → LineAnswer → Type 0
+SeeksNoCause Unexplained answer = Unit {0}
+SeeksNoCause _ (Ok lines) = Unit {0}
+SeeksNoCause _ (Err refusal) = ⊥

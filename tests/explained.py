@@ -1,0 +1,203 @@
+#!/usr/bin/env python3
+"""Refusals with their causes: `--explain`, in each mode that reads lines.
+
+Each row is a line, the words of a command and the message of the line, made by hand from the RFCs: RFC 5892 for the class and
+the context of a code point, RFC 5893 for the Bidi rule, RFC 5891 for the others, RFC 3492 and RFC 5890 for what begins with
+`xn--`, RFC 1035 for lengths. Without the option each message ends in front of its cause. The last line is 'N passed, M failed',
+and the exit status is 0 where nothing failed."""
+
+import os
+import sys
+
+from program import TABLES, expect, run, run_tests, table_file
+
+GERMAN = ["--variants", os.path.join(TABLES, "german.txt")]
+# The table whose sources are an o, and an o before ab. It is written where a test runs.
+SOURCES = ["--variants", "SOURCES"]
+REGISTER, DECODE, LOOKUP = ["-r"], ["-d"], ["-l"]
+
+# A line; the words beside --explain; the message, and the cause after it.
+ROWS = [
+    ("Faß", REGISTER, "10 disallowed code point", "U+0046 at place 1: RFC 5892 2.2 Unstable"),
+    ("straẞe", REGISTER, "10 disallowed code point", "U+1E9E at place 5: RFC 5892 2.2 Unstable"),
+    ("a b", REGISTER, "10 disallowed code point", "U+0020 at place 2: RFC 5892 2.3 IgnorableProperties"),
+    ("sx!", REGISTER, "10 disallowed code point", "U+0021 at place 3: not RFC 5892 2.1 LetterDigits"),
+    ("☃", REGISTER, "10 disallowed code point", "U+2603 at place 1: not RFC 5892 2.1 LetterDigits"),
+    ("a\u0640b", REGISTER, "10 disallowed code point", "U+0640 at place 2: RFC 5892 2.6 Exceptions"),
+    ("x\u20D0", REGISTER, "10 disallowed code point", "U+20D0 at place 2: RFC 5892 2.4 IgnorableBlocks"),
+    ("\u1100", REGISTER, "10 disallowed code point", "U+1100 at place 1: RFC 5892 2.9 OldHangulJamo"),
+    ("\U0001E922", REGISTER, "10 disallowed code point", "U+1E922 at place 1: outside the profile"),
+    ("a\u00ADb", REGISTER, "10 disallowed code point", "U+00AD at place 2: RFC 5892 2.3 IgnorableProperties"),
+    ("a\u0378B", REGISTER, "11 unassigned code point", "U+0378 at place 2: RFC 5892 2.10 Unassigned"),
+    ("B\u0378", REGISTER, "10 disallowed code point", "U+0042 at place 1: RFC 5892 2.2 Unstable"),
+    ("xa\u0301", REGISTER, "12 not in NFC", "U+0061 at place 2: NFC has U+00E1"),
+    ("\u0958", REGISTER, "10 disallowed code point", "U+0958 at place 1: RFC 5892 2.2 Unstable"),
+    ("a\u0301\u0327", REGISTER, "12 not in NFC", "U+0061 at place 1: NFC has U+00E1"),
+    ("-a", REGISTER, "13 hyphen out of place", "place 1, the first"),
+    ("abc-", REGISTER, "13 hyphen out of place", "place 4, the last"),
+    ("ab--c", REGISTER, "13 hyphen out of place", "place 3, with place 4"),
+    ("-b--c-", REGISTER, "13 hyphen out of place", "place 1, the first"),
+    ("-", REGISTER, "13 hyphen out of place", "place 1, the first"),
+    ("\u0301a", REGISTER, "14 leading combining mark", "U+0301 at place 1"),
+    ("a\u200Cb", REGISTER, "15 joiner out of context", "U+200C at place 2: RFC 5892 A.1"),
+    ("\u0915\u094D\u200D\u200D", REGISTER, "15 joiner out of context", "U+200D at place 4: RFC 5892 A.2"),
+    ("a\u00B7l", REGISTER, "16 code point out of context", "U+00B7 at place 2: RFC 5892 A.3"),
+    ("\u0375a", REGISTER, "16 code point out of context", "U+0375 at place 1: RFC 5892 A.4"),
+    ("a\u05F3", REGISTER, "16 code point out of context", "U+05F3 at place 2: RFC 5892 A.5"),
+    ("a\u05F4", REGISTER, "16 code point out of context", "U+05F4 at place 2: RFC 5892 A.6"),
+    ("a\u30FB", REGISTER, "16 code point out of context", "U+30FB at place 2: RFC 5892 A.7"),
+    ("\u0627\u0660\u06F0", REGISTER, "16 code point out of context", "U+0660 at place 2: RFC 5892 A.8"),
+    ("\u0627\u06F0\u0660", REGISTER, "16 code point out of context", "U+06F0 at place 2: RFC 5892 A.9"),
+    ("0\u05D0", REGISTER, "17 Bidi rule broken", "U+0030 at place 1 is EN: RFC 5893 2, condition 1"),
+    ("\u05D0\u05D1ab", REGISTER, "17 Bidi rule broken", "U+0061 at place 3 is L: RFC 5893 2, condition 2"),
+    ("\u05D0-\u05B0", REGISTER, "17 Bidi rule broken", "U+002D at place 2 is ES: RFC 5893 2, condition 3"),
+    ("\u05D0\u094D\u200D", REGISTER, "17 Bidi rule broken", "U+200D at place 3 is BN: RFC 5893 2, condition 3"),
+    ("\u05D00\u0660", REGISTER, "17 Bidi rule broken", "U+0660 at place 3 is AN: RFC 5893 2, condition 4"),
+    ("ab\u05D0", REGISTER, "17 Bidi rule broken", "U+05D0 at place 3 is R: RFC 5893 2, condition 5"),
+    ("a" * 64, REGISTER, "18 label too long", "64 code points"),
+    ("a" * 62 + "ü", REGISTER, "18 label too long", "A-label of 70 octets"),
+    ("xn--", REGISTER, "19 not an A-label", "nothing behind xn--"),
+    ("xn--a-", REGISTER, "19 not an A-label", "the A-label is a"),
+    ("xn--faß", REGISTER, "19 not an A-label", "U+00DF at place 7: not ASCII"),
+    ("xn--a_", REGISTER, "19 not an A-label", "not RFC 3492 6.2 Punycode"),
+    ("xn--FA-hia", REGISTER, "10 disallowed code point", "decoded: U+0046 at place 1: RFC 5892 2.2 Unstable"),
+    ("xn--ls8h", REGISTER, "10 disallowed code point", "decoded: U+1F4A9 at place 1: not RFC 5892 2.1 LetterDigits"),
+    ("xn--4db.xn--ls8h", DECODE, "10 disallowed code point",
+     "label 2, decoded: U+1F4A9 at place 1: not RFC 5892 2.1 LetterDigits"),
+    ("www.XN--a-.de", DECODE, "19 not an A-label", "label 2: the A-label is a"),
+    ("0a.\u05D0", LOOKUP, "20 not a valid name", None),
+    ("a..b", LOOKUP, "21 name or label length", "label 2: 0 octets"),
+    ("x." + "a" * 64, LOOKUP, "21 name or label length", "label 2: 64 octets"),
+    ("mañana", GERMAN, "40 not made of table entries", "U+00F1 at place 3"),
+    ("стол", GERMAN, "40 not made of table entries", "U+0441 at place 1"),
+    ("oa", SOURCES, "40 not made of table entries", "U+0061 at place 2"),
+    ("xn--fa-hia", GERMAN, "13 hyphen out of place", "place 3, with place 4"),
+    (b"ab\xffc", REGISTER, "1 not UTF-8", "byte 0xFF at byte 3"),
+    (b"a\xc3", REGISTER, "1 not UTF-8", "byte 0xC3 at byte 2"),
+    ("a" * 1025, REGISTER, "2 line too long", "more than 1024 bytes"),
+    ("", REGISTER, "3 empty", None),
+]
+
+# The same of other lines: several faults, of which the first is told; each end of a cause; other modes.
+MORE_ROWS = [
+    ("a\u0661\u0660\u06F0", REGISTER, "16 code point out of context", "U+0661 at place 2: RFC 5892 A.8"),
+    ("\u0627\u06F9\u0669", REGISTER, "16 code point out of context", "U+06F9 at place 2: RFC 5892 A.9"),
+    ("\u0660\u05D0", REGISTER, "17 Bidi rule broken", "U+0660 at place 1 is AN: RFC 5893 2, condition 1"),
+    ("\u05D0\u0301-", REGISTER, "13 hyphen out of place", "place 3, the last"),
+    ("ab--", REGISTER, "13 hyphen out of place", "place 3, with place 4"),
+    ("\U0010FFFF", REGISTER, "10 disallowed code point", "U+10FFFF at place 1: RFC 5892 2.3 IgnorableProperties"),
+    ("xn--\u00E9\u00DF", REGISTER, "19 not an A-label", "U+00E9 at place 5: not ASCII"),
+    ("a.xn--.xn--ls8h", DECODE, "19 not an A-label", "label 2: nothing behind xn--"),
+    ("ü.XN--LS8H", DECODE, "10 disallowed code point",
+     "label 2, decoded: U+1F4A9 at place 1: not RFC 5892 2.1 LetterDigits"),
+    ("ü.xn--ü", DECODE, "19 not an A-label", "label 2: U+00FC at place 5: not ASCII"),
+    (b"a.\xe2\x82", DECODE, "1 not UTF-8", "byte 0xE2 at byte 3"),
+    ("", DECODE, "3 empty", None),
+    ("a" * 1025, DECODE, "2 line too long", "more than 1024 bytes"),
+    (".", LOOKUP, "21 name or label length", "label 1: 0 octets"),
+    ("..", LOOKUP, "21 name or label length", "label 1: 0 octets"),
+    (".".join(["a" * 63] * 3 + ["a" * 62]), LOOKUP, "21 name or label length", "name of 254 octets"),
+    (".".join(["a" * 63] * 3 + ["a" * 64]) + ".", LOOKUP, "21 name or label length", "label 4: 64 octets"),
+    ("ü" * 60 + ".de", LOOKUP, "21 name or label length", "label 1: 66 octets"),
+    (b"a\x80", LOOKUP, "1 not UTF-8", "byte 0x80 at byte 2"),
+    ("a_b.de", LOOKUP + ["--usestd3asciirules"], "20 not a valid name", None),
+    ("a_b..de", LOOKUP, "21 name or label length", "label 2: 0 octets"),
+    ("Haus", GERMAN, "10 disallowed code point", "U+0048 at place 1: RFC 5892 2.2 Unstable"),
+    ("ob", SOURCES, "40 not made of table entries", "U+0062 at place 2"),
+    ("ooab", SOURCES, None, None),
+    ("ooba", SOURCES, "40 not made of table entries", "U+0062 at place 3"),
+    ("oa\tx", SOURCES + ["--jump"], "40 not made of table entries", "U+0061 at place 2"),
+    ("O\tx", SOURCES + ["--jump"], "10 disallowed code point", "U+004F at place 1: RFC 5892 2.2 Unstable"),
+    ("\tx", SOURCES + ["--jump"], "3 empty", None),
+    (b"o\xff\tx", SOURCES + ["--jump"], "1 not UTF-8", "byte 0xFF at byte 2"),
+]
+
+
+def words_of(folder, words):
+    if "SOURCES" not in words:
+        return words
+    table = table_file(folder, b"006F\n006F-0061-0062\n")
+    return [table if word == "SOURCES" else word for word in words]
+
+
+def given_of(line):
+    return (line if isinstance(line, bytes) else line.encode()) + b"\n"
+
+
+def message_of(number, text, cause):
+    return f"idn2: line {number}: {text}" + ("" if cause is None else f": {cause}") + "\n"
+
+
+def expect_row(folder, line, words, text, cause):
+    words = words_of(folder, words)
+    if text is None:
+        assert run(words + ["--explain"], given_of(line)).stderr == b"", line
+        return
+    expect(words, given_of(line), b"", message_of(1, text, None).encode(), 1)
+    expect(words + ["--explain"], given_of(line), b"", message_of(1, text, cause).encode(), 1)
+
+
+def tells_the_causes_of_the_rows(folder):
+    for row in ROWS:
+        expect_row(folder, *row)
+
+
+def tells_the_causes_of_more_rows(folder):
+    for row in MORE_ROWS:
+        expect_row(folder, *row)
+
+
+def tells_each_line_its_own_cause(folder):
+    """The rows of a mode in one run, with a line between each two that is answered, and their numbers rise."""
+    for words in (REGISTER, DECODE, LOOKUP, GERMAN, SOURCES):
+        rows = [row for row in ROWS + MORE_ROWS if row[1] == words and row[2] is not None]
+        given = b"o\n" + b"".join(given_of(row[0]) + b"o\n" for row in rows)
+        told = "".join(message_of(2 * k + 2, text, cause) for k, (_, _, text, cause) in enumerate(rows))
+        done = run(words_of(folder, words) + ["--explain"], given)
+        assert done.stderr.decode() == told and done.returncode == 1, (words, done.stderr, told)
+
+
+def answers_the_same_with_the_option(folder):
+    given = "faß\nxn--fa-hia\nhaus\nFaß\n".encode()
+    for words in (REGISTER, DECODE, LOOKUP, GERMAN, GERMAN + ["--limit", "1"]):
+        plain, explained = run(words, given), run(words + ["--explain"], given)
+        assert (plain.stdout, plain.returncode) == (explained.stdout, explained.returncode), words
+
+
+def tells_a_cause_in_one_line_of_160_bytes(folder):
+    """A message is ASCII, one line, at most 160 bytes."""
+    last = "\U0010FFFF"
+    lines = [
+        "xn--" + "a" * 1000 + last, "." .join(["a"] * 400) + ".xn--" + "é" * 3, ".".join(["a"] * 500) + ".xn--ls8h",
+        ".".join(["a"] * 470) + ".xn--" + "b" * 59 + "-", last * 200, "a" * 1000,
+    ]
+    for words in (REGISTER, DECODE, LOOKUP, GERMAN):
+        done = run(words + ["--explain"], "\n".join(lines + [row[0] for row in ROWS if isinstance(row[0], str)]).encode() + b"\n")
+        for message in done.stderr.splitlines(keepends=True):
+            assert len(message) <= 160 and message.isascii() and message.endswith(b"\n"), message
+
+
+def is_refused_twice(folder):
+    expect(["--explain", "--explain", "x"], b"", b"", b"idn2: 50 usage\n", 2)
+
+
+def changes_nothing_else(folder):
+    """The check of a table, help and the version take the option and answer as ever."""
+    table = table_file(folder, b"0073-0073|00DF\n00DF\n")
+    for words in (["--check-table", table], ["--help"], ["--version"], ["--check-table", table_file(folder, b"0061\nzz\n", "bad")]):
+        plain, explained = run(words), run(words + ["--explain"])
+        assert (plain.stdout, plain.stderr, plain.returncode) == (explained.stdout, explained.stderr, explained.returncode), words
+
+
+TESTS = [
+    tells_the_causes_of_the_rows,
+    tells_the_causes_of_more_rows,
+    tells_each_line_its_own_cause,
+    answers_the_same_with_the_option,
+    tells_a_cause_in_one_line_of_160_bytes,
+    is_refused_twice,
+    changes_nothing_else,
+]
+
+if __name__ == "__main__":
+    sys.exit(run_tests("explained", TESTS))
