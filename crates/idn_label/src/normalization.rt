@@ -1,5 +1,5 @@
 //! Whether a label is in Normalization Form C (RFC 5891 section 4.2.1).
-ghost use Rattle.std.specs.Prelude.{◌≡◌, ◌≢◌, Some, None, Err, IfOk, IsOk, IfErr, OnOk};
+ghost use Rattle.std.specs.Prelude.{◌≡◌, ◌≢◌, ◌≤◌, length, Some, None, Err, IfOk, IsOk, IfErr, OnOk};
 ghost use Rattle.ucd_normal.specs.declared.forms.Form.TheVariants.{Nfc};
 ghost use Rattle.ucd_normal.specs.declared.forms.QuickCheck.TheVariants.{Maybe};
 ghost use Rattle.unicode_normalization.specs.Forms.{is_nfc};
@@ -17,6 +17,7 @@ use unicode_normalization::slice::{extend_nfc, is_nfc_quick};
 
 /// Whether a label is in Normalization Form C. Where a code point may compose, it takes memory for a label of more than
 /// 63 code points, and where the quick check cannot decide.
+#[inline(always)]
 #[tactic(auto, using(crate::proofs::FactTests::fact_tests))]
 pub(crate) fn is_nfc(alloc: Global, label: &[u32], facts: Facts) -> Result<bool, AllocError>
     requires scalars { AreScalarValues label.now }
@@ -28,10 +29,22 @@ pub(crate) fn is_nfc(alloc: Global, label: &[u32], facts: Facts) -> Result<bool,
         return Ok(true);
     }
     if label.len() <= MAX_LABEL_LEN {
-        is_nfc_text(alloc, &short_chars(label))
+        is_nfc_short(alloc, label)
     } else {
         is_nfc_text(alloc, &chars_of(alloc, label)?)
     }
+}
+
+/// Whether a label of at most 63 code points is in Normalization Form C. It stands apart, so that labels which need not be
+/// asked don't make room for its characters.
+#[inline(never)]
+fn is_nfc_short(alloc: Global, label: &[u32]) -> Result<bool, AllocError>
+    requires short { length label.now ≤ MAX_LABEL_LEN }
+    requires scalars { AreScalarValues label.now }
+    ensures answer { IfOk result (λ answer. answer ≡ is_nfc label.now) }
+    ensures told { quick_check_text Nfc label.now ≢ Maybe → IsOk result }
+{
+    is_nfc_text(alloc, &short_chars(label))
 }
 
 /// Whether a text is in Normalization Form C.
