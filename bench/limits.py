@@ -25,7 +25,7 @@ from runs import Failed, Run, in_turn, version
 
 OURS = pathlib.Path(__file__).resolve().parent.parent / "crates/idn2/out/idn2"
 HEBREW = [chr(0x05D0 + number) for number in range(16)]
-# Letters at the start of the slow label, each with all of HEBREW for variants, and the letters behind these.
+# Letters at the start of the slow label, each with all of HEBREW for variants, and the letters after these.
 TURNING, SLOW = 3, 59
 
 
@@ -41,7 +41,7 @@ def digits(folder):
 
 
 def slowest(folder):
-    """A step turns off at a Hebrew letter, and the `b` behind these makes the beginning hopeless: so it goes through all
+    """A step turns off at a Hebrew letter, and the `b` after these makes the beginning hopeless: so it goes through all
     rows. `q` alone leads to the end, so they are as many as there can be; and one to eight `z` are one to eight `b`, so
     nearly each place of the net is reached in each row."""
     replacements = [number * "b" for number in range(1, 9)] + [7 * "b" + last for last in "cdefghij"]

@@ -1,7 +1,7 @@
 #!/usr/bin/env python3
 """Tests that crates and modules stand in layers, as docs/ARCHITECTURE.md draws them: no `use` goes up, and none goes in a
 circle. It reads the source alone, in less than a second. The last line is 'N passed, M failed', and the exit status is 0
-where nothing failed. `--draw` prints the layers as they would be drawn for the source as it stands."""
+where nothing failed. `--draw` draws the layers in that document as the source has them now."""
 
 import collections
 import functools
@@ -10,7 +10,7 @@ import os
 import re
 import sys
 
-from program import ROOT, run_tests
+from program import ROOT, run_tests, text_of
 
 # What goes up today, each to be removed: (crate, module, what it uses). No other may come.
 TO_BE_REMOVED = {
@@ -32,11 +32,6 @@ IN_CODE = re.compile(r"\bcrate::((?:\w+::)*\w+)")
 IN_A_CONTRACT = r"\bRattle\.{}\.specs\.declared\.((?:\w+\.)*\w+)"
 PASSED_ON = re.compile(r"^ *(?:pub(?:\(crate\))? )?use (\w+)::", re.MULTILINE)
 ANY_CRATE = re.compile(r"\bRattle\.(\w+)\.")
-
-
-def text_of(*parts):
-    with open(os.path.join(ROOT, *parts), encoding="utf-8") as file:
-        return file.read()
 
 
 @functools.cache
@@ -84,12 +79,16 @@ def uses(crate):
     return {module: used for module, used in found.items() if used or module not in parents}
 
 
+def drawn_block():
+    """The part of the document that is the drawing."""
+    section = text_of("docs", "ARCHITECTURE.md").partition("\n## The layers\n")[2]
+    return re.search(r"\n\n((?:    .*\n)+)", section).group(1)
+
+
 @functools.cache
 def drawing():
     """The layers that the document draws, lowest first, each a list of names: of the crates, and of each crate's modules."""
-    section = text_of("docs", "ARCHITECTURE.md").partition("\n## The layers\n")[2]
-    block = re.search(r"\n\n((?:    .*\n)+)", section).group(1)
-    drawn = {}
+    block, drawn = drawn_block(), {}
     for line in block.splitlines():
         if line.startswith("      "):
             layers.append(line.split())
@@ -181,10 +180,13 @@ def drawn_anew(name, graph):
 
 
 def draw():
+    """Puts the drawing of the source as it stands into the document."""
+    lines = []
     for name, graph in graphs():
-        print(f"    {name}")
-        for layer in drawn_anew(name, graph):
-            print(f"      {' '.join(layer)}")
+        lines += [f"    {name}", *(f"      {' '.join(layer)}" for layer in drawn_anew(name, graph))]
+    text = text_of("docs", "ARCHITECTURE.md").replace(drawn_block(), "".join(line + "\n" for line in lines))
+    with open(os.path.join(ROOT, "docs", "ARCHITECTURE.md"), "w", encoding="utf-8") as document:
+        document.write(text)
 
 
 TESTS = [

@@ -12,7 +12,7 @@ import shutil
 import subprocess
 import sys
 
-from program import LIMIT, ROOT, TABLES, expect, manual_blocks, run, run_tests, sessions_of
+from program import LIMIT, PROGRAM, ROOT, TABLES, expect, manual_blocks, run, run_tests, sessions_of, text_of
 
 sys.path += [os.path.join(ROOT, "conformance"), os.path.join(ROOT, "tables")]
 
@@ -57,11 +57,6 @@ SAID_BY_SHORT_FORMS = {"--lookup", "--register", "--decode", "--tr46nt"}
 # A path below the top of the repository, or a document at its top.
 PATH = re.compile(r"(?<![\w/.-])((?:docs|tables|completions|conformance|crates|tests|bench)/[\w./-]*|[A-Z]+\.md)(?!\w)")
 BUILT = re.compile(r"crates/\w+/out/.*")
-
-
-def text_of(*parts):
-    with open(os.path.join(ROOT, *parts), encoding="utf-8") as file:
-        return file.read()
 
 
 def folded(text):
@@ -284,11 +279,11 @@ def number_in(file, name):
 
 
 def reads_as_much_of_a_file_as_can_matter(folder):
-    """Of a file of registered labels that is too long, a whole line behind the last byte that it may have. Else it
+    """Of a file of registered labels that is too long, a whole line after the last byte that it may have. Else it
     could be cut where a line ends, and be taken for a shorter one. A file of that size is tried by hand."""
     most = number_in("crates/registered_labels/src/labels.rt", "MAX_TEXT_LEN")
     line = number_in("crates/idn_text/src/body.rt", "MAX_LINE_LEN")
-    # Two line feeds: that behind the last byte, and that of the line behind it.
+    # Two line feeds: that after the last byte, and that of the line after it.
     assert number_in("crates/idn2/src/system.rt", "REGISTERED_BYTES") == most + 1 + line + 1
 
 
@@ -307,6 +302,26 @@ def ends_as_the_readme_shows(folder):
     words = ["make", "--no-print-directory", "-C", ROOT, "run", "RT=true"]
     done = subprocess.run(words, capture_output=True, encoding="utf-8", timeout=LIMIT)
     assert done.stdout.endswith("\n" + re.sub("(?m)^    ", "", shown)), (shown, done)
+
+
+def tells_which_answers_changed(folder):
+    """What docs/UNICODE.md compares programs with: none differs from itself; one that reads other letters is told."""
+    script = os.path.join(ROOT, "conformance", "changed_answers.py")
+    labels, other = os.path.join(folder, "labels"), os.path.join(folder, "other")
+    with open(labels, "wb") as file:
+        file.write("ä\nfaß\n-\n".encode() + b"\xff\n")
+    with open(other, "w", encoding="utf-8") as file:
+        file.write(f"#!/bin/sh\nLC_ALL=C sed -e 's/^ä$/Ä/' -e 's/^-$/x/' | '{PROGRAM}' \"$@\"\n")
+    os.chmod(other, 0o755)
+    for new, status, shown in (
+        (PROGRAM, 0, "0 of 4 answers are different\n"),
+        (other, 1, "U+00E4\txn--4ca\t10 disallowed code point\nU+002D\t13 hyphen out of place\tx\n"
+                   "an answer -> 10 disallowed code point: 1\n13 hyphen out of place -> an answer: 1\n"
+                   "2 of 4 answers are different\n"),
+        (labels, 2, ""),
+    ):
+        done = subprocess.run([sys.executable, script, PROGRAM, new, labels], capture_output=True, encoding="utf-8", timeout=LIMIT)
+        assert (done.stdout, done.returncode) == (shown, status), done
 
 
 def quotes_definitions_as_they_stand(folder):
@@ -373,6 +388,7 @@ TESTS = [
     reads_as_much_of_a_file_as_can_matter,
     names_only_paths_that_are_there,
     ends_as_the_readme_shows,
+    tells_which_answers_changed,
     quotes_definitions_as_they_stand,
     has_an_example_by_each_definition,
     keeps_the_lines_of_its_prose_short,

@@ -6,7 +6,7 @@ prove a function anew, so edits of different functions are planted in one copy o
 one function knows of another is its contract, so no body is refused for what is planted in another one. An edit that has no
 refusal of its own there is tried again by itself. So is one that edits anything but bodies, as a constant.
 
-What refuses an edit is told behind it: a goal in the code; or a proof that was written for the right code and no longer
+What refuses an edit is told after it: a goal in the code; or a proof that was written for the right code and no longer
 serves, which says less of the contract. An edit that is refused only since a proof names what it takes away says nothing:
 it counts as a failure, as do one that is proved and one that doesn't compile. The copies begin with what earlier checks
 kept; LANES is how many crates are tried side by side. The last line is 'N passed, M failed', and the exit status is 0 where
@@ -29,7 +29,7 @@ CRATES = os.path.join(ROOT, "crates")
 # How many edits are planted at once, at most: where one of them doesn't compile, all are tried again one by one.
 MOST = 16
 
-# The type of an impl: behind `for` if it is one of a trait.
+# The type of an impl: after `for` if it is one of a trait.
 IMPL = re.compile(r"^impl\b(?:<.*?> )?(?:.* for )?&?\s*(\w+)")
 HEAD = re.compile(r"^( *)(?:pub(?:\(\w+\))? )?(?:final )?(?:const )?(?:unsafe )?fn (\w+)")
 GOAL = re.compile(r"^(?:note: )?(?:\./)?(src/\S+?):(\d+):\d+: (?:error: )?(.*)")

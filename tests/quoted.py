@@ -6,17 +6,12 @@ import os
 import re
 import sys
 
-from program import ROOT
+from program import ROOT, text_of
 
 DOCUMENT = os.path.join(ROOT, "docs", "DEFINITIONS.md")
 # The name of a file, and the fenced block with what it quotes of it.
 BLOCK = re.compile(r"^\*(\w+/specs/[\w/]+\.antt)\*\n\n```antt\n(.*?)^```$", re.MULTILINE | re.DOTALL)
 NAME = re.compile(r"^(?:unfoldable |abbrev )?(?:pub )?(?:record |data )?(\w+)\b", re.MULTILINE)
-
-
-def text_of(path):
-    with open(path, encoding="utf-8") as file:
-        return file.read()
 
 
 def paragraphs(text):
@@ -32,7 +27,7 @@ def name_of(paragraph):
 
 def definitions(file):
     """Each definition of a file, by its name: its comment and all of its lines."""
-    return {name_of(part): part for part in paragraphs(text_of(os.path.join(ROOT, "crates", file)))}
+    return {name_of(part): part for part in paragraphs(text_of("crates", file))}
 
 
 def quotes(text):

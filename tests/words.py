@@ -9,7 +9,7 @@ import os
 import re
 import sys
 
-from program import ROOT, run_tests
+from program import ROOT, run_tests, text_of
 
 DOCUMENTS = ("*.md", "docs/*")
 SOURCES = ("crates/*/src/**/*.rt", "crates/*/specs/**/*.antt", "crates/*/proofs/**/*.antt", "bench/*.py", "conformance/*.py",
@@ -19,11 +19,6 @@ GLOSSARY = os.path.join(ROOT, "docs", "GLOSSARY.md")
 COMMENT = {".rt": r"//[/!]?(.*)$", ".antt": r"--(.*)$", ".py": r"(?:^|\s)#(.*)$", "": r"(?:^|\s)#(.*)$"}
 # What defines a name in any of the languages here.
 DEFINED = re.compile(r"\b(?:fn|struct|enum|trait|const|mod|def|class|record|data|abbrev|unfoldable|pub) (\w+)")
-
-
-def text_of(path):
-    with open(path, encoding="utf-8") as file:
-        return file.read()
 
 
 def paths(patterns):
@@ -46,20 +41,23 @@ def glossary():
     return unused, [(row[0].split(", "), row[1].split(", ")) for row in rows(exceptions)]
 
 
-def pattern(words):
-    """Any of the words, as they stand or with a capital; those in capitals alone only so."""
-    ends = (rf"\b{re.escape(word)}(?!\w)" if word.isupper() else rf"\b[{word[0].upper()}{word[0]}]{re.escape(word[1:])}(?!\w)"
-            for word in words)
-    return re.compile("|".join(ends))
+@functools.cache
+def pattern(*words):
+    """Any of the words, as they stand or with a capital, one or several of the thing; those in capitals alone only so."""
+    forms = (re.escape(word) if word.isupper() else f"[{word[0].upper()}{word[0]}]{re.escape(word[1:])}" for word in words)
+    return re.compile(rf"\b(?:{'|'.join(forms)})(?:e?s)?(?!\w)")
 
 
 def unused_in(text, where):
-    """The words in a text that aren't used, each with what is said in its place, after the exceptions are taken away."""
+    """The words in a text that aren't used, each with what is said in its place, after the exceptions are taken away. Where
+    it stands is everywhere, and has a narrower name or two."""
     unused, exceptions = glossary()
     for words, places in exceptions:
-        if where in places or places == ["everywhere"]:
-            text = re.sub(pattern(words), "", text)
-    return [f"{word}: say {unused.get(word) or unused[word[0].lower() + word[1:]]}" for word in pattern(unused).findall(text)]
+        if set(places) & {"everywhere", *where}:
+            text = pattern(*words).sub("", text)
+    if not pattern(*unused).search(text):
+        return []
+    return [f"{word}: say {said}" for word, said in unused.items() if pattern(word).search(text)]
 
 
 def prose_of(path):
@@ -93,7 +91,9 @@ def names_of(path):
 
 
 def expect_none(kind, texts):
-    found = {os.path.relpath(path, ROOT): words for path, text in texts if (words := unused_in(text, kind))}
+    """None in these texts, by their paths; an exception may be for the kind of text, or for the kind in one folder."""
+    named = [(os.path.relpath(path, ROOT), text) for path, text in texts]
+    found = {path: words for path, text in named if (words := unused_in(text, (kind, f"{kind} of {path.split('/')[0]}")))}
     assert not found, found
 
 

@@ -1,7 +1,7 @@
 -- A pattern of points and of named sets has a word for each, so its canonical text is read back.
 use Rattle.std.proofs.Common.{◌≡◌, ℕ, List, length, Some}
 use Rattle.label_patterns.specs.Patterns.{Pattern, Point, Set, Any, Start, End, Place, Group, Optional, Many, Then, Either}
-use Rattle.ruleset_text.specs.Grammar.{Is, Whole}
+use Rattle.ruleset_text.specs.Grammar.{Is, Whole, tokens}
 use Rattle.label_patterns.specs.Matches.{HasItsSets}
 use Rattle.ruleset_text.specs.Names.{AreNames}
 use Rattle.ruleset_text.specs.Canonical.{HasPoints, pattern_text}
@@ -10,7 +10,7 @@ use Rattle.ruleset_text.specs.Tokens.{tokens_of}
 use Rattle.ruleset_text.specs.Reading.{pattern_of}
 use Rattle.ruleset_text.proofs.PointLemmas.{point_word}
 use Rattle.ruleset_text.proofs.SetWordLemmas.{name_word}
-use Rattle.ruleset_text.proofs.TextLemmas.{read_back}
+use Rattle.ruleset_text.proofs.TextLemmas.{read_back, same_tokens}
 
 has_words : (names : List (List ℕ)) (p : Pattern) → AreNames names → HasItsSets (length names) p → HasPoints p → HasWords names p
 has_words names (Point c) a h k = point_word names c k
@@ -28,3 +28,7 @@ has_words names (Either p q) a h k = (has_words names p a h.0 k.0, has_words nam
 pub text_read_back : (names : List (List ℕ)) (p : Pattern) → AreNames names → HasItsSets (length names) p → HasPoints p → Is Whole p →
     pattern_of (tokens_of names (pattern_text names p)) ≡ Some p
 text_read_back names p a h k w = read_back names p (has_words names p a h k) w
+
+-- it has the tokens of the pattern
+pub text_tokens : (names : List (List ℕ)) (p : Pattern) → AreNames names → HasItsSets (length names) p → HasPoints p → tokens_of names (pattern_text names p) ≡ tokens p
+text_tokens names p a h k = same_tokens names p (has_words names p a h k)

@@ -9,3 +9,12 @@ mod PointLemmas
 mod SetWordLemmas
 mod TextLemmas
 mod BackLemmas
+mod SpanTextLemmas
+mod KnownSetLemmas
+mod AddedLemmas
+mod FormLemmas
+mod DefineLemmas
+mod SpanBackLemmas
+mod LineBackLemmas
+mod DefinitionsBackLemmas
+mod DefinedLemmas

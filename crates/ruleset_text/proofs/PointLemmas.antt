@@ -13,6 +13,13 @@ digits_in_word : (digits : List ℕ) → list_all is_hex_digit digits ≡ true �
 digits_in_word [] h = tt
 digits_in_word (c ∷ cs) h = let p = and_parts (is_hex_digit c) (list_all is_hex_digit cs) h in (hex_in_word c p.0, digits_in_word cs p.1)
 
+pub without_prefix-hex : (digits : List ℕ) (c : ℕ) → IsHex digits c → without_prefix digits ≡ digits
+without_prefix-hex [] c h = refl
+without_prefix-hex (x ∷ []) c h = refl
+without_prefix-hex (x ∷ y ∷ ds) c h =
+    let digit = (and_parts (is_hex_digit x) (list_all is_hex_digit (y ∷ ds)) h.digit).0 in
+    ap (λ b. cond (b && eqb y 43) ds (x ∷ y ∷ ds)) (no_false (eqb x 85) (eqb x 117) (other_than 85 x refl digit) (other_than 117 x refl digit))
+
 hex_word : (names : List (List ℕ)) (digits : List ℕ) (c : ℕ) → IsHex digits c → point_of_hex digits ≡ Some c → IsWordOf names (token.Point c) digits
 hex_word names [] c h e = absurd (let f = h.long in cc)
 hex_word names (x ∷ []) c h e = absurd (let f = h.long in cc)

@@ -10,24 +10,24 @@ use Rattle.ruleset_text.specs.Names.{is_letter, is_name_byte, is_name, number_of
 use Rattle.ruleset_text.specs.Canonical.{set_text, IsWordOf}
 use Rattle.ruleset_text.proofs.HexLemmas.{and_parts, no_false}
 
-no_true : (b : Bool) → (b ≡ true → ⊥) → b ≡ false
+pub no_true : (b : Bool) → (b ≡ true → ⊥) → b ≡ false
 no_true true h = absurd (h refl)
 no_true false h = refl
 
-other_than : (n c : ℕ) → is_name_byte n ≡ false → is_name_byte c ≡ true → eqb c n ≡ false
+pub other_than : (n c : ℕ) → is_name_byte n ≡ false → is_name_byte c ≡ true → eqb c n ≡ false
 other_than n c other name = no_true (eqb c n) (λ e. let f : true ≡ false = sym name ∙ ap is_name_byte (eqb-true c n e) ∙ other in cc)
 
-name_in_word : (c : ℕ) → is_name_byte c ≡ true → is_word_byte c ≡ true
+pub name_in_word : (c : ℕ) → is_name_byte c ≡ true → is_word_byte c ≡ true
 name_in_word c h =
     ap not (no_false (is_blank c || is_mark c) (is_full_stop c)
     (no_false (is_blank c) (is_mark c) (no_false (eqb c 32) (eqb c 9) (other_than 32 c refl h) (other_than 9 c refl h))
     (no_false (eqb c 45 || eqb c 124 || eqb c 58 || eqb c 33 || eqb c 44 || eqb c 47 || eqb c 40 || eqb c 41 || eqb c 63 || eqb c 42 || eqb c 94) (eqb c 36) (no_false (eqb c 45 || eqb c 124 || eqb c 58 || eqb c 33 || eqb c 44 || eqb c 47 || eqb c 40 || eqb c 41 || eqb c 63 || eqb c 42) (eqb c 94) (no_false (eqb c 45 || eqb c 124 || eqb c 58 || eqb c 33 || eqb c 44 || eqb c 47 || eqb c 40 || eqb c 41 || eqb c 63) (eqb c 42) (no_false (eqb c 45 || eqb c 124 || eqb c 58 || eqb c 33 || eqb c 44 || eqb c 47 || eqb c 40 || eqb c 41) (eqb c 63) (no_false (eqb c 45 || eqb c 124 || eqb c 58 || eqb c 33 || eqb c 44 || eqb c 47 || eqb c 40) (eqb c 41) (no_false (eqb c 45 || eqb c 124 || eqb c 58 || eqb c 33 || eqb c 44 || eqb c 47) (eqb c 40) (no_false (eqb c 45 || eqb c 124 || eqb c 58 || eqb c 33 || eqb c 44) (eqb c 47) (no_false (eqb c 45 || eqb c 124 || eqb c 58 || eqb c 33) (eqb c 44) (no_false (eqb c 45 || eqb c 124 || eqb c 58) (eqb c 33) (no_false (eqb c 45 || eqb c 124) (eqb c 58) (no_false (eqb c 45) (eqb c 124) (other_than 45 c refl h) (other_than 124 c refl h)) (other_than 58 c refl h)) (other_than 33 c refl h)) (other_than 44 c refl h)) (other_than 47 c refl h)) (other_than 40 c refl h)) (other_than 41 c refl h)) (other_than 63 c refl h)) (other_than 42 c refl h)) (other_than 94 c refl h)) (other_than 36 c refl h)))
     (other_than 46 c refl h))
 
-letter_in_name : (c : ℕ) → is_letter c ≡ true → is_name_byte c ≡ true
+pub letter_in_name : (c : ℕ) → is_letter c ≡ true → is_name_byte c ≡ true
 letter_in_name c h = ap (λ x. x || nat_le 48 c && nat_le c 57 || eqb c 95) h
 
-bytes_in_word : (cs : List ℕ) → list_all is_name_byte cs ≡ true → AllByRecursion (λ c. IsTrue (is_word_byte c)) cs
+pub bytes_in_word : (cs : List ℕ) → list_all is_name_byte cs ≡ true → AllByRecursion (λ c. IsTrue (is_word_byte c)) cs
 bytes_in_word [] h = tt
 bytes_in_word (c ∷ cs) h = let p = and_parts (is_name_byte c) (list_all is_name_byte cs) h in (name_in_word c p.0, bytes_in_word cs p.1)
 

@@ -8,7 +8,7 @@ use Rattle.label_patterns.specs.Patterns.{Pattern, Point, Set, Any, Start, End, 
 use Rattle.ruleset_text.specs.Grammar.{Is, Whole, tokens}
 use Rattle.ruleset_text.specs.Lexemes.{is_blank, is_mark, is_full_stop, is_word_byte, begins_in_word, begins_in_stops, is_joined, lexemes}
 use Rattle.ruleset_text.specs.Canonical.{point_text, set_text, pattern_text, IsWordOf}
-use Rattle.ruleset_text.specs.Tokens.{token_of, tokens_of}
+use Rattle.ruleset_text.specs.Tokens.{token_of, tokens_in, tokens_of}
 use Rattle.ruleset_text.specs.Reading.{pattern_of}
 use Rattle.ruleset_text.proofs.PatternLemmas.{spelled_read}
 
@@ -46,7 +46,7 @@ in_word c cs w =
     ∙ ap (λ b. cond (begins_in_word cs || b && begins_in_stops cs) x y) p.2
     ∙ ap (λ b. cond b x y) (or_none (begins_in_word cs))
 
-word_lexeme : (c : ℕ) (cs rest : List ℕ) → AllByRecursion (λ c. IsTrue (is_word_byte c)) (c ∷ cs) → begins_in_word rest ≡ false → lexemes ((c ∷ cs) ++ rest) ≡ (c ∷ cs) ∷ lexemes rest
+pub word_lexeme : (c : ℕ) (cs rest : List ℕ) → AllByRecursion (λ c. IsTrue (is_word_byte c)) (c ∷ cs) → begins_in_word rest ≡ false → lexemes ((c ∷ cs) ++ rest) ≡ (c ∷ cs) ∷ lexemes rest
 word_lexeme c [] rest h e = in_word c rest h.0 ∙ ap (λ b. cond b (onto_first c (lexemes rest)) ((c ∷ []) ∷ lexemes rest)) e
 word_lexeme c (d ∷ ds) rest h e =
     in_word c (d ∷ ds ++ rest) h.0
@@ -61,27 +61,27 @@ abbrev pub Goes : List (List ℕ) → Pattern → Type 0
 Goes names p = (rest : List ℕ) → IsApart rest → tokens_of names (pattern_text names p ++ rest) ≡ tokens p ++ tokens_of names rest
 
 word_goes : (names : List (List ℕ)) (t : Token) (word rest : List ℕ) → IsWordOf names t word → IsApart rest → tokens_of names (word ++ rest) ≡ t ∷ tokens_of names rest
-unfolding tokens_of
+unfolding tokens_in
 word_goes names t [] rest h a = absurd (omega (arith, h.0))
 word_goes names t (c ∷ cs) rest h a =
     ap (map (token_of names)) (word_lexeme c cs rest h.1 a.0) ∙ ap (λ x. x ∷ tokens_of names rest) h.2
 
 any_goes : (names : List (List ℕ)) → Goes names Any
-unfolding tokens_of
+unfolding tokens_in
 any_goes names rest a =
     ap (λ b. map (token_of names) (cond b (onto_first 46 (lexemes rest)) ((46 ∷ []) ∷ lexemes rest))) a.1
 
 -- a part, then a mark
 then_mark : (names : List (List ℕ)) (p : Pattern) (mark : ℕ) (t : Token) (rest : List ℕ) → Goes names p → IsApart (mark ∷ rest) → tokens_of names (mark ∷ rest) ≡ t ∷ tokens_of names rest
     → tokens_of names ((pattern_text names p ++ mark ∷ []) ++ rest) ≡ (tokens p ++ t ∷ []) ++ tokens_of names rest
-unfolding tokens_of
+unfolding tokens_in
 then_mark names p mark t rest goes a e =
     ap (tokens_of names) (append_assoc (pattern_text names p) (mark ∷ []) rest)
     ∙ goes (mark ∷ rest) a ∙ ap (λ l. tokens p ++ l) e
     ∙ sym (append_assoc (tokens p) (t ∷ []) (tokens_of names rest))
 
 pub goes : (names : List (List ℕ)) (p : Pattern) → HasWords names p → Goes names p
-unfolding tokens_of
+unfolding tokens_in
 goes names (Point c) h rest a = word_goes names (token.Point c) (point_text c) rest h a
 goes names (Set n) h rest a = word_goes names (token.Set n) (set_text names n) rest h a
 goes names Any h rest a = any_goes names rest a
@@ -102,9 +102,9 @@ goes names (Either p q) h rest a =
     ∙ ap (λ l. tokens p ++ token.Or ∷ l) (goes names q h.1 rest a)
     ∙ sym (append_assoc (tokens p) (token.Or ∷ tokens q) (tokens_of names rest))
 
+pub same_tokens : (names : List (List ℕ)) (p : Pattern) → HasWords names p → tokens_of names (pattern_text names p) ≡ tokens p
+unfolding tokens_in
+same_tokens names p h = ap (tokens_of names) (sym (append-nil (pattern_text names p))) ∙ goes names p h [] (refl, refl) ∙ append-nil (tokens p)
+
 pub read_back : (names : List (List ℕ)) (p : Pattern) → HasWords names p → Is Whole p → pattern_of (tokens_of names (pattern_text names p)) ≡ Some p
-unfolding tokens_of
-read_back names p h k =
-    let same : tokens_of names (pattern_text names p) ≡ tokens p =
-    ap (tokens_of names) (sym (append-nil (pattern_text names p))) ∙ goes names p h [] (refl, refl) ∙ append-nil (tokens p) in
-    spelled_read (tokens_of names (pattern_text names p)) p (k, same)
+read_back names p h k = spelled_read (tokens_of names (pattern_text names p)) p (k, same_tokens names p h)

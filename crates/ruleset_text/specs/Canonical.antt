@@ -1,10 +1,12 @@
--- The canonical text of a pattern.
-use Rattle.std.specs.Prelude.{◌≡◌, ℕ, ◌+◌, ◌<◌, ◌/◌, ◌%◌, nat_lt, List, [], ◌∷◌, ◌++◌, length, slice_index_or, IsTrue, if◌then◌else◌}
+-- The canonical text of a pattern, of the spans of a set, and of a definition.
+use Rattle.std.specs.Prelude.{◌≡◌, ℕ, ◌+◌, ◌<◌, ◌/◌, ◌%◌, nat_lt, ◌==◌, List, [], ◌∷◌, ◌++◌, length, slice_index_or, codes, IsTrue, if◌then◌else◌}
 use Rattle.std.specs.List.{AllByRecursion}
 use Rattle.idn_text.specs.Points.{is_scalar_value}
+use Rattle.label_patterns.specs.declared.span.Span.{Span}
 use Rattle.label_patterns.specs.Patterns.{Pattern, Point, Set, Any, Start, End, Place, Group, Optional, Many, Then, Either}
 use Rattle.ruleset_text.specs.declared.token.Token.{Token}
-use Rattle.ruleset_text.specs.declared.token.Token.TheVariants as token
+use Rattle.ruleset_text.specs.Definition as definition
+use Rattle.ruleset_text.specs.Definition.{Definition, demand_word}
 use Rattle.ruleset_text.specs.Lexemes.{is_word_byte}
 use Rattle.ruleset_text.specs.Tokens.{token_of}
 
@@ -40,6 +42,22 @@ pattern_text names (Optional p) = pattern_text names p ++ 63 ∷ []
 pattern_text names (Many p) = pattern_text names p ++ 42 ∷ []
 pattern_text names (Then p q) = pattern_text names p ++ 32 ∷ pattern_text names q
 pattern_text names (Either p q) = pattern_text names p ++ 32 ∷ 47 ∷ 32 ∷ pattern_text names q
+
+-- a span: its ends, or the code point that it is
+abbrev pub span_text : Span → List ℕ
+span_text s = if s.first == s.last then point_text s.first else point_text s.first ++ 46 ∷ 46 ∷ point_text s.last
+
+-- the spans of a set, each behind a blank
+abbrev pub spans_text : List Span → List ℕ
+spans_text [] = []
+spans_text (s ∷ spans) = 32 ∷ (span_text s ++ spans_text spans)
+
+-- the canonical line of a definition, without its line feed: one blank between its parts
+abbrev pub definition_text : List (List ℕ) → Definition → List ℕ
+definition_text names (definition.Tag name) = codes "%tag " ++ name
+definition_text names (definition.Set name spans) = codes "%set " ++ name ++ spans_text spans
+definition_text names (definition.Rule name contexts) = codes "%rule " ++ name ++ 32 ∷ pattern_text names contexts
+definition_text names (definition.Demand kind p) = demand_word kind ++ 32 ∷ pattern_text names p
 
 -- the word is one word, and its token is this one
 abbrev pub IsWordOf : List (List ℕ) → Token → List ℕ → Type 0

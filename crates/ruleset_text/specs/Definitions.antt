@@ -1,34 +1,165 @@
--- What a line defines: a tag, a set, a rule or a demand.
-use Rattle.std.specs.Prelude.{ℕ, Bool, not, Option, Some, None, List, bytes_eq, codes, if◌then◌else◌}
+-- What the lines of a ruleset define so far, and what a further line makes of it.
+use Rattle.std.specs.Prelude.{ℕ, ◌+◌, nat_le, nat_lt, Bool, true, false, ◌||◌, not, Option, Some, None, Result, Ok, Err, List, [], ◌∷◌, ◌++◌, length, map, if◌then◌else◌}
+use Rattle.label_patterns.specs.declared.span.Span.{Span}
 use Rattle.label_patterns.specs.Patterns.{Pattern}
-use Rattle.ruleset_text.specs.declared.definitions.Keyword.{Keyword}
-use Rattle.ruleset_text.specs.declared.definitions.Keyword.TheVariants as keyword
-use Rattle.ruleset_text.specs.declared.rules.Sign.TheVariants as sign
-use Rattle.ruleset_text.specs.Reading.{pattern_of}
-use Rattle.ruleset_text.specs.Rules.{has, is_rule}
-use Rattle.ruleset_text.specs.Tokens.{tokens_of}
+use Rattle.ruleset_text.specs.declared.definition.DemandKind.{DemandKind}
+use Rattle.ruleset_text.specs.declared.fault.DefinitionFault.{DefinitionFault}
+use Rattle.ruleset_text.specs.declared.fault.DefinitionFault.TheVariants.{Syntax, Limit, NoSuchName, BadClass, SameName}
+use Rattle.ruleset_text.specs.declared.keyword.Keyword.{Keyword}
+use Rattle.ruleset_text.specs.Canonical.{definition_text}
+use Rattle.ruleset_text.specs.Classes.{has_bad_point, has_bad_end}
+use Rattle.ruleset_text.specs.Definition as definition
+use Rattle.ruleset_text.specs.Definition.{Definition, definition_of, keyword_of}
+use Rattle.ruleset_text.specs.Lexemes.{lexemes}
+use Rattle.ruleset_text.specs.Limits.{groups, stars, atoms, has_its_sets}
+use Rattle.ruleset_text.specs.Names.{is_one_of}
+use Rattle.ruleset_text.specs.SetNames.{names_on}
 
--- ---- the word with which a definition begins
+-- a demand on each label
+pub record Demand : Type 0 where
+  pub kind : DemandKind
+  pub pattern : Pattern
 
-abbrev pub keyword_of : List ℕ → Option Keyword
-keyword_of word =
-    if bytes_eq word (codes "%tag") then Some keyword.Tag else
-    if bytes_eq word (codes "%set") then Some keyword.Set else
-    if bytes_eq word (codes "%rule") then Some keyword.Rule else
-    if bytes_eq word (codes "%never") then Some keyword.Never else
-    if bytes_eq word (codes "%always") then Some keyword.Always else None
+-- the names of the tags; the sets and their names, by number; the rules and their names, by number; the demands. Each in the
+-- order of the lines that define them
+pub record Definitions : Type 0 where
+  pub tags : List (List ℕ)
+  pub set_names : List (List ℕ)
+  pub sets : List (List Span)
+  pub rule_names : List (List ℕ)
+  pub rules : List Pattern
+  pub demands : List Demand
 
--- ---- a pattern that stands alone, and the contexts of a rule
+abbrev pub nothing_defined : Definitions
+nothing_defined = record { tags = []; set_names = []; sets = []; rule_names = []; rules = []; demands = [] }
 
--- the pattern, if the test is true of it
-abbrev pub if_such : (Pattern → Bool) → Option Pattern → Option Pattern
-if_such test None = None
-if_such test (Some p) = if test p then Some p else None
+-- ---- all of them, in the order of canonical text
 
--- the pattern of a demand: it has no '_'
-abbrev pub demand_of : List (List ℕ) → List ℕ → Option Pattern
-demand_of names line = if_such (λ p. not (has sign.Place p)) (pattern_of (tokens_of names line))
+-- things with names, one after the other
+abbrev pub named : {X : Type 0} → (List ℕ → X → Definition) → List (List ℕ) → List X → List Definition
+named f [] xs = []
+named f (name ∷ names) [] = []
+named f (name ∷ names) (x ∷ xs) = f name x ∷ named f names xs
 
--- the contexts of a rule
-abbrev pub contexts_of : List (List ℕ) → List ℕ → Option Pattern
-contexts_of names line = if_such is_rule (pattern_of (tokens_of names line))
+-- tags, sets, rules, demands
+abbrev pub all_definitions : Definitions → List Definition
+all_definitions d =
+    map definition.Tag d.tags ++ (named definition.Set d.set_names d.sets ++ (named definition.Rule d.rule_names d.rules ++ map (λ e. definition.Demand e.kind e.pattern) d.demands))
+
+-- a line for each, without its line feed
+abbrev pub canonical_lines : Definitions → List (List ℕ)
+canonical_lines d = map (definition_text d.set_names) (all_definitions d)
+
+-- how many bytes lines have, each with its line feed
+abbrev pub lines_size : List (List ℕ) → ℕ
+lines_size [] = 0
+lines_size (line ∷ lines) = length line + 1 + lines_size lines
+
+unfoldable pub canonical_size : Definitions → ℕ
+canonical_size d = lines_size (canonical_lines d)
+
+-- the names of tags, sets and rules
+abbrev pub all_names : Definitions → List (List ℕ)
+all_names d = d.tags ++ (d.set_names ++ d.rule_names)
+
+abbrev pub definition_atoms : Definition → ℕ
+definition_atoms (definition.Tag name) = 0
+definition_atoms (definition.Set name spans) = 0
+definition_atoms (definition.Rule name contexts) = atoms contexts
+definition_atoms (definition.Demand kind p) = atoms p
+
+abbrev pub atoms_in : List Definition → ℕ
+atoms_in [] = 0
+atoms_in (x ∷ xs) = definition_atoms x + atoms_in xs
+
+-- how many atoms all patterns have together
+unfoldable pub all_atoms : Definitions → ℕ
+all_atoms d = atoms_in (all_definitions d)
+
+-- ---- the faults of a further one
+
+-- a pattern more goes past a limit: 256 rules and demands together, 8 groups within each other, 2 '*' within each other, 4,096
+-- atoms in all patterns together
+abbrev pub is_pattern_over_limit : Definitions → Pattern → Bool
+is_pattern_over_limit d p = nat_le 256 (length d.rules + length d.demands) || nat_lt 8 (groups p) || nat_lt 2 (stars p) || nat_lt 4096 (all_atoms d + atoms p)
+
+-- so does one more of its kind; there may be 8 tags and 256 sets
+abbrev pub is_one_too_many : Definitions → Definition → Bool
+is_one_too_many d (definition.Tag name) = nat_le 8 (length d.tags)
+is_one_too_many d (definition.Set name spans) = nat_le 256 (length d.sets)
+is_one_too_many d (definition.Rule name contexts) = is_pattern_over_limit d contexts
+is_one_too_many d (definition.Demand kind p) = is_pattern_over_limit d p
+
+-- a canonical line of so many bytes is too long: of more than 8,192; or it goes, with its line feed, past what the canonical
+-- text of the definitions may have
+abbrev pub is_line_over_limit : ℕ → Definitions → ℕ → Bool
+is_line_over_limit limit d size = nat_lt 8192 size || nat_lt limit (canonical_size d + (size + 1))
+
+-- a definition goes past a limit; the sets that its pattern names have these names
+abbrev pub is_over_limit : ℕ → Definitions → List (List ℕ) → Definition → Bool
+is_over_limit limit d names x = is_line_over_limit limit d (length (definition_text names x)) || is_one_too_many d x
+
+-- each set that its pattern names is one of the first n
+abbrev pub has_known_sets : ℕ → Definition → Bool
+has_known_sets n (definition.Tag name) = true
+has_known_sets n (definition.Set name spans) = true
+has_known_sets n (definition.Rule name contexts) = has_its_sets n contexts
+has_known_sets n (definition.Demand kind p) = has_its_sets n p
+
+-- a code point is written in it that no label has
+abbrev pub has_bad_class : Definition → Bool
+has_bad_class (definition.Tag name) = false
+has_bad_class (definition.Set name spans) = has_bad_end spans
+has_bad_class (definition.Rule name contexts) = has_bad_point contexts
+has_bad_class (definition.Demand kind p) = has_bad_point p
+
+-- its name is that of a tag, a set or a rule
+abbrev pub has_same_name : Definitions → Definition → Bool
+has_same_name d (definition.Tag name) = is_one_of (all_names d) name
+has_same_name d (definition.Set name spans) = is_one_of (all_names d) name
+has_same_name d (definition.Rule name contexts) = is_one_of (all_names d) name
+has_same_name d (definition.Demand kind p) = false
+
+-- ---- what a further line makes of them
+
+abbrev pub added : Definitions → Definition → Definitions
+added d (definition.Tag name) = record d { tags = d.tags ++ name ∷ [] }
+added d (definition.Set name spans) = record d { set_names = d.set_names ++ name ∷ []; sets = d.sets ++ spans ∷ [] }
+added d (definition.Rule name contexts) = record d { rule_names = d.rule_names ++ name ∷ []; rules = d.rules ++ contexts ∷ [] }
+added d (definition.Demand kind p) = record d { demands = d.demands ++ record { kind = kind; pattern = p } ∷ [] }
+
+-- the definitions with a further one, or its first fault; none is a line that has no form
+unfoldable pub with_definition : ℕ → Definitions → List (List ℕ) → Option Definition → Result Definitions DefinitionFault
+with_definition limit d names None = Err Syntax
+with_definition limit d names (Some x) =
+    if is_over_limit limit d names x then Err Limit else
+    if not (has_known_sets (length d.sets) x) then Err NoSuchName else
+    if has_bad_class x then Err BadClass else
+    if has_same_name d x then Err SameName else
+    Ok (added d x)
+
+-- the same for a line, by its keyword and the lexemes behind it; the canonical text may have so many bytes. A name that no set
+-- has gets a number behind those of the sets
+abbrev pub defined : ℕ → Definitions → Keyword → List (List ℕ) → Result Definitions DefinitionFault
+defined limit d keyword words = with_definition limit d (names_on d.set_names words) (definition_of (names_on d.set_names words) keyword words)
+
+-- ---- lines one after the other
+
+abbrev pub with_keyword : ℕ → Definitions → Option Keyword → List (List ℕ) → Result Definitions DefinitionFault
+with_keyword limit d None words = Err Syntax
+with_keyword limit d (Some keyword) words = defined limit d keyword words
+
+-- the definitions with that of a line, by its lexemes, the first of which is the keyword
+abbrev pub with_words : ℕ → Definitions → List (List ℕ) → Result Definitions DefinitionFault
+with_words limit d [] = Err Syntax
+with_words limit d (word ∷ words) = with_keyword limit d (keyword_of word) words
+
+-- what f makes of an answer, or the fault
+abbrev pub after : Result Definitions DefinitionFault → (Definitions → Result Definitions DefinitionFault) → Result Definitions DefinitionFault
+after (Ok d) f = f d
+after (Err fault) f = Err fault
+
+-- the definitions with those of lines, or the first fault
+abbrev pub with_lines : ℕ → Definitions → List (List ℕ) → Result Definitions DefinitionFault
+with_lines limit d [] = Ok d
+with_lines limit d (line ∷ lines) = after (with_words limit d (lexemes line)) (λ e. with_lines limit e lines)

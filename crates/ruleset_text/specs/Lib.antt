@@ -5,9 +5,15 @@ pub mod Limits
 pub mod Rules
 pub mod Lexemes
 pub mod Names
+pub mod SetNames
 pub mod Tokens
 pub mod Spans
-pub mod Definitions
+pub mod Definition
+pub mod DefinitionTrees
 pub mod Classes
 pub mod Canonical
+pub mod Definitions
+pub mod DemandTrees
+pub mod DefinitionCodes
+pub mod WellFormed
 pub mod inner

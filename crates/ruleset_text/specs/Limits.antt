@@ -1,5 +1,5 @@
 -- What is limited in a pattern, and whether its sets are known.
-use Rattle.std.specs.Prelude.{ℕ, ◌+◌, ◌≤◌, max}
+use Rattle.std.specs.Prelude.{ℕ, ◌+◌, ◌≤◌, max, nat_lt, Bool, true, ◌&&◌}
 use Rattle.label_patterns.specs.Patterns.{Pattern, Point, Set, Any, Start, End, Place, Group, Optional, Many, Then, Either}
 
 -- how many groups stand within each other
@@ -47,3 +47,17 @@ atoms (Either p q) = atoms p + atoms q
 -- at most g groups and s '*' within each other
 abbrev pub IsWithin : ℕ → ℕ → Pattern → Type 0
 IsWithin g s p = (groups p ≤ g) × (stars p ≤ s)
+
+-- each set of the pattern is one of the first n
+abbrev pub has_its_sets : ℕ → Pattern → Bool
+has_its_sets n (Point c) = true
+has_its_sets n (Set m) = nat_lt m n
+has_its_sets n Any = true
+has_its_sets n Start = true
+has_its_sets n End = true
+has_its_sets n Place = true
+has_its_sets n (Group p) = has_its_sets n p
+has_its_sets n (Optional p) = has_its_sets n p
+has_its_sets n (Many p) = has_its_sets n p
+has_its_sets n (Then p q) = has_its_sets n p && has_its_sets n q
+has_its_sets n (Either p q) = has_its_sets n p && has_its_sets n q

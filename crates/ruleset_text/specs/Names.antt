@@ -1,6 +1,6 @@
 -- Names of tags, sets and rules.
 use Rattle.std.specs.Prelude.{◌≡◌, ℕ, nat_le, ◌==◌, ◌||◌, ◌&&◌, Bool, false, List, [], ◌∷◌, length, bytes_eq, IsTrue}
-use Rattle.std.specs.List.{AllByRecursion, list_all, position_or_len}
+use Rattle.std.specs.List.{AllByRecursion, list_all, list_any, position_or_len}
 
 -- A to Z, or a to z
 abbrev pub is_letter : ℕ → Bool
@@ -23,6 +23,10 @@ begins_with_name (word ∷ words) = is_name word
 -- the number of the first name that is this one, or how many names there are
 unfoldable pub number_of : List (List ℕ) → List ℕ → ℕ
 number_of names name = position_or_len (λ other. bytes_eq other name) names
+
+-- the name is one of these
+abbrev pub is_one_of : List (List ℕ) → List ℕ → Bool
+is_one_of names name = list_any (λ other. bytes_eq other name) names
 
 -- names, no two of which are the same
 abbrev pub AreNames : List (List ℕ) → Type 0

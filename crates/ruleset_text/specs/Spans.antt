@@ -56,6 +56,10 @@ abbrev pub spans_at : Option State → Option (List Span)
 spans_at None = None
 spans_at (Some s) = ended s.spans s.held
 
--- the spans that a text spells, if it spells spans that rise
-unfoldable pub spans_of : List ℕ → Option (List Span)
-spans_of text = spans_at (state_after (Some (state [] (held.Above 0))) (map part_of (lexemes text)))
+-- the spans that lexemes spell, if they spell spans that rise
+unfoldable pub spans_in : List (List ℕ) → Option (List Span)
+spans_in words = spans_at (state_after (Some (state [] (held.Above 0))) (map part_of words))
+
+-- the same for a text
+abbrev pub spans_of : List ℕ → Option (List Span)
+spans_of text = spans_in (lexemes text)

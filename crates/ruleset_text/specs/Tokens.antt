@@ -38,6 +38,10 @@ token_of names [] = token.Other
 token_of names (c ∷ []) = mark_token c
 token_of names (c ∷ d ∷ cs) = if c == 64 then set_token names (d ∷ cs) else word_token (c ∷ d ∷ cs)
 
+-- the tokens of lexemes
+unfoldable pub tokens_in : List (List ℕ) → List (List ℕ) → List Token
+tokens_in names words = map (token_of names) words
+
 -- the tokens of a line, or of what is left of one
-unfoldable pub tokens_of : List (List ℕ) → List ℕ → List Token
-tokens_of names line = map (token_of names) (lexemes line)
+abbrev pub tokens_of : List (List ℕ) → List ℕ → List Token
+tokens_of names line = tokens_in names (lexemes line)

@@ -1,92 +1,333 @@
-//! What a line defines, by its first word.
-ghost use Rattle.std.specs.Prelude.{◌≡◌, ◌∷◌, false, IfOk, IsTrue, MatchOption};
-ghost use Rattle.std.specs.Option.{option_map};
+//! What the lines of a ruleset define.
+ghost use Rattle.std.specs.Prelude.{◌≡◌, ◌+◌, ◌<◌, ◌^◌, ◌||◌, length, map, OnOk, OnErr};
 ghost use Rattle.label_patterns.specs.Trees.{pattern};
+ghost use Rattle.ruleset_text.specs.Canonical.{definition_text};
+ghost use Rattle.ruleset_text.specs.Definition as definition;
+ghost use Rattle.ruleset_text.specs.Definitions as words;
+ghost use Rattle.ruleset_text.specs.Definitions.{added, canonical_size, defined, nothing_defined, with_words};
+ghost use Rattle.ruleset_text.specs.DefinitionTrees as trees;
+ghost use Rattle.ruleset_text.specs.DemandTrees.{demand};
+ghost use Rattle.ruleset_text.specs.inner.DefinitionSteps.{Leaves};
 ghost use Rattle.ruleset_text.specs.Lexemes.{lexemes};
-ghost use Rattle.ruleset_text.specs.Names.{begins_with_name, is_name as is_a_name};
-ghost use Rattle.ruleset_text.specs.Definitions as definitions;
-ghost use Rattle.ruleset_text.specs.Definitions.{demand_of, contexts_of};
+ghost use Rattle.ruleset_text.specs.Names.{is_one_of as is_among};
+ghost use Rattle.ruleset_text.specs.WellFormed.{AreDefinitions};
 
+use crate::definition::{Definition, DemandKind, has_bad_class, has_known_sets};
+use crate::definition_line::{DefinitionLine, read_line};
+use crate::fault::DefinitionFault;
+use crate::keyword::{Keyword, keyword_of};
 use crate::lexemes::next_lexeme;
-use crate::names::{Name, is_name};
-use crate::reading::read_pattern;
-use crate::rules::{Sign, has, is_rule};
-use crate::tokens::read_tokens;
-use label_patterns::PatternTree;
+use crate::limits::{is_within, without_atoms};
+use crate::names::{Name, is_one_of};
+use label_patterns::{PatternTree, PointSet};
 use std::alloc::{AllocError, Global};
+use std::marker::Model;
 
-/// The word with which a line begins that defines something.
-#[derive(Clone, Copy, Debug, PartialEq, Eq)]
-pub enum Keyword {
-    /// `%tag`
-    Tag,
-    /// `%set`
-    Set,
-    /// `%rule`
-    Rule,
-    /// `%never`
-    Never,
-    /// `%always`
-    Always,
+/// The most tags of a ruleset.
+const TAG_LIMIT: usize = 8;
+
+/// The most sets.
+const SET_LIMIT: usize = 256;
+
+/// The most rules and demands together.
+const PATTERN_LIMIT: usize = 256;
+
+/// The most atoms of all patterns together.
+const ATOM_LIMIT: usize = 4096;
+
+/// The most groups within each other, and the most `*`.
+const GROUP_LIMIT: u32 = 8;
+
+const STAR_LIMIT: u32 = 2;
+
+/// The most bytes of the canonical line of a definition.
+const LINE_LIMIT: usize = 8192;
+
+/// A demand on each label.
+#[derive(Drop)]
+pub struct Demand {
+    pub kind: DemandKind,
+    pub pattern: PatternTree,
 }
 
-/// The keyword that a word is, if it is one.
-pub fn keyword_of(word: &[u8]) -> Option<Keyword>
-    ensures { result ≡ definitions.keyword_of word.now }
-{
-    match word {
-        b"%tag" => Some(Keyword::Tag),
-        b"%set" => Some(Keyword::Set),
-        b"%rule" => Some(Keyword::Rule),
-        b"%never" => Some(Keyword::Never),
-        b"%always" => Some(Keyword::Always),
-        _ => None,
+/// What the lines of a ruleset define so far. A set goes by its number, and so does a rule.
+#[derive(Drop)]
+pub struct Definitions {
+    tags: Vec<Name>,
+    set_names: Vec<Name>,
+    sets: Vec<PointSet>,
+    rule_names: Vec<Name>,
+    rules: Vec<PatternTree>,
+    demands: Vec<Demand>,
+    /// How many atoms further patterns may have.
+    atoms_left: usize,
+    /// How many bytes the canonical lines have, with their line feeds.
+    written: usize,
+}
+
+impl Model for Definitions {
+    ghost use Rattle.ruleset_text.specs.Definitions.{Definitions};
+    ghost use Rattle.ruleset_text.specs.DefinitionCodes.{definitions_code};
+
+    ghost Value = { Definitions };
+
+    ghost coded = { definitions_code };
+
+    ghost use Rattle.ruleset_text.specs.inner.Held.{held, IsHeld};
+
+    ghost view = { λ s. held s };
+
+    ghost invariant = { λ s. IsHeld s };
+}
+
+impl Definitions {
+    /// No definition yet.
+    pub fn new(alloc: Global) -> Self
+        ensures { result ≡ nothing_defined }
+    {
+        Definitions {
+            tags: Vec::new(alloc),
+            set_names: Vec::new(alloc),
+            sets: Vec::new(alloc),
+            rule_names: Vec::new(alloc),
+            rules: Vec::new(alloc),
+            demands: Vec::new(alloc),
+            atoms_left: ATOM_LIMIT,
+            written: 0,
+        }
     }
-}
 
-/// The name with which the text behind a keyword begins, and what follows it; none if it doesn't begin with a name.
-pub fn read_name(text: &[u8]) -> Option<(&[u8], &[u8])>
-    ensures { MatchOption result (begins_with_name (lexemes text.now) ≡ false) (λ found. IsTrue (is_a_name found.0.now) × (lexemes text.now ≡ found.0.now ∷ lexemes found.1.now)) }
-{
-    let (word, rest) = next_lexeme(text)?;
-    if is_name(word) {
-        Some((word, rest))
-    } else {
-        None
+    /// The names of the tags.
+    pub fn tags(&self) -> &[Name]
+        ensures { result.now ≡ self.now.tags }
+    {
+        &self.tags
     }
-}
 
-/// The pattern of a demand, which the text behind the keyword spells, or none if it spells none. A set goes by its
-/// number among the names.
-pub fn read_demand(
-    alloc: Global,
-    sets: &[Name],
-    text: &[u8],
-) -> Result<Option<PatternTree>, AllocError>
-    ensures { IfOk result (λ found. demand_of sets.now text.now ≡ option_map pattern found) }
-{
-    let tokens = read_tokens(alloc, sets, text)?;
-    let Some(tree) = read_pattern(alloc, &tokens)? else {
-        return Ok(None);
-    };
-    Ok(if has(Sign::Place, &tree) {
-        None
-    } else {
-        Some(tree)
-    })
-}
+    /// The names of the sets.
+    pub fn set_names(&self) -> &[Name]
+        ensures is { result.now ≡ self.now.set_names }
+        ensures without_fault { AreDefinitions self.now }
+    {
+        &self.set_names
+    }
 
-/// The contexts of a rule, which the text behind its name spells, or none if it spells none.
-pub fn read_contexts(
-    alloc: Global,
-    sets: &[Name],
-    text: &[u8],
-) -> Result<Option<PatternTree>, AllocError>
-    ensures { IfOk result (λ found. contexts_of sets.now text.now ≡ option_map pattern found) }
-{
-    let tokens = read_tokens(alloc, sets, text)?;
-    let Some(tree) = read_pattern(alloc, &tokens)? else {
-        return Ok(None);
-    };
-    Ok(if is_rule(&tree) { Some(tree) } else { None })
+    /// The sets, by their number.
+    pub fn sets(&self) -> &[PointSet]
+        ensures { result.now ≡ self.now.sets }
+    {
+        &self.sets
+    }
+
+    /// The names of the rules.
+    pub fn rule_names(&self) -> &[Name]
+        ensures { result.now ≡ self.now.rule_names }
+    {
+        &self.rule_names
+    }
+
+    /// The contexts of the rules, by their number.
+    pub fn rules(&self) -> &[PatternTree]
+        ensures is { map pattern result.now ≡ self.now.rules }
+        ensures without_fault { AreDefinitions self.now }
+    {
+        &self.rules
+    }
+
+    /// The demands.
+    pub fn demands(&self) -> &[Demand]
+        ensures is { map demand result.now ≡ self.now.demands }
+        ensures without_fault { AreDefinitions self.now }
+    {
+        &self.demands
+    }
+
+    /// How many bytes the canonical lines have, each with its line feed.
+    pub fn canonical_len(&self) -> usize
+        ensures { result ≡ canonical_size self.now }
+    {
+        self.written
+    }
+
+    /// Adds what a line defines, by its keyword and the text behind it. The canonical text of the definitions may have
+    /// `limit` bytes. An `Err` changes nothing.
+    pub fn define(
+        &mut self,
+        alloc: Global,
+        limit: usize,
+        keyword: Keyword,
+        text: &[u8],
+    ) -> Result<(), DefinitionFault>
+        ensures read { Leaves result self.new (defined limit self.old keyword (lexemes text.now)) }
+        ensures err { OnErr result (self.new ≡ self.old) }
+    {
+        let Some(line) = read_line(alloc, self.set_names(), keyword, text)? else {
+            return Err(DefinitionFault::Syntax);
+        };
+        if self.is_line_over_limit(limit, line.len) {
+            return Err(DefinitionFault::Limit);
+        }
+        if self.is_one_too_many(&line.definition) {
+            return Err(DefinitionFault::Limit);
+        }
+        if !has_known_sets(&line.definition, self.sets().len()) {
+            return Err(DefinitionFault::NoSuchName);
+        }
+        if has_bad_class(alloc, &line.definition)? {
+            return Err(DefinitionFault::BadClass);
+        }
+        if self.has_same_name(&line.definition) {
+            return Err(DefinitionFault::SameName);
+        }
+        self.add(line)?;
+        Ok(())
+    }
+
+    /// Adds what a line defines: its first word is the keyword. The canonical text of the definitions may have `limit`
+    /// bytes. An `Err` changes nothing.
+    pub fn define_line(
+        &mut self,
+        alloc: Global,
+        limit: usize,
+        line: &[u8],
+    ) -> Result<(), DefinitionFault>
+        ensures read { Leaves result self.new (with_words limit self.old (lexemes line.now)) }
+        ensures err { OnErr result (self.new ≡ self.old) }
+    {
+        let Some((word, text)) = next_lexeme(line) else {
+            return Err(DefinitionFault::Syntax);
+        };
+        let Some(keyword) = keyword_of(word) else {
+            return Err(DefinitionFault::Syntax);
+        };
+        self.define(alloc, limit, keyword, text)
+    }
+
+    /// Whether a canonical line of so many bytes is too long, or goes past what the canonical text may have.
+    fn is_line_over_limit(&self, limit: usize, len: usize) -> bool
+        ensures { result ≡ words.is_line_over_limit limit self.now len }
+    {
+        len > LINE_LIMIT || len >= limit.saturating_sub(self.written)
+    }
+
+    /// Whether one more of its kind goes past a limit.
+    fn is_one_too_many(&self, definition: &Definition) -> bool
+        ensures { result ≡ words.is_one_too_many self.now (trees.definition definition.now) }
+    {
+        match definition {
+            Definition::Tag(_) => self.tags.len() >= TAG_LIMIT,
+            Definition::Set(_, _) => self.sets.len() >= SET_LIMIT,
+            Definition::Rule(_, contexts) => self.is_pattern_over_limit(contexts),
+            Definition::Demand(_, pattern) => self.is_pattern_over_limit(pattern),
+        }
+    }
+
+    fn is_pattern_over_limit(&self, tree: &PatternTree) -> bool
+        ensures { result ≡ words.is_pattern_over_limit self.now (pattern tree.now) }
+    {
+        self.rules.len() + self.demands.len() >= PATTERN_LIMIT
+            || !is_within(tree, GROUP_LIMIT, STAR_LIMIT)
+            || without_atoms(tree, self.atoms_left).is_none()
+    }
+
+    /// Whether its name is that of a tag, a set or a rule.
+    fn has_same_name(&self, definition: &Definition) -> bool
+        ensures { result ≡ words.has_same_name self.now (trees.definition definition.now) }
+    {
+        match definition {
+            Definition::Tag(name) => self.has_name(name),
+            Definition::Set(name, _) => self.has_name(name),
+            Definition::Rule(name, _) => self.has_name(name),
+            Definition::Demand(_, _) => false,
+        }
+    }
+
+    fn has_name(&self, name: &Name) -> bool
+        ensures { result ≡ is_among (words.all_names self.now) name.now }
+    {
+        is_one_of(&self.tags, name.as_slice())
+            || is_one_of(&self.set_names, name.as_slice())
+            || is_one_of(&self.rule_names, name.as_slice())
+    }
+
+    /// Adds the definition of a line. An `Err` changes nothing.
+    fn add(&mut self, line: DefinitionLine) -> Result<(), AllocError>
+        requires without_fault { AreDefinitions (added self.old (trees.definition line.definition)) }
+        requires len { line.len ≡ length (definition_text self.old.set_names (trees.definition line.definition)) }
+        requires room { canonical_size self.old + (line.len + 1) < 2 ^ 64 }
+        ensures ok { OnOk result (self.new ≡ added self.old (trees.definition line.definition)) }
+        ensures err { OnErr result (self.new ≡ self.old) }
+    {
+        let DefinitionLine { definition, len } = line;
+        match definition {
+            Definition::Tag(name) => self.add_tag(name, len),
+            Definition::Set(name, set) => self.add_set(name, set, len),
+            Definition::Rule(name, contexts) => self.add_rule(name, contexts, len),
+            Definition::Demand(kind, pattern) => self.add_demand(kind, pattern, len),
+        }
+    }
+
+    fn add_tag(&mut self, name: Name, len: usize) -> Result<(), AllocError>
+        requires without_fault { AreDefinitions (added self.old (definition.Tag name)) }
+        requires len { len ≡ length (definition_text self.old.set_names (definition.Tag name)) }
+        requires room { canonical_size self.old + (len + 1) < 2 ^ 64 }
+        ensures ok { OnOk result (self.new ≡ added self.old (definition.Tag name)) }
+        ensures err { OnErr result (self.new ≡ self.old) }
+    {
+        self.tags.push(name)?;
+        self.written += len + 1;
+        Ok(())
+    }
+
+    fn add_set(&mut self, name: Name, set: PointSet, len: usize) -> Result<(), AllocError>
+        requires without_fault { AreDefinitions (added self.old (definition.Set name set)) }
+        requires len { len ≡ length (definition_text self.old.set_names (definition.Set name set)) }
+        requires room { canonical_size self.old + (len + 1) < 2 ^ 64 }
+        ensures ok { OnOk result (self.new ≡ added self.old (definition.Set name set)) }
+        ensures err { OnErr result (self.new ≡ self.old) }
+    {
+        self.sets.reserve(1)?;
+        self.set_names.push(name)?;
+        self.sets.push(set).unwrap();
+        self.written += len + 1;
+        Ok(())
+    }
+
+    fn add_rule(&mut self, name: Name, contexts: PatternTree, len: usize) -> Result<(), AllocError>
+        requires without_fault { AreDefinitions (added self.old (definition.Rule name (pattern contexts))) }
+        requires len { len ≡ length (definition_text self.old.set_names (definition.Rule name (pattern contexts))) }
+        requires room { canonical_size self.old + (len + 1) < 2 ^ 64 }
+        ensures ok { OnOk result (self.new ≡ added self.old (definition.Rule name (pattern contexts))) }
+        ensures err { OnErr result (self.new ≡ self.old) }
+    {
+        let atoms_left = without_atoms(&contexts, self.atoms_left).unwrap();
+        self.rules.reserve(1)?;
+        self.rule_names.push(name)?;
+        self.rules.push(contexts).unwrap();
+        self.atoms_left = atoms_left;
+        self.written += len + 1;
+        Ok(())
+    }
+
+    fn add_demand(
+        &mut self,
+        kind: DemandKind,
+        tree: PatternTree,
+        len: usize,
+    ) -> Result<(), AllocError>
+        requires without_fault { AreDefinitions (added self.old (definition.Demand kind (pattern tree))) }
+        requires len { len ≡ length (definition_text self.old.set_names (definition.Demand kind (pattern tree))) }
+        requires room { canonical_size self.old + (len + 1) < 2 ^ 64 }
+        ensures ok { OnOk result (self.new ≡ added self.old (definition.Demand kind (pattern tree))) }
+        ensures err { OnErr result (self.new ≡ self.old) }
+    {
+        let atoms_left = without_atoms(&tree, self.atoms_left).unwrap();
+        self.demands.push(Demand {
+            kind,
+            pattern: tree,
+        })?;
+        self.atoms_left = atoms_left;
+        self.written += len + 1;
+        Ok(())
+    }
 }

@@ -1,16 +1,24 @@
 //! Laws of the definitions, each the contract of a function that does nothing.
-ghost use Rattle.std.specs.Prelude.{◌≡◌, ◌↔◌, ℕ, [], ◌∷◌, length, List, Some, None, true, false, codes};
+ghost use Rattle.std.specs.Prelude.{◌≡◌, ◌≤◌, ◌↔◌, Ok, Err, ℕ, [], ◌∷◌, length, List, Some, None, true, false, codes};
 ghost use Rattle.label_patterns.specs.Patterns.{Pattern};
+ghost use Rattle.ruleset_text.specs.declared.definition.DemandKind.TheVariants as demand;
+ghost use Rattle.ruleset_text.specs.declared.fault.DefinitionFault.TheVariants.{Limit, NoSuchName, SameName, Syntax};
+ghost use Rattle.ruleset_text.specs.declared.keyword.Keyword.{Keyword};
 ghost use Rattle.ruleset_text.specs.declared.token.Token.{Token};
 ghost use Rattle.label_patterns.specs.Patterns as patterns;
 ghost use Rattle.label_patterns.specs.Matches.{HasItsSets};
 ghost use Rattle.ruleset_text.specs.Canonical.{HasPoints, pattern_text};
-ghost use Rattle.ruleset_text.specs.Definitions.{contexts_of, demand_of};
+ghost use Rattle.ruleset_text.specs.Definition.{contexts_of, demand_of};
+ghost use Rattle.ruleset_text.specs.Definition as definition;
+ghost use Rattle.ruleset_text.specs.Definitions.{Definitions, added, canonical_lines, canonical_size, defined, nothing_defined, with_lines, with_words};
 ghost use Rattle.ruleset_text.specs.Grammar.{Is, Whole, SpellsPattern};
+ghost use Rattle.ruleset_text.specs.inner.Examples.{some_defined};
+ghost use Rattle.ruleset_text.specs.Lexemes.{lexemes};
 ghost use Rattle.ruleset_text.specs.Names.{AreNames, is_name};
 ghost use Rattle.ruleset_text.specs.Reading.{pattern_of};
 ghost use Rattle.ruleset_text.specs.Spans.{span, spans_of};
 ghost use Rattle.ruleset_text.specs.Tokens.{tokens_of};
+ghost use Rattle.ruleset_text.specs.WellFormed.{AreDefinitions};
 
 /// The function that reads a pattern tells exactly what the grammar says; so tokens spell one pattern at most.
 pub fn reading_a_pattern_is_exact()
@@ -22,6 +30,18 @@ pub fn reading_a_pattern_is_exact()
 pub fn canonical_text_is_read_back()
     ensures { (names : List (List ℕ)) (p : Pattern) → AreNames names → HasItsSets (length names) p → HasPoints p → Is Whole p →
         pattern_of (tokens_of names (pattern_text names p)) ≡ Some p }
+{}
+
+/// What lines define has no fault: none is in what no line defines, and a line adds none.
+pub fn what_lines_define_has_no_fault()
+    ensures nothing { AreDefinitions nothing_defined }
+    ensures more { (d e : Definitions) (limit : ℕ) (keyword : Keyword) (words : List (List ℕ)) → AreDefinitions d → defined limit d keyword words ≡ Ok e → AreDefinitions e }
+{}
+
+/// Definitions without a fault are read back from their canonical lines, where the canonical text may have as many bytes
+/// as these.
+pub fn canonical_lines_are_read_back()
+    ensures { (d : Definitions) (limit : ℕ) → AreDefinitions d → canonical_size d ≤ limit → with_lines limit nothing_defined (canonical_lines d) ≡ Ok d }
 {}
 
 /// Examples, which the definitions compute; one set is defined, with the name A.
@@ -67,4 +87,49 @@ pub fn definitions_compute_the_examples()
     ensures digit_first { is_name (codes "9c") ≡ false }
     ensures hyphen { is_name (codes "C-D") ≡ false }
     ensures long_name { is_name (codes "nnnnnnnnnnnnnnnnnnnnnnnnnnnnnnnnn") ≡ false }
+{}
+
+/// Examples of lines, which the definitions compute; before them are defined the tags t and v, the set A and the rule r.
+pub fn definitions_compute_the_lines()
+    ensures tag { with_words 1000 some_defined (lexemes (codes "%tag a")) ≡ Ok (added some_defined (definition.Tag (codes "a"))) }
+    ensures capital { with_words 1000 some_defined (lexemes (codes "%tag R")) ≡ Ok (added some_defined (definition.Tag (codes "R"))) }
+    ensures rule { with_words 1000 some_defined (lexemes (codes "%rule U _ @A")) ≡ Ok (added some_defined (definition.Rule (codes "U") (patterns.Then patterns.Place (patterns.Set 0)))) }
+    ensures demand { with_words 1000 some_defined (lexemes (codes "%always @A .*")) ≡ Ok (added some_defined (definition.Demand demand.Always (patterns.Then (patterns.Set 0) (patterns.Many patterns.Any)))) }
+    ensures no_word { with_words 1000 some_defined (lexemes (codes "")) ≡ Err Syntax }
+    ensures version { with_words 1000 some_defined (lexemes (codes "%version 3")) ≡ Err Syntax }
+    ensures capital_keyword { with_words 1000 some_defined (lexemes (codes "%Set C 0061")) ≡ Err Syntax }
+    ensures blank_in_keyword { with_words 1000 some_defined (lexemes (codes "% set C 0061")) ≡ Err Syntax }
+    ensures no_name { with_words 1000 some_defined (lexemes (codes "%set")) ≡ Err Syntax }
+    ensures no_span { with_words 1000 some_defined (lexemes (codes "%set C")) ≡ Err Syntax }
+    ensures falling { with_words 1000 some_defined (lexemes (codes "%set C 0062 0061")) ≡ Err Syntax }
+    ensures touching { with_words 1000 some_defined (lexemes (codes "%set C 0061..0063 0063")) ≡ Err Syntax }
+    ensures turned { with_words 1000 some_defined (lexemes (codes "%set C 0063..0061")) ≡ Err Syntax }
+    ensures set_in_set { with_words 1000 some_defined (lexemes (codes "%set C @A")) ≡ Err Syntax }
+    ensures two_digits { with_words 1000 some_defined (lexemes (codes "%set C 61")) ≡ Err Syntax }
+    ensures digit_first { with_words 1000 some_defined (lexemes (codes "%set 9c 0061")) ≡ Err Syntax }
+    ensures hyphen { with_words 1000 some_defined (lexemes (codes "%set C-D 0061")) ≡ Err Syntax }
+    ensures no_tag { with_words 1000 some_defined (lexemes (codes "%tag")) ≡ Err Syntax }
+    ensures two_tags { with_words 1000 some_defined (lexemes (codes "%tag a b")) ≡ Err Syntax }
+    ensures long_name { with_words 1000 some_defined (lexemes (codes "%tag nnnnnnnnnnnnnnnnnnnnnnnnnnnnnnnnn")) ≡ Err Syntax }
+    ensures no_place { with_words 1000 some_defined (lexemes (codes "%rule s @A")) ≡ Err Syntax }
+    ensures two_places { with_words 1000 some_defined (lexemes (codes "%rule s @A _ _")) ≡ Err Syntax }
+    ensures no_context { with_words 1000 some_defined (lexemes (codes "%rule s")) ≡ Err Syntax }
+    ensures rule_range { with_words 1000 some_defined (lexemes (codes "%rule s 0061..0062 _")) ≡ Err Syntax }
+    ensures rule_sequence { with_words 1000 some_defined (lexemes (codes "%rule s 0061-0062 _")) ≡ Err Syntax }
+    ensures no_pattern { with_words 1000 some_defined (lexemes (codes "%never")) ≡ Err Syntax }
+    ensures place { with_words 1000 some_defined (lexemes (codes "%never @A _")) ≡ Err Syntax }
+    ensures word { with_words 1000 some_defined (lexemes (codes "%never A")) ≡ Err Syntax }
+    ensures first_branch { with_words 1000 some_defined (lexemes (codes "%always / @A")) ≡ Err Syntax }
+    ensures groups { with_words 1000 some_defined (lexemes (codes "%never (((((((((@A)))))))))")) ≡ Err Limit }
+    ensures stars { with_words 1000 some_defined (lexemes (codes "%never ((@A* @A)* @A)*")) ≡ Err Limit }
+    ensures limit_before_name { with_words 1000 some_defined (lexemes (codes "%never (((((((((@nope)))))))))")) ≡ Err Limit }
+    ensures unknown { with_words 1000 some_defined (lexemes (codes "%rule s @B _")) ≡ Err NoSuchName }
+    ensures no_set { with_words 1000 some_defined (lexemes (codes "%rule s @r _")) ≡ Err NoSuchName }
+    ensures second { with_words 1000 some_defined (lexemes (codes "%never (@A @B)")) ≡ Err NoSuchName }
+    ensures name_before_class { with_words 1000 some_defined (lexemes (codes "%never @nope 0041")) ≡ Err NoSuchName }
+    ensures same_tag { with_words 1000 some_defined (lexemes (codes "%tag t")) ≡ Err SameName }
+    ensures set_as_tag { with_words 1000 some_defined (lexemes (codes "%tag A")) ≡ Err SameName }
+    ensures rule_as_tag { with_words 1000 some_defined (lexemes (codes "%tag r")) ≡ Err SameName }
+    ensures rule_again { with_words 1000 some_defined (lexemes (codes "%rule r _")) ≡ Err SameName }
+    ensures set_as_rule { with_words 1000 some_defined (lexemes (codes "%rule A _")) ≡ Err SameName }
 {}

@@ -1,22 +1,35 @@
 //! Reading the definitions of a ruleset: the names, sets, rules and demands of its lines.
 #![tactic(auto)]
 
+mod canonical;
 mod classes;
+mod definition;
+mod definition_line;
+mod definition_reading;
 mod definitions;
+mod fault;
+mod keyword;
 mod laws;
 mod lexemes;
 mod limits;
 mod names;
 mod reading;
 mod rules;
+mod set_names;
 mod spans;
 mod token;
 mod tokens;
 
+pub use canonical::{push_pattern, push_spans};
 pub use classes::{has_bad_end, has_bad_point};
-pub use definitions::{Keyword, keyword_of, read_contexts, read_demand, read_name};
+pub use definition::{Definition, DemandKind, push_definition};
+pub use definition_reading::{read_contexts, read_definition, read_demand, read_name};
+pub use definitions::{Definitions, Demand};
+pub use fault::DefinitionFault;
+pub use keyword::{Keyword, keyword_of};
 pub use laws::{
-    canonical_text_is_read_back, definitions_compute_the_examples, reading_a_pattern_is_exact,
+    canonical_lines_are_read_back, canonical_text_is_read_back, definitions_compute_the_examples,
+    definitions_compute_the_lines, reading_a_pattern_is_exact, what_lines_define_has_no_fault,
 };
 pub use lexemes::next_lexeme;
 pub use limits::{has_its_sets, is_within, without_atoms};

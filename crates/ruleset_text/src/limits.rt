@@ -53,7 +53,8 @@ pub fn without_atoms(tree: &PatternTree, left: usize) -> Option<usize>
 
 /// Whether each set is one of the first `count`.
 pub fn has_its_sets(tree: &PatternTree, count: usize) -> bool
-    ensures { IsTrue result ↔ HasItsSets count (pattern tree.now) }
+    ensures decides { IsTrue result ↔ HasItsSets count (pattern tree.now) }
+    ensures is { result ≡ limits.has_its_sets count (pattern tree.now) }
 {
     match tree {
         PatternTree::Set(set) => *set < count,

@@ -67,6 +67,13 @@ pub fn number_of(names: &[Name], bytes: &[u8]) -> usize
     names.len()
 }
 
+/// Whether the bytes are one of the names.
+pub fn is_one_of(names: &[Name], bytes: &[u8]) -> bool
+    ensures { result ≡ words.is_one_of names.now bytes.now }
+{
+    names.iter().any(|name| name.as_slice() == bytes)
+}
+
 fn is_letter(byte: u8) -> bool
     ensures { result ≡ words.is_letter byte }
 {

@@ -1,8 +1,8 @@
 use Rattle.std.proofs.Common.{rules, ◌≡◌, sym, ap}
 use Rattle.std.specs.Prelude.{codes}
 use Rattle.std.proofs.lemmas.Slice.Eq.{text_from_reads}
-use Rattle.ruleset_text.specs.Definitions.{keyword_of}
-use Rattle.ruleset_text.proofs.definitions.keyword_of.Goals as goal
+use Rattle.ruleset_text.specs.Definition.{keyword_of}
+use Rattle.ruleset_text.proofs.keyword.keyword_of.Goals as goal
 
 pub returns-in-37-4 : goal.returns-in-37-4
 returns-in-37-4 c =

@@ -1,0 +1,328 @@
+-- Definitions with a further one have no fault, if the further one has none.
+use Rattle.std.proofs.Common.{◌≡◌, ℕ, ◌+◌, ◌<◌, ◌≤◌, true, false, ◌||◌, List, [], ◌∷◌, ◌++◌, map, length, Option, Some, None, refl, sym, ap, subst, ◌∙◌, append_assoc, append-nil, length-append, arith}
+use Rattle.std.proofs.lemmas.List.{map-append}
+use Rattle.std.specs.Prelude.{IsTrue, IsSome, MatchOption, bytes_eq, nat_le, nat_lt}
+use Rattle.std.specs.List.{AllByRecursion}
+use Rattle.std.proofs.lemmas.Bool.{leb-false, ltb-false}
+use Rattle.std.proofs.lemmas.Slice.Eq.{bytes_eq-Decides}
+use Rattle.label_patterns.specs.Patterns.{Pattern}
+use Rattle.ruleset_text.specs.Canonical.{definition_text}
+use Rattle.ruleset_text.specs.Definition as definition
+use Rattle.ruleset_text.specs.Definition.{Definition}
+use Rattle.ruleset_text.specs.Definitions.{Demand, Definitions, nothing_defined, named, all_definitions, all_names, all_atoms, atoms_in, definition_atoms, lines_size, canonical_size, is_pattern_over_limit, is_one_too_many, added}
+use Rattle.ruleset_text.specs.Limits.{groups, stars, atoms, IsWithin}
+use Rattle.ruleset_text.specs.Names.{is_name, is_one_of, AreNames}
+use Rattle.ruleset_text.specs.WellFormed.{HasParts, IsDefinition, AreDefinitions}
+use Rattle.ruleset_text.proofs.HexLemmas.{or_parts}
+use Rattle.ruleset_text.proofs.KnownSetLemmas.{KnowsSets, known_more, definition_text-more}
+
+-- ---- lists with one element more
+
+pub all_inserted : {X : Type 0} (P : X → Type 0) (xs ys : List X) (y : X) → P y → AllByRecursion P (xs ++ ys) → AllByRecursion P (xs ++ y ∷ ys)
+all_inserted P [] ys y h all = (h, all)
+all_inserted P (x ∷ xs) ys y h all = (all.0, all_inserted P xs ys y h all.1)
+
+all_weaker : {X : Type 0} (P Q : X → Type 0) (xs : List X) → ((x : X) → P x → Q x) → AllByRecursion P xs → AllByRecursion Q xs
+all_weaker P Q [] f all = tt
+all_weaker P Q (x ∷ xs) f all = (f x all.0, all_weaker P Q xs f all.1)
+
+pub named-push : {X : Type 0} (f : List ℕ → X → Definition) (names : List (List ℕ)) (xs : List X) (name : List ℕ) (x : X) → length names ≡ length xs
+    → named f (names ++ name ∷ []) (xs ++ x ∷ []) ≡ named f names xs ++ f name x ∷ []
+named-push f [] [] name x e = refl
+named-push f [] (y ∷ ys) name x e = absurd (omega (arith, e))
+named-push f (n ∷ names) [] name x e = absurd (omega (arith, e))
+named-push f (n ∷ names) (y ∷ ys) name x e = ap (λ l. f n y ∷ l) (named-push f names ys name x (omega (arith, e)))
+
+-- ---- a new name
+
+-- the name is none of these
+abbrev pub IsNew : List ℕ → List (List ℕ) → Type 0
+IsNew name names = AllByRecursion (λ other. name ≡ other → ⊥) names
+
+pub new_from : (names : List (List ℕ)) (name : List ℕ) → is_one_of names name ≡ false → IsNew name names
+new_from [] name e = tt
+new_from (x ∷ xs) name e =
+    let parts = or_parts (bytes_eq x name) (is_one_of xs name) e in
+    (λ same. let bad : true ≡ false = sym ((bytes_eq-Decides x name).1 (sym same)) ∙ parts.0 in cc, new_from xs name parts.1)
+
+names_inserted : (xs ys : List (List ℕ)) (name : List ℕ) → IsTrue (is_name name) → IsNew name (xs ++ ys) → AreNames (xs ++ ys) → AreNames (xs ++ name ∷ ys)
+names_inserted [] ys name is new are = (is, new, are)
+names_inserted (x ∷ xs) ys name is new are =
+    (are.0, all_inserted (λ other. x ≡ other → ⊥) xs ys name (λ e. new.0 (sym e)) are.1, names_inserted xs ys name is new.1 are.2)
+
+-- ---- all definitions, with one more of its kind
+
+pub record Inserted (d : Definitions) (x : Definition) : Type 0 where
+  pub front : List Definition
+  pub back : List Definition
+  pub before : all_definitions d ≡ front ++ back
+  pub after : all_definitions (added d x) ≡ front ++ x ∷ back
+
+abbrev demands_of : List Demand → List Definition
+demands_of demands = map (λ e. definition.Demand e.kind e.pattern) demands
+
+pub inserted : (d : Definitions) (x : Definition) → length d.set_names ≡ length d.sets → length d.rule_names ≡ length d.rules → Inserted d x
+inserted d (definition.Tag name) s r =
+    let tags = map definition.Tag d.tags in
+    let rest = named definition.Set d.set_names d.sets ++ (named definition.Rule d.rule_names d.rules ++ demands_of d.demands) in record {
+      front = tags;
+      back = rest;
+      before = refl;
+      after = ap (λ l. l ++ rest) (map-append definition.Tag d.tags (name ∷ [])) ∙ append_assoc tags (definition.Tag name ∷ []) rest;
+    }
+inserted d (definition.Set name spans) s r =
+    let tags = map definition.Tag d.tags in
+    let sets = named definition.Set d.set_names d.sets in
+    let rest = named definition.Rule d.rule_names d.rules ++ demands_of d.demands in record {
+      front = tags ++ sets;
+      back = rest;
+      before = sym (append_assoc tags sets rest);
+      after = ap (λ l. tags ++ (l ++ rest)) (named-push definition.Set d.set_names d.sets name spans s)
+          ∙ ap (λ l. tags ++ l) (append_assoc sets (definition.Set name spans ∷ []) rest) ∙ sym (append_assoc tags sets (definition.Set name spans ∷ rest));
+    }
+inserted d (definition.Rule name contexts) s r =
+    let tags = map definition.Tag d.tags in
+    let sets = named definition.Set d.set_names d.sets in
+    let rules = named definition.Rule d.rule_names d.rules in
+    let rest = demands_of d.demands in record {
+      front = tags ++ (sets ++ rules);
+      back = rest;
+      before = ap (λ l. tags ++ l) (sym (append_assoc sets rules rest)) ∙ sym (append_assoc tags (sets ++ rules) rest);
+      after = ap (λ l. tags ++ (sets ++ (l ++ rest))) (named-push definition.Rule d.rule_names d.rules name contexts r)
+          ∙ ap (λ l. tags ++ (sets ++ l)) (append_assoc rules (definition.Rule name contexts ∷ []) rest)
+          ∙ ap (λ l. tags ++ l) (sym (append_assoc sets rules (definition.Rule name contexts ∷ rest)))
+          ∙ sym (append_assoc tags (sets ++ rules) (definition.Rule name contexts ∷ rest));
+    }
+inserted d (definition.Demand kind p) s r =
+    let tags = map definition.Tag d.tags in
+    let sets = named definition.Set d.set_names d.sets in
+    let rules = named definition.Rule d.rule_names d.rules in
+    let demands = demands_of d.demands in
+    let more : List Definition = definition.Demand kind p ∷ [] in record {
+      front = tags ++ (sets ++ (rules ++ demands));
+      back = [];
+      before = sym (append-nil (tags ++ (sets ++ (rules ++ demands))));
+      after = ap (λ l. tags ++ (sets ++ (rules ++ l))) (map-append (λ (e : Demand). definition.Demand e.kind e.pattern) d.demands (record { kind = kind; pattern = p } ∷ []))
+          ∙ ap (λ l. tags ++ (sets ++ l)) (sym (append_assoc rules demands more))
+          ∙ ap (λ l. tags ++ l) (sym (append_assoc sets (rules ++ demands) more))
+          ∙ sym (append_assoc tags (sets ++ (rules ++ demands)) more);
+    }
+
+-- ---- atoms and bytes
+
+atoms_inserted : (xs ys : List Definition) (y : Definition) → atoms_in (xs ++ y ∷ ys) ≡ atoms_in (xs ++ ys) + definition_atoms y
+atoms_inserted [] ys y = omega arith
+atoms_inserted (x ∷ xs) ys y = omega (arith, atoms_inserted xs ys y)
+
+pub all_atoms_of : (d : Definitions) (x : Definition) → length d.set_names ≡ length d.sets → length d.rule_names ≡ length d.rules → all_atoms (added d x) ≡ all_atoms d + definition_atoms x
+unfolding all_atoms
+all_atoms_of d x s r =
+    let i = inserted d x s r in
+    ap atoms_in i.after ∙ atoms_inserted i.front i.back x ∙ ap (λ l. atoms_in l + definition_atoms x) (sym i.before)
+
+pub all_atoms-added : (d : Definitions) (x : Definition) → AreDefinitions d → all_atoms (added d x) ≡ all_atoms d + definition_atoms x
+all_atoms-added d x are = all_atoms_of d x are.named_sets are.named_rules
+
+size_inserted : (f : Definition → List ℕ) (xs ys : List Definition) (y : Definition) → lines_size (map f (xs ++ y ∷ ys)) ≡ lines_size (map f (xs ++ ys)) + (length (f y) + 1)
+size_inserted f [] ys y = omega arith
+size_inserted f (x ∷ xs) ys y = omega (arith, size_inserted f xs ys y)
+
+pub knows_sets : (n : ℕ) (x : Definition) → HasParts n x → KnowsSets n x
+knows_sets n (definition.Tag name) h = tt
+knows_sets n (definition.Set name spans) h = tt
+knows_sets n (definition.Rule name contexts) h = h.0.known
+knows_sets n (definition.Demand kind p) h = h.0.known
+
+size_more : (names more : List (List ℕ)) (xs : List Definition) → AllByRecursion (IsDefinition names) xs
+    → lines_size (map (definition_text (names ++ more)) xs) ≡ lines_size (map (definition_text names) xs)
+size_more names more [] all = refl
+size_more names more (x ∷ xs) all =
+    omega (arith, ap length (definition_text-more names more x (knows_sets (length names) x all.0.parts)), size_more names more xs all.1)
+
+pub canonical_size-added : (d : Definitions) (x : Definition) → AreDefinitions d → canonical_size (added d x) ≡ canonical_size d + (length (definition_text d.set_names x) + 1)
+unfolding canonical_size
+canonical_size-added d (definition.Tag name) are =
+    let x = definition.Tag name in
+    let i = inserted d x are.named_sets are.named_rules in
+    let f = definition_text d.set_names in
+    ap (λ l. lines_size (map f l)) i.after ∙ size_inserted f i.front i.back x ∙ ap (λ l. lines_size (map f l) + (length (f x) + 1)) (sym i.before)
+canonical_size-added d (definition.Rule name contexts) are =
+    let x = definition.Rule name contexts in
+    let i = inserted d x are.named_sets are.named_rules in
+    let f = definition_text d.set_names in
+    ap (λ l. lines_size (map f l)) i.after ∙ size_inserted f i.front i.back x ∙ ap (λ l. lines_size (map f l) + (length (f x) + 1)) (sym i.before)
+canonical_size-added d (definition.Demand kind p) are =
+    let x = definition.Demand kind p in
+    let i = inserted d x are.named_sets are.named_rules in
+    let f = definition_text d.set_names in
+    ap (λ l. lines_size (map f l)) i.after ∙ size_inserted f i.front i.back x ∙ ap (λ l. lines_size (map f l) + (length (f x) + 1)) (sym i.before)
+canonical_size-added d (definition.Set name spans) are =
+    let x = definition.Set name spans in
+    let i = inserted d x are.named_sets are.named_rules in
+    let f = definition_text (d.set_names ++ name ∷ []) in
+    ap (λ l. lines_size (map f l)) i.after ∙ size_inserted f i.front i.back x ∙ ap (λ l. lines_size (map f l) + (length (f x) + 1)) (sym i.before)
+    ∙ ap (λ n. n + (length (f x) + 1)) (size_more d.set_names (name ∷ []) (all_definitions d) are.each)
+
+-- ---- the conditions on a further one
+
+-- it has a name that is new, if it has one
+abbrev pub HasNewName : Definitions → Definition → Type 0
+HasNewName d (definition.Tag name) = IsTrue (is_name name) × IsNew name (all_names d)
+HasNewName d (definition.Set name spans) = IsTrue (is_name name) × IsNew name (all_names d)
+HasNewName d (definition.Rule name contexts) = IsTrue (is_name name) × IsNew name (all_names d)
+HasNewName d (definition.Demand kind p) = Unit {0}
+
+-- there is room for a pattern of so many atoms
+abbrev pub HasRoomForPattern : Definitions → Pattern → Type 0
+HasRoomForPattern d p = (length d.rules + length d.demands < 256) × (all_atoms d + atoms p ≤ 4096)
+
+abbrev pub HasRoomFor : Definitions → Definition → Type 0
+HasRoomFor d (definition.Tag name) = length d.tags < 8
+HasRoomFor d (definition.Set name spans) = length d.sets < 256
+HasRoomFor d (definition.Rule name contexts) = HasRoomForPattern d contexts
+HasRoomFor d (definition.Demand kind p) = HasRoomForPattern d p
+
+pub room_for_pattern : (d : Definitions) (p : Pattern) → is_pattern_over_limit d p ≡ false → HasRoomForPattern d p × IsWithin 8 2 p
+room_for_pattern d p e =
+    let many = nat_le 256 (length d.rules + length d.demands) in
+    let deep = nat_lt 8 (groups p) in
+    let starred = nat_lt 2 (stars p) in
+    let a = or_parts (many || deep || starred) (nat_lt 4096 (all_atoms d + atoms p)) e in
+    let b = or_parts (many || deep) starred a.0 in
+    let c = or_parts many deep b.0 in
+    ((leb-false 256 (length d.rules + length d.demands) c.0, ltb-false 4096 (all_atoms d + atoms p) a.1), (ltb-false 8 (groups p) c.1, ltb-false 2 (stars p) b.1))
+
+pub room_for : (d : Definitions) (x : Definition) → is_one_too_many d x ≡ false → HasRoomFor d x
+room_for d (definition.Tag name) e = leb-false 8 (length d.tags) e
+room_for d (definition.Set name spans) e = leb-false 256 (length d.sets) e
+room_for d (definition.Rule name contexts) e = (room_for_pattern d contexts e).0
+room_for d (definition.Demand kind p) e = (room_for_pattern d p e).0
+
+-- ---- no fault
+
+has_parts-more : (m n : ℕ) (x : Definition) → m ≤ n → HasParts m x → HasParts n x
+has_parts-more m n (definition.Tag name) l h = tt
+has_parts-more m n (definition.Set name spans) l h = h
+has_parts-more m n (definition.Rule name contexts) l h =
+    (record { whole = h.0.whole; within = h.0.within; known = known_more m n contexts l h.0.known; classes = h.0.classes }, h.1)
+has_parts-more m n (definition.Demand kind p) l h =
+    (record { whole = h.0.whole; within = h.0.within; known = known_more m n p l h.0.known; classes = h.0.classes }, h.1)
+
+is_definition-more : (names more : List (List ℕ)) (x : Definition) → IsDefinition names x → IsDefinition (names ++ more) x
+is_definition-more names more x is = record {
+  parts = has_parts-more (length names) (length (names ++ more)) x (omega (arith, length-append names more)) is.parts;
+  short = omega (arith, is.short, ap length (definition_text-more names more x (knows_sets (length names) x is.parts)));
+}
+
+each_added : (d : Definitions) (x : Definition) (names : List (List ℕ)) → AreDefinitions d → IsDefinition names x → AllByRecursion (IsDefinition names) (all_definitions d) → AllByRecursion (IsDefinition names) (all_definitions (added d x))
+each_added d x names are is all =
+    let i = inserted d x are.named_sets are.named_rules in
+    let before : AllByRecursion (IsDefinition names) (i.front ++ i.back) = subst (AllByRecursion (IsDefinition names)) i.before all in
+    subst (AllByRecursion (IsDefinition names)) (sym i.after) (all_inserted (IsDefinition names) i.front i.back x is before)
+
+pub are_added : (d : Definitions) (x : Definition) → AreDefinitions d → IsDefinition d.set_names x → HasNewName d x → HasRoomFor d x → AreDefinitions (added d x)
+are_added d (definition.Tag name) are is new room = record {
+  few_tags = omega (arith, length-append d.tags (name ∷ []), room);
+  few_sets = are.few_sets;
+  few_patterns = are.few_patterns;
+  few_atoms = omega (arith, all_atoms-added d (definition.Tag name) are, are.few_atoms);
+  named_sets = are.named_sets;
+  named_rules = are.named_rules;
+  names = subst AreNames (sym (append_assoc d.tags (name ∷ []) (d.set_names ++ d.rule_names))) (names_inserted d.tags (d.set_names ++ d.rule_names) name new.0 new.1 are.names);
+  each = each_added d (definition.Tag name) d.set_names are is are.each;
+}
+are_added d (definition.Set name spans) are is new room = record {
+  few_tags = are.few_tags;
+  few_sets = omega (arith, length-append d.sets (spans ∷ []), room);
+  few_patterns = are.few_patterns;
+  few_atoms = omega (arith, all_atoms-added d (definition.Set name spans) are, are.few_atoms);
+  named_sets = omega (arith, length-append d.sets (spans ∷ []), length-append d.set_names (name ∷ []), are.named_sets);
+  named_rules = are.named_rules;
+  names = let before : all_names d ≡ (d.tags ++ d.set_names) ++ d.rule_names = sym (append_assoc d.tags d.set_names d.rule_names) in
+      let after : (d.tags ++ d.set_names) ++ name ∷ d.rule_names ≡ d.tags ++ ((d.set_names ++ name ∷ []) ++ d.rule_names) =
+      append_assoc d.tags d.set_names (name ∷ d.rule_names) ∙ ap (λ l. d.tags ++ l) (sym (append_assoc d.set_names (name ∷ []) d.rule_names)) in
+      subst AreNames after (names_inserted (d.tags ++ d.set_names) d.rule_names name new.0 (subst (IsNew name) before new.1) (subst AreNames before are.names));
+  each = each_added d (definition.Set name spans) (d.set_names ++ name ∷ []) are (is_definition-more d.set_names (name ∷ []) (definition.Set name spans) is)
+      (all_weaker (IsDefinition d.set_names) (IsDefinition (d.set_names ++ name ∷ [])) (all_definitions d) (is_definition-more d.set_names (name ∷ [])) are.each);
+}
+are_added d (definition.Rule name contexts) are is new room = record {
+  few_tags = are.few_tags;
+  few_sets = are.few_sets;
+  few_patterns = omega (arith, length-append d.rules (contexts ∷ []), room.0);
+  few_atoms = omega (arith, all_atoms-added d (definition.Rule name contexts) are, room.1);
+  named_sets = are.named_sets;
+  named_rules = omega (arith, length-append d.rules (contexts ∷ []), length-append d.rule_names (name ∷ []), are.named_rules);
+  names = let before : all_names d ≡ all_names d ++ [] = sym (append-nil (all_names d)) in
+      let after : all_names d ++ name ∷ [] ≡ d.tags ++ (d.set_names ++ (d.rule_names ++ name ∷ [])) =
+      append_assoc d.tags (d.set_names ++ d.rule_names) (name ∷ []) ∙ ap (λ l. d.tags ++ l) (append_assoc d.set_names d.rule_names (name ∷ [])) in
+      subst AreNames after (names_inserted (all_names d) [] name new.0 (subst (IsNew name) before new.1) (subst AreNames before are.names));
+  each = each_added d (definition.Rule name contexts) d.set_names are is are.each;
+}
+are_added d (definition.Demand kind p) are is new room = record {
+  few_tags = are.few_tags;
+  few_sets = are.few_sets;
+  few_patterns = omega (arith, length-append d.demands (record { kind = kind; pattern = p } ∷ []), room.0);
+  few_atoms = omega (arith, all_atoms-added d (definition.Demand kind p) are, room.1);
+  named_sets = are.named_sets;
+  named_rules = are.named_rules;
+  names = are.names;
+  each = each_added d (definition.Demand kind p) d.set_names are is are.each;
+}
+
+-- ---- how definitions are held
+
+pub nothing_held : (d : Definitions) → d.tags ≡ [] → d.set_names ≡ [] → d.sets ≡ [] → d.rule_names ≡ [] → d.rules ≡ [] → d.demands ≡ [] → d ≡ nothing_defined
+nothing_held d tags set_names sets rule_names rules demands =
+    let e : d ≡ record d { tags = [] } = ap (λ l. record d { tags = l }) tags in
+    e ∙ ap (λ l. record nothing_defined { set_names = l; sets = d.sets; rule_names = d.rule_names; rules = d.rules; demands = d.demands }) set_names
+    ∙ ap (λ l. record nothing_defined { sets = l; rule_names = d.rule_names; rules = d.rules; demands = d.demands }) sets
+    ∙ ap (λ l. record nothing_defined { rule_names = l; rules = d.rules; demands = d.demands }) rule_names
+    ∙ ap (λ l. record nothing_defined { rules = l; demands = d.demands }) rules
+    ∙ ap (λ l. record nothing_defined { demands = l }) demands
+
+-- they have no fault; so many atoms are left, and so many bytes are written
+pub record IsCounted (d : Definitions) (spare bytes : ℕ) : Type 0 where
+  pub without_fault : AreDefinitions d
+  pub left : all_atoms d + spare ≡ 4096
+  pub size : bytes ≡ canonical_size d
+
+pub nothing_counted : IsCounted nothing_defined 4096 0
+unfolding all_atoms canonical_size
+nothing_counted = record {
+  without_fault = record {
+    few_tags = omega arith;
+    few_sets = omega arith;
+    few_patterns = omega arith;
+    few_atoms = omega arith;
+    named_sets = refl;
+    named_rules = refl;
+    names = tt;
+    each = tt;
+  };
+  left = refl;
+  size = refl;
+}
+
+-- one more is counted; `v` is what callers see
+pub counted_more : (d v e : Definitions) (x : Definition) (left less written len : ℕ) → d ≡ v → IsCounted d left written → AreDefinitions (added v x) → len ≡ length (definition_text v.set_names x)
+    → definition_atoms x + less ≡ left → e ≡ added d x → IsCounted e less (written + (len + 1))
+counted_more d v e x left less written len seen held are size fewer is = subst (λ y. IsCounted y less (written + (len + 1))) (sym is) (record {
+  without_fault = subst (λ w. AreDefinitions (added w x)) (sym seen) are;
+  left = omega (arith, all_atoms-added d x held.without_fault, held.left, fewer);
+  size = let text : len ≡ length (definition_text d.set_names x) = size ∙ ap (λ w. length (definition_text w.set_names x)) (sym seen) in
+      omega (arith, canonical_size-added d x held.without_fault, held.size, text);
+})
+
+-- there are atoms left for one more
+pub atoms_are_left : (d v : Definitions) (x : Definition) (left written : ℕ) → d ≡ v → IsCounted d left written → AreDefinitions (added v x) → definition_atoms x ≤ left
+atoms_are_left d v x left written seen held are =
+    let more : AreDefinitions (added d x) = subst (λ w. AreDefinitions (added w x)) (sym seen) are in
+    omega (arith, all_atoms-added d x held.without_fault, held.left, more.few_atoms)
+
+pub some_left : (o : Option ℕ) (n left : ℕ) → MatchOption o (left < n) (λ less. n + less ≡ left) → n ≤ left → IsSome o
+some_left None n left h l = absurd (omega (arith, h, l))
+some_left (Some less) n left h l = refl
+
+pub is_left : (o : Option ℕ) (n left less : ℕ) → MatchOption o (left < n) (λ less. n + less ≡ left) → o ≡ Some less → n + less ≡ left
+is_left None n left less h e = absurd (cc)
+is_left (Some m) n left less h e = let same : m ≡ less = cc in omega (arith, h, same)

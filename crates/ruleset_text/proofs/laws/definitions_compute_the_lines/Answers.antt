@@ -1,0 +1,174 @@
+use Rattle.std.proofs.Common.{refl}
+use Rattle.idn_text.specs.Points.{point_of_hex}
+use Rattle.ruleset_text.specs.Canonical.{point_text}
+use Rattle.ruleset_text.specs.Definitions.{all_atoms, canonical_size, with_definition}
+use Rattle.ruleset_text.specs.Names.{number_of}
+use Rattle.ruleset_text.specs.Reading.{pattern_of}
+use Rattle.ruleset_text.specs.SetNames.{names_on}
+use Rattle.ruleset_text.specs.Spans.{spans_in}
+use Rattle.ruleset_text.specs.Tokens.{tokens_in}
+use Rattle.ruleset_text.proofs.laws.definitions_compute_the_lines.Goals as goal
+
+pub returns-clause-tag : goal.returns-clause-tag
+unfolding with_definition names_on canonical_size all_atoms point_text pattern_of spans_in tokens_in number_of point_of_hex
+returns-clause-tag c = refl
+
+pub returns-clause-capital : goal.returns-clause-capital
+unfolding with_definition names_on canonical_size all_atoms point_text pattern_of spans_in tokens_in number_of point_of_hex
+returns-clause-capital c = refl
+
+pub returns-clause-rule : goal.returns-clause-rule
+unfolding with_definition names_on canonical_size all_atoms point_text pattern_of spans_in tokens_in number_of point_of_hex
+returns-clause-rule c = refl
+
+pub returns-clause-demand : goal.returns-clause-demand
+unfolding with_definition names_on canonical_size all_atoms point_text pattern_of spans_in tokens_in number_of point_of_hex
+returns-clause-demand c = refl
+
+pub returns-clause-no_word : goal.returns-clause-no_word
+unfolding with_definition names_on canonical_size all_atoms point_text pattern_of spans_in tokens_in number_of point_of_hex
+returns-clause-no_word c = refl
+
+pub returns-clause-version : goal.returns-clause-version
+unfolding with_definition names_on canonical_size all_atoms point_text pattern_of spans_in tokens_in number_of point_of_hex
+returns-clause-version c = refl
+
+pub returns-clause-capital_keyword : goal.returns-clause-capital_keyword
+unfolding with_definition names_on canonical_size all_atoms point_text pattern_of spans_in tokens_in number_of point_of_hex
+returns-clause-capital_keyword c = refl
+
+pub returns-clause-blank_in_keyword : goal.returns-clause-blank_in_keyword
+unfolding with_definition names_on canonical_size all_atoms point_text pattern_of spans_in tokens_in number_of point_of_hex
+returns-clause-blank_in_keyword c = refl
+
+pub returns-clause-no_name : goal.returns-clause-no_name
+unfolding with_definition names_on canonical_size all_atoms point_text pattern_of spans_in tokens_in number_of point_of_hex
+returns-clause-no_name c = refl
+
+pub returns-clause-no_span : goal.returns-clause-no_span
+unfolding with_definition names_on canonical_size all_atoms point_text pattern_of spans_in tokens_in number_of point_of_hex
+returns-clause-no_span c = refl
+
+pub returns-clause-falling : goal.returns-clause-falling
+unfolding with_definition names_on canonical_size all_atoms point_text pattern_of spans_in tokens_in number_of point_of_hex
+returns-clause-falling c = refl
+
+pub returns-clause-touching : goal.returns-clause-touching
+unfolding with_definition names_on canonical_size all_atoms point_text pattern_of spans_in tokens_in number_of point_of_hex
+returns-clause-touching c = refl
+
+pub returns-clause-turned : goal.returns-clause-turned
+unfolding with_definition names_on canonical_size all_atoms point_text pattern_of spans_in tokens_in number_of point_of_hex
+returns-clause-turned c = refl
+
+pub returns-clause-set_in_set : goal.returns-clause-set_in_set
+unfolding with_definition names_on canonical_size all_atoms point_text pattern_of spans_in tokens_in number_of point_of_hex
+returns-clause-set_in_set c = refl
+
+pub returns-clause-two_digits : goal.returns-clause-two_digits
+unfolding with_definition names_on canonical_size all_atoms point_text pattern_of spans_in tokens_in number_of point_of_hex
+returns-clause-two_digits c = refl
+
+pub returns-clause-digit_first : goal.returns-clause-digit_first
+unfolding with_definition names_on canonical_size all_atoms point_text pattern_of spans_in tokens_in number_of point_of_hex
+returns-clause-digit_first c = refl
+
+pub returns-clause-hyphen : goal.returns-clause-hyphen
+unfolding with_definition names_on canonical_size all_atoms point_text pattern_of spans_in tokens_in number_of point_of_hex
+returns-clause-hyphen c = refl
+
+pub returns-clause-no_tag : goal.returns-clause-no_tag
+unfolding with_definition names_on canonical_size all_atoms point_text pattern_of spans_in tokens_in number_of point_of_hex
+returns-clause-no_tag c = refl
+
+pub returns-clause-two_tags : goal.returns-clause-two_tags
+unfolding with_definition names_on canonical_size all_atoms point_text pattern_of spans_in tokens_in number_of point_of_hex
+returns-clause-two_tags c = refl
+
+pub returns-clause-long_name : goal.returns-clause-long_name
+unfolding with_definition names_on canonical_size all_atoms point_text pattern_of spans_in tokens_in number_of point_of_hex
+returns-clause-long_name c = refl
+
+pub returns-clause-no_place : goal.returns-clause-no_place
+unfolding with_definition names_on canonical_size all_atoms point_text pattern_of spans_in tokens_in number_of point_of_hex
+returns-clause-no_place c = refl
+
+pub returns-clause-two_places : goal.returns-clause-two_places
+unfolding with_definition names_on canonical_size all_atoms point_text pattern_of spans_in tokens_in number_of point_of_hex
+returns-clause-two_places c = refl
+
+pub returns-clause-no_context : goal.returns-clause-no_context
+unfolding with_definition names_on canonical_size all_atoms point_text pattern_of spans_in tokens_in number_of point_of_hex
+returns-clause-no_context c = refl
+
+pub returns-clause-rule_range : goal.returns-clause-rule_range
+unfolding with_definition names_on canonical_size all_atoms point_text pattern_of spans_in tokens_in number_of point_of_hex
+returns-clause-rule_range c = refl
+
+pub returns-clause-rule_sequence : goal.returns-clause-rule_sequence
+unfolding with_definition names_on canonical_size all_atoms point_text pattern_of spans_in tokens_in number_of point_of_hex
+returns-clause-rule_sequence c = refl
+
+pub returns-clause-no_pattern : goal.returns-clause-no_pattern
+unfolding with_definition names_on canonical_size all_atoms point_text pattern_of spans_in tokens_in number_of point_of_hex
+returns-clause-no_pattern c = refl
+
+pub returns-clause-place : goal.returns-clause-place
+unfolding with_definition names_on canonical_size all_atoms point_text pattern_of spans_in tokens_in number_of point_of_hex
+returns-clause-place c = refl
+
+pub returns-clause-word : goal.returns-clause-word
+unfolding with_definition names_on canonical_size all_atoms point_text pattern_of spans_in tokens_in number_of point_of_hex
+returns-clause-word c = refl
+
+pub returns-clause-first_branch : goal.returns-clause-first_branch
+unfolding with_definition names_on canonical_size all_atoms point_text pattern_of spans_in tokens_in number_of point_of_hex
+returns-clause-first_branch c = refl
+
+pub returns-clause-groups : goal.returns-clause-groups
+unfolding with_definition names_on canonical_size all_atoms point_text pattern_of spans_in tokens_in number_of point_of_hex
+returns-clause-groups c = refl
+
+pub returns-clause-stars : goal.returns-clause-stars
+unfolding with_definition names_on canonical_size all_atoms point_text pattern_of spans_in tokens_in number_of point_of_hex
+returns-clause-stars c = refl
+
+pub returns-clause-limit_before_name : goal.returns-clause-limit_before_name
+unfolding with_definition names_on canonical_size all_atoms point_text pattern_of spans_in tokens_in number_of point_of_hex
+returns-clause-limit_before_name c = refl
+
+pub returns-clause-unknown : goal.returns-clause-unknown
+unfolding with_definition names_on canonical_size all_atoms point_text pattern_of spans_in tokens_in number_of point_of_hex
+returns-clause-unknown c = refl
+
+pub returns-clause-no_set : goal.returns-clause-no_set
+unfolding with_definition names_on canonical_size all_atoms point_text pattern_of spans_in tokens_in number_of point_of_hex
+returns-clause-no_set c = refl
+
+pub returns-clause-second : goal.returns-clause-second
+unfolding with_definition names_on canonical_size all_atoms point_text pattern_of spans_in tokens_in number_of point_of_hex
+returns-clause-second c = refl
+
+pub returns-clause-name_before_class : goal.returns-clause-name_before_class
+unfolding with_definition names_on canonical_size all_atoms point_text pattern_of spans_in tokens_in number_of point_of_hex
+returns-clause-name_before_class c = refl
+
+pub returns-clause-same_tag : goal.returns-clause-same_tag
+unfolding with_definition names_on canonical_size all_atoms point_text pattern_of spans_in tokens_in number_of point_of_hex
+returns-clause-same_tag c = refl
+
+pub returns-clause-set_as_tag : goal.returns-clause-set_as_tag
+unfolding with_definition names_on canonical_size all_atoms point_text pattern_of spans_in tokens_in number_of point_of_hex
+returns-clause-set_as_tag c = refl
+
+pub returns-clause-rule_as_tag : goal.returns-clause-rule_as_tag
+unfolding with_definition names_on canonical_size all_atoms point_text pattern_of spans_in tokens_in number_of point_of_hex
+returns-clause-rule_as_tag c = refl
+
+pub returns-clause-rule_again : goal.returns-clause-rule_again
+unfolding with_definition names_on canonical_size all_atoms point_text pattern_of spans_in tokens_in number_of point_of_hex
+returns-clause-rule_again c = refl
+
+pub returns-clause-set_as_rule : goal.returns-clause-set_as_rule
+unfolding with_definition names_on canonical_size all_atoms point_text pattern_of spans_in tokens_in number_of point_of_hex
+returns-clause-set_as_rule c = refl

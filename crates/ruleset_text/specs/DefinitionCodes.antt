@@ -1,0 +1,117 @@
+-- Codes of what is defined, by which the values of definitions are told apart.
+use Rattle.std.specs.Prelude.{◌≡◌, ℕ, ◌==◌, Bool, true, false, List, [], ◌∷◌, ◌++◌, if◌then◌else◌, refl}
+use Rattle.std.specs.Coded.{Coded, code_by, coded×, coded_ℕ, coded_bool, coded_list}
+use Rattle.std.proofs.Common.{sym, ap, ◌∙◌, append_assoc, append-nil}
+use Rattle.label_patterns.specs.declared.span.Span.{Span}
+use Rattle.label_patterns.specs.Patterns.{Pattern, Point, Set, Any, Start, End, Place, Group, Optional, Many, Then, Either}
+use Rattle.ruleset_text.specs.declared.definition.DemandKind.{DemandKind}
+use Rattle.ruleset_text.specs.declared.definition.DemandKind.TheVariants.{Never, Always}
+use Rattle.ruleset_text.specs.Definitions.{Demand, Definitions}
+
+-- ---- patterns, each part before what it is a part of
+
+abbrev pub numbers : Pattern → List (ℕ × ℕ)
+numbers (Point c) = (0, c) ∷ []
+numbers (Set n) = (1, n) ∷ []
+numbers Any = (2, 0) ∷ []
+numbers Start = (3, 0) ∷ []
+numbers End = (4, 0) ∷ []
+numbers Place = (5, 0) ∷ []
+numbers (Group p) = numbers p ++ (6, 0) ∷ []
+numbers (Optional p) = numbers p ++ (7, 0) ∷ []
+numbers (Many p) = numbers p ++ (8, 0) ∷ []
+numbers (Then p q) = numbers p ++ (numbers q ++ (9, 0) ∷ [])
+numbers (Either p q) = numbers p ++ (numbers q ++ (10, 0) ∷ [])
+
+abbrev pub with_one : (Pattern → Pattern) → List Pattern → List Pattern
+with_one f [] = []
+with_one f (p ∷ parts) = f p ∷ parts
+
+abbrev pub with_two : (Pattern → Pattern → Pattern) → List Pattern → List Pattern
+with_two f (q ∷ p ∷ parts) = f p q ∷ parts
+with_two f parts = []
+
+-- the parts so far, the last one first, with what a number adds
+abbrev pub with_number : ℕ → ℕ → List Pattern → List Pattern
+with_number kind n parts =
+    if kind == 0 then Point n ∷ parts else
+    if kind == 1 then Set n ∷ parts else
+    if kind == 2 then Any ∷ parts else
+    if kind == 3 then Start ∷ parts else
+    if kind == 4 then End ∷ parts else
+    if kind == 5 then Place ∷ parts else
+    if kind == 6 then with_one Group parts else
+    if kind == 7 then with_one Optional parts else
+    if kind == 8 then with_one Many parts else
+    if kind == 9 then with_two Then parts else with_two Either parts
+
+abbrev pub with_numbers : List (ℕ × ℕ) → List Pattern → List Pattern
+with_numbers [] parts = parts
+with_numbers ((kind, n) ∷ numbers) parts = with_numbers numbers (with_number kind n parts)
+
+abbrev pub last_part : List Pattern → Pattern
+last_part [] = Any
+last_part (p ∷ parts) = p
+
+pub parts_back : (p : Pattern) (rest : List (ℕ × ℕ)) (parts : List Pattern) → with_numbers (numbers p ++ rest) parts ≡ with_numbers rest (p ∷ parts)
+parts_back (Point c) rest parts = refl
+parts_back (Set n) rest parts = refl
+parts_back Any rest parts = refl
+parts_back Start rest parts = refl
+parts_back End rest parts = refl
+parts_back Place rest parts = refl
+parts_back (Group p) rest parts = ap (λ l. with_numbers l parts) (append_assoc (numbers p) ((6, 0) ∷ []) rest) ∙ parts_back p ((6, 0) ∷ rest) parts
+parts_back (Optional p) rest parts = ap (λ l. with_numbers l parts) (append_assoc (numbers p) ((7, 0) ∷ []) rest) ∙ parts_back p ((7, 0) ∷ rest) parts
+parts_back (Many p) rest parts = ap (λ l. with_numbers l parts) (append_assoc (numbers p) ((8, 0) ∷ []) rest) ∙ parts_back p ((8, 0) ∷ rest) parts
+parts_back (Then p q) rest parts =
+    ap (λ l. with_numbers l parts) (append_assoc (numbers p) (numbers q ++ (9, 0) ∷ []) rest)
+    ∙ parts_back p ((numbers q ++ (9, 0) ∷ []) ++ rest) parts
+    ∙ ap (λ l. with_numbers l (p ∷ parts)) (append_assoc (numbers q) ((9, 0) ∷ []) rest)
+    ∙ parts_back q ((9, 0) ∷ rest) (p ∷ parts)
+parts_back (Either p q) rest parts =
+    ap (λ l. with_numbers l parts) (append_assoc (numbers p) (numbers q ++ (10, 0) ∷ []) rest)
+    ∙ parts_back p ((numbers q ++ (10, 0) ∷ []) ++ rest) parts
+    ∙ ap (λ l. with_numbers l (p ∷ parts)) (append_assoc (numbers q) ((10, 0) ∷ []) rest)
+    ∙ parts_back q ((10, 0) ∷ rest) (p ∷ parts)
+
+pub pattern_back : (p : Pattern) → last_part (with_numbers (numbers p) []) ≡ p
+pattern_back p = ap (λ l. last_part (with_numbers l [])) (sym (append-nil (numbers p))) ∙ ap last_part (parts_back p [] [])
+
+abbrev pub pattern_code : Coded Pattern
+pattern_code = code_by (List (ℕ × ℕ)) (coded_list (coded× coded_ℕ coded_ℕ)) numbers (λ l. last_part (with_numbers l [])) pattern_back
+
+-- ---- spans and demands
+
+abbrev pub span_code : Coded Span
+span_code = code_by (ℕ × ℕ) (coded× coded_ℕ coded_ℕ) (λ s. (s.first, s.last)) (λ p. record { first = p.0; last = p.1 }) (λ _. refl)
+
+abbrev pub is_never : DemandKind → Bool
+is_never Never = true
+is_never Always = false
+
+abbrev pub kind_from : Bool → DemandKind
+kind_from true = Never
+kind_from false = Always
+
+pub kind_back : (kind : DemandKind) → kind_from (is_never kind) ≡ kind
+kind_back Never = refl
+kind_back Always = refl
+
+abbrev pub kind_code : Coded DemandKind
+kind_code = code_by Bool coded_bool is_never kind_from kind_back
+
+abbrev pub demand_code : Coded Demand
+demand_code = code_by (DemandKind × Pattern) (coded× kind_code pattern_code) (λ d. (d.kind, d.pattern)) (λ p. record { kind = p.0; pattern = p.1 }) (λ _. refl)
+
+-- ---- all definitions
+
+abbrev pub names_code : Coded (List (List ℕ))
+names_code = coded_list (coded_list coded_ℕ)
+
+abbrev pub definitions_code : Coded Definitions
+definitions_code =
+    code_by (List (List ℕ) × (List (List ℕ) × (List (List Span) × (List (List ℕ) × (List Pattern × List Demand)))))
+    (coded× names_code (coded× names_code (coded× (coded_list (coded_list span_code)) (coded× names_code (coded× (coded_list pattern_code) (coded_list demand_code))))))
+    (λ d. (d.tags, (d.set_names, (d.sets, (d.rule_names, (d.rules, d.demands))))))
+    (λ t. record { tags = t.0; set_names = t.1.0; sets = t.1.1.0; rule_names = t.1.1.1.0; rules = t.1.1.1.1.0; demands = t.1.1.1.1.1 })
+    (λ _. refl)

@@ -1,0 +1,16 @@
+-- Definitions that lines of examples stand behind.
+use Rattle.std.specs.Prelude.{[], ◌∷◌, codes}
+use Rattle.label_patterns.specs.Patterns as patterns
+use Rattle.ruleset_text.specs.Definitions.{Definitions}
+use Rattle.ruleset_text.specs.Spans.{span}
+
+-- the tags t and v; the set A, which is a; the rule r, which holds before b
+abbrev pub some_defined : Definitions
+some_defined = record {
+  tags = codes "t" ∷ codes "v" ∷ [];
+  set_names = codes "A" ∷ [];
+  sets = (span 97 97 ∷ []) ∷ [];
+  rule_names = codes "r" ∷ [];
+  rules = patterns.Then patterns.Place (patterns.Point 98) ∷ [];
+  demands = [];
+}

@@ -1,0 +1,97 @@
+//! What a line defines.
+ghost use Rattle.std.specs.Prelude.{◌≡◌, ◌++◌, IfOk, OnOk};
+ghost use Rattle.ruleset_text.specs.Canonical.{definition_text};
+ghost use Rattle.ruleset_text.specs.Definition as words;
+ghost use Rattle.ruleset_text.specs.Definitions as definitions;
+ghost use Rattle.ruleset_text.specs.DefinitionTrees as trees;
+
+use crate::canonical::{push_byte, push_bytes, push_pattern, push_spans};
+use crate::classes::{has_bad_end, has_bad_point};
+use crate::limits::has_its_sets;
+use crate::names::Name;
+use label_patterns::{PatternTree, PointSet};
+use std::alloc::{AllocError, Global};
+
+/// What a demand asks of each label.
+#[derive(Clone, Copy, Debug, PartialEq, Eq)]
+pub enum DemandKind {
+    /// No part of it matches the pattern.
+    Never,
+    /// Some part of it does.
+    Always,
+}
+
+/// What a line defines. The sets of a pattern go by their number.
+#[derive(Drop)]
+pub enum Definition {
+    Tag(Name),
+    Set(Name, PointSet),
+    Rule(Name, PatternTree),
+    Demand(DemandKind, PatternTree),
+}
+
+/// Appends the canonical line of a definition, without its line feed. The sets of a pattern have these names.
+pub fn push_definition(
+    out: &mut Vec<u8>,
+    sets: &[Name],
+    definition: &Definition,
+) -> Result<(), AllocError>
+    ensures { OnOk result (out.new.items ≡ out.old.items ++ definition_text sets.now (trees.definition definition.now)) }
+{
+    match definition {
+        Definition::Tag(name) => {
+            push_bytes(out, b"%tag ")?;
+            push_bytes(out, name.as_slice())
+        }
+        Definition::Set(name, set) => {
+            push_bytes(out, b"%set ")?;
+            push_bytes(out, name.as_slice())?;
+            push_spans(out, set)
+        }
+        Definition::Rule(name, contexts) => {
+            push_bytes(out, b"%rule ")?;
+            push_bytes(out, name.as_slice())?;
+            push_byte(out, b' ')?;
+            push_pattern(out, sets, contexts)
+        }
+        Definition::Demand(kind, pattern) => {
+            push_bytes(out, demand_word(*kind))?;
+            push_byte(out, b' ')?;
+            push_pattern(out, sets, pattern)
+        }
+    }
+}
+
+/// The keyword of a demand.
+fn demand_word(kind: DemandKind) -> &'static [u8]
+    ensures { result.now ≡ words.demand_word kind }
+{
+    match kind {
+        DemandKind::Never => b"%never",
+        DemandKind::Always => b"%always",
+    }
+}
+
+/// Whether each set that its pattern names is one of the first `count`.
+pub fn has_known_sets(definition: &Definition, count: usize) -> bool
+    ensures { result ≡ definitions.has_known_sets count (trees.definition definition.now) }
+{
+    match definition {
+        Definition::Tag(_) => true,
+        Definition::Set(_, _) => true,
+        Definition::Rule(_, contexts) => has_its_sets(contexts, count),
+        Definition::Demand(_, pattern) => has_its_sets(pattern, count),
+    }
+}
+
+/// Whether a code point is written in it whose class no label can have.
+pub fn has_bad_class(alloc: Global, definition: &Definition) -> Result<bool, AllocError>
+    ensures { IfOk result (λ bad. bad ≡ definitions.has_bad_class (trees.definition definition.now)) }
+{
+    match definition {
+        Definition::Tag(_) => Ok(false),
+        Definition::Set(_, set) => has_bad_end(alloc, set),
+        Definition::Rule(_, contexts) => has_bad_point(alloc, contexts),
+        Definition::Demand(_, pattern) => has_bad_point(alloc, pattern),
+    }
+}
