@@ -33,8 +33,8 @@ pub use fault::DefinitionFault;
 pub use keyword::{Keyword, keyword_of};
 pub use laws::{
     canonical_entries_are_read_back, canonical_lines_are_read_back, canonical_text_is_read_back,
-    definitions_compute_the_examples, definitions_compute_the_lines, reading_a_pattern_is_exact,
-    what_lines_define_has_no_fault,
+    definitions_compute_the_entries, definitions_compute_the_examples,
+    definitions_compute_the_lines, reading_a_pattern_is_exact, what_lines_define_has_no_fault,
 };
 pub use lexemes::next_lexeme;
 pub use limits::{has_its_sets, is_within, without_atoms};
