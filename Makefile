@@ -12,7 +12,8 @@ DIST ?= dist
 LANES ?= $(shell awk -v processors="$$(nproc)" '/MemAvailable/ { lanes = int($$2 / 3000000) } \
     END { print (lanes < 1 ? 1 : lanes < processors ? lanes : processors) }' /proc/meminfo)
 
-.PHONY: all try run test wrong-bodies install program-name dist check-tables bench conformance fuzz clean
+.PHONY: all try run test test-crate wrong-bodies install program-name dist check-tables bench conformance fuzz \
+    class-table changed-answers clean
 
 # Proves every function that the program uses, the first time with several crates at once, and builds and tries the program.
 all:
@@ -31,6 +32,16 @@ try:
 # The gate: proves everything from nothing, tries the wrong bodies, runs the programs and the tests.
 test:
 	RT=$(RT) tests/gate
+
+# One crate while you work on it: proves what changed in it, tries its wrong bodies, and runs the tests of what is called
+# from outside, without proving these: make test-crate CRATE=idn_label
+test-crate:
+	@test -d 'crates/$(CRATE)/src' || { echo 'CRATE names no folder of crates/: make test-crate CRATE=idn_label' >&2; exit 2; }
+	python3 tests/edits.py
+	python3 tests/layers.py
+	cd crates/$(CRATE) && $(RT) check
+	$(RT) must-fail $(CRATE)
+	cd crates/idn2_rows && $(RT) try --test
 
 # The wrong bodies that the gate leaves out, of all crates or of those that CRATES names.
 wrong-bodies:
@@ -74,10 +85,12 @@ dist:
 check-tables: all
 	for table in tables/*.txt; do $(PROGRAM) --check-table $$table || exit 1; done
 
-# Times the program against libidn2's, and prints one table of ratios. Then what a million registered labels take.
+# Times the program against libidn2's, and prints one table of ratios. Then what a million registered labels take, and
+# what one of what a limit bounds takes at worst.
 bench: all
 	python3 bench/bench.py
 	python3 bench/collisions.py
+	python3 bench/limits.py
 
 # Compares the program with libidn2, with a second writing of the rules and of the table notation, and with Unicode's
 # IDNA test file where IDNA_TEST_FILE names it.
@@ -91,6 +104,15 @@ conformance: all
 SECONDS := 60
 fuzz: all
 	python3 conformance/fuzz.py --seconds $(SECONDS)
+
+# For a new version of Unicode (docs/UNICODE.md): the tables of idn_class from the kit's; and the labels that another
+# program answers otherwise: make changed-answers OLD=PROGRAM [LABELS=FILE] [MODE=register|lookup|decode]
+class-table:
+	cd crates/idn_class_table && $(RT) run > stdout && cp stdout ../idn_class/src/class_table.rt
+
+MODE := register
+changed-answers:
+	python3 conformance/changed_answers.py --mode $(MODE) $(OLD) $(PROGRAM) $(LABELS)
 
 clean:
 	rm -rf crates/*/out dist

@@ -50,7 +50,7 @@ EDGES = [
 ]
 
 VERSION_LINES = [b"%version 2\n", b"%version 2\r\n"]
-# Behind a version line, where each text of EDGES is tried, too.
+# After a version line, where each text of EDGES is tried, too.
 EDGES_OF_VERSION_2 = [
     b"0061..0063\n", b"0061..0061\n", b" U+0061 .. 0063 \r\n", b"0061 . . 0063\n", b"0061...0063\n", b"0061.0063\n",
     b"0061..\n", b"..0061\n", b"0063..0061\n", b"0061..0062..0063\n", b"0061-0062..0063\n", b"0061..0062-0063\n",

@@ -46,7 +46,7 @@ WORDS = ["-l", "--lookup", "-r", "--register", "-d", "--decode", "-N", "--tr46nt
 
 
 LIMITS = ("1", "2", "3", "7")
-# Where ranges begin: the three code points behind each are letters or digits, too.
+# Where ranges begin: the three code points after each are letters or digits, too.
 RANGES = (0x30, 0x61, 0x62, 0x6B, 0xDF, 0x0430, 0x05D0, 0x0627, 0x0660, 0x06F0, 0x4E2D, 0x56FD)
 VERSION_LINE = "%version 2"
 FAULTY_LINES = ("0061|", "0041", "0061-0061-0061|0061-0061-0061", VERSION_LINE, "%version 3", "%", "0063..0061", "!0061|0062",
@@ -177,7 +177,7 @@ class Fuzz:
         return [name + self.chance.choice(values[name]) for name in values if self.chance.random() < 0.4]
 
     def sources(self, entries, longest):
-        """Some sources of a table, one behind the other: what a label is made of."""
+        """Some sources of a table, one after the other: what a label is made of."""
         return self.chance.choices(list(entries), k=self.chance.randint(1, longest))
 
     def requested(self, entries):

@@ -43,7 +43,7 @@ class LibIdn2:
         error = call(ctypes.byref(output))
         if error:
             return None, self.library.idn2_strerror_name(error).decode()
-        # A call of libidn2 can succeed and leave bytes behind that are no UTF-8.
+        # A call of libidn2 can succeed and leave bytes that are no UTF-8.
         text = ctypes.string_at(output.value).decode("utf-8", "backslashreplace")
         self.library.idn2_free(output)
         return text, None

@@ -61,7 +61,7 @@ def any_label(chance, points):
 
 
 def joiner_label(chance, points):
-    """A joiner behind a virama, or between letters and transparent marks of some joining types."""
+    """A joiner after a virama, or between letters and transparent marks of some joining types."""
     if chance.random() < 0.4:
         before = chance.choice("\u0915\u0b95\u0f40a") + chance.choice(points.viramas)
         return before + chance.choice(JOINERS) + chance.choice(("", "\u0915", "a"))

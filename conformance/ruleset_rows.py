@@ -49,7 +49,7 @@ LISTINGS = [
     (BLOCKED_CONSONANT, [
         ([], "का", "का xn--11b6f allocatable, #end 1"),
         ([], "कख", "अख xn--l1b8a blocked, कख xn--11bc allocatable, #end 2")]),
-    # What stands behind.
+    # What stands after it.
     (LEADING_VOWELS, [([], "เก", "เก xn--12c9j allocatable, #end 1"), ([], "กเ", 41), ([], "เเก", 41)]),
     # Both sides, ends of a label, alternatives.
     ("%rule dot 006C _ 006C\n0061..007A\n00B7 when dot\n", [
@@ -169,7 +169,7 @@ CHECKS = [
     (("#" * 8191 + "\n") * 1023 + "#" * 8180 + "\n", "#table 0 0\n"),
 ]
 
-# Definitions that the lines of the next three stand behind, which so are on line 6.
+# Definitions that the lines of the next three stand after, which so are on line 6.
 DEFINED = "%tag t\n%tag v\n%set A 0061\n%rule r _ 0062\n"
 OF_NO_FORM = [
     "%set C", "%set C 0062 0061", "%set C 0061..0063 0063", "%set C 0063..0061", "%set C @A", "%set C 61", "%set 9c 0061",

@@ -95,7 +95,7 @@ COLLISIONS = [
     (TWO_TO_THE_62, "abba\nabc\nbac\nc\nzoo\n", [], "a" * 62 + "\n", ("#end 0\n", "", 0)),
     (GERMAN, "haus\n", ["--tries", "5"], "haus\n", ("", "idn2: 50 usage\n", 2)),
     (GERMAN, None, [], "haus\n", ("", "idn2: 60 read fault\n", 3)),
-    # A faulty table is told of behind the registered labels, and a file that isn't there before both.
+    # A faulty table is told of after the registered labels, and a file that isn't there before both.
     ("0061|\n", "b\na\n", [], "a\n", refused_at(2, "4 out of order")),
     ("0061|\n", None, [], "a\n", ("", "idn2: 60 read fault\n", 3)),
     # The first fault of a line comes before its place.
@@ -117,7 +117,7 @@ JUMPS = [
     (GERMAN, "sss\tt", "ßs"),
     (GERMAN, "sss\tßs", "ßs"),
     (GERMAN, "sss\tßt", "#end"),
-    # The text begins behind the first tab, and another one is less than any letter.
+    # The text begins after the first tab, and another one is less than any letter.
     (GERMAN, "sss\t\tz", "sss"),
     (GERMAN, "sss\tsss\t", "sß"),
     # What is spelled needn't be registrable: two hyphens stand third and fourth.

@@ -33,7 +33,7 @@ def main():
 
 
 def runs_of(entries):
-    """Runs of code points one behind the other without variants; any other entry by itself."""
+    """Runs of code points one after the other without variants; any other entry by itself."""
     runs = []
     for entry in entries:
         last = runs[-1][-1] if runs else None

@@ -93,7 +93,7 @@ FAULTS = (
 
 # (table, lines, answers, messages): jumps.
 JUMPS = (
-    # Below all, at one of them, between two, behind all; and without a tab or a text.
+    # Below all, at one of them, between two, above all; and without a tab or a text.
     (GERMAN, "sss\tabc\nsss\tsss\nsss\tssz\nsss\tsß\nsss\tßs\nsss\tßsa\nsss\tüber\n",
      "sss\nsss\nsß\nsß\nßs\n#end\n#end\n", ""),
     (GERMAN, "sss\nsss\t\nsss\r\nsss\t\r\n", "sss\nsss\nsss\nsss\n", ""),
@@ -331,7 +331,7 @@ class Partner:
 
 
 class Database:
-    """Registered labels behind an index in byte order, and the collisions that jumps find by it."""
+    """Registered labels with an index in byte order, and the collisions that jumps find by it."""
 
     def __init__(self, labels):
         self.labels = sqlite3.connect(":memory:")

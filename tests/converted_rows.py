@@ -53,7 +53,7 @@ ROWS = [
     ("a context of a range, the other way round", char("0061") + '<range first-cp="0062" last-cp="0063" not-when="r"/>',
      rule(BEHIND_A), ["%rule r 0061 _", "0061", "0062..0063 unless r"],
      {"ba": "ba", "ab": "invalid", "bc": "bc", "abc": "invalid", "bac": "invalid"}),
-    ("a context behind", ABC.replace('"0062"', '"0062" when="r"'),
+    ("a context after", ABC.replace('"0062"', '"0062" when="r"'),
      rule('<anchor/><look-ahead><char cp="0063"/><end/></look-ahead>'),
      ["%rule r _ 0063 $", "0061", "0062 when r", "0063"], {"bc": "bc", "bca": "invalid", "abc": "abc", "b": "invalid"}),
     ("both sides of a sequence", char("0061") + char("0062 0063", when="r"),
@@ -368,7 +368,7 @@ def many_entries():
 
 
 def long_set():
-    """Those of a ruleset with a class that has no two code points one behind the other, and takes more than a line."""
+    """Those of a ruleset with a class that has no two code points one after the other, and takes more than a line."""
     points = " ".join(f"{point:04X}" for point in range(0x4E00, 0x5C00, 2))
     return ('<range first-cp="4E00" last-cp="5BFF"/><char cp="0061" when="r"/>',
             f'<class name="many">{points}</class>' + rule('<look-behind><class by-ref="many"/></look-behind><anchor/>'))

@@ -345,7 +345,7 @@ def takes_a_full_disk_for_unknown(kit):
 
 @in_each_setting
 def takes_a_lost_program_for_unknown(kit):
-    """The program is killed, or fails, behind the first bytes of its answer."""
+    """The program is killed, or fails, after the first bytes of its answer."""
     kit.write("registered.txt", "maß\n")
     kit.write("names.txt", "maß\nabc\n")
     kit.write("keys.txt", "xn--fiqs8s\n")
@@ -366,7 +366,7 @@ def takes_a_lost_program_for_unknown(kit):
 
 @in_each_setting
 def takes_a_lost_end_of_the_lines_for_unknown(kit):
-    """What goes to awk is cut behind some lines."""
+    """What goes to awk is cut after some lines."""
     kit.write("registered.txt", "haus\nmaß\nlaus\n")
     for count in range(5):
         kit.instead_of("awk", f"#!/bin/sh\nhead -n {count} | {shutil.which('awk')} \"$@\"\n")
@@ -474,7 +474,7 @@ def answers_of_a_database_no_more_than_is_known(kit):
     with open("/dev/full", "wb") as full:
         _, message, status = kit.run(*ask, given=b"haus\n", stdout=full)
         assert status == NOT_KNOWN and message, (message, status)
-    # Each label takes two jumps, and the program ends behind some.
+    # Each label takes two jumps, and the program ends after some.
     part = "#!/bin/sh\ncase $* in *--jump*) sed -u {0}q | {1} \"$@\" ;; *) exec {1} \"$@\" ;; esac\n"
     for count, answers in ((1, b""), (2, b"free\n"), (3, b"free\n")):
         kit.instead_of("idn2", part.format(count, PROGRAM))
@@ -646,7 +646,7 @@ def pages_through_a_listing(kit):
 
 @in_each_setting
 def pages_through_a_listing_though_runs_are_killed(kit):
-    """Each second run is killed: before the page has its name, behind that, or in the middle of the page."""
+    """Each second run is killed: before the page has its name, after that, or in the middle of the page."""
     kit.write("hyphens.txt", "0061|002D\n")
     move = shutil.which("mv")
     for turn in range(30):

@@ -195,7 +195,7 @@ def stopped_at(case, is_of_output, number):
 
 
 def each_byte_of_the_output_is_refused(folder):
-    """The bytes before it stand, with the messages of the lines before its own; and nothing is written behind it."""
+    """The bytes before it stand, with the messages of the lines before its own; and nothing is written after it."""
     def wanted(case, number):
         output, messages = stopped_at(case, True, number)
         return [(output, messages + WRITE_FAULT, 3)]
@@ -370,7 +370,7 @@ def reads_registered_labels_from_anywhere(folder):
 
 
 def refuses_registered_labels_by_their_line(folder):
-    """The first line that is wrong, also the last one, and one behind many: nothing is answered."""
+    """The first line that is wrong, also the last one, and one after many: nothing is answered."""
     words = ["--variants", table_file(folder, DOUBLED), "--among", os.path.join(folder, "registered.txt"), "aa"]
     many = block_of_labels(3)
     for text, fault in (
@@ -488,7 +488,7 @@ def collides_in_pages_as_at_once(folder):
 
 
 def pages(words, label):
-    """The lines of a listing that is stopped again and again, and its trailers: each run begins behind the last stop."""
+    """The lines of a listing that is stopped again and again, and its trailers: each run begins after the last stop."""
     lines, trailers = [], [b"#stop 0 "]
     while trailers[-1].startswith(b"#stop "):
         start = trailers[-1].split(b" ", 2)[2].decode()

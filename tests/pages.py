@@ -12,10 +12,11 @@ import shutil
 import subprocess
 import sys
 
-from program import LIMIT, ROOT, TABLES, expect, manual_blocks, run, run_tests, sessions_of
+from program import LIMIT, PROGRAM, ROOT, TABLES, expect, manual_blocks, run, run_tests, sessions_of, text_of
 
 sys.path += [os.path.join(ROOT, "conformance"), os.path.join(ROOT, "tables")]
 
+import quoted
 import rules
 from kit_data import Kit
 from profile_figures import Figures
@@ -56,11 +57,6 @@ SAID_BY_SHORT_FORMS = {"--lookup", "--register", "--decode", "--tr46nt"}
 # A path below the top of the repository, or a document at its top.
 PATH = re.compile(r"(?<![\w/.-])((?:docs|tables|completions|conformance|crates|tests|bench)/[\w./-]*|[A-Z]+\.md)(?!\w)")
 BUILT = re.compile(r"crates/\w+/out/.*")
-
-
-def text_of(*parts):
-    with open(os.path.join(ROOT, *parts), encoding="utf-8") as file:
-        return file.read()
 
 
 def folded(text):
@@ -283,11 +279,11 @@ def number_in(file, name):
 
 
 def reads_as_much_of_a_file_as_can_matter(folder):
-    """Of a file of registered labels that is too long, a whole line behind the last byte that it may have. Else it
+    """Of a file of registered labels that is too long, a whole line after the last byte that it may have. Else it
     could be cut where a line ends, and be taken for a shorter one. A file of that size is tried by hand."""
     most = number_in("crates/registered_labels/src/labels.rt", "MAX_TEXT_LEN")
     line = number_in("crates/idn_text/src/body.rt", "MAX_LINE_LEN")
-    # Two line feeds: that behind the last byte, and that of the line behind it.
+    # Two line feeds: that after the last byte, and that of the line after it.
     assert number_in("crates/idn2/src/system.rt", "REGISTERED_BYTES") == most + 1 + line + 1
 
 
@@ -306,6 +302,62 @@ def ends_as_the_readme_shows(folder):
     words = ["make", "--no-print-directory", "-C", ROOT, "run", "RT=true"]
     done = subprocess.run(words, capture_output=True, encoding="utf-8", timeout=LIMIT)
     assert done.stdout.endswith("\n" + re.sub("(?m)^    ", "", shown)), (shown, done)
+
+
+def tells_which_answers_changed(folder):
+    """What docs/UNICODE.md compares programs with: none differs from itself; one that reads other letters is told."""
+    script = os.path.join(ROOT, "conformance", "changed_answers.py")
+    labels, other = os.path.join(folder, "labels"), os.path.join(folder, "other")
+    with open(labels, "wb") as file:
+        file.write("ä\nfaß\n-\n".encode() + b"\xff\n")
+    with open(other, "w", encoding="utf-8") as file:
+        file.write(f"#!/bin/sh\nLC_ALL=C sed -e 's/^ä$/Ä/' -e 's/^-$/x/' | '{PROGRAM}' \"$@\"\n")
+    os.chmod(other, 0o755)
+    for new, status, shown in (
+        (PROGRAM, 0, "0 of 4 answers are different\n"),
+        (other, 1, "U+00E4\txn--4ca\t10 disallowed code point\nU+002D\t13 hyphen out of place\tx\n"
+                   "an answer -> 10 disallowed code point: 1\n13 hyphen out of place -> an answer: 1\n"
+                   "2 of 4 answers are different\n"),
+        (labels, 2, ""),
+    ):
+        done = subprocess.run([sys.executable, script, PROGRAM, new, labels], capture_output=True, encoding="utf-8", timeout=LIMIT)
+        assert (done.stdout, done.returncode) == (shown, status), done
+
+
+def quotes_definitions_as_they_stand(folder):
+    """Each definition that the tour quotes is all of one in its file, and the twelve to believe first are among them."""
+    text = text_of("docs", "DEFINITIONS.md")
+    quotes = quoted.quotes(text)
+    assert text.count("```antt\n") == len(quoted.BLOCK.findall(text)) and len(quotes) > 80, len(quotes)
+    changed = [(file, quoted.name_of(part)) for file, part in quotes if part not in quoted.definitions(file).values()]
+    assert not changed, (changed, "python3 tests/quoted.py --write")
+    first = re.findall(r"^\| \d+ \| \[`(\w+)`\]", text, re.MULTILINE)
+    assert len(first) == 12 and set(first) <= {quoted.name_of(part) for _, part in quotes}, first
+
+
+def has_an_example_by_each_definition(folder):
+    """Each part of the tour tells something in plain words, quotes it, and has one worked example of it."""
+    tour = text_of("docs", "DEFINITIONS.md").partition("\n## Text and lines\n")[2].partition("\n# ")[0]
+    parts = re.split(r"^(?=\*\*)", tour, flags=re.MULTILINE)[1:]
+    lacking = [part.splitlines()[0] for part in parts if not quoted.BLOCK.search(part) or part.count("*Example.*") != 1]
+    assert len(parts) > 35 and not lacking, lacking
+
+
+def prose_lines(document):
+    """The lines of a document with their numbers: no table, no session, no script."""
+    fenced = False
+    for number, line in enumerate(text_of(document).splitlines(), 1):
+        if line.startswith("```"):
+            fenced = not fenced
+        elif not fenced and not line.startswith(("|", "    ")):
+            yield number, line
+
+
+def keeps_the_lines_of_its_prose_short(folder):
+    """So that an edit shows in few lines, and a page can be read in a terminal."""
+    documents = sorted(glob.glob("*.md", root_dir=ROOT) + glob.glob("docs/*.md", root_dir=ROOT))
+    wide = [(document, number) for document in documents for number, line in prose_lines(document) if len(line) > 130]
+    assert len(documents) > 10 and not wide, wide
 
 
 def needs_no_newer_python_than_is_said(folder):
@@ -336,6 +388,10 @@ TESTS = [
     reads_as_much_of_a_file_as_can_matter,
     names_only_paths_that_are_there,
     ends_as_the_readme_shows,
+    tells_which_answers_changed,
+    quotes_definitions_as_they_stand,
+    has_an_example_by_each_definition,
+    keeps_the_lines_of_its_prose_short,
     needs_no_newer_python_than_is_said,
 ]
 

@@ -88,7 +88,7 @@ class PlainRuleset:
         return any(int(first, 16) <= ord(letter) <= int(last, 16) for first, last in ranges)
 
     def ends(self, elements, label, start, anchor):
-        """Where these elements can end in the label, one behind the other, if they begin at `start`."""
+        """Where these elements can end in the label, one after the other, if they begin at `start`."""
         starts = {start}
         for element in elements:
             starts = {end for each in starts for end in self.ends_of(element, label, each, anchor)}

@@ -6,7 +6,7 @@ prove a function anew, so edits of different functions are planted in one copy o
 one function knows of another is its contract, so no body is refused for what is planted in another one. An edit that has no
 refusal of its own there is tried again by itself. So is one that edits anything but bodies, as a constant.
 
-What refuses an edit is told behind it: a goal in the code; or a proof that was written for the right code and no longer
+What refuses an edit is told after it: a goal in the code; or a proof that was written for the right code and no longer
 serves, which says less of the contract. An edit that is refused only since a proof names what it takes away says nothing:
 it counts as a failure, as do one that is proved and one that doesn't compile. The copies begin with what earlier checks
 kept; LANES is how many crates are tried side by side. The last line is 'N passed, M failed', and the exit status is 0 where
@@ -29,6 +29,8 @@ CRATES = os.path.join(ROOT, "crates")
 # How many edits are planted at once, at most: where one of them doesn't compile, all are tried again one by one.
 MOST = 16
 
+# The type of an impl: after `for` if it is one of a trait.
+IMPL = re.compile(r"^impl\b(?:<.*?> )?(?:.* for )?&?\s*(\w+)")
 HEAD = re.compile(r"^( *)(?:pub(?:\(\w+\))? )?(?:final )?(?:const )?(?:unsafe )?fn (\w+)")
 GOAL = re.compile(r"^(?:note: )?(?:\./)?(src/\S+?):(\d+):\d+: (?:error: )?(.*)")
 PROOF = re.compile(r"^(?:\./)?(proofs/\S+?)/\w+\.antt:\d+:\d+: error: (.*)")
@@ -37,13 +39,16 @@ UNREADABLE = re.compile(r"\berror\[[\w-]+\]")
 
 # Its replacements, and the bodies that it edits; none where it edits anything else.
 Edit = collections.namedtuple("Edit", "name pairs bodies")
-Body = collections.namedtuple("Body", "file function first last")
+Body = collections.namedtuple("Body", "file owner function first last")
 
 
 def bodies_of(file, text):
     """Each function of a file that has a body, by the layout that rt fmt makes."""
     lines = text.split("\n")
+    owner = ""
     for first, line in enumerate(lines):
+        if owns := IMPL.match(line):
+            owner = owns[1]
         head = HEAD.match(line)
         if not head:
             continue
@@ -52,7 +57,7 @@ def bodies_of(file, text):
         top = next(row for row in range(first, -1, -1) if row == 0 or not lines[row - 1].strip())
         for last in range(first, len(lines)):
             if lines[last] == end:
-                yield Body(file, head[2], top + 1, last + 1)
+                yield Body(file, owner if head[1] else "", head[2], top + 1, last + 1)
                 break
             if lines[last].endswith(";") and not any(row.endswith("{") for row in lines[first:last + 1]):
                 break  # a declaration
@@ -136,9 +141,11 @@ class Copy:
 
 
 def is_of(body, folder):
-    """Whether the proof of a body stands in this folder: its module, its type if it is a method, and its own name."""
+    """Whether the proof of a body stands in this folder: its module, its type if it is a method, and its own name. The proof
+    of a method stands in the module of its type, where that is another one."""
     module = body.file.removeprefix("src/").removesuffix(".rt")
-    return folder.startswith(f"proofs/{module}/") and folder.endswith(f"/{body.function}")
+    *path, function = folder.split("/")
+    return function == body.function and (folder.startswith(f"proofs/{module}/") or (body.owner != "" and path[-1].startswith(body.owner)))
 
 
 def refusal_of(edit, lines):

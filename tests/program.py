@@ -21,6 +21,12 @@ TABLES = os.path.join(ROOT, "tables")
 LIMIT = 60
 
 
+def text_of(*parts):
+    """The text of a file, by its path, which may be one below the top of the repository."""
+    with open(os.path.join(ROOT, *parts), encoding="utf-8") as file:
+        return file.read()
+
+
 def run(words, given=b"", **more):
     return subprocess.run([PROGRAM, *words], input=given, capture_output=True, timeout=LIMIT, **more)
 
@@ -122,7 +128,7 @@ def says_which_variants_are_blocked(folder):
     table = table_file(folder, b"%version 2\r\n0061|!0062\r\n0061-0061|0062-0062\r\n")
     block = b"aa\taa\tallocatable\nab\tab\tblocked\nba\tba\tblocked\nbb\tbb\tallocatable\n#end 4\n"
     expect(["--variants", table, "aa"], b"", block, b"", 0)
-    # Without a blocked variant each line is allocatable; a label that is not in ASCII has its field behind its A-label.
+    # Without a blocked variant each line is allocatable; a label that is not in ASCII has its field after its A-label.
     table = table_file(folder, b"%version 2\n0073-0073|00DF")
     expect(["--variants", table, "ss"], b"", "ss\tss\tallocatable\nß\txn--zca\tallocatable\n#end 2\n".encode(), b"", 0)
 
@@ -343,7 +349,7 @@ def tells_lost_answers_at_once(folder):
 
 
 def tells_no_other_message_of_lost_answers(folder):
-    """Neither the refusal of a line behind the lost answer, nor one of half a line."""
+    """Neither the refusal of a line after the lost answer, nor one of half a line."""
     for given in (b"abc\nAbc\n", b"abc\nAb"):
         with open("/dev/full", "wb") as full:
             done = subprocess.run([PROGRAM, "-r"], input=given, stdout=full, stderr=subprocess.PIPE, timeout=LIMIT)
@@ -462,7 +468,7 @@ def packs_what_a_server_needs(folder):
 
 
 def sessions_of(lines):
-    """The commands behind '$ ' and what each of them prints."""
+    """The commands after '$ ' and what each of them prints."""
     sessions = []
     for line in lines:
         if line.startswith("$ "):
@@ -520,8 +526,8 @@ def prints_in_a_locale_what_the_documents_show(folder, locale):
     os.symlink(TABLES, os.path.join(folder, "tables"))
     environment = {**os.environ, "LC_ALL": locale, "PATH": folder + os.pathsep + os.environ["PATH"]}
     documents = {"README.md": markdown_blocks, "docs/GUIDE.md": markdown_blocks, "docs/NOTATION.md": markdown_blocks,
-                 "docs/idn2.1": manual_blocks}
-    for (name, blocks), least in zip(documents.items(), (8, 80, 7, 6)):
+                 "docs/DEFINITIONS.md": markdown_blocks, "docs/idn2.1": manual_blocks}
+    for (name, blocks), least in zip(documents.items(), (8, 80, 7, 14, 6)):
         with open(os.path.join(ROOT, name), encoding="utf-8") as file:
             text = file.read()
         sessions = [session for block in map(sessions_of, blocks(text)) if is_run(block) for session in block]

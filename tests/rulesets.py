@@ -667,7 +667,7 @@ def line_format(folder):
 
 
 def lines_with_comments_and_returns(folder):
-    """RFC 4290, the model table's format: comments behind entries, and lines that end in a carriage return."""
+    """RFC 4290, the model table's format: comments after entries, and lines that end in a carriage return."""
     text = "# sharp s\r\nU+0073 # s\rU+0073-U+0073|U+00DF\r\n\r\nU+00DF|U+0073-U+0073   # and back\n"
     path = table_file(folder, text.encode())
     expect_table(path, ["--version", "1", "--untyped", "allocatable"], "0073\n0073-0073|00DF\n00DF|0073-0073\n")

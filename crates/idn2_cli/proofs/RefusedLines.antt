@@ -1,5 +1,5 @@
 -- The answer to a line that a call refused.
-use Rattle.std.proofs.Common.{◌≡◌, ◌≢◌, ◌⊎◌, inl, inr, ℕ, Bool, true, List, [], Result, Ok, Err, IfOk, refl, sym, ap, subst, ◌∙◌}
+use Rattle.std.proofs.Common.{◌≡◌, ◌≢◌, ◌⊎◌, inl, inr, ℕ, Bool, true, List, [], Result, Ok, Err, IfOk, IfErr, refl, sym, ap, subst, ◌∙◌}
 use Rattle.std.specs.Result.{is_err}
 use Rattle.idn_text.specs.declared.refusal.Refusal.{Refusal}
 use Rattle.idn_text.specs.declared.refusal.Refusal.TheVariants.{Memory}
@@ -36,3 +36,8 @@ refused_is refusal answer (Ok b) is memory refused = elim (is_memory refusal) [
   | inl e ↦ absurd (let clash : Ok b ≡ Err stop.Memory = memory e in cc)
   | inr other ↦ refused ∙ sym (ap is_err (is other))
 ]
+
+-- a refusal that is not want of memory stops the run only where the messages fail
+pub not_memory : (refusal : Refusal) (r : Result Bool Stop) → refusal ≢ Memory → (refusal ≢ Memory → IfErr r (λ why. why ≡ stop.Messages)) → r ≢ Err stop.Memory
+not_memory refusal r other why is =
+    let clash : stop.Memory ≡ stop.Messages = subst (λ (s : Result Bool Stop). IfErr s (λ why. why ≡ stop.Messages)) is (why other) in cc

@@ -1,11 +1,11 @@
 -- From the lines of the input, or none, to the end of a run.
-use Rattle.std.proofs.Common.{Option, inl, inr, ◌⊎◌, ◌≡◌, ◌≢◌, ℕ, List, [], false, Result, Ok, Err, IfOk, refl, sym, ap, subst, ◌∙◌}
+use Rattle.std.proofs.Common.{Option, inl, inr, ◌⊎◌, ◌≡◌, ◌≢◌, ℕ, List, [], true, false, Result, Ok, Err, IfOk, refl, sym, ap, subst, ◌∙◌}
 use Rattle.idn_text.specs.Reading.{Reading, IsUnread}
 use Rattle.idn_text.specs.declared.refusal.Refusal.{Refusal}
 use Rattle.idn_text.proofs.ReadingLemmas.{has_read_nothing}
 use Rattle.std.proofs.lemmas.Bool.{false≢true}
 use Rattle.idn2_options.specs.Settings.{Settings, keeping}
-use Rattle.idn2_cli.specs.Memory.{AnswersWithoutMemory}
+use Rattle.idn2_cli.specs.Memory.{reads_table}
 use Rattle.idn2_cli.specs.Transcript.{TableGiven, IsReadAs, IsTableOf, Piece, check_pieces, check_status}
 use Rattle.idn2_cli.specs.Ends.{Held, TakesText, closing_message, Job, Does, Ends, Closes, mode_job, refusal_of}
 use Rattle.idn2_cli.specs.inner.Emitting.{Emits}
@@ -39,20 +39,20 @@ as_mode o mode text given job start now old new r e table same done = (
 
 -- its pieces are written, or some of them to a stop
 does_unread : (job : Job) (start : Reading) (old new : Held) (r : Result Status Stop) → IsUnread start → Emits old new (job.pieces []) r
-    → IfOk r (λ status. (job.reads ≡ false) × (status ≡ job.status [])) → ((line : List ℕ) → ¬ job.needs_none line) → Does job start start old new r
-does_unread job start old new (Ok status) unread writes answered each = record {
+    → IfOk r (λ status. (job.reads ≡ false) × (status ≡ job.status [])) → job.reads_table ≡ true → Does job start start old new r
+does_unread job start old new (Ok status) unread writes answered by_table = record {
   given = [];
   lines = [];
   read = has_read_nothing start unread;
   unread = λ _. refl;
   ending = record { ended = λ reads. absurd (false≢true (sym answered.0 ∙ reads)); pieces = writes; answered = answered.1 };
 }
-does_unread job start old new (Err why) unread writes answered each = record {
+does_unread job start old new (Err why) unread writes answered by_table = record {
   given = [];
   lines = [];
   read = has_read_nothing start unread;
   unread = λ _. refl;
-  ending = record { written = writes.0; pieces = writes.1; stands = stands_at job why [] start start (job.pieces []) writes.0 writes.0 writes.2 (inr (record { no_line = refl; unread = refl; cut = writes.2; memory = λ _. each })) };
+  ending = record { written = writes.0; pieces = writes.1; stands = stands_at job why [] start start (job.pieces []) writes.0 writes.0 writes.2 (inr (record { no_line = refl; unread = refl; cut = writes.2; memory = λ _. by_table })) };
 }
 
 with_false : (r : Result Status Stop) (status : Status) → IfOk r (λ s. s ≡ status) → IfOk r (λ s. (false ≡ false) × (s ≡ status))
@@ -65,10 +65,10 @@ pub checked : (o : Settings) (text : List ℕ) (given : TableGiven) (start : Rea
     → (table : TableGiven) × IsTableOf o.mode text table × Does (mode_job o table) start start old new r
 checked o text (Ok table) start old new r e read unread writes answered =
     let job = mode_job (record o { mode = CheckTable }) (Ok table) in
-    as_mode o CheckTable text (Ok table) job start start old new r e read refl (does_unread job start old new r unread writes (with_false r _ answered) (λ _ none. none))
+    as_mode o CheckTable text (Ok table) job start start old new r e read refl (does_unread job start old new r unread writes (with_false r _ answered) refl)
 checked o text (Err fault) start old new r e read unread writes answered =
     let job = mode_job (record o { mode = CheckTable }) (Err fault) in
-    as_mode o CheckTable text (Err fault) job start start old new r e read refl (does_unread job start old new r unread writes (with_false r _ answered) (λ _ none. none))
+    as_mode o CheckTable text (Err fault) job start start old new r e read refl (does_unread job start old new r unread writes (with_false r _ answered) refl)
 
 -- want of memory before any piece
 pub emits_memory : {A : Type 0} (old : Held) (pieces : List Piece) (r : Result A Stop) (why : Stop) → r ≡ Err why → why ≡ stop.Memory → Emits old old pieces r
@@ -77,17 +77,17 @@ emits_memory {A} old pieces r why e memory =
 
 -- ---- a mode that answers lines by a table, as the listing does
 
--- its table is the one that the text spells, and no line is said to be answered without memory
+-- its table is the one that the text spells
 pub record WorksByTable (o : Settings) (mode : Mode) : Type 0 where
   pub named : o.mode ≡ mode
   pub reads : (text : List ℕ) (given : TableGiven) → IsReadAs text given → IsTableOf mode text given
-  pub needs : (p : Settings) (line : List ℕ) → ¬ AnswersWithoutMemory mode p line
+  pub by_table : reads_table mode ≡ true
 
 pub lists_by_table : (o : Settings) → o.mode ≡ Variants → WorksByTable o Variants
-lists_by_table o is = record { named = is; reads = λ text given read. read; needs = λ p line none. none }
+lists_by_table o is = record { named = is; reads = λ text given read. read; by_table = refl }
 
 pub jumps_by_table : (o : Settings) → o.mode ≡ Jump → WorksByTable o Jump
-jumps_by_table o is = record { named = is; reads = λ text given read. read; needs = λ p line none. none }
+jumps_by_table o is = record { named = is; reads = λ text given read. read; by_table = refl }
 
 module _ (o : Settings) (mode : Mode) (works : WorksByTable o mode) (text : List ℕ) (start : Reading) where
   -- memory was refused while the table was read
@@ -98,7 +98,7 @@ module _ (o : Settings) (mode : Mode) (works : WorksByTable o mode) (text : List
       let job = mode_job (record o { mode = mode }) t.0 in
       as_mode o mode text t.0 job start start old old r works.named (works.reads text t.0 t.1) refl
       (does_unread job start old old r unread (emits_memory old (job.pieces []) r why is memory)
-      (subst (λ (s : Result Status Stop). IfOk s (λ status. (job.reads ≡ false) × (status ≡ job.status []))) (sym is) tt) (works.needs (record o { mode = mode })))
+      (subst (λ (s : Result Status Stop). IfOk s (λ status. (job.reads ≡ false) × (status ≡ job.status []))) (sym is) tt) works.by_table)
 
   -- the fault of the table is told
   faulty : (line : ℕ) (refusal : Refusal) (old new : Held) (r : Result Status Stop)
@@ -107,7 +107,7 @@ module _ (o : Settings) (mode : Mode) (works : WorksByTable o mode) (text : List
   faulty line refusal old new r read unread writes answered =
       let job = mode_job (record o { mode = mode }) (Err (line, refusal)) in
       as_mode o mode text (Err (line, refusal)) job start start old new r works.named (works.reads text (Err (line, refusal)) read) refl
-      (does_unread job start old new r unread writes (with_false r _ answered) (works.needs (record o { mode = mode })))
+      (does_unread job start old new r unread writes (with_false r _ answered) works.by_table)
 
   -- the table is not read
   pub refused_lines : (fault : TableFault) (old new : Held) (r : Result Status Stop) → IsUnread start → IsToldOf text fault

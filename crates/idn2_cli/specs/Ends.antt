@@ -15,7 +15,7 @@ use Rattle.idn_text.specs.Reading.{Reading, HasRead, HasStopped}
 use Rattle.idn_text.specs.declared.lines.State.TheVariants.{Ended, Stopped}
 use Rattle.idn2_options.specs.Settings.{Settings}
 use Rattle.idn2_cli.specs.Answers.{LineAnswer}
-use Rattle.idn2_cli.specs.Memory.{AnswersWithoutMemory, GoesOnWithoutMemory, BodyNeedsNone}
+use Rattle.idn2_cli.specs.Memory.{AnswersWithoutMemory, GoesOnWithoutMemory, BodyNeedsNone, reads_table}
 use Rattle.idn2_options.specs.declared.command_line.mode.Mode.{Mode}
 use Rattle.idn2_options.specs.declared.command_line.mode.Mode.TheVariants.{CheckTable}
 use Rattle.idn2_cli.specs.declared.session.stop.Stop.TheVariants as stop
@@ -75,21 +75,23 @@ pub record WritesUntil (why : Stop) (old new : Held) (pieces : List Piece) : Typ
 
 -- ---- what is to be done
 
--- whether lines are read, and what is written for them, with which status; which lines are answered without memory, and of which
--- the answer, once begun, goes on without
+-- whether lines are read, and what is written for them, with which status; whether a table is read before them; which lines are
+-- answered without memory, and of which the answer, once begun, goes on without
 pub record Job : Type 1 where
   pub reads : Bool
   pub pieces : List Numbered → List Piece
   pub status : List Numbered → Status
+  pub reads_table : Bool
   pub needs_none : List ℕ → Type 0
   pub goes_on : List ℕ → Type 0
 
 -- to answer each line by itself
-abbrev pub lines_job : (List ℕ → LineAnswer) → (needs_none goes_on : List ℕ → Type 0) → Job
-lines_job answer needs_none goes_on = record {
+abbrev pub lines_job : (List ℕ → LineAnswer) → Bool → (needs_none goes_on : List ℕ → Type 0) → Job
+lines_job answer by_table needs_none goes_on = record {
   reads = true;
   pieces = lines_pieces answer;
   status = λ lines. status_if (has_refused answer lines);
+  reads_table = by_table;
   needs_none = needs_none;
   goes_on = goes_on;
 }
@@ -106,6 +108,7 @@ mode_job o table = record {
   reads = reads_lines o.mode table;
   pieces = transcript o table;
   status = status_of o table;
+  reads_table = reads_table o.mode;
   needs_none = AnswersWithoutMemory o.mode o;
   goes_on = GoesOnWithoutMemory o.mode o table;
 }
@@ -133,12 +136,12 @@ pub record StopsAtLine (job : Job) (why : Stop) (lines : List Numbered) (now : R
   pub stand : written ≡ job.pieces before ++ part
 
 -- a write or memory stopped the job before a line was read, and the reader was not called: while the table was read, at the
--- message of its fault, or in its check; memory does so only where the answer to each line may take some
+-- message of its fault, or in its check; memory does so only where a table is read
 pub record StopsUnread (job : Job) (why : Stop) (lines : List Numbered) (start now : Reading) (written : List Piece) : Type 0 where
   pub no_line : lines ≡ []
   pub unread : now ≡ start
   pub cut : IsCutBy why (job.pieces []) written
-  pub memory : why ≡ stop.Memory → (line : List ℕ) → ¬ job.needs_none line
+  pub memory : why ≡ stop.Memory → job.reads_table ≡ true
 
 -- where a read stops a job, all pieces of the lines that it read stand, which are those that a line feed ends; where a write or
 -- memory does, it stops at once, and no line is read after that

@@ -1,8 +1,9 @@
 -- Lines that a mode answers without memory.
-use Rattle.std.specs.Prelude.{ℕ, List, chars, All, IsAscii, Option, Some, None, Ok}
+use Rattle.std.specs.Prelude.{ℕ, Bool, true, false, List, chars, All, IsAscii, Option, Some, None, Ok, ◌≢◌}
 use Rattle.idna.specs.Labels.{labels_of}
+use Rattle.idn_label.specs.FirstFault.{first_fault}
 use Rattle.idn_label.specs.Memory.{NeedsNoMemory, LooksUpWithoutMemory, RegistersWithoutMemory, DecodesWithoutMemory}
-use Rattle.idn2_cli.specs.Answers.{tested_after}
+use Rattle.idn2_cli.specs.Answers.{requested_label, tested_after}
 use Rattle.idn2_cli.specs.Transcript.{TableGiven}
 use Rattle.idn2_options.specs.Settings.{Settings}
 use Rattle.idn2_options.specs.declared.command_line.mode.Mode.{Mode}
@@ -12,14 +13,25 @@ use Rattle.idn2_options.specs.declared.command_line.mode.Mode.TheVariants.{Looku
 abbrev pub DecodesLineWithoutMemory : List ℕ → Type 0
 DecodesLineWithoutMemory name = IsAscii name × All DecodesWithoutMemory (labels_of name)
 
--- the bytes of a line; no line is said to be listed without memory
+-- a label that is tested without memory, and has a fault (RFC 5891, section 4.2)
+abbrev pub IsRefusedWithoutMemory : List ℕ → Type 0
+IsRefusedWithoutMemory label = NeedsNoMemory label × (first_fault label ≢ None)
+
+-- the bytes of a line; of one whose variants are listed or searched it is said only where its label is refused
 abbrev pub AnswersWithoutMemory : Mode → Settings → List ℕ → Type 0
 AnswersWithoutMemory Lookup o line = LooksUpWithoutMemory o.std3 line
 AnswersWithoutMemory Register o line = RegistersWithoutMemory (chars line)
 AnswersWithoutMemory Decode o line = DecodesLineWithoutMemory line
-AnswersWithoutMemory Variants o line = ⊥
-AnswersWithoutMemory Jump o line = ⊥
+AnswersWithoutMemory Variants o line = IsRefusedWithoutMemory (chars line)
+AnswersWithoutMemory Jump o line = IsRefusedWithoutMemory (requested_label (chars line))
 AnswersWithoutMemory CheckTable o line = ⊥
+
+-- a mode that reads a table, which takes memory before its first line
+abbrev pub reads_table : Mode → Bool
+reads_table Variants = true
+reads_table Jump = true
+reads_table CheckTable = true
+reads_table mode = false
 
 -- the bytes of a line of which the listing, once begun, goes on without memory: no label that it may test needs any; what else is
 -- answered does so whatever the line is

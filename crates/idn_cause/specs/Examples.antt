@@ -1,12 +1,16 @@
 -- Causes of labels that are refused, computed from the definitions.
-use Rattle.std.specs.Prelude.{◌≡◌, ℕ, List, [], ◌∷◌, Option, Some}
+use Rattle.std.specs.Prelude.{◌≡◌, ℕ, List, [], ◌∷◌, ◌++◌, codes, Option, Some, None}
 use Rattle.idn_text.specs.declared.refusal.Refusal.{Refusal}
-use Rattle.idn_text.specs.declared.refusal.Refusal.TheVariants.{Hyphen, LeadingMark, ContextJ, ContextO, Bidi}
+use Rattle.idn_text.specs.declared.refusal.Refusal.TheVariants.{Hyphen, LeadingMark, ContextJ, ContextO, Bidi, BadALabel}
 use Rattle.idn_class.specs.declared.bidi_class.BidiClass.TheVariants.{L, R, EN, AN, ES, BN}
 use Rattle.idn_class.specs.declared.broken.Condition.TheVariants.{First, RtlHolds, RtlEnds, RtlNumbers, LtrHolds}
 use Rattle.idn_cause.specs.declared.cause.Cause.{Cause}
 use Rattle.idn_cause.specs.declared.cause.Cause.TheVariants.{Hyphen as HyphenAt, Point, Condition}
+use Rattle.idn_cause.specs.declared.a_label.ALabelCause.TheVariants.{NoCode, NotAscii, NoPunycode}
+use Rattle.idn_cause.specs.declared.query.LengthCause.TheVariants.{LabelOctets}
 use Rattle.idn_cause.specs.Causes.{cause_of}
+use Rattle.idn_cause.specs.ALabelCauses.{a_label_cause}
+use Rattle.idn_cause.specs.NameCauses.{length_cause}
 
 -- a label, its fault and the cause
 pub record Row : Type 0 where
@@ -51,3 +55,22 @@ causes =
     record { label = 0x61 ∷ 0x5D0 ∷ []; refusal = Bidi; cause = Some (Condition (record { condition = LtrHolds; place = 1 }) 0x5D0 R) } ∷
     record { label = 0x61 ∷ 0x62 ∷ 0x660 ∷ []; refusal = Bidi; cause = Some (Condition (record { condition = LtrHolds; place = 2 }) 0x660 AN) } ∷
     []
+
+-- what begins with "xn--" and stands for no label
+pub record ExamplesOfALabels : Type 0 where
+  pub no_code : a_label_cause (codes "xn--") BadALabel ≡ Some NoCode
+  pub not_ascii : a_label_cause (codes "xn--fa" ++ 0xDF ∷ []) BadALabel ≡ Some (NotAscii 6 0xDF)
+  pub first_not_ascii : a_label_cause (codes "xn--" ++ 0xE9 ∷ 0xDF ∷ []) BadALabel ≡ Some (NotAscii 4 0xE9)
+  pub no_punycode : a_label_cause (codes "xn--a_") BadALabel ≡ Some NoPunycode
+
+-- 64 octets
+abbrev pub too_long : List ℕ
+too_long = codes "aaaaaaaaaaaaaaaaaaaaaaaaaaaaaaaaaaaaaaaaaaaaaaaaaaaaaaaaaaaaaaaa"
+
+-- names that are looked up: a full stop at the end is put aside, and the first label of a wrong length is told
+pub record ExamplesOfLengths : Type 0 where
+  pub empty_label : length_cause (codes "a..b") ≡ Some (LabelOctets 1 0)
+  pub root_alone : length_cause (codes ".") ≡ Some (LabelOctets 0 0)
+  pub long_label : length_cause (codes "x." ++ too_long) ≡ Some (LabelOctets 1 64)
+  pub first_label : length_cause (too_long ++ codes "..a") ≡ Some (LabelOctets 0 64)
+  pub right : length_cause (codes "a.b.") ≡ None

@@ -1,2 +1,5 @@
 pub mod Causes
+pub mod ALabelCauses
+pub mod NameLabels
+pub mod NameCauses
 pub mod Examples

@@ -1,13 +1,21 @@
 //! Laws of the definitions. Each holds by its proof alone.
-ghost use Rattle.std.specs.Prelude.{◌≡◌, ◌≢◌, ◌↔◌, ℕ, List, None, Some, slice_index};
+ghost use Rattle.std.specs.Prelude.{◌≡◌, ◌≢◌, ◌↔◌, ℕ, List, Bool, None, Some, Err, slice_index};
 ghost use Rattle.idn_text.specs.declared.refusal.Refusal.{Refusal};
-ghost use Rattle.idn_text.specs.declared.refusal.Refusal.TheVariants.{Empty};
+ghost use Rattle.idn_text.specs.declared.refusal.Refusal.TheVariants.{Empty, LookupLength};
 ghost use Rattle.idn_class.specs.Causes.{IsFirstFailing};
 ghost use Rattle.idn_class.specs.Class.{class_of};
 ghost use Rattle.idn_label.specs.FirstFault.{code_point_fault, fault_of_class, first_fault};
+ghost use Rattle.idn_label.specs.Decode.{decode_answer};
+ghost use Rattle.idn_label.specs.Lookup.{query_name};
+ghost use Rattle.idn_label.specs.Register.{u_label_answer};
+ghost use Rattle.idn_cause.specs.declared.a_label.ALabelCause.{ALabelCause};
 ghost use Rattle.idn_cause.specs.declared.cause.Cause.{Cause};
+ghost use Rattle.idn_cause.specs.declared.name.NameCause.{NameCause};
+ghost use Rattle.idn_cause.specs.declared.query.LengthCause.{LengthCause};
+ghost use Rattle.idn_cause.specs.ALabelCauses.{a_label_cause, IsALabelCause};
 ghost use Rattle.idn_cause.specs.Causes.{cause_of, IsCause, IsPermitted};
-ghost use Rattle.idn_cause.specs.Examples.{HaveCauses, causes};
+ghost use Rattle.idn_cause.specs.NameCauses.{name_cause, query_cause, IsNameCause, IsQueryCause};
+ghost use Rattle.idn_cause.specs.Examples.{HaveCauses, ExamplesOfALabels, ExamplesOfLengths, causes};
 
 /// What is told of a fault is its cause, and nothing else is. The class of the code point that is told says which fault it is.
 /// The first fault of a label has a cause, unless the label is empty.
@@ -19,4 +27,30 @@ pub fn causes_are_told()
     ensures always { (label : List ℕ) (refusal : Refusal) → first_fault label ≡ Some refusal →
         refusal ≢ Empty → cause_of label refusal ≢ None }
     ensures examples { HaveCauses causes }
+{}
+
+/// The same of what begins with `xn--`: each fault but one has its cause.
+pub fn a_label_causes_are_told()
+    ensures exactly { (given : List ℕ) (refusal : Refusal) (cause : ALabelCause) →
+        (a_label_cause given refusal ≡ Some cause) ↔ IsALabelCause given refusal cause }
+    ensures always { (given : List ℕ) (refusal : Refusal) → u_label_answer given ≡ Err refusal →
+        refusal ≢ Empty → a_label_cause given refusal ≢ None }
+    ensures examples { ExamplesOfALabels }
+{}
+
+/// The same of a name that is decoded.
+pub fn name_causes_are_told()
+    ensures exactly { (name : List ℕ) (refusal : Refusal) (cause : NameCause) →
+        (name_cause name refusal ≡ Some cause) ↔ IsNameCause name refusal cause }
+    ensures always { (name : List ℕ) (refusal : Refusal) → decode_answer name ≡ Err refusal →
+        refusal ≢ Empty → name_cause name refusal ≢ None }
+{}
+
+/// The same of a name that is looked up and has a wrong length.
+pub fn query_causes_are_told()
+    ensures exactly { (name : List ℕ) (std3 : Bool) (refusal : Refusal) (cause : LengthCause) →
+        (query_cause name std3 refusal ≡ Some cause) ↔ IsQueryCause name std3 refusal cause }
+    ensures always { (name : List ℕ) (std3 : Bool) → query_name name std3 ≡ Err LookupLength →
+        query_cause name std3 LookupLength ≢ None }
+    ensures examples { ExamplesOfLengths }
 {}

@@ -2,11 +2,19 @@
 //! refused, so that no test of a label takes longer for it.
 #![tactic(auto)]
 
+mod a_label;
 mod cause;
 mod laws;
 mod lengths;
+mod name;
 mod normalization;
 mod places;
+mod query;
 
+pub use a_label::{ALabelCause, a_label_cause};
 pub use cause::{Cause, cause_of};
-pub use laws::causes_are_told;
+pub use laws::{
+    a_label_causes_are_told, causes_are_told, name_causes_are_told, query_causes_are_told,
+};
+pub use name::{NameCause, name_cause};
+pub use query::{LengthCause, query_cause};

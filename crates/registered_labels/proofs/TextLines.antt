@@ -1,5 +1,5 @@
 -- The lines of a text, one after another, and the first that is wrong.
-use Rattle.std.proofs.Common.{◌≡◌, ◌≢◌, ◌⊎◌, inl, inr, ℕ, zero, suc, ◌+◌, ◌-◌, ◌<◌, ◌≤◌, Bool, true, false, cond, Some, None, List, [], ◌∷◌, ◌++◌, length, map, take, drop, get_or, eqb, refl, sym, ap, subst, ◌∙◌, arith, add-one, append_assoc, length-append, length-take, length-drop, drop-cons}
+use Rattle.std.proofs.Common.{◌≡◌, ◌≢◌, ◌⊎◌, inl, inr, ℕ, zero, suc, ◌+◌, ◌-◌, ◌<◌, ◌≤◌, ◌^◌, Bool, true, false, cond, Option, Some, None, unwrap_or, List, [], ◌∷◌, ◌++◌, length, map, take, drop, get_or, eqb, refl, sym, ap, subst, ◌∙◌, arith, add-one, append_assoc, length-append, length-take, length-drop, drop-cons}
 use Rattle.std.specs.List.{slice_range}
 use Rattle.std.specs.Ordering.{is_lt}
 use Rattle.std.specs.declared.cmp.Ordering.{Ordering}
@@ -7,15 +7,17 @@ use Rattle.std.specs.declared.cmp.Ordering.TheVariants.{Less}
 use Rattle.std.specs.Str.{chars}
 use Rattle.std.specs.Str.Lines.{strip_carriage_return}
 use Rattle.std.proofs.lemmas.Bool.{cases_lt}
-use Rattle.std.proofs.lemmas.List.{append-nil, map-append, take-append-drop, take_all, take_min}
+use Rattle.std.proofs.lemmas.List.{append-nil, map-append, same_from_push, take-append-drop, take_all, take_min}
 use Rattle.idn_text.specs.Points.{IsUtf8Of, utf8_of}
 use Rattle.idn_text.specs.Lines.{raw_lines, joined_lines, body_of}
 use Rattle.idn_text.specs.declared.refusal.Refusal.{Refusal}
 use Rattle.idn_text.specs.declared.refusal.Refusal.TheVariants.{LineTooLong, NotUtf8}
 use Rattle.idn_text.specs.declared.refusal.Refusal.TheVariants as refusals
 use Rattle.idn_text.proofs.TakingLemmas.{is_long_line-short, is_long_line-long}
+use Rattle.idn_text.proofs.Utf8Lemmas.{points_from_utf8}
 use Rattle.idn_text.proofs.NumberingLemmas.{raw_lines-then, raw_lines-rest}
 use Rattle.idn_label.specs.FirstFault.{utf8_fault}
+use Rattle.idn_label.proofs.ALabels.{registrable_scalars}
 use Rattle.idn_label.proofs.AnswerLemmas.{utf8_fault-none, utf8_fault-points}
 use Rattle.idn_label.proofs.RequirementLemmas.{MeetsRequirements-registrable}
 use Rattle.variant_list.specs.Labels.{IsBelow, label_cmp}
@@ -131,14 +133,17 @@ HasRead-more text at end number len labels label more is read h =
       placed = omega (arith, is.reached, h.placed, length-joined h.front line, length-next text at end is);
     }
 
-pub IsTextOf-read : (text : List ℕ) (at number : ℕ) (labels : List (List ℕ)) → length text ≤ at → HasRead text at number labels → AreRegistered labels → IsTextOf text labels
-IsTextOf-read text at number labels past h all = record {
-  lines = ap (map body_of) (h.split ∙ ap (λ xs. h.front ++ raw_lines xs) (drop_past text at past) ∙ append-nil h.front) ∙ h.read;
-  registered = all;
-}
+pub IsTextOf-read : (text : List ℕ) (at number : ℕ) (labels : List (List ℕ)) → length text ≤ at → at ≤ 2 ^ 32 → HasRead text at number labels → AreRegistered labels → IsTextOf text labels
+IsTextOf-read text at number labels past few h all =
+    let whole : raw_lines text ≡ h.front = h.split ∙ ap (λ xs. h.front ++ raw_lines xs) (drop_past text at past) ∙ append-nil h.front in
+    record {
+      lines = ap (map body_of) whole ∙ h.read;
+      registered = all;
+      in_time = omega (arith, few, h.placed, ap (λ ls. length (joined_lines ls)) whole);
+    }
 
-pub IsFirstWrong-here : (text : List ℕ) (at end number : ℕ) (labels : List (List ℕ)) (W : ℕ → List (List ℕ) → List ℕ → Type 0) → at < length text → IsLineEnd text at end → HasRead text at number labels → AreRegistered labels → W at labels (slice_range text at end) → IsFirstWrong text (number + 1) W
-IsFirstWrong-here text at end number labels W more is h all wrong = record {
+pub IsFirstWrong-here : (text : List ℕ) (at end number : ℕ) (labels : List (List ℕ)) (W : ℕ → List (List ℕ) → List ℕ → Type 0) → at < length text → at ≤ 2 ^ 32 → IsLineEnd text at end → HasRead text at number labels → AreRegistered labels → W at labels (slice_range text at end) → IsFirstWrong text (number + 1) W
+IsFirstWrong-here text at end number labels W more few is h all wrong = record {
   before = h.front;
   line = slice_range text at end;
   rest = raw_lines (drop (end + 1) text);
@@ -147,6 +152,7 @@ IsFirstWrong-here text at end number labels W more is h all wrong = record {
   labels = labels;
   read = h.read;
   registered = all;
+  in_time = omega (arith, few, h.placed);
   wrong = subst (λ n. W n labels (slice_range text at end)) h.placed wrong;
 }
 
@@ -178,6 +184,23 @@ IsOutOfOrder-seen line len labels last label o b read is e f t = elim is [
     above_nothing : (v : List ℕ) → v ≢ [] → IsBelow [] v
     above_nothing [] h = absurd (h refl)
     above_nothing (x ∷ v) h = tt
+
+-- a label that is greater than the last one is in order
+pub in_order : (line : List ℕ) (len : ℕ) (labels : List (List ℕ)) (last label : List ℕ) → IsReadAs line len label → IsLastOf labels last → IsBelow last label → IsOutOfOrder labels (body_of line) → ⊥
+in_order line len labels last label read is below out = elim is [
+  | inl none ↦ omega (arith, length-append out.front (out.last ∷ []), ap length (sym out.ending ∙ none.0))
+  | inr some ↦
+      let before : out.last ≡ last = (same_from_push out.front some.0 out.last last (sym out.ending ∙ some.1)).1 in
+      out.not_greater (subst (λ v. IsBelow v out.label) (sym before) (subst (λ v. IsBelow last v) (sym same) below))
+]
+  where
+    bytes : utf8_of out.label ≡ take len line
+    bytes = ap (λ (o : Option (List ℕ)). unwrap_or o []) (sym out.is ∙ read.body)
+
+    same : out.label ≡ label
+    same =
+        sym (points_from_utf8 (take len line) out.label (record { scalar_values = registrable_scalars out.label out.registrable; encoded = bytes }))
+        ∙ points_from_utf8 (take len line) label read.read
 
 -- a label that may be registered is right by itself
 pub accepted_label : (line : List ℕ) (len : ℕ) (label : List ℕ) → IsReadAs line len label → line_refusal (body_of line) ≡ None

@@ -15,18 +15,23 @@ use Rattle.registered_labels.specs.Registered.{AreRegistered}
 abbrev pub AreLinesOf : List (List ℕ) → List (List ℕ) → Type 0
 AreLinesOf lines labels = map body_of lines ≡ map (λ v. Some (utf8_of v)) labels
 
+-- these lines of a text, from its first on, end at byte 2^32 - 1 or before, where the first is byte 1
+abbrev pub EndInTime : List (List ℕ) → Type 0
+EndInTime lines = length (joined_lines lines) ≤ 2 ^ 32
+
 -- the text has a line for each of these labels, which may be registered and stand in label order, each once
 pub record IsTextOf (text : List ℕ) (labels : List (List ℕ)) : Type 0 where
   pub lines : AreLinesOf (raw_lines text) labels
   pub registered : AreRegistered labels
+  pub in_time : EndInTime (raw_lines text)
 
 -- what is wrong with the body of a line alone
 abbrev pub line_refusal : Option (List ℕ) → Option Refusal
 line_refusal None = Some LineTooLong
 line_refusal (Some bytes) = utf8_fault bytes
 
--- all lines before the line of this number, from 1, are labels in label order, and the line, behind so many bytes of the text,
--- is wrong after them
+-- all lines before the line of this number, from 1, are labels in label order and end in time, and the line, behind so many bytes
+-- of the text, is wrong after them
 pub record IsFirstWrong (text : List ℕ) (number : ℕ) (IsWrong : ℕ → List (List ℕ) → List ℕ → Type 0) : Type 0 where
   pub before : List (List ℕ)
   pub line : List ℕ
@@ -36,6 +41,7 @@ pub record IsFirstWrong (text : List ℕ) (number : ℕ) (IsWrong : ℕ → List
   pub labels : List (List ℕ)
   pub read : AreLinesOf before labels
   pub registered : AreRegistered labels
+  pub in_time : EndInTime before
   pub wrong : IsWrong (length (joined_lines before)) labels line
 
 -- the line is a label that may be registered, but is not greater than the last of these
@@ -49,12 +55,13 @@ pub record IsOutOfOrder (labels : List (List ℕ)) (body : Option (List ℕ)) : 
   pub not_greater : ¬ IsBelow last label
 
 -- a line behind so many bytes of the text, and after these labels, is wrong by itself; or it is not greater than the last of
--- them; or it is a label that may be registered, and it ends after byte 2^32 - 1 of the text, where the first is byte 1
+-- them; or it is neither, but it ends after byte 2^32 - 1 of the text, where the first is byte 1
 abbrev pub IsWrongBy : Refusal → ℕ → List (List ℕ) → List ℕ → Type 0
 IsWrongBy refusal at labels line =
     (line_refusal (body_of line) ≡ Some refusal)
     ⊎ ((refusal ≡ OutOfOrder) × IsOutOfOrder labels (body_of line))
-    ⊎ ((refusal ≡ FileTooLong) × (line_refusal (body_of line) ≡ None) × (2 ^ 32 ≤ at + length line))
+    ⊎ ((refusal ≡ FileTooLong) × (line_refusal (body_of line) ≡ None) × (¬ IsOutOfOrder labels (body_of line))
+    × (2 ^ 32 ≤ at + length line))
 
 -- the first fault of a text; want of memory is none of a text
 abbrev pub IsFaultOf : List ℕ → RegisterFault → Type 0

@@ -1,5 +1,5 @@
 //! Registered labels in memory.
-ghost use Rattle.std.specs.Prelude.{◌≡◌, ◌≢◌, ◌<◌, ◌≤◌, ℕ, List, length, take, chars, slice_get, slice_range, option_map, true, Some, IfOk, IfErr};
+ghost use Rattle.std.specs.Prelude.{◌≡◌, ◌≢◌, ◌<◌, ◌≤◌, ℕ, List, length, take, chars, slice_get, slice_range, option_map, true, Some, [], IfOk, IfErr, IsOk};
 ghost use Rattle.idn_text.specs.Lines.{body_of};
 ghost use Rattle.std.specs.Ordering.{is_lt};
 ghost use Rattle.std.specs.List.{list_all};
@@ -73,10 +73,12 @@ impl<'a> Model for RegisteredLabels<'a> {
 impl<'a> RegisteredLabels<'a> {
     ghost use Rattle.registered_labels.specs.Texts.{IsTextOf, IsFaultOf};
 
-    /// The labels of a text, one on each line, each greater than the one before; or the first fault of the text.
+    /// The labels of a text, one on each line, each greater than the one before; or the first fault of the text. An empty text
+    /// takes no memory.
     pub fn read(alloc: Global, text: &'a [u8]) -> Result<RegisteredLabels<'a>, RegisterFault>
         ensures labels { IfOk result (IsTextOf text.now) }
         ensures fault { IfErr result (IsFaultOf text.now) }
+        ensures no_memory { text.now ≡ [] → IsOk result }
     {
         let mut spans = Vec::new(alloc);
         let mut room = [0; MAX_LINE_LEN];

@@ -9,7 +9,7 @@ use Rattle.variant_list.specs.Positions.{Position, candidates_ahead, tested_ahea
 use Rattle.variant_list.specs.Beginnings.{shortest_hopeless, has_hope, dead_ends}
 use Rattle.variant_list.specs.Steps.{last_of}
 use Rattle.variant_list.specs.Visited.{visited, visited_ahead, has_step, fewer_steps, Takes}
-use Rattle.variant_list.specs.Stepping.{Visits, Halts}
+use Rattle.variant_list.specs.Stepping.{Visits, VisitsAll, Halts}
 use Rattle.variant_list.specs.inner.Skips.{edges_of_net}
 use Rattle.variant_list.specs.inner.Halts.{FindsHopeIn, FindsNoneIn, HaltsIn}
 use Rattle.variant_list.proofs.ListLemmas.{last_of-push, looks-sum}
@@ -106,11 +106,13 @@ module _ (hopeless : List ℕ → Bool) where
     }
 
     -- where no label is left, all were visited, and another step could be taken
-    pub all_visited : (mid : Position) (rest' : Option ℕ) → FindsNoneIn hopeless now rest mid rest' → IfSome steps (λ n. length (visited_ahead hopeless old) < n)
+    pub all_visited : (mid : Position) (rest' : Option ℕ) → FindsNoneIn hopeless now rest mid rest' → VisitsAll hopeless old steps rest'
     all_visited mid rest' found =
         let ahead = ap length (visited-lost hopeless None (candidates_ahead now) found.finds.lost) in
         let all : length (visited_ahead hopeless old) ≡ length front + length (dead_ends hopeless None (candidates_ahead now)) = omega (arith, ap length whole, length-append front (visited_ahead hopeless now), ahead) in
-        more steps (length (visited_ahead hopeless old)) rest' (subst (λ n. Takes steps n rest') (sym all) (Takes-more steps (length front) rest (length (dead_ends hopeless None (candidates_ahead now))) rest' h.takes found.takes)) found.more
+        let takes : Takes steps (length (visited_ahead hopeless old)) rest' =
+        subst (λ n. Takes steps n rest') (sym all) (Takes-more steps (length front) rest (length (dead_ends hopeless None (candidates_ahead now))) rest' h.takes found.takes) in
+        record { fewer = more steps (length (visited_ahead hopeless old)) rest' takes found.more; counted = takes.fewer }
       where
         more : (steps : Option ℕ) (n : ℕ) (left : Option ℕ) → Takes steps n left → has_step left ≡ true → IfSome steps (λ m. n < m)
         more None n left t some = tt

@@ -4,7 +4,7 @@ use Rattle.std.specs.declared.alloc.AllocError.{AllocError}
 use Rattle.variant_list.specs.Nets.{edge_count}
 use Rattle.variant_list.specs.Positions.{Position}
 use Rattle.variant_list.specs.Steps.{last_of}
-use Rattle.variant_list.specs.Visited.{visited_ahead, Takes}
+use Rattle.variant_list.specs.Visited.{visited_ahead, fewer_steps, Takes}
 use Rattle.variant_list.specs.declared.cursor.Outcome.{Outcome}
 use Rattle.variant_list.specs.declared.cursor.Outcome.TheVariants as outcome
 
@@ -26,10 +26,15 @@ pub record Halts (hopeless : List ℕ → Bool) (old : Position) (steps : Option
   pub last : new.last ≡ last_of old.last (take count (visited_ahead hopeless old))
   pub edge_tests : new.edge_tests ≤ 256 * (edge_count old.net.table old.net.label * count)
 
--- what each answer says of the steps: where no label is left, there were more steps than labels to be visited
+-- no label is left: there were more steps than labels to be visited, and one less for each is left
+pub record VisitsAll (hopeless : List ℕ → Bool) (old : Position) (steps left : Option ℕ) : Type 0 where
+  pub fewer : IfSome steps (λ n. length (visited_ahead hopeless old) < n)
+  pub counted : left ≡ fewer_steps steps (length (visited_ahead hopeless old))
+
+-- what each answer says of the steps
 abbrev pub StepsTo : (List ℕ → Bool) → Position → Option ℕ → Result Outcome AllocError → Position → Option ℕ → Type 0
 StepsTo hopeless old steps (Ok outcome.Found) new left = Visits hopeless old steps new left
 StepsTo hopeless old steps (Ok outcome.Spent) new left = Visits hopeless old steps new left
 StepsTo hopeless old steps (Ok outcome.Halted) new left = Halts hopeless old steps new left
-StepsTo hopeless old steps (Ok outcome.Ended) new left = IfSome steps (λ n. length (visited_ahead hopeless old) < n)
+StepsTo hopeless old steps (Ok outcome.Ended) new left = VisitsAll hopeless old steps left
 StepsTo hopeless old steps (Err e) new left = Unit {0}

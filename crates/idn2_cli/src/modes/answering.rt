@@ -1,6 +1,6 @@
 //! What a mode does with one line.
 
-ghost use Rattle.std.specs.Prelude.{◌≡◌, ◌≢◌, ◌≤◌, ℕ, List, [], ◌∷◌, length, IfOk, IfErr, Err, true, false};
+ghost use Rattle.std.specs.Prelude.{◌≡◌, ◌≢◌, ◌≤◌, ℕ, Bool, List, [], ◌∷◌, length, IfOk, IfErr, Err, true, false};
 ghost use Rattle.std.specs.Result.{is_err};
 ghost use Rattle.idn2_cli.specs.Answers.{LineAnswer, text_answer};
 ghost use Rattle.idn2_cli.specs.Transcript.{Output, pieces_for};
@@ -21,6 +21,9 @@ pub(crate) trait Answering {
 
     // What the mode needs to answer.
     ghost is_ready: { Self → Type 0 } = { λ _. Unit {0} };
+
+    // Whether it answers by a table.
+    ghost reads_table: { Self → Bool } = { λ _. false };
 
     // The bytes of lines that it answers without memory.
     ghost needs_none: { Self → List ℕ → Type 0 } = { λ _ _. ⊥ };

@@ -1,6 +1,6 @@
 //! Modes that answer a line by its code points.
 
-ghost use Rattle.std.specs.Prelude.{◌≡◌, ◌≢◌, ◌≤◌, ℕ, List, length, chars, IfOk, Err};
+ghost use Rattle.std.specs.Prelude.{◌≡◌, ◌≢◌, ◌≤◌, ℕ, Bool, false, List, length, chars, IfOk, Err};
 ghost use Rattle.std.specs.Result.{is_err};
 ghost use Rattle.idn_text.specs.Points.{AreScalarValues};
 ghost use Rattle.idn2_cli.specs.Answers.{LineAnswer};
@@ -22,6 +22,9 @@ pub(crate) trait PointAnswering {
 
     // What the mode needs to answer.
     ghost is_ready: { Self → Type 0 } = { λ _. Unit {0} };
+
+    // Whether it answers by a table.
+    ghost reads_table: { Self → Bool } = { λ _. false };
 
     // The code points of lines that it answers without memory.
     ghost needs_none: { Self → List ℕ → Type 0 } = { λ _ _. ⊥ };
@@ -57,6 +60,8 @@ impl<'m, M: PointAnswering> Answering for ByPoints<'m, M> {
     ghost answer_of = { λ by. M.answer_of by.mode.now };
 
     ghost is_ready = { λ by. M.is_ready by.mode.now };
+
+    ghost reads_table = { λ by. M.reads_table by.mode.now };
 
     ghost needs_none = { λ by line. M.needs_none by.mode.now (chars line) };
 

@@ -1,7 +1,7 @@
 //! The least label that a label spells from a text on. A database that has its labels in byte order finds by it which of
 //! them are variants of a label.
 
-ghost use Rattle.std.specs.Prelude.{◌≡◌, ◌≤◌, ◌==◌, ◌∷◌, [], ◌++◌, length, slice_get, IfOk, Err};
+ghost use Rattle.std.specs.Prelude.{◌≡◌, ◌≤◌, ◌==◌, ◌∷◌, [], ◌++◌, true, length, slice_get, IfOk, Err};
 ghost use Rattle.std.specs.List.{position_or_len};
 ghost use Rattle.std.specs.Result.{is_err};
 ghost use Rattle.idn_text.specs.Points.{AreScalarValues};
@@ -9,6 +9,7 @@ ghost use Rattle.idn_label.specs.FirstFault.{IsRegistrable};
 ghost use Rattle.variant_table.specs.WellFormed.{IsWellFormed};
 ghost use Rattle.variant_list.specs.Jumps.{candidates_from};
 ghost use Rattle.idn2_cli.specs.Answers.{jump_answer, jump_line, least_answer, requested_label, requested_text};
+ghost use Rattle.idn2_cli.specs.Memory.{IsRefusedWithoutMemory};
 ghost use Rattle.idn2_cli.specs.Transcript.{Output, pieces_for};
 ghost use Rattle.idn2_cli.specs.inner.Emitting.{Emits};
 ghost use Rattle.idn2_cli.specs.declared.session.stop.Stop.TheVariants as stop;
@@ -37,6 +38,10 @@ impl<'t> PointAnswering for Jumps<'t> {
     ghost answer_of = { λ mode line. jump_answer mode.table.now line };
 
     ghost is_ready = { λ mode. IsWellFormed mode.table.now.entries };
+
+    ghost reads_table = { λ _. true };
+
+    ghost needs_none = { λ _ line. IsRefusedWithoutMemory (requested_label line) };
 
     fn answer_points<W: Sink, E: Sink>(
         &self,

@@ -1,6 +1,6 @@
 //! The variants of a label under a table, all of them or those that are registered.
 
-ghost use Rattle.std.specs.Prelude.{◌≡◌, All, IfOk};
+ghost use Rattle.std.specs.Prelude.{◌≡◌, true, All, IfOk};
 ghost use Rattle.std.specs.Result.{is_err};
 ghost use Rattle.idn_label.specs.FirstFault.{IsRegistrable};
 ghost use Rattle.idn_label.specs.Memory.{NeedsNoMemory};
@@ -9,6 +9,7 @@ ghost use Rattle.std.specs.Option.{option_copied};
 ghost use Rattle.idn2_options.specs.Settings.{IsWithinLimits, keeping};
 ghost use Rattle.idn2_cli.specs.Answers.{variants_answer, listing_answer, tested_after};
 ghost use Rattle.idn2_cli.specs.inner.Dispositions.{AreOfTable, TellsWell, block_by, field_by};
+ghost use Rattle.idn2_cli.specs.Memory.{IsRefusedWithoutMemory};
 ghost use Rattle.idn2_cli.specs.Transcript.{output_lines, pieces_for};
 ghost use Rattle.idn2_cli.specs.inner.Emitting.{Emits, StopsForMemory};
 
@@ -42,6 +43,10 @@ impl<'t, 'r, 'b> PointAnswering for Variants<'t, 'r, 'b> {
 
     ghost is_ready = { λ mode. IsWithinLimits mode.options.now × IsWellFormed mode.table.now.entries
         × AreOfTable mode.table.now mode.dispositions.now };
+
+    ghost reads_table = { λ _. true };
+
+    ghost needs_none = { λ _ label. IsRefusedWithoutMemory label };
 
     ghost goes_on = { λ mode label. All NeedsNoMemory (tested_after (keeping (option_copied mode.registered) mode.options.now) mode.table.now.entries label) };
 

@@ -27,7 +27,7 @@ pub(crate) fn serve_lines<M: Answering, R: Source, W: Sink, E: Sink>(
 ) -> Result<Status, Stop>
     requires ready { M.is_ready mode.now }
     requires unread { IsUnread input.old }
-    ensures { Does (lines_job (M.answer_of mode.now) (M.needs_none mode.now) (M.goes_on mode.now)) input.old input.new console.old console.new result }
+    ensures { Does (lines_job (M.answer_of mode.now) (M.reads_table mode.now) (M.needs_none mode.now) (M.goes_on mode.now)) input.old input.new console.old console.new result }
 {
     let mut buffers = Buffers::new();
     let mut has_refused = false;

@@ -1,10 +1,12 @@
-use Rattle.std.proofs.Common.{◌≡◌, ℕ, Bool, true, false, List, [], ◌∷◌, length, Option, Some, None, refl, sym, ap, ap₂, ◌∙◌}
+use Rattle.std.proofs.Common.{◌≡◌, ℕ, Bool, true, false, List, [], ◌∷◌, length, Option, Some, None, Err, refl, sym, ap, ap₂, subst, ◌∙◌}
 use Rattle.std.specs.List.{list_all}
 use Rattle.std.proofs.lemmas.Bool.{not-false, not-true}
 use Rattle.std.proofs.lemmas.Result.{IfErr-weaker, err_from_is_err_and}
 use Rattle.idn_text.specs.declared.refusal.Refusal.{Refusal}
-use Rattle.idn_text.specs.declared.refusal.Refusal.TheVariants.{LabelTooLong}
+use Rattle.idn_text.specs.declared.refusal.Refusal.TheVariants.{LabelTooLong, Memory}
 use Rattle.idn_text.specs.Points.{IsUtf8Of}
+use Rattle.idn_text.proofs.Utf8Lemmas.{points_from_utf8}
+use Rattle.idn_label.specs.Memory.{NeedsNoMemory}
 use Rattle.idn_label.specs.FirstFault.{first_of, fault_if, is_too_long, first_fault, utf8_fault}
 use Rattle.idn_label.specs.Steps.{is_ldh_point}
 use Rattle.idn_label.specs.inner.FaultSteps.{fault_but_length}
@@ -37,6 +39,13 @@ pub returns-in_err-check_label-clause-fault : goal.returns-in_err-check_label-cl
 returns-in_err-check_label-clause-fault c =
     let p = err_from_is_err_and c.from_residual.result c.from_residual.ensures.1 in
     rw p.1 (λ other. rw (p.2) (measured c.args.label.now _ (Some c.in_err-check_label.field-0.0) _ c.in-Some.ensures.points (c.in_err-check_label.ensures.fault (rw (p.2) at other)) refl))
+
+pub returns-in_err-check_label-clause-no_memory : goal.returns-in_err-check_label-clause-no_memory
+returns-in_err-check_label-clause-no_memory c =
+    let p = err_from_is_err_and c.from_residual.result c.from_residual.ensures.1 in
+    let points = points_from_utf8 _ _ c.in-Some.ensures.points in
+    rw (p.1, p.2)
+    (λ none is. c.in_err-check_label.ensures.no_memory (subst NeedsNoMemory points none) (let same : c.in_err-check_label.field-0.0 ≡ Memory = cc in ap Err same))
 
 pub is_short-requires : goal.is_short-requires
 is_short-requires c = ap length c.in-Some.ensures.points.encoded

@@ -1,4 +1,4 @@
-use Rattle.std.proofs.Common.{refl, ap, sym, ◌∙◌, Ok, ℕ, List, Bool}
+use Rattle.std.proofs.Common.{refl, ap, sym, ◌∙◌, Ok, ℕ, List, Bool, false}
 use Rattle.idn_label.specs.Lookup.{lookup_answer}
 use Rattle.idn_label.specs.Memory.{LooksUpWithoutMemory}
 use Rattle.std.specs.Option.{option_copied}
@@ -16,7 +16,7 @@ returns-in-Lookup g c =
     let mode = sym (ap (λ (v : Settings). v.mode) c.options.view_is) ∙ c.in-Lookup.is in
     let std3 = ap (λ (v : Settings). v.std3) c.options.view_is in
     let by : Bool → List ℕ → LineAnswer = λ b name. one_line (lookup_answer name b) in
-    as_mode o Lookup c.args.table.now (Ok no_table) _ _ _ _ _ c.serve_lines.result mode refl (ap (λ b. lines_job (by b) (LooksUpWithoutMemory b) (λ line. Unit {0})) std3) c.serve_lines.ensures
+    as_mode o Lookup c.args.table.now (Ok no_table) _ _ _ _ _ c.serve_lines.result mode refl (ap (λ b. lines_job (by b) false (LooksUpWithoutMemory b) (λ line. Unit {0})) std3) c.serve_lines.ensures
 
 pub returns-in-Register : goal.returns-in-Register
 returns-in-Register g c =

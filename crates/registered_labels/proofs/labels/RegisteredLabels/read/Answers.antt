@@ -11,7 +11,7 @@ use Rattle.registered_labels.proofs.ReadLabels.{IsAboveAll, AreLabelsIn-more, Is
 use Rattle.idn_text.specs.declared.refusal.Refusal.TheVariants.{OutOfOrder, FileTooLong}
 use Rattle.registered_labels.specs.Texts.{IsWrongBy, IsFaultOf}
 use Rattle.registered_labels.proofs.LabelLists.{AreRegistered-in}
-use Rattle.registered_labels.proofs.TextLines.{HasRead, HasRead-none, HasRead-more, IsTextOf-read, IsFirstWrong-here, IsFaultOf-refused, IsLastOf, IsLastOf-more, IsOutOfOrder-seen, accepted_label, compared_bytes, length-next}
+use Rattle.registered_labels.proofs.TextLines.{HasRead, HasRead-none, HasRead-more, IsTextOf-read, IsFirstWrong-here, IsFaultOf-refused, IsLastOf, IsLastOf-more, IsOutOfOrder-seen, accepted_label, in_order, compared_bytes, length-next}
 use Rattle.registered_labels.proofs.ReadLabels.{AreLabelsIn-none}
 use Rattle.registered_labels.proofs.labels.RegisteredLabels.read.Goals as goal
 
@@ -54,6 +54,7 @@ loop-at-preserved c =
       last = subst (IsAboveAll (labels_at text c.push.new.self.items)) now
           (subst (λ (ss : List Span). IsAboveAll (labels_at text ss) label) (sym pushed) (IsAboveAll-more text at end len label few reached within read spans last c.loop-at.invariant.labels c.loop-at.invariant.last greater));
       counted = omega (arith, c.loop-at.invariant.counted, reached);
+      in_time = omega (arith, c.if-end-gt-MAX_TEXT_LEN.false);
       lines = subst (HasRead text (end + 1) (c.loop-at.number + 1)) (sym labels) (HasRead-more text at end c.loop-at.number len (labels_at text spans) label c.loop-at-test.true c.line_end-line.ensures.end read c.loop-at.invariant.lines);
       last_label = subst (IsLastOf (labels_at text c.push.new.self.items)) now (subst (λ (ls : List (List ℕ)). IsLastOf ls label) (sym labels) (IsLastOf-more (labels_at text spans) label));
     }
@@ -65,6 +66,7 @@ loop-at-init c = record {
   stands = refl;
   last = subst (λ spans. IsAboveAll (labels_at c.args.text.now spans) (chars [])) (sym c.new-spans.ensures.items) (λ w b. tt);
   counted = omega arith;
+  in_time = omega arith;
   lines = subst (λ spans. HasRead c.args.text.now 0 0 (labels_at c.args.text.now spans)) (sym c.new-spans.ensures.items) (HasRead-none c.args.text.now);
   last_label = subst (λ spans. IsLastOf (labels_at c.args.text.now spans) (chars [])) (sym c.new-spans.ensures.items) (inl (refl, chars-nil));
 }
@@ -75,7 +77,7 @@ returns-in-Err-clause-fault c =
     subst (IsFaultOf c.args.text.now) (sym c.refused.ensures)
     (IsFaultOf-refused c.args.text.now (c.loop-at.number + 1) c.in-Err.refusal (λ other.
     IsFirstWrong-here c.args.text.now c.loop-at.at c.line_end-line.result.end c.loop-at.number labels (IsWrongBy c.in-Err.refusal)
-    c.loop-at-test.true c.line_end-line.ensures.end c.loop-at.invariant.lines (AreRegistered-in c.args.text.now c.loop-at.spans.items c.loop-at.invariant.labels)
+    c.loop-at-test.true c.loop-at.invariant.in_time c.line_end-line.ensures.end c.loop-at.invariant.lines (AreRegistered-in c.args.text.now c.loop-at.spans.items c.loop-at.invariant.labels)
     (inl (c.in-Err.ensures.refused other))))
 
 pub returns-then-not-is_lt-clause-fault : goal.returns-then-not-is_lt-clause-fault
@@ -91,17 +93,31 @@ returns-then-not-is_lt-clause-fault c =
     let compared : c.order_of.result ≡ label_cmp (chars c.loop-at.last.now) (chars body) = compared_bytes c.loop-at.last.now bytes body c.order_of.result (c.order_of.ensures ∙ ap₂ label_cmp c.loop-at.invariant.stands (part_from text c.loop-at.at c.in-Ok.len)) c.loop-at.invariant.key same (read.read).encoded in
     subst (IsFaultOf c.args.text.now) (sym c.refused-then-not-is_lt.ensures)
     (IsFirstWrong-here c.args.text.now c.loop-at.at c.line_end-line.result.end c.loop-at.number labels (IsWrongBy OutOfOrder)
-    c.loop-at-test.true c.line_end-line.ensures.end c.loop-at.invariant.lines (AreRegistered-in c.args.text.now c.loop-at.spans.items c.loop-at.invariant.labels)
+    c.loop-at-test.true c.loop-at.invariant.in_time c.line_end-line.ensures.end c.loop-at.invariant.lines (AreRegistered-in c.args.text.now c.loop-at.spans.items c.loop-at.invariant.labels)
     (inr (inl (refl, IsOutOfOrder-seen (slice_range c.args.text.now c.loop-at.at c.line_end-line.result.end) c.in-Ok.len labels (chars c.loop-at.last.now) (chars body) c.order_of.result c.is_lt.result c.in-Ok.ensures.read c.loop-at.invariant.last_label compared c.is_lt.ensures c.if-not-is_lt.true))))
 
 pub returns-then-end-gt-MAX_TEXT_LEN-clause-fault : goal.returns-then-end-gt-MAX_TEXT_LEN-clause-fault
 returns-then-end-gt-MAX_TEXT_LEN-clause-fault c =
-    let labels : List (List ℕ) = labels_at c.args.text.now c.loop-at.spans.items in
-    subst (IsFaultOf c.args.text.now) (sym c.refused-then-end-gt-MAX_TEXT_LEN.ensures)
-    (IsFirstWrong-here c.args.text.now c.loop-at.at c.line_end-line.result.end c.loop-at.number labels (IsWrongBy FileTooLong)
-    c.loop-at-test.true c.line_end-line.ensures.end c.loop-at.invariant.lines (AreRegistered-in c.args.text.now c.loop-at.spans.items c.loop-at.invariant.labels)
-    (inr (inr (refl, accepted_label (slice_range c.args.text.now c.loop-at.at c.line_end-line.result.end) c.in-Ok.len (chars (take c.in-Ok.len (slice_range c.args.text.now c.loop-at.at c.line_end-line.result.end))) c.in-Ok.ensures.read, omega (arith, c.line_end-line.ensures.end.reached, length-next c.args.text.now c.loop-at.at c.line_end-line.result.end c.line_end-line.ensures.end)))))
+    let text : List ℕ = c.args.text.now in
+    let at : ℕ = c.loop-at.at in
+    let end : ℕ = c.line_end-line.result.end in
+    let len : ℕ = c.in-Ok.len in
+    let line : List ℕ = slice_range text at end in
+    let labels : List (List ℕ) = labels_at text c.loop-at.spans.items in
+    let last : List ℕ = chars c.loop-at.last.now in
+    let body : List ℕ = take len line in
+    let label : List ℕ = chars body in
+    let read : IsReadAs line len label = c.in-Ok.ensures.read in
+    let few : len ≤ end - at = omega (arith, read.within, length-line text at end) in
+    let bytes : List ℕ = slice_range text at (at + len) in
+    let same : bytes ≡ body = sym (body_is text at end len label few c.line_end-line.ensures.end.reached c.line_end-line.ensures.end.within read) in
+    let compared : c.order_of.result ≡ label_cmp last label = compared_bytes c.loop-at.last.now bytes body c.order_of.result (c.order_of.ensures ∙ ap₂ label_cmp c.loop-at.invariant.stands (part_from text at len)) c.loop-at.invariant.key same (read.read).encoded in
+    let greater : IsBelow last label = below_from_test last label c.order_of.result c.is_lt.result compared c.is_lt.ensures c.if-not-is_lt.false in
+    subst (IsFaultOf text) (sym c.refused-then-end-gt-MAX_TEXT_LEN.ensures)
+    (IsFirstWrong-here text at end c.loop-at.number labels (IsWrongBy FileTooLong)
+    c.loop-at-test.true c.loop-at.invariant.in_time c.line_end-line.ensures.end c.loop-at.invariant.lines (AreRegistered-in text c.loop-at.spans.items c.loop-at.invariant.labels)
+    (inr (inr (refl, accepted_label line len label read, in_order line len labels last label read c.loop-at.invariant.last_label greater, omega (arith, c.line_end-line.ensures.end.reached, length-next text at end c.line_end-line.ensures.end)))))
 
 pub returns-clause-labels : goal.returns-clause-labels
 returns-clause-labels c =
-    IsTextOf-read c.args.text.now c.loop-at.at c.loop-at.number (labels_at c.args.text.now c.loop-at.spans.items) c.loop-at-test.false c.loop-at.invariant.lines (AreRegistered-in c.args.text.now c.loop-at.spans.items c.loop-at.invariant.labels)
+    IsTextOf-read c.args.text.now c.loop-at.at c.loop-at.number (labels_at c.args.text.now c.loop-at.spans.items) c.loop-at-test.false c.loop-at.invariant.in_time c.loop-at.invariant.lines (AreRegistered-in c.args.text.now c.loop-at.spans.items c.loop-at.invariant.labels)

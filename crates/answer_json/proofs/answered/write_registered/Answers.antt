@@ -1,0 +1,7 @@
+use Rattle.std.proofs.Common.{◌∙◌}
+use Rattle.answer_json.proofs.Members.{ended, with_one}
+use Rattle.answer_json.proofs.answered.write_registered.Goals as goal
+
+pub returns : goal.returns
+returns c =
+    c.end_line.ensures ∙ ended (with_one _ (with_one _ c.begin_line.ensures.begun c.put_text.ensures.field) c.put_text-2.ensures.field)

@@ -1,0 +1,15 @@
+use Rattle.std.proofs.Common.{◌++◌, codes}
+use Rattle.std.specs.Option.{option_copied}
+use Rattle.answer_json.specs.Answers.{if_given, text}
+use Rattle.answer_json.specs.Details.{point}
+use Rattle.answer_json.proofs.Members.{more_fields}
+use Rattle.answer_json.proofs.details.put_rule.Goals as goal
+
+pub returns-clause-fields : goal.returns-clause-fields
+returns-clause-fields c =
+    let old = c.args.out.now.items in
+    let told = c.args.members.now in
+    let rule = if_given (codes "rule") text (option_copied told.rule) in
+    let bidi_class = if_given (codes "bidi_class") text (option_copied told.bidi_class) in
+    let nfc = if_given (codes "nfc") point told.nfc in
+    more_fields old (rule ++ bidi_class) nfc (more_fields old rule bidi_class c.put_text_if.ensures.field c.put_text_if-2.ensures.field) c.put_point_if.ensures.field

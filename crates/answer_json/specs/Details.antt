@@ -1,0 +1,90 @@
+-- What a refusal is told with: its number and its text, and then what its cause has.
+use Rattle.std.specs.Prelude.{ℕ, ◌≤◌, length, unwrap_or, Bool, true, List, [], ◌∷◌, ◌++◌, codes, Option, if◌then◌else◌}
+use Rattle.std.specs.Option.{option_copied}
+use Rattle.idn_text.specs.declared.refusal.Refusal.{Refusal}
+use Rattle.idn_text.specs.Refusals.{refusal_number, refusal_text}
+use Rattle.answer_json.specs.Answers.{Field, Value, if_given, count, text, flag}
+use Rattle.answer_json.specs.Hexadecimal.{point_text}
+use Rattle.answer_json.specs.declared.refusal_members.RefusalMembers.{RefusalMembers}
+
+-- each of these where the cause has it
+pub record Details : Type 0 where
+  -- the number of the label in its name, from 1
+  pub label : Option ℕ
+  -- the cause is of what an A-label stands for
+  pub decoded : Bool
+  pub code_point : Option ℕ
+  -- in code points, from 1
+  pub place : Option ℕ
+  -- the rule that is broken, by its document and section
+  pub rule : Option (List ℕ)
+  pub bidi_class : Option (List ℕ)
+  -- the code point that Normalization Form C has at the place
+  pub nfc : Option ℕ
+  -- how many code points the label has
+  pub code_points : Option ℕ
+  -- how many octets the A-label has, or the label of a name, or the name
+  pub octets : Option ℕ
+  -- the A-label of what the label stands for
+  pub alabel : Option (List ℕ)
+  -- the place of a byte, from 1
+  pub byte : Option ℕ
+
+-- a code point by its number
+abbrev pub point : ℕ → Value
+point c = text (point_text c)
+
+abbrev pub decoded_field : Bool → List Field
+decoded_field decoded = if decoded then (codes "decoded", flag true) ∷ [] else []
+
+-- in the order in which they are told: which label and where, by which rule, and what stands there
+abbrev pub where_fields : Details → List Field
+where_fields details =
+    if_given (codes "label") count details.label ++ decoded_field details.decoded
+    ++ if_given (codes "code_point") point details.code_point ++ if_given (codes "place") count details.place
+
+abbrev pub rule_fields : Details → List Field
+rule_fields details =
+    if_given (codes "rule") text details.rule ++ if_given (codes "bidi_class") text details.bidi_class
+    ++ if_given (codes "nfc") point details.nfc
+
+abbrev pub length_fields : Details → List Field
+length_fields details =
+    if_given (codes "code_points") count details.code_points ++ if_given (codes "octets") count details.octets
+    ++ if_given (codes "alabel") text details.alabel ++ if_given (codes "byte") count details.byte
+
+abbrev pub details_fields : Details → List Field
+details_fields details = where_fields details ++ rule_fields details ++ length_fields details
+
+-- {"number":10,"text":"disallowed code point","code_point":"U+0046","place":1,"rule":"RFC 5892 2.2"}
+abbrev pub refusal_fields : Refusal → Details → List Field
+refusal_fields refusal details =
+    (codes "number", count (refusal_number refusal)) ∷ (codes "text", text (refusal_text refusal)) ∷ details_fields details
+
+-- how long a text is that may be given
+abbrev pub given_len : Option (List ℕ) → ℕ
+given_len told = length (unwrap_or told [])
+
+-- for these there is space
+pub record HasShortTexts (details : Details) : Type 0 where
+  pub rule : given_len details.rule ≤ 64
+  pub bidi_class : given_len details.bidi_class ≤ 64
+  pub alabel : given_len details.alabel ≤ 252
+
+-- ---- the same of the values of Rust
+
+abbrev pub details_of : RefusalMembers → Details
+details_of members =
+    record {
+      label = members.label;
+      decoded = members.decoded;
+      code_point = members.code_point;
+      place = members.place;
+      rule = option_copied members.rule;
+      bidi_class = option_copied members.bidi_class;
+      nfc = members.nfc;
+      code_points = members.code_points;
+      octets = members.octets;
+      alabel = option_copied members.alabel;
+      byte = members.byte;
+    }

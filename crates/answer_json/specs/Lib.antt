@@ -1,0 +1,7 @@
+pub mod Answers
+pub mod Objects
+pub mod Inputs
+pub mod Hexadecimal
+pub mod Details
+pub mod Clear
+pub mod inner

@@ -1,0 +1,74 @@
+-- The object of each kind of answer, with its members in order.
+use Rattle.std.specs.Prelude.{ℕ, true, false, List, [], ◌∷◌, codes, Option, Some, None}
+use Rattle.idn_text.specs.declared.refusal.Refusal.{Refusal}
+use Rattle.answer_json.specs.Answers.{Field, Answer, if_given, count, text, flag}
+use Rattle.answer_json.specs.Details.{Details, refusal_fields}
+use Rattle.answer_json.specs.Inputs.{Told, input_field}
+use Rattle.answer_json.specs.declared.block.Disposition.{Disposition}
+use Rattle.answer_json.specs.declared.block.Disposition.TheVariants.{Allocatable, Blocked}
+
+-- an answer that is no refusal
+abbrev pub answered : List Field → Answer
+answered fields = record { fields = fields; refusal = None }
+
+-- the number of a line, from 1
+abbrev pub line_field : ℕ → Field
+line_field line = (codes "line", count line)
+
+-- ---- the answer to a line
+
+-- {"line":1,"input":"Faß.de","ascii":"xn--fa-hia.de"}
+abbrev pub looked_up : ℕ → Told → List ℕ → Answer
+looked_up line input ascii = answered (line_field line ∷ input_field input ∷ (codes "ascii", text ascii) ∷ [])
+
+-- {"line":1,"input":"xn--fa-hia","ulabel":"faß","alabel":"xn--fa-hia"}
+abbrev pub registered : ℕ → Told → List ℕ → List ℕ → Answer
+registered line input ulabel alabel =
+    answered (line_field line ∷ input_field input ∷ (codes "ulabel", text ulabel) ∷ (codes "alabel", text alabel) ∷ [])
+
+-- {"line":1,"input":"xn--fa-hia.de","unicode":"faß.de"}
+abbrev pub decoded : ℕ → Told → List ℕ → Answer
+decoded line input unicode = answered (line_field line ∷ input_field input ∷ (codes "unicode", text unicode) ∷ [])
+
+-- {"line":1,"input":"Faß","refusal":{"number":10,"text":"disallowed code point","code_point":"U+0046","place":1,"rule":"RFC 5892 2.2"}}
+abbrev pub refused : ℕ → Told → Refusal → Details → Answer
+refused line input refusal details =
+    record { fields = line_field line ∷ input_field input ∷ []; refusal = Some (refusal_fields refusal details) }
+
+-- ---- the block of a label: its variants, and a trailer
+
+-- whether a variant may be allocated (RFC 7940, section 7.3)
+abbrev pub disposition_text : Disposition → List ℕ
+disposition_text Allocatable = codes "allocatable"
+disposition_text Blocked = codes "blocked"
+
+-- {"line":1,"ulabel":"straße","alabel":"xn--strae-oqa","disposition":"allocatable"}; some tables have no dispositions
+abbrev pub variant : ℕ → List ℕ → List ℕ → Option Disposition → Answer
+variant line ulabel alabel disposition =
+    answered (line_field line ∷ (codes "ulabel", text ulabel) ∷ (codes "alabel", text alabel)
+    ∷ if_given (codes "disposition") (λ d. text (disposition_text d)) disposition)
+
+-- a block is complete, or there may be more variants after a label
+abbrev pub end_fields : Option (List ℕ) → List Field
+end_fields None = (codes "complete", flag true) ∷ []
+end_fields (Some after) = (codes "complete", flag false) ∷ (codes "after", text after) ∷ []
+
+-- {"line":1,"input":"strasse","count":1,"complete":false,"after":"strasse"}
+abbrev pub trailer : ℕ → Told → ℕ → Option (List ℕ) → Answer
+trailer line input variants stop =
+    answered (line_field line ∷ input_field input ∷ (codes "count", count variants) ∷ end_fields stop)
+
+-- ---- the check of a table
+
+-- {"source":"00DF","missing":"0073-0073"}
+abbrev pub gap : List ℕ → List ℕ → Answer
+gap source missing = answered ((codes "source", text source) ∷ (codes "missing", text missing) ∷ [])
+
+-- {"entries":2,"gaps":1}
+abbrev pub checked : ℕ → ℕ → Answer
+checked entries gaps = answered ((codes "entries", count entries) ∷ (codes "gaps", count gaps) ∷ [])
+
+-- {"table_line":2,"refusal":{"number":30,"text":"table syntax"}}
+abbrev pub table_fault : ℕ → Refusal → Details → Answer
+table_fault line refusal details =
+    record { fields = (codes "table_line", count line) ∷ []; refusal = Some (refusal_fields refusal details) }

@@ -1,0 +1,37 @@
+//! How the line that is answered is told.
+ghost use Rattle.std.specs.Prelude.{◌≡◌, ◌≤◌, ◌+◌, ◌++◌, ◌∷◌, [], length};
+ghost use Rattle.arrayvec.specs.ArrayVec.{array_vec_len};
+ghost use Rattle.answer_json.specs.Inputs.{input_field, told, told_len};
+ghost use Rattle.answer_json.specs.inner.Texts.{field_text};
+
+use crate::escaping::append;
+use crate::member::{MAX_OBJECT_LEN, ObjectLine, put_name, put_octets, put_text};
+
+/// A line of input, without its end.
+#[derive(Clone, Copy, Debug)]
+pub enum Input<'a> {
+    /// UTF-8, which is told as it is.
+    Text(&'a [u8]),
+    /// Bytes that are no UTF-8, which are told in hexadecimal digits.
+    Octets(&'a [u8]),
+    /// A line that is too long, of which no byte is kept.
+    NotKept,
+}
+
+/// Appends a line of input as a member.
+#[tactic(auto, unfolding(crate::specs::inner::Texts::field_text))]
+pub(crate) fn put_input(out: &mut ObjectLine, input: &Input)
+    requires short { told_len input.now ≤ 1024 }
+    requires room { array_vec_len out.old + 6200 ≤ MAX_OBJECT_LEN }
+    ensures field { out.new.items ≡ out.old.items ++ 44 ∷ field_text (input_field (told input.now)) }
+    ensures space { array_vec_len out.new ≤ array_vec_len out.old + 6200 }
+{
+    match input {
+        Input::Text(text) => put_text(out, b',', "input", text),
+        Input::Octets(octets) => put_octets(out, "input_hex", octets),
+        Input::NotKept => {
+            put_name(out, b',', "input");
+            append(out, b"null");
+        }
+    }
+}

@@ -1,0 +1,25 @@
+//! Answers as objects of JSON (RFC 8259), one on each line. Each is written into a buffer of a fixed size, and no memory is
+//! taken.
+#![tactic(auto)]
+
+mod answered;
+mod block;
+mod checked;
+mod details;
+mod escaping;
+mod hexadecimal;
+mod input;
+mod laws;
+mod member;
+mod refusal_members;
+mod refused;
+
+pub use answered::{write_decoded, write_looked_up, write_registered};
+pub use block::{Disposition, write_trailer, write_variant};
+pub use checked::{write_checked, write_gap};
+pub use escaping::{MAX_ESCAPE_LEN, append_escaped};
+pub use input::Input;
+pub use laws::{objects_are_lines, objects_are_read_back};
+pub use member::{MAX_OBJECT_LEN, ObjectLine};
+pub use refusal_members::RefusalMembers;
+pub use refused::{write_refused, write_table_fault};

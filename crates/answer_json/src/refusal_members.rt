@@ -1,0 +1,45 @@
+//! What a refusal is told with.
+
+/// The members of a refusal behind its number and its text: those that its cause has. Numbers count from 1.
+#[derive(Clone, Copy, Debug)]
+pub struct RefusalMembers<'a> {
+    /// The number of the label in its name.
+    pub label: Option<u64>,
+    /// Whether the cause is of what an A-label stands for.
+    pub decoded: bool,
+    /// A code point.
+    pub code_point: Option<u32>,
+    /// Its place, in code points.
+    pub place: Option<u64>,
+    /// The rule that is broken, by its document and section.
+    pub rule: Option<&'a str>,
+    /// The Bidi_Class of the code point.
+    pub bidi_class: Option<&'a str>,
+    /// The code point that Normalization Form C has at the place.
+    pub nfc: Option<u32>,
+    /// How many code points the label has.
+    pub code_points: Option<u64>,
+    /// How many octets the A-label has, or the label of a name, or the name.
+    pub octets: Option<u64>,
+    /// The A-label of what the label stands for.
+    pub alabel: Option<&'a str>,
+    /// The place of a byte.
+    pub byte: Option<u64>,
+}
+
+impl RefusalMembers<'_> {
+    /// No further member.
+    pub const NONE: RefusalMembers<'static> = RefusalMembers {
+        label: None,
+        decoded: false,
+        code_point: None,
+        place: None,
+        rule: None,
+        bidi_class: None,
+        nfc: None,
+        code_points: None,
+        octets: None,
+        alabel: None,
+        byte: None,
+    };
+}

@@ -1,0 +1,184 @@
+//! Why what begins with `xn--` is refused.
+ghost use Rattle.std.specs.Prelude.{◌≡◌, ◌<◌, ◌≤◌, length, drop, bytes_eq, Ok, Err, IfOk, IfSome, MatchOption};
+ghost use Rattle.idn_text.specs.Points.{AreScalarValues};
+ghost use Rattle.idn_text.specs.declared.refusal.Refusal.TheVariants as refusals;
+ghost use Rattle.idn_label.specs.FirstFault.{first_fault};
+ghost use Rattle.idn_label.specs.Register.{decoded_code};
+ghost use Rattle.idn_cause.specs.ALabelCauses.{a_label_cause, code_fault, decoded_cause, other_a_label, past_ascii, undecoded_cause};
+
+use crate::cause::{Cause, cause_of};
+use crate::places::code_point_at;
+use arrayvec::{ArrayString, ArrayVec};
+use idn_label::{ALabel, MAX_LABEL_LEN, ascii_text, is_all_ascii, test_label};
+use idn_text::{MAX_LINE_LEN, Refusal};
+use idna::{Errors, punycode};
+use std::alloc::{AllocError, Global};
+
+/// What gives an A-label its fault. Places are counted from 0, in code points.
+#[derive(Drop)]
+pub enum ALabelCause {
+    /// Nothing stands behind `xn--`.
+    NoCode,
+    /// A place and the code point there, the first that is not ASCII.
+    NotAscii(usize, u32),
+    /// What stands behind `xn--` is no Punycode.
+    NoPunycode,
+    /// The A-label of what it stands for, which is another one.
+    Other(ArrayVec<u8, MAX_LABEL_LEN>),
+    /// The cause of the same fault of what it stands for.
+    Decoded(Cause),
+}
+
+/// What gives a label that begins with `xn--` this fault, as the answers of registration and decoding have it. `None` where
+/// no cause is told for the fault. It takes memory.
+#[cold]
+#[tactic(auto, unfolding(crate::specs::ALabelCauses::a_label_cause))]
+pub fn a_label_cause(
+    alloc: Global,
+    given: &[u32],
+    refusal: Refusal,
+) -> Result<Option<ALabelCause>, AllocError>
+    requires { length given.now ≤ MAX_LINE_LEN }
+    ensures { IfOk result (λ cause. cause ≡ a_label_cause given.now refusal) }
+{
+    let code = code_of(given);
+    match decoded_code(alloc, code)? {
+        Some(label) => Ok(decoded_cause(alloc, given, &label, refusal)?),
+        None => Ok(undecoded_cause(code, refusal)),
+    }
+}
+
+/// What stands behind the four code points of the prefix.
+fn code_of(given: &[u32]) -> &[u32]
+    ensures { result.now ≡ drop 4 given.now }
+{
+    if given.len() <= 4 { &[] } else { &given[4..] }
+}
+
+/// What a code stands for, if it is Punycode.
+#[tactic(auto, unfolding(idn_label::specs::Register::decoded_code))]
+fn decoded_code(alloc: Global, code: &[u32]) -> Result<Option<Vec<u32>>, AllocError>
+    requires { length code.now ≤ MAX_LINE_LEN }
+    ensures label { IfOk result (λ label. MatchOption label (decoded_code code.now ≡ Err refusals.BadALabel) (λ points. decoded_code code.now ≡ Ok points.items)) }
+    ensures scalar_values { IfOk result (λ label. MatchOption label (Unit {0}) (λ points. AreScalarValues points.items)) }
+{
+    if code.is_empty() || !is_all_ascii(code) {
+        return Ok(None);
+    }
+    let text: ArrayString<MAX_LINE_LEN> = ascii_text(code);
+    match punycode::decode(alloc, text.as_str()) {
+        Ok(label) => Ok(Some(points_of(alloc, &label)?)),
+        Err(Errors::Invalid) => Ok(None),
+        Err(Errors::OutOfMemory) => Err(AllocError),
+    }
+}
+
+/// A label as numbers.
+fn points_of(alloc: Global, label: &[char]) -> Result<Vec<u32>, AllocError>
+    ensures points { IfOk result (λ points. points.items ≡ label.now) }
+    ensures scalar_values { IfOk result (λ points. AreScalarValues points.items) }
+{
+    let mut points = Vec::with_capacity(alloc, label.len())?;
+    for character in label {
+        points.push(u32::from(*character))?;
+    }
+    Ok(points)
+}
+
+/// The cause where the code stands for no label.
+fn undecoded_cause(code: &[u32], refusal: Refusal) -> Option<ALabelCause>
+    ensures { result ≡ undecoded_cause code.now refusal }
+{
+    match refusal {
+        Refusal::BadALabel => Some(code_fault(code)),
+        _ => None,
+    }
+}
+
+/// Why a code stands for no label.
+fn code_fault(code: &[u32]) -> ALabelCause
+    ensures { result ≡ code_fault code.now }
+{
+    if code.is_empty() {
+        return ALabelCause::NoCode;
+    }
+    match past_ascii(code) {
+        Some(place) => ALabelCause::NotAscii(place + 4, code_point_at(code, place)),
+        None => ALabelCause::NoPunycode,
+    }
+}
+
+/// The place of the first code point that is not ASCII.
+fn past_ascii(code: &[u32]) -> Option<usize>
+    ensures place { result ≡ past_ascii code.now }
+    ensures within { IfSome result (λ place. place < length code.now) }
+{
+    for place in 0..code.len() {
+        if code[place] >= 128 {
+            return Some(place);
+        }
+    }
+    None
+}
+
+/// The cause where the code stands for this label.
+fn decoded_cause(
+    alloc: Global,
+    given: &[u32],
+    label: &[u32],
+    refusal: Refusal,
+) -> Result<Option<ALabelCause>, AllocError>
+    requires { AreScalarValues label.now }
+    ensures { IfOk result (λ cause. cause ≡ decoded_cause given.now label.now refusal) }
+{
+    match refusal {
+        Refusal::BadALabel => Ok(other_a_label(alloc, given, label)?),
+        _ => match cause_of(alloc, label, refusal)? {
+            Some(cause) => Ok(Some(ALabelCause::Decoded(cause))),
+            None => Ok(None),
+        },
+    }
+}
+
+/// The A-label of a label without a fault, where it is another than the one given.
+fn other_a_label(
+    alloc: Global,
+    given: &[u32],
+    label: &[u32],
+) -> Result<Option<ALabelCause>, AllocError>
+    ensures { IfOk result (λ cause. cause ≡ other_a_label given.now label.now (first_fault label.now)) }
+{
+    match test_label(alloc, label) {
+        Ok(a_label) if is_same(&a_label, given) => Ok(None),
+        Ok(a_label) => Ok(Some(ALabelCause::Other(octets_of(&a_label)))),
+        Err(Refusal::Memory) => Err(AllocError),
+        Err(_) => Ok(None),
+    }
+}
+
+/// Whether an A-label is this one.
+fn is_same(a_label: &ALabel, given: &[u32]) -> bool
+    ensures { result ≡ bytes_eq a_label.now.bytes given.now }
+{
+    let octets = a_label.as_str().as_bytes();
+    if octets.len() != given.len() {
+        return false;
+    }
+    for place in 0..octets.len() {
+        if u32::from(octets[place]) != given[place] {
+            return false;
+        }
+    }
+    true
+}
+
+/// The octets of an A-label.
+fn octets_of(a_label: &ALabel) -> ArrayVec<u8, MAX_LABEL_LEN>
+    ensures { result.items ≡ a_label.now.bytes }
+{
+    let mut octets = ArrayVec::new();
+    let Ok(()) = octets.try_extend_from_slice(a_label.as_str().as_bytes()) else {
+        unreachable!()
+    };
+    octets
+}

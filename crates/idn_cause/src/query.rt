@@ -1,0 +1,130 @@
+//! Which length the DNS does not allow of a name that is looked up (RFC 1035, section 2.3.4).
+ghost use Rattle.std.specs.Prelude.{◌≡◌, length, slice_index, IfOk};
+ghost use Rattle.std.specs.Int.{is_in_range};
+ghost use Rattle.std.specs.Option.{option_map};
+ghost use Rattle.idna.specs.declared.options.Hyphens.TheVariants.{Allow};
+ghost use Rattle.idna.specs.declared.options.DnsLength.TheVariants.{Ignore};
+ghost use Rattle.idna.specs.Labels.{labels_of};
+ghost use Rattle.idna.specs.Uts46.{to_ascii};
+ghost use Rattle.idn_label.specs.Lookup.{deny_list};
+ghost use Rattle.idn_cause.specs.NameLabels.{first_failing_label};
+ghost use Rattle.idn_cause.specs.NameCauses.{has_label_length, length_cause, length_cause_of, query_cause, without_root};
+
+use idn_label::{MAX_LABEL_LEN, label_end};
+use idn_text::Refusal;
+use idna::{AsciiDenyList, Errors, domain_to_ascii_cow};
+use std::alloc::{AllocError, Global};
+
+/// The most octets of a name in the DNS, a full stop at its end put aside.
+const MAX_NAME_LEN: usize = 253;
+
+/// A length that the DNS does not allow.
+#[derive(Clone, Copy, Debug, PartialEq, Eq)]
+pub enum LengthCause {
+    /// The number of the first label of such a length, counted from 0, and its octets.
+    LabelOctets(usize, usize),
+    /// The octets of the name, more than 253.
+    NameOctets(usize),
+}
+
+/// What gives a name in UTF-8 this fault at its lookup. `None` where no cause is told for the fault: ToASCII has one error
+/// for all that it refuses.
+#[cold]
+#[tactic(auto, unfolding(crate::specs::NameCauses::query_cause))]
+pub fn query_cause(
+    alloc: Global,
+    name: &[u8],
+    std3: bool,
+    refusal: Refusal,
+) -> Result<Option<LengthCause>, AllocError>
+    ensures { IfOk result (λ cause. cause ≡ query_cause name.now std3 refusal) }
+{
+    match refusal {
+        Refusal::LookupLength => Ok(length_cause_of(alloc, name, std3)?),
+        _ => Ok(None),
+    }
+}
+
+/// The same of a name that has a wrong length.
+fn length_cause_of(
+    alloc: Global,
+    name: &[u8],
+    std3: bool,
+) -> Result<Option<LengthCause>, AllocError>
+    ensures { IfOk result (λ cause. cause ≡ length_cause_of (to_ascii (deny_list std3) Allow Ignore name.now)) }
+{
+    match domain_to_ascii_cow(alloc, name, deny_list(std3)) {
+        Ok(ascii) => Ok(length_cause(ascii.as_str().as_bytes())),
+        Err(Errors::Invalid) => Ok(None),
+        Err(Errors::OutOfMemory) => Err(AllocError),
+    }
+}
+
+fn deny_list(std3: bool) -> AsciiDenyList
+    ensures { result ≡ deny_list std3 }
+{
+    if std3 {
+        AsciiDenyList::STD3
+    } else {
+        AsciiDenyList::EMPTY
+    }
+}
+
+/// The first label of a wrong length, else the octets of the name, if they are too many.
+fn length_cause(ascii: &[u8]) -> Option<LengthCause>
+    ensures { result ≡ length_cause ascii.now }
+{
+    let name = without_root(ascii);
+    if let Some((number, octets)) = wrong_label(name) {
+        return Some(LengthCause::LabelOctets(number, octets));
+    }
+    if name.len() > MAX_NAME_LEN {
+        return Some(LengthCause::NameOctets(name.len()));
+    }
+    None
+}
+
+/// A name without the full stop at its end.
+fn without_root(name: &[u8]) -> &[u8]
+    ensures { result.now ≡ without_root name.now }
+{
+    let last = name.len().saturating_sub(1);
+    if octet_at(name, last) == b'.' {
+        &name[..last]
+    } else {
+        name
+    }
+}
+
+/// The octet at a place, or 0 past the end.
+fn octet_at(name: &[u8], place: usize) -> u8
+    ensures { result ≡ slice_index name.now place }
+{
+    if place < name.len() { name[place] } else { 0 }
+}
+
+/// The number of the first label of a wrong length, and its octets.
+fn wrong_label(name: &[u8]) -> Option<(usize, usize)>
+    ensures { result ≡ option_map (λ found. (found.0, length found.1)) (first_failing_label has_label_length 0 (labels_of name.now)) }
+{
+    let mut start = 0;
+    let mut number = 0;
+    'labels: loop {
+        let end = label_end(name, start);
+        if !has_label_length(end - start) {
+            return Some((number, end - start));
+        }
+        if end == name.len() {
+            return None;
+        }
+        start = end + 1;
+        number += 1;
+    }
+}
+
+/// Whether a label may have so many octets.
+fn has_label_length(octets: usize) -> bool
+    ensures { result ≡ is_in_range 1 63 octets }
+{
+    1 <= octets && octets <= MAX_LABEL_LEN
+}
