@@ -67,7 +67,7 @@ at_point s (Some c) = Some (record s { current = record s.current { points = s.c
 
 abbrev pub begin_by : State → EntryWord → List ℕ → Option State
 begin_by s word.Mark w = Some (marked s)
-begin_by s other w = at_point s (point_of w)
+begin_by s e w = at_point s (point_of w)
 
 abbrev pub begin : State → List ℕ → Option State
 begin s w = begin_by s (word_of w) w
@@ -94,7 +94,7 @@ with_done s = record { done = s.done ++ s.current ∷ []; current = nothing; las
 abbrev pub separated : State → EntryWord → Option State
 separated s word.Bar = if is_first s.done then Some (with_done s) else None
 separated s word.Colon = if is_first s.done then None else Some (with_done s)
-separated s other = None
+separated s e = None
 
 abbrev pub behind_rule : State → EntryWord → Option State
 behind_rule s w = if is_some s.last then None else separated s w
@@ -103,21 +103,21 @@ behind_rule s w = if is_some s.last then None else separated s w
 abbrev pub behind_tags : State → EntryWord → Option State
 behind_tags s word.When = Some (with_phase s phase.When)
 behind_tags s word.Unless = Some (with_phase s phase.Unless)
-behind_tags s other = behind_rule s other
+behind_tags s e = behind_rule s e
 
 abbrev pub behind_tag : State → EntryWord → Option State
 behind_tag s word.Comma = Some (with_phase s phase.As)
-behind_tag s other = behind_tags s other
+behind_tag s e = behind_tags s e
 
 -- 'as', unless '!' stands before; or what may stand behind tags
 abbrev pub behind_points : State → EntryWord → Option State
 behind_points s word.As = if s.current.marked then None else Some (with_phase s phase.As)
-behind_points s other = behind_tags s other
+behind_points s e = behind_tags s e
 
 abbrev pub behind_point : State → EntryWord → Option State
 behind_point s word.Hyphen = Some (with_phase s phase.Hyphen)
 behind_point s word.Range = if may_be_range s then Some (with_phase s phase.Range) else None
-behind_point s other = behind_points s other
+behind_point s e = behind_points s e
 
 -- a tag, which is none of those before
 abbrev pub at_tag : State → List ℕ → Option State
@@ -160,7 +160,7 @@ is_complete phase.Point = true
 is_complete phase.Last = true
 is_complete phase.Tag = true
 is_complete phase.Rule = true
-is_complete other = false
+is_complete e = false
 
 abbrev pub ended : State → Option EntryForm
 ended s = if is_complete s.phase then Some (record { mapped = s.done ++ s.current ∷ []; last = s.last }) else None
