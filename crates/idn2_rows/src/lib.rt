@@ -13,6 +13,8 @@ mod collisions;
 #[cfg(test)]
 mod decoded_names;
 #[cfg(test)]
+mod definitions;
+#[cfg(test)]
 mod faults;
 #[cfg(test)]
 mod first_faults;

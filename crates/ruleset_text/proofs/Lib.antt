@@ -19,3 +19,5 @@ mod LineBackLemmas
 mod DefinitionsBackLemmas
 mod DefinedLemmas
 mod KnownPatternLemmas
+mod EntryLemmas
+mod EntryBackLemmas

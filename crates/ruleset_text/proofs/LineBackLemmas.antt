@@ -41,7 +41,7 @@ pub record IsNameWord (name : List ℕ) : Type 0 where
   pub word : AllByRecursion (λ c. IsTrue (is_word_byte c)) name
   pub no_set : set_name name ≡ None
 
-name_word : (name : List ℕ) → is_name name ≡ true → IsNameWord name
+pub name_word : (name : List ℕ) → is_name name ≡ true → IsNameWord name
 name_word [] is = absurd (cc)
 name_word (c ∷ cs) is =
     let parts = and_parts (is_letter c && nat_le (length cs) 31) (list_all is_name_byte cs) is in
@@ -142,7 +142,7 @@ known_to n (Many p) h = known_to n p h
 known_to n (Then p q) h = ap (λ b. b && has_its_sets n q) (known_to n p h.0) ∙ known_to n q h.1
 known_to n (Either p q) h = ap (λ b. b && has_its_sets n q) (known_to n p h.0) ∙ known_to n q h.1
 
-new_to : (names : List (List ℕ)) (name : List ℕ) → IsNew name names → is_one_of names name ≡ false
+pub new_to : (names : List (List ℕ)) (name : List ℕ) → IsNew name names → is_one_of names name ≡ false
 new_to [] name h = refl
 new_to (x ∷ xs) name h =
     no_false (bytes_eq x name) (is_one_of xs name) (no_true (bytes_eq x name) (λ e. h.0 (sym ((bytes_eq-Decides x name).0 e)))) (new_to xs name h.1)

@@ -79,7 +79,7 @@ no_range word l h =
     let bad : false ≡ true = all.0 in cc)
 
 -- a word doesn't begin with a full stop
-no_stops : (word rest : List ℕ) → 0 < length word → AllByRecursion (λ c. IsTrue (is_word_byte c)) word → begins_in_stops (word ++ rest) ≡ false
+pub no_stops : (word rest : List ℕ) → 0 < length word → AllByRecursion (λ c. IsTrue (is_word_byte c)) word → begins_in_stops (word ++ rest) ≡ false
 no_stops [] rest l h = absurd (omega (arith, l))
 no_stops (c ∷ cs) rest l h =
     no_true (eqb c 46) (λ e. let bad : false ≡ true = sym (ap is_word_byte (eqb-true c 46 e)) ∙ h.0 in cc)
@@ -111,7 +111,7 @@ point_goes c rest s e =
     let word = point_word [] c s in
     ap (map part_of) (word_first (point_text c) rest word.0 word.1 e) ∙ ap (λ p. p ∷ map part_of (lexemes rest)) (point_part_of c s)
 
-stops_go : (t : List ℕ) → begins_in_stops t ≡ false → lexemes (46 ∷ 46 ∷ t) ≡ (46 ∷ 46 ∷ []) ∷ lexemes t
+pub stops_go : (t : List ℕ) → begins_in_stops t ≡ false → lexemes (46 ∷ 46 ∷ t) ≡ (46 ∷ 46 ∷ []) ∷ lexemes t
 stops_go t e = ap (λ b. onto_first 46 (cond b (onto_first 46 (lexemes t)) ((46 ∷ []) ∷ lexemes t))) e
 
 span_goes : (s : Span) (rest : List ℕ) → is_scalar_value s.first ≡ true → is_scalar_value s.last ≡ true → IsApart rest → map part_of (lexemes (span_text s ++ rest)) ≡ span_parts s ++ map part_of (lexemes rest)

@@ -16,4 +16,7 @@ pub mod Definitions
 pub mod DemandTrees
 pub mod DefinitionCodes
 pub mod WellFormed
+pub mod Entries
+pub mod EntryForms
+pub mod EntryText
 pub mod inner

@@ -1,7 +1,8 @@
 //! Laws of the definitions, each the contract of a function that does nothing.
-ghost use Rattle.std.specs.Prelude.{◌≡◌, ◌≤◌, ◌↔◌, Ok, Err, ℕ, [], ◌∷◌, length, List, Some, None, true, false, codes};
+ghost use Rattle.std.specs.Prelude.{◌≡◌, ◌≤◌, ◌↔◌, Ok, Err, ℕ, [], ◌∷◌, length, List, Option, Some, None, true, false, codes};
 ghost use Rattle.label_patterns.specs.Patterns.{Pattern};
 ghost use Rattle.ruleset_text.specs.declared.definition.DemandKind.TheVariants as demand;
+ghost use Rattle.ruleset_text.specs.declared.entry_form.ConditionKind.TheVariants as condition;
 ghost use Rattle.ruleset_text.specs.declared.fault.DefinitionFault.TheVariants.{Limit, NoSuchName, SameName, Syntax};
 ghost use Rattle.ruleset_text.specs.declared.keyword.Keyword.{Keyword};
 ghost use Rattle.ruleset_text.specs.declared.token.Token.{Token};
@@ -11,8 +12,10 @@ ghost use Rattle.ruleset_text.specs.Canonical.{HasPoints, pattern_text};
 ghost use Rattle.ruleset_text.specs.Definition.{contexts_of, demand_of};
 ghost use Rattle.ruleset_text.specs.Definition as definition;
 ghost use Rattle.ruleset_text.specs.Definitions.{Definitions, added, canonical_lines, canonical_size, defined, nothing_defined, with_lines, with_words};
+ghost use Rattle.ruleset_text.specs.Entries.{Mapped, entry_in};
+ghost use Rattle.ruleset_text.specs.EntryText.{IsForm, entry_text};
 ghost use Rattle.ruleset_text.specs.Grammar.{Is, Whole, SpellsPattern};
-ghost use Rattle.ruleset_text.specs.inner.Examples.{some_defined};
+ghost use Rattle.ruleset_text.specs.inner.Examples.{some_defined, written};
 ghost use Rattle.ruleset_text.specs.Lexemes.{lexemes};
 ghost use Rattle.ruleset_text.specs.Names.{AreNames, is_name};
 ghost use Rattle.ruleset_text.specs.Reading.{pattern_of};
@@ -42,6 +45,11 @@ pub fn what_lines_define_has_no_fault()
 /// as these.
 pub fn canonical_lines_are_read_back()
     ensures { (d : Definitions) (limit : ℕ) → AreDefinitions d → canonical_size d ≤ limit → with_lines limit nothing_defined (canonical_lines d) ≡ Ok d }
+{}
+
+/// The canonical text of an entry or of a range is read as it.
+pub fn canonical_entries_are_read_back()
+    ensures { (mapped : List Mapped) (last : Option ℕ) → IsForm mapped last → entry_in (lexemes (entry_text mapped last)) ≡ Some (record { mapped = mapped; last = last }) }
 {}
 
 /// Examples, which the definitions compute; one set is defined, with the name A.
@@ -132,4 +140,34 @@ pub fn definitions_compute_the_lines()
     ensures rule_as_tag { with_words 1000 some_defined (lexemes (codes "%tag r")) ≡ Err SameName }
     ensures rule_again { with_words 1000 some_defined (lexemes (codes "%rule r _")) ≡ Err SameName }
     ensures set_as_rule { with_words 1000 some_defined (lexemes (codes "%rule A _")) ≡ Err SameName }
+{}
+
+/// Examples of entries and of ranges, which the definitions compute.
+pub fn definitions_compute_the_entries()
+    ensures entry { entry_in (lexemes (codes "0061-0065 | ! u+00e4")) ≡ Some (record { mapped = written false (97 ∷ 101 ∷ []) [] None ∷ written true (228 ∷ []) [] None ∷ []; last = None }) }
+    ensures tags { entry_in (lexemes (codes "56FD as simp,trad|570B as trad:!0061")) ≡ Some (record { mapped = written false (22269 ∷ []) (codes "simp" ∷ codes "trad" ∷ []) None ∷ written false (22283 ∷ []) (codes "trad" ∷ []) None ∷ written true (97 ∷ []) [] None ∷ []; last = None }) }
+    ensures words_as_names { entry_in (lexemes (codes "0061 as as when when")) ≡ Some (record { mapped = written false (97 ∷ []) (codes "as" ∷ []) (Some (record { kind = condition.When; rule = codes "when" })) ∷ []; last = None }) }
+    ensures range { entry_in (lexemes (codes "!0062 .. 0063 unless r")) ≡ Some (record { mapped = written true (98 ∷ []) [] (Some (record { kind = condition.Unless; rule = codes "r" })) ∷ []; last = Some 99 }) }
+    ensures mark_with_tags { entry_in (lexemes (codes "!0061 as t")) ≡ None }
+    ensures blocked_with_tags { entry_in (lexemes (codes "0061|!0062 as t")) ≡ None }
+    ensures tag_twice { entry_in (lexemes (codes "0061 as t,t")) ≡ None }
+    ensures no_tag { entry_in (lexemes (codes "0061 as")) ≡ None }
+    ensures tags_without_comma { entry_in (lexemes (codes "0061 as t v")) ≡ None }
+    ensures tags_last { entry_in (lexemes (codes "0061 when r as t")) ≡ None }
+    ensures two_conditions { entry_in (lexemes (codes "0061 when r unless r")) ≡ None }
+    ensures no_rule { entry_in (lexemes (codes "0061 when")) ≡ None }
+    ensures no_variant { entry_in (lexemes (codes "0061 when r|")) ≡ None }
+    ensures no_source { entry_in (lexemes (codes "when r")) ≡ None }
+    ensures no_point { entry_in (lexemes (codes "0061-when")) ≡ None }
+    ensures range_as_variant { entry_in (lexemes (codes "0061|0062..0063")) ≡ None }
+    ensures range_of_sequence { entry_in (lexemes (codes "0061-0062..0063")) ≡ None }
+    ensures two_marks { entry_in (lexemes (codes "!!0061")) ≡ None }
+    ensures bar_last { entry_in (lexemes (codes "0061|")) ≡ None }
+    ensures comma { entry_in (lexemes (codes "0061,0062")) ≡ None }
+    ensures comment_behind { entry_in (lexemes (codes "0061 # a")) ≡ None }
+    ensures falling { entry_in (lexemes (codes "0063..0061")) ≡ None }
+    ensures variant_of_range { entry_in (lexemes (codes "0061..0063|0064")) ≡ None }
+    ensures colon_first { entry_in (lexemes (codes "0061:0062")) ≡ None }
+    ensures two_bars { entry_in (lexemes (codes "0061|0062|0063")) ≡ None }
+    ensures nothing { entry_in (lexemes (codes "")) ≡ None }
 {}

@@ -1,4 +1,4 @@
-//! Reading the definitions of a ruleset: the names, sets, rules and demands of its lines.
+//! Reading the lines of a ruleset: tags, sets, rules and demands, and the forms of entries.
 #![tactic(auto)]
 
 mod canonical;
@@ -7,6 +7,8 @@ mod definition;
 mod definition_line;
 mod definition_reading;
 mod definitions;
+mod entry_form;
+mod entry_reading;
 mod fault;
 mod keyword;
 mod laws;
@@ -25,10 +27,13 @@ pub use classes::{has_bad_end, has_bad_point};
 pub use definition::{Definition, DemandKind, push_definition};
 pub use definition_reading::{read_contexts, read_definition, read_demand, read_name};
 pub use definitions::{Definitions, Demand};
+pub use entry_form::{Condition, ConditionKind, EntryForm, Mapped};
+pub use entry_reading::read_entry;
 pub use fault::DefinitionFault;
 pub use keyword::{Keyword, keyword_of};
 pub use laws::{
-    canonical_lines_are_read_back, canonical_text_is_read_back, definitions_compute_the_examples,
+    canonical_entries_are_read_back, canonical_lines_are_read_back, canonical_text_is_read_back,
+    definitions_compute_the_entries, definitions_compute_the_examples,
     definitions_compute_the_lines, reading_a_pattern_is_exact, what_lines_define_has_no_fault,
 };
 pub use lexemes::next_lexeme;

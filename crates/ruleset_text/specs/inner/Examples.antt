@@ -1,7 +1,9 @@
--- Definitions that lines of examples stand behind.
-use Rattle.std.specs.Prelude.{[], ◌∷◌, codes}
+-- Definitions that lines of examples stand behind, and parts of examples.
+use Rattle.std.specs.Prelude.{ℕ, Bool, Option, List, [], ◌∷◌, codes}
 use Rattle.label_patterns.specs.Patterns as patterns
+use Rattle.ruleset_text.specs.declared.entry_form.Condition.{Condition}
 use Rattle.ruleset_text.specs.Definitions.{Definitions}
+use Rattle.ruleset_text.specs.Entries.{Mapped}
 use Rattle.ruleset_text.specs.Spans.{span}
 
 -- the tags t and v; the set A, which is a; the rule r, which holds before b
@@ -14,3 +16,7 @@ some_defined = record {
   rules = patterns.Then patterns.Place (patterns.Point 98) ∷ [];
   demands = [];
 }
+
+-- a source or a variant, as it is written
+abbrev pub written : Bool → List ℕ → List (List ℕ) → Option Condition → Mapped
+written marked points tags condition = record { marked = marked; points = points; tags = tags; condition = condition }

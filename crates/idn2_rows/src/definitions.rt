@@ -1,0 +1,83 @@
+//! What lines of a ruleset define, and the first fault of a line that defines nothing.
+use ruleset_text::{DefinitionFault, Definitions};
+
+/// How many bytes the canonical text may have.
+const LIMIT: usize = 1000;
+
+/// Lines before each of those below.
+const DEFINED: [&str; 4] = ["%tag t", "%tag v", "%set A 0061", "%rule r _ 0062"];
+
+/// A line, and its first fault, if it has one.
+const LINES: [(&str, Option<DefinitionFault>); 45] = [
+    ("%tag a", None),
+    ("%tag R", None),
+    ("  %set\tabcd 0061 .. 0063 u+0065", None),
+    ("%set D 0900..097F", None),
+    ("%rule U ^ _ @A/_(@A / .)* $", None),
+    ("%never ((0061* 0062)* 0063)", None),
+    ("%always @A .* @A?", None),
+    ("", Some(DefinitionFault::Syntax)),
+    ("%version 3", Some(DefinitionFault::Syntax)),
+    ("%Set C 0061", Some(DefinitionFault::Syntax)),
+    ("% set C 0061", Some(DefinitionFault::Syntax)),
+    ("%set", Some(DefinitionFault::Syntax)),
+    ("%set C", Some(DefinitionFault::Syntax)),
+    ("%set C 0061..0063 0063", Some(DefinitionFault::Syntax)),
+    ("%set C @A", Some(DefinitionFault::Syntax)),
+    ("%set 9c 0061", Some(DefinitionFault::Syntax)),
+    ("%set C-D 0061", Some(DefinitionFault::Syntax)),
+    ("%tag", Some(DefinitionFault::Syntax)),
+    ("%tag a b", Some(DefinitionFault::Syntax)),
+    ("%rule s @A", Some(DefinitionFault::Syntax)),
+    ("%rule s _ / @A", Some(DefinitionFault::Syntax)),
+    ("%rule s (@A / $) _", Some(DefinitionFault::Syntax)),
+    ("%never", Some(DefinitionFault::Syntax)),
+    ("%never @A _", Some(DefinitionFault::Syntax)),
+    ("%never @A@A", Some(DefinitionFault::Syntax)),
+    ("%always / @A", Some(DefinitionFault::Syntax)),
+    (
+        "%never (((((((((0061)))))))))",
+        Some(DefinitionFault::Limit),
+    ),
+    ("%never ((0061* 0062)* 0063)*", Some(DefinitionFault::Limit)),
+    (
+        "%never (((((((((@nope)))))))))",
+        Some(DefinitionFault::Limit),
+    ),
+    ("%rule s @B _", Some(DefinitionFault::NoSuchName)),
+    ("%rule s @r _", Some(DefinitionFault::NoSuchName)),
+    ("%never (@A @B)", Some(DefinitionFault::NoSuchName)),
+    ("%never @nope 0041", Some(DefinitionFault::NoSuchName)),
+    ("%rule t @nope _", Some(DefinitionFault::NoSuchName)),
+    ("%set C 0041", Some(DefinitionFault::BadClass)),
+    ("%set D 0041..007A", Some(DefinitionFault::BadClass)),
+    ("%never 0041", Some(DefinitionFault::BadClass)),
+    ("%rule s 0041 _", Some(DefinitionFault::BadClass)),
+    ("%set t 0041", Some(DefinitionFault::BadClass)),
+    ("%tag t", Some(DefinitionFault::SameName)),
+    ("%tag A", Some(DefinitionFault::SameName)),
+    ("%set t 0061", Some(DefinitionFault::SameName)),
+    ("%set r 0061", Some(DefinitionFault::SameName)),
+    ("%rule A _", Some(DefinitionFault::SameName)),
+    ("%rule r _", Some(DefinitionFault::SameName)),
+];
+
+#[test]
+fn first_faults_of_lines(rt: HostRuntime) {
+    for (line, wanted) in LINES {
+        assert_eq!(&rt; fault(&rt, line), wanted, "{line:?}");
+    }
+}
+
+/// The first fault of a line behind those above.
+fn fault(rt: &HostRuntime, line: &str) -> Option<DefinitionFault> {
+    let mut definitions = Definitions::new(rt.alloc());
+    for earlier in DEFINED {
+        definitions
+            .define_line(rt.alloc(), LIMIT, earlier.as_bytes())
+            .ok()?;
+    }
+    definitions
+        .define_line(rt.alloc(), LIMIT, line.as_bytes())
+        .err()
+}

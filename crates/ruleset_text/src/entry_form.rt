@@ -1,0 +1,34 @@
+//! What a line of an entry or of a range says.
+use crate::names::Name;
+
+/// Where the rule of a condition has to hold.
+#[derive(Clone, Copy, Debug, PartialEq, Eq)]
+pub enum ConditionKind {
+    /// It holds.
+    When,
+    /// It doesn't hold.
+    Unless,
+}
+
+/// Where a source or a variant may be used, by the name of a rule.
+#[derive(Drop)]
+pub struct Condition {
+    pub kind: ConditionKind,
+    pub rule: Name,
+}
+
+/// A source or a variant, as a line writes it: with `!` or without, with the names of its tags, and its condition.
+#[derive(Drop)]
+pub struct Mapped {
+    pub marked: bool,
+    pub points: Vec<u32>,
+    pub tags: Vec<Name>,
+    pub condition: Option<Condition>,
+}
+
+/// An entry: its source, then its variants. Or a range: a source of one code point, and the last code point.
+#[derive(Drop)]
+pub struct EntryForm {
+    pub mapped: Vec<Mapped>,
+    pub last: Option<u32>,
+}
