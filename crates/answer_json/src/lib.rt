@@ -14,6 +14,8 @@ mod laws;
 mod member;
 mod refusal_members;
 mod refused;
+#[cfg(test)]
+mod rows;
 
 pub use answered::{write_decoded, write_looked_up, write_registered};
 pub use block::{Disposition, write_trailer, write_variant};
