@@ -3,21 +3,23 @@ use Rattle.std.proofs.Common.{◌≡◌, ℕ, ◌≤◌, nat_le, Bool, true, fal
 use Rattle.std.specs.Str.{is_utf8, IsValidUpTo}
 use Rattle.std.proofs.lemmas.Bool.Decides.{nat_tests}
 use Rattle.std.proofs.lemmas.Str.{utf8_valid_len-IsValidUpTo, is_utf8-from_IsUtf8}
-use Rattle.idn_text.specs.Points.{IsUtf8Of, utf8_of}
+use Rattle.idn_text.specs.Points.{IsUtf8Of}
 use Rattle.idn_text.specs.declared.refusal.Refusal.{Refusal}
 use Rattle.idn_text.specs.declared.refusal.Refusal.TheVariants.{NotInTable}
 use Rattle.idn_text.proofs.Utf8Lemmas.{IsUtf8-from_points, points_from_utf8}
-use Rattle.idn_cause.specs.declared.cause.Cause.{Cause}
 use Rattle.idn_cause.specs.declared.cause.Cause.TheVariants.{Point}
 use Rattle.variant_table.specs.Entries.{Entry}
 use Rattle.variant_table.specs.WellFormed.{IsWellFormed}
 use Rattle.variant_list.specs.Furthest.{IsFurthest, furthest}
 use Rattle.variant_list.proofs.FurthestLemmas.{furthest-told}
-use Rattle.idn2_cli.specs.Explained.{Explained, Unexplained, bad_byte, points_cause, unless_unexplained, outside_cause, table_cause, text_cause}
+use Rattle.idn2_cli.specs.Explained.{Explained, Unexplained, bad_byte, points_cause, unless_unexplained, table_cause, text_cause}
 use Rattle.idn2_cli.specs.CauseTexts.{tail_text}
 use Rattle.idn2_cli.specs.Transcript.{body_tail, points_tail}
-use Rattle.idn2_cli.specs.declared.session.cause.LineCause.{LineCause}
 use Rattle.idn2_cli.proofs.TextAnswers.{is_not_utf8}
+use Rattle.idn2_cli.specs.inner.Explaining.{explained_by}
+use Rattle.idn2_cli.specs.declared.session.cause.Explaining.{Explaining}
+use Rattle.idn2_cli.specs.declared.session.cause.Explaining.TheVariants as by
+use Rattle.idn2_cli.specs.declared.session.cause.LineCause.{LineCause}
 use Rattle.idn2_cli.specs.declared.session.cause.LineCause.TheVariants.{Byte}
 
 -- without the option a message ends as ever
@@ -58,4 +60,15 @@ text_cause-not_utf8 explained bytes refusal other =
 pub text_cause-none : (explained : Explained) (bytes : List ℕ) (refusal : Refusal) → ((points : List ℕ) → IsUtf8Of bytes points → ⊥) → text_cause explained bytes refusal ≡ unless_unexplained explained (bad_byte bytes)
 text_cause-none explained bytes refusal none = text_cause-not_utf8 explained bytes refusal (is_not_utf8 bytes none (is_utf8 bytes) refl)
 
-pub ruleset causes_of_text = (text_cause-points, text_cause-none)
+unexplained_text : (bytes : List ℕ) (refusal : Refusal) → text_cause Unexplained bytes refusal ≡ None
+unfolding points_cause
+unexplained_text bytes refusal = by_utf8 (is_utf8 bytes)
+  where
+    by_utf8 : (utf8 : Bool) → (let told : Option LineCause = cond utf8 None None in told) ≡ None
+    by_utf8 true = refl
+    by_utf8 false = refl
+
+pub text_cause-nothing : (explaining : Explaining) (bytes : List ℕ) (refusal : Refusal) → explaining ≡ by.Nothing → text_cause (explained_by explaining) bytes refusal ≡ None
+text_cause-nothing explaining bytes refusal is = ap (λ (e : Explaining). text_cause (explained_by e) bytes refusal) is ∙ unexplained_text bytes refusal
+
+pub ruleset causes_of_text = (text_cause-points, text_cause-none, text_cause-nothing)

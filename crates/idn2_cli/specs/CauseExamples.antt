@@ -1,5 +1,5 @@
 -- What messages go on with for causes, by computation.
-use Rattle.std.specs.Prelude.{◌≡◌, Option, Some, codes}
+use Rattle.std.specs.Prelude.{◌≡◌, Some, codes}
 use Rattle.idn_text.specs.declared.refusal.Refusal.TheVariants as refusals
 use Rattle.idn_class.specs.declared.barring.BarringLine.TheVariants as lines
 use Rattle.idn_class.specs.declared.bidi_class.BidiClass.TheVariants.{L}

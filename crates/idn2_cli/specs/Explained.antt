@@ -1,5 +1,5 @@
 -- The cause that is told of a refused line, where causes are wanted: `--explain`. Places and labels are counted from 0.
-use Rattle.std.specs.Prelude.{◌≡◌, ℕ, nat_le, Bool, List, length, chars, Option, Some, None, slice_index, Ok, Err, if◌then◌else◌}
+use Rattle.std.specs.Prelude.{ℕ, nat_le, Bool, List, length, chars, Option, Some, None, slice_index, Ok, Err, if◌then◌else◌}
 use Rattle.std.specs.Option.{option_map}
 use Rattle.std.specs.Str.{is_utf8}
 use Rattle.std.specs.Str.Lossy.{utf8_valid_len}

@@ -1,9 +1,10 @@
 //! Why what begins with `xn--` is refused.
 ghost use Rattle.std.specs.Prelude.{◌≡◌, ◌<◌, ◌≤◌, length, drop, bytes_eq, Ok, Err, IfOk, IfSome, MatchOption};
+ghost use Rattle.std.specs.Result.{is_ok};
 ghost use Rattle.idn_text.specs.Points.{AreScalarValues};
 ghost use Rattle.idn_text.specs.declared.refusal.Refusal.TheVariants as refusals;
 ghost use Rattle.idn_label.specs.FirstFault.{first_fault};
-ghost use Rattle.idn_label.specs.Register.{decoded_code};
+ghost use Rattle.idn_label.specs.Register.{confirmed, decoded_code, u_label_answer};
 ghost use Rattle.idn_cause.specs.ALabelCauses.{a_label_cause, code_fault, decoded_cause, other_a_label, past_ascii, undecoded_cause};
 
 use crate::cause::{Cause, cause_of};
@@ -45,6 +46,30 @@ pub fn a_label_cause(
     match decoded_code(alloc, code)? {
         Some(label) => Ok(decoded_cause(alloc, given, &label, refusal)?),
         None => Ok(undecoded_cause(code, refusal)),
+    }
+}
+
+/// Whether what begins with `xn--` is the A-label of a label that may be registered.
+#[tactic(auto, using(crate::proofs::NameSteps::a_labels))]
+pub(crate) fn is_a_label(alloc: Global, given: &[u32]) -> Result<bool, AllocError>
+    requires { length given.now ≤ MAX_LINE_LEN }
+    ensures { IfOk result (λ is. is ≡ is_ok (u_label_answer given.now)) }
+{
+    match decoded_code(alloc, code_of(given))? {
+        Some(label) => Ok(is_confirmed(alloc, given, &label)?),
+        None => Ok(false),
+    }
+}
+
+/// Whether a label may be registered, and its A-label is the one given.
+#[tactic(auto, using(crate::proofs::NameSteps::confirmed_labels))]
+fn is_confirmed(alloc: Global, given: &[u32], label: &[u32]) -> Result<bool, AllocError>
+    ensures { IfOk result (λ is. is ≡ is_ok (confirmed given.now label.now)) }
+{
+    match test_label(alloc, label) {
+        Ok(a_label) => Ok(is_same(&a_label, given)),
+        Err(Refusal::Memory) => Err(AllocError),
+        Err(_) => Ok(false),
     }
 }
 

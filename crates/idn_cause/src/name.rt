@@ -3,8 +3,8 @@ ghost use Rattle.std.specs.Prelude.{◌≡◌, ◌≤◌, Some, length, map, IfO
 ghost use Rattle.std.specs.Char.{to_ascii_lowercase};
 ghost use Rattle.idn_cause.specs.NameCauses.{cause_at_label, is_decoded, name_cause};
 
-use crate::a_label::{ALabelCause, a_label_cause};
-use idn_label::{has_ace_prefix_in_any_case, label_end, register};
+use crate::a_label::{ALabelCause, a_label_cause, is_a_label};
+use idn_label::{has_ace_prefix_in_any_case, label_end};
 use idn_text::{MAX_LINE_LEN, Refusal};
 use std::alloc::{AllocError, Global};
 
@@ -55,11 +55,7 @@ fn is_decoded(alloc: Global, label: &[u32]) -> Result<bool, AllocError>
         return Ok(true);
     }
     let lower = lowercase_of(alloc, label)?;
-    match register(alloc, &lower) {
-        Ok(_) => Ok(true),
-        Err(Refusal::Memory) => Err(AllocError),
-        Err(_) => Ok(false),
-    }
+    Ok(is_a_label(alloc, &lower)?)
 }
 
 /// The cause of the fault of the label of this number.

@@ -74,6 +74,27 @@ pub(crate) fn cause_of_text(
     ensures cause { IfOk result (λ cause. cause ≡ text_cause (explained_by explaining.entry) text.now refusal) }
     ensures unexplained { explained_by explaining.entry ≡ explained.Unexplained → IsOk result }
 {
+    // Without the option nothing is looked for.
+    if let Explaining::Nothing = explaining {
+        return Ok(None);
+    }
+    wanted_cause_of_text(alloc, text, refusal, explaining)
+}
+
+/// The same, where it is looked for.
+#[cold]
+#[inline(never)]
+#[tactic(auto, using(crate::proofs::CauseLemmas::causes_of_text))]
+fn wanted_cause_of_text(
+    alloc: Global,
+    text: &[u8],
+    refusal: Refusal,
+    explaining: Explaining<'_>,
+) -> Result<Option<LineCause>, AllocError>
+    requires short { length text.now ≤ MAX_LINE_LEN }
+    ensures cause { IfOk result (λ cause. cause ≡ text_cause (explained_by explaining.entry) text.now refusal) }
+    ensures unexplained { explained_by explaining.entry ≡ explained.Unexplained → IsOk result }
+{
     let mut points = ArrayVec::new();
     match decode_points(text, &mut points) {
         Ok(()) => cause_of_points(alloc, points.as_slice(), refusal, explaining),
