@@ -5,6 +5,8 @@ Where it does not know, since a code point is newer than the data here, or since
 `Unknown`. It holds all labels that a label spells in a set, so it is for small tables and short labels.
 """
 
+import functools
+
 import check
 from causes import Causes
 from notation import reading
@@ -127,7 +129,12 @@ class Run:
     """`registration` has the rules of labels, `classes` the classes of code points."""
 
     def __init__(self, registration, classes):
-        self.registration, self.classes, self.causes = registration, classes, Causes(registration, classes)
+        self.registration, self.classes = registration, classes
+
+    @functools.cached_property
+    def causes(self):
+        """Made only where causes are told, since it reads more of Unicode's data."""
+        return Causes(self.registration, self.classes)
 
     def answer(self, words, given, files):
         """(output, messages, status); output is None where only its being there is known."""

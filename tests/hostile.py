@@ -468,7 +468,7 @@ def tells_of_memory_within_any_address_space(folder):
                          (["--variants", blocking, "--among", registered], labels)):
         whole, refused = run(words, given), 0
         assert whole.returncode in (0, 1), whole
-        for space in range(2 << 20, 14 << 20, 128 << 10):
+        for space in range(2 << 20, 14 << 20, 32 << 10):
             done = run_within(space, words, given)
             # The loader, which needs some room before the program begins, ends with 127.
             if done.returncode == 4:
