@@ -14,8 +14,6 @@ from program import ROOT, run_tests, text_of
 
 # What goes up today, each to be removed: (crate, module, what it uses). No other may come.
 TO_BE_REMOVED = {
-    # The fault of a reader stands beside the lines; the layer below them gives it.
-    ("idn_text", "input", "lines"),
     # A cause stands beside the look for all causes; the files for single causes make it.
     ("idn_cause", "lengths", "cause"),
     ("idn_cause", "normalization", "cause"),

@@ -41,21 +41,21 @@ refused_is refusal answer (Ok b) is memory refused = elim (is_memory refusal) [
 ]
 
 -- a line that is refused seeks no cause only if causes are not told
-pub unexplained : (explained : Explained) (answer : LineAnswer) (refusal : Refusal) → answer ≡ Err refusal → SeeksNoCause explained answer → explained ≡ Unexplained
-unexplained explained (Ok lines) refusal is seeks = let clash : Ok lines ≡ Err refusal = is in cc
+pub unexplained : (how : Explained) (answer : LineAnswer) (refusal : Refusal) → answer ≡ Err refusal → SeeksNoCause how answer → how ≡ Unexplained
+unexplained how (Ok lines) refusal is seeks = let clash : Ok lines ≡ Err refusal = is in cc
 unexplained Unexplained (Err other) refusal is seeks = refl
 unexplained _ (Err other) refusal is seeks = absurd seeks
 
 -- such a refusal is not stopped by memory
-pub refused_without : (explained : Explained) (answer : LineAnswer) (refusal : Refusal) (r : Result Bool Stop) → refusal ≢ Memory → (refusal ≢ Memory → answer ≡ Err refusal)
-    → (explained ≡ Unexplained → refusal ≢ Memory → IfErr r (λ why. why ≡ stop.Messages)) → SeeksNoCause explained answer → r ≢ Err stop.Memory
-refused_without explained answer refusal (Ok b) other is why seeks = λ e. let clash : Ok b ≡ Err stop.Memory = e in cc
-refused_without explained answer refusal (Err reason) other is why seeks = λ e.
-    let same : reason ≡ stop.Messages = why (unexplained explained answer refusal (is other) seeks) other in
+pub refused_without : (how : Explained) (answer : LineAnswer) (refusal : Refusal) (r : Result Bool Stop) → refusal ≢ Memory → (refusal ≢ Memory → answer ≡ Err refusal)
+    → (how ≡ Unexplained → refusal ≢ Memory → IfErr r (λ why. why ≡ stop.Messages)) → SeeksNoCause how answer → r ≢ Err stop.Memory
+refused_without how answer refusal (Ok b) other is why seeks = λ e. let clash : Ok b ≡ Err stop.Memory = e in cc
+refused_without how answer refusal (Err reason) other is why seeks = λ e.
+    let same : reason ≡ stop.Messages = why (unexplained how answer refusal (is other) seeks) other in
     let told : reason ≡ stop.Memory = cc in
     let clash : stop.Messages ≡ stop.Memory = sym same ∙ told in cc
 
--- the same, explained in another way that is the same
+-- the same, how in another way that is the same
 pub emits_explained : {A : Type 0} (old new : Held) (first second : Explained) (text : List ℕ) (number : ℕ) (answer : LineAnswer) (r : Result A Stop) → first ≡ second
     → Emits old new (pieces_for (body_tail first (Some text)) number answer) r → Emits old new (pieces_for (body_tail second (Some text)) number answer) r
 emits_explained old new first second text number answer r same emits =
@@ -67,8 +67,8 @@ emits_explained_points old new first second points number answer r same emits =
     subst (λ (e : Explained). Emits old new (pieces_for (points_tail e points) number answer) r) same emits
 
 -- the pieces of the code points of a line are those of its bytes
-pub emits_points : {A : Type 0} (old new : Held) (explained : Explained) (bytes points : List ℕ) (number : ℕ) (answer : LineAnswer) (r : Result A Stop) → IsUtf8Of bytes points
-    → Emits old new (pieces_for (points_tail explained points) number answer) r → Emits old new (pieces_for (body_tail explained (Some bytes)) number answer) r
-emits_points old new explained bytes points number (Ok lines) r is emits = emits
-emits_points {A} old new explained bytes points number (Err refusal) r is emits =
-    subst (λ (tail : List ℕ). Emits old new (Message (refused_message number refusal tail) ∷ []) r) (sym (body_tail-points explained bytes points refusal is)) emits
+pub emits_points : {A : Type 0} (old new : Held) (how : Explained) (bytes points : List ℕ) (number : ℕ) (answer : LineAnswer) (r : Result A Stop) → IsUtf8Of bytes points
+    → Emits old new (pieces_for (points_tail how points) number answer) r → Emits old new (pieces_for (body_tail how (Some bytes)) number answer) r
+emits_points old new how bytes points number (Ok lines) r is emits = emits
+emits_points {A} old new how bytes points number (Err refusal) r is emits =
+    subst (λ (tail : List ℕ). Emits old new (Message (refused_message number refusal tail) ∷ []) r) (sym (body_tail-points how bytes points refusal is)) emits

@@ -12,7 +12,7 @@ use Rattle.std.specs.Io.KnownBytes.{Consumes, Keeps}
 use Rattle.std.specs.Option.{option_map}
 use Rattle.std.specs.Str.Lines.{strip_carriage_return}
 use Rattle.idn_text.specs.Taking.{Input, left, HasFailed}
-use Rattle.idn_text.specs.declared.lines.ReadFault.{ReadFault}
+use Rattle.idn_text.specs.declared.input.ReadFault.{ReadFault}
 use Rattle.idn_text.specs.Lines.{HasNoFeed, is_long_line, body_of}
 use Rattle.idn_text.specs.inner.TakenLines.{Takes, kept}
 use Rattle.idn_text.proofs.KnownBytesLemmas.{consumes_front, consumes_join, consumes_kept, consumes_nothing}

@@ -4,7 +4,7 @@ use Rattle.std.specs.Io.KnownBytes.{Consumes}
 use Rattle.std.specs.Option.{option_map}
 use Rattle.std.specs.Str.Lines.{strip_carriage_return}
 use Rattle.idn_text.specs.declared.lines.Line.{Line}
-use Rattle.idn_text.specs.declared.lines.ReadFault.{ReadFault}
+use Rattle.idn_text.specs.declared.input.ReadFault.{ReadFault}
 use Rattle.idn_text.specs.declared.lines.State.{State}
 use Rattle.idn_text.specs.declared.lines.State.TheVariants.{Open, Ended, Stopped}
 use Rattle.idn_text.specs.Bodies.{bytes_of}

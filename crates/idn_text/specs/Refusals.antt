@@ -1,9 +1,9 @@
 -- The numbers and the texts of refusals.
 use Rattle.std.specs.Prelude.{ℕ, List, codes}
 use Rattle.idn_text.specs.declared.refusal.Refusal.{Refusal}
-use Rattle.idn_text.specs.declared.refusal.Refusal.TheVariants.{NotUtf8, LineTooLong, Empty, OutOfOrder, FileTooLong, Disallowed, Unassigned, NotNfc, Hyphen, LeadingMark, ContextJ, ContextO, Bidi, LabelTooLong, BadALabel, LookupInvalid, LookupLength, Syntax, SameSource, SameVariant, BadClass, Limit, NotInTable, Usage, ReadFault, WriteFault, Memory}
+use Rattle.idn_text.specs.declared.refusal.Refusal.TheVariants.{NotUtf8, LineTooLong, Empty, OutOfOrder, FileTooLong, Disallowed, Unassigned, NotNfc, Hyphen, LeadingMark, ContextJ, ContextO, Bidi, LabelTooLong, BadALabel, LookupInvalid, LookupLength, Syntax, SameSource, SameVariant, BadClass, Limit, NoSuchName, SameName, NotInTable, NotValid, Usage, ReadFault, WriteFault, Memory}
 
--- 1 to 5 are of a line, 10 to 21 of a label or a name, 30 to 34 of a table, 40 of a label under a table, 50 to 70 of a run
+-- 1 to 5 are of a line, 10 to 21 of a label or a name, 30 to 36 of a table, 40 and 41 of a label under a table, 50 to 70 of a run
 abbrev pub refusal_number : Refusal → ℕ
 refusal_number NotUtf8 = 1
 refusal_number LineTooLong = 2
@@ -27,7 +27,10 @@ refusal_number SameSource = 31
 refusal_number SameVariant = 32
 refusal_number BadClass = 33
 refusal_number Limit = 34
+refusal_number NoSuchName = 35
+refusal_number SameName = 36
 refusal_number NotInTable = 40
+refusal_number NotValid = 41
 refusal_number Usage = 50
 refusal_number ReadFault = 60
 refusal_number WriteFault = 61
@@ -57,7 +60,10 @@ refusal_text SameSource = codes "source given twice"
 refusal_text SameVariant = codes "variant given twice"
 refusal_text BadClass = codes "code point not allowed in a table"
 refusal_text Limit = codes "table limit"
+refusal_text NoSuchName = codes "name not defined"
+refusal_text SameName = codes "name given twice"
 refusal_text NotInTable = codes "not made of table entries"
+refusal_text NotValid = codes "not valid under the table"
 refusal_text Usage = codes "usage"
 refusal_text ReadFault = codes "read fault"
 refusal_text WriteFault = codes "write fault"

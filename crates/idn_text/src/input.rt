@@ -8,9 +8,9 @@ ghost use Rattle.idn_text.specs.inner.TakenLines as inner;
 
 use crate::body::MAX_LINE_LEN;
 use crate::device::{DeviceFault, Source};
-use crate::lines::ReadFault;
 use crate::text_lines::split_at_feed;
 use std::marker::Model;
+use thiserror::Error;
 
 /// The most read calls.
 const READ_LIMIT: u64 = 1 << 40;
@@ -18,9 +18,14 @@ const READ_LIMIT: u64 = 1 << 40;
 /// How many bytes are held, at most.
 const BUFFER_LEN: usize = 16384;
 
+/// A reader failed, or was called too often, or has too many lines.
+#[derive(Clone, Copy, Debug, PartialEq, Eq, Error)]
+#[error("read fault")]
+pub struct ReadFault;
+
 /// Where a line stands in the buffer.
 #[derive(Clone, Copy)]
-pub enum Place {
+pub enum LinePlace {
     /// From `start` to before `end`.
     Text { start: usize, end: usize },
     /// Nowhere, since it has more bytes than a line may have.
@@ -33,7 +38,7 @@ pub enum Place {
 pub struct Input<R: Source> {
     reader: R,
     buffer: [u8; BUFFER_LEN],
-    place: Place,
+    place: LinePlace,
     start: usize,
     end: usize,
     reads: u64,
@@ -59,7 +64,7 @@ impl<R: Source> Input<R> {
         Input {
             reader,
             buffer: [0; BUFFER_LEN],
-            place: Place::Text { start: 0, end: 0 },
+            place: LinePlace::Text { start: 0, end: 0 },
             start: 0,
             end: 0,
             reads: 0,
@@ -79,8 +84,8 @@ impl<R: Source> Input<R> {
         ensures few { IfSome result (λ line. length line.now ≤ MAX_LINE_LEN) }
     {
         match self.place {
-            Place::Text { start, end } => Some(&self.buffer[start..end]),
-            Place::TooLong => None,
+            LinePlace::Text { start, end } => Some(&self.buffer[start..end]),
+            LinePlace::TooLong => None,
         }
     }
 
@@ -137,9 +142,9 @@ impl<R: Source> Input<R> {
         ensures { self.new ≡ record self.old { held = drop (len + end_len) self.old.held; line = inner.kept (take len self.old.held) } }
     {
         self.place = if len > MAX_LINE_LEN {
-            Place::TooLong
+            LinePlace::TooLong
         } else {
-            Place::Text {
+            LinePlace::Text {
                 start: self.start,
                 end: self.start + len,
             }

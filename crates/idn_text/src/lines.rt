@@ -4,18 +4,12 @@ ghost use Rattle.std.specs.Prelude.{◌≡◌, ◌⊎◌, ◌≤◌, ℕ, List, 
 
 use crate::body::{Body, MAX_LINE_LEN};
 use crate::device::Source;
-use crate::input::Input;
+use crate::input::{Input, ReadFault};
 use crate::text_lines::without_carriage_return;
 use std::marker::Model;
-use thiserror::Error;
 
 /// The most lines.
 const LINE_LIMIT: u64 = 1 << 32;
-
-/// A reader failed, or was called too often, or has too many lines.
-#[derive(Clone, Copy, Debug, PartialEq, Eq, Error)]
-#[error("read fault")]
-pub struct ReadFault;
 
 /// A line and its number, from 1.
 #[derive(Debug, Drop)]

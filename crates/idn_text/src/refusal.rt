@@ -52,8 +52,14 @@ pub enum Refusal {
     BadClass,
     /// A table over one of its limits.
     Limit,
+    /// A name of a set, rule or tag that no earlier line of a ruleset defines.
+    NoSuchName,
+    /// A name that an earlier line of a ruleset defines.
+    SameName,
     /// A label that has no segmentation into sources of the table.
     NotInTable,
+    /// A label that breaks a condition or a demand of a ruleset (RFC 7940 sections 6.3 and 7).
+    NotValid,
     /// Words of the command line that are refused.
     Usage,
     /// A reader that failed, that was called too often, or that gave too many lines.
@@ -94,7 +100,10 @@ impl Refusal {
             Refusal::SameVariant => 32,
             Refusal::BadClass => 33,
             Refusal::Limit => 34,
+            Refusal::NoSuchName => 35,
+            Refusal::SameName => 36,
             Refusal::NotInTable => 40,
+            Refusal::NotValid => 41,
             Refusal::Usage => 50,
             Refusal::ReadFault => 60,
             Refusal::WriteFault => 61,
@@ -129,7 +138,10 @@ impl Refusal {
             Refusal::SameVariant => "variant given twice",
             Refusal::BadClass => "code point not allowed in a table",
             Refusal::Limit => "table limit",
+            Refusal::NoSuchName => "name not defined",
+            Refusal::SameName => "name given twice",
             Refusal::NotInTable => "not made of table entries",
+            Refusal::NotValid => "not valid under the table",
             Refusal::Usage => "usage",
             Refusal::ReadFault => "read fault",
             Refusal::WriteFault => "write fault",

@@ -3,8 +3,8 @@ use Rattle.std.specs.Prelude.{ℕ, ◌+◌, ◌≤◌, List, ◌++◌, length, s
 use Rattle.std.specs.Io.KnownBytes.{Consumes}
 use Rattle.idn_text.specs.Lines.{HasNoFeed, is_long_line}
 use Rattle.idn_text.specs.Taking.{Input, left}
-use Rattle.idn_text.specs.declared.input.Place.{Place}
-use Rattle.idn_text.specs.declared.input.Place.TheVariants.{Text, TooLong}
+use Rattle.idn_text.specs.declared.input.LinePlace.{LinePlace}
+use Rattle.idn_text.specs.declared.input.LinePlace.TheVariants.{Text, TooLong}
 
 -- these bytes without a line feed, and then these, were taken; of the read calls between, none uncounted, all but so many gave a byte
 pub record Takes (old new : Input) (line feed : List ℕ) (idle : ℕ) : Type 0 where
@@ -18,11 +18,11 @@ abbrev pub kept : List ℕ → Option (List ℕ)
 kept line = if is_long_line line then None else Some line
 
 -- what stands at a place of the buffer, none where the line is too long
-abbrev pub at_place : List ℕ → Place → Option (List ℕ)
+abbrev pub at_place : List ℕ → LinePlace → Option (List ℕ)
 at_place buffer (Text start stop) = Some (slice_range buffer start stop)
 at_place buffer TooLong = None
 
 -- the place lies in the buffer (BUFFER_LEN bytes), and has no more bytes than a line may have (MAX_LINE_LEN)
-abbrev pub IsPlaceOfLine : Place → Type 0
+abbrev pub IsPlaceOfLine : LinePlace → Type 0
 IsPlaceOfLine (Text start stop) = (start ≤ stop) × (stop ≤ 16384) × (stop ≤ start + 1024)
 IsPlaceOfLine TooLong = Unit {0}
