@@ -1,7 +1,7 @@
 -- The object of each kind of answer, with its members in order.
 use Rattle.std.specs.Prelude.{ℕ, true, false, List, [], ◌∷◌, codes, Option, Some, None}
 use Rattle.idn_text.specs.declared.refusal.Refusal.{Refusal}
-use Rattle.answer_json.specs.Answers.{Field, Answer, if_given, count, text, flag}
+use Rattle.answer_json.specs.Answers.{Field, Answer, if_given, count, text, flag, nothing}
 use Rattle.answer_json.specs.Details.{Details, refusal_fields}
 use Rattle.answer_json.specs.Inputs.{Told, input_field}
 use Rattle.answer_json.specs.declared.block.Disposition.{Disposition}
@@ -29,6 +29,15 @@ registered line input ulabel alabel =
 -- {"line":1,"input":"xn--fa-hia.de","unicode":"faß.de"}
 abbrev pub decoded : ℕ → Told → List ℕ → Answer
 decoded line input unicode = answered (line_field line ∷ input_field input ∷ (codes "unicode", text unicode) ∷ [])
+
+-- the least label from a text on; nothing where there is none
+abbrev pub least_field : Option (List ℕ) → Field
+least_field None = (codes "ulabel", nothing)
+least_field (Some label) = (codes "ulabel", text label)
+
+-- {"line":1,"input":"strasse\tstra","ulabel":"strasse"}, or {"line":1,"input":"strasse\tu","ulabel":null}
+abbrev pub least : ℕ → Told → Option (List ℕ) → Answer
+least line input label = answered (line_field line ∷ input_field input ∷ least_field label ∷ [])
 
 -- {"line":1,"input":"Faß","refusal":{"number":10,"text":"disallowed code point","code_point":"U+0046","place":1,"rule":"RFC 5892 2.2"}}
 abbrev pub refused : ℕ → Told → Refusal → Details → Answer
@@ -72,3 +81,10 @@ checked entries gaps = answered ((codes "entries", count entries) ∷ (codes "ga
 abbrev pub table_fault : ℕ → Refusal → Details → Answer
 table_fault line refusal details =
     record { fields = (codes "table_line", count line) ∷ []; refusal = Some (refusal_fields refusal details) }
+
+-- ---- the registered labels
+
+-- {"registered_line":2,"refusal":{"number":13,"text":"hyphen out of place"}}
+abbrev pub registered_fault : ℕ → Refusal → Details → Answer
+registered_fault line refusal details =
+    record { fields = (codes "registered_line", count line) ∷ []; refusal = Some (refusal_fields refusal details) }

@@ -6,14 +6,14 @@ ghost use Rattle.answer_json.specs.Answers.{count, if_given, text};
 ghost use Rattle.answer_json.specs.Details.{HasShortTexts, decoded_field, details_of, given_len, length_fields, point, rule_fields, where_fields};
 ghost use Rattle.answer_json.specs.inner.Texts.{fields_text, is_plain};
 
-use crate::member::{MAX_OBJECT_LEN, ObjectLine, put_flag, put_number, put_point, put_text};
+use crate::member::{MAX_OBJECT_LEN, ObjectLine, put_count, put_flag, put_point, put_text};
 use crate::refusal_members::RefusalMembers;
 
 /// Appends which label is refused, and where.
 pub(crate) fn put_where(out: &mut ObjectLine, members: &RefusalMembers)
-    requires { array_vec_len out.old + 128 ≤ MAX_OBJECT_LEN }
+    requires { array_vec_len out.old + 192 ≤ MAX_OBJECT_LEN }
     ensures fields { out.new.items ≡ out.old.items ++ fields_text (where_fields (details_of members.now)) [] }
-    ensures space { array_vec_len out.new ≤ array_vec_len out.old + 128 }
+    ensures space { array_vec_len out.new ≤ array_vec_len out.old + 192 }
 {
     put_number_if(out, "label", members.label);
     put_decoded(out, members.decoded);
@@ -36,9 +36,9 @@ pub(crate) fn put_rule(out: &mut ObjectLine, members: &RefusalMembers)
 /// Appends how long what is refused is, and which other A-label or byte it has.
 pub(crate) fn put_lengths(out: &mut ObjectLine, members: &RefusalMembers)
     requires texts { HasShortTexts (details_of members.now) }
-    requires room { array_vec_len out.old + 1700 ≤ MAX_OBJECT_LEN }
+    requires room { array_vec_len out.old + 1800 ≤ MAX_OBJECT_LEN }
     ensures fields { out.new.items ≡ out.old.items ++ fields_text (length_fields (details_of members.now)) [] }
-    ensures space { array_vec_len out.new ≤ array_vec_len out.old + 1700 }
+    ensures space { array_vec_len out.new ≤ array_vec_len out.old + 1800 }
 {
     put_number_if(out, "code_points", members.code_points);
     put_number_if(out, "octets", members.octets);
@@ -60,14 +60,14 @@ fn put_decoded(out: &mut ObjectLine, decoded: bool)
 
 /// Appends a number as a member, where there is one.
 #[tactic(auto, using(crate::proofs::Members::one_field))]
-fn put_number_if(out: &mut ObjectLine, name: &str, number: Option<u64>)
-    requires room { array_vec_len out.old + length name.now + 24 ≤ MAX_OBJECT_LEN }
+fn put_number_if(out: &mut ObjectLine, name: &str, number: Option<u128>)
+    requires room { array_vec_len out.old + length name.now + 44 ≤ MAX_OBJECT_LEN }
     requires plain { IsTrue (is_plain name.now) }
     ensures field { out.new.items ≡ out.old.items ++ fields_text (if_given name.now count number) [] }
-    ensures space { array_vec_len out.new ≤ array_vec_len out.old + (length name.now + 24) }
+    ensures space { array_vec_len out.new ≤ array_vec_len out.old + (length name.now + 44) }
 {
     if let Some(number) = number {
-        put_number(out, b',', name, number);
+        put_count(out, name, number);
     }
 }
 
@@ -86,13 +86,13 @@ fn put_point_if(out: &mut ObjectLine, name: &str, code_point: Option<u32>)
 
 /// Appends a text as a member, where there is one.
 #[tactic(auto, using(crate::proofs::Members::one_field))]
-fn put_text_if(out: &mut ObjectLine, name: &str, told: Option<&str>)
+fn put_text_if(out: &mut ObjectLine, name: &str, told: Option<&[u8]>)
     requires room { array_vec_len out.old + length name.now + 6 * given_len (option_copied told) + 6 ≤ MAX_OBJECT_LEN }
     requires plain { IsTrue (is_plain name.now) }
     ensures field { out.new.items ≡ out.old.items ++ fields_text (if_given name.now text (option_copied told.entry)) [] }
     ensures space { array_vec_len out.new ≤ array_vec_len out.old + (length name.now + 6 * given_len (option_copied told.entry) + 6) }
 {
     if let Some(told) = told {
-        put_text(out, b',', name, told.as_bytes());
+        put_text(out, b',', name, told);
     }
 }

@@ -4,8 +4,7 @@ ghost use Rattle.arrayvec.specs.ArrayVec.{array_vec_len};
 ghost use Rattle.answer_json.specs.Inputs.{input_field, told, told_len};
 ghost use Rattle.answer_json.specs.inner.Texts.{field_text};
 
-use crate::escaping::append;
-use crate::member::{MAX_OBJECT_LEN, ObjectLine, put_name, put_octets, put_text};
+use crate::member::{MAX_OBJECT_LEN, ObjectLine, put_null, put_octets, put_text};
 use std::str;
 
 /// A line of input, without its end.
@@ -48,8 +47,7 @@ pub(crate) fn put_input(out: &mut ObjectLine, input: &Input)
         Input::Text(text) => put_text(out, b',', "input", text),
         Input::Octets(octets) => put_octets(out, "input_hex", octets),
         Input::NotKept => {
-            put_name(out, b',', "input");
-            append(out, b"null");
+            put_null(out, "input");
         }
     }
 }

@@ -17,7 +17,7 @@ mod refused;
 #[cfg(test)]
 mod rows;
 
-pub use answered::{write_decoded, write_looked_up, write_registered};
+pub use answered::{write_decoded, write_least, write_looked_up, write_registered};
 pub use block::{Disposition, write_trailer, write_variant};
 pub use checked::{write_checked, write_gap};
 pub use escaping::append_escaped;
@@ -25,4 +25,4 @@ pub use input::Input;
 pub use laws::{objects_are_lines, objects_are_read_back, objects_are_unicode, objects_have_texts};
 pub use member::{MAX_OBJECT_LEN, ObjectLine};
 pub use refusal_members::RefusalMembers;
-pub use refused::{write_refused, write_table_fault};
+pub use refused::{write_refused, write_registered_fault, write_table_fault};

@@ -2,7 +2,7 @@
 ghost use Rattle.std.specs.Prelude.{◌≡◌, ◌≤◌, ◌+◌, ◌*◌, ◌++◌, ◌∷◌, [], length, IsTrue};
 ghost use Rattle.arrayvec.specs.ArrayVec.{array_vec_len};
 ghost use Rattle.json.specs.Print.{quoted};
-ghost use Rattle.answer_json.specs.Answers.{count, flag, text};
+ghost use Rattle.answer_json.specs.Answers.{count, flag, nothing, text};
 ghost use Rattle.answer_json.specs.Hexadecimal.{hex_of};
 ghost use Rattle.answer_json.specs.Details.{point};
 ghost use Rattle.answer_json.specs.inner.Texts.{field_text, is_plain, value_text};
@@ -41,6 +41,19 @@ pub(crate) fn put_number(out: &mut ObjectLine, before: u8, name: &str, number: u
     ensures space { array_vec_len out.new ≤ array_vec_len out.old + (length name.now + 24) }
 {
     put_name(out, before, name);
+    let mut digits = Buffer::new();
+    append(out, digits.format(number).as_bytes());
+}
+
+/// Appends a number that counts something as a member, behind a comma.
+#[tactic(auto, unfolding(crate::specs::inner::Texts::field_text))]
+pub(crate) fn put_count(out: &mut ObjectLine, name: &str, number: u128)
+    requires room { array_vec_len out.old + length name.now + 44 ≤ MAX_OBJECT_LEN }
+    requires plain { IsTrue (is_plain name.now) }
+    ensures field { out.new.items ≡ out.old.items ++ 44 ∷ field_text (name.now, count number) }
+    ensures space { array_vec_len out.new ≤ array_vec_len out.old + (length name.now + 44) }
+{
+    put_name(out, b',', name);
     let mut digits = Buffer::new();
     append(out, digits.format(number).as_bytes());
 }
@@ -97,6 +110,18 @@ pub(crate) fn put_flag(out: &mut ObjectLine, name: &str, is_true: bool)
 {
     put_name(out, b',', name);
     append_flag(out, is_true);
+}
+
+/// Appends that a member holds nothing.
+#[tactic(auto, unfolding(crate::specs::inner::Texts::field_text))]
+pub(crate) fn put_null(out: &mut ObjectLine, name: &str)
+    requires room { array_vec_len out.old + length name.now + 8 ≤ MAX_OBJECT_LEN }
+    requires plain { IsTrue (is_plain name.now) }
+    ensures field { out.new.items ≡ out.old.items ++ 44 ∷ field_text (name.now, nothing) }
+    ensures space { array_vec_len out.new ≤ array_vec_len out.old + (length name.now + 8) }
+{
+    put_name(out, b',', name);
+    append(out, b"null");
 }
 
 fn append_flag(out: &mut ObjectLine, is_true: bool)

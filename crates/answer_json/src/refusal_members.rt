@@ -4,27 +4,27 @@
 #[derive(Clone, Copy, Debug)]
 pub struct RefusalMembers<'a> {
     /// The number of the label in its name.
-    pub label: Option<u64>,
+    pub label: Option<u128>,
     /// Whether the cause is of what an A-label stands for.
     pub decoded: bool,
     /// A code point.
     pub code_point: Option<u32>,
     /// Its place, in code points.
-    pub place: Option<u64>,
+    pub place: Option<u128>,
     /// The rule that is broken, by its document and section.
-    pub rule: Option<&'a str>,
+    pub rule: Option<&'a [u8]>,
     /// The Bidi_Class of the code point.
-    pub bidi_class: Option<&'a str>,
+    pub bidi_class: Option<&'a [u8]>,
     /// The code point that Normalization Form C has at the place.
     pub nfc: Option<u32>,
     /// How many code points the label has.
-    pub code_points: Option<u64>,
+    pub code_points: Option<u128>,
     /// How many octets the A-label has, or the label of a name, or the name.
-    pub octets: Option<u64>,
+    pub octets: Option<u128>,
     /// The A-label of what the label stands for.
-    pub alabel: Option<&'a str>,
+    pub alabel: Option<&'a [u8]>,
     /// The place of a byte.
-    pub byte: Option<u64>,
+    pub byte: Option<u128>,
 }
 
 impl RefusalMembers<'_> {

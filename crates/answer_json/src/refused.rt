@@ -4,7 +4,7 @@ ghost use Rattle.arrayvec.specs.ArrayVec.{array_vec_len};
 ghost use Rattle.answer_json.specs.Answers.{line_of};
 ghost use Rattle.answer_json.specs.Details.{HasShortTexts, details_of, refusal_fields};
 ghost use Rattle.answer_json.specs.Inputs.{told, told_len};
-ghost use Rattle.answer_json.specs.Objects.{refused, table_fault};
+ghost use Rattle.answer_json.specs.Objects.{refused, registered_fault, table_fault};
 ghost use Rattle.answer_json.specs.inner.Texts.{refusal_text};
 
 use crate::details::{put_lengths, put_rule, put_where};
@@ -43,6 +43,22 @@ pub fn write_table_fault(
 {
     out.clear();
     put_number(out, b'{', "table_line", line);
+    put_refusal(out, refusal, members);
+    end_line(out);
+}
+
+/// Writes, in place of what was in `out`, the object of a line of the registered labels that is refused, and a line feed.
+pub fn write_registered_fault(
+    out: &mut ObjectLine,
+    line: u64,
+    refusal: Refusal,
+    members: &RefusalMembers,
+)
+    requires { HasShortTexts (details_of members.now) }
+    ensures { out.new.items ≡ line_of (registered_fault line refusal (details_of members.now)) }
+{
+    out.clear();
+    put_number(out, b'{', "registered_line", line);
     put_refusal(out, refusal, members);
     end_line(out);
 }

@@ -134,7 +134,7 @@ const REFUSED: [RefusedRow; 13] = [
 ];
 
 /// A text, unless it is empty.
-fn given(text: &str) -> Option<&str>
+fn given(text: &[u8]) -> Option<&[u8]>
     ensures { given_len (option_copied result) ≤ length text.now }
 {
     if text.is_empty() { None } else { Some(text) }
@@ -146,8 +146,8 @@ fn refuses(rt: &impl Abort, out: &mut ObjectLine, row: &RefusedRow) {
     assert!(rt; input.len() <= 1024 && rule.len() <= 64, "{object}");
     let mut members = RefusalMembers::NONE;
     members.code_point = Some(code_point);
-    members.place = Some(place);
-    members.rule = given(rule);
+    members.place = Some(u128::from(place));
+    members.rule = given(rule.as_bytes());
     write_refused(out, 1, &Input::Text(input.as_bytes()), refusal, &members);
     shows(rt, out, object);
 }
@@ -187,8 +187,8 @@ fn refusals_with_other_members(rt: HostRuntime) {
     let mut bidi = RefusalMembers::NONE;
     bidi.code_point = Some(0x5D0);
     bidi.place = Some(3);
-    bidi.rule = Some("RFC 5893 2 condition 5");
-    bidi.bidi_class = Some("R");
+    bidi.rule = Some(b"RFC 5893 2 condition 5");
+    bidi.bidi_class = Some(b"R");
     tells(
         &rt,
         &Input::Text("ab\u{5D0}".as_bytes()),
@@ -197,7 +197,7 @@ fn refusals_with_other_members(rt: HostRuntime) {
         "{\"line\":1,\"input\":\"ab\u{5D0}\",\"refusal\":{\"number\":17,\"text\":\"Bidi rule broken\",\"code_point\":\"U+05D0\",\"place\":3,\"rule\":\"RFC 5893 2 condition 5\",\"bidi_class\":\"R\"}}",
     );
     let mut other = RefusalMembers::NONE;
-    other.alabel = Some("a");
+    other.alabel = Some(b"a");
     tells(
         &rt,
         &Input::Text(b"xn--a-"),
@@ -214,7 +214,7 @@ fn refusals_within_names(rt: HostRuntime) {
     decoded.decoded = true;
     decoded.code_point = Some(0x1F4A9);
     decoded.place = Some(1);
-    decoded.rule = Some("RFC 5892 2.1");
+    decoded.rule = Some(b"RFC 5892 2.1");
     tells(
         &rt,
         &Input::Text(b"xn--ls8h"),

@@ -1,18 +1,17 @@
--- What a line of input is answered: lines for the output, or a refusal.
-use Rattle.std.specs.Prelude.{◌≡◌, ◌⊎◌, ℕ, ◌≤◌, ◌==◌, Bool, bytes_eq, Contains, List, [], ◌∷◌, ◌++◌, length, chars, Option, Some, None, Result, Ok, Err, if◌then◌else◌, ◌-◌, map, filter, codes}
+-- What a line of input is answered, or why it is refused.
+use Rattle.std.specs.Prelude.{◌≡◌, ◌⊎◌, ℕ, ◌≤◌, ◌==◌, Bool, bytes_eq, Contains, List, [], ◌∷◌, ◌++◌, length, chars, Option, Some, None, Result, Ok, Err, if◌then◌else◌, ◌-◌, map, filter}
 use Rattle.std.specs.Str.{is_utf8}
 use Rattle.std.specs.List.{list_any, slice_get, before_first, after_first}
 use Rattle.std.specs.Option.{is_none}
 use Rattle.std.specs.Ordering.{is_le}
-use Rattle.std.specs.Fmt.{decimal}
-use Rattle.idn_text.specs.Points.{utf8_of}
+use Rattle.idna.specs.Validity.{has_ace_prefix}
 use Rattle.idn_text.specs.declared.refusal.Refusal.{Refusal}
 use Rattle.idn_text.specs.declared.refusal.Refusal.TheVariants.{LineTooLong, NotUtf8, Empty, NotInTable}
 use Rattle.idn_class.specs.Hopeless.{hopeless, HasHope}
 use Rattle.idn_label.specs.FirstFault.{first_fault, IsRegistrable}
-use Rattle.idn_label.specs.Answers.{unless_fault}
+use Rattle.idn_label.specs.Answers.{Answer, unless_fault}
 use Rattle.idn_label.specs.Steps.{in_utf8}
-use Rattle.idn_label.specs.Register.{register_answer}
+use Rattle.idn_label.specs.Register.{register_answer, u_label_answer}
 use Rattle.idn_label.specs.Decode.{decode_answer}
 use Rattle.idn_label.specs.Lookup.{lookup_answer}
 use Rattle.variant_table.specs.declared.version.Version.{Version}
@@ -22,7 +21,9 @@ use Rattle.variant_list.specs.Spelled.{spelled}
 use Rattle.idn2_options.specs.Settings.{Settings}
 use Rattle.idn2_options.specs.declared.command_line.mode.Mode.{Mode}
 use Rattle.idn2_options.specs.declared.command_line.mode.Mode.TheVariants.{Lookup, Register, Decode, Variants, Jump, CheckTable}
-use Rattle.idn_label.specs.ALabel.{a_label_of}
+use Rattle.answer_json.specs.declared.block.Disposition.{Disposition}
+use Rattle.answer_json.specs.declared.block.Disposition.TheVariants.{Allocatable, Blocked}
+use Rattle.idn2_cli.specs.Said.{Said, LookedUp, Registered, Decoded, Listed, BlockEnd, Least}
 use Rattle.variant_list.specs.Labels.{label_cmp, IsBelow, IsListOf}
 use Rattle.variant_list.specs.Segmentations.{HasSegmentation}
 use Rattle.variant_list.specs.Spelling.{Spells}
@@ -97,31 +98,22 @@ up_to (Some b) labels = filter (λ v. is_le (label_cmp v b)) labels
 abbrev pub is_allocatable : List Entry → List ℕ → List ℕ → Bool
 is_allocatable entries label v = list_any (bytes_eq v) (spelled (unblocked entries) label)
 
--- the third field of a variant's line (RFC 7940, section 7.3), which version 1 doesn't have
-abbrev pub disposition_field : Version → Bool → List ℕ
-disposition_field One allocatable = []
-disposition_field Two allocatable = if allocatable then codes "\tallocatable" else codes "\tblocked"
+-- the disposition of a variant (RFC 7940, section 7.3), which version 1 doesn't have
+abbrev pub disposition_in : Version → Bool → Option Disposition
+disposition_in One allocatable = None
+disposition_in Two allocatable = Some (if allocatable then Allocatable else Blocked)
 
--- this field of each variant of a label
-abbrev pub disposition : TableValue → List ℕ → List ℕ → List ℕ
-disposition table label v = disposition_field table.version (is_allocatable table.entries label v)
+-- that of each variant of a label
+abbrev pub disposition : TableValue → List ℕ → List ℕ → Option Disposition
+disposition table label v = disposition_in table.version (is_allocatable table.entries label v)
 
--- a variant, a tab, its A-label, and its third field
-abbrev pub variant_line : List ℕ → List ℕ → List ℕ
-variant_line field v = utf8_of v ++ 9 ∷ (a_label_of v ++ field)
-
--- the last line of a block: how many variants it lists, and where it stops if there may be more
-abbrev pub trailer : ℕ → Option (List ℕ) → List ℕ
-trailer count None = codes "#end " ++ decimal count
-trailer count (Some b) = codes "#stop " ++ (decimal count ++ 32 ∷ utf8_of b)
-
--- a line for each of these variants up to the stop, with the field that it has, then the trailer
-abbrev pub block_to : (List ℕ → List ℕ) → Option (List ℕ) → List (List ℕ) → List (List ℕ)
+-- each of these variants up to the stop, with the disposition that it has, and then the end
+abbrev pub block_to : (List ℕ → Option Disposition) → Option (List ℕ) → List (List ℕ) → List Said
 block_to field stop labels =
-    map (λ v. variant_line (field v) v) (up_to stop labels) ++ trailer (length (up_to stop labels)) stop ∷ []
+    map (λ v. Listed (field v) v) (up_to stop labels) ++ BlockEnd (length (up_to stop labels)) stop ∷ []
 
 -- the block of a label
-abbrev pub block : Settings → TableValue → List ℕ → List (List ℕ)
+abbrev pub block : Settings → TableValue → List ℕ → List Said
 block o table label =
     block_to (disposition table label) (stop_of o table.entries label) (variants_after o table.entries label)
 
@@ -134,25 +126,29 @@ requested_label line = before_first (λ c. c == 9) line
 abbrev pub requested_text : List ℕ → List ℕ
 requested_text line = after_first (λ c. c == 9) line
 
--- a label, or that there is none
-abbrev pub jump_line : Option (List ℕ) → List ℕ
-jump_line None = codes "#end"
-jump_line (Some v) = utf8_of v
-
 -- ---- the answer to a line
 
--- the lines of an answer without their line feeds, or why there is none
+-- what is said in answer to a line, or why nothing is
 abbrev pub LineAnswer : Type 0
-LineAnswer = Result (List (List ℕ)) Refusal
+LineAnswer = Result (List Said) Refusal
 
--- an answer of one line
-abbrev pub one_line : Result (List ℕ) Refusal → LineAnswer
-one_line (Ok line) = Ok (line ∷ [])
-one_line (Err refusal) = Err refusal
+-- an answer of one text
+abbrev pub one_answer : (List ℕ → Said) → Result (List ℕ) Refusal → LineAnswer
+one_answer said (Ok text) = Ok (said text ∷ [])
+one_answer said (Err refusal) = Err refusal
 
--- these lines for a label that can be cut into sources of the table; any other label is refused
-abbrev pub if_segmented : List Entry → List ℕ → List (List ℕ) → LineAnswer
-if_segmented table label lines = if length (spelled table label) == 0 then Err NotInTable else Ok lines
+-- a label, or the one given where there is none
+abbrev pub label_or : Answer → List ℕ → List ℕ
+label_or (Ok label) given = label
+label_or (Err refusal) given = given
+
+-- what a label that is registered stands for: itself, or what it is decoded to if it begins with "xn--" (RFC 5890, section 2.3.2.1)
+abbrev pub u_label_of : List ℕ → List ℕ
+u_label_of label = if has_ace_prefix label then label_or (u_label_answer label) label else label
+
+-- this for a label that can be cut into sources of the table; any other label is refused
+abbrev pub if_segmented : List Entry → List ℕ → List Said → LineAnswer
+if_segmented table label said = if length (spelled table label) == 0 then Err NotInTable else Ok said
 
 -- the block of such a label
 abbrev pub listing_answer : Settings → TableValue → List ℕ → LineAnswer
@@ -165,7 +161,7 @@ variants_answer o table label = unless_fault (first_fault label) (listing_answer
 -- the least label from a text on that such a label spells
 abbrev pub least_answer : TableValue → List ℕ → List ℕ → LineAnswer
 least_answer table label text =
-    if_segmented table.entries label (jump_line (slice_get (candidates_from table.entries label text) 0) ∷ [])
+    if_segmented table.entries label (Least (slice_get (candidates_from table.entries label text) 0) ∷ [])
 
 -- the same of a request, whose label may be registered; its first fault is reported before that
 abbrev pub jump_answer : TableValue → List ℕ → LineAnswer
@@ -174,9 +170,9 @@ jump_answer table line =
 
 -- the answer of a mode to the code points of a line. The check of a table reads no line
 abbrev pub mode_answer : Mode → Settings → TableValue → List ℕ → LineAnswer
-mode_answer Lookup o table name = one_line (lookup_answer name o.std3)
-mode_answer Register o table label = one_line (register_answer label)
-mode_answer Decode o table name = one_line (in_utf8 (decode_answer name))
+mode_answer Lookup o table name = one_answer LookedUp (lookup_answer name o.std3)
+mode_answer Register o table label = one_answer (Registered (u_label_of label)) (register_answer label)
+mode_answer Decode o table name = one_answer Decoded (in_utf8 (decode_answer name))
 mode_answer Variants o table label = variants_answer o table label
 mode_answer Jump o table line = jump_answer table line
 mode_answer CheckTable o table label = Ok []
@@ -222,20 +218,19 @@ pub record IsAhead (o : Settings) (table : List Entry) (label v : List ℕ) : Ty
   pub spelled : Spells table label v
   pub whole : o.registered ≡ None
 
--- a field that says whether this holds, in the words of version 2; version 1 has none
-abbrev pub IsFieldOf : Version → Type 0 → List ℕ → Type 0
-IsFieldOf One allocatable field = field ≡ []
-IsFieldOf Two allocatable field =
-    (allocatable × (field ≡ codes "\tallocatable")) ⊎ ((¬ allocatable) × (field ≡ codes "\tblocked"))
+-- a disposition that says whether this holds; version 1 has none
+abbrev pub IsFieldOf : Version → Type 0 → Option Disposition → Type 0
+IsFieldOf One allocatable field = field ≡ None
+IsFieldOf Two allocatable field = (allocatable × (field ≡ Some Allocatable)) ⊎ ((¬ allocatable) × (field ≡ Some Blocked))
 
--- the third field of the line of v: none in version 1; in version 2 it says that v may be allocated exactly where the label
--- spells v by the table without its blocked variants
-abbrev pub IsDisposition : TableValue → List ℕ → List ℕ → List ℕ → Type 0
+-- the disposition of v: none in version 1; in version 2 it says that v may be allocated exactly where the label spells v by the
+-- table without its blocked variants
+abbrev pub IsDisposition : TableValue → List ℕ → List ℕ → Option Disposition → Type 0
 IsDisposition table label v field = IsFieldOf table.version (Spells (unblocked table.entries) label v) field
 
 -- the stop is the least of the limit-th label that is listed, the tries-th that is tried and the steps-th that is visited, as far as
--- they exist; up to it there is a line for each label that is listed, with its A-label and its third field, and then the trailer
-pub record IsBlock (o : Settings) (table : TableValue) (label : List ℕ) (lines : List (List ℕ)) : Type 0 where
+-- they exist; up to it each label that is listed is said, with its disposition, and then the end
+pub record IsBlock (o : Settings) (table : TableValue) (label : List ℕ) (said : List Said) : Type 0 where
   pub listed : List (List ℕ)
   pub exactly : IsListOf (IsListed o table.entries label) listed
   pub tried : List (List ℕ)
@@ -244,13 +239,13 @@ pub record IsBlock (o : Settings) (table : TableValue) (label : List ℕ) (lines
   pub exactly_ahead : IsListOf (IsAhead o table.entries label) ahead
   pub stop : Option (List ℕ)
   pub stops : stop ≡ lesser_label (nth_if_given listed o.limit) (lesser_label (nth tried o.tries) (nth_if_given (visited hopeless None ahead) o.steps))
-  pub field : List ℕ → List ℕ
+  pub field : List ℕ → Option Disposition
   pub disposed : (v : List ℕ) → IsDisposition table label v (field v)
-  pub printed : lines ≡ map (λ v. variant_line (field v) v) (up_to stop listed) ++ trailer (length (up_to stop listed)) stop ∷ []
+  pub exact : said ≡ map (λ v. Listed (field v) v) (up_to stop listed) ++ BlockEnd (length (up_to stop listed)) stop ∷ []
 
 -- a label that can be cut into sources of the table is answered by its block, and any other is refused
 abbrev pub IsListing : Settings → TableValue → List ℕ → LineAnswer → Type 0
-IsListing o table label (Ok lines) = HasSegmentation table.entries label × IsBlock o table label lines
+IsListing o table label (Ok said) = HasSegmentation table.entries label × IsBlock o table label said
 IsListing o table label (Err refusal) = (¬ HasSegmentation table.entries label) × (refusal ≡ NotInTable)
 
 -- ---- the least label from a text on, by what it has to be
@@ -259,15 +254,14 @@ IsListing o table label (Err refusal) = (¬ HasSegmentation table.entries label)
 abbrev pub built : List Entry → List ℕ → Built
 built table label = record { table = table; label = label }
 
--- the line is the least label of at most 63 code points that the label spells and that is no less than the text; or there is none
-abbrev pub IsJump : List Entry → List ℕ → List ℕ → List ℕ → Type 0
-IsJump table label text line =
-    ((v : List ℕ) × IsLeastFrom (IsCandidate (built table label)) text v × (line ≡ utf8_of v))
-    ⊎ (HasNoneFrom (IsCandidate (built table label)) text × (line ≡ codes "#end"))
+-- it is the least label of at most 63 code points that the label spells and that is no less than the text; or there is none
+abbrev pub IsJump : List Entry → List ℕ → List ℕ → Option (List ℕ) → Type 0
+IsJump table label text (Some v) = IsLeastFrom (IsCandidate (built table label)) text v
+IsJump table label text None = HasNoneFrom (IsCandidate (built table label)) text
 
--- a request whose label can be cut into sources of the table is answered by one line, and any other is refused
+-- a request whose label can be cut into sources of the table is answered by that label, and any other is refused
 abbrev pub IsJumpAnswer : TableValue → List ℕ → LineAnswer → Type 0
-IsJumpAnswer table request (Ok lines) =
+IsJumpAnswer table request (Ok said) =
     HasSegmentation table.entries (requested_label request)
-    × ((line : List ℕ) × (lines ≡ line ∷ []) × IsJump table.entries (requested_label request) (requested_text request) line)
+    × ((least : Option (List ℕ)) × (said ≡ Least least ∷ []) × IsJump table.entries (requested_label request) (requested_text request) least)
 IsJumpAnswer table request (Err refusal) = (¬ HasSegmentation table.entries (requested_label request)) × (refusal ≡ NotInTable)

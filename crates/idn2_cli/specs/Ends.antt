@@ -2,7 +2,7 @@
 use Rattle.std.specs.Prelude.{◌≡◌, ℕ, List, ◌⊎◌, ◌++◌, codes, ◌≢◌, ◌<◌, [], ◌∷◌, length, take, true, Result, MatchResult, Bool, false, IsTrue, Ok, Err}
 use Rattle.std.specs.Io.KnownBytes.{Appends}
 use Rattle.idn_text.specs.Writers.{Writer, Fails, TakesWhole, TakesPart}
-use Rattle.idn2_cli.specs.Transcript.{Piece, output_of, messages_of, Output, Message, told, lines_pieces, has_refused, registered_message, status_if, transcript, status_of, TableGiven}
+use Rattle.idn2_cli.specs.Transcript.{Piece, output_of, messages_of, Output, Message, told, lines_pieces, has_refused, registered_message, registered_object, status_if, transcript, status_of, TableGiven}
 use Rattle.registered_labels.specs.declared.labels.RegisterFault.{RegisterFault}
 use Rattle.registered_labels.specs.declared.labels.RegisterFault.TheVariants as registers
 use Rattle.idn_text.specs.declared.refusal.Refusal.{Refusal}
@@ -14,6 +14,8 @@ use Rattle.idn_text.specs.Lines.{Numbered}
 use Rattle.idn_text.specs.Reading.{Reading, HasRead, HasStopped}
 use Rattle.idn_text.specs.declared.lines.State.TheVariants.{Ended, Stopped}
 use Rattle.idn2_options.specs.Settings.{Settings}
+use Rattle.idn2_options.specs.declared.command_line.form.Form.{Form}
+use Rattle.idn2_options.specs.declared.command_line.form.Form.TheVariants.{Plain, Json}
 use Rattle.idn2_cli.specs.Answers.{LineAnswer}
 use Rattle.idn2_cli.specs.Explained.{Explained}
 use Rattle.idn2_cli.specs.Memory.{NeedsNone, ServesWithoutMemory, GoesOnWithoutMemory, BodyNeedsNone, reads_table}
@@ -87,10 +89,10 @@ pub record Job : Type 1 where
   pub goes_on : List ℕ → Type 0
 
 -- to answer each line by itself
-abbrev pub lines_job : Explained → (List ℕ → LineAnswer) → Bool → (needs_none goes_on : List ℕ → Type 0) → Job
-lines_job explained answer by_table needs_none goes_on = record {
+abbrev pub lines_job : Form → Explained → (List ℕ → LineAnswer) → Bool → (needs_none goes_on : List ℕ → Type 0) → Job
+lines_job form explained answer by_table needs_none goes_on = record {
   reads = true;
-  pieces = lines_pieces explained answer;
+  pieces = lines_pieces form explained answer;
   status = λ lines. status_if (has_refused answer lines);
   reads_table = by_table;
   needs_none = NeedsNone explained answer needs_none;
@@ -193,13 +195,20 @@ LosesText text old new = (taken : ℕ) × TakesPart old new text taken
 abbrev pub TakesText : List ℕ → Writer → Writer → Type 0
 TakesText text old new = TakesWhole old new text ⊎ LosesText text old new
 
--- what a file leads to that is not read as registered labels, its message and the status: 2, or 3 where the writer failed,
--- for a line that is wrong, as for a table's; for want of memory as ever
-abbrev pub TellsUnread : RegisterFault → Writer → Writer → Status → Type 0
-TellsUnread (registers.Refused line refusal) old new status =
-    (TakesWhole old new (registered_message line refusal) × (status ≡ Unusable))
-    ⊎ (LosesText (registered_message line refusal) old new × (status ≡ Faulty))
-TellsUnread registers.Memory old new status = TakesText (closing_message Memory) old new × (status ≡ closing_status Memory)
+-- what a wrong line of the registered labels leads to: its message and the status, which is 2, or 3 where the writer failed
+abbrev pub TellsWrong : List ℕ → Writer → Writer → Status → Type 0
+TellsWrong text old new status = (TakesWhole old new text × (status ≡ Unusable)) ⊎ (LosesText text old new × (status ≡ Faulty))
+
+-- what a file leads to that is not read as registered labels: for a line that is wrong, as for a table's, a message or an object of
+-- the output; where the output fails, as in a run, the last message says so; for want of memory as ever
+abbrev pub TellsUnread : Form → RegisterFault → (old new : Held) → Status → Type 0
+TellsUnread Plain (registers.Refused line refusal) old new status =
+    (new ≡ record old { messages = new.messages }) × TellsWrong (registered_message line refusal) old.messages new.messages status
+TellsUnread Json (registers.Refused line refusal) old new status =
+    ((new ≡ record old { output = new.output }) × TakesWhole old.output new.output (registered_object line refusal) × (status ≡ Unusable))
+    ⊎ (LosesText (registered_object line refusal) old.output new.output × TakesText (closing_message WriteFault) old.messages new.messages × (status ≡ Faulty))
+TellsUnread form registers.Memory old new status =
+    (new ≡ record old { messages = new.messages }) × TakesText (closing_message Memory) old.messages new.messages × (status ≡ closing_status Memory)
 
 -- the refusal that is reported where a run stops
 abbrev pub refusal_of : Stop → Refusal

@@ -1,4 +1,4 @@
--- The cause that is told of a refused line, where causes are wanted: `--explain`. Places and labels are counted from 0.
+-- The cause that is told of a refused line, where causes are wanted: with `--explain` or `--json`. Places and labels are counted from 0.
 use Rattle.std.specs.Prelude.{ℕ, nat_le, Bool, List, length, chars, Option, Some, None, slice_index, Ok, Err, if◌then◌else◌}
 use Rattle.std.specs.Option.{option_map}
 use Rattle.std.specs.Str.{is_utf8}
@@ -14,7 +14,7 @@ use Rattle.idn_cause.specs.ALabelCauses.{a_label_cause}
 use Rattle.idn_cause.specs.NameCauses.{name_cause, query_cause}
 use Rattle.variant_table.specs.Entries.{Entry, TableValue}
 use Rattle.variant_list.specs.Furthest.{furthest}
-use Rattle.idn2_options.specs.Settings.{Settings}
+use Rattle.idn2_options.specs.Settings.{Settings, tells_causes}
 use Rattle.idn2_options.specs.declared.command_line.mode.Mode.{Mode}
 use Rattle.idn2_options.specs.declared.command_line.mode.Mode.TheVariants.{Lookup, Register, Decode, Variants, Jump, CheckTable}
 use Rattle.idn2_cli.specs.Answers.{LineAnswer, requested_label}
@@ -45,7 +45,7 @@ abbrev pub if_wanted : Bool → Explained → Explained
 if_wanted explain explained = if explain then explained else Unexplained
 
 abbrev pub explained_in : Mode → Settings → TableValue → Explained
-explained_in mode o table = if_wanted o.explain (explained_by_mode mode o table)
+explained_in mode o table = if_wanted (tells_causes o) (explained_by_mode mode o table)
 
 -- ---- the cause of a refusal
 

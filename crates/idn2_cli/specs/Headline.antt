@@ -9,25 +9,39 @@ use Rattle.idn_text.specs.declared.lines.State.TheVariants.{Ended}
 use Rattle.idn_label.specs.FirstFault.{IsRegistrable}
 use Rattle.variant_table.specs.Entries.{TableValue}
 use Rattle.idn2_options.specs.Settings.{Settings}
+use Rattle.idn2_options.specs.declared.command_line.form.Form.{Form}
+use Rattle.idn2_options.specs.declared.command_line.form.Form.TheVariants.{Plain, Json}
+use Rattle.idn_text.specs.declared.refusal.Refusal.{Refusal}
+use Rattle.idn2_cli.specs.Explained.{Explained, body_cause, explained_in}
+use Rattle.idn2_cli.specs.Said.{said_text}
+use Rattle.idn2_cli.specs.Transcript.{refused_object}
+use Rattle.idn2_cli.specs.declared.session.cause.LineCause.{LineCause}
 use Rattle.idn2_cli.specs.Answers.{LineAnswer, IsListing}
 use Rattle.idn2_cli.specs.declared.session.status.Status.{Status}
 use Rattle.idn2_cli.specs.declared.session.status.Status.TheVariants.{Clean, Refused}
 
--- the lines of an answer, each with its line feed; a refusal puts nothing on the output
-abbrev pub printed_of : LineAnswer → List ℕ
-printed_of (Ok lines) = flat_map (λ line. line ++ 10 ∷ []) lines
-printed_of (Err refusal) = []
+-- what a refusal puts on the output: nothing, or its object
+abbrev pub printed_refusal : Form → Numbered → Refusal → Option LineCause → List ℕ
+printed_refusal Plain line refusal cause = []
+printed_refusal Json line refusal cause = refused_object line refusal cause
+
+-- what the answer to a line puts there: what is said, each with its line feed; or what a refusal does, with its cause
+abbrev pub printed_of : Form → Explained → Numbered → LineAnswer → List ℕ
+printed_of form explained line (Ok said) = flat_map (said_text form line) said
+printed_of form explained line (Err refusal) = printed_refusal form line refusal (body_cause explained line.body refusal)
 
 -- the line is this label in UTF-8, and the label may be registered
 pub record IsLineOf (label : List ℕ) (line : Numbered) : Type 0 where
   pub registrable : IsRegistrable label
   pub utf8 : line.body ≡ Some (utf8_of label)
 
--- these bytes stand on the output for a line: those of the listing of its label, or none where it is no label that may be
--- registered
+-- these bytes stand on the output for a line: those of the listing of its label, or, where it is no label that may be registered,
+-- those of a refusal
 pub record IsPrintedFor (o : Settings) (table : TableValue) (line : Numbered) (printed : List ℕ) : Type 0 where
-  pub listing : (label : List ℕ) → IsLineOf label line → (answer : LineAnswer) × IsListing o table label answer × (printed ≡ printed_of answer)
-  pub nothing : ((label : List ℕ) → IsLineOf label line → ⊥) → printed ≡ []
+  pub listing : (label : List ℕ) → IsLineOf label line
+      → (answer : LineAnswer) × IsListing o table label answer × (printed ≡ printed_of o.form (explained_in o.mode o table) line answer)
+  pub refused : ((label : List ℕ) → IsLineOf label line → ⊥)
+      → (refusal : Refusal) × (printed ≡ printed_of o.form (explained_in o.mode o table) line (Err refusal))
 
 -- the same for each of these lines, in their order
 abbrev pub ArePrintedFor : Settings → TableValue → List Numbered → List (List ℕ) → Type 0

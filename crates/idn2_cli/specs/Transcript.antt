@@ -12,12 +12,20 @@ use Rattle.idn2_options.specs.declared.command_line.mode.Mode.{Mode}
 use Rattle.idn2_options.specs.declared.command_line.mode.Mode.TheVariants.{Variants, Jump, CheckTable}
 use Rattle.idn_text.specs.Lines.{Numbered}
 use Rattle.idn_text.specs.Refusals.{refusal_number, refusal_text}
-use Rattle.variant_table.specs.Canonical.{sequence_text}
 use Rattle.variant_table.specs.Gaps.{gaps_of, AreGapsOf}
 use Rattle.idn2_options.specs.Settings.{Settings}
 use Rattle.idn2_cli.specs.Answers.{LineAnswer, mode_answer, line_answer}
 use Rattle.idn2_cli.specs.CauseTexts.{tail_text}
-use Rattle.idn2_cli.specs.Explained.{Explained, body_cause, explained_in, points_cause}
+use Rattle.idn2_cli.specs.CauseDetails.{told_details}
+use Rattle.idn2_cli.specs.Explained.{Explained, body_cause, explained_in}
+use Rattle.idn2_cli.specs.Said.{Said, Finding, Gap, Counted, said_text, finding_text}
+use Rattle.idn2_cli.specs.declared.session.cause.LineCause.{LineCause}
+use Rattle.answer_json.specs.Answers.{line_of}
+use Rattle.answer_json.specs.Details.{no_details}
+use Rattle.answer_json.specs.Inputs.{told_of}
+use Rattle.answer_json.specs.Objects.{refused, table_fault, registered_fault}
+use Rattle.idn2_options.specs.declared.command_line.form.Form.{Form}
+use Rattle.idn2_options.specs.declared.command_line.form.Form.TheVariants.{Plain, Json}
 use Rattle.idn2_cli.specs.declared.session.status.Status.{Status}
 use Rattle.idn2_cli.specs.declared.session.status.Status.TheVariants.{Clean, Refused, Unusable}
 use Rattle.idn_text.specs.declared.refusal.Refusal.TheVariants as refusals
@@ -100,32 +108,65 @@ table_message number refusal = codes "idn2: table line " ++ (decimal number ++ (
 abbrev pub registered_message : ℕ → Refusal → List ℕ
 registered_message number refusal = codes "idn2: registered line " ++ (decimal number ++ (codes ": " ++ told refusal))
 
+-- ---- what a run says
+
+-- in answer to a line; that a line is refused, and its cause, if one is told; what is found in a table; the fault of a line of a
+-- table
+pub data Statement : Type 0 where
+  Says : (line : Numbered) (said : Said) → Statement
+  Refuses : (line : Numbered) (refusal : Refusal) (cause : Option LineCause) → Statement
+  Finds : (finding : Finding) → Statement
+  Faults : (line : ℕ) (refusal : Refusal) → Statement
+
+-- the object of a refused line, with its line feed
+abbrev pub refused_object : Numbered → Refusal → Option LineCause → List ℕ
+refused_object line refusal cause = line_of (refused line.number (told_of line.body) refusal (told_details refusal cause))
+
+-- the object of a table that has a fault
+abbrev pub table_object : ℕ → Refusal → List ℕ
+table_object line refusal = line_of (table_fault line refusal no_details)
+
+-- the object of a file that is not read as registered labels
+abbrev pub registered_object : ℕ → Refusal → List ℕ
+registered_object line refusal = line_of (registered_fault line refusal no_details)
+
+-- a statement as it is written: answers and what is found go to the output in either form; a refusal is a message, or an object of
+-- the output
+abbrev pub piece_in : Form → Statement → Piece
+piece_in form (Says line said) = Output (said_text form line said)
+piece_in form (Finds finding) = Output (finding_text form finding)
+piece_in Plain (Refuses line refusal cause) = Message (refused_message line.number refusal (tail_text refusal cause))
+piece_in Json (Refuses line refusal cause) = Output (refused_object line refusal cause)
+piece_in Plain (Faults line refusal) = Message (table_message line refusal)
+piece_in Json (Faults line refusal) = Output (table_object line refusal)
+
 -- ---- the lines of the input
 
--- lines of the output, each with its line feed
-abbrev pub output_lines : List (List ℕ) → List Piece
-output_lines lines = map (λ line. Output (line ++ 10 ∷ [])) lines
+-- what is said of a line that has this answer
+abbrev pub answer_statements : Explained → Numbered → LineAnswer → List Statement
+answer_statements explained line (Ok said) = map (Says line) said
+answer_statements explained line (Err refusal) = Refuses line refusal (body_cause explained line.body refusal) ∷ []
 
--- an answer's lines go to the output, a refusal to the messages, with what its message goes on with
-abbrev pub pieces_for : (Refusal → List ℕ) → ℕ → LineAnswer → List Piece
-pieces_for tail number (Ok lines) = output_lines lines
-pieces_for tail number (Err refusal) = Message (refused_message number refusal (tail refusal)) ∷ []
+-- what is said of lines, in order
+abbrev pub lines_statements : Explained → (List ℕ → LineAnswer) → List Numbered → List Statement
+lines_statements explained answer lines = flat_map (λ line. answer_statements explained line (line_answer answer line.body)) lines
 
--- what the message of a refused line goes on with
-abbrev pub body_tail : Explained → Option (List ℕ) → Refusal → List ℕ
-body_tail explained body refusal = tail_text refusal (body_cause explained body refusal)
+-- texts of the output
+abbrev pub outputs : {X : Type 0} → (X → List ℕ) → List X → List Piece
+outputs text xs = map (λ x. Output (text x)) xs
 
--- the same of a line's code points
-abbrev pub points_tail : Explained → List ℕ → Refusal → List ℕ
-points_tail explained points refusal = tail_text refusal (points_cause explained points refusal)
+-- the same as it is written: the pieces of an answer
+abbrev pub pieces_for : Form → Explained → Numbered → LineAnswer → List Piece
+pieces_for form explained line (Ok said) = outputs (said_text form line) said
+pieces_for form explained line (Err refusal) = piece_in form (Refuses line refusal (body_cause explained line.body refusal)) ∷ []
 
 -- the pieces of a line
-abbrev pub line_pieces : Explained → (List ℕ → LineAnswer) → Numbered → List Piece
-line_pieces explained answer line = pieces_for (body_tail explained line.body) line.number (line_answer answer line.body)
+abbrev pub line_pieces : Form → Explained → (List ℕ → LineAnswer) → Numbered → List Piece
+line_pieces form explained answer line = pieces_for form explained line (line_answer answer line.body)
 
 -- the pieces of lines, in order
-abbrev pub lines_pieces : Explained → (List ℕ → LineAnswer) → List Numbered → List Piece
-lines_pieces explained answer lines = flat_map (line_pieces explained answer) lines
+abbrev pub lines_pieces : Form → Explained → (List ℕ → LineAnswer) → List Numbered → List Piece
+lines_pieces form explained answer lines = flat_map (line_pieces form explained answer) lines
 
 -- whether some line is refused
 abbrev pub has_refused : (List ℕ → LineAnswer) → List Numbered → Bool
@@ -137,30 +178,27 @@ status_if refused = if refused then Refused else Clean
 
 -- ---- the check of a table
 
--- a pair that the table lacks, in canonical notation
-abbrev pub gap_line : List ℕ × List ℕ → List ℕ
-gap_line gap = codes "missing " ++ (sequence_text gap.0 ++ 124 ∷ sequence_text gap.1)
+-- what a check finds
+abbrev pub check_findings : List Entry → List Finding
+check_findings table = map Gap (gaps_of table) ++ Counted (length table) (length (gaps_of table)) ∷ []
 
--- how many entries and how many gaps the table has
-abbrev pub table_line : ℕ → ℕ → List ℕ
-table_line entries gaps = codes "#table " ++ (decimal entries ++ 32 ∷ decimal gaps)
-
--- the lines of a check
-abbrev pub check_lines : List Entry → List (List ℕ)
-check_lines table = map gap_line (gaps_of table) ++ table_line (length table) (length (gaps_of table)) ∷ []
-
--- the same, by what these lines have to be
--- a line for each pair that symmetry or transitivity requires and the table lacks, in order, and then how many entries and how
--- many such pairs there are
-pub record IsCheck (table : List Entry) (lines : List (List ℕ)) : Type 0 where
+-- the same, by what it has to be
+-- each pair that symmetry or transitivity requires and the table lacks, in order, and then how many entries and how many such pairs
+-- there are
+pub record IsCheck (table : List Entry) (findings : List Finding) : Type 0 where
   pub gaps : List (List ℕ × List ℕ)
   pub exactly : AreGapsOf table gaps
-  pub printed : lines ≡ map gap_line gaps ++ table_line (length table) (length gaps) ∷ []
+  pub found : findings ≡ map Gap gaps ++ Counted (length table) (length gaps) ∷ []
 
--- what a check writes; the one message of a faulty table
-abbrev pub check_pieces : TableGiven → List Piece
-check_pieces (Err fault) = Message (table_message fault.0 fault.1) ∷ []
-check_pieces (Ok table) = output_lines (check_lines table.entries)
+-- what is said of a table; of a faulty one its fault
+abbrev pub check_statements : TableGiven → List Statement
+check_statements (Err fault) = Faults fault.0 fault.1 ∷ []
+check_statements (Ok table) = map Finds (check_findings table.entries)
+
+-- the same as it is written
+abbrev pub check_pieces : Form → TableGiven → List Piece
+check_pieces form (Err fault) = piece_in form (Faults fault.0 fault.1) ∷ []
+check_pieces form (Ok table) = outputs (finding_text form) (check_findings table.entries)
 
 -- 2 for a faulty table, 1 for one with a gap, else 0
 abbrev pub check_status : TableGiven → Status
@@ -169,19 +207,29 @@ check_status (Ok table) = status_if (not (length (gaps_of table.entries) == 0))
 
 -- ---- the whole run
 
--- the pieces of a mode over these lines; the check of a table reads none
+-- what a mode says over these lines; the check of a table reads none
+abbrev pub mode_statements : Mode → Settings → TableValue → List Numbered → List Statement
+mode_statements CheckTable o table lines = check_statements (Ok table)
+mode_statements mode o table lines = lines_statements (explained_in mode o table) (mode_answer mode o table) lines
+
+-- its pieces
 abbrev pub mode_pieces : Mode → Settings → TableValue → List Numbered → List Piece
-mode_pieces CheckTable o table lines = check_pieces (Ok table)
-mode_pieces mode o table lines = lines_pieces (explained_in mode o table) (mode_answer mode o table) lines
+mode_pieces CheckTable o table lines = check_pieces o.form (Ok table)
+mode_pieces mode o table lines = lines_pieces o.form (explained_in mode o table) (mode_answer mode o table) lines
 
 -- 1 where a line is refused, else 0
 abbrev pub mode_status : Mode → Settings → TableValue → List Numbered → Status
 mode_status CheckTable o table lines = check_status (Ok table)
 mode_status mode o table lines = status_if (has_refused (mode_answer mode o table) lines)
 
--- the pieces of a run, in order: those of its mode, or the one message of a faulty table
+-- what a run says, in order: what its mode says, or the fault of the table
+abbrev pub statements : Settings → TableGiven → List Numbered → List Statement
+statements o (Err fault) lines = check_statements (Err fault)
+statements o (Ok table) lines = mode_statements o.mode o table lines
+
+-- the pieces of a run, in order: those of its mode, or the one of a faulty table
 abbrev pub transcript : Settings → TableGiven → List Numbered → List Piece
-transcript o (Err fault) lines = check_pieces (Err fault)
+transcript o (Err fault) lines = check_pieces o.form (Err fault)
 transcript o (Ok table) lines = mode_pieces o.mode o table lines
 
 -- the status of a run

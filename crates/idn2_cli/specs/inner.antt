@@ -6,3 +6,5 @@ pub mod Dispositions
 pub mod GapSequences
 pub mod KeptLines
 pub mod Explaining
+pub mod Asked
+pub mod Objects

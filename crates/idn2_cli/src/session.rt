@@ -1,11 +1,14 @@
 //! One run: its lines, its two writers, its messages, and how it ends.
 
+pub(crate) mod asked;
 pub(crate) mod buffers;
 pub(crate) mod cause;
 pub(crate) mod console;
+pub(crate) mod details;
 pub(crate) mod explaining;
 pub(crate) mod lines;
 pub(crate) mod message;
+pub(crate) mod object;
 pub(crate) mod refusing;
 pub(crate) mod report;
 pub(crate) mod request;

@@ -3,7 +3,7 @@
 use Rattle.std.specs.Prelude.{ℕ, ◌^◌, ◌-◌, Some, codes, true}
 use Rattle.clap.specs.Words.{App, Rule, Text, new_app, new_rule, with_rule}
 use Rattle.clap.specs.declared.builder.ArgAction.TheVariants.{SetTrue, Set, Append}
-use Rattle.idn2_options.specs.declared.command_line.arguments.TheConstants.{AFTER, AMONG, CHECK_TABLE, DECODE, EXPLAIN, JUMP, LIMIT, LOOKUP, QUIET, REGISTER, STD3, STEPS, STRINGS, TR46NT, TRIES, VARIANTS}
+use Rattle.idn2_options.specs.declared.command_line.arguments.TheConstants.{AFTER, AMONG, CHECK_TABLE, DECODE, EXPLAIN, JSON, JUMP, LIMIT, LOOKUP, QUIET, REGISTER, STD3, STEPS, STRINGS, TR46NT, TRIES, VARIANTS}
 
 -- a flag, `--name`
 abbrev pub flag_rule : Text → Rule
@@ -39,12 +39,13 @@ with_collisions a = with_rule (with_rule a
     (value_rule AMONG.now))
     (flag_rule JUMP.now)
 
--- `-N`, `--usestd3asciirules`, `--explain`, `--quiet`
+-- `-N`, `--usestd3asciirules`, `--explain`, `--json`, `--quiet`
 abbrev pub with_switches : App → App
-with_switches a = with_rule (with_rule (with_rule (with_rule a
+with_switches a = with_rule (with_rule (with_rule (with_rule (with_rule a
     (short_flag_rule TR46NT.now 78))
     (flag_rule STD3.now))
     (flag_rule EXPLAIN.now))
+    (flag_rule JSON.now))
     (flag_rule QUIET.now)
 
 -- `--after TEXT`, `--limit N`, `--tries N`, `--steps N`

@@ -1,6 +1,8 @@
 -- The options of a run, as contracts see them.
-use Rattle.std.specs.Prelude.{◌≡◌, ◌≢◌, ◌≤◌, ℕ, Bool, List, [], Option, None, IfSome, length}
+use Rattle.std.specs.Prelude.{◌≡◌, ◌≢◌, ◌≤◌, ℕ, Bool, true, false, ◌||◌, List, [], Option, None, IfSome, length}
 use Rattle.idn_text.specs.Points.{AreScalarValues}
+use Rattle.idn2_options.specs.declared.command_line.form.Form.{Form}
+use Rattle.idn2_options.specs.declared.command_line.form.Form.TheVariants.{Plain, Json}
 use Rattle.idn2_options.specs.declared.command_line.mode.Mode.{Mode}
 use Rattle.idn2_options.specs.declared.command_line.mode.Mode.TheVariants.{Variants, Jump, CheckTable}
 
@@ -10,6 +12,7 @@ pub record Settings : Type 0 where
   pub mode : Mode
   pub std3 : Bool
   pub explain : Bool
+  pub form : Form
   pub file : List ℕ
   pub strings : List (List ℕ)
   pub after : List ℕ
@@ -22,6 +25,15 @@ pub record Settings : Type 0 where
 -- the same options, with listings kept to these labels; or whole, where there are none
 abbrev pub keeping : Option (List (List ℕ)) → Settings → Settings
 keeping labels o = record o { registered = labels }
+
+-- the form is that of objects
+abbrev pub is_json : Form → Bool
+is_json Plain = false
+is_json Json = true
+
+-- the cause of a refusal is told: it is asked for, or refusals are objects
+abbrev pub tells_causes : Settings → Bool
+tells_causes o = o.explain || is_json o.form
 
 -- a number that `--limit` and `--tries` take
 abbrev pub IsCount : ℕ → Type 0

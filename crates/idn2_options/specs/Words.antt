@@ -14,11 +14,13 @@ use Rattle.clap.specs.declared.error.ErrorKind.{ErrorKind}
 use Rattle.clap.specs.declared.error.ErrorKind.TheVariants.{DisplayHelp, DisplayVersion, OutOfMemory}
 use Rattle.idn2_options.specs.CommandLine.{app}
 use Rattle.idn2_options.specs.Settings.{Settings}
+use Rattle.idn2_options.specs.declared.command_line.form.Form.{Form}
+use Rattle.idn2_options.specs.declared.command_line.form.Form.TheVariants.{Plain, Json}
 use Rattle.idn2_options.specs.declared.command_line.mode.Mode.{Mode}
 use Rattle.idn2_options.specs.declared.command_line.mode.Mode.TheVariants.{Lookup, Register, Decode, Variants, Jump, CheckTable}
 use Rattle.idn2_options.specs.declared.command_line.usage.Usage.{Usage}
 use Rattle.idn2_options.specs.declared.command_line.usage.Usage.TheVariants.{Bad, Show, Memory}
-use Rattle.idn2_options.specs.declared.command_line.arguments.TheConstants.{AFTER, AMONG, CHECK_TABLE, DECODE, EXPLAIN, JUMP, LIMIT, LOOKUP, REGISTER, STD3, STEPS, STRINGS, TRIES, VARIANTS}
+use Rattle.idn2_options.specs.declared.command_line.arguments.TheConstants.{AFTER, AMONG, CHECK_TABLE, DECODE, EXPLAIN, JSON, JUMP, LIMIT, LOOKUP, REGISTER, STD3, STEPS, STRINGS, TRIES, VARIANTS}
 
 -- ---- what `clap` found
 
@@ -143,12 +145,17 @@ mode_of rows =
     else (if has_value CHECK_TABLE.now rows then CheckTable
     else Lookup)))
 
+-- objects of JSON if `--json` is given
+abbrev pub form_of : List Row → Form
+form_of rows = if has_flag JSON.now rows then Json else Plain
+
 -- the options, part by part
 abbrev pub settings_of : List Row → Settings
 settings_of rows = record {
   mode = mode_of rows;
   std3 = has_flag STD3.now rows;
   explain = has_flag EXPLAIN.now rows;
+  form = form_of rows;
   file = file_of rows;
   strings = strings_of rows;
   after = chars (start_of rows);

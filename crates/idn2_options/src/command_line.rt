@@ -3,6 +3,7 @@
 pub(crate) mod arguments;
 pub(crate) mod command;
 pub(crate) mod counts;
+pub(crate) mod form;
 pub(crate) mod mode;
 pub(crate) mod options;
 pub(crate) mod rules;

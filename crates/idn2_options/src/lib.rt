@@ -4,6 +4,7 @@
 mod command_line;
 pub mod laws;
 
+pub use command_line::form::Form;
 pub use command_line::mode::Mode;
 pub use command_line::options::Options;
 pub use command_line::strings::input_text;

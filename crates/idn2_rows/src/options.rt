@@ -1,5 +1,5 @@
 //! What the words of the command line request: options, help, the version, or nothing that can be done.
-use idn2_cli::{Options, Usage, input_text, read_options};
+use idn2_cli::{Form, Options, Usage, input_text, read_options};
 use std::alloc::{AllocError, Global};
 use std::test::Fail;
 use unicode::UNICODE_VERSION;
@@ -23,6 +23,7 @@ Options:
   -N, --tr46nt              Non-transitional lookup, which lookup does anyway
       --usestd3asciirules   Lookup refuses ASCII but letters, digits and hyphens
       --explain             Messages of refused lines go on with the cause
+      --json                Answer by objects of JSON, refusals with causes too
       --quiet               Accepted; there is no banner
       --after <TEXT>        With --variants: list only variants after TEXT
       --limit <N>           With --variants: stop after N variants of a line
@@ -81,6 +82,7 @@ fn summary_of(alloc: Global, line: &str) -> Result<String, AllocError> {
                 mode,
                 std3,
                 explain,
+                form,
                 file,
                 strings: _,
                 after,
@@ -89,8 +91,12 @@ fn summary_of(alloc: Global, line: &str) -> Result<String, AllocError> {
                 steps,
                 among,
             } = options;
+            let form = match form {
+                Form::Plain => "",
+                Form::Json => "Json ",
+            };
             format!(in alloc;
-                "{mode:?} {std3} {explain} {file:?} {after:?} {limit:?} {tries} {steps:?} {among:?} {input:?}"
+                "{form}{mode:?} {std3} {explain} {file:?} {after:?} {limit:?} {tries} {steps:?} {among:?} {input:?}"
             )
         }
         Err(Usage::Bad) => String::from_str(alloc, "bad"),
@@ -100,7 +106,7 @@ fn summary_of(alloc: Global, line: &str) -> Result<String, AllocError> {
 }
 
 /// Words, separated by bars, and what they are read as.
-const READ: [(&str, &str); 19] = [
+const READ: [(&str, &str); 21] = [
     (
         "idn2",
         "Lookup false false \"\" [] None 1000000 None None \"none\"",
@@ -128,6 +134,14 @@ const READ: [(&str, &str); 19] = [
     (
         "idn2|-r|--explain|faß",
         "Register false true \"\" [] None 1000000 None None \"faß\\n\"",
+    ),
+    (
+        "idn2|--json|-d|--explain|x",
+        "Json Decode false true \"\" [] None 1000000 None None \"x\\n\"",
+    ),
+    (
+        "idn2|--check-table|t|--json",
+        "Json CheckTable false false \"t\" [] None 1000000 None None \"none\"",
     ),
     (
         "idn2|--check-table|t",
@@ -206,6 +220,8 @@ fn refused(rt: HostRuntime) -> Result<(), Fail> {
         "idn2|--quiet|--quiet",
         "idn2|--explain|--explain|x",
         "idn2|--explain=yes|x",
+        "idn2|--json|--json|x",
+        "idn2|--json=yes|x",
         "idn2|--variants|t|--variants|u",
         "idn2|--variants",
         "idn2|--check-table|t|x",

@@ -1,5 +1,5 @@
--- The third field of a listing's lines, and what tells it.
-use Rattle.std.specs.Prelude.{ℕ, true, bytes_eq, List, [], ◌≡◌}
+-- The dispositions of a listing's variants, and what tells them.
+use Rattle.std.specs.Prelude.{ℕ, true, bytes_eq, List, Option, None, ◌≡◌}
 use Rattle.std.specs.List.{list_any}
 use Rattle.variant_table.specs.declared.version.Version.TheVariants.{One, Two}
 use Rattle.variant_table.specs.Entries.{Entry, TableValue, unblocked}
@@ -8,12 +8,14 @@ use Rattle.variant_list.specs.Positions.{Built}
 use Rattle.variant_list.specs.Segmentations.{HasSegmentation}
 use Rattle.variant_list.specs.Spelled.{spelled}
 use Rattle.idn2_options.specs.Settings.{Settings}
-use Rattle.idn2_cli.specs.Answers.{disposition_field, block_to, stop_of, variants_after}
+use Rattle.answer_json.specs.declared.block.Disposition.{Disposition}
+use Rattle.idn2_cli.specs.Said.{Said}
+use Rattle.idn2_cli.specs.Answers.{disposition_in, block_to, stop_of, variants_after}
 use Rattle.idn2_cli.specs.declared.modes.dispositions.Dispositions.{Dispositions}
 use Rattle.idn2_cli.specs.declared.modes.dispositions.Dispositions.TheVariants.{Unstated, AllAllocatable, BySpelling}
 
--- the block of a label by the fields of its variants
-abbrev pub block_by : (List ℕ → List ℕ) → Settings → List Entry → List ℕ → List (List ℕ)
+-- the block of a label by the dispositions of its variants
+abbrev pub block_by : (List ℕ → Option Disposition) → Settings → List Entry → List ℕ → List Said
 block_by field o entries label = block_to field (stop_of o entries label) (variants_after o entries label)
 
 -- what tells the dispositions is that of the table: it has no blocked variants, or this is the table without them
@@ -39,8 +41,8 @@ abbrev pub TellsWell : Dispositions Built → Type 0
 TellsWell (BySpelling net) = IsWellFormed net.table
 TellsWell other = Unit {0}
 
--- the field of a variant's line that is told
-abbrev pub field_by : Dispositions Built → List ℕ → List ℕ
-field_by Unstated v = []
-field_by AllAllocatable v = disposition_field Two true
-field_by (BySpelling net) v = disposition_field Two (list_any (bytes_eq v) (spelled net.table net.label))
+-- the disposition of a variant that is told
+abbrev pub field_by : Dispositions Built → List ℕ → Option Disposition
+field_by Unstated v = None
+field_by AllAllocatable v = disposition_in Two true
+field_by (BySpelling net) v = disposition_in Two (list_any (bytes_eq v) (spelled net.table net.label))

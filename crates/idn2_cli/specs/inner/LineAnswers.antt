@@ -3,6 +3,9 @@ use Rattle.std.specs.Prelude.{ℕ, ◌==◌, Bool, false, List, [], ◌∷◌, �
 use Rattle.idn_text.specs.declared.refusal.Refusal.{Refusal}
 use Rattle.idn_text.specs.declared.refusal.Refusal.TheVariants.{Empty}
 use Rattle.idn_label.specs.Lookup.{utf8_answer}
+use Rattle.idn2_cli.specs.Said.{Said, LookedUp, Decoded}
+use Rattle.idn2_cli.specs.declared.modes.answering.Kind.{Kind}
+use Rattle.idn2_cli.specs.declared.modes.answering.Kind.TheVariants as kind
 
 -- so many variants are as many as may be listed
 abbrev pub reaches : Option ℕ → ℕ → Bool
@@ -17,3 +20,14 @@ with_feed (Err refusal) = Err refusal
 -- the same of lookup, by the bytes of the name: they need not be decoded to be looked up
 unfoldable pub query_answer : List ℕ → Bool → Result (List ℕ) Refusal
 query_answer bytes std3 = if length bytes == 0 then Err Empty else utf8_answer bytes std3
+
+-- ---- an answer of one text
+
+abbrev pub said_by : Kind → List ℕ → Said
+said_by kind.LookedUp text = LookedUp text
+said_by kind.Decoded text = Decoded text
+
+-- the most octets of such a text and a line feed
+abbrev pub longest : Kind → ℕ
+longest kind.LookedUp = 255
+longest kind.Decoded = 4097

@@ -1,20 +1,29 @@
 //! What a mode does with one line.
 
-ghost use Rattle.std.specs.Prelude.{◌≡◌, ◌≢◌, ◌≤◌, ℕ, Bool, List, [], ◌∷◌, length, IfOk, IfErr, Err, Some, false};
+ghost use Rattle.std.specs.Prelude.{◌≡◌, ◌≢◌, ◌≤◌, ℕ, Bool, List, [], ◌∷◌, ◌++◌, length, IfOk, IfErr, Err, Some, false};
 ghost use Rattle.std.specs.Result.{is_err};
 ghost use Rattle.idn2_cli.specs.Answers.{LineAnswer, text_answer};
 ghost use Rattle.idn2_cli.specs.Explained.{Explained};
 ghost use Rattle.idn2_cli.specs.Memory.{NeedsNone};
-ghost use Rattle.idn2_cli.specs.Transcript.{Output, body_tail, pieces_for};
+ghost use Rattle.answer_json.specs.Inputs.{told_of};
+ghost use Rattle.idn2_cli.specs.Said.{said_object, said_text};
+ghost use Rattle.idn2_cli.specs.Transcript.{Output, pieces_for};
+ghost use Rattle.idn2_cli.specs.inner.Asked.{asked_line};
+ghost use Rattle.idn2_cli.specs.inner.LineAnswers.{longest, said_by};
+ghost use Rattle.idn2_cli.specs.inner.Objects.{HasSpace, object_told};
 ghost use Rattle.idn2_cli.specs.inner.Emitting.{Emits, StopsForMemory};
 ghost use Rattle.idn2_cli.specs.inner.Explaining.{explained_by};
 ghost use Rattle.idn2_cli.specs.declared.session.stop.Stop.TheVariants as stop;
 
+use crate::session::asked::Asked;
 use crate::session::buffers::Buffers;
 use crate::session::cause::Explaining;
 use crate::session::console::Console;
+use crate::session::object::Object;
 use crate::session::stop::Stop;
+use answer_json::Input;
 use idn_text::{MAX_LINE_LEN, Sink};
+use idn2_options::Form;
 use std::alloc::Global;
 
 /// A mode that answers each line by itself.
@@ -41,34 +50,68 @@ pub(crate) trait Answering {
     fn explaining(&self) -> Explaining<'_>
         ensures { explained_by result ≡ explains self.now };
 
-    /// Writes the answer to the bytes of a line of this number, and returns whether it is a refusal.
+    /// Writes the answer to the bytes of a line, and returns whether it is a refusal.
     fn answer<W: Sink, E: Sink>(
         &self,
         alloc: Global,
-        number: u64,
-        text: &[u8],
+        asked: &Asked<'_>,
         buffers: &mut Buffers,
         console: &mut Console<'_, '_, W, E>,
     ) -> Result<bool, Stop>
         requires ready { is_ready self.now }
-        requires few { length text.now ≤ MAX_LINE_LEN }
+        requires few { length asked.now.text.now ≤ MAX_LINE_LEN }
         ensures written { Emits console.old console.new
-            (pieces_for (body_tail (explains self.now) (Some text.now)) number (text_answer (answer_of self.now) text.now)) result }
-        ensures refused { IfOk result (λ refused. refused ≡ is_err (text_answer (answer_of self.now) text.now)) }
-        ensures no_memory { NeedsNone (explains self.now) (answer_of self.now) (needs_none self.now) text.now → result ≢ Err stop.Memory }
-        ensures begun { StopsForMemory (goes_on self.now text.now) console.old console.new result };
+            (pieces_for asked.now.form (explains self.now) (asked_line asked.now) (text_answer (answer_of self.now) asked.now.text.now)) result }
+        ensures refused { IfOk result (λ refused. refused ≡ is_err (text_answer (answer_of self.now) asked.now.text.now)) }
+        ensures no_memory { NeedsNone (explains self.now) (answer_of self.now) (needs_none self.now) asked.now.text.now → result ≢ Err stop.Memory }
+        ensures begun { StopsForMemory (goes_on self.now asked.now.text.now) console.old console.new result };
 }
 
-/// Answers a line by one line, which ends in a line feed. It takes no memory.
+/// What one text says of a name.
+#[derive(Clone, Copy)]
+pub(crate) enum Kind {
+    /// What it is in a query.
+    LookedUp,
+    /// What it is decoded to.
+    Decoded,
+}
+
+/// Answers a line by a text, which is followed by a line feed. It takes no memory.
 #[inline(always)]
 pub(crate) fn reply<W: Sink, E: Sink>(
+    asked: &Asked<'_>,
+    kind: Kind,
     line: &[u8],
     console: &mut Console<'_, '_, W, E>,
 ) -> Result<bool, Stop>
-    ensures written { Emits console.old console.new (Output line.now ∷ []) result }
+    requires few { length asked.now.text.now ≤ MAX_LINE_LEN }
+    requires filled { 1 ≤ length line.now }
+    requires short { length line.now ≤ longest kind }
+    ensures written { (text : List ℕ) → line.now ≡ text ++ 10 ∷ [] →
+        Emits console.old console.new (Output (said_text asked.now.form (asked_line asked.now) (said_by kind text)) ∷ []) result }
     ensures why { IfErr result (λ why. why ≡ stop.Output) }
     ensures refused { IfOk result (λ refused. refused ≡ false) }
 {
-    console.output(line)?;
+    match asked.form {
+        Form::Plain => console.output(line)?,
+        Form::Json => console.object(&object_of(asked, kind, line))?,
+    }
     Ok(false)
+}
+
+/// The object of such an answer.
+fn object_of<'a>(asked: &Asked<'a>, kind: Kind, line: &'a [u8]) -> Object<'a>
+    requires few { length asked.now.text.now ≤ MAX_LINE_LEN }
+    requires filled { 1 ≤ length line.now }
+    requires short { length line.now ≤ longest kind }
+    ensures told { (text : List ℕ) → line.now ≡ text ++ 10 ∷ [] →
+        object_told result ≡ said_object asked.now.number (told_of (Some asked.now.text.now)) (said_by kind text) }
+    ensures space { HasSpace result }
+{
+    let text = &line[..line.len() - 1];
+    let input = Input::of(asked.text);
+    match kind {
+        Kind::LookedUp => Object::LookedUp(asked.number, input, text),
+        Kind::Decoded => Object::Decoded(asked.number, input, text),
+    }
 }

@@ -15,8 +15,10 @@ ghost use Rattle.variant_list.specs.Sharing.{IsKeptOf};
 ghost use Rattle.variant_list.specs.Tested.{tested};
 ghost use Rattle.variant_list.specs.Verdicts.{IsVerdict};
 ghost use Rattle.idn2_options.specs.Settings.{IsWithinLimits, keeping};
-ghost use Rattle.idn2_cli.specs.Transcript.{output_lines, Output};
-ghost use Rattle.idn2_cli.specs.Answers.{is_registrable, variant_line, trailer};
+ghost use Rattle.idn2_cli.specs.Transcript.{outputs, Output};
+ghost use Rattle.idn2_cli.specs.Answers.{is_registrable};
+ghost use Rattle.idn2_cli.specs.Said.{BlockEnd, Listed, disposition_field, said_text, variant_line};
+ghost use Rattle.idn2_cli.specs.inner.Asked.{asked_line};
 ghost use Rattle.idn2_cli.specs.inner.Dispositions.{block_by, field_by, TellsWell};
 ghost use Rattle.idn2_cli.specs.inner.KeptLines.{IsBegun};
 ghost use Rattle.idn2_cli.specs.inner.LineAnswers.{reaches};
@@ -25,14 +27,17 @@ ghost use Rattle.idn2_cli.specs.declared.session.stop.Stop.TheVariants as stop;
 
 use crate::modes::dispositions::Dispositions;
 use crate::modes::kept_line::KeptLine;
+use crate::session::asked::Asked;
 use crate::session::buffers::append;
 use crate::session::console::Console;
+use crate::session::object::Object;
 use crate::session::stop::Stop;
+use answer_json::{Disposition, Input};
 use arrayvec::{ArrayString, ArrayVec};
 use idn_class::KeptBeginnings;
 use idn_label::{ALabel, KeptALabel};
-use idn_text::{Refusal, Sink};
-use idn2_options::Options;
+use idn_text::{MAX_LINE_LEN, Refusal, Sink};
+use idn2_options::{Form, Options};
 use itoa::Buffer;
 use std::alloc::{AllocError, Global};
 use variant_list::{Cursor, Judge, Net, Outcome, SpellingTest, Verdict};
@@ -40,16 +45,18 @@ use variant_list::{Cursor, Judge, Net, Outcome, SpellingTest, Verdict};
 /// Writes the block of a net's label, with all its variants.
 pub(crate) fn write_block<W: Sink, E: Sink>(
     alloc: Global,
+    asked: &Asked<'_>,
     options: &Options,
     net: &Net,
     dispositions: &mut Dispositions<SpellingTest>,
     console: &mut Console<'_, '_, W, E>,
 ) -> Result<(), Stop>
+    requires few { length asked.now.text.now ≤ MAX_LINE_LEN }
     requires limits { IsWithinLimits options.now }
     requires table { IsWellFormed net.now.table }
     requires dispositions { TellsWell dispositions.old }
     ensures written { Emits console.old console.new
-        (output_lines (block_by (field_by dispositions.old) (keeping None options.now) net.now.table net.now.label)) result }
+        (outputs (said_text asked.now.form (asked_line asked.now)) (block_by (field_by dispositions.old) (keeping None options.now) net.now.table net.now.label)) result }
     ensures begun { StopsForMemory (All NeedsNoMemory (tested hopeless net.now.table net.now.label options.now.after))
         console.old console.new result }
 {
@@ -65,17 +72,17 @@ pub(crate) fn write_block<W: Sink, E: Sink>(
     'variants: loop {
         match cursor.seek(alloc, &mut judge, &mut tries, &mut steps)? {
             Outcome::Found => {}
-            Outcome::Spent => return write_stop(count, cursor.last(), &mut judge.line, console),
-            Outcome::Halted => return write_stop(count, cursor.last(), &mut judge.line, console),
-            Outcome::Ended => return write_end(count, console),
+            Outcome::Spent => return write_stop(asked, count, cursor.last(), &mut judge.line, console),
+            Outcome::Halted => return write_stop(asked, count, cursor.last(), &mut judge.line, console),
+            Outcome::Ended => return write_end(asked, count, console),
         }
         let variant = cursor.last();
-        let field = dispositions.field(variant);
+        let disposition = dispositions.of_variant(variant);
         let a_label = judge.test.a_label();
-        write_variant(variant, a_label, field, &mut judge.line, console)?;
+        write_variant(asked, variant, a_label, disposition, &mut judge.line, console)?;
         count += 1;
         if is_reached(options.limit, count) {
-            return write_stop(count, cursor.last(), &mut judge.line, console);
+            return write_stop(asked, count, cursor.last(), &mut judge.line, console);
         }
     }
 }
@@ -136,29 +143,57 @@ pub(crate) fn is_reached(limit: Option<u64>, count: u64) -> bool
     }
 }
 
-/// Writes a variant, its A-label and its third field.
+/// Writes a variant, its A-label and its disposition.
 ///
 /// Always inline: each kind of block calls it once, for each of its lines.
 #[inline(always)]
 pub(crate) fn write_variant<W: Sink, E: Sink>(
+    asked: &Asked<'_>,
     label: &[u32],
     a_label: &ALabel,
-    field: &str,
+    disposition: Option<Disposition>,
     line: &mut KeptLine,
     console: &mut Console<'_, '_, W, E>,
 ) -> Result<(), Stop>
     requires registrable { IsRegistrable label.now }
     requires a_label { a_label.now.bytes ≡ a_label_of label.now }
-    requires short { length field.now ≤ 16 }
     requires begun { IsBegun label.now line.old }
     ensures begun { IsBegun label.now line.new }
-    ensures written { Emits console.old console.new (Output (variant_line field.now label.now ++ 10 ∷ []) ∷ []) result }
+    ensures written { Emits console.old console.new
+        (Output (said_text asked.now.form (asked_line asked.now) (Listed disposition label.now)) ∷ []) result }
+    ensures why { IfErr result (λ why. why ≡ stop.Output) }
+{
+    match asked.form {
+        Form::Plain => write_variant_line(label, a_label, disposition, line, console),
+        Form::Json => {
+            line.begin(label);
+            let (u_label, a_label) = (line.as_slice(), a_label.as_str().as_bytes());
+            console.object(&Object::Variant(asked.number, u_label, a_label, disposition))
+        }
+    }
+}
+
+/// Writes them as a line, with the disposition as its third field.
+#[inline(always)]
+fn write_variant_line<W: Sink, E: Sink>(
+    label: &[u32],
+    a_label: &ALabel,
+    disposition: Option<Disposition>,
+    line: &mut KeptLine,
+    console: &mut Console<'_, '_, W, E>,
+) -> Result<(), Stop>
+    requires registrable { IsRegistrable label.now }
+    requires a_label { a_label.now.bytes ≡ a_label_of label.now }
+    requires begun { IsBegun label.now line.old }
+    ensures begun { IsBegun label.now line.new }
+    ensures written { Emits console.old console.new (Output (variant_line disposition label.now ++ 10 ∷ []) ∷ []) result }
     ensures why { IfErr result (λ why. why ≡ stop.Output) }
 {
     line.begin(label);
     line.append(b"\t");
     line.append(a_label.as_str().as_bytes());
     // Most tables have no dispositions, so no field.
+    let field = field_of(disposition);
     if !field.is_empty() {
         line.append(field.as_bytes());
     }
@@ -166,23 +201,47 @@ pub(crate) fn write_variant<W: Sink, E: Sink>(
     console.output(line.as_slice())
 }
 
-/// Writes the trailer of a listing that stops at a label of at most 63 code points. `kept` gives the UTF-8 of the
-/// label.
+/// The third field of a variant's line, with the tab before it; nothing where there is no disposition.
+#[inline]
+fn field_of(disposition: Option<Disposition>) -> &'static str
+    ensures field { result.now ≡ disposition_field disposition }
+    ensures short { length result.now ≤ 16 }
+{
+    match disposition {
+        None => "",
+        Some(Disposition::Allocatable) => "\tallocatable",
+        Some(Disposition::Blocked) => "\tblocked",
+    }
+}
+
+/// Writes the end of a listing that stops at a label of at most 63 code points. `kept` gives the UTF-8 of the label.
 pub(crate) fn write_stop<W: Sink, E: Sink>(
+    asked: &Asked<'_>,
     count: u64,
     last: &[u32],
     kept: &mut KeptLine,
     console: &mut Console<'_, '_, W, E>,
 ) -> Result<(), Stop>
+    requires few { length asked.now.text.now ≤ MAX_LINE_LEN }
     requires short { length last.now ≤ 63 }
     requires scalar_values { AreScalarValues last.now }
     requires begun { IsBegun last.now kept.old }
-    ensures written { Emits console.old console.new (Output (trailer count (Some last.now) ++ 10 ∷ []) ∷ []) result }
+    ensures written { Emits console.old console.new
+        (Output (said_text asked.now.form (asked_line asked.now) (BlockEnd count (Some last.now))) ∷ []) result }
     ensures why { IfErr result (λ why. why ≡ stop.Output) }
 {
     kept.begin(last);
-    let line = stop_line(count, kept.as_slice());
-    console.output(line.as_slice())
+    let label = kept.as_slice();
+    match asked.form {
+        Form::Plain => {
+            let line = stop_line(count, label);
+            console.output(line.as_slice())
+        }
+        Form::Json => {
+            let input = Input::of(asked.text);
+            console.object(&Object::BlockEnd(asked.number, input, count, Some(label)))
+        }
+    }
 }
 
 /// The line of a stop at a label, whose UTF-8 is given.
@@ -200,18 +259,37 @@ fn stop_line(count: u64, last: &[u8]) -> ArrayVec<u8, 320>
     line
 }
 
-/// Writes the trailer of a listing that ends.
+/// Writes the end of a listing that ends.
 pub(crate) fn write_end<W: Sink, E: Sink>(
+    asked: &Asked<'_>,
     count: u64,
     console: &mut Console<'_, '_, W, E>,
 ) -> Result<(), Stop>
-    ensures written { Emits console.old console.new (Output (trailer count None ++ 10 ∷ []) ∷ []) result }
+    requires few { length asked.now.text.now ≤ MAX_LINE_LEN }
+    ensures written { Emits console.old console.new
+        (Output (said_text asked.now.form (asked_line asked.now) (BlockEnd count None)) ∷ []) result }
     ensures why { IfErr result (λ why. why ≡ stop.Output) }
+{
+    match asked.form {
+        Form::Plain => {
+            let line = end_line(count);
+            console.output(line.as_str().as_bytes())
+        }
+        Form::Json => {
+            let input = Input::of(asked.text);
+            console.object(&Object::BlockEnd(asked.number, input, count, None))
+        }
+    }
+}
+
+/// The line of an end.
+fn end_line(count: u64) -> ArrayString<48>
+    ensures { result.bytes ≡ codes "#end " ++ decimal count ++ 10 ∷ [] }
 {
     let mut line = ArrayString::<48>::new();
     let mut digits = Buffer::new();
     line.push_str("#end ");
     line.push_str(digits.format(count));
     line.push_str("\n");
-    console.output(line.as_str().as_bytes())
+    line
 }

@@ -4,16 +4,19 @@ ghost use Rattle.std.specs.Prelude.{◌≡◌, ◌≤◌, ◌==◌, ◌++◌, �
 ghost use Rattle.idn_text.specs.Points.{AreScalarValues};
 ghost use Rattle.variant_table.specs.Gaps.{gaps_of, pairs_of};
 ghost use Rattle.idn2_cli.specs.inner.GapSequences.{HoldSequences};
-ghost use Rattle.idn2_cli.specs.Transcript.{gap_line, table_line, check_lines, output_lines, status_if};
+ghost use Rattle.idn2_cli.specs.Said.{Counted, Gap, finding_text, gap_line, table_line};
+ghost use Rattle.idn2_cli.specs.Transcript.{Output, check_findings, outputs, status_if};
 ghost use Rattle.idn2_cli.specs.inner.Emitting.{Emits};
 ghost use Rattle.idn2_cli.specs.declared.session.stop.Stop.TheVariants as stop;
 
 use crate::session::buffers::append;
 use crate::session::console::Console;
+use crate::session::object::Object;
 use crate::session::status::Status;
 use crate::session::stop::Stop;
 use arrayvec::{ArrayString, ArrayVec};
 use idn_text::Sink;
+use idn2_options::Form;
 use itoa::Buffer;
 use std::alloc::Global;
 use variant_table::{Table, write_sequence};
@@ -21,19 +24,19 @@ use variant_table::{Table, write_sequence};
 /// Writes a line for each gap of the table and one with their number, and gives the status of the run.
 pub(crate) fn check_table<W: Sink, E: Sink>(
     alloc: Global,
+    form: Form,
     table: &Table,
     console: &mut Console<'_, '_, W, E>,
 ) -> Result<Status, Stop>
-    ensures written { Emits console.old console.new (output_lines (check_lines table.now.entries)) result }
+    ensures written { Emits console.old console.new (outputs (finding_text form) (check_findings table.now.entries)) result }
     ensures status { IfOk result (λ status. status ≡ status_if (not (length (gaps_of table.now.entries) == 0))) }
 {
     let gaps = table.gaps(alloc)?;
     let entries = table.len();
     let pairs = gaps.as_slice();
     let count = pairs.len();
-    write_gaps(pairs, console)?;
-    let line = line_of_counts(entries, count);
-    console.output(line.as_str().as_bytes())?;
+    write_gaps(form, pairs, console)?;
+    write_counts(form, entries, count, console)?;
     Ok(status_of_gaps(count))
 }
 
@@ -48,20 +51,51 @@ fn status_of_gaps(count: usize) -> Status
     }
 }
 
-/// Writes a line for each gap.
+/// Writes each gap.
 fn write_gaps<W: Sink, E: Sink>(
+    form: Form,
     gaps: &[(Vec<u32>, Vec<u32>)],
     console: &mut Console<'_, '_, W, E>,
 ) -> Result<(), Stop>
     requires { HoldSequences gaps.now }
-    ensures written { Emits console.old console.new (output_lines (map gap_line (pairs_of gaps.now))) result }
+    ensures written { Emits console.old console.new (outputs (finding_text form) (map Gap (pairs_of gaps.now))) result }
     ensures why { IfErr result (λ why. why ≡ stop.Output) }
 {
     'gaps: for gap in gaps {
-        let line = line_of_gap(&gap.0, &gap.1);
-        console.output(line.as_slice())?;
+        write_gap(form, &gap.0, &gap.1, console)?;
     }
     Ok(())
+}
+
+/// Writes a pair of sequences of 1 to 8 scalar values that the table lacks.
+fn write_gap<W: Sink, E: Sink>(
+    form: Form,
+    first: &[u32],
+    second: &[u32],
+    console: &mut Console<'_, '_, W, E>,
+) -> Result<(), Stop>
+    requires first_filled { 1 ≤ length first.now }
+    requires first_short { length first.now ≤ 8 }
+    requires first_points { AreScalarValues first.now }
+    requires second_filled { 1 ≤ length second.now }
+    requires second_short { length second.now ≤ 8 }
+    requires second_points { AreScalarValues second.now }
+    ensures written { Emits console.old console.new (Output (finding_text form (Gap (first.now, second.now))) ∷ []) result }
+    ensures why { IfErr result (λ why. why ≡ stop.Output) }
+{
+    match form {
+        Form::Plain => {
+            let line = line_of_gap(first, second);
+            console.output(line.as_slice())
+        }
+        Form::Json => {
+            let mut source = ArrayVec::new();
+            let mut missing = ArrayVec::new();
+            write_sequence(first, &mut source);
+            write_sequence(second, &mut missing);
+            console.object(&Object::Gap(source.as_slice(), missing.as_slice()))
+        }
+    }
 }
 
 /// The line of a pair of sequences of 1 to 8 scalar values that the table lacks.
@@ -84,6 +118,25 @@ fn line_of_gap(first: &[u32], second: &[u32]) -> ArrayVec<u8, 160>
     append(&mut line, sequence.as_slice());
     line.push(b'\n');
     line
+}
+
+/// Writes how many entries and how many gaps the table has.
+fn write_counts<W: Sink, E: Sink>(
+    form: Form,
+    entries: usize,
+    gaps: usize,
+    console: &mut Console<'_, '_, W, E>,
+) -> Result<(), Stop>
+    ensures written { Emits console.old console.new (Output (finding_text form (Counted entries gaps)) ∷ []) result }
+    ensures why { IfErr result (λ why. why ≡ stop.Output) }
+{
+    match form {
+        Form::Plain => {
+            let line = line_of_counts(entries, gaps);
+            console.output(line.as_str().as_bytes())
+        }
+        Form::Json => console.object(&Object::Checked(entries as u64, gaps as u64)),
+    }
 }
 
 /// The last line of a check.

@@ -2,15 +2,17 @@
 
 ghost use Rattle.std.specs.Prelude.{◌≡◌, ◌≢◌, ◌≤◌, ℕ, Bool, false, List, length, chars, IfOk, Err};
 ghost use Rattle.std.specs.Result.{is_err};
-ghost use Rattle.idn_text.specs.Points.{AreScalarValues};
+ghost use Rattle.idn_text.specs.Points.{IsUtf8Of};
 ghost use Rattle.idn2_cli.specs.Answers.{LineAnswer};
 ghost use Rattle.idn2_cli.specs.Explained.{Explained, SeeksNoCause};
-ghost use Rattle.idn2_cli.specs.Transcript.{pieces_for, points_tail};
+ghost use Rattle.idn2_cli.specs.Transcript.{pieces_for};
+ghost use Rattle.idn2_cli.specs.inner.Asked.{asked_line};
 ghost use Rattle.idn2_cli.specs.inner.Emitting.{Emits, StopsForMemory};
 ghost use Rattle.idn2_cli.specs.inner.Explaining.{explained_by};
 ghost use Rattle.idn2_cli.specs.declared.session.stop.Stop.TheVariants as stop;
 
 use crate::modes::answering::Answering;
+use crate::session::asked::Asked;
 use crate::session::buffers::Buffers;
 use crate::session::cause::Explaining;
 use crate::session::console::Console;
@@ -43,19 +45,20 @@ pub(crate) trait PointAnswering {
     fn explaining(&self) -> Explaining<'_>
         ensures { explained_by result ≡ explains self.now };
 
-    /// Writes the answer to a line of this number, and returns whether it is a refusal.
+    /// Writes the answer to a line that spells these code points, and returns whether it is a refusal.
     fn answer_points<W: Sink, E: Sink>(
         &self,
         alloc: Global,
-        number: u64,
+        asked: &Asked<'_>,
         points: &[u32],
         console: &mut Console<'_, '_, W, E>,
     ) -> Result<bool, Stop>
         requires ready { is_ready self.now }
-        requires few { length points.now ≤ MAX_LINE_LEN }
-        requires scalar_values { AreScalarValues points.now }
+        requires few { length asked.now.text.now ≤ MAX_LINE_LEN }
+        requires few_points { length points.now ≤ MAX_LINE_LEN }
+        requires spelled { IsUtf8Of asked.now.text.now points.now }
         ensures written { Emits console.old console.new
-            (pieces_for (points_tail (explains self.now) points.now) number (answer_of self.now points.now)) result }
+            (pieces_for asked.now.form (explains self.now) (asked_line asked.now) (answer_of self.now points.now)) result }
         ensures refused { IfOk result (λ refused. refused ≡ is_err (answer_of self.now points.now)) }
         ensures no_memory { SeeksNoCause (explains self.now) (answer_of self.now points.now) → needs_none self.now points.now → result ≢ Err stop.Memory }
         ensures begun { StopsForMemory (goes_on self.now points.now) console.old console.new result };
@@ -87,23 +90,18 @@ impl<'m, M: PointAnswering> Answering for ByPoints<'m, M> {
     fn answer<W: Sink, E: Sink>(
         &self,
         alloc: Global,
-        number: u64,
-        text: &[u8],
+        asked: &Asked<'_>,
         buffers: &mut Buffers,
         console: &mut Console<'_, '_, W, E>,
     ) -> Result<bool, Stop> {
-        match decode_points(text, &mut buffers.points) {
-            Err(_) => {
-                let refusal = Refusal::NotUtf8;
-                refuse(alloc, number, text, refusal, self.explaining(), console)
-            }
-            Ok(()) if text.is_empty() => {
-                let refusal = Refusal::Empty;
-                refuse(alloc, number, text, refusal, self.explaining(), console)
+        match decode_points(asked.text, &mut buffers.points) {
+            Err(_) => refuse(alloc, asked, Refusal::NotUtf8, self.explaining(), console),
+            Ok(()) if asked.text.is_empty() => {
+                refuse(alloc, asked, Refusal::Empty, self.explaining(), console)
             }
             Ok(()) => {
                 self.mode
-                    .answer_points(alloc, number, buffers.points.as_slice(), console)
+                    .answer_points(alloc, asked, buffers.points.as_slice(), console)
             }
         }
     }

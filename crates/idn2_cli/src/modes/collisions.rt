@@ -1,9 +1,11 @@
 //! The block of a label that is kept to registered labels.
 
-ghost use Rattle.std.specs.Prelude.{◌≡◌, Some, Err};
+ghost use Rattle.std.specs.Prelude.{◌≡◌, ◌≤◌, Some, Err, length};
 ghost use Rattle.variant_table.specs.WellFormed.{IsWellFormed};
 ghost use Rattle.idn2_options.specs.Settings.{IsWithinLimits, keeping};
-ghost use Rattle.idn2_cli.specs.Transcript.{output_lines};
+ghost use Rattle.idn2_cli.specs.Said.{said_text};
+ghost use Rattle.idn2_cli.specs.Transcript.{outputs};
+ghost use Rattle.idn2_cli.specs.inner.Asked.{asked_line};
 ghost use Rattle.idn2_cli.specs.inner.Dispositions.{block_by, field_by, TellsWell};
 ghost use Rattle.idn2_cli.specs.inner.Emitting.{Emits};
 ghost use Rattle.idn2_cli.specs.declared.session.stop.Stop.TheVariants as stop;
@@ -11,10 +13,11 @@ ghost use Rattle.idn2_cli.specs.declared.session.stop.Stop.TheVariants as stop;
 use crate::modes::block::{is_reached, write_end, write_stop, write_variant};
 use crate::modes::dispositions::Dispositions;
 use crate::modes::kept_line::KeptLine;
+use crate::session::asked::Asked;
 use crate::session::console::Console;
 use crate::session::stop::Stop;
 use idn_label::encode_label;
-use idn_text::Sink;
+use idn_text::{MAX_LINE_LEN, Sink};
 use idn2_options::Options;
 use registered_labels::{Collisions, RegisteredLabels};
 use std::alloc::Global;
@@ -24,17 +27,19 @@ use variant_list::{Net, SpellingTest};
 /// and tests no candidate, since what is registered may be.
 pub(crate) fn write_collisions<W: Sink, E: Sink>(
     alloc: Global,
+    asked: &Asked<'_>,
     options: &Options,
     net: &Net,
     registered: &RegisteredLabels<'_>,
     dispositions: &mut Dispositions<SpellingTest>,
     console: &mut Console<'_, '_, W, E>,
 ) -> Result<(), Stop>
+    requires few { length asked.now.text.now ≤ MAX_LINE_LEN }
     requires limits { IsWithinLimits options.now }
     requires table { IsWellFormed net.now.table }
     requires dispositions { TellsWell dispositions.old }
     ensures written { Emits console.old console.new
-        (output_lines (block_by (field_by dispositions.old) (keeping (Some registered.now) options.now) net.now.table net.now.label)) result }
+        (outputs (said_text asked.now.form (asked_line asked.now)) (block_by (field_by dispositions.old) (keeping (Some registered.now) options.now) net.now.table net.now.label)) result }
     ensures begun { result ≡ Err stop.Memory → console.new ≡ console.old }
 {
     // How many there are is more than the count ever is.
@@ -46,12 +51,12 @@ pub(crate) fn write_collisions<W: Sink, E: Sink>(
         line.keep(shared);
         let label = search.label();
         let a_label = encode_label(label);
-        let field = dispositions.field(label);
-        write_variant(label, &a_label, field, &mut line, console)?;
+        let disposition = dispositions.of_variant(label);
+        write_variant(asked, label, &a_label, disposition, &mut line, console)?;
         count += 1;
         if is_reached(options.limit, count) {
-            return write_stop(count, search.label(), &mut line, console);
+            return write_stop(asked, count, search.label(), &mut line, console);
         }
     }
-    write_end(count, console)
+    write_end(asked, count, console)
 }

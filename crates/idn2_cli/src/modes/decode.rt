@@ -6,14 +6,16 @@ ghost use Rattle.idn_label.specs.Answers.{Gives};
 ghost use Rattle.idn_label.specs.Decode.{decode_answer};
 ghost use Rattle.idn_label.specs.Memory.{DecodesWithoutMemory};
 ghost use Rattle.idna.specs.Labels.{labels_of};
-ghost use Rattle.idn2_cli.specs.Answers.{one_line};
+ghost use Rattle.idn2_cli.specs.Answers.{one_answer};
+ghost use Rattle.idn2_cli.specs.Said.{Decoded};
 ghost use Rattle.idn2_cli.specs.Explained.{ByName, if_wanted};
 ghost use Rattle.idn_label.specs.Steps.{in_utf8};
 ghost use Rattle.idn2_cli.specs.inner.LineAnswers.{with_feed};
 ghost use Rattle.idn2_cli.specs.Memory.{DecodesLineWithoutMemory};
 
-use crate::modes::answering::{Answering, reply};
+use crate::modes::answering::{Answering, Kind, reply};
 use crate::modes::code_points::{ByPoints, PointAnswering};
+use crate::session::asked::Asked;
 use crate::session::buffers::{Buffers, MAX_ANSWER_LEN};
 use crate::session::cause::Explaining;
 use crate::session::console::Console;
@@ -31,7 +33,7 @@ pub(crate) struct Decode {
 }
 
 impl Answering for Decode {
-    ghost answer_of = { λ _ name. one_line (in_utf8 (decode_answer name)) };
+    ghost answer_of = { λ _ name. one_answer Decoded (in_utf8 (decode_answer name)) };
 
     ghost explains = { λ mode. if_wanted mode.explain ByName };
 
@@ -44,24 +46,24 @@ impl Answering for Decode {
     fn answer<W: Sink, E: Sink>(
         &self,
         alloc: Global,
-        number: u64,
-        text: &[u8],
+        asked: &Asked<'_>,
         buffers: &mut Buffers,
         console: &mut Console<'_, '_, W, E>,
     ) -> Result<bool, Stop> {
+        let text = asked.text;
         if text.is_empty() {
             let explaining = Explaining::Name.if_wanted(self.explain);
-            return refuse(alloc, number, text, Refusal::Empty, explaining, console);
+            return refuse(alloc, asked, Refusal::Empty, explaining, console);
         }
         // A line past ASCII is answered by its code points.
         if !text.is_ascii() {
-            return ByPoints { mode: self }.answer(alloc, number, text, buffers, console);
+            return ByPoints { mode: self }.answer(alloc, asked, buffers, console);
         }
         match fill_line(alloc, text, &mut buffers.u_label, &mut buffers.answer) {
-            Ok(len) => reply(&buffers.answer[..len], console),
+            Ok(len) => reply(asked, Kind::Decoded, &buffers.answer[..len], console),
             Err(refusal) => {
                 let explaining = Explaining::Name.if_wanted(self.explain);
-                refuse(alloc, number, text, refusal, explaining, console)
+                refuse(alloc, asked, refusal, explaining, console)
             }
         }
     }
@@ -89,7 +91,7 @@ fn fill_line(
 }
 
 impl PointAnswering for Decode {
-    ghost answer_of = { λ _ name. one_line (in_utf8 (decode_answer name)) };
+    ghost answer_of = { λ _ name. one_answer Decoded (in_utf8 (decode_answer name)) };
 
     ghost explains = { λ mode. if_wanted mode.explain ByName };
 
@@ -100,15 +102,15 @@ impl PointAnswering for Decode {
     fn answer_points<W: Sink, E: Sink>(
         &self,
         alloc: Global,
-        number: u64,
+        asked: &Asked<'_>,
         points: &[u32],
         console: &mut Console<'_, '_, W, E>,
     ) -> Result<bool, Stop> {
         match line_of(alloc, points) {
-            Ok(line) => reply(line.as_bytes(), console),
+            Ok(line) => reply(asked, Kind::Decoded, line.as_bytes(), console),
             Err(refusal) => {
                 let explaining = Explaining::Name.if_wanted(self.explain);
-                refuse_points(alloc, number, points, refusal, explaining, console)
+                refuse_points(alloc, asked, points, refusal, explaining, console)
             }
         }
     }
@@ -118,7 +120,8 @@ impl PointAnswering for Decode {
 fn line_of(alloc: Global, name: &[u32]) -> Result<String, Refusal>
     requires few { length name.now ≤ MAX_LINE_LEN }
     requires scalar_values { AreScalarValues name.now }
-    ensures { Gives string_bytes result (with_feed (in_utf8 (decode_answer name.now))) }
+    ensures answer { Gives string_bytes result (with_feed (in_utf8 (decode_answer name.now))) }
+    ensures short { IfOk result (λ line. length (string_bytes line) ≤ MAX_ANSWER_LEN) }
 {
     let decoded = decode_name(alloc, name)?;
     let mut line = String::with_capacity(alloc, 4 * name.len() + 1)?;

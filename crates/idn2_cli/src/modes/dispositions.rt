@@ -1,11 +1,12 @@
 //! The dispositions of variants: which may be allocated, and which are blocked (RFC 7940 section 7.3).
 
-ghost use Rattle.std.specs.Prelude.{◌≡◌, ◌≤◌, length, IfOk};
+ghost use Rattle.std.specs.Prelude.{◌≡◌, ◌≤◌, length, IfOk, Some};
 ghost use Rattle.variant_table.specs.Entries.{TableValue};
 ghost use Rattle.variant_table.specs.declared.version.Version.TheVariants.{Two};
-ghost use Rattle.idn2_cli.specs.Answers.{disposition_field};
+ghost use Rattle.idn2_cli.specs.Answers.{disposition_in};
 ghost use Rattle.idn2_cli.specs.inner.Dispositions.{AreOfTable, AreOfLabel, CanBeCut, TellsWell, field_by};
 
+use answer_json::Disposition;
 use std::alloc::{AllocError, Global};
 use variant_list::{Net, NetFault, SpellingTest};
 use variant_table::Table;
@@ -62,30 +63,28 @@ impl Dispositions<Table> {
 }
 
 impl Dispositions<SpellingTest> {
-    /// The third field of a variant's line, with the tab before it; nothing where none is told. Takes no memory.
+    /// The disposition of a variant, if any is told. Takes no memory.
     #[inline]
-    pub fn field(&mut self, variant: &[u32]) -> &'static str
+    pub fn of_variant(&mut self, variant: &[u32]) -> Option<Disposition>
         requires { TellsWell self.old }
-        ensures field { result.now ≡ field_by self.old variant.now }
-        ensures short { length result.now ≤ 16 }
+        ensures field { result ≡ field_by self.old variant.now }
         ensures same { self.new ≡ self.old }
     {
         match self {
-            Dispositions::Unstated => "",
-            Dispositions::AllAllocatable => field_of(true),
-            Dispositions::BySpelling(test) => field_of(test.spells(variant)),
+            Dispositions::Unstated => None,
+            Dispositions::AllAllocatable => Some(disposition_of(true)),
+            Dispositions::BySpelling(test) => Some(disposition_of(test.spells(variant))),
         }
     }
 }
 
-/// The third field in version 2, with the tab before it.
-fn field_of(is_allocatable: bool) -> &'static str
-    ensures field { result.now ≡ disposition_field Two is_allocatable }
-    ensures short { length result.now ≤ 16 }
+/// The disposition of a variant, by whether it may be allocated.
+fn disposition_of(is_allocatable: bool) -> Disposition
+    ensures { Some result ≡ disposition_in Two is_allocatable }
 {
     if is_allocatable {
-        "\tallocatable"
+        Disposition::Allocatable
     } else {
-        "\tblocked"
+        Disposition::Blocked
     }
 }

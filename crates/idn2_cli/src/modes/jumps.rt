@@ -1,28 +1,34 @@
 //! The least label that a label spells from a text on. A database that has its labels in byte order finds by it which of
 //! them are variants of a label.
 
-ghost use Rattle.std.specs.Prelude.{◌≡◌, ◌≤◌, ◌∷◌, [], ◌++◌, true, length, slice_get, IfOk, Err};
+ghost use Rattle.std.specs.Prelude.{◌≡◌, ◌≤◌, ◌∷◌, [], true, length, slice_get, IfOk, IfErr, Err, None, Some};
 ghost use Rattle.std.specs.Result.{is_err};
-ghost use Rattle.idn_text.specs.Points.{AreScalarValues};
+ghost use Rattle.idn_text.specs.Points.{AreScalarValues, IsUtf8Of};
 ghost use Rattle.idn_label.specs.FirstFault.{IsRegistrable};
 ghost use Rattle.variant_table.specs.WellFormed.{IsWellFormed};
 ghost use Rattle.variant_list.specs.Jumps.{candidates_from};
-ghost use Rattle.idn2_cli.specs.Answers.{jump_answer, jump_line, least_answer, requested_label, requested_text};
+ghost use Rattle.idn2_cli.specs.Answers.{jump_answer, least_answer, requested_label, requested_text};
 ghost use Rattle.idn2_cli.specs.Explained.{ByRequest, if_wanted};
 ghost use Rattle.idn2_cli.specs.Memory.{IsRefusedWithoutMemory};
-ghost use Rattle.idn2_cli.specs.Transcript.{Output, pieces_for, points_tail};
+ghost use Rattle.idn2_cli.specs.Said.{Least, said_text};
+ghost use Rattle.idn2_cli.specs.Transcript.{Output, pieces_for};
+ghost use Rattle.idn2_cli.specs.inner.Asked.{asked_line};
 ghost use Rattle.idn2_cli.specs.inner.Emitting.{Emits};
 ghost use Rattle.idn2_cli.specs.declared.session.stop.Stop.TheVariants as stop;
 
 use crate::modes::code_points::PointAnswering;
 use crate::modes::kept_line::KeptLine;
+use crate::session::asked::Asked;
 use crate::session::cause::Explaining;
 use crate::session::console::Console;
+use crate::session::object::Object;
 use crate::session::refusing::refuse_points;
 use crate::session::request::{label_of_request, parts_of};
 use crate::session::stop::Stop;
+use answer_json::Input;
 use idn_label::test_label;
 use idn_text::{MAX_LINE_LEN, Refusal, Sink};
+use idn2_options::Form;
 use std::alloc::Global;
 use variant_list::{Cursor, Net, NetFault};
 use variant_table::Table;
@@ -53,14 +59,14 @@ impl<'t> PointAnswering for Jumps<'t> {
     fn answer_points<W: Sink, E: Sink>(
         &self,
         alloc: Global,
-        number: u64,
+        asked: &Asked<'_>,
         points: &[u32],
         console: &mut Console<'_, '_, W, E>,
     ) -> Result<bool, Stop> {
         match test_label(alloc, label_of_request(points)) {
-            Ok(_) => answer_least(alloc, self, number, points, console),
+            Ok(_) => answer_least(alloc, self, asked, points, console),
             Err(refusal) => {
-                refuse_points(alloc, number, points, refusal, self.explaining(), console)
+                refuse_points(alloc, asked, points, refusal, self.explaining(), console)
             }
         }
     }
@@ -70,16 +76,17 @@ impl<'t> PointAnswering for Jumps<'t> {
 fn answer_least<W: Sink, E: Sink>(
     alloc: Global,
     mode: &Jumps<'_>,
-    number: u64,
+    asked: &Asked<'_>,
     points: &[u32],
     console: &mut Console<'_, '_, W, E>,
 ) -> Result<bool, Stop>
     requires table { IsWellFormed mode.now.table.now.entries }
-    requires few { length points.now ≤ MAX_LINE_LEN }
-    requires scalar_values { AreScalarValues points.now }
+    requires few { length asked.now.text.now ≤ MAX_LINE_LEN }
+    requires few_points { length points.now ≤ MAX_LINE_LEN }
+    requires spelled { IsUtf8Of asked.now.text.now points.now }
     requires registrable { IsRegistrable (requested_label points.now) }
     ensures written { Emits console.old console.new
-        (pieces_for (points_tail (if_wanted mode.now.explain (ByRequest mode.now.table.now.entries)) points.now) number
+        (pieces_for asked.now.form (if_wanted mode.now.explain (ByRequest mode.now.table.now.entries)) (asked_line asked.now)
         (least_answer mode.now.table.now (requested_label points.now) (requested_text points.now))) result }
     ensures refused { IfOk result (λ refused. refused ≡ is_err (least_answer mode.now.table.now (requested_label points.now) (requested_text points.now))) }
     ensures begun { result ≡ Err stop.Memory → console.new ≡ console.old }
@@ -87,14 +94,14 @@ fn answer_least<W: Sink, E: Sink>(
     let (label, text) = parts_of(points);
     match Net::build(alloc, mode.table, label) {
         Ok(net) => {
-            write_least(alloc, &net, text, console)?;
+            write_least(alloc, asked, &net, text, console)?;
             Ok(false)
         }
         Err(NetFault::NotInTable) => {
             let explaining = Explaining::Request(mode.table).if_wanted(mode.explain);
             refuse_points(
                 alloc,
-                number,
+                asked,
                 points,
                 Refusal::NotInTable,
                 explaining,
@@ -105,24 +112,69 @@ fn answer_least<W: Sink, E: Sink>(
     }
 }
 
-/// Writes the least candidate of a net that is no less than a text, or that there is none.
+/// Answers by the least candidate of a net that is no less than a text, or by none.
 fn write_least<W: Sink, E: Sink>(
     alloc: Global,
+    asked: &Asked<'_>,
     net: &Net,
     text: &[u32],
     console: &mut Console<'_, '_, W, E>,
 ) -> Result<(), Stop>
-    requires { IsWellFormed net.now.table }
+    requires few { length asked.now.text.now ≤ MAX_LINE_LEN }
+    requires table { IsWellFormed net.now.table }
     ensures begun { result ≡ Err stop.Memory → console.new ≡ console.old }
-    ensures written { Emits console.old console.new
-        (Output (jump_line (slice_get (candidates_from net.now.table net.now.label text.now) 0) ++ 10 ∷ []) ∷ []) result }
+    ensures written { Emits console.old console.new (Output (said_text asked.now.form (asked_line asked.now)
+        (Least (slice_get (candidates_from net.now.table net.now.label text.now) 0))) ∷ []) result }
 {
     let mut cursor = Cursor::new(alloc, net, text)?;
     let Some(_shared) = cursor.jump(text) else {
-        return console.output(b"#end\n");
+        return write_none(asked, console);
     };
+    write_label(asked, cursor.last(), console)
+}
+
+/// Writes a label of at most 63 code points.
+fn write_label<W: Sink, E: Sink>(
+    asked: &Asked<'_>,
+    label: &[u32],
+    console: &mut Console<'_, '_, W, E>,
+) -> Result<(), Stop>
+    requires few { length asked.now.text.now ≤ MAX_LINE_LEN }
+    requires short { length label.now ≤ 63 }
+    requires scalar_values { AreScalarValues label.now }
+    ensures written { Emits console.old console.new
+        (Output (said_text asked.now.form (asked_line asked.now) (Least (Some label.now))) ∷ []) result }
+    ensures why { IfErr result (λ why. why ≡ stop.Output) }
+{
     let mut line = KeptLine::new();
-    line.begin(cursor.last());
-    line.append(b"\n");
-    console.output(line.as_slice())
+    line.begin(label);
+    match asked.form {
+        Form::Plain => {
+            line.append(b"\n");
+            console.output(line.as_slice())
+        }
+        Form::Json => {
+            let input = Input::of(asked.text);
+            console.object(&Object::Least(asked.number, input, Some(line.as_slice())))
+        }
+    }
+}
+
+/// Writes that there is no label.
+fn write_none<W: Sink, E: Sink>(
+    asked: &Asked<'_>,
+    console: &mut Console<'_, '_, W, E>,
+) -> Result<(), Stop>
+    requires few { length asked.now.text.now ≤ MAX_LINE_LEN }
+    ensures written { Emits console.old console.new
+        (Output (said_text asked.now.form (asked_line asked.now) (Least None)) ∷ []) result }
+    ensures why { IfErr result (λ why. why ≡ stop.Output) }
+{
+    match asked.form {
+        Form::Plain => console.output(b"#end\n"),
+        Form::Json => {
+            let input = Input::of(asked.text);
+            console.object(&Object::Least(asked.number, input, None))
+        }
+    }
 }

@@ -4,11 +4,13 @@ ghost use Rattle.std.specs.Prelude.{◌≡◌, ◌≢◌, ◌≤◌, length, tak
 ghost use Rattle.idn_label.specs.Answers.{Gives};
 ghost use Rattle.idn_label.specs.Lookup.{lookup_answer};
 ghost use Rattle.idn_label.specs.Memory.{LooksUpWithoutMemory};
-ghost use Rattle.idn2_cli.specs.Answers.{one_line};
+ghost use Rattle.idn2_cli.specs.Answers.{one_answer};
+ghost use Rattle.idn2_cli.specs.Said.{LookedUp};
 ghost use Rattle.idn2_cli.specs.Explained.{ByQuery, if_wanted};
 ghost use Rattle.idn2_cli.specs.inner.LineAnswers.{with_feed, query_answer};
 
-use crate::modes::answering::{Answering, reply};
+use crate::modes::answering::{Answering, Kind, reply};
+use crate::session::asked::Asked;
 use crate::session::buffers::Buffers;
 use crate::session::cause::Explaining;
 use crate::session::console::Console;
@@ -28,7 +30,7 @@ pub(crate) struct Lookup {
 }
 
 impl Answering for Lookup {
-    ghost answer_of = { λ mode name. one_line (lookup_answer name mode.std3) };
+    ghost answer_of = { λ mode name. one_answer LookedUp (lookup_answer name mode.std3) };
 
     ghost explains = { λ mode. if_wanted mode.explain (ByQuery mode.std3) };
 
@@ -41,20 +43,19 @@ impl Answering for Lookup {
     fn answer<W: Sink, E: Sink>(
         &self,
         alloc: Global,
-        number: u64,
-        text: &[u8],
+        asked: &Asked<'_>,
         buffers: &mut Buffers,
         console: &mut Console<'_, '_, W, E>,
     ) -> Result<bool, Stop> {
         match fill_line(
             alloc,
-            text,
+            asked.text,
             self.std3,
             &mut buffers.lookup,
             &mut buffers.query,
         ) {
-            Ok(len) => reply(&buffers.query[..len], console),
-            Err(refusal) => refuse(alloc, number, text, refusal, self.explaining(), console),
+            Ok(len) => reply(asked, Kind::LookedUp, &buffers.query[..len], console),
+            Err(refusal) => refuse(alloc, asked, refusal, self.explaining(), console),
         }
     }
 }

@@ -2,23 +2,26 @@
 
 ghost use Rattle.std.specs.Prelude.{◌≡◌, ◌≤◌, true, All, IfOk, length};
 ghost use Rattle.std.specs.Result.{is_err};
-ghost use Rattle.idn_text.specs.Points.{AreScalarValues};
+ghost use Rattle.idn_text.specs.Points.{IsUtf8Of};
 ghost use Rattle.idn_label.specs.FirstFault.{IsRegistrable};
 ghost use Rattle.idn_label.specs.Memory.{NeedsNoMemory};
 ghost use Rattle.variant_table.specs.WellFormed.{IsWellFormed};
 ghost use Rattle.std.specs.Option.{option_copied};
-ghost use Rattle.idn2_options.specs.Settings.{IsWithinLimits, keeping};
+ghost use Rattle.idn2_options.specs.Settings.{IsWithinLimits, keeping, tells_causes};
 ghost use Rattle.idn2_cli.specs.Answers.{variants_answer, listing_answer, tested_after};
 ghost use Rattle.idn2_cli.specs.inner.Dispositions.{AreOfTable, TellsWell, block_by, field_by};
 ghost use Rattle.idn2_cli.specs.Explained.{ByTable, if_wanted};
 ghost use Rattle.idn2_cli.specs.Memory.{IsRefusedWithoutMemory};
-ghost use Rattle.idn2_cli.specs.Transcript.{output_lines, pieces_for, points_tail};
+ghost use Rattle.idn2_cli.specs.Said.{said_text};
+ghost use Rattle.idn2_cli.specs.Transcript.{outputs, pieces_for};
+ghost use Rattle.idn2_cli.specs.inner.Asked.{asked_line};
 ghost use Rattle.idn2_cli.specs.inner.Emitting.{Emits, StopsForMemory};
 
 use crate::modes::block::write_block;
 use crate::modes::code_points::PointAnswering;
 use crate::modes::collisions::write_collisions;
 use crate::modes::dispositions::Dispositions;
+use crate::session::asked::Asked;
 use crate::session::cause::Explaining;
 use crate::session::console::Console;
 use crate::session::refusing::refuse_points;
@@ -44,7 +47,7 @@ pub(crate) struct Variants<'t, 'r, 'b> {
 impl<'t, 'r, 'b> PointAnswering for Variants<'t, 'r, 'b> {
     ghost answer_of = { λ mode label. variants_answer (keeping (option_copied mode.registered) mode.options.now) mode.table.now label };
 
-    ghost explains = { λ mode. if_wanted mode.options.now.explain (ByTable mode.table.now.entries) };
+    ghost explains = { λ mode. if_wanted (tells_causes mode.options.now) (ByTable mode.table.now.entries) };
 
     ghost is_ready = { λ mode. IsWithinLimits mode.options.now × IsWellFormed mode.table.now.entries
         × AreOfTable mode.table.now mode.dispositions.now };
@@ -57,20 +60,20 @@ impl<'t, 'r, 'b> PointAnswering for Variants<'t, 'r, 'b> {
 
     fn explaining(&self) -> Explaining<'_> {
         let options = self.options;
-        Explaining::Sources(self.table).if_wanted(options.explain)
+        Explaining::Sources(self.table).if_wanted(options.tells_causes())
     }
 
     fn answer_points<W: Sink, E: Sink>(
         &self,
         alloc: Global,
-        number: u64,
+        asked: &Asked<'_>,
         points: &[u32],
         console: &mut Console<'_, '_, W, E>,
     ) -> Result<bool, Stop> {
         match test_label(alloc, points) {
-            Ok(_) => list(alloc, self, number, points, console),
+            Ok(_) => list(alloc, self, asked, points, console),
             Err(refusal) => {
-                refuse_points(alloc, number, points, refusal, self.explaining(), console)
+                refuse_points(alloc, asked, points, refusal, self.explaining(), console)
             }
         }
     }
@@ -80,24 +83,34 @@ impl<'t, 'r, 'b> PointAnswering for Variants<'t, 'r, 'b> {
 fn write_lines<W: Sink, E: Sink>(
     alloc: Global,
     mode: &Variants<'_, '_, '_>,
+    asked: &Asked<'_>,
     net: &Net,
     dispositions: &mut Dispositions<SpellingTest>,
     console: &mut Console<'_, '_, W, E>,
 ) -> Result<(), Stop>
+    requires few { length asked.now.text.now ≤ MAX_LINE_LEN }
     requires limits { IsWithinLimits mode.now.options.now }
     requires table { IsWellFormed net.now.table }
     requires dispositions { TellsWell dispositions.old }
     ensures written { Emits console.old console.new
-        (output_lines (block_by (field_by dispositions.old) (keeping (option_copied mode.now.registered) mode.now.options.now) net.now.table net.now.label)) result }
+        (outputs (said_text asked.now.form (asked_line asked.now)) (block_by (field_by dispositions.old) (keeping (option_copied mode.now.registered) mode.now.options.now) net.now.table net.now.label)) result }
     ensures begun { StopsForMemory
         (All NeedsNoMemory (tested_after (keeping (option_copied mode.now.registered) mode.now.options.now) net.now.table net.now.label))
         console.old console.new result }
 {
     match mode.registered {
         Some(registered) => {
-            write_collisions(alloc, mode.options, net, registered, dispositions, console)
+            write_collisions(
+                alloc,
+                asked,
+                mode.options,
+                net,
+                registered,
+                dispositions,
+                console,
+            )
         }
-        None => write_block(alloc, mode.options, net, dispositions, console),
+        None => write_block(alloc, asked, mode.options, net, dispositions, console),
     }
 }
 
@@ -105,18 +118,19 @@ fn write_lines<W: Sink, E: Sink>(
 fn list<W: Sink, E: Sink>(
     alloc: Global,
     mode: &Variants<'_, '_, '_>,
-    number: u64,
+    asked: &Asked<'_>,
     label: &[u32],
     console: &mut Console<'_, '_, W, E>,
 ) -> Result<bool, Stop>
     requires limits { IsWithinLimits mode.now.options.now }
     requires table { IsWellFormed mode.now.table.now.entries }
     requires dispositions { AreOfTable mode.now.table.now mode.now.dispositions.now }
-    requires few { length label.now ≤ MAX_LINE_LEN }
-    requires scalar_values { AreScalarValues label.now }
+    requires few { length asked.now.text.now ≤ MAX_LINE_LEN }
+    requires few_points { length label.now ≤ MAX_LINE_LEN }
+    requires spelled { IsUtf8Of asked.now.text.now label.now }
     requires registrable { IsRegistrable label.now }
     ensures written { Emits console.old console.new
-        (pieces_for (points_tail (if_wanted mode.now.options.now.explain (ByTable mode.now.table.now.entries)) label.now) number
+        (pieces_for asked.now.form (if_wanted (tells_causes mode.now.options.now) (ByTable mode.now.table.now.entries)) (asked_line asked.now)
         (listing_answer (keeping (option_copied mode.now.registered) mode.now.options.now) mode.now.table.now label.now)) result }
     ensures refused { IfOk result
         (λ refused. refused ≡ is_err (listing_answer (keeping (option_copied mode.now.registered) mode.now.options.now) mode.now.table.now label.now)) }
@@ -127,15 +141,15 @@ fn list<W: Sink, E: Sink>(
     match Net::build(alloc, mode.table, label) {
         Ok(net) => {
             let mut dispositions = mode.dispositions.of_label(alloc, label)?;
-            write_lines(alloc, mode, &net, &mut dispositions, console)?;
+            write_lines(alloc, mode, asked, &net, &mut dispositions, console)?;
             Ok(false)
         }
         Err(NetFault::NotInTable) => {
             let options = mode.options;
-            let explaining = Explaining::Sources(mode.table).if_wanted(options.explain);
+            let explaining = Explaining::Sources(mode.table).if_wanted(options.tells_causes());
             refuse_points(
                 alloc,
-                number,
+                asked,
                 label,
                 Refusal::NotInTable,
                 explaining,

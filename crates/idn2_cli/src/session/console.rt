@@ -2,7 +2,9 @@
 
 ghost use Rattle.std.specs.Prelude.{◌≡◌, ◌∷◌, [], IfErr};
 
+use crate::session::object::{Object, write_object};
 use crate::session::stop::Stop;
+use answer_json::ObjectLine;
 use idn_text::{Sink, write_text};
 use std::marker::Model;
 
@@ -13,6 +15,8 @@ pub(crate) struct Console<'o, 'm, W: Sink, E: Sink> {
     pub output: &'o mut W,
     /// Takes what is reported of refusals and faults.
     pub messages: &'m mut E,
+    /// Room for an object and a line feed. What is left in it says nothing.
+    pub room: ObjectLine,
 }
 
 impl<'o, 'm, W: Sink, E: Sink> Model for Console<'o, 'm, W, E> {
@@ -29,7 +33,9 @@ impl<'o, 'm, W: Sink, E: Sink> Model for Console<'o, 'm, W, E> {
 }
 
 impl<'o, 'm, W: Sink, E: Sink> Console<'o, 'm, W, E> {
+    ghost use Rattle.answer_json.specs.Answers.{line_of};
     ghost use Rattle.idn2_cli.specs.Transcript as pieces;
+    ghost use Rattle.idn2_cli.specs.inner.Objects.{HasSpace, object_told};
     ghost use Rattle.idn2_cli.specs.inner.Emitting.{Emits};
     ghost use Rattle.idn2_cli.specs.declared.session.stop.Stop.TheVariants as stop;
 
@@ -40,6 +46,19 @@ impl<'o, 'm, W: Sink, E: Sink> Console<'o, 'm, W, E> {
         ensures why { IfErr result (λ why. why ≡ stop.Output) }
     {
         match write_text(self.output, text) {
+            Ok(()) => Ok(()),
+            Err(_fault) => Err(Stop::Output),
+        }
+    }
+
+    /// Writes an object to the output. It takes no memory.
+    pub fn object(&mut self, object: &Object<'_>) -> Result<(), Stop>
+        requires { HasSpace object.now }
+        ensures written { Emits self.old self.new (pieces.Output (line_of (object_told object.now)) ∷ []) result }
+        ensures why { IfErr result (λ why. why ≡ stop.Output) }
+    {
+        write_object(&mut self.room, object);
+        match write_text(self.output, self.room.as_slice()) {
             Ok(()) => Ok(()),
             Err(_fault) => Err(Stop::Output),
         }

@@ -202,7 +202,15 @@ fn push_bidi_class(text: &mut ExplainedMessage, class: BidiClass)
     ensures items { text.new.items ≡ text.old.items ++ bidi_text class }
     ensures short { array_vec_len text.new ≤ array_vec_len text.old + 3 }
 {
-    let name: &[u8] = match class {
+    append(text, name_of_class(class));
+}
+
+/// The name of a Bidi_Class.
+pub(crate) fn name_of_class(class: BidiClass) -> &'static [u8]
+    ensures text { result.now ≡ bidi_text class }
+    ensures short { length result.now ≤ 3 }
+{
+    match class {
         BidiClass::L => b"L",
         BidiClass::R => b"R",
         BidiClass::AL => b"AL",
@@ -214,8 +222,7 @@ fn push_bidi_class(text: &mut ExplainedMessage, class: BidiClass)
         BidiClass::ON => b"ON",
         BidiClass::BN => b"BN",
         BidiClass::NSM => b"NSM",
-    };
-    append(text, name);
+    }
 }
 
 /// Appends the cause of the fault of what begins with `xn--`.

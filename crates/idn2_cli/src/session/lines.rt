@@ -11,29 +11,32 @@ ghost use Rattle.idn2_cli.specs.Memory.{BodyNeedsNone, NeedsNone};
 ghost use Rattle.idn2_cli.specs.declared.session.stop.Stop.TheVariants as stop;
 
 use crate::modes::answering::Answering;
+use crate::session::asked::Asked;
 use crate::session::buffers::Buffers;
 use crate::session::console::Console;
 use crate::session::refusing::refuse_long_line;
 use crate::session::status::Status;
 use crate::session::stop::Stop;
 use idn_text::{Lines, Sink, Source};
+use idn2_options::Form;
 use std::alloc::Global;
 
 /// Answers each line to the end of the input, and gives the status of the run.
 pub(crate) fn serve_lines<M: Answering, R: Source, W: Sink, E: Sink>(
     alloc: Global,
+    form: Form,
     mode: &M,
     input: &mut Lines<R>,
     console: &mut Console<'_, '_, W, E>,
 ) -> Result<Status, Stop>
     requires ready { M.is_ready mode.now }
     requires unread { IsUnread input.old }
-    ensures { Does (lines_job (M.explains mode.now) (M.answer_of mode.now) (M.reads_table mode.now) (M.needs_none mode.now) (M.goes_on mode.now)) input.old input.new console.old console.new result }
+    ensures { Does (lines_job form (M.explains mode.now) (M.answer_of mode.now) (M.reads_table mode.now) (M.needs_none mode.now) (M.goes_on mode.now)) input.old input.new console.old console.new result }
 {
     let mut buffers = Buffers::new();
     let mut has_refused = false;
     'lines: while input.advance()? {
-        let is_refused = serve_line(alloc, mode, input, &mut buffers, console)?;
+        let is_refused = serve_line(alloc, form, mode, input, &mut buffers, console)?;
         has_refused = has_refused || is_refused;
     }
     Ok(if has_refused {
@@ -47,6 +50,7 @@ pub(crate) fn serve_lines<M: Answering, R: Source, W: Sink, E: Sink>(
 #[inline(always)]
 fn serve_line<M: Answering, R: Source, W: Sink, E: Sink>(
     alloc: Global,
+    form: Form,
     mode: &M,
     input: &Lines<R>,
     buffers: &mut Buffers,
@@ -54,14 +58,17 @@ fn serve_line<M: Answering, R: Source, W: Sink, E: Sink>(
 ) -> Result<bool, Stop>
     requires { M.is_ready mode.now }
     ensures written { Emits console.old console.new
-        (line_pieces (M.explains mode.now) (M.answer_of mode.now) (line_at input.now)) result }
+        (line_pieces form (M.explains mode.now) (M.answer_of mode.now) (line_at input.now)) result }
     ensures refused { IfOk result (λ refused. refused ≡ is_err (line_answer (M.answer_of mode.now) (line_at input.now).body)) }
     ensures no_memory { BodyNeedsNone (NeedsNone (M.explains mode.now) (M.answer_of mode.now) (M.needs_none mode.now)) (line_at input.now).body → result ≢ Err stop.Memory }
     ensures begun { StopsForMemory (BodyNeedsNone (M.goes_on mode.now) (line_at input.now).body) console.old console.new result }
 {
     let number = input.number();
     match input.text() {
-        Some(text) => mode.answer(alloc, number, text, buffers, console),
-        None => refuse_long_line(number, mode.explaining(), console),
+        Some(text) => {
+            let asked = Asked { form, number, text };
+            mode.answer(alloc, &asked, buffers, console)
+        }
+        None => refuse_long_line(form, number, mode.explaining(), console),
     }
 }

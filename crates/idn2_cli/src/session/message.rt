@@ -1,7 +1,6 @@
 //! The messages of refusals.
 
-ghost use Rattle.std.specs.Prelude.{◌≡◌, ◌≤◌, ◌++◌, length, codes, decimal, option_map, Some};
-ghost use Rattle.idn2_cli.specs.inner.TableFaults.{told_of};
+ghost use Rattle.std.specs.Prelude.{◌≡◌, ◌≤◌, ◌++◌, length, codes, decimal, Some};
 ghost use Rattle.idn2_cli.specs.CauseTexts.{tail_text};
 ghost use Rattle.idn2_cli.specs.Transcript.{told, line_message, refused_message, registered_message, table_message};
 
@@ -11,7 +10,6 @@ use crate::session::explaining::{ExplainedMessage, push_line_cause};
 use arrayvec::ArrayString;
 use idn_text::Refusal;
 use itoa::Buffer;
-use variant_table::TableFault;
 
 /// A message, for whose bytes there is space.
 pub type Message = ArrayString<96>;
@@ -45,19 +43,11 @@ pub(crate) fn explained_message(
     message
 }
 
-/// The message of a table's fault. There is none for want of memory.
-pub fn table_message(fault: TableFault) -> Option<Message>
-    ensures { option_map (λ message. message.bytes) result ≡ option_map (λ told. table_message told.0 told.1) (told_of fault) }
+/// The message of a line of a table.
+pub fn table_message(number: u64, refusal: &Refusal) -> Message
+    ensures { result.bytes ≡ table_message number refusal.now }
 {
-    let (line, refusal) = match fault {
-        TableFault::Syntax { line } => (line, Refusal::Syntax),
-        TableFault::SameSource { line } => (line, Refusal::SameSource),
-        TableFault::SameVariant { line } => (line, Refusal::SameVariant),
-        TableFault::BadClass { line } => (line, Refusal::BadClass),
-        TableFault::Limit { line } => (line, Refusal::Limit),
-        TableFault::Memory => return None,
-    };
-    Some(message("idn2: table line ", line, &refusal))
+    message("idn2: table line ", number, refusal)
 }
 
 /// The message of a line of registered labels.

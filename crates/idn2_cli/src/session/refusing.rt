@@ -1,21 +1,30 @@
-//! Refusals of lines: a message, which goes on with the cause if causes are wanted.
+//! Refusals of lines: a message, which goes on with the cause if causes are wanted, or an object with the cause.
 ghost use Rattle.std.specs.Prelude.{◌≡◌, ◌≢◌, ◌≤◌, [], ◌∷◌, length, IfOk, IfErr, Err, None, Some, true};
-ghost use Rattle.idn_text.specs.Points.{AreScalarValues};
+ghost use Rattle.idn_text.specs.Points.{IsUtf8Of};
 ghost use Rattle.idn_text.specs.declared.refusal.Refusal.TheVariants.{LineTooLong};
+ghost use Rattle.std.specs.Option.{option_copied};
+ghost use Rattle.answer_json.specs.Details.{given_len};
+ghost use Rattle.answer_json.specs.Inputs.{told, told_len, told_of};
 ghost use Rattle.idn2_cli.specs.CauseTexts.{tail_text};
 ghost use Rattle.idn2_cli.specs.Explained.{Unexplained};
-ghost use Rattle.idn2_cli.specs.Transcript.{Message, body_tail, pieces_for, points_tail, refused_message};
+ghost use Rattle.idn2_cli.specs.Transcript.{Message, Output, Refuses, piece_in, pieces_for, refused_message, refused_object};
+ghost use Rattle.idn2_cli.specs.inner.Asked.{asked_line};
 ghost use Rattle.idn2_cli.specs.inner.Emitting.{Emits};
 ghost use Rattle.idn2_cli.specs.inner.Explaining.{explained_by};
 ghost use Rattle.idn2_cli.specs.declared.session.stop.Stop.TheVariants as stop;
 
+use crate::session::asked::Asked;
 use crate::session::cause::{
     Explaining, LineCause, cause_of_points, cause_of_text, cause_unless_unexplained,
 };
 use crate::session::console::Console;
+use crate::session::details::details_of_refusal;
 use crate::session::message::{explained_message, line_message};
+use crate::session::object::Object;
 use crate::session::stop::Stop;
+use answer_json::Input;
 use idn_text::{MAX_LINE_LEN, Refusal, Sink};
+use idn2_options::Form;
 use std::alloc::Global;
 
 /// Reports why the bytes of a line are refused. Refused memory is no refusal of the line: nothing is reported, and the
@@ -25,16 +34,15 @@ use std::alloc::Global;
 #[inline(never)]
 pub(crate) fn refuse<W: Sink, E: Sink>(
     alloc: Global,
-    number: u64,
-    text: &[u8],
+    asked: &Asked<'_>,
     refusal: Refusal,
     explaining: Explaining<'_>,
     console: &mut Console<'_, '_, W, E>,
 ) -> Result<bool, Stop>
-    requires few { length text.now ≤ MAX_LINE_LEN }
+    requires few { length asked.now.text.now ≤ MAX_LINE_LEN }
     ensures told { refusal ≢ Refusal.Memory →
-        Emits console.old console.new (pieces_for (body_tail (explained_by explaining.entry) (Some text.now)) number (Err refusal)) result }
-    ensures why { explained_by explaining.entry ≡ Unexplained → refusal ≢ Refusal.Memory → IfErr result (λ why. why ≡ stop.Messages) }
+        Emits console.old console.new (pieces_for asked.now.form (explained_by explaining.entry) (asked_line asked.now) (Err refusal)) result }
+    ensures why { explained_by explaining.entry ≡ Unexplained → refusal ≢ Refusal.Memory → IfErr result (λ why. why ≢ stop.Memory) }
     ensures memory { refusal ≡ Refusal.Memory → result ≡ Err stop.Memory }
     ensures begun { result ≡ Err stop.Memory → console.new ≡ console.old }
     ensures refused { IfOk result (λ refused. refused ≡ true) }
@@ -42,8 +50,8 @@ pub(crate) fn refuse<W: Sink, E: Sink>(
     if let Refusal::Memory = refusal {
         return Err(Stop::Memory);
     }
-    let cause = cause_of_text(alloc, text, refusal, explaining)?;
-    tell(number, refusal, cause, console)
+    let cause = cause_of_text(alloc, asked.text, refusal, explaining)?;
+    tell(asked.form, asked.number, Some(asked.text), refusal, cause, console)
 }
 
 /// The same of the code points of a line.
@@ -51,17 +59,18 @@ pub(crate) fn refuse<W: Sink, E: Sink>(
 #[inline(never)]
 pub(crate) fn refuse_points<W: Sink, E: Sink>(
     alloc: Global,
-    number: u64,
+    asked: &Asked<'_>,
     points: &[u32],
     refusal: Refusal,
     explaining: Explaining<'_>,
     console: &mut Console<'_, '_, W, E>,
 ) -> Result<bool, Stop>
-    requires few { length points.now ≤ MAX_LINE_LEN }
-    requires scalar_values { AreScalarValues points.now }
+    requires few { length asked.now.text.now ≤ MAX_LINE_LEN }
+    requires few_points { length points.now ≤ MAX_LINE_LEN }
+    requires spelled { IsUtf8Of asked.now.text.now points.now }
     ensures told { refusal ≢ Refusal.Memory →
-        Emits console.old console.new (pieces_for (points_tail (explained_by explaining.entry) points.now) number (Err refusal)) result }
-    ensures why { explained_by explaining.entry ≡ Unexplained → refusal ≢ Refusal.Memory → IfErr result (λ why. why ≡ stop.Messages) }
+        Emits console.old console.new (pieces_for asked.now.form (explained_by explaining.entry) (asked_line asked.now) (Err refusal)) result }
+    ensures why { explained_by explaining.entry ≡ Unexplained → refusal ≢ Refusal.Memory → IfErr result (λ why. why ≢ stop.Memory) }
     ensures memory { refusal ≡ Refusal.Memory → result ≡ Err stop.Memory }
     ensures begun { result ≡ Err stop.Memory → console.new ≡ console.old }
     ensures refused { IfOk result (λ refused. refused ≡ true) }
@@ -70,7 +79,7 @@ pub(crate) fn refuse_points<W: Sink, E: Sink>(
         Refusal::Memory => Err(Stop::Memory),
         _ => {
             let cause = cause_of_points(alloc, points, refusal, explaining)?;
-            tell(number, refusal, cause, console)
+            tell(asked.form, asked.number, Some(asked.text), refusal, cause, console)
         }
     }
 }
@@ -79,20 +88,44 @@ pub(crate) fn refuse_points<W: Sink, E: Sink>(
 #[cold]
 #[inline(never)]
 pub(crate) fn refuse_long_line<W: Sink, E: Sink>(
+    form: Form,
     number: u64,
     explaining: Explaining<'_>,
     console: &mut Console<'_, '_, W, E>,
 ) -> Result<bool, Stop>
-    ensures told { Emits console.old console.new (pieces_for (body_tail (explained_by explaining.entry) None) number (Err LineTooLong)) result }
-    ensures why { IfErr result (λ why. why ≡ stop.Messages) }
+    ensures told { Emits console.old console.new
+        (pieces_for form (explained_by explaining.entry) (record { number = number; body = None }) (Err LineTooLong)) result }
+    ensures why { IfErr result (λ why. why ≢ stop.Memory) }
     ensures refused { IfOk result (λ refused. refused ≡ true) }
 {
     let cause = cause_unless_unexplained(explaining, LineCause::LongLine);
-    tell(number, Refusal::LineTooLong, cause, console)
+    tell(form, number, None, Refusal::LineTooLong, cause, console)
+}
+
+/// Tells that a line of this number is refused, with its cause, if there is one. Of a line that is too long there is no
+/// text.
+fn tell<W: Sink, E: Sink>(
+    form: Form,
+    number: u64,
+    text: Option<&[u8]>,
+    refusal: Refusal,
+    cause: Option<LineCause>,
+    console: &mut Console<'_, '_, W, E>,
+) -> Result<bool, Stop>
+    requires few { given_len (option_copied text) ≤ MAX_LINE_LEN }
+    ensures told { Emits console.old console.new
+        (piece_in form (Refuses (record { number = number; body = option_copied text.entry }) refusal cause) ∷ []) result }
+    ensures why { IfErr result (λ why. why ≢ stop.Memory) }
+    ensures refused { IfOk result (λ refused. refused ≡ true) }
+{
+    match form {
+        Form::Plain => tell_message(number, refusal, cause, console),
+        Form::Json => tell_object(number, text, refusal, cause, console),
+    }
 }
 
 /// Writes the message of a refused line, with its cause, if there is one.
-fn tell<W: Sink, E: Sink>(
+fn tell_message<W: Sink, E: Sink>(
     number: u64,
     refusal: Refusal,
     cause: Option<LineCause>,
@@ -125,4 +158,34 @@ fn write_message<W: Sink, E: Sink>(
 {
     console.message(message)?;
     Ok(true)
+}
+
+/// Writes the object of a refused line, with its cause, if there is one.
+fn tell_object<W: Sink, E: Sink>(
+    number: u64,
+    text: Option<&[u8]>,
+    refusal: Refusal,
+    cause: Option<LineCause>,
+    console: &mut Console<'_, '_, W, E>,
+) -> Result<bool, Stop>
+    requires few { given_len (option_copied text) ≤ MAX_LINE_LEN }
+    ensures told { Emits console.old console.new
+        (Output (refused_object (record { number = number; body = option_copied text.entry }) refusal cause) ∷ []) result }
+    ensures why { IfErr result (λ why. why ≡ stop.Output) }
+    ensures refused { IfOk result (λ refused. refused ≡ true) }
+{
+    let members = details_of_refusal(&refusal, cause.as_ref());
+    console.object(&Object::Refused(number, input_of(text), refusal, members))?;
+    Ok(true)
+}
+
+/// A line of input, of which the bytes may not be kept.
+fn input_of(text: Option<&[u8]>) -> Input<'_>
+    ensures told { told result ≡ told_of (option_copied text.entry) }
+    ensures len { told_len result ≡ given_len (option_copied text.entry) }
+{
+    match text {
+        Some(text) => Input::of(text),
+        None => Input::NotKept,
+    }
 }

@@ -8,7 +8,7 @@ ghost use Rattle.variant_table.specs.Entries.{TableValue};
 ghost use Rattle.idn2_options.specs.Settings.{IsWithinLimits, keeping};
 ghost use Rattle.idn2_cli.specs.Answers.{jump_answer, requested_label, variants_answer, IsJumpAnswer, IsListing};
 ghost use Rattle.idn2_cli.specs.Ends.{held, closing_status, Does, Ends, Closes, mode_job, refusal_of};
-ghost use Rattle.idn2_cli.specs.Transcript.{TableGiven, IsCheck, IsReadAs, IsTableOf, check_lines, check_pieces, check_status};
+ghost use Rattle.idn2_cli.specs.Transcript.{TableGiven, IsCheck, IsReadAs, IsTableOf, check_findings, check_pieces, check_status};
 ghost use Rattle.idn2_cli.specs.Headline.{PrintsListings};
 ghost use Rattle.idn2_cli.specs.inner.Emitting.{Emits};
 ghost use Rattle.idn2_options.specs.declared.command_line.mode.Mode.TheVariants as modes;
@@ -21,8 +21,9 @@ use crate::session::report::report;
 use crate::session::status::Status;
 use crate::session::stop::Stop;
 use crate::session::table::refuse_table;
+use answer_json::ObjectLine;
 use idn_text::{Lines, Sink, Source};
-use idn2_options::{Mode, Options};
+use idn2_options::{Form, Mode, Options};
 use registered_labels::RegisteredLabels;
 use std::alloc::Global;
 use variant_table::Table;
@@ -52,7 +53,7 @@ pub fn run<R: Source, W: Sink, E: Sink>(
         IsListing options.now given label (variants_answer options.now given label) }
     ensures jump { (given : TableValue) (request : List ℕ) → IsReadAs table.now (Ok given) → IsRegistrable (requested_label request) →
         IsJumpAnswer given request (jump_answer given request) }
-    ensures check { (given : TableValue) → IsReadAs table.now (Ok given) → IsCheck given.entries (check_lines given.entries) }
+    ensures check { (given : TableValue) → IsReadAs table.now (Ok given) → IsCheck given.entries (check_findings given.entries) }
 {
     // Naming a field makes known what the options are seen as: they hold no registered labels.
     let _ = &options.mode;
@@ -85,6 +86,7 @@ pub fn run_among<R: Source, W: Sink, E: Sink>(
     let mut console = Console {
         output: out,
         messages: err,
+        room: ObjectLine::new(),
     };
     let status = serve(alloc, options, table, registered, input, &mut console);
     // Both writers are given back.
@@ -130,25 +132,25 @@ fn serve_mode<R: Source, W: Sink, E: Sink>(
         Mode::Lookup => {
             let mode = Lookup {
                 std3: options.std3,
-                explain: options.explain,
+                explain: options.tells_causes(),
             };
-            serve_lines(alloc, &mode, input, console)
+            serve_lines(alloc, options.form, &mode, input, console)
         }
         Mode::Register => {
             let mode = Register {
-                explain: options.explain,
+                explain: options.tells_causes(),
             };
-            serve_lines(alloc, &mode, input, console)
+            serve_lines(alloc, options.form, &mode, input, console)
         }
         Mode::Decode => {
             let mode = Decode {
-                explain: options.explain,
+                explain: options.tells_causes(),
             };
-            serve_lines(alloc, &mode, input, console)
+            serve_lines(alloc, options.form, &mode, input, console)
         }
         Mode::Variants => serve_variants(alloc, options, table, registered, input, console),
         Mode::Jump => serve_jumps(alloc, options, table, input, console),
-        Mode::CheckTable => serve_check(alloc, table, console),
+        Mode::CheckTable => serve_check(alloc, options.form, table, console),
     }
 }
 
@@ -169,7 +171,7 @@ fn serve_variants<R: Source, W: Sink, E: Sink>(
 {
     let table = match Table::read(alloc, text) {
         Ok(table) => table,
-        Err(fault) => return refuse_table(fault, console),
+        Err(fault) => return refuse_table(options.form, fault, console),
     };
     let dispositions = Dispositions::of_table(alloc, &table)?;
     let mode = Variants {
@@ -178,7 +180,13 @@ fn serve_variants<R: Source, W: Sink, E: Sink>(
         options,
         registered,
     };
-    serve_lines(alloc, &ByPoints { mode: &mode }, input, console)
+    serve_lines(
+        alloc,
+        options.form,
+        &ByPoints { mode: &mode },
+        input,
+        console,
+    )
 }
 
 /// Answers the request of each line by the table that a text spells, or reports the fault of the text.
@@ -196,28 +204,35 @@ fn serve_jumps<R: Source, W: Sink, E: Sink>(
 {
     let table = match Table::read(alloc, text) {
         Ok(table) => table,
-        Err(fault) => return refuse_table(fault, console),
+        Err(fault) => return refuse_table(options.form, fault, console),
     };
     let mode = Jumps {
         table: &table,
-        explain: options.explain,
+        explain: options.tells_causes(),
     };
-    serve_lines(alloc, &ByPoints { mode: &mode }, input, console)
+    serve_lines(
+        alloc,
+        options.form,
+        &ByPoints { mode: &mode },
+        input,
+        console,
+    )
 }
 
 /// Checks the table that a text spells, or reports the fault of the text.
 fn serve_check<W: Sink, E: Sink>(
     alloc: Global,
+    form: Form,
     text: &[u8],
     console: &mut Console<'_, '_, W, E>,
 ) -> Result<Status, Stop>
     ensures { (given : TableGiven) × IsReadAs text.now given
-        × Emits console.old console.new (check_pieces given) result
+        × Emits console.old console.new (check_pieces form given) result
         × IfOk result (λ status. status ≡ check_status given) }
 {
     match Table::read(alloc, text) {
-        Ok(table) => check_table(alloc, &table, console),
-        Err(fault) => refuse_table(fault, console),
+        Ok(table) => check_table(alloc, form, &table, console),
+        Err(fault) => refuse_table(form, fault, console),
     }
 }
 

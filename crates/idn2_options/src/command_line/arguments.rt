@@ -26,6 +26,8 @@ pub(crate) const STD3: &str = "usestd3asciirules";
 
 pub(crate) const EXPLAIN: &str = "explain";
 
+pub(crate) const JSON: &str = "json";
+
 pub(crate) const QUIET: &str = "quiet";
 
 pub(crate) const AFTER: &str = "after";

@@ -5,8 +5,8 @@ ghost use Rattle.clap.specs.Words.{FailsBy, app_of, fault_of, found_of, matches_
 ghost use Rattle.idn2_options.specs.CommandLine.{app, flag_rule, short_flag_rule, value_rule, strings_rule, with_modes, with_collisions, with_switches, with_bounds};
 
 use crate::command_line::arguments::{
-    AFTER, AMONG, CHECK_TABLE, DECODE, EXPLAIN, JUMP, LIMIT, LOOKUP, QUIET, REGISTER, STD3, STEPS,
-    STRINGS, TR46NT, TRIES, VARIANTS,
+    AFTER, AMONG, CHECK_TABLE, DECODE, EXPLAIN, JSON, JUMP, LIMIT, LOOKUP, QUIET, REGISTER, STD3,
+    STEPS, STRINGS, TR46NT, TRIES, VARIANTS,
 };
 use clap::{Arg, ArgAction, ArgMatches, Command, Error};
 use std::alloc::{AllocError, Global};
@@ -144,6 +144,12 @@ fn with_switches<'a>(command: Command<'a>, alloc: Global) -> Result<Command<'a>,
         alloc,
         EXPLAIN,
         "Messages of refused lines go on with the cause",
+    )?;
+    let command = with_flag(
+        command,
+        alloc,
+        JSON,
+        "Answer by objects of JSON, refusals with causes too",
     )?;
     with_flag(command, alloc, QUIET, "Accepted; there is no banner")
 }

@@ -1,3 +1,4 @@
+use crate::command_line::form::Form;
 use crate::command_line::mode::Mode;
 use std::marker::Model;
 
@@ -12,6 +13,8 @@ pub struct Options {
     pub std3: bool,
     /// The messages of refused lines go on with the cause. The check of a table, which reads no line, doesn't read it.
     pub explain: bool,
+    /// How answers are written. Objects of JSON always tell the cause of a refusal.
+    pub form: Form,
     /// The name of the table's file. Empty where the mode has no table.
     pub file: String,
     /// The lines given as words. Where there are none, the standard input is read.
@@ -40,6 +43,7 @@ impl Model for Options {
       mode = o.mode;
       std3 = o.std3;
       explain = o.explain;
+      form = o.form;
       file = string_bytes o.file;
       strings = map string_bytes o.strings.items;
       after = o.after.items;
@@ -49,4 +53,16 @@ impl Model for Options {
       among = option_map string_bytes o.among;
       registered = None;
     } };
+}
+
+impl Options {
+    ghost use Rattle.std.specs.Prelude.{◌≡◌};
+    ghost use Rattle.idn2_options.specs.Settings.{tells_causes};
+
+    /// Whether the cause of a refusal is told.
+    pub fn tells_causes(&self) -> bool
+        ensures { result ≡ tells_causes self.now }
+    {
+        self.explain || self.form == Form::Json
+    }
 }

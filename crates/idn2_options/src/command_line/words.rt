@@ -3,14 +3,15 @@ ghost use Rattle.std.specs.Prelude.{◌≡◌, IfOk, IsUtf8, OnOk, IfErr, List, 
 ghost use Rattle.std.specs.Str.{chars};
 ghost use Rattle.clap.specs.Words.{FailsBy, found_of, kind_of, rows_of};
 ghost use Rattle.idn2_options.specs.Settings.{IsWithinLimits, SuitsMode};
-ghost use Rattle.idn2_options.specs.Words.{IsAnswer, IsUsage, count_of, mode_of, options_of, settings_of, start_of, steps_of, strings_of, value_of};
+ghost use Rattle.idn2_options.specs.Words.{IsAnswer, IsUsage, count_of, form_of, mode_of, options_of, settings_of, start_of, steps_of, strings_of, value_of};
 
 use crate::command_line::arguments::{
-    AMONG, CHECK_TABLE, DECODE, EXPLAIN, JUMP, LIMIT, REGISTER, STD3, STEPS, STRINGS, TRIES,
+    AMONG, CHECK_TABLE, DECODE, EXPLAIN, JSON, JUMP, LIMIT, REGISTER, STD3, STEPS, STRINGS, TRIES,
     VARIANTS, has_flag, has_value, value_of,
 };
 use crate::command_line::command;
 use crate::command_line::counts::{count_of, steps_of};
+use crate::command_line::form::Form;
 use crate::command_line::mode::Mode;
 use crate::command_line::options::Options;
 use crate::command_line::rules::{file_of, is_allowed, start_of};
@@ -64,6 +65,7 @@ fn settings_of(alloc: Global, matches: &ArgMatches<'_>) -> Result<Options, Alloc
         mode: mode_of(matches),
         std3: has_flag(matches, STD3),
         explain: has_flag(matches, EXPLAIN),
+        form: form_of(matches),
         file: String::from_str(alloc, file_of(matches))?,
         strings: strings_of(alloc, matches)?,
         after: points_of(alloc, start_of(matches))?,
@@ -91,6 +93,16 @@ fn mode_of(matches: &ArgMatches<'_>) -> Mode
         Mode::CheckTable
     } else {
         Mode::Lookup
+    }
+}
+
+fn form_of(matches: &ArgMatches<'_>) -> Form
+    ensures { result ≡ form_of (rows_of (found_of matches.now)) }
+{
+    if has_flag(matches, JSON) {
+        Form::Json
+    } else {
+        Form::Plain
     }
 }
 

@@ -1,0 +1,98 @@
+-- What is said of a line of input or of a table: as a line of text, or as an object of JSON.
+use Rattle.std.specs.Prelude.{ℕ, List, [], ◌∷◌, ◌++◌, codes, map, Option, Some, None}
+use Rattle.std.specs.Option.{option_map}
+use Rattle.std.specs.Fmt.{decimal}
+use Rattle.idn_text.specs.Lines.{Numbered}
+use Rattle.idn_text.specs.Points.{utf8_of}
+use Rattle.idn_label.specs.ALabel.{a_label_of}
+use Rattle.variant_table.specs.Canonical.{sequence_text}
+use Rattle.answer_json.specs.Answers.{Answer, line_of}
+use Rattle.answer_json.specs.Inputs.{Told, told_of}
+use Rattle.answer_json.specs.Objects.{looked_up, registered, decoded, variant, trailer, least, gap, checked, disposition_text}
+use Rattle.answer_json.specs.declared.block.Disposition.{Disposition}
+use Rattle.idn2_options.specs.declared.command_line.form.Form.{Form}
+use Rattle.idn2_options.specs.declared.command_line.form.Form.TheVariants.{Plain, Json}
+
+-- ---- of a line
+
+-- what a name is in a query; what a label stands for and its A-label; what a name is decoded to; a variant of a label, after its
+-- disposition, if the table has any; the end of a block: how many variants it lists, and where it stops if there may be more;
+-- the least label from a text on, or that there is none
+pub data Said : Type 0 where
+  LookedUp : (ascii : List ℕ) → Said
+  Registered : (u_label a_label : List ℕ) → Said
+  Decoded : (unicode : List ℕ) → Said
+  Listed : (disposition : Option Disposition) (variant : List ℕ) → Said
+  BlockEnd : (count : ℕ) (stop : Option (List ℕ)) → Said
+  Least : (label : Option (List ℕ)) → Said
+
+-- ---- as a line of text
+
+-- the third field of a variant's line (RFC 7940, section 7.3), behind a tab
+abbrev pub disposition_field : Option Disposition → List ℕ
+disposition_field None = []
+disposition_field (Some disposition) = 9 ∷ disposition_text disposition
+
+-- a variant, a tab, its A-label, and its third field
+abbrev pub variant_line : Option Disposition → List ℕ → List ℕ
+variant_line disposition v = utf8_of v ++ 9 ∷ (a_label_of v ++ disposition_field disposition)
+
+-- the last line of a block
+abbrev pub trailer_line : ℕ → Option (List ℕ) → List ℕ
+trailer_line count None = codes "#end " ++ decimal count
+trailer_line count (Some b) = codes "#stop " ++ (decimal count ++ 32 ∷ utf8_of b)
+
+-- a label, or that there is none
+abbrev pub jump_line : Option (List ℕ) → List ℕ
+jump_line None = codes "#end"
+jump_line (Some v) = utf8_of v
+
+abbrev pub said_line : Said → List ℕ
+said_line (LookedUp ascii) = ascii
+said_line (Registered u_label a_label) = a_label
+said_line (Decoded unicode) = unicode
+said_line (Listed disposition v) = variant_line disposition v
+said_line (BlockEnd count stop) = trailer_line count stop
+said_line (Least label) = jump_line label
+
+-- ---- as an object, with the number of the line, and with the line where the object alone has to tell what is answered
+
+abbrev pub said_object : ℕ → Told → Said → Answer
+said_object number input (LookedUp ascii) = looked_up number input ascii
+said_object number input (Registered u_label a_label) = registered number input (utf8_of u_label) a_label
+said_object number input (Decoded unicode) = decoded number input unicode
+said_object number input (Listed disposition v) = variant number (utf8_of v) (a_label_of v) disposition
+said_object number input (BlockEnd count stop) = trailer number input count (option_map utf8_of stop)
+said_object number input (Least label) = least number input (option_map utf8_of label)
+
+-- in either form, with its line feed
+abbrev pub said_text : Form → Numbered → Said → List ℕ
+said_text Plain line said = said_line said ++ 10 ∷ []
+said_text Json line said = line_of (said_object line.number (told_of line.body) said)
+
+-- ---- of a table
+
+-- a pair of sequences that a table lacks; how many entries and how many such pairs it has
+pub data Finding : Type 0 where
+  Gap : (gap : List ℕ × List ℕ) → Finding
+  Counted : (entries gaps : ℕ) → Finding
+
+-- a pair that the table lacks, in canonical notation
+abbrev pub gap_line : List ℕ × List ℕ → List ℕ
+gap_line gap = codes "missing " ++ (sequence_text gap.0 ++ 124 ∷ sequence_text gap.1)
+
+-- how many entries and how many gaps the table has
+abbrev pub table_line : ℕ → ℕ → List ℕ
+table_line entries gaps = codes "#table " ++ (decimal entries ++ 32 ∷ decimal gaps)
+
+abbrev pub finding_line : Finding → List ℕ
+finding_line (Gap gap) = gap_line gap
+finding_line (Counted entries gaps) = table_line entries gaps
+
+abbrev pub finding_object : Finding → Answer
+finding_object (Gap pair) = gap (sequence_text pair.0) (sequence_text pair.1)
+finding_object (Counted entries gaps) = checked entries gaps
+
+abbrev pub finding_text : Form → Finding → List ℕ
+finding_text Plain finding = finding_line finding ++ 10 ∷ []
+finding_text Json finding = line_of (finding_object finding)

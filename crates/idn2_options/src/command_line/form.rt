@@ -1,0 +1,8 @@
+/// How a run writes its answers.
+#[derive(Clone, Copy, Debug, PartialEq, Eq)]
+pub enum Form {
+    /// Answers are lines of the output, and refusals of lines and tables are messages.
+    Plain,
+    /// Answers and refusals are objects of JSON, one on each line of the output.
+    Json,
+}
