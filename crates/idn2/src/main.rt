@@ -46,7 +46,10 @@ fn serve(rt: &HostRuntime) -> Result<Status, Refusal>
     let file = read_registered(rt, &options)?;
     let registered = match labels_of(rt.alloc(), &file) {
         Ok(registered) => registered,
-        Err(fault) => return Ok(report_registered(&fault, &mut Device::new(rt.stderr()))),
+        Err(fault) => {
+            let (mut out, mut err) = (Device::new(rt.stdout()), Device::new(rt.stderr()));
+            return Ok(report_registered(options.form, &fault, &mut out, &mut err));
+        }
     };
     let output = Output::new(standard_output(rt)?);
     let status = match given {

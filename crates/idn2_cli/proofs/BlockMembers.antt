@@ -32,7 +32,7 @@ use Rattle.idn_label.specs.Answers.{unless_fault}
 use Rattle.idn2_cli.specs.Answers.{is_among, is_registrable, kept_to, unless_kept, variants_after, tested_after, stop_of, disposition, block, listing_answer, variants_answer}
 use Rattle.idn2_cli.specs.Answers.{IsAhead, IsKept, IsListed, IsTried, IsBlock, IsListing}
 use Rattle.idn2_cli.specs.Transcript.{IsCheck}
-use Rattle.idn2_cli.specs.Transcript.{check_lines}
+use Rattle.idn2_cli.specs.Transcript.{check_findings}
 use Rattle.idn2_cli.proofs.DispositionLemmas.{disposition-IsDisposition}
 use Rattle.idn2_cli.proofs.HopeLemmas.{clear}
 use Rattle.idn2_cli.proofs.SegmentedLabels.{segmented_answer, unsegmented_answer, segmented_or_not}
@@ -110,7 +110,7 @@ block-IsBlock o table label formed = record {
   stops = refl;
   field = disposition table label;
   disposed = λ v. disposition-IsDisposition table label v formed.entries;
-  printed = refl;
+  exact = refl;
 }
 
 listing : (o : Settings) (table : TableValue) (label : List ℕ) → IsWellFormed table.entries → IsListing o table label (listing_answer o table label)
@@ -125,5 +125,5 @@ pub variants_answer-IsListing : (o : Settings) (table : TableValue) (label : Lis
 variants_answer-IsListing o table label formed registrable =
     subst (IsListing o table label) (sym (ap (λ (f : Option Refusal). unless_fault f (listing_answer o table label)) registrable)) (listing o table label formed)
 
-pub check_lines-IsCheck : (table : List Entry) → IsWellFormed table → IsCheck table (check_lines table)
-check_lines-IsCheck table formed = record { gaps = gaps_of table; exactly = gaps_of_are_gaps table formed; printed = refl }
+pub check_findings-IsCheck : (table : List Entry) → IsWellFormed table → IsCheck table (check_findings table)
+check_findings-IsCheck table formed = record { gaps = gaps_of table; exactly = gaps_of_are_gaps table formed; found = refl }

@@ -6,7 +6,8 @@ use Rattle.std.specs.List.{AllByRecursion, filter, slice_get}
 use Rattle.variant_list.specs.Labels.{IsBelow, IsRising, label_cmp}
 use Rattle.variant_list.specs.Jumps.{IsFrom}
 use Rattle.variant_list.proofs.OrderLemmas.{below_itself, below_both, ranked_labels}
-use Rattle.idn2_cli.specs.Answers.{lesser_label, up_to, trailer}
+use Rattle.idn2_cli.specs.Said.{Said, BlockEnd}
+use Rattle.idn2_cli.specs.Answers.{lesser_label, up_to}
 use Rattle.idn2_cli.specs.inner.LineAnswers.{reaches}
 
 -- ---- comparisons
@@ -108,29 +109,29 @@ limit_from-later count i = ap (λ (n : ℕ). let o : Option ℕ = Some n in o) (
 -- ---- the lines of a block
 
 -- each variant has a line
-module _ (line : List ℕ → List ℕ) where
+module _ (line : List ℕ → Said) where
   -- the lines of these variants up to a stop and the trailer, behind `count` others
-  abbrev pub lines_to : ℕ → Option (List ℕ) → List (List ℕ) → List (List ℕ)
-  lines_to count stop vs = map line (up_to stop vs) ++ trailer (count + length (up_to stop vs)) stop ∷ []
+  abbrev pub lines_to : ℕ → Option (List ℕ) → List (List ℕ) → List Said
+  lines_to count stop vs = map line (up_to stop vs) ++ BlockEnd (count + length (up_to stop vs)) stop ∷ []
 
   -- the first candidate is the stop, and a variant
-  pub stops_at_variant : (count : ℕ) (c : List ℕ) (vs : List (List ℕ)) (r : Option (List ℕ)) → AllByRecursion (IsBelow c) vs → r ≡ Some c → lines_to count r (c ∷ vs) ≡ line c ∷ trailer (count + 1) (Some c) ∷ []
+  pub stops_at_variant : (count : ℕ) (c : List ℕ) (vs : List (List ℕ)) (r : Option (List ℕ)) → AllByRecursion (IsBelow c) vs → r ≡ Some c → lines_to count r (c ∷ vs) ≡ line c ∷ BlockEnd (count + 1) (Some c) ∷ []
   stops_at_variant count c vs r h e =
       ap (λ (s : Option (List ℕ)). lines_to count s (c ∷ vs)) e
-      ∙ ap (λ (l : List (List ℕ)). map line l ++ trailer (count + length l) (Some c) ∷ []) (up_to-first c vs h)
+      ∙ ap (λ (l : List (List ℕ)). map line l ++ BlockEnd (count + length l) (Some c) ∷ []) (up_to-first c vs h)
 
   -- the first candidate is the stop, and no variant
-  pub stops_at_other : (count : ℕ) (c : List ℕ) (vs : List (List ℕ)) (r : Option (List ℕ)) → AllByRecursion (IsBelow c) vs → r ≡ Some c → lines_to count r vs ≡ trailer count (Some c) ∷ []
+  pub stops_at_other : (count : ℕ) (c : List ℕ) (vs : List (List ℕ)) (r : Option (List ℕ)) → AllByRecursion (IsBelow c) vs → r ≡ Some c → lines_to count r vs ≡ BlockEnd count (Some c) ∷ []
   stops_at_other count c vs r h e =
       ap (λ (s : Option (List ℕ)). lines_to count s vs) e
-      ∙ ap (λ (l : List (List ℕ)). map line l ++ trailer (count + length l) (Some c) ∷ []) (up_to-above c vs h)
-      ∙ ap (λ (n : ℕ). trailer n (Some c) ∷ []) (add_none count)
+      ∙ ap (λ (l : List (List ℕ)). map line l ++ BlockEnd (count + length l) (Some c) ∷ []) (up_to-above c vs h)
+      ∙ ap (λ (n : ℕ). BlockEnd n (Some c) ∷ []) (add_none count)
 
   -- the stop comes later
   pub stops_later : (count : ℕ) (c : List ℕ) (vs : List (List ℕ)) (r : Option (List ℕ)) → IfSome r (IsBelow c) → lines_to count r (c ∷ vs) ≡ line c ∷ lines_to (count + 1) r vs
   stops_later count c vs r h =
-      ap (λ (l : List (List ℕ)). map line l ++ trailer (count + length l) r ∷ []) (up_to-later c vs r h)
-      ∙ ap (λ (n : ℕ). line c ∷ (map line (up_to r vs) ++ trailer n r ∷ [])) (add_later count (length (up_to r vs)))
+      ap (λ (l : List (List ℕ)). map line l ++ BlockEnd (count + length l) r ∷ []) (up_to-later c vs r h)
+      ∙ ap (λ (n : ℕ). line c ∷ (map line (up_to r vs) ++ BlockEnd n r ∷ [])) (add_later count (length (up_to r vs)))
 
   -- the stop is the first candidate, a variant, or comes later
   pub stops_from : (count : ℕ) (c : List ℕ) (vs : List (List ℕ)) (r : Option (List ℕ)) → AllByRecursion (IsBelow c) vs → IfSome r (IsFrom c) → lines_to count r (c ∷ vs) ≡ line c ∷ lines_to (count + 1) r vs

@@ -12,9 +12,8 @@ use Rattle.variant_table.specs.Entries.{Entry}
 use Rattle.variant_table.specs.WellFormed.{IsWellFormed}
 use Rattle.variant_list.specs.Furthest.{IsFurthest, furthest}
 use Rattle.variant_list.proofs.FurthestLemmas.{furthest-told}
-use Rattle.idn2_cli.specs.Explained.{Explained, Unexplained, bad_byte, points_cause, unless_unexplained, table_cause, text_cause}
+use Rattle.idn2_cli.specs.Explained.{Explained, Unexplained, bad_byte, body_cause, points_cause, unless_unexplained, table_cause, text_cause}
 use Rattle.idn2_cli.specs.CauseTexts.{tail_text}
-use Rattle.idn2_cli.specs.Transcript.{body_tail, points_tail}
 use Rattle.idn2_cli.proofs.TextAnswers.{is_not_utf8}
 use Rattle.idn2_cli.specs.inner.Explaining.{explained_by}
 use Rattle.idn2_cli.specs.declared.session.cause.Explaining.{Explaining}
@@ -23,7 +22,7 @@ use Rattle.idn2_cli.specs.declared.session.cause.LineCause.{LineCause}
 use Rattle.idn2_cli.specs.declared.session.cause.LineCause.TheVariants.{Byte}
 
 -- without the option a message ends as ever
-pub unexplained_body : (body : Option (List ℕ)) (refusal : Refusal) → body_tail Unexplained body refusal ≡ []
+pub unexplained_body : (body : Option (List ℕ)) (refusal : Refusal) → tail_text refusal (body_cause Unexplained body refusal) ≡ []
 unfolding points_cause
 unexplained_body None refusal = refl
 unexplained_body (Some bytes) refusal = by_utf8 (is_utf8 bytes)
@@ -48,9 +47,6 @@ pub text_cause-points : (explained : Explained) (bytes points : List ℕ) (refus
 text_cause-points explained bytes points refusal is =
     ap (λ (b : Bool). cond b (points_cause explained (chars bytes) refusal) (unless_unexplained explained (bad_byte bytes))) (is_utf8-from_IsUtf8 bytes (IsUtf8-from_points bytes points is))
     ∙ ap (λ (ps : List ℕ). points_cause explained ps refusal) (points_from_utf8 bytes points is)
-
-pub body_tail-points : (explained : Explained) (bytes points : List ℕ) (refusal : Refusal) → IsUtf8Of bytes points → body_tail explained (Some bytes) refusal ≡ points_tail explained points refusal
-body_tail-points explained bytes points refusal is = ap (tail_text refusal) (text_cause-points explained bytes points refusal is)
 
 -- of bytes that are no UTF-8
 pub text_cause-not_utf8 : (explained : Explained) (bytes : List ℕ) (refusal : Refusal) → is_utf8 bytes ≡ false → text_cause explained bytes refusal ≡ unless_unexplained explained (bad_byte bytes)

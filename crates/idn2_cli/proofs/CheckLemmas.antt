@@ -6,7 +6,9 @@ use Rattle.std.proofs.Common.{Vec}
 use Rattle.std.specs.declared.alloc.Global.{Global}
 use Rattle.std.proofs.lemmas.List.{get_or-map, length-map}
 use Rattle.variant_table.specs.Gaps.{IsGap, IsPair, AreGapsOf, gaps_of, pair_of, pairs_of}
-use Rattle.idn2_cli.specs.Transcript.{Piece, Output, gap_line, table_line, check_lines, output_lines}
+use Rattle.idn2_options.specs.declared.command_line.form.Form.{Form}
+use Rattle.idn2_cli.specs.Said.{Gap, Counted, finding_text}
+use Rattle.idn2_cli.specs.Transcript.{Piece, Output, check_findings, outputs}
 use Rattle.variant_table.proofs.MemberLemmas.{Contains-head, Contains-later}
 
 -- the rest of a list, its first element named
@@ -38,18 +40,18 @@ gap_at table gaps i gap formed are lt is =
     let there : Contains (pairs_of gaps) (pair_of gap) = (i, subst (λ (n : ℕ). i < n) (sym (length-map gaps pair_of)) lt, get_or-map pair_of gaps i gap (pair_of gap) lt ∙ ap pair_of (sym is)) in
     gap_sequences table gap.0.items gap.1.items formed ((are.members gap.0.items gap.1.items).0 there)
 
--- ---- the lines of a check
+-- ---- what a check finds
 
-output_lines-append : (xs ys : List (List ℕ)) → output_lines (xs ++ ys) ≡ output_lines xs ++ output_lines ys
-output_lines-append [] ys = refl
-output_lines-append (x ∷ xs) ys = ap (λ (ps : List Piece). Output (x ++ 10 ∷ []) ∷ ps) (output_lines-append xs ys)
+outputs-append : {X : Type 0} (text : X → List ℕ) (xs ys : List X) → outputs text (xs ++ ys) ≡ outputs text xs ++ outputs text ys
+outputs-append text [] ys = refl
+outputs-append text (x ∷ xs) ys = ap (λ (ps : List Piece). Output (text x) ∷ ps) (outputs-append text xs ys)
 
 -- the gaps, then their number
-pub check-split : (table : List Entry) (pairs : List (List ℕ × List ℕ)) → pairs ≡ gaps_of table
-    → output_lines (check_lines table) ≡ output_lines (map gap_line pairs) ++ Output (table_line (length table) (length pairs) ++ 10 ∷ []) ∷ []
-check-split table pairs e =
-    ap (λ (ps : List (List ℕ × List ℕ)). output_lines (map gap_line ps ++ table_line (length table) (length ps) ∷ [])) (sym e)
-    ∙ output_lines-append (map gap_line pairs) (table_line (length table) (length pairs) ∷ [])
+pub check-split : (form : Form) (table : List Entry) (pairs : List (List ℕ × List ℕ)) → pairs ≡ gaps_of table
+    → outputs (finding_text form) (check_findings table) ≡ outputs (finding_text form) (map Gap pairs) ++ Output (finding_text form (Counted (length table) (length pairs))) ∷ []
+check-split form table pairs e =
+    ap (λ (ps : List (List ℕ × List ℕ)). outputs (finding_text form) (map Gap ps ++ Counted (length table) (length ps) ∷ [])) (sym e)
+    ∙ outputs-append (finding_text form) (map Gap pairs) (Counted (length table) (length pairs) ∷ [])
 
 -- as many pairs as gaps in memory
 pub pairs_of-length : (gaps : List (Vec ℕ Global × Vec ℕ Global)) → length (pairs_of gaps) ≡ length gaps

@@ -16,8 +16,10 @@ use Rattle.registered_labels.specs.Registered.{AreRegistered}
 use Rattle.registered_labels.specs.Collisions.{Matching, IsBegun, collisions, collisions_ahead, is_spelled}
 use Rattle.registered_labels.proofs.ListedCollisions.{collisions-exactly, collisions-variants}
 use Rattle.idn2_options.specs.Settings.{Settings, IsCount, IsWithinLimits, keeping}
-use Rattle.idn2_cli.specs.Transcript.{Piece, Output, output_lines}
-use Rattle.idn2_cli.specs.Answers.{is_among, is_registrable, lesser_label, nth, nth_if_given, trailer, variant_line, variants_after, block_to}
+use Rattle.idn2_cli.specs.Transcript.{Piece, Output, outputs}
+use Rattle.answer_json.specs.declared.block.Disposition.{Disposition}
+use Rattle.idn2_cli.specs.Said.{Said, Listed, BlockEnd}
+use Rattle.idn2_cli.specs.Answers.{is_among, is_registrable, lesser_label, nth, nth_if_given, variants_after, block_to}
 use Rattle.idn2_cli.specs.inner.Dispositions.{block_by}
 use Rattle.idn2_cli.specs.Ends.{Held, Writes}
 use Rattle.idn2_cli.specs.inner.Emitting.{Emits, StopsWithin}
@@ -30,37 +32,37 @@ use Rattle.idn2_cli.proofs.WrittenPieces.{writes_nothing, writes_join, stops_bet
 
 -- ---- the lines to come
 
-module _ (line : List ℕ → List ℕ) where
+module _ (line : List ℕ → Said) where
   -- where `count` labels are listed, and these are to come
-  abbrev pub lines_from : Option ℕ → ℕ → List (List ℕ) → List (List ℕ)
-  lines_from limit count [] = trailer count None ∷ []
+  abbrev pub lines_from : Option ℕ → ℕ → List (List ℕ) → List Said
+  lines_from limit count [] = BlockEnd count None ∷ []
   lines_from limit count (v ∷ vs) =
-      line v ∷ (if reaches limit (count + 1) then trailer (count + 1) (Some v) ∷ [] else lines_from limit (count + 1) vs)
+      line v ∷ (if reaches limit (count + 1) then BlockEnd (count + 1) (Some v) ∷ [] else lines_from limit (count + 1) vs)
 
   -- what follows a label that is listed
-  abbrev pub lines_behind : Option ℕ → ℕ → List ℕ → List (List ℕ) → List (List ℕ)
-  lines_behind limit count v vs = if reaches limit (count + 1) then trailer (count + 1) (Some v) ∷ [] else lines_from limit (count + 1) vs
+  abbrev pub lines_behind : Option ℕ → ℕ → List ℕ → List (List ℕ) → List Said
+  lines_behind limit count v vs = if reaches limit (count + 1) then BlockEnd (count + 1) (Some v) ∷ [] else lines_from limit (count + 1) vs
 
   lines_to-from : (vs : List (List ℕ)) → IsRising vs → (count : ℕ) (place : Option ℕ)
       → lines_to line count (get_if_given vs place) vs ≡ lines_from (limit_from count place) count vs
-  lines_to-from [] rising count None = ap (λ (n : ℕ). trailer n None ∷ []) (add_none count)
-  lines_to-from [] rising count (Some i) = ap (λ (n : ℕ). trailer n None ∷ []) (add_none count)
+  lines_to-from [] rising count None = ap (λ (n : ℕ). BlockEnd n None ∷ []) (add_none count)
+  lines_to-from [] rising count (Some i) = ap (λ (n : ℕ). BlockEnd n None ∷ []) (add_none count)
   lines_to-from (v ∷ vs) rising count None =
-      stops_later line count v vs None tt ∙ ap (λ (l : List (List ℕ)). line v ∷ l) (lines_to-from vs rising.1 (count + 1) None)
+      stops_later line count v vs None tt ∙ ap (λ (l : List Said). line v ∷ l) (lines_to-from vs rising.1 (count + 1) None)
   lines_to-from (v ∷ vs) rising count (Some zero) =
       stops_at_variant line count v vs (Some v) rising.0 refl
-      ∙ ap (λ (b : Bool). line v ∷ (if b then trailer (count + 1) (Some v) ∷ [] else lines_from (limit_from count (Some 0)) (count + 1) vs)) (sym (reaches-now count))
+      ∙ ap (λ (b : Bool). line v ∷ (if b then BlockEnd (count + 1) (Some v) ∷ [] else lines_from (limit_from count (Some 0)) (count + 1) vs)) (sym (reaches-now count))
   lines_to-from (v ∷ vs) rising count (Some (suc i)) =
       stops_later line count v vs (slice_get vs i) (get-above v vs i rising.0)
-      ∙ ap (λ (l : List (List ℕ)). line v ∷ l) (lines_to-from vs rising.1 (count + 1) (Some i))
+      ∙ ap (λ (l : List Said). line v ∷ l) (lines_to-from vs rising.1 (count + 1) (Some i))
       ∙ ap (λ (limit : Option ℕ). line v ∷ lines_from limit (count + 1) vs) (sym (limit_from-later count i))
-      ∙ ap (λ (b : Bool). line v ∷ (if b then trailer (count + 1) (Some v) ∷ [] else lines_from (limit_from count (Some (suc i))) (count + 1) vs)) (sym (reaches-later count i))
+      ∙ ap (λ (b : Bool). line v ∷ (if b then BlockEnd (count + 1) (Some v) ∷ [] else lines_from (limit_from count (Some (suc i))) (count + 1) vs)) (sym (reaches-later count i))
 
 -- ---- the block is these lines
 
-module _ (field : List ℕ → List ℕ) where
-  abbrev pub line_of : List ℕ → List ℕ
-  line_of v = variant_line (field v) v
+module _ (field : List ℕ → Option Disposition) where
+  abbrev pub line_of : List ℕ → Said
+  line_of v = Listed (field v) v
 
   block-lines : (vs : List (List ℕ)) (limit : Option ℕ) → IsRising vs → IfSome limit IsCount → block_to field (nth_if_given vs limit) vs ≡ lines_from line_of limit 0 vs
   block-lines vs None rising limits = lines_to-none field None vs ∙ lines_to-from line_of vs rising 0 None
@@ -93,7 +95,7 @@ kept-collisions o net labels formed all =
     (λ v h. let both = (collisions-variants net labels o.after v formed all).0 h in
     (Contains-filter (is_among labels) whole v).1 (has_variant-from labels v both.1, both.0))
 
-module _ (field : List ℕ → List ℕ) where
+module _ (text : Said → List ℕ) (field : List ℕ → Option Disposition) where
   block-from : (o : Settings) (net : Built) (labels : List (List ℕ)) → IsWellFormed net.table → AreRegistered labels → IfSome o.limit IsCount
       → block_by field (keeping (Some labels) o) net.table net.label ≡ lines_from (line_of field) o.limit 0 (collisions net labels o.after)
   block-from o net labels formed all limits =
@@ -106,7 +108,7 @@ module _ (field : List ℕ → List ℕ) where
   -- `so_far` is written; what is to come follows from the collisions ahead and the count
   pub record IsUnderWay (o : Settings) (net : Built) (labels : List (List ℕ)) (old now : Held) (s : Matching) (count total : ℕ) : Type 0 where
     pub so_far : List Piece
-    pub split : output_lines (block_by field (keeping (Some labels) o) net.table net.label) ≡ so_far ++ output_lines (lines_from (line_of field) o.limit count (collisions_ahead s))
+    pub split : outputs text (block_by field (keeping (Some labels) o) net.table net.label) ≡ so_far ++ outputs text (lines_from (line_of field) o.limit count (collisions_ahead s))
     pub pieces : Writes old now so_far
     pub few : count + length (collisions_ahead s) ≤ total
     pub registrable : All IsRegistrable (collisions_ahead s)
@@ -125,7 +127,7 @@ module _ (field : List ℕ → List ℕ) where
       let ahead : collisions_ahead s ≡ collisions net labels o.after = begun.ahead ∙ ap (λ (a : List ℕ). collisions net labels a) same_after in
       let count : length (collisions_ahead s) ≤ length labels = subst (λ (l : List (List ℕ)). length l ≤ length labels) (sym ahead) (filter-few _ labels) in record {
         so_far = [];
-        split = ap output_lines (block-from o net labels formed all limits.limit) ∙ ap (λ (l : List (List ℕ)). output_lines (lines_from (line_of field) o.limit 0 l)) (sym ahead);
+        split = ap (outputs text) (block-from o net labels formed all limits.limit) ∙ ap (λ (l : List (List ℕ)). outputs text (lines_from (line_of field) o.limit 0 l)) (sym ahead);
         pieces = writes_nothing old;
         few = omega (arith, count, same_total);
         registrable = subst (λ (ls : List (List ℕ)). All IsRegistrable (filter (is_spelled s.net) (drop s.passed ls))) (sym begun.registered)
@@ -134,17 +136,17 @@ module _ (field : List ℕ → List ℕ) where
 
   -- no label is left
   pub under_way-ended : {A : Type 0} (o : Settings) (net : Built) (labels : List (List ℕ)) (old now new : Held) (s : Matching) (count total : ℕ) (r : Result A Stop) → IsUnderWay o net labels old now s count total
-      → collisions_ahead s ≡ [] → Emits now new (Output (trailer count None ++ 10 ∷ []) ∷ []) r → Emits old new (output_lines (block_by field (keeping (Some labels) o) net.table net.label)) r
+      → collisions_ahead s ≡ [] → Emits now new (Output (text (BlockEnd count None)) ∷ []) r → Emits old new (outputs text (block_by field (keeping (Some labels) o) net.table net.label)) r
   under_way-ended o net labels old now new s count total r h none emits =
-      emits_after old now new _ h.so_far (output_lines (trailer count None ∷ [])) r
-      (h.split ∙ ap (λ (l : List (List ℕ)). h.so_far ++ output_lines (lines_from (line_of field) o.limit count l)) none) h.pieces emits
+      emits_after old now new _ h.so_far (outputs text (BlockEnd count None ∷ [])) r
+      (h.split ∙ ap (λ (l : List (List ℕ)). h.so_far ++ outputs text (lines_from (line_of field) o.limit count l)) none) h.pieces emits
 
   -- the label found is the next line
   next-split : (o : Settings) (net : Built) (labels : List (List ℕ)) (old now : Held) (s next : Matching) (count total : ℕ) → (h : IsUnderWay o net labels old now s count total)
       → collisions_ahead s ≡ next.label ∷ collisions_ahead next
-      → output_lines (block_by field (keeping (Some labels) o) net.table net.label) ≡ h.so_far ++ (Output (line_of field next.label ++ 10 ∷ []) ∷ output_lines (lines_behind (line_of field) o.limit count next.label (collisions_ahead next)))
+      → outputs text (block_by field (keeping (Some labels) o) net.table net.label) ≡ h.so_far ++ (Output (text (line_of field next.label)) ∷ outputs text (lines_behind (line_of field) o.limit count next.label (collisions_ahead next)))
   next-split o net labels old now s next count total h found =
-      h.split ∙ ap (λ (l : List (List ℕ)). h.so_far ++ output_lines (lines_from (line_of field) o.limit count l)) found
+      h.split ∙ ap (λ (l : List (List ℕ)). h.so_far ++ outputs text (lines_from (line_of field) o.limit count l)) found
 
   -- it may be registered
   pub under_way-registrable : {o : Settings} {net : Built} {labels : List (List ℕ)} {old now : Held} {count total : ℕ} (s next : Matching) (v : List ℕ) → IsUnderWay o net labels old now s count total
@@ -154,38 +156,38 @@ module _ (field : List ℕ → List ℕ) where
 
   -- its line could not be written whole
   pub under_way-broken : {A : Type 0} (o : Settings) (net : Built) (labels : List (List ℕ)) (old now new : Held) (s next : Matching) (count total : ℕ) (v : List ℕ) (r : Result A Stop) (why : Stop) → IsUnderWay o net labels old now s count total
-      → collisions_ahead s ≡ next.label ∷ collisions_ahead next → v ≡ next.label → Emits now new (Output (line_of field v ++ 10 ∷ []) ∷ []) r → r ≡ Err why
-      → StopsWithin why old new (output_lines (block_by field (keeping (Some labels) o) net.table net.label))
+      → collisions_ahead s ≡ next.label ∷ collisions_ahead next → v ≡ next.label → Emits now new (Output (text (line_of field v)) ∷ []) r → r ≡ Err why
+      → StopsWithin why old new (outputs text (block_by field (keeping (Some labels) o) net.table net.label))
   under_way-broken o net labels old now new s next count total v r why h found is emits stopped =
-      stops_between old now new _ h.so_far (Output (line_of field next.label ++ 10 ∷ []) ∷ []) _ r why (next-split o net labels old now s next count total h found) h.pieces
-      (subst (λ (u : List ℕ). Emits now new (Output (line_of field u ++ 10 ∷ []) ∷ []) r) is emits) stopped
+      stops_between old now new _ h.so_far (Output (text (line_of field next.label)) ∷ []) _ r why (next-split o net labels old now s next count total h found) h.pieces
+      (subst (λ (u : List ℕ). Emits now new (Output (text (line_of field u)) ∷ []) r) is emits) stopped
 
   -- its line is written, and is not the last
   pub under_way-found : (o : Settings) (net : Built) (labels : List (List ℕ)) (old now new : Held) (s next : Matching) (count total : ℕ) (v : List ℕ) → IsUnderWay o net labels old now s count total
-      → collisions_ahead s ≡ next.label ∷ collisions_ahead next → v ≡ next.label → Writes now new (Output (line_of field v ++ 10 ∷ []) ∷ []) → reaches o.limit (count + 1) ≡ false
+      → collisions_ahead s ≡ next.label ∷ collisions_ahead next → v ≡ next.label → Writes now new (Output (text (line_of field v)) ∷ []) → reaches o.limit (count + 1) ≡ false
       → IsUnderWay o net labels old new next (count + 1) total
   under_way-found o net labels old now new s next count total v h found is written going =
-      let line : List Piece = Output (line_of field next.label ++ 10 ∷ []) ∷ [] in
+      let line : List Piece = Output (text (line_of field next.label)) ∷ [] in
       let fewer : length (collisions_ahead s) ≡ suc (length (collisions_ahead next)) = ap (λ (l : List (List ℕ)). length l) found in record {
         so_far = h.so_far ++ line;
         split = next-split o net labels old now s next count total h found
-            ∙ ap (λ (b : Bool). h.so_far ++ (Output (line_of field next.label ++ 10 ∷ []) ∷ output_lines (if b then trailer (count + 1) (Some next.label) ∷ [] else lines_from (line_of field) o.limit (count + 1) (collisions_ahead next)))) going
-            ∙ sym (append_assoc h.so_far line (output_lines (lines_from (line_of field) o.limit (count + 1) (collisions_ahead next))));
-        pieces = writes_join old now new h.so_far line h.pieces (subst (λ (u : List ℕ). Writes now new (Output (line_of field u ++ 10 ∷ []) ∷ [])) is written);
+            ∙ ap (λ (b : Bool). h.so_far ++ (Output (text (line_of field next.label)) ∷ outputs text (if b then BlockEnd (count + 1) (Some next.label) ∷ [] else lines_from (line_of field) o.limit (count + 1) (collisions_ahead next)))) going
+            ∙ sym (append_assoc h.so_far line (outputs text (lines_from (line_of field) o.limit (count + 1) (collisions_ahead next))));
+        pieces = writes_join old now new h.so_far line h.pieces (subst (λ (u : List ℕ). Writes now new (Output (text (line_of field u)) ∷ [])) is written);
         few = omega (arith, h.few, fewer);
         registrable = All-tail IsRegistrable next.label (collisions_ahead next) (subst (All IsRegistrable) found h.registrable);
       }
 
   -- its line is written, and is the last
   pub under_way-reached : {A : Type 0} (o : Settings) (net : Built) (labels : List (List ℕ)) (old now new last : Held) (s next : Matching) (count total : ℕ) (v stop_at : List ℕ) (r : Result A Stop) → IsUnderWay o net labels old now s count total
-      → collisions_ahead s ≡ next.label ∷ collisions_ahead next → v ≡ next.label → Writes now new (Output (line_of field v ++ 10 ∷ []) ∷ []) → reaches o.limit (count + 1) ≡ true
-      → stop_at ≡ next.label → Emits new last (Output (trailer (count + 1) (Some stop_at) ++ 10 ∷ []) ∷ []) r → Emits old last (output_lines (block_by field (keeping (Some labels) o) net.table net.label)) r
+      → collisions_ahead s ≡ next.label ∷ collisions_ahead next → v ≡ next.label → Writes now new (Output (text (line_of field v)) ∷ []) → reaches o.limit (count + 1) ≡ true
+      → stop_at ≡ next.label → Emits new last (Output (text (BlockEnd (count + 1) (Some stop_at))) ∷ []) r → Emits old last (outputs text (block_by field (keeping (Some labels) o) net.table net.label)) r
   under_way-reached o net labels old now new last s next count total v stop_at r h found is written reached at emits =
-      let line : List Piece = Output (line_of field next.label ++ 10 ∷ []) ∷ [] in
-      let end : List Piece = Output (trailer (count + 1) (Some next.label) ++ 10 ∷ []) ∷ [] in
+      let line : List Piece = Output (text (line_of field next.label)) ∷ [] in
+      let end : List Piece = Output (text (BlockEnd (count + 1) (Some next.label))) ∷ [] in
       emits_after old new last _ (h.so_far ++ line) end r
       (next-split o net labels old now s next count total h found
-      ∙ ap (λ (b : Bool). h.so_far ++ (Output (line_of field next.label ++ 10 ∷ []) ∷ output_lines (if b then trailer (count + 1) (Some next.label) ∷ [] else lines_from (line_of field) o.limit (count + 1) (collisions_ahead next)))) reached
+      ∙ ap (λ (b : Bool). h.so_far ++ (Output (text (line_of field next.label)) ∷ outputs text (if b then BlockEnd (count + 1) (Some next.label) ∷ [] else lines_from (line_of field) o.limit (count + 1) (collisions_ahead next)))) reached
       ∙ sym (append_assoc h.so_far line end))
-      (writes_join old now new h.so_far line h.pieces (subst (λ (u : List ℕ). Writes now new (Output (line_of field u ++ 10 ∷ []) ∷ [])) is written))
-      (subst (λ (u : List ℕ). Emits new last (Output (trailer (count + 1) (Some u) ++ 10 ∷ []) ∷ []) r) at emits)
+      (writes_join old now new h.so_far line h.pieces (subst (λ (u : List ℕ). Writes now new (Output (text (line_of field u)) ∷ [])) is written))
+      (subst (λ (u : List ℕ). Emits new last (Output (text (BlockEnd (count + 1) (Some u))) ∷ []) r) at emits)

@@ -1,6 +1,6 @@
--- The third field of a variant's line: which variants the table without its blocked variants spells.
+-- The disposition of a variant: which variants the table without its blocked variants spells.
 use Rattle.std.proofs.Common.{◌≡◌, ◌⊎◌, inl, inr, ℕ, Bool, true, false, ◌||◌, ◌↔◌, IsTrue, List, [], ◌∷◌, ◌++◌, Option, Some, None, map, length, refl, sym, ap, subst, ◌∙◌, if◌then◌else◌}
-use Rattle.std.specs.Prelude.{bytes_eq, codes, not}
+use Rattle.std.specs.Prelude.{bytes_eq, not}
 use Rattle.std.specs.Ordering.{is_le}
 use Rattle.std.specs.List.{AllByRecursion, All, Contains, filter, flat_map, list_any}
 use Rattle.std.proofs.lemmas.Slice.Eq.{bytes_eq-Decides}
@@ -21,9 +21,11 @@ use Rattle.variant_list.proofs.SpellingLemmas.{Spells-itself, Spells-nothing, Sp
 use Rattle.idn2_options.specs.Settings.{Settings}
 use Rattle.variant_list.specs.Variants.{variants}
 use Rattle.variant_list.proofs.RisingLists.{Contains-filter}
-use Rattle.idn2_cli.specs.Answers.{block, is_among, is_registrable, kept_to, is_allocatable, disposition_field, disposition, IsFieldOf, IsDisposition, stop_of, trailer, up_to, variant_line, variants_after}
+use Rattle.idn2_cli.specs.Answers.{block, is_among, is_registrable, kept_to, is_allocatable, disposition_in, disposition, IsFieldOf, IsDisposition, stop_of, up_to, variants_after}
+use Rattle.answer_json.specs.declared.block.Disposition.TheVariants.{Allocatable, Blocked}
+use Rattle.idn2_cli.specs.Said.{Said, Listed, BlockEnd}
 use Rattle.idn2_cli.specs.inner.Dispositions.{AreOfTable, AreOfLabel, CanBeCut, block_by, field_by}
-use Rattle.idn2_cli.specs.Transcript.{output_lines}
+use Rattle.idn2_cli.specs.Transcript.{outputs}
 use Rattle.idn2_cli.specs.declared.modes.dispositions.Dispositions.{Dispositions}
 use Rattle.idn2_cli.specs.declared.modes.dispositions.Dispositions.TheVariants.{Unstated, AllAllocatable, BySpelling}
 
@@ -59,8 +61,8 @@ same-test false true h g = h.1 (g.0 refl)
 same-test false false h g = refl
 
 -- what a walk over a net tells
-pub spelled-told : (net : Built) (v : List ℕ) (told : Bool) → All IsEntry net.table → IsTrue told ↔ Spells net.table net.label v → disposition_field Two told ≡ field_by (BySpelling net) v
-spelled-told net v told well h = ap (disposition_field Two) (same-test told (list_any (bytes_eq v) (spelled net.table net.label)) h (spells-test net.table net.label v well))
+pub spelled-told : (net : Built) (v : List ℕ) (told : Bool) → All IsEntry net.table → IsTrue told ↔ Spells net.table net.label v → disposition_in Two told ≡ field_by (BySpelling net) v
+spelled-told net v told well h = ap (disposition_in Two) (same-test told (list_any (bytes_eq v) (spelled net.table net.label)) h (spells-test net.table net.label v well))
 
 -- ---- the sources stay
 
@@ -98,15 +100,15 @@ can_be_cut table (BySpelling other) label is h = subst (λ (t : List Entry). Has
 -- ---- the field that is told is that of the table
 
 field-is : (table : TableValue) (label v : List ℕ) (told : Dispositions Built) → AreOfLabel table label told → Contains (spelled table.entries label) v → field_by told v ≡ disposition table label v
-field-is table label v Unstated is h = ap (λ (n : Version). disposition_field n (is_allocatable table.entries label v)) (sym is)
+field-is table label v Unstated is h = ap (λ (n : Version). disposition_in n (is_allocatable table.entries label v)) (sym is)
 field-is table label v AllAllocatable is h =
-    ap (disposition_field Two) (sym (ap (λ (t : List Entry). list_any (bytes_eq v) (spelled t label)) is.1 ∙ member-found v (spelled table.entries label) h))
-    ∙ ap (λ (n : Version). disposition_field n (is_allocatable table.entries label v)) (sym is.0)
+    ap (disposition_in Two) (sym (ap (λ (t : List Entry). list_any (bytes_eq v) (spelled t label)) is.1 ∙ member-found v (spelled table.entries label) h))
+    ∙ ap (λ (n : Version). disposition_in n (is_allocatable table.entries label v)) (sym is.0)
 field-is table label v (BySpelling net) is h =
     ap (λ (n : Built). field_by (BySpelling n) v) is.1
-    ∙ ap (λ (n : Version). disposition_field n (is_allocatable table.entries label v)) (sym is.0)
+    ∙ ap (λ (n : Version). disposition_in n (is_allocatable table.entries label v)) (sym is.0)
 
-map-same : (f g : List ℕ → List ℕ) (vs : List (List ℕ)) → AllByRecursion (λ v. f v ≡ g v) vs → map f vs ≡ map g vs
+map-same : (f g : List ℕ → Said) (vs : List (List ℕ)) → AllByRecursion (λ v. f v ≡ g v) vs → map f vs ≡ map g vs
 map-same f g [] same = refl
 map-same f g (v ∷ vs) same = ap (λ w. w ∷ map f vs) same.0 ∙ ap (λ ws. g v ∷ ws) (map-same f g vs same.1)
 
@@ -137,16 +139,16 @@ told-block : (o : Settings) (table : TableValue) (label : List ℕ) (told : Disp
 told-block o table label told is =
     let vs = variants_after o table.entries label in
     let stop = stop_of o table.entries label in
-    let same : AllByRecursion (λ v. variant_line (field_by told v) v ≡ variant_line (disposition table label v) v) vs =
-    all_members (λ v. variant_line (field_by told v) v ≡ variant_line (disposition table label v) v) vs
-    (λ v at. ap (λ field. variant_line field v) (field-is table label v told is (((variants-IsListed is_registrable table.entries label o.after).members v).0 (kept-listed o.registered (variants is_registrable table.entries label o.after) v at)).spelled)) in
-    ap (λ lines. lines ++ trailer (length (up_to stop vs)) stop ∷ [])
-    (map-same (λ v. variant_line (field_by told v) v) (λ v. variant_line (disposition table label v) v) (up_to stop vs) (up_to-all _ stop vs same))
+    let same : AllByRecursion (λ v. Listed (field_by told v) v ≡ Listed (disposition table label v) v) vs =
+    all_members (λ v. Listed (field_by told v) v ≡ Listed (disposition table label v) v) vs
+    (λ v at. ap (λ field. Listed field v) (field-is table label v told is (((variants-IsListed is_registrable table.entries label o.after).members v).0 (kept-listed o.registered (variants is_registrable table.entries label o.after) v at)).spelled)) in
+    ap (λ said. said ++ BlockEnd (length (up_to stop vs)) stop ∷ [])
+    (map-same (λ v. Listed (field_by told v) v) (λ v. Listed (disposition table label v) v) (up_to stop vs) (up_to-all _ stop vs same))
 
 -- what is written of a net is the block
-pub written_block : (o : Settings) (table : TableValue) (label : List ℕ) (net : Built) (told : Dispositions Built) → net ≡ record { table = table.entries; label = label } → AreOfLabel table label told
-    → output_lines (block_by (field_by told) o net.table net.label) ≡ output_lines (block o table label)
-written_block o table label net told same is = ap (λ (n : Built). output_lines (block_by (field_by told) o n.table n.label)) same ∙ ap output_lines (told-block o table label told is)
+pub written_block : (text : Said → List ℕ) (o : Settings) (table : TableValue) (label : List ℕ) (net : Built) (told : Dispositions Built) → net ≡ record { table = table.entries; label = label } → AreOfLabel table label told
+    → outputs text (block_by (field_by told) o net.table net.label) ≡ outputs text (block o table label)
+written_block text o table label net told same is = ap (λ (n : Built). outputs text (block_by (field_by told) o n.table n.label)) same ∙ ap (outputs text) (told-block o table label told is)
 
 -- ---- the field that computes is the field
 
@@ -156,27 +158,27 @@ disposition-IsDisposition table label v well = by_version table.version
     tests : (is_allocatable table.entries label v ≡ true) ↔ Spells (unblocked table.entries) label v
     tests = spells-test (unblocked table.entries) label v (well_formed_kept table.entries well)
 
-    by_test : (b : Bool) → is_allocatable table.entries label v ≡ b → IsFieldOf Two (Spells (unblocked table.entries) label v) (disposition_field Two b)
+    by_test : (b : Bool) → is_allocatable table.entries label v ≡ b → IsFieldOf Two (Spells (unblocked table.entries) label v) (disposition_in Two b)
     by_test true e = inl (tests.0 e, refl)
     by_test false e = inr (λ spells. (let bad : false ≡ true = sym e ∙ tests.1 spells in cc), refl)
 
-    by_version : (n : Version) → IsFieldOf n (Spells (unblocked table.entries) label v) (disposition_field n (is_allocatable table.entries label v))
+    by_version : (n : Version) → IsFieldOf n (Spells (unblocked table.entries) label v) (disposition_in n (is_allocatable table.entries label v))
     by_version One = refl
     by_version Two = by_test (is_allocatable table.entries label v) refl
 
 -- ---- laws
 
-pub disposition-one : (table : TableValue) (label v : List ℕ) → table.version ≡ One → disposition table label v ≡ []
-disposition-one table label v is = ap (λ (n : Version). disposition_field n (is_allocatable table.entries label v)) is
+pub disposition-one : (table : TableValue) (label v : List ℕ) → table.version ≡ One → disposition table label v ≡ None
+disposition-one table label v is = ap (λ (n : Version). disposition_in n (is_allocatable table.entries label v)) is
 
-allocatable-field : (table : TableValue) (label v : List ℕ) → table.version ≡ Two → is_allocatable table.entries label v ≡ true → disposition table label v ≡ codes "\tallocatable"
-allocatable-field table label v is told = ap (λ (n : Version). disposition_field n (is_allocatable table.entries label v)) is ∙ ap (disposition_field Two) told
+allocatable-field : (table : TableValue) (label v : List ℕ) → table.version ≡ Two → is_allocatable table.entries label v ≡ true → disposition table label v ≡ Some Allocatable
+allocatable-field table label v is told = ap (λ (n : Version). disposition_in n (is_allocatable table.entries label v)) is ∙ ap (disposition_in Two) told
 
-pub disposition-itself : (table : TableValue) (label : List ℕ) → table.version ≡ Two → IsWellFormed table.entries → HasSegmentation table.entries label → disposition table label label ≡ codes "\tallocatable"
+pub disposition-itself : (table : TableValue) (label : List ℕ) → table.version ≡ Two → IsWellFormed table.entries → HasSegmentation table.entries label → disposition table label label ≡ Some Allocatable
 disposition-itself table label is formed has = allocatable-field table label label is (label-allocatable table.entries label formed.entries has)
 
 pub disposition-none_blocked : (table : TableValue) (label v : List ℕ) → table.version ≡ Two → IsWellFormed table.entries → has_blocked table.entries ≡ false → Spells table.entries label v
-    → disposition table label v ≡ codes "\tallocatable"
+    → disposition table label v ≡ Some Allocatable
 disposition-none_blocked table label v is formed none spells =
     allocatable-field table label v is
     (ap (λ (t : List Entry). list_any (bytes_eq v) (spelled t label)) (unblocked_none table.entries none) ∙ (spells-test table.entries label v formed.entries).1 spells)

@@ -1,5 +1,5 @@
 -- The examples, computed.
-use Rattle.std.proofs.Common.{◌≡◌, ℕ, ◌==◌, ◌&&◌, Bool, true, false, List, [], ◌∷◌, filter, nat_lt, codes, length, Some, None, Result, Ok, Err, refl, ap, ◌∙◌, if◌then◌else◌}
+use Rattle.std.proofs.Common.{◌≡◌, ℕ, ◌==◌, ◌&&◌, Bool, true, false, List, [], ◌∷◌, filter, nat_lt, codes, length, Some, None, Result, Ok, Err, refl, ap, map, ◌∙◌, if◌then◌else◌}
 use Rattle.std.specs.Fmt.{digits}
 use Rattle.std.specs.List.{AllByRecursion, list_all}
 use Rattle.std.specs.Option.{is_none}
@@ -22,7 +22,9 @@ use Rattle.variant_list.specs.Spelled.{spelled}
 use Rattle.variant_list.specs.Variants.{variants, in_order}
 use Rattle.variant_list.specs.Examples.{a_or_two, letter_or_hyphen}
 use Rattle.idn2_options.specs.Settings.{Settings}
-use Rattle.idn2_cli.specs.Answers.{block, block_to, disposition, is_registrable, kept_to, lesser_label, nth, nth_if_given, one_line, tested_after, visited_in}
+use Rattle.idn2_cli.specs.Answers.{block, block_to, disposition, is_registrable, kept_to, lesser_label, nth, nth_if_given, one_answer, tested_after, u_label_of, visited_in}
+use Rattle.idn2_options.specs.declared.command_line.form.Form.TheVariants.{Plain}
+use Rattle.idn2_cli.specs.Said.{Said, Registered, said_line}
 use Rattle.std.specs.Char.{encode_utf8}
 use Rattle.std.specs.Str.{is_utf8, chars}
 use Rattle.idn_text.specs.Lines.{lines_of}
@@ -51,7 +53,7 @@ filter-passes after (v ∷ vs) ldh =
     ∙ ap (λ (rest : List (List ℕ)). if passes v && is_gt (label_cmp v after) then v ∷ rest else rest) (filter-passes after vs ldh.1)
 
 -- the block of a label that spells such labels alone
-abbrev ldh_block : Settings → TableValue → List ℕ → List (List ℕ)
+abbrev ldh_block : Settings → TableValue → List ℕ → List Said
 ldh_block o table label =
     let vs = kept_to o.registered (variants passes table.entries label o.after) in
     block_to (disposition table label) (lesser_label (nth_if_given vs o.limit) (lesser_label (nth (tested_after o table.entries label) o.tries) (nth_if_given (visited_in o table.entries label) o.steps))) vs
@@ -64,12 +66,12 @@ block-ldh o table label ldh =
 pub blocks : ExamplesOfBlocks
 unfolding digits a_label_of idna hopeless rules
 blocks = record {
-  doubled = block-ldh (listing None 1000000) (version_one a_or_two) (codes "aa") (refl, (refl, (refl, tt))) ∙ refl;
-  limited = block-ldh (listing (Some 2) 1000000) (version_one a_or_two) (codes "aa") (refl, (refl, (refl, tt))) ∙ refl;
-  spent = block-ldh (listing None 4) (version_one letter_or_hyphen) (codes "aaa") (refl, (refl, (refl, (refl, (refl, (refl, (refl, (refl, tt)))))))) ∙ refl;
-  stepped = block-ldh (record (listing None 1000000) { steps = Some 3 }) (version_one letter_or_hyphen) (codes "aaa") (refl, (refl, (refl, (refl, (refl, (refl, (refl, (refl, tt)))))))) ∙ refl;
-  y_blocked = block-ldh (listing None 1000000) y_or_z (codes "ax") (refl, (refl, (refl, tt))) ∙ refl;
-  allocatable_by_one_cutting = block-ldh (listing None 1000000) one_or_both (codes "aa") (refl, (refl, (refl, (refl, tt)))) ∙ refl;
+  doubled = ap (map said_line) (block-ldh (listing None 1000000) (version_one a_or_two) (codes "aa") (refl, (refl, (refl, tt)))) ∙ refl;
+  limited = ap (map said_line) (block-ldh (listing (Some 2) 1000000) (version_one a_or_two) (codes "aa") (refl, (refl, (refl, tt)))) ∙ refl;
+  spent = ap (map said_line) (block-ldh (listing None 4) (version_one letter_or_hyphen) (codes "aaa") (refl, (refl, (refl, (refl, (refl, (refl, (refl, (refl, tt))))))))) ∙ refl;
+  stepped = ap (map said_line) (block-ldh (record (listing None 1000000) { steps = Some 3 }) (version_one letter_or_hyphen) (codes "aaa") (refl, (refl, (refl, (refl, (refl, (refl, (refl, (refl, tt))))))))) ∙ refl;
+  y_blocked = ap (map said_line) (block-ldh (listing None 1000000) y_or_z (codes "ax") (refl, (refl, (refl, tt)))) ∙ refl;
+  allocatable_by_one_cutting = ap (map said_line) (block-ldh (listing None 1000000) one_or_both (codes "aa") (refl, (refl, (refl, (refl, tt))))) ∙ refl;
 }
 
 -- ---- a run
@@ -93,11 +95,11 @@ answered = (
 )
 
 written : (r : List ℕ → Result (List ℕ) Refusal) → Answered r
-    → lines_pieces Unexplained (λ label. one_line (r label)) (lines_of three_lines) ≡ Output (codes "abc\n") ∷ Message (codes "idn2: line 2: 13 hyphen out of place\n") ∷ Output (codes "b\n") ∷ []
+    → lines_pieces Plain Unexplained (λ label. one_answer (Registered (u_label_of label)) (r label)) (lines_of three_lines) ≡ Output (codes "abc\n") ∷ Message (codes "idn2: line 2: 13 hyphen out of place\n") ∷ Output (codes "b\n") ∷ []
 unfolding Answered is_utf8 chars encode_utf8 digits points_cause
 written r are = rw are.0 (rw are.1 (rw are.2 refl))
 
-status : (r : List ℕ → Result (List ℕ) Refusal) → Answered r → status_if (has_refused (λ label. one_line (r label)) (lines_of three_lines)) ≡ Refused
+status : (r : List ℕ → Result (List ℕ) Refusal) → Answered r → status_if (has_refused (λ label. one_answer (Registered (u_label_of label)) (r label)) (lines_of three_lines)) ≡ Refused
 unfolding Answered is_utf8 chars encode_utf8
 status r are = rw are.0 (rw are.1 refl)
 

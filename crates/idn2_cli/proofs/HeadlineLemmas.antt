@@ -1,6 +1,6 @@
 -- A run that ends as it should has printed the listings of its lines.
 use Rattle.std.proofs.Common.{◌≡◌, ◌⊎◌, inl, inr, ℕ, Bool, true, false, ◌==◌, List, [], ◌∷◌, ◌++◌, length, map, take, drop, Option, Some, None, Ok, Err, refl, sym, ap, subst, ◌∙◌, append_assoc, if◌then◌else◌, arith}
-use Rattle.std.specs.List.{concat}
+use Rattle.std.specs.List.{concat, flat_map}
 use Rattle.std.specs.Io.KnownBytes.{Appends}
 use Rattle.std.specs.Str.{is_utf8, chars}
 use Rattle.std.proofs.lemmas.Bool.{cases_Bool}
@@ -24,10 +24,14 @@ use Rattle.idn2_options.specs.Settings.{Settings}
 use Rattle.idn2_options.specs.declared.command_line.mode.Mode.{Mode}
 use Rattle.idn2_options.specs.declared.command_line.mode.Mode.TheVariants.{Variants}
 use Rattle.idn2_cli.specs.Answers.{LineAnswer, IsListing, line_answer, listing_answer, variants_answer}
-use Rattle.idn2_cli.specs.Transcript.{Piece, Output, Message, TableGiven, IsReadAs, IsTableOf, body_tail, mode_pieces, line_pieces, lines_pieces, output_lines, output_of, pieces_for}
-use Rattle.idn2_cli.specs.Explained.{explained_in}
+use Rattle.idn2_options.specs.declared.command_line.form.Form.{Form}
+use Rattle.idn2_options.specs.declared.command_line.form.Form.TheVariants.{Plain, Json}
+use Rattle.idn2_cli.specs.Said.{Said, said_text}
+use Rattle.idn2_cli.specs.Transcript.{Piece, Output, Message, Refuses, TableGiven, IsReadAs, IsTableOf, mode_pieces, line_pieces, lines_pieces, outputs, output_of, piece_in, pieces_for, refused_object}
+use Rattle.idn2_cli.specs.declared.session.cause.LineCause.{LineCause}
+use Rattle.idn2_cli.specs.Explained.{Explained, body_cause, explained_in}
 use Rattle.idn2_cli.specs.Ends.{Held, Job, reads_lines, Does, Ends, Stands, Stops, StopsAtLine, StopsUnread, IsCutBy, Closes, closing_status, mode_job, refusal_of}
-use Rattle.idn2_cli.specs.Headline.{printed_of, IsLineOf, IsPrintedFor, ArePrintedFor, PrintsListings}
+use Rattle.idn2_cli.specs.Headline.{printed_of, printed_refusal, IsLineOf, IsPrintedFor, ArePrintedFor, PrintsListings}
 use Rattle.idn2_cli.specs.declared.session.status.Status.{Status}
 use Rattle.idn2_cli.specs.declared.session.status.Status.TheVariants.{Clean, Refused, Faulty, OutOfMemory}
 use Rattle.idn2_cli.specs.declared.session.stop.Stop.{Stop}
@@ -38,13 +42,17 @@ use Rattle.idn2_cli.proofs.WrittenPieces.{output_of-append}
 
 -- ---- what is printed for a line
 
-output_lines-printed : (lines : List (List ℕ)) → output_of (output_lines lines) ≡ printed_of (Ok lines)
-output_lines-printed [] = refl
-output_lines-printed (line ∷ lines) = ap (λ (rest : List ℕ). (line ++ 10 ∷ []) ++ rest) (output_lines-printed lines)
+outputs-printed : (form : Form) (line : Numbered) (said : List Said) → output_of (outputs (said_text form line) said) ≡ flat_map (said_text form line) said
+outputs-printed form line [] = refl
+outputs-printed form line (first ∷ said) = ap (λ (rest : List ℕ). said_text form line first ++ rest) (outputs-printed form line said)
 
-pieces_for-printed : (tail : Refusal → List ℕ) (number : ℕ) (answer : LineAnswer) → output_of (pieces_for tail number answer) ≡ printed_of answer
-pieces_for-printed tail number (Ok lines) = output_lines-printed lines
-pieces_for-printed tail number (Err refusal) = refl
+refusal-printed : (form : Form) (line : Numbered) (refusal : Refusal) (cause : Option LineCause) → output_of (piece_in form (Refuses line refusal cause) ∷ []) ≡ printed_refusal form line refusal cause
+refusal-printed Plain line refusal cause = refl
+refusal-printed Json line refusal cause = append-nil (refused_object line refusal cause)
+
+pieces_for-printed : (form : Form) (how : Explained) (line : Numbered) (answer : LineAnswer) → output_of (pieces_for form how line answer) ≡ printed_of form how line answer
+pieces_for-printed form how line (Ok said) = outputs-printed form line said
+pieces_for-printed form how line (Err refusal) = refusal-printed form line refusal (body_cause how line.body refusal)
 
 empty_is_faulty : IsRegistrable [] → ⊥
 unfolding first_fault
@@ -67,23 +75,23 @@ utf8-some label registrable = by (utf8_of label) refl
 module _ (o : Settings) (table : TableValue) where
   -- what is printed for a line, by the pieces that a run writes for it
   abbrev printed_line : Numbered → List ℕ
-  printed_line line = output_of (line_pieces (explained_in Variants o table) (variants_answer o table) line)
+  printed_line line = output_of (line_pieces o.form (explained_in Variants o table) (variants_answer o table) line)
 
   listing-printed : IsWellFormed table.entries → (line : Numbered) (label : List ℕ) → IsLineOf label line
-      → (answer : LineAnswer) × IsListing o table label answer × (printed_line line ≡ printed_of answer)
+      → (answer : LineAnswer) × IsListing o table label answer × (printed_line line ≡ printed_of o.form (explained_in Variants o table) line answer)
   listing-printed formed line label is =
       let answers : line_answer (variants_answer o table) line.body ≡ variants_answer o table label =
       ap (line_answer (variants_answer o table)) is.utf8
       ∙ text_answer-points (variants_answer o table) (utf8_of label) label (utf8-given label is.registrable) (utf8-some label is.registrable) in (
         variants_answer o table label,
         variants_answer-IsListing o table label formed is.registrable,
-        pieces_for-printed (body_tail (explained_in Variants o table) line.body) line.number (line_answer (variants_answer o table) line.body) ∙ ap printed_of answers,
+        pieces_for-printed o.form (explained_in Variants o table) line (line_answer (variants_answer o table) line.body) ∙ ap (printed_of o.form (explained_in Variants o table) line) answers,
       )
 
   -- a line that is no label that may be registered is refused
-  refused-printed : (line : Numbered) (fault : Refusal) → line_answer (variants_answer o table) line.body ≡ Err fault → printed_line line ≡ []
+  refused-printed : (line : Numbered) (fault : Refusal) → line_answer (variants_answer o table) line.body ≡ Err fault → printed_line line ≡ printed_of o.form (explained_in Variants o table) line (Err fault)
   refused-printed line fault refused =
-      pieces_for-printed (body_tail (explained_in Variants o table) line.body) line.number (line_answer (variants_answer o table) line.body) ∙ ap printed_of refused
+      pieces_for-printed o.form (explained_in Variants o table) line (line_answer (variants_answer o table) line.body) ∙ ap (printed_of o.form (explained_in Variants o table) line) refused
 
   other-refused : (body : Option (List ℕ)) → ((label : List ℕ) → IsRegistrable label → body ≡ Some (utf8_of label) → ⊥)
       → (fault : Refusal) × (line_answer (variants_answer o table) body ≡ Err fault)
@@ -114,9 +122,9 @@ module _ (o : Settings) (table : TableValue) where
   line-printed : IsWellFormed table.entries → (line : Numbered) → IsPrintedFor o table line (printed_line line)
   line-printed formed line = record {
     listing = listing-printed formed line;
-    nothing = λ none.
+    refused = λ none.
         let other = other-refused line.body (λ label registrable utf8. none label (record { registrable = registrable; utf8 = utf8 })) in
-        refused-printed line other.0 other.1;
+        (other.0, refused-printed line other.0 other.1);
   }
 
   lines-printed : IsWellFormed table.entries → (lines : List Numbered) → ArePrintedFor o table lines (map printed_line lines)
@@ -124,11 +132,11 @@ module _ (o : Settings) (table : TableValue) where
   lines-printed formed (line ∷ lines) = (line-printed formed line, lines-printed formed lines)
 
   -- joined, it is what the pieces of these lines put on the output
-  lines-joined : (lines : List Numbered) → concat (map printed_line lines) ≡ output_of (lines_pieces (explained_in Variants o table) (variants_answer o table) lines)
+  lines-joined : (lines : List Numbered) → concat (map printed_line lines) ≡ output_of (lines_pieces o.form (explained_in Variants o table) (variants_answer o table) lines)
   lines-joined [] = refl
   lines-joined (line ∷ lines) =
       ap (λ (rest : List ℕ). printed_line line ++ rest) (lines-joined lines)
-      ∙ sym (output_of-append (line_pieces (explained_in Variants o table) (variants_answer o table) line) (lines_pieces (explained_in Variants o table) (variants_answer o table) lines))
+      ∙ sym (output_of-append (line_pieces o.form (explained_in Variants o table) (variants_answer o table) line) (lines_pieces o.form (explained_in Variants o table) (variants_answer o table) lines))
 
 -- ---- what a stop leaves
 
@@ -167,36 +175,36 @@ module _ (o : Settings) (table : TableValue) (formed : IsWellFormed table.entrie
   abbrev job : Job
   job = mode_job o (Ok table)
 
-  pieces-lines : (lines : List Numbered) → job.pieces lines ≡ lines_pieces (explained_in Variants o table) (variants_answer o table) lines
+  pieces-lines : (lines : List Numbered) → job.pieces lines ≡ lines_pieces o.form (explained_in Variants o table) (variants_answer o table) lines
   pieces-lines lines = ap (λ (m : Mode). mode_pieces m o table lines) is
 
   pieces-one : (before : List Numbered) (line : Numbered)
-      → lines_pieces (explained_in Variants o table) (variants_answer o table) (before ++ line ∷ []) ≡ lines_pieces (explained_in Variants o table) (variants_answer o table) before ++ lines_pieces (explained_in Variants o table) (variants_answer o table) (line ∷ [])
-  pieces-one before line = flat_map-append (line_pieces (explained_in Variants o table) (variants_answer o table)) before (line ∷ [])
+      → lines_pieces o.form (explained_in Variants o table) (variants_answer o table) (before ++ line ∷ []) ≡ lines_pieces o.form (explained_in Variants o table) (variants_answer o table) before ++ lines_pieces o.form (explained_in Variants o table) (variants_answer o table) (line ∷ [])
+  pieces-one before line = flat_map-append (line_pieces o.form (explained_in Variants o table) (variants_answer o table)) before (line ∷ [])
 
   begun-line : (why : Stop) (lines : List Numbered) (now : Reading) (written : List Piece) → StopsAtLine job why lines now written
-      → IsBegun (lines_pieces (explained_in Variants o table) (variants_answer o table) lines) written
+      → IsBegun (lines_pieces o.form (explained_in Variants o table) (variants_answer o table) lines) written
   begun-line why lines now written stops =
-      let part : IsBegun (lines_pieces (explained_in Variants o table) (variants_answer o table) (stops.line ∷ [])) stops.part =
+      let part : IsBegun (lines_pieces o.form (explained_in Variants o table) (variants_answer o table) (stops.line ∷ [])) stops.part =
       begun-cut why _ stops.part (subst (λ (pieces : List Piece). IsCutBy why pieces stops.part) (pieces-lines (stops.line ∷ [])) stops.cut) in
-      let all = begun-before (lines_pieces (explained_in Variants o table) (variants_answer o table) stops.before) (lines_pieces (explained_in Variants o table) (variants_answer o table) (stops.line ∷ [])) stops.part part in
+      let all = begun-before (lines_pieces o.form (explained_in Variants o table) (variants_answer o table) stops.before) (lines_pieces o.form (explained_in Variants o table) (variants_answer o table) (stops.line ∷ [])) stops.part part in
       rw (stops.last, pieces-one stops.before stops.line, stops.stand, pieces-lines stops.before) all
 
   begun-unread : (why : Stop) (lines : List Numbered) (start now : Reading) (written : List Piece) → StopsUnread job why lines start now written
-      → IsBegun (lines_pieces (explained_in Variants o table) (variants_answer o table) lines) written
+      → IsBegun (lines_pieces o.form (explained_in Variants o table) (variants_answer o table) lines) written
   begun-unread why lines start now written stops =
       rw stops.no_line (begun-cut why [] written (subst (λ (pieces : List Piece). IsCutBy why pieces written) (pieces-lines []) stops.cut))
 
   begun-either : (why : Stop) (lines : List Numbered) (start now : Reading) (written : List Piece)
       → StopsAtLine job why lines now written ⊎ StopsUnread job why lines start now written
-      → IsBegun (lines_pieces (explained_in Variants o table) (variants_answer o table) lines) written
+      → IsBegun (lines_pieces o.form (explained_in Variants o table) (variants_answer o table) lines) written
   begun-either why lines start now written stands =
       elim stands [ inl at ↦ begun-line why lines now written at | inr unread ↦ begun-unread why lines start now written unread ]
 
   begun-stop : (why : Stop) (lines : List Numbered) (start now : Reading) (written : List Piece) → Stands job why lines start now written
-      → IsBegun (lines_pieces (explained_in Variants o table) (variants_answer o table) lines) written
+      → IsBegun (lines_pieces o.form (explained_in Variants o table) (variants_answer o table) lines) written
   begun-stop stop.Reading lines start now written stands =
-      subst (IsBegun (lines_pieces (explained_in Variants o table) (variants_answer o table) lines)) (sym (stands.2 ∙ pieces-lines lines)) (begun-all (lines_pieces (explained_in Variants o table) (variants_answer o table) lines))
+      subst (IsBegun (lines_pieces o.form (explained_in Variants o table) (variants_answer o table) lines)) (sym (stands.2 ∙ pieces-lines lines)) (begun-all (lines_pieces o.form (explained_in Variants o table) (variants_answer o table) lines))
   begun-stop stop.Output lines start now written stands = begun-either stop.Output lines start now written stands
   begun-stop stop.Messages lines start now written stands = begun-either stop.Messages lines start now written stands
   begun-stop stop.Memory lines start now written stands = begun-either stop.Memory lines start now written stands

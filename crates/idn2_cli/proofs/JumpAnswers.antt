@@ -1,11 +1,10 @@
 -- The answer to a request is the least label from its text on.
 use Rattle.std.proofs.Common.{◌≡◌, ◌⊎◌, inl, inr, ℕ, List, [], ◌∷◌, Option, Some, Err, refl, sym, ap, subst}
-use Rattle.std.specs.Prelude.{slice_get, codes}
-use Rattle.idn_text.specs.Points.{utf8_of}
+use Rattle.std.specs.Prelude.{slice_get}
 use Rattle.idn_text.specs.declared.refusal.Refusal.{Refusal}
 use Rattle.idn_label.specs.Answers.{unless_fault}
 use Rattle.idn_label.specs.FirstFault.{first_fault, IsRegistrable}
-use Rattle.variant_table.specs.Entries.{TableValue}
+use Rattle.variant_table.specs.Entries.{Entry, TableValue}
 use Rattle.variant_table.specs.WellFormed.{IsWellFormed}
 use Rattle.variant_list.specs.Labels.{IsListOf}
 use Rattle.variant_list.specs.Positions.{Built, Position}
@@ -14,28 +13,24 @@ use Rattle.variant_list.specs.Jumps.{IsFrom, IsLeastFrom, HasNoneFrom, IsCandida
 use Rattle.variant_list.proofs.FromLemmas.{candidates_from-IsListOf}
 use Rattle.variant_list.proofs.ListMembers.{Contains-head, Contains-none, Contains-cases}
 use Rattle.variant_list.proofs.ListedLemmas.{above_first}
-use Rattle.idn2_cli.specs.Answers.{IsJump, IsJumpAnswer, built, jump_answer, jump_line, least_answer, requested_label, requested_text}
+use Rattle.idn2_cli.specs.Said.{Least}
+use Rattle.idn2_cli.specs.Answers.{IsJump, IsJumpAnswer, built, jump_answer, least_answer, requested_label, requested_text}
 use Rattle.idn2_cli.proofs.SegmentedLabels.{segmented_answer, unsegmented_answer, segmented_or_not}
 
 -- the first of the candidates from a text on is the least
-least_is_first : (net : Built) (text : List ℕ) (vs : List (List ℕ)) → IsListOf (λ v. IsCandidate net v × IsFrom text v) vs
-    → ((v : List ℕ) × IsLeastFrom (IsCandidate net) text v × (jump_line (slice_get vs 0) ≡ utf8_of v)) ⊎ (HasNoneFrom (IsCandidate net) text × (jump_line (slice_get vs 0) ≡ codes "#end"))
-least_is_first net text [] list = inr (λ w is up. Contains-none w ((list.members w).1 (is, up)), refl)
-least_is_first net text (v ∷ vs) list =
+least_is_first : (table : List Entry) (label text : List ℕ) (vs : List (List ℕ)) → IsListOf (λ v. IsCandidate (built table label) v × IsFrom text v) vs → IsJump table label text (slice_get vs 0)
+least_is_first table label text [] list = λ w is up. Contains-none w ((list.members w).1 (is, up))
+least_is_first table label text (v ∷ vs) list =
     let first = (list.members v).0 (Contains-head v vs) in
-    inl (
-      v,
-      record {
-        holds = first.0;
-        «from» = first.1;
-        least = λ w is up. elim (Contains-cases v vs w ((list.members w).1 (is, up))) [ inl same ↦ inl same | inr later ↦ inr (above_first v vs w list.rising later) ];
-      },
-      refl,
-    )
+    record {
+      holds = first.0;
+      «from» = first.1;
+      least = λ w is up. elim (Contains-cases v vs w ((list.members w).1 (is, up))) [ inl same ↦ inl same | inr later ↦ inr (above_first v vs w list.rising later) ];
+    }
 
-least-IsJump : (table : TableValue) (label text : List ℕ) → IsWellFormed table.entries → IsJump table.entries label text (jump_line (slice_get (candidates_from table.entries label text) 0))
+least-IsJump : (table : TableValue) (label text : List ℕ) → IsWellFormed table.entries → IsJump table.entries label text (slice_get (candidates_from table.entries label text) 0)
 least-IsJump table label text formed =
-    least_is_first (built table.entries label) text (candidates_from table.entries label text) (candidates_from-IsListOf (built table.entries label) text formed)
+    least_is_first table.entries label text (candidates_from table.entries label text) (candidates_from-IsListOf (built table.entries label) text formed)
 
 -- the answer to a request whose label may be registered
 pub jump_answer-IsJumpAnswer : (table : TableValue) (request : List ℕ) → IsWellFormed table.entries → IsRegistrable (requested_label request) → IsJumpAnswer table request (jump_answer table request)
@@ -43,14 +38,14 @@ jump_answer-IsJumpAnswer table request formed registrable =
     subst (IsJumpAnswer table request) (sym (ap (λ (f : Option Refusal). unless_fault f (least_answer table (requested_label request) (requested_text request))) registrable))
     (by_cases (segmented_or_not table.entries (requested_label request) formed))
   where
-    line : List ℕ
-    line = jump_line (slice_get (candidates_from table.entries (requested_label request) (requested_text request)) 0)
+    least : Option (List ℕ)
+    least = slice_get (candidates_from table.entries (requested_label request) (requested_text request)) 0
 
     by_cases : HasSegmentation table.entries (requested_label request) ⊎ (HasSegmentation table.entries (requested_label request) → ⊥) → IsJumpAnswer table request (least_answer table (requested_label request) (requested_text request))
     by_cases (inl has) =
-        subst (IsJumpAnswer table request) (sym (segmented_answer table.entries (requested_label request) (line ∷ []) formed has))
-        (has, (line, refl, least-IsJump table (requested_label request) (requested_text request) formed))
-    by_cases (inr none) = subst (IsJumpAnswer table request) (sym (unsegmented_answer table.entries (requested_label request) (line ∷ []) formed none)) (none, refl)
+        subst (IsJumpAnswer table request) (sym (segmented_answer table.entries (requested_label request) (Least least ∷ []) formed has))
+        (has, (least, refl, least-IsJump table (requested_label request) (requested_text request) formed))
+    by_cases (inr none) = subst (IsJumpAnswer table request) (sym (unsegmented_answer table.entries (requested_label request) (Least least ∷ []) formed none)) (none, refl)
 
 -- the first fault of the label is told before that
 pub jump-refused : (table : TableValue) (request : List ℕ) (refusal : Refusal) → first_fault (requested_label request) ≡ Some refusal → jump_answer table request ≡ Err refusal

@@ -48,3 +48,7 @@ pub mod HeadlineLemmas
 pub mod CauseLemmas
 -- The examples of causes, computed.
 pub mod CauseExampleLemmas
+-- What a run says is the same in both forms.
+pub mod FormLemmas
+-- What a line that is registered stands for.
+pub mod RegisteredLines

@@ -25,8 +25,9 @@ use Rattle.variant_list.proofs.ListedLemmas.{variants-IsListed, variants-behind}
 use Rattle.variant_list.proofs.ListingLemmas.{fits_label-short, variants-cut}
 use Rattle.variant_list.proofs.TestedLaws.{variants_are_accepted_tested, tested-cut}
 use Rattle.idn2_options.specs.Settings.{Settings, IsBound, IsCount, IsWithinLimits, keeping}
-use Rattle.idn2_cli.specs.Transcript.{Piece, Output, output_lines}
-use Rattle.idn2_cli.specs.Answers.{is_registrable, nth, nth_if_given, lesser_label, up_to, variant_line, trailer, block_to}
+use Rattle.answer_json.specs.declared.block.Disposition.{Disposition}
+use Rattle.idn2_cli.specs.Said.{Said, Listed, BlockEnd}
+use Rattle.idn2_cli.specs.Answers.{is_registrable, nth, nth_if_given, lesser_label, up_to, block_to}
 use Rattle.idn2_cli.specs.inner.Dispositions.{block_by}
 use Rattle.idn2_cli.proofs.BlockSteps.{get_if_given, limit_from, lines_to}
 use Rattle.idn2_cli.proofs.StopSteps.{IsAbove, from_here, from_here_if, stop_from, variants_ahead}
@@ -45,12 +46,12 @@ registrable-short v h = (MeetsRequirements-registrable v (is_registrable-from v 
 
 -- ---- the block
 
--- the line of each variant
-abbrev line_by : (List ℕ → List ℕ) → List ℕ → List ℕ
-line_by field v = variant_line (field v) v
+-- what is said of each variant
+abbrev line_by : (List ℕ → Option Disposition) → List ℕ → Said
+line_by field v = Listed (field v) v
 
-pub lines_to-none : (field : List ℕ → List ℕ) (stop : Option (List ℕ)) (vs : List (List ℕ)) → block_to field stop vs ≡ lines_to (line_by field) 0 stop vs
-lines_to-none field stop vs = ap (λ (n : ℕ). map (line_by field) (up_to stop vs) ++ trailer n stop ∷ []) (omega arith)
+pub lines_to-none : (field : List ℕ → Option Disposition) (stop : Option (List ℕ)) (vs : List (List ℕ)) → block_to field stop vs ≡ lines_to (line_by field) 0 stop vs
+lines_to-none field stop vs = ap (λ (n : ℕ). map (line_by field) (up_to stop vs) ++ BlockEnd n stop ∷ []) (omega arith)
 
 -- the block of these lists, by the places at which it may stop
 at_place : (vs : List (List ℕ)) (limit : Option ℕ) → IfSome limit IsCount → (place : Option ℕ) × (nth_if_given vs limit ≡ get_if_given vs place) × (limit ≡ limit_from 0 place)
@@ -74,12 +75,12 @@ candidates-cut : (table : List Entry) (label after : List ℕ) → candidates ta
 candidates-cut table label after = variants-cut fits_label fits_label-short table label after
 
 -- the start of a listing: its block are the lines up to the stop that is seen from there
-pub record IsStart (field : List ℕ → List ℕ) (o : Settings) (p : Position) : Type 0 where
+pub record IsStart (field : List ℕ → Option Disposition) (o : Settings) (p : Position) : Type 0 where
   pub place : Option ℕ
   pub limit : o.limit ≡ limit_from 0 place
   pub block : block_by field (keeping None o) p.net.table p.net.label ≡ lines_to (line_by field) 0 (stop_from place p o.tries o.steps) (variants_ahead p)
 
-pub block-start : (field : List ℕ → List ℕ) (o : Settings) (net : Built) → IsWithinLimits o → IsStart field o (record { net = net; last = take 63 o.after; edge_tests = 0 })
+pub block-start : (field : List ℕ → Option Disposition) (o : Settings) (net : Built) → IsWithinLimits o → IsStart field o (record { net = net; last = take 63 o.after; edge_tests = 0 })
 block-start field o net limits =
     let last : List ℕ = take 63 o.after in
     let cs : List (List ℕ) = tested hopeless net.table net.label last in
@@ -194,9 +195,3 @@ start-writable after h = record { short = few after 63; scalar_values = take_sca
   where
     few : (xs : List ℕ) (n : ℕ) → length (take n xs) ≤ n
     few xs n = omega (arith, length-take n xs)
-
--- ---- lines of the output
-
-pub output_lines-append : (xs ys : List (List ℕ)) → output_lines (xs ++ ys) ≡ output_lines xs ++ output_lines ys
-output_lines-append [] ys = refl
-output_lines-append (x ∷ xs) ys = ap (λ (ps : List Piece). Output (x ++ 10 ∷ []) ∷ ps) (output_lines-append xs ys)

@@ -9,6 +9,7 @@ use Rattle.idn2_cli.specs.Memory.{reads_table}
 use Rattle.idn2_cli.specs.Transcript.{TableGiven, IsReadAs, IsTableOf, Piece, check_pieces, check_status}
 use Rattle.idn2_cli.specs.Ends.{Held, TakesText, closing_message, Job, Does, Ends, Closes, mode_job, refusal_of}
 use Rattle.idn2_cli.specs.inner.Emitting.{Emits}
+use Rattle.idn2_options.specs.declared.command_line.form.Form.{Form}
 use Rattle.idn2_options.specs.declared.command_line.mode.Mode.{Mode}
 use Rattle.idn2_options.specs.declared.command_line.mode.Mode.TheVariants.{Variants, Jump, CheckTable}
 use Rattle.idn2_cli.specs.declared.session.status.Status.{Status}
@@ -61,7 +62,7 @@ with_false (Err why) status e = tt
 
 -- the check of a table, whatever its text is
 pub checked : (o : Settings) (text : List ℕ) (given : TableGiven) (start : Reading) (old new : Held) (r : Result Status Stop)
-    → o.mode ≡ CheckTable → IsReadAs text given → IsUnread start → Emits old new (check_pieces given) r → IfOk r (λ status. status ≡ check_status given)
+    → o.mode ≡ CheckTable → IsReadAs text given → IsUnread start → Emits old new (check_pieces o.form given) r → IfOk r (λ status. status ≡ check_status given)
     → (table : TableGiven) × IsTableOf o.mode text table × Does (mode_job o table) start start old new r
 checked o text (Ok table) start old new r e read unread writes answered =
     let job = mode_job (record o { mode = CheckTable }) (Ok table) in
@@ -102,7 +103,7 @@ module _ (o : Settings) (mode : Mode) (works : WorksByTable o mode) (text : List
 
   -- the fault of the table is told
   faulty : (line : ℕ) (refusal : Refusal) (old new : Held) (r : Result Status Stop)
-      → IsReadAs text (Err (line, refusal)) → IsUnread start → Emits old new (check_pieces (Err (line, refusal))) r → IfOk r (λ status. status ≡ check_status (Err (line, refusal)))
+      → IsReadAs text (Err (line, refusal)) → IsUnread start → Emits old new (check_pieces o.form (Err (line, refusal))) r → IfOk r (λ status. status ≡ check_status (Err (line, refusal)))
       → (table : TableGiven) × IsTableOf o.mode text table × Does (mode_job o table) start start old new r
   faulty line refusal old new r read unread writes answered =
       let job = mode_job (record o { mode = mode }) (Err (line, refusal)) in
@@ -111,12 +112,12 @@ module _ (o : Settings) (mode : Mode) (works : WorksByTable o mode) (text : List
 
   -- the table is not read
   pub refused_lines : (fault : TableFault) (old new : Held) (r : Result Status Stop) → IsUnread start → IsToldOf text fault
-      → MatchOption (told_of fault) ((r ≡ Err stop.Memory) × (new ≡ old)) (λ told. Emits old new (check_pieces (Err told)) r)
+      → MatchOption (told_of fault) ((r ≡ Err stop.Memory) × (new ≡ old)) (λ told. Emits old new (check_pieces o.form (Err told)) r)
       → IfOk r (λ status. status ≡ Unusable)
       → (table : TableGiven) × IsTableOf o.mode text table × Does (mode_job o table) start start old new r
-  refused_lines fault old new r unread is told answered = by (refused_table text fault old new r is told)
+  refused_lines fault old new r unread is told answered = by (refused_table o.form text fault old new r is told)
     where
-      by : ((r ≡ Err stop.Memory) × (new ≡ old)) ⊎ ((told : ℕ × Refusal) × IsReadAs text (Err told) × Emits old new (check_pieces (Err told)) r)
+      by : ((r ≡ Err stop.Memory) × (new ≡ old)) ⊎ ((told : ℕ × Refusal) × IsReadAs text (Err told) × Emits old new (check_pieces o.form (Err told)) r)
           → (table : TableGiven) × IsTableOf o.mode text table × Does (mode_job o table) start start old new r
       by (inl memory) =
           subst (λ (h : Held). (table : TableGiven) × IsTableOf o.mode text table × Does (mode_job o table) start start old h r) (sym memory.1)
@@ -141,22 +142,29 @@ jump_job-kept o labels given is =
     kept (Ok table) = refl
 
 -- a table that is not read, in the check of a table
-pub refused_check : (text : List ℕ) (fault : TableFault) (old new : Held) (r : Result Status Stop) → IsToldOf text fault
-    → MatchOption (told_of fault) ((r ≡ Err stop.Memory) × (new ≡ old)) (λ told. Emits old new (check_pieces (Err told)) r)
+pub refused_check : (form : Form) (text : List ℕ) (fault : TableFault) (old new : Held) (r : Result Status Stop) → IsToldOf text fault
+    → MatchOption (told_of fault) ((r ≡ Err stop.Memory) × (new ≡ old)) (λ told. Emits old new (check_pieces form (Err told)) r)
     → IfOk r (λ status. status ≡ Unusable)
-    → (given : TableGiven) × IsReadAs text given × Emits old new (check_pieces given) r × IfOk r (λ status. status ≡ check_status given)
-refused_check text fault old new r is told answered = by (refused_table text fault old new r is told)
+    → (given : TableGiven) × IsReadAs text given × Emits old new (check_pieces form given) r × IfOk r (λ status. status ≡ check_status given)
+refused_check form text fault old new r is told answered = by (refused_table form text fault old new r is told)
   where
-    by : ((r ≡ Err stop.Memory) × (new ≡ old)) ⊎ ((told : ℕ × Refusal) × IsReadAs text (Err told) × Emits old new (check_pieces (Err told)) r)
-        → (given : TableGiven) × IsReadAs text given × Emits old new (check_pieces given) r × IfOk r (λ status. status ≡ check_status given)
+    by : ((r ≡ Err stop.Memory) × (new ≡ old)) ⊎ ((told : ℕ × Refusal) × IsReadAs text (Err told) × Emits old new (check_pieces form (Err told)) r)
+        → (given : TableGiven) × IsReadAs text given × Emits old new (check_pieces form given) r × IfOk r (λ status. status ≡ check_status given)
     by (inl memory) =
         let t = some_table text in (
           t.0,
           t.1,
-          subst (λ (h : Held). Emits old h (check_pieces t.0) r) (sym memory.1) (emits_memory old (check_pieces t.0) r stop.Memory memory.0 refl),
+          subst (λ (h : Held). Emits old h (check_pieces form t.0) r) (sym memory.1) (emits_memory old (check_pieces form t.0) r stop.Memory memory.0 refl),
           subst (λ (s : Result Status Stop). IfOk s (λ status. status ≡ check_status t.0)) (sym memory.0) tt,
         )
     by (inr t) = (Err t.0, t.1, t.2, answered)
+
+-- the form, read from the options
+pub in_form : (text : List ℕ) (fault : TableFault) (first second : Form) (old new : Held) (r : Result Status Stop) → first ≡ second
+    → MatchOption (told_of fault) ((r ≡ Err stop.Memory) × (new ≡ old)) (λ told. Emits old new (check_pieces first (Err told)) r)
+    → MatchOption (told_of fault) ((r ≡ Err stop.Memory) × (new ≡ old)) (λ told. Emits old new (check_pieces second (Err told)) r)
+in_form text fault first second old new r same told =
+    subst (λ (form : Form). MatchOption (told_of fault) ((r ≡ Err stop.Memory) × (new ≡ old)) (λ told. Emits old new (check_pieces form (Err told)) r)) same told
 
 -- ---- the last message
 

@@ -8,6 +8,7 @@ use Rattle.variant_list.specs.Segmentations.{HasSegmentation}
 use Rattle.variant_list.specs.Spelled.{spelled}
 use Rattle.variant_list.proofs.RecursionLemmas.{spelled-Spells}
 use Rattle.variant_list.proofs.NetLemmas.{segmented, unsegmented}
+use Rattle.idn2_cli.specs.Said.{Said}
 use Rattle.idn2_cli.specs.Answers.{LineAnswer, if_segmented}
 
 empty_or_some : {X : Type 0} (xs : List X) → (xs ≡ []) ⊎ (0 < length xs)
@@ -24,20 +25,20 @@ some-length label some = by_cases (empty_or_some label)
     by_cases (inl e) = absurd (some e)
     by_cases (inr lt) = omega (arith, lt)
 
--- a label that can be cut is answered by its lines
-pub segmented_answer : (table : List Entry) (label : List ℕ) (lines : List (List ℕ)) → IsWellFormed table → HasSegmentation table label → if_segmented table label lines ≡ Ok lines
-segmented_answer table label lines formed has = by_cases (empty_or_some (spelled table label))
+-- a label that can be cut is answered by this
+pub segmented_answer : (table : List Entry) (label : List ℕ) (said : List Said) → IsWellFormed table → HasSegmentation table label → if_segmented table label said ≡ Ok said
+segmented_answer table label said formed has = by_cases (empty_or_some (spelled table label))
   where
-    by_cases : (spelled table label ≡ []) ⊎ (0 < length (spelled table label)) → if_segmented table label lines ≡ Ok lines
+    by_cases : (spelled table label ≡ []) ⊎ (0 < length (spelled table label)) → if_segmented table label said ≡ Ok said
     by_cases (inl e) = absurd (unsegmented table label (spelled table label) (λ v. spelled-Spells table label v formed.entries) e has)
-    by_cases (inr lt) = ap (λ (b : Bool). let r : LineAnswer = if b then Err NotInTable else Ok lines in r) (some_test (length (spelled table label)) lt)
+    by_cases (inr lt) = ap (λ (b : Bool). let r : LineAnswer = if b then Err NotInTable else Ok said in r) (some_test (length (spelled table label)) lt)
 
 -- any other is refused
-pub unsegmented_answer : (table : List Entry) (label : List ℕ) (lines : List (List ℕ)) → IsWellFormed table → (HasSegmentation table label → ⊥) → if_segmented table label lines ≡ Err NotInTable
-unsegmented_answer table label lines formed none = by_cases (empty_or_some (spelled table label))
+pub unsegmented_answer : (table : List Entry) (label : List ℕ) (said : List Said) → IsWellFormed table → (HasSegmentation table label → ⊥) → if_segmented table label said ≡ Err NotInTable
+unsegmented_answer table label said formed none = by_cases (empty_or_some (spelled table label))
   where
-    by_cases : (spelled table label ≡ []) ⊎ (0 < length (spelled table label)) → if_segmented table label lines ≡ Err NotInTable
-    by_cases (inl e) = ap (λ (xs : List (List ℕ)). let r : LineAnswer = if length xs == 0 then Err NotInTable else Ok lines in r) e
+    by_cases : (spelled table label ≡ []) ⊎ (0 < length (spelled table label)) → if_segmented table label said ≡ Err NotInTable
+    by_cases (inl e) = ap (λ (xs : List (List ℕ)). let r : LineAnswer = if length xs == 0 then Err NotInTable else Ok said in r) e
     by_cases (inr lt) = absurd (none (segmented table label (spelled table label) (λ v. spelled-Spells table label v formed.entries) lt))
 
 -- a label can be cut into sources of the table, or not

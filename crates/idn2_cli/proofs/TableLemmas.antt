@@ -12,6 +12,7 @@ use Rattle.idn2_cli.specs.inner.TableFaults.{told_of}
 use Rattle.std.specs.Prelude.{MatchOption}
 use Rattle.idn2_cli.specs.Ends.{Held}
 use Rattle.idn2_cli.specs.inner.Emitting.{Emits}
+use Rattle.idn2_options.specs.declared.command_line.form.Form.{Form}
 use Rattle.idn2_cli.specs.declared.session.status.Status.{Status}
 use Rattle.idn2_cli.specs.declared.session.stop.Stop.{Stop}
 use Rattle.idn2_cli.specs.declared.session.stop.Stop.TheVariants as stop
@@ -45,13 +46,13 @@ told_read text fault told (inr f) is =
     subst (λ (t : ℕ × Refusal). IsReadAs text (Err t)) same (f.1, refl, f.3)
 
 -- a table that is not read: want of memory, of which nothing is told, or a fault of its text, which is
-pub refused_table : (text : List ℕ) (fault : TableFault) (old new : Held) (r : Result Status Stop) → IsToldOf text fault
-    → MatchOption (told_of fault) ((r ≡ Err stop.Memory) × (new ≡ old)) (λ told. Emits old new (check_pieces (Err told)) r)
-    → ((r ≡ Err stop.Memory) × (new ≡ old)) ⊎ ((told : ℕ × Refusal) × IsReadAs text (Err told) × Emits old new (check_pieces (Err told)) r)
-refused_table text fault old new r is = by (told_of fault) refl
+pub refused_table : (form : Form) (text : List ℕ) (fault : TableFault) (old new : Held) (r : Result Status Stop) → IsToldOf text fault
+    → MatchOption (told_of fault) ((r ≡ Err stop.Memory) × (new ≡ old)) (λ told. Emits old new (check_pieces form (Err told)) r)
+    → ((r ≡ Err stop.Memory) × (new ≡ old)) ⊎ ((told : ℕ × Refusal) × IsReadAs text (Err told) × Emits old new (check_pieces form (Err told)) r)
+refused_table form text fault old new r is = by (told_of fault) refl
   where
     by : (o : Option (ℕ × Refusal)) → told_of fault ≡ o
-        → MatchOption o ((r ≡ Err stop.Memory) × (new ≡ old)) (λ told. Emits old new (check_pieces (Err told)) r)
-        → ((r ≡ Err stop.Memory) × (new ≡ old)) ⊎ ((told : ℕ × Refusal) × IsReadAs text (Err told) × Emits old new (check_pieces (Err told)) r)
+        → MatchOption o ((r ≡ Err stop.Memory) × (new ≡ old)) (λ told. Emits old new (check_pieces form (Err told)) r)
+        → ((r ≡ Err stop.Memory) × (new ≡ old)) ⊎ ((told : ℕ × Refusal) × IsReadAs text (Err told) × Emits old new (check_pieces form (Err told)) r)
     by None e memory = inl memory
     by (Some told) e written = inr (told, told_read text fault told is e, written)

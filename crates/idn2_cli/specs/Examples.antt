@@ -1,5 +1,5 @@
 -- Worked examples of the definitions, by computation.
-use Rattle.std.specs.Prelude.{◌≡◌, ℕ, List, [], ◌∷◌, ◌++◌, true, Some, None, Option, Ok, Err, codes}
+use Rattle.std.specs.Prelude.{◌≡◌, ℕ, List, [], ◌∷◌, ◌++◌, true, Some, None, Option, Ok, Err, codes, map}
 use Rattle.idn_text.specs.Points.{utf8_of}
 use Rattle.idn_text.specs.Lines.{lines_of}
 use Rattle.idn_text.specs.declared.refusal.Refusal.TheVariants.{Disallowed, Empty, LineTooLong, NotUtf8, Syntax, WriteFault}
@@ -9,9 +9,10 @@ use Rattle.variant_table.specs.Ranges.{range_entries}
 use Rattle.variant_list.specs.Examples.{allocatable, a_or_two, letter_or_hyphen}
 use Rattle.idn2_options.specs.Settings.{Settings}
 use Rattle.idn2_options.specs.Examples.{plain_run}
-use Rattle.idn2_cli.specs.Transcript.{Output, Message, line_message, table_message, table_line, transcript, status_of, no_table}
+use Rattle.idn2_cli.specs.Transcript.{Output, Message, line_message, table_message, transcript, status_of, no_table}
 use Rattle.idn2_cli.specs.Ends.{closing_message}
-use Rattle.idn2_cli.specs.Answers.{block, nth, nth_if_given, lesser_label, up_to, trailer, LineAnswer, line_answer}
+use Rattle.idn2_cli.specs.Answers.{block, nth, nth_if_given, lesser_label, up_to, LineAnswer, line_answer}
+use Rattle.idn2_cli.specs.Said.{said_line, table_line, trailer_line}
 use Rattle.idn2_options.specs.declared.command_line.mode.Mode.TheVariants.{Register, Variants}
 use Rattle.idn2_cli.specs.declared.session.status.Status.TheVariants.{Refused}
 
@@ -25,8 +26,8 @@ pub record ExamplesOfARun : Type 0 where
   pub faulty_table : table_message 1 Syntax ≡ codes "idn2: table line 1: 30 table syntax\n"
   pub write_fault : closing_message WriteFault ≡ codes "idn2: 61 write fault\n"
   pub checked : table_line 3 2 ≡ codes "#table 3 2"
-  pub ended : trailer 3 None ≡ codes "#end 3"
-  pub stopped : trailer 2 (Some (115 ∷ 0xDF ∷ [])) ≡ codes "#stop 2 " ++ utf8_of (115 ∷ 0xDF ∷ [])
+  pub ended : trailer_line 3 None ≡ codes "#end 3"
+  pub stopped : trailer_line 2 (Some (115 ∷ 0xDF ∷ [])) ≡ codes "#stop 2 " ++ utf8_of (115 ∷ 0xDF ∷ [])
   -- the limit-th variant and the tries-th candidate: the same label, one alone, the lesser of two, neither
   pub both : lesser_label (nth_if_given three (Some 2)) (nth three 2) ≡ Some (115 ∷ 0xDF ∷ [])
   pub tries_alone : lesser_label (nth_if_given three None) (nth three 3) ≡ Some (0xDF ∷ 115 ∷ [])
@@ -74,12 +75,12 @@ one_or_both = record {
 -- goes over them; ay is blocked; and
 -- bb, which is blocked as two letters, is allocatable as one pair
 pub record ExamplesOfBlocks : Type 0 where
-  pub doubled : block (listing None 1000000) (version_one a_or_two) (codes "aa") ≡ codes "aa\taa" ∷ codes "aaa\taaa" ∷ codes "aaaa\taaaa" ∷ codes "#end 3" ∷ []
-  pub limited : block (listing (Some 2) 1000000) (version_one a_or_two) (codes "aa") ≡ codes "aa\taa" ∷ codes "aaa\taaa" ∷ codes "#stop 2 aaa" ∷ []
-  pub spent : block (listing None 4) (version_one letter_or_hyphen) (codes "aaa") ≡ codes "a-a\ta-a" ∷ codes "aaa\taaa" ∷ codes "#stop 2 aaa" ∷ []
-  pub stepped : block (record (listing None 1000000) { steps = Some 3 }) (version_one letter_or_hyphen) (codes "aaa") ≡ codes "a-a\ta-a" ∷ codes "#stop 1 a-a" ∷ []
-  pub y_blocked : block (listing None 1000000) y_or_z (codes "ax") ≡ codes "ax\tax\tallocatable" ∷ codes "ay\tay\tblocked" ∷ codes "az\taz\tallocatable" ∷ codes "#end 3" ∷ []
-  pub allocatable_by_one_cutting : block (listing None 1000000) one_or_both (codes "aa")
+  pub doubled : map said_line (block (listing None 1000000) (version_one a_or_two) (codes "aa")) ≡ codes "aa\taa" ∷ codes "aaa\taaa" ∷ codes "aaaa\taaaa" ∷ codes "#end 3" ∷ []
+  pub limited : map said_line (block (listing (Some 2) 1000000) (version_one a_or_two) (codes "aa")) ≡ codes "aa\taa" ∷ codes "aaa\taaa" ∷ codes "#stop 2 aaa" ∷ []
+  pub spent : map said_line (block (listing None 4) (version_one letter_or_hyphen) (codes "aaa")) ≡ codes "a-a\ta-a" ∷ codes "aaa\taaa" ∷ codes "#stop 2 aaa" ∷ []
+  pub stepped : map said_line (block (record (listing None 1000000) { steps = Some 3 }) (version_one letter_or_hyphen) (codes "aaa")) ≡ codes "a-a\ta-a" ∷ codes "#stop 1 a-a" ∷ []
+  pub y_blocked : map said_line (block (listing None 1000000) y_or_z (codes "ax")) ≡ codes "ax\tax\tallocatable" ∷ codes "ay\tay\tblocked" ∷ codes "az\taz\tallocatable" ∷ codes "#end 3" ∷ []
+  pub allocatable_by_one_cutting : map said_line (block (listing None 1000000) one_or_both (codes "aa"))
       ≡ codes "aa\taa\tallocatable" ∷ codes "ab\tab\tblocked" ∷ codes "ba\tba\tblocked" ∷ codes "bb\tbb\tallocatable" ∷ codes "#end 4" ∷ []
 
 -- three lines, of which the second is refused

@@ -13,6 +13,7 @@ use Rattle.idn2_options.specs.declared.command_line.form.Form.{Form}
 use Rattle.idn2_options.specs.declared.command_line.form.Form.TheVariants.{Plain, Json}
 use Rattle.idn_text.specs.declared.refusal.Refusal.{Refusal}
 use Rattle.idn2_cli.specs.Explained.{Explained, body_cause, explained_in}
+use Rattle.idn2_options.specs.declared.command_line.mode.Mode.TheVariants.{Variants}
 use Rattle.idn2_cli.specs.Said.{said_text}
 use Rattle.idn2_cli.specs.Transcript.{refused_object}
 use Rattle.idn2_cli.specs.declared.session.cause.LineCause.{LineCause}
@@ -27,8 +28,8 @@ printed_refusal Json line refusal cause = refused_object line refusal cause
 
 -- what the answer to a line puts there: what is said, each with its line feed; or what a refusal does, with its cause
 abbrev pub printed_of : Form → Explained → Numbered → LineAnswer → List ℕ
-printed_of form explained line (Ok said) = flat_map (said_text form line) said
-printed_of form explained line (Err refusal) = printed_refusal form line refusal (body_cause explained line.body refusal)
+printed_of form how line (Ok said) = flat_map (said_text form line) said
+printed_of form how line (Err refusal) = printed_refusal form line refusal (body_cause how line.body refusal)
 
 -- the line is this label in UTF-8, and the label may be registered
 pub record IsLineOf (label : List ℕ) (line : Numbered) : Type 0 where
@@ -39,9 +40,9 @@ pub record IsLineOf (label : List ℕ) (line : Numbered) : Type 0 where
 -- those of a refusal
 pub record IsPrintedFor (o : Settings) (table : TableValue) (line : Numbered) (printed : List ℕ) : Type 0 where
   pub listing : (label : List ℕ) → IsLineOf label line
-      → (answer : LineAnswer) × IsListing o table label answer × (printed ≡ printed_of o.form (explained_in o.mode o table) line answer)
+      → (answer : LineAnswer) × IsListing o table label answer × (printed ≡ printed_of o.form (explained_in Variants o table) line answer)
   pub refused : ((label : List ℕ) → IsLineOf label line → ⊥)
-      → (refusal : Refusal) × (printed ≡ printed_of o.form (explained_in o.mode o table) line (Err refusal))
+      → (refusal : Refusal) × (printed ≡ printed_of o.form (explained_in Variants o table) line (Err refusal))
 
 -- the same for each of these lines, in their order
 abbrev pub ArePrintedFor : Settings → TableValue → List Numbered → List (List ℕ) → Type 0

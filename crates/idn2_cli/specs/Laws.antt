@@ -1,5 +1,5 @@
 -- Laws of the definitions.
-use Rattle.std.specs.Prelude.{◌≡◌, ℕ, ◌≤◌, false, List, [], codes, length, Option, Some, slice_index}
+use Rattle.std.specs.Prelude.{◌≡◌, ℕ, ◌≤◌, false, true, List, [], length, map, Option, Some, None, slice_index}
 use Rattle.std.specs.Str.{IsValidUpTo}
 use Rattle.idn_text.specs.declared.refusal.Refusal.{Refusal}
 use Rattle.idn_text.specs.declared.refusal.Refusal.TheVariants.{NotInTable}
@@ -10,27 +10,42 @@ use Rattle.variant_table.specs.WellFormed.{IsWellFormed}
 use Rattle.variant_list.specs.Furthest.{IsFurthest}
 use Rattle.variant_list.specs.Segmentations.{HasSegmentation}
 use Rattle.variant_list.specs.Spelling.{Spells}
+use Rattle.answer_json.specs.declared.block.Disposition.TheVariants.{Allocatable}
+use Rattle.idn_text.specs.Lines.{Numbered}
+use Rattle.idn2_options.specs.Settings.{Settings}
+use Rattle.idn2_options.specs.declared.command_line.form.Form.TheVariants.{Plain, Json}
 use Rattle.idn2_cli.specs.Answers.{disposition}
-use Rattle.idn2_cli.specs.Explained.{Unexplained, bad_byte, table_cause}
-use Rattle.idn2_cli.specs.Transcript.{body_tail, line_message, refused_message}
+use Rattle.idn2_cli.specs.CauseTexts.{tail_text}
+use Rattle.idn2_cli.specs.Explained.{Unexplained, bad_byte, body_cause, table_cause}
+use Rattle.idn2_cli.specs.Transcript.{TableGiven, line_message, messages_of, piece_in, refused_message, statements, status_of, transcript}
 use Rattle.idn2_cli.specs.declared.session.cause.LineCause.TheVariants.{Byte}
 
--- the third field of a variant's line. Version 1 has none; a label may itself be allocated, whatever is blocked; where no variant is
+-- the disposition of a variant. Version 1 has none; a label may itself be allocated, whatever is blocked; where no variant is
 -- blocked, each of a label's variants may be; and what may be allocated is a variant of the label
 pub record DispositionsAreTold : Type 0 where
-  pub unstated : (table : TableValue) (label v : List ℕ) → table.version ≡ One → disposition table label v ≡ []
+  pub unstated : (table : TableValue) (label v : List ℕ) → table.version ≡ One → disposition table label v ≡ None
   pub itself : (table : TableValue) (label : List ℕ) → table.version ≡ Two → IsWellFormed table.entries → HasSegmentation table.entries label →
-      disposition table label label ≡ codes "\tallocatable"
+      disposition table label label ≡ Some Allocatable
   pub none_blocked : (table : TableValue) (label v : List ℕ) → table.version ≡ Two → IsWellFormed table.entries → has_blocked table.entries ≡ false →
-      Spells table.entries label v → disposition table label v ≡ codes "\tallocatable"
+      Spells table.entries label v → disposition table label v ≡ Some Allocatable
   pub variants : (entries : List Entry) (label v : List ℕ) → Spells (unblocked entries) label v → Spells entries label v
 
 -- what messages go on with. Without the option nothing, so that they are as ever; of bytes that are no UTF-8 the first that no UTF-8
 -- goes on with (RFC 3629, section 3) is told, and of a label that can't be cut into sources the code point behind the furthest place
 -- that they reach (RFC 7940, section 8.1)
 pub record CausesAreTold : Type 0 where
-  pub unexplained : (body : Option (List ℕ)) (refusal : Refusal) → body_tail Unexplained body refusal ≡ []
+  pub unexplained : (body : Option (List ℕ)) (refusal : Refusal) → tail_text refusal (body_cause Unexplained body refusal) ≡ []
   pub plain : (number : ℕ) (refusal : Refusal) → refused_message number refusal [] ≡ line_message number refusal
   pub byte : (bytes : List ℕ) (place : ℕ) → IsValidUpTo bytes place → bad_byte bytes ≡ Byte place (slice_index bytes place)
   pub outside : (entries : List Entry) (label : List ℕ) (place : ℕ) → IsWellFormed entries → length label ≤ 63 → IsFurthest entries label place →
       table_cause entries label NotInTable ≡ Some (Point place (slice_index label place))
+
+-- a run writes what it says piece by piece, each statement in the form that is asked for. What it says is the same in both forms:
+-- with objects, what it says with `--explain`. So is its status, and with objects nothing goes to the messages
+pub record FormsSayTheSame : Type 0 where
+  pub written : (o : Settings) (given : TableGiven) (lines : List Numbered) → transcript o given lines ≡ map (piece_in o.form) (statements o given lines)
+  pub same : (o : Settings) (given : TableGiven) (lines : List Numbered)
+      → statements (record o { form = Json }) given lines ≡ statements (record o { form = Plain; explain = true }) given lines
+  pub status : (o : Settings) (given : TableGiven) (lines : List Numbered)
+      → status_of (record o { form = Json }) given lines ≡ status_of (record o { form = Plain }) given lines
+  pub silent : (o : Settings) (given : TableGiven) (lines : List Numbered) → o.form ≡ Json → messages_of (transcript o given lines) ≡ []

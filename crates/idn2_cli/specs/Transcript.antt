@@ -144,12 +144,12 @@ piece_in Json (Faults line refusal) = Output (table_object line refusal)
 
 -- what is said of a line that has this answer
 abbrev pub answer_statements : Explained → Numbered → LineAnswer → List Statement
-answer_statements explained line (Ok said) = map (Says line) said
-answer_statements explained line (Err refusal) = Refuses line refusal (body_cause explained line.body refusal) ∷ []
+answer_statements how line (Ok said) = map (Says line) said
+answer_statements how line (Err refusal) = Refuses line refusal (body_cause how line.body refusal) ∷ []
 
 -- what is said of lines, in order
 abbrev pub lines_statements : Explained → (List ℕ → LineAnswer) → List Numbered → List Statement
-lines_statements explained answer lines = flat_map (λ line. answer_statements explained line (line_answer answer line.body)) lines
+lines_statements how answer lines = flat_map (λ line. answer_statements how line (line_answer answer line.body)) lines
 
 -- texts of the output
 abbrev pub outputs : {X : Type 0} → (X → List ℕ) → List X → List Piece
@@ -157,16 +157,16 @@ outputs text xs = map (λ x. Output (text x)) xs
 
 -- the same as it is written: the pieces of an answer
 abbrev pub pieces_for : Form → Explained → Numbered → LineAnswer → List Piece
-pieces_for form explained line (Ok said) = outputs (said_text form line) said
-pieces_for form explained line (Err refusal) = piece_in form (Refuses line refusal (body_cause explained line.body refusal)) ∷ []
+pieces_for form how line (Ok said) = outputs (said_text form line) said
+pieces_for form how line (Err refusal) = piece_in form (Refuses line refusal (body_cause how line.body refusal)) ∷ []
 
 -- the pieces of a line
 abbrev pub line_pieces : Form → Explained → (List ℕ → LineAnswer) → Numbered → List Piece
-line_pieces form explained answer line = pieces_for form explained line (line_answer answer line.body)
+line_pieces form how answer line = pieces_for form how line (line_answer answer line.body)
 
 -- the pieces of lines, in order
 abbrev pub lines_pieces : Form → Explained → (List ℕ → LineAnswer) → List Numbered → List Piece
-lines_pieces form explained answer lines = flat_map (line_pieces form explained answer) lines
+lines_pieces form how answer lines = flat_map (line_pieces form how answer) lines
 
 -- whether some line is refused
 abbrev pub has_refused : (List ℕ → LineAnswer) → List Numbered → Bool

@@ -1,11 +1,11 @@
 //! Laws of the definitions that the contract of `run` speaks of. Each holds by its proof alone.
 ghost use Rattle.std.specs.Prelude.{ℕ, List};
 ghost use Rattle.idn2_cli.specs.Answers.{LineAnswer};
-ghost use Rattle.idn2_cli.specs.Laws.{CausesAreTold, DispositionsAreTold};
+ghost use Rattle.idn2_cli.specs.Laws.{CausesAreTold, DispositionsAreTold, FormsSayTheSame};
 ghost use Rattle.idn2_cli.specs.CauseExamples.{ExamplesOfCauses};
 ghost use Rattle.idn2_cli.specs.Examples.{ExamplesOfARun, ExamplesOfLines, ExamplesOfBlocks, ExamplesOfTranscripts};
 
-/// The third field of a variant's line, by what the table blocks.
+/// The disposition of a variant, by what the table blocks.
 pub fn dispositions_are_told()
     ensures { DispositionsAreTold }
 {}
@@ -14,6 +14,11 @@ pub fn dispositions_are_told()
 pub fn causes_are_told()
     ensures laws { CausesAreTold }
     ensures examples { ExamplesOfCauses }
+{}
+
+/// A run says the same in both forms.
+pub fn forms_say_the_same()
+    ensures { FormsSayTheSame }
 {}
 
 /// Worked examples hold of the definitions themselves.

@@ -4,7 +4,7 @@ ghost use Rattle.idn2_cli.specs.Ends.{IsFault};
 use crate::row::shown;
 use idn_text::hostile::StopWriter;
 use idn_text::{Device, ReadFault, Refusal, WriteFault};
-use idn2_cli::{report, report_registered};
+use idn2_cli::{Form, report, report_registered};
 use registered_labels::RegisterFault;
 use std::alloc::Global;
 use std::process::Abort;
@@ -82,7 +82,9 @@ fn tells_of_file(
 ) -> Result<(), Fail> {
     let mut room = vec![in alloc; 0u8; 64]?;
     let mut messages = Device::new(StopWriter::new(&mut room, 4096));
-    let code = report_registered(fault, &mut messages).code();
+    let mut answers = vec![in alloc; 0u8; 64]?;
+    let mut output = Device::new(StopWriter::new(&mut answers, 4096));
+    let code = report_registered(Form::Plain, fault, &mut output, &mut messages).code();
     let taken = messages.inner().taken();
     let text = shown(alloc, room.get(..taken).unwrap_or(b""))?;
     assert_eq!(rt; (text.as_str(), code), (message, status), "{fault:?}");

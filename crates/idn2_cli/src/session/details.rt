@@ -1,5 +1,5 @@
 //! Causes as the objects of refusals tell them. Places, labels and bytes are counted from 1 here.
-ghost use Rattle.std.specs.Prelude.{◌≡◌, ◌≤◌, ◌++◌, codes, length, option_map};
+ghost use Rattle.std.specs.Prelude.{◌≡◌, ◌≤◌, ◌+◌, ◌++◌, codes, length, option_map};
 ghost use Rattle.std.specs.Option.{option_copied};
 ghost use Rattle.answer_json.specs.Details.{HasShortTexts, details_of, given_len};
 ghost use Rattle.idn2_cli.specs.CauseDetails.{a_label_details, barring_rule, cause_details, condition_rule, context_rule, length_details, line_details, placed, told_details};

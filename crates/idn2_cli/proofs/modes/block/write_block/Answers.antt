@@ -1,4 +1,4 @@
-use Rattle.std.proofs.Common.{◌≡◌, ◌+◌, ◌-◌, ◌∙◌, ◌++◌, ◌∷◌, [], ℕ, List, Result, Ok, Err, ap, sym, subst, refl, inr}
+use Rattle.std.proofs.Common.{◌≡◌, ◌+◌, ◌-◌, ◌∙◌, ◌++◌, ◌∷◌, [], ℕ, List, Option, Result, Ok, Err, ap, sym, subst, refl, inr}
 use Rattle.std.specs.declared.alloc.AllocError.{AllocError}
 use Rattle.idn_class.specs.Known.{AreKnown}
 use Rattle.idn_class.proofs.KnownLemmas.{AreKnown-nil}
@@ -11,7 +11,9 @@ use Rattle.variant_list.proofs.CallAnswers.{not_ok}
 use Rattle.variant_list.specs.Positions.{Built}
 use Rattle.idn2_cli.specs.declared.modes.dispositions.Dispositions.{Dispositions}
 use Rattle.idn2_options.specs.Settings.{Settings}
-use Rattle.idn2_cli.specs.Answers.{variant_line}
+use Rattle.answer_json.specs.declared.block.Disposition.{Disposition}
+use Rattle.idn2_cli.specs.Said.{Said, Listed, said_text}
+use Rattle.idn2_cli.specs.inner.Asked.{asked_line}
 use Rattle.idn2_cli.specs.inner.Dispositions.{field_by}
 use Rattle.idn2_cli.specs.inner.LineAnswers.{reaches}
 use Rattle.idn2_cli.specs.Transcript.{Output}
@@ -24,13 +26,13 @@ use Rattle.idn2_cli.proofs.modes.block.write_block.Goals as goal
 decided-as : (P : Type 0) (r : Result Outcome AllocError) (o x : Outcome) → r ≡ Ok o → o ≡ x → IfDecided r P → IfDecided (Ok x) P
 decided-as P r o x is same h = subst (λ (y : Outcome). IfDecided (Ok y) P) same (subst (λ (a : Result Outcome AllocError). IfDecided a P) is h)
 
--- the field is told by what does not change
-told : {field : List ℕ} {now first : Dispositions Built} (v : List ℕ) → field ≡ field_by now v → now ≡ first → field ≡ field_by first v
+-- the disposition is told by what does not change
+told : {field : Option Disposition} {now first : Dispositions Built} (v : List ℕ) → field ≡ field_by now v → now ≡ first → field ≡ field_by first v
 told v is same = is ∙ ap (λ (d : Dispositions Built). field_by d v) same
 
--- the line with the same field
-line_is : (v : List ℕ) {f g : List ℕ} → f ≡ g → variant_line f v ++ 10 ∷ [] ≡ variant_line g v ++ 10 ∷ []
-line_is v same = ap (λ field. variant_line field v ++ 10 ∷ []) same
+-- what is said with the same disposition
+line_is : (text : Said → List ℕ) (v : List ℕ) {f g : Option Disposition} → f ≡ g → text (Listed f v) ≡ text (Listed g v)
+line_is text v same = ap (λ field. text (Listed field v)) same
 
 pub returns-in_err-cursor-clause-written : goal.returns-in_err-cursor-clause-written
 returns-in_err-cursor-clause-written g c =
@@ -40,7 +42,7 @@ returns-in_err-cursor-clause-written g c =
 pub variants-init : goal.variants-init
 variants-init g c = record {
   same = refl;
-  listing = listing-start (field_by c.args.dispositions.now) c.args.options.now c.args.net.now _ c.in_ok-cursor.cursor c.deref.result.now c.options.inside.tries c.options.inside.steps c.requires.limits
+  listing = listing-start (said_text c.args.asked.now.form (asked_line c.args.asked.now)) (field_by c.args.dispositions.now) c.args.options.now c.args.net.now _ c.in_ok-cursor.cursor c.deref.result.now c.options.inside.tries c.options.inside.steps c.requires.limits
       (c.deref.ensures.value ∙ ap (λ (o : Settings). o.after) c.options.view_is) (ap (λ (o : Settings). o.tries) c.options.view_is) (ap (λ (o : Settings). o.steps) c.options.view_is) c.in_ok-cursor.ensures;
   known = subst (AreKnown c.in_ok-cursor.cursor.last) (sym c.new-2.ensures) (AreKnown-nil c.in_ok-cursor.cursor.last);
   apart = c.new-3.ensures.apart c.in_ok-cursor.cursor.last;
@@ -52,27 +54,27 @@ variants-init g c = record {
 pub write_stop-requires-clause-scalar_values : goal.write_stop-requires-clause-scalar_values
 write_stop-requires-clause-scalar_values g c =
     (subst IsWritable (sym c.last.ensures.value)
-    (spent-writable (field_by c.args.dispositions.now) _ _ _ _ c.variants.cursor c.seek.new.self c.variants.count c.variants.tries c.seek.new.tries c.variants.steps c.seek.new.steps c.requires.table c.variants.invariant.listing (spent-from c.variants.cursor c.seek.new.self c.variants.tries c.seek.new.tries c.variants.steps c.seek.new.steps c.seek.result c.in_ok-seek.field-0 c.in_ok-seek.was c.seek.ensures.decided c.seek.ensures.moves c.seek.ensures.steps c.in-Spent.is))).scalar_values
+    (spent-writable (said_text c.args.asked.now.form (asked_line c.args.asked.now)) (field_by c.args.dispositions.now) _ _ _ _ c.variants.cursor c.seek.new.self c.variants.count c.variants.tries c.seek.new.tries c.variants.steps c.seek.new.steps c.requires.table c.variants.invariant.listing (spent-from c.variants.cursor c.seek.new.self c.variants.tries c.seek.new.tries c.variants.steps c.seek.new.steps c.seek.result c.in_ok-seek.field-0 c.in_ok-seek.was c.seek.ensures.decided c.seek.ensures.moves c.seek.ensures.steps c.in-Spent.is))).scalar_values
 
 pub write_stop-requires-in-Halted-clause-scalar_values : goal.write_stop-requires-in-Halted-clause-scalar_values
 write_stop-requires-in-Halted-clause-scalar_values g c =
     (subst IsWritable (sym c.last-in-Halted.ensures.value)
-    (halted-writable (field_by c.args.dispositions.now) _ _ _ _ c.variants.cursor c.seek.new.self c.variants.count c.variants.tries c.seek.new.tries c.variants.steps c.seek.new.steps c.requires.table c.variants.invariant.listing (halted-from c.variants.cursor c.seek.new.self c.variants.tries c.seek.new.tries c.variants.steps c.seek.new.steps c.seek.result c.in_ok-seek.field-0 c.in_ok-seek.was c.seek.ensures.decided c.seek.ensures.moves c.seek.ensures.steps c.in-Halted.is))).scalar_values
+    (halted-writable (said_text c.args.asked.now.form (asked_line c.args.asked.now)) (field_by c.args.dispositions.now) _ _ _ _ c.variants.cursor c.seek.new.self c.variants.count c.variants.tries c.seek.new.tries c.variants.steps c.seek.new.steps c.requires.table c.variants.invariant.listing (halted-from c.variants.cursor c.seek.new.self c.variants.tries c.seek.new.tries c.variants.steps c.seek.new.steps c.seek.result c.in_ok-seek.field-0 c.in_ok-seek.was c.seek.ensures.decided c.seek.ensures.moves c.seek.ensures.steps c.in-Halted.is))).scalar_values
 
 pub returns-in-Spent-clause-written : goal.returns-in-Spent-clause-written
 returns-in-Spent-clause-written g c =
     let spent = spent-from c.variants.cursor c.seek.new.self c.variants.tries c.seek.new.tries c.variants.steps c.seek.new.steps c.seek.result c.in_ok-seek.field-0 c.in_ok-seek.was c.seek.ensures.decided c.seek.ensures.moves c.seek.ensures.steps c.in-Spent.is in
-    listing-spent (field_by c.args.dispositions.now) _ _ _ _ _ c.variants.cursor c.seek.new.self c.variants.count c.variants.tries c.seek.new.tries c.variants.steps c.seek.new.steps c.last.result.now c.write_stop.result c.variants.invariant.listing spent c.last.ensures.value c.write_stop.ensures.written
+    listing-spent (said_text c.args.asked.now.form (asked_line c.args.asked.now)) (field_by c.args.dispositions.now) _ _ _ _ _ c.variants.cursor c.seek.new.self c.variants.count c.variants.tries c.seek.new.tries c.variants.steps c.seek.new.steps c.last.result.now c.write_stop.result c.variants.invariant.listing spent c.last.ensures.value c.write_stop.ensures.written
 
 pub returns-in-Halted-clause-written : goal.returns-in-Halted-clause-written
 returns-in-Halted-clause-written g c =
     let halted = halted-from c.variants.cursor c.seek.new.self c.variants.tries c.seek.new.tries c.variants.steps c.seek.new.steps c.seek.result c.in_ok-seek.field-0 c.in_ok-seek.was c.seek.ensures.decided c.seek.ensures.moves c.seek.ensures.steps c.in-Halted.is in
-    listing-halted (field_by c.args.dispositions.now) _ _ _ _ _ c.variants.cursor c.seek.new.self c.variants.count c.variants.tries c.seek.new.tries c.variants.steps c.seek.new.steps c.last-in-Halted.result.now c.write_stop-in-Halted.result c.variants.invariant.listing halted c.last-in-Halted.ensures.value c.write_stop-in-Halted.ensures.written
+    listing-halted (said_text c.args.asked.now.form (asked_line c.args.asked.now)) (field_by c.args.dispositions.now) _ _ _ _ _ c.variants.cursor c.seek.new.self c.variants.count c.variants.tries c.seek.new.tries c.variants.steps c.seek.new.steps c.last-in-Halted.result.now c.write_stop-in-Halted.result c.variants.invariant.listing halted c.last-in-Halted.ensures.value c.write_stop-in-Halted.ensures.written
 
 pub returns-in-Ended-clause-written : goal.returns-in-Ended-clause-written
 returns-in-Ended-clause-written g c =
     let ended = ended-from c.variants.cursor c.seek.new.self c.variants.tries c.seek.new.tries c.variants.steps c.seek.new.steps c.seek.result c.in_ok-seek.field-0 c.in_ok-seek.was c.seek.ensures.decided c.seek.ensures.moves c.seek.ensures.steps c.in-Ended.is in
-    listing-ended (field_by c.args.dispositions.now) _ _ _ _ _ c.variants.cursor c.variants.count c.variants.tries c.seek.new.tries c.variants.steps c.write_end.result c.variants.invariant.listing ended c.write_end.ensures.written
+    listing-ended (said_text c.args.asked.now.form (asked_line c.args.asked.now)) (field_by c.args.dispositions.now) _ _ _ _ _ c.variants.cursor c.variants.count c.variants.tries c.seek.new.tries c.variants.steps c.write_end.result c.variants.invariant.listing ended c.write_end.ensures.written
 
 -- ---- a variant
 
@@ -80,20 +82,20 @@ pub returns-in_err-write_variant-clause-written : goal.returns-in_err-write_vari
 returns-in_err-write_variant-clause-written g c =
     let p = err_from_is_err_and c.from_residual-in_err-write_variant.result c.from_residual-in_err-write_variant.ensures.1 in
     let found = found-from c.variants.cursor c.seek.new.self c.variants.tries c.seek.new.tries c.variants.steps c.seek.new.steps c.seek.result c.in_ok-seek.field-0 c.in_ok-seek.was c.seek.ensures.decided c.seek.ensures.moves c.seek.ensures.steps c.in-Found.is in
-    rw p.1 (listing-broken (field_by c.args.dispositions.now) _ _ _ _ _ c.variants.cursor c.seek.new.self c.variants.count c.variants.tries c.seek.new.tries c.variants.steps c.seek.new.steps c.last-variant.result.now c.write_variant.result p.0 c.variants.invariant.listing found c.last-variant.ensures.value
-    (emits_as _ _ Output _ _ c.write_variant.result (line_is c.last-variant.result.now (told c.last-variant.result.now c.field-field.ensures.field c.variants.invariant.same)) c.write_variant.ensures.written) (c.in_err-write_variant.was ∙ ap Err (sym p.2)))
+    rw p.1 (listing-broken (said_text c.args.asked.now.form (asked_line c.args.asked.now)) (field_by c.args.dispositions.now) _ _ _ _ _ c.variants.cursor c.seek.new.self c.variants.count c.variants.tries c.seek.new.tries c.variants.steps c.seek.new.steps c.last-variant.result.now c.write_variant.result p.0 c.variants.invariant.listing found c.last-variant.ensures.value
+    (emits_as _ _ Output _ _ c.write_variant.result (line_is (said_text c.args.asked.now.form (asked_line c.args.asked.now)) c.last-variant.result.now (told c.last-variant.result.now c.of_variant-disposition.ensures.field c.variants.invariant.same)) c.write_variant.ensures.written) (c.in_err-write_variant.was ∙ ap Err (sym p.2)))
 
 pub write_stop-requires-then-is_reached-clause-scalar_values : goal.write_stop-requires-then-is_reached-clause-scalar_values
 write_stop-requires-then-is_reached-clause-scalar_values g c =
     (subst IsWritable (sym c.last-then-is_reached.ensures.value)
-    (found-writable (field_by c.args.dispositions.now) _ _ _ _ c.variants.cursor c.seek.new.self c.variants.count c.variants.tries c.seek.new.tries c.variants.steps c.seek.new.steps c.requires.table c.variants.invariant.listing (found-from c.variants.cursor c.seek.new.self c.variants.tries c.seek.new.tries c.variants.steps c.seek.new.steps c.seek.result c.in_ok-seek.field-0 c.in_ok-seek.was c.seek.ensures.decided c.seek.ensures.moves c.seek.ensures.steps c.in-Found.is))).scalar_values
+    (found-writable (said_text c.args.asked.now.form (asked_line c.args.asked.now)) (field_by c.args.dispositions.now) _ _ _ _ c.variants.cursor c.seek.new.self c.variants.count c.variants.tries c.seek.new.tries c.variants.steps c.seek.new.steps c.requires.table c.variants.invariant.listing (found-from c.variants.cursor c.seek.new.self c.variants.tries c.seek.new.tries c.variants.steps c.seek.new.steps c.seek.result c.in_ok-seek.field-0 c.in_ok-seek.was c.seek.ensures.decided c.seek.ensures.moves c.seek.ensures.steps c.in-Found.is))).scalar_values
 
 pub returns-then-is_reached-clause-written : goal.returns-then-is_reached-clause-written
 returns-then-is_reached-clause-written g c =
     let found = found-from c.variants.cursor c.seek.new.self c.variants.tries c.seek.new.tries c.variants.steps c.seek.new.steps c.seek.result c.in_ok-seek.field-0 c.in_ok-seek.was c.seek.ensures.decided c.seek.ensures.moves c.seek.ensures.steps c.in-Found.is in
     let reached = sym (ap (λ (o : Settings). reaches o.limit (c.variants.count + 1)) c.options.view_is) ∙ sym c.is_reached.ensures ∙ c.if-is_reached.true in
-    listing-reached (field_by c.args.dispositions.now) _ _ _ _ _ _ c.variants.cursor c.seek.new.self c.variants.count c.variants.tries c.seek.new.tries c.variants.steps c.seek.new.steps c.last-variant.result.now c.last-then-is_reached.result.now c.write_stop-then-is_reached.result c.variants.invariant.listing
-    found c.last-variant.ensures.value (writes_as _ _ Output _ _ (line_is c.last-variant.result.now (told c.last-variant.result.now c.field-field.ensures.field c.variants.invariant.same)) c.in_ok-write_variant.ensures.written) reached c.last-then-is_reached.ensures.value c.write_stop-then-is_reached.ensures.written
+    listing-reached (said_text c.args.asked.now.form (asked_line c.args.asked.now)) (field_by c.args.dispositions.now) _ _ _ _ _ _ c.variants.cursor c.seek.new.self c.variants.count c.variants.tries c.seek.new.tries c.variants.steps c.seek.new.steps c.last-variant.result.now c.last-then-is_reached.result.now c.write_stop-then-is_reached.result c.variants.invariant.listing
+    found c.last-variant.ensures.value (writes_as _ _ Output _ _ (line_is (said_text c.args.asked.now.form (asked_line c.args.asked.now)) c.last-variant.result.now (told c.last-variant.result.now c.of_variant-disposition.ensures.field c.variants.invariant.same)) c.in_ok-write_variant.ensures.written) reached c.last-then-is_reached.ensures.value c.write_stop-then-is_reached.ensures.written
 
 pub variants-preserved : goal.variants-preserved
 variants-preserved g c =
@@ -101,9 +103,9 @@ variants-preserved g c =
     let kept = decided-as _ c.seek.result c.in_ok-seek.field-0 outcome.Found c.in_ok-seek.was c.in-Found.is c.seek.ensures.kept in
     let going = sym (ap (λ (o : Settings). reaches o.limit (c.variants.count + 1)) c.options.view_is) ∙ sym c.is_reached.ensures ∙ c.if-is_reached.false in
     record {
-      same = c.field-field.ensures.same ∙ c.variants.invariant.same;
-      listing = listing-found (field_by c.args.dispositions.now) _ _ _ _ _ c.variants.cursor c.seek.new.self c.variants.count c.variants.tries c.seek.new.tries c.variants.steps c.seek.new.steps c.last-variant.result.now c.requires.table c.variants.invariant.listing
-          found c.last-variant.ensures.value (writes_as _ _ Output _ _ (line_is c.last-variant.result.now (told c.last-variant.result.now c.field-field.ensures.field c.variants.invariant.same)) c.in_ok-write_variant.ensures.written) going;
+      same = c.of_variant-disposition.ensures.same ∙ c.variants.invariant.same;
+      listing = listing-found (said_text c.args.asked.now.form (asked_line c.args.asked.now)) (field_by c.args.dispositions.now) _ _ _ _ _ c.variants.cursor c.seek.new.self c.variants.count c.variants.tries c.seek.new.tries c.variants.steps c.seek.new.steps c.last-variant.result.now c.requires.table c.variants.invariant.listing
+          found c.last-variant.ensures.value (writes_as _ _ Output _ _ (line_is (said_text c.args.asked.now.form (asked_line c.args.asked.now)) c.last-variant.result.now (told c.last-variant.result.now c.of_variant-disposition.ensures.field c.variants.invariant.same)) c.in_ok-write_variant.ensures.written) going;
       known = kept.0;
       apart = kept.1;
       begun = subst (λ v. IsBegun v c.write_variant.new.line) c.last-variant.ensures.value c.write_variant.ensures.begun;

@@ -5,7 +5,7 @@ use Rattle.idn2_cli.proofs.session.lines.serve_lines.Given as goal
 abbrev pub invariant-lines : goal.invariant-lines
 invariant-lines g l =
     record {
-      so_far : SoFar (g.M.Answering.explains l.mode) (g.M.Answering.answer_of l.mode) l.initial.input l.input
+      so_far : SoFar l.form (g.M.Answering.explains l.mode) (g.M.Answering.answer_of l.mode) l.initial.input l.input
           l.initial.console
           l.console
           l.has_refused;

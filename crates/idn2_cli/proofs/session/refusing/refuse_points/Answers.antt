@@ -1,6 +1,8 @@
-use Rattle.std.proofs.Common.{◌≡◌, ◌∙◌, Err, ap, false, refl, subst, true}
+use Rattle.std.proofs.Common.{◌≡◌, ◌∙◌, Err, ap, false, refl, subst, sym, true}
 use Rattle.std.specs.Result.{IsOk}
 use Rattle.std.proofs.lemmas.Result.{err_from_is_err_and}
+use Rattle.idn2_cli.proofs.CauseLemmas.{text_cause-points}
+use Rattle.idn2_cli.proofs.RefusedLines.{emits_cause, never_memory}
 use Rattle.idn2_cli.proofs.WrittenPieces.{stops_first}
 use Rattle.idn2_cli.proofs.session.refusing.refuse_points.Goals as goal
 
@@ -13,4 +15,15 @@ returns-in_err-cause-in_default g c =
       memory = λ is. p.1 ∙ ap Err p.2;
       begun = λ is. refl;
       refused = rw p.1 tt;
+    }
+
+pub returns-in_ok-cause-in_default : goal.returns-in_ok-cause-in_default
+returns-in_ok-cause-in_default g c =
+    record {
+      told = λ other. emits_cause _ _ c.args.asked.now.form c.args.asked.now.number c.args.asked.now.text.now c.args.refusal _ _ c.tell.result
+          (c.in_ok-cause-in_default.ensures.cause ∙ sym (text_cause-points _ c.args.asked.now.text.now c.args.points.now c.args.refusal c.requires.spelled)) c.tell.ensures.told;
+      why = λ untold other. c.tell.ensures.why;
+      memory = λ is. absurd (c.in_default.not-Memory is);
+      begun = λ is. absurd (never_memory c.tell.result c.tell.ensures.why is);
+      refused = c.tell.ensures.refused;
     }

@@ -1,11 +1,5 @@
-use Rattle.std.proofs.Common.{◌∙◌, List, inr, refl, subst, sym, ℕ}
-use Rattle.idn_text.specs.Writers.{TakesPart}
-use Rattle.idn2_cli.specs.Ends.{TellsUnread}
-use Rattle.idn2_cli.specs.declared.session.status.Status.TheVariants.{Faulty}
+use Rattle.std.proofs.Common.{refl}
 use Rattle.idn2_cli.proofs.session.report.report_registered.Goals as goal
 
-pub returns-in-Err : goal.returns-in-Err
-returns-in-Err g c =
-    let text = c.as_bytes.ensures.value ∙ c.as_str.ensures.value ∙ c.registered_message-message.ensures in
-    subst (λ fault. TellsUnread fault (g.E.Sink.state c.args.err.now) (g.E.Sink.state c.write_text.new.writer) Faulty) (sym c.in-Refused.is)
-    (inr ((c.in-Err._fault.taken, subst (λ (t : List ℕ). TakesPart (g.E.Sink.state c.args.err.now) (g.E.Sink.state c.write_text.new.writer) t c.in-Err._fault.taken) text c.in-Err.ensures.part), refl))
+pub returns-in-Refused-Plain : goal.returns-in-Refused-Plain
+returns-in-Refused-Plain g c = rw (c.in-Refused-Plain.is-0, c.in-Refused-Plain.is-1) (refl, c.report_wrong_line.ensures)

@@ -1,7 +1,7 @@
 use Rattle.std.proofs.Common.{ap, sym, ◌≡◌, ◌∙◌, None}
 use Rattle.idn2_options.specs.Settings.{Settings, keeping}
 use Rattle.idn2_cli.specs.Ends.{mode_job}
-use Rattle.idn2_cli.proofs.BlockMembers.{variants_answer-IsListing, check_lines-IsCheck}
+use Rattle.idn2_cli.proofs.BlockMembers.{variants_answer-IsListing, check_findings-IsCheck}
 use Rattle.idn2_cli.proofs.JumpAnswers.{jump_answer-IsJumpAnswer}
 use Rattle.idn2_cli.proofs.RunEnds.{ends_as}
 use Rattle.idn2_cli.proofs.HeadlineLemmas.{headline}
@@ -27,4 +27,4 @@ pub returns-clause-jump : goal.returns-clause-jump
 returns-clause-jump g c = λ table request text registrable. jump_answer-IsJumpAnswer table request text.lines.well_formed.well_formed registrable
 
 pub returns-clause-check : goal.returns-clause-check
-returns-clause-check g c = λ table text. check_lines-IsCheck table.entries text.lines.well_formed.well_formed
+returns-clause-check g c = λ table text. check_findings-IsCheck table.entries text.lines.well_formed.well_formed

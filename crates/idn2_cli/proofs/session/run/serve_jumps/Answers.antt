@@ -1,19 +1,21 @@
-use Rattle.std.proofs.Common.{Ok, ap, chars, true}
+use Rattle.std.proofs.Common.{Ok, ap, chars, true, ◌∙◌}
 use Rattle.idn2_options.specs.Settings.{Settings}
 use Rattle.idn2_options.specs.declared.command_line.mode.Mode.TheVariants.{Jump}
 use Rattle.idn2_cli.specs.Answers.{jump_answer, requested_label}
 use Rattle.idn2_cli.specs.Ends.{lines_job}
 use Rattle.idn2_cli.specs.Explained.{ByRequest, if_wanted}
 use Rattle.idn2_cli.specs.Memory.{IsRefusedWithoutMemory}
-use Rattle.idn2_cli.proofs.RunEnds.{as_mode, jumps_by_table, refused_lines}
+use Rattle.idn2_cli.proofs.RunEnds.{as_mode, in_form, jumps_by_table, refused_lines}
 use Rattle.idn2_cli.proofs.session.run.serve_jumps.Goals as goal
 
 pub returns-in-Err : goal.returns-in-Err
 returns-in-Err g c =
-    refused_lines c.args.options.now Jump (jumps_by_table c.args.options.now c.requires.mode) c.args.text.now _ c.in-Err.fault _ _ c.refuse_table.result c.requires.unread c.in-Err.ensures.fault c.refuse_table.ensures.told c.refuse_table.ensures.status
+    refused_lines c.args.options.now Jump (jumps_by_table c.args.options.now c.requires.mode) c.args.text.now _ c.in-Err.fault _ _ c.refuse_table.result c.requires.unread c.in-Err.ensures.fault
+    (in_form c.args.text.now c.in-Err.fault _ _ _ _ c.refuse_table.result (ap (λ (v : Settings). v.form) c.options.view_is) c.refuse_table.ensures.told) c.refuse_table.ensures.status
 
 pub returns : goal.returns
 returns g c =
     as_mode c.args.options.now Jump c.args.text.now (Ok c.in-Ok.table) _ _ _ _ _ c.serve_lines.result c.requires.mode c.in-Ok.ensures.table
-    (ap (λ x. lines_job (if_wanted x (ByRequest c.in-Ok.table.entries)) (jump_answer c.in-Ok.table) true (λ line. IsRefusedWithoutMemory (requested_label (chars line))) (λ line. Unit {0})) (ap (λ (v : Settings). v.explain) c.options.view_is))
+    (ap (λ f. lines_job f (if_wanted c.tells_causes.result (ByRequest c.in-Ok.table.entries)) (jump_answer c.in-Ok.table) true (λ line. IsRefusedWithoutMemory (requested_label (chars line))) (λ line. Unit {0})) (ap (λ (v : Settings). v.form) c.options.view_is)
+    ∙ ap (λ x. lines_job c.args.options.now.form (if_wanted x (ByRequest c.in-Ok.table.entries)) (jump_answer c.in-Ok.table) true (λ line. IsRefusedWithoutMemory (requested_label (chars line))) (λ line. Unit {0})) c.tells_causes.ensures)
     c.serve_lines.ensures

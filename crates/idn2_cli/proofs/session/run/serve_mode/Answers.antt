@@ -1,4 +1,4 @@
-use Rattle.std.proofs.Common.{refl, ap, sym, ◌∙◌, Ok, ℕ, List, Bool, false, chars}
+use Rattle.std.proofs.Common.{refl, ap, sym, ◌∙◌, Ok, ℕ, List, Bool, false, chars, subst}
 use Rattle.idn_label.specs.Lookup.{lookup_answer}
 use Rattle.idn_label.specs.Decode.{decode_answer}
 use Rattle.idn_label.specs.Memory.{LooksUpWithoutMemory, RegistersWithoutMemory}
@@ -6,10 +6,13 @@ use Rattle.idn_label.specs.Register.{register_answer}
 use Rattle.idn_label.specs.Steps.{in_utf8}
 use Rattle.std.specs.Option.{option_copied}
 use Rattle.idn2_options.specs.Settings.{Settings, keeping}
-use Rattle.idn2_cli.specs.Answers.{LineAnswer, one_line}
+use Rattle.idn2_cli.specs.Answers.{LineAnswer, one_answer, u_label_of}
+use Rattle.idn2_cli.specs.Said.{LookedUp, Registered, Decoded}
+use Rattle.idn2_cli.specs.inner.Emitting.{Emits}
+use Rattle.idn2_options.specs.declared.command_line.form.Form.{Form}
 use Rattle.idn2_cli.specs.Explained.{ByLabel, ByName, ByQuery, if_wanted}
 use Rattle.idn2_cli.specs.Memory.{DecodesLineWithoutMemory}
-use Rattle.idn2_cli.specs.Transcript.{no_table}
+use Rattle.idn2_cli.specs.Transcript.{check_pieces, no_table}
 use Rattle.idn2_cli.specs.Ends.{lines_job}
 use Rattle.idn2_options.specs.declared.command_line.mode.Mode.TheVariants.{Lookup, Register, Decode}
 use Rattle.idn2_cli.proofs.RunEnds.{as_mode, checked, does_as, jump_job-kept}
@@ -19,31 +22,42 @@ pub returns-in-Lookup : goal.returns-in-Lookup
 returns-in-Lookup g c =
     let o : Settings = keeping (option_copied c.args.registered) c.args.options.now in
     let mode = sym (ap (λ (v : Settings). v.mode) c.options.view_is) ∙ c.in-Lookup.is in
+    let form = ap (λ (v : Settings). v.form) c.options.view_is in
     let std3 = ap (λ (v : Settings). v.std3) c.options.view_is in
-    let explain = ap (λ (v : Settings). v.explain) c.options.view_is in
-    let by : Bool → List ℕ → LineAnswer = λ b name. one_line (lookup_answer name b) in
-    as_mode o Lookup c.args.table.now (Ok no_table) _ _ _ _ _ c.serve_lines.result mode refl (ap (λ b. lines_job (if_wanted c.options.inside.explain (ByQuery b)) (by b) false (LooksUpWithoutMemory b) (λ line. Unit {0})) std3
-    ∙ ap (λ x. lines_job (if_wanted x (ByQuery o.std3)) (by o.std3) false (LooksUpWithoutMemory o.std3) (λ line. Unit {0})) explain) c.serve_lines.ensures
+    let by : Bool → List ℕ → LineAnswer = λ b name. one_answer LookedUp (lookup_answer name b) in
+    as_mode o Lookup c.args.table.now (Ok no_table) _ _ _ _ _ c.serve_lines.result mode refl
+    (ap (λ f. lines_job f (if_wanted c.tells_causes.result (ByQuery c.options.inside.std3)) (by c.options.inside.std3) false (LooksUpWithoutMemory c.options.inside.std3) (λ line. Unit {0})) form
+    ∙ ap (λ b. lines_job o.form (if_wanted c.tells_causes.result (ByQuery b)) (by b) false (LooksUpWithoutMemory b) (λ line. Unit {0})) std3
+    ∙ ap (λ x. lines_job o.form (if_wanted x (ByQuery o.std3)) (by o.std3) false (LooksUpWithoutMemory o.std3) (λ line. Unit {0})) c.tells_causes.ensures) c.serve_lines.ensures
 
 pub returns-in-Register : goal.returns-in-Register
 returns-in-Register g c =
+    let o : Settings = keeping (option_copied c.args.registered) c.args.options.now in
     let mode = sym (ap (λ (v : Settings). v.mode) c.options.view_is) ∙ c.in-Register.is in
-    as_mode (keeping (option_copied c.args.registered) c.args.options.now) Register c.args.table.now (Ok no_table) _ _ _ _ _ c.serve_lines-in-Register.result mode refl
-    (ap (λ x. lines_job (if_wanted x ByLabel) (λ label. one_line (register_answer label)) false (λ line. RegistersWithoutMemory (chars line)) (λ line. Unit {0})) (ap (λ (v : Settings). v.explain) c.options.view_is))
+    let form = ap (λ (v : Settings). v.form) c.options.view_is in
+    let by : List ℕ → LineAnswer = λ label. one_answer (Registered (u_label_of label)) (register_answer label) in
+    as_mode o Register c.args.table.now (Ok no_table) _ _ _ _ _ c.serve_lines-in-Register.result mode refl
+    (ap (λ f. lines_job f (if_wanted c.tells_causes-in-Register.result ByLabel) by false (λ line. RegistersWithoutMemory (chars line)) (λ line. Unit {0})) form
+    ∙ ap (λ x. lines_job o.form (if_wanted x ByLabel) by false (λ line. RegistersWithoutMemory (chars line)) (λ line. Unit {0})) c.tells_causes-in-Register.ensures)
     c.serve_lines-in-Register.ensures
 
 pub returns-in-Decode : goal.returns-in-Decode
 returns-in-Decode g c =
+    let o : Settings = keeping (option_copied c.args.registered) c.args.options.now in
     let mode = sym (ap (λ (v : Settings). v.mode) c.options.view_is) ∙ c.in-Decode.is in
-    as_mode (keeping (option_copied c.args.registered) c.args.options.now) Decode c.args.table.now (Ok no_table) _ _ _ _ _ c.serve_lines-in-Decode.result mode refl
-    (ap (λ x. lines_job (if_wanted x ByName) (λ name. one_line (in_utf8 (decode_answer name))) false DecodesLineWithoutMemory (λ line. Unit {0})) (ap (λ (v : Settings). v.explain) c.options.view_is))
+    let form = ap (λ (v : Settings). v.form) c.options.view_is in
+    let by : List ℕ → LineAnswer = λ name. one_answer Decoded (in_utf8 (decode_answer name)) in
+    as_mode o Decode c.args.table.now (Ok no_table) _ _ _ _ _ c.serve_lines-in-Decode.result mode refl
+    (ap (λ f. lines_job f (if_wanted c.tells_causes-in-Decode.result ByName) by false DecodesLineWithoutMemory (λ line. Unit {0})) form
+    ∙ ap (λ x. lines_job o.form (if_wanted x ByName) by false DecodesLineWithoutMemory (λ line. Unit {0})) c.tells_causes-in-Decode.ensures)
     c.serve_lines-in-Decode.ensures
 
 pub returns-in-CheckTable : goal.returns-in-CheckTable
 returns-in-CheckTable g c =
     let mode = sym (ap (λ (v : Settings). v.mode) c.options.view_is) ∙ c.in-CheckTable.is in
     let k = c.serve_check.ensures in
-    checked (keeping (option_copied c.args.registered) c.args.options.now) c.args.table.now k.0 _ _ _ c.serve_check.result mode k.1 c.requires.unread k.2 k.3
+    checked (keeping (option_copied c.args.registered) c.args.options.now) c.args.table.now k.0 _ _ _ c.serve_check.result mode k.1 c.requires.unread
+    (subst (λ (f : Form). Emits c.args.console.now c.serve_check.new.console (check_pieces f k.0) c.serve_check.result) (ap (λ (v : Settings). v.form) c.options.view_is) k.2) k.3
 
 pub returns-in-Jump : goal.returns-in-Jump
 returns-in-Jump g c =

@@ -1,14 +1,16 @@
-use Rattle.std.proofs.Common.{Ok, refl}
+use Rattle.std.proofs.Common.{Ok, ap, true}
 use Rattle.std.specs.Option.{option_copied}
-use Rattle.idn2_options.specs.Settings.{keeping}
+use Rattle.idn2_options.specs.Settings.{Settings, keeping}
+use Rattle.idn2_cli.specs.Ends.{lines_job}
 use Rattle.std.proofs.lemmas.Result.{err_from_is_err_and}
 use Rattle.idn2_options.specs.declared.command_line.mode.Mode.TheVariants.{Variants}
-use Rattle.idn2_cli.proofs.RunEnds.{as_mode, lists_by_table, refused_lines, unread_stopped}
+use Rattle.idn2_cli.proofs.RunEnds.{as_mode, in_form, lists_by_table, refused_lines, unread_stopped}
 use Rattle.idn2_cli.proofs.session.run.serve_variants.Goals as goal
 
 pub returns-in-Err : goal.returns-in-Err
 returns-in-Err g c =
-    refused_lines (keeping (option_copied c.args.registered) c.args.options.now) Variants (lists_by_table (keeping (option_copied c.args.registered) c.args.options.now) c.requires.mode) c.args.text.now _ c.in-Err.fault _ _ c.refuse_table.result c.requires.unread c.in-Err.ensures.fault c.refuse_table.ensures.told c.refuse_table.ensures.status
+    refused_lines (keeping (option_copied c.args.registered) c.args.options.now) Variants (lists_by_table (keeping (option_copied c.args.registered) c.args.options.now) c.requires.mode) c.args.text.now _ c.in-Err.fault _ _ c.refuse_table.result c.requires.unread c.in-Err.ensures.fault
+    (in_form c.args.text.now c.in-Err.fault _ _ _ _ c.refuse_table.result (ap (λ (v : Settings). v.form) c.options.view_is) c.refuse_table.ensures.told) c.refuse_table.ensures.status
 
 pub returns-in_err-dispositions : goal.returns-in_err-dispositions
 returns-in_err-dispositions g c =
@@ -17,4 +19,4 @@ returns-in_err-dispositions g c =
 
 pub returns : goal.returns
 returns g c =
-    as_mode (keeping (option_copied c.args.registered) c.args.options.now) Variants c.args.text.now (Ok c.in-Ok.table) _ _ _ _ _ c.serve_lines.result c.requires.mode c.in-Ok.ensures.table refl c.serve_lines.ensures
+    as_mode (keeping (option_copied c.args.registered) c.args.options.now) Variants c.args.text.now (Ok c.in-Ok.table) _ _ _ _ _ c.serve_lines.result c.requires.mode c.in-Ok.ensures.table (ap (λ f. lines_job f _ _ true _ _) (ap (λ (v : Settings). v.form) c.options.view_is)) c.serve_lines.ensures

@@ -1,24 +1,24 @@
 use Rattle.std.proofs.Common.{◌∙◌, ℕ, List, Err, ap, sym, subst}
 use Rattle.idn_text.specs.declared.refusal.Refusal.TheVariants.{Empty, NotUtf8}
 use Rattle.idn2_cli.specs.Explained.{SeeksNoCause}
-use Rattle.idn2_cli.proofs.RefusedLines.{emits_explained, emits_points, refused_without}
+use Rattle.idn2_cli.proofs.RefusedLines.{emits_explained, refused_without}
 use Rattle.idn_text.proofs.Utf8Lemmas.{points_from_utf8}
 use Rattle.idn2_cli.specs.inner.Emitting.{StopsForMemory}
 use Rattle.idn2_cli.proofs.TextAnswers.{text_answer-not_utf8, text_answer-empty, text_answer-points}
 use Rattle.idn2_cli.proofs.modes.code_points.ByPointsAnswering.answer.Goals as goal
 
 pub returns-in-Err-clause-written : goal.returns-in-Err-clause-written
-returns-in-Err-clause-written g c = rw (text_answer-not_utf8 (g.M.PointAnswering.answer_of c.args.self.now.mode.now) c.args.text.now c.in-Err.ensures.refused)
-    (emits_explained _ _ _ _ c.args.text.now c.args.number (Err NotUtf8) c.refuse.result c.explaining.ensures (c.refuse.ensures.told (λ e. cc)))
+returns-in-Err-clause-written g c = rw (text_answer-not_utf8 (g.M.PointAnswering.answer_of c.args.self.now.mode.now) c.args.asked.now.text.now c.in-Err.ensures.refused)
+    (emits_explained _ _ _ _ _ _ (Err NotUtf8) c.refuse.result c.explaining.ensures (c.refuse.ensures.told (λ e. cc)))
 
 pub returns-in-Err-clause-refused : goal.returns-in-Err-clause-refused
-returns-in-Err-clause-refused g c = rw (text_answer-not_utf8 (g.M.PointAnswering.answer_of c.args.self.now.mode.now) c.args.text.now c.in-Err.ensures.refused) c.refuse.ensures.refused
+returns-in-Err-clause-refused g c = rw (text_answer-not_utf8 (g.M.PointAnswering.answer_of c.args.self.now.mode.now) c.args.asked.now.text.now c.in-Err.ensures.refused) c.refuse.ensures.refused
 
 pub returns-in-Ok-clause-written : goal.returns-in-Ok-clause-written
 returns-in-Ok-clause-written g c =
     let empty = sym c.is_empty.ensures ∙ c.if-is_empty.true in
     rw (text_answer-empty (g.M.PointAnswering.answer_of c.args.self.now.mode.now) _ _ c.in-Ok.ensures.decoded empty)
-    (emits_explained _ _ _ _ c.args.text.now c.args.number (Err Empty) c.refuse-in-Ok.result c.explaining-in-Ok.ensures (c.refuse-in-Ok.ensures.told (λ e. cc)))
+    (emits_explained _ _ _ _ _ _ (Err Empty) c.refuse-in-Ok.result c.explaining-in-Ok.ensures (c.refuse-in-Ok.ensures.told (λ e. cc)))
 
 pub returns-in-Ok-clause-refused : goal.returns-in-Ok-clause-refused
 returns-in-Ok-clause-refused g c =
@@ -29,7 +29,7 @@ pub returns-in-Ok-2-clause-written : goal.returns-in-Ok-2-clause-written
 returns-in-Ok-2-clause-written g c =
     let some = sym c.is_empty.ensures ∙ c.if-is_empty.false in
     rw (text_answer-points (g.M.PointAnswering.answer_of c.args.self.now.mode.now) _ _ c.in-Ok-2.ensures.decoded some)
-    (emits_points _ _ _ _ _ _ _ c.answer_points.result c.in-Ok-2.ensures.decoded (rw c.as_slice.ensures.value at c.answer_points.ensures.written))
+    (rw c.as_slice.ensures.value at c.answer_points.ensures.written)
 
 pub returns-in-Ok-2-clause-refused : goal.returns-in-Ok-2-clause-refused
 returns-in-Ok-2-clause-refused g c =
@@ -49,7 +49,7 @@ returns-in-Ok-2-clause-no_memory g c =
 
 pub returns-in-Err-clause-no_memory : goal.returns-in-Err-clause-no_memory
 returns-in-Err-clause-no_memory g c = λ none.
-    refused_without _ _ NotUtf8 c.refuse.result (λ e. cc) (λ other. text_answer-not_utf8 (g.M.PointAnswering.answer_of c.args.self.now.mode.now) c.args.text.now c.in-Err.ensures.refused)
+    refused_without _ _ NotUtf8 c.refuse.result (λ e. cc) (λ other. text_answer-not_utf8 (g.M.PointAnswering.answer_of c.args.self.now.mode.now) c.args.asked.now.text.now c.in-Err.ensures.refused)
     (λ untold. c.refuse.ensures.why (c.explaining.ensures ∙ untold)) none.causeless
 
 pub returns-in-Ok-clause-no_memory : goal.returns-in-Ok-clause-no_memory

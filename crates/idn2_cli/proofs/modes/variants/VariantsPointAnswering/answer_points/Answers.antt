@@ -2,13 +2,13 @@ use Rattle.std.proofs.Common.{Err, ap, ◌∙◌}
 use Rattle.std.specs.Option.{option_copied}
 use Rattle.idn2_options.specs.Settings.{keeping}
 use Rattle.idn2_cli.proofs.ListingProgress.{answer-refused}
-use Rattle.idn2_cli.proofs.RefusedLines.{emits_explained_points, emits_refusal, refused_without}
+use Rattle.idn2_cli.proofs.RefusedLines.{emits_explained, emits_refusal, refused_without}
 use Rattle.idn2_cli.proofs.modes.variants.VariantsPointAnswering.answer_points.Goals as goal
 
 pub returns-in-Err-clause-written : goal.returns-in-Err-clause-written
 returns-in-Err-clause-written g c =
-    emits_explained_points _ _ _ _ _ _ _ c.refuse_points.result c.explaining.ensures
-    (emits_refusal _ _ _ _ c.in-Err.refusal _ c.refuse_points.result (λ other. answer-refused (keeping (option_copied c.args.self.now.registered) c.args.self.now.options.now) c.args.self.now.table.now c.args.points.now c.in-Err.refusal (c.in-Err.ensures.fault other))
+    emits_explained _ _ _ _ _ _ _ c.refuse_points.result c.explaining.ensures
+    (emits_refusal _ _ _ _ _ c.in-Err.refusal _ c.refuse_points.result (λ other. answer-refused (keeping (option_copied c.args.self.now.registered) c.args.self.now.options.now) c.args.self.now.table.now c.args.points.now c.in-Err.refusal (c.in-Err.ensures.fault other))
     c.refuse_points.ensures.told c.refuse_points.ensures.memory c.refuse_points.ensures.begun)
 
 pub returns-in-Ok-clause-no_memory : goal.returns-in-Ok-clause-no_memory

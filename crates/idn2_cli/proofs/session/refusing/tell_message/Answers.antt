@@ -1,7 +1,7 @@
 use Rattle.std.proofs.Common.{◌∙◌}
 use Rattle.idn2_cli.specs.Transcript.{Message}
 use Rattle.idn2_cli.proofs.WrittenPieces.{emits_as}
-use Rattle.idn2_cli.proofs.session.refusing.tell.Goals as goal
+use Rattle.idn2_cli.proofs.session.refusing.tell_message.Goals as goal
 
 pub returns-in-Some-clause-told : goal.returns-in-Some-clause-told
 returns-in-Some-clause-told g c =

@@ -1,0 +1,294 @@
+#!/usr/bin/env python3
+"""Answers as objects: `--json`, in each mode.
+
+Each row is a line, the words of a command and the objects, made by hand from the RFCs and from docs/JSON.md. Each line that is
+written is read by Python's `json`, and held against docs/answers.schema.json: by the package `jsonschema` where it is there,
+and else by a check of the members alone. What a run says with `--json` is compared with what it says with `--explain`. The last
+line is 'N passed, M failed', and the exit status is 0 where nothing failed."""
+
+import json
+import os
+import re
+import sys
+
+from explained import MORE_ROWS, ROWS as CAUSES, SOURCES, given_of, words_of
+from program import ROOT, TABLES, expect, run, run_tests, table_file
+
+try:
+    import jsonschema
+except ImportError:
+    jsonschema = None
+
+GERMAN = ["--variants", os.path.join(TABLES, "german.txt")]
+HAN = ["--variants", os.path.join(TABLES, "han.txt")]
+REGISTER, DECODE, LOOKUP = ["-r"], ["-d"], ["-l"]
+
+with open(os.path.join(ROOT, "docs", "answers.schema.json"), encoding="utf-8") as file:
+    SCHEMA = json.load(file)
+
+
+def refused(line, number, text, **members):
+    return {"line": 1, "input": line, "refusal": {"number": number, "text": text, **members}}
+
+
+def point(code_point, place, rule=None):
+    members = {"code_point": code_point, "place": place}
+    return members if rule is None else {**members, "rule": rule}
+
+
+BARRED, CONTEXT = "disallowed code point", "code point out of context"
+
+# Lines; the words beside --json; the objects; the status.
+ROWS = [
+    ("faß", REGISTER, [{"line": 1, "input": "faß", "ulabel": "faß", "alabel": "xn--fa-hia"}], 0),
+    ("xn--fa-hia", REGISTER, [{"line": 1, "input": "xn--fa-hia", "ulabel": "faß", "alabel": "xn--fa-hia"}], 0),
+    ("haus", REGISTER, [{"line": 1, "input": "haus", "ulabel": "haus", "alabel": "haus"}], 0),
+    ("Faß", REGISTER, [refused("Faß", 10, BARRED, **point("U+0046", 1, "RFC 5892 2.2"))], 1),
+    ('a"b', REGISTER, [refused('a"b', 10, BARRED, **point("U+0022", 2, "RFC 5892 2.1"))], 1),
+    ("a\\b", REGISTER, [refused("a\\b", 10, BARRED, **point("U+005C", 2, "RFC 5892 2.1"))], 1),
+    ("a\tb", REGISTER, [refused("a\tb", 10, BARRED, **point("U+0009", 2, "RFC 5892 2.3"))], 1),
+    ("a\x01", REGISTER, [refused("a\x01", 10, BARRED, **point("U+0001", 2, "RFC 5892 2.1"))], 1),
+    ("a\r\r", REGISTER, [refused("a\r", 10, BARRED, **point("U+000D", 2, "RFC 5892 2.3"))], 1),
+    ("a\u0378", REGISTER, [refused("a\u0378", 11, "unassigned code point", **point("U+0378", 2, "RFC 5892 2.10"))], 1),
+    ("xa\u0301", REGISTER, [refused("xa\u0301", 12, "not in NFC", **point("U+0061", 2), nfc="U+00E1")], 1),
+    ("ab--c", REGISTER, [refused("ab--c", 13, "hyphen out of place", **point("U+002D", 3))], 1),
+    ("\u0301a", REGISTER, [refused("\u0301a", 14, "leading combining mark", **point("U+0301", 1))], 1),
+    ("a\u200Cb", REGISTER, [refused("a\u200Cb", 15, "joiner out of context", **point("U+200C", 2, "RFC 5892 A.1"))], 1),
+    ("a·l", REGISTER, [refused("a·l", 16, CONTEXT, **point("U+00B7", 2, "RFC 5892 A.3"))], 1),
+    ("ab\u05D0", REGISTER,
+     [refused("ab\u05D0", 17, "Bidi rule broken", **point("U+05D0", 3, "RFC 5893 2 condition 5"), bidi_class="R")], 1),
+    ("a" * 64, REGISTER, [refused("a" * 64, 18, "label too long", code_points=64)], 1),
+    ("a" * 62 + "ü", REGISTER, [refused("a" * 62 + "ü", 18, "label too long", octets=70)], 1),
+    ("xn--", REGISTER, [refused("xn--", 19, "not an A-label")], 1),
+    ("xn--a-", REGISTER, [refused("xn--a-", 19, "not an A-label", alabel="a")], 1),
+    ("xn--faß", REGISTER, [refused("xn--faß", 19, "not an A-label", **point("U+00DF", 7))], 1),
+    ("xn--a_", REGISTER, [refused("xn--a_", 19, "not an A-label", rule="RFC 3492 6.2")], 1),
+    ("xn--ls8h", REGISTER, [refused("xn--ls8h", 10, BARRED, decoded=True, **point("U+1F4A9", 1, "RFC 5892 2.1"))], 1),
+    ("", REGISTER, [refused("", 3, "empty")], 1),
+    (b"ab\xffc", REGISTER, [{"line": 1, "input_hex": "6162FF63", "refusal": {"number": 1, "text": "not UTF-8", "byte": 3}}], 1),
+    ("a" * 1025, REGISTER, [refused(None, 2, "line too long")], 1),
+    ("faß\na-\nb", REGISTER,
+     [{"line": 1, "input": "faß", "ulabel": "faß", "alabel": "xn--fa-hia"},
+      {"line": 2, "input": "a-", "refusal": {"number": 13, "text": "hyphen out of place", **point("U+002D", 2)}},
+      {"line": 3, "input": "b", "ulabel": "b", "alabel": "b"}], 1),
+    ("Faß.de", LOOKUP, [{"line": 1, "input": "Faß.de", "ascii": "xn--fa-hia.de"}], 0),
+    ("a b.de", LOOKUP, [{"line": 1, "input": "a b.de", "ascii": "a b.de"}], 0),
+    ('a"b.de', LOOKUP, [{"line": 1, "input": 'a"b.de', "ascii": 'a"b.de'}], 0),
+    ("0a.\u05D0", LOOKUP, [refused("0a.\u05D0", 20, "not a valid name")], 1),
+    ("a..b", LOOKUP, [refused("a..b", 21, "name or label length", label=2, octets=0)], 1),
+    (".".join(["a" * 63] * 3 + ["a" * 62]), LOOKUP,
+     [refused(".".join(["a" * 63] * 3 + ["a" * 62]), 21, "name or label length", octets=254)], 1),
+    ("XN--4DB.de", DECODE, [{"line": 1, "input": "XN--4DB.de", "unicode": "\u05D0.de"}], 0),
+    ("ü.XN--4DB", DECODE, [{"line": 1, "input": "ü.XN--4DB", "unicode": "ü.\u05D0"}], 0),
+    ("xn--4db.xn--ls8h", DECODE,
+     [refused("xn--4db.xn--ls8h", 10, BARRED, label=2, decoded=True, **point("U+1F4A9", 1, "RFC 5892 2.1"))], 1),
+    ("straße", GERMAN,
+     [{"line": 1, "ulabel": "strasse", "alabel": "strasse", "disposition": "allocatable"},
+      {"line": 1, "ulabel": "straße", "alabel": "xn--strae-oqa", "disposition": "allocatable"},
+      {"line": 1, "input": "straße", "count": 2, "complete": True}], 0),
+    ("strasse", GERMAN + ["--limit", "1"],
+     [{"line": 1, "ulabel": "strasse", "alabel": "strasse", "disposition": "allocatable"},
+      {"line": 1, "input": "strasse", "count": 1, "complete": False, "after": "strasse"}], 0),
+    ("中國", HAN,
+     [{"line": 1, "ulabel": "中国", "alabel": "xn--fiqs8s"}, {"line": 1, "ulabel": "中國", "alabel": "xn--fiqz9s"},
+      {"line": 1, "input": "中國", "count": 2, "complete": True}], 0),
+    ("mañana", GERMAN, [refused("mañana", 40, "not made of table entries", **point("U+00F1", 3))], 1),
+    ("maus", GERMAN + ["--after", "z"], [{"line": 1, "input": "maus", "count": 0, "complete": True}], 0),
+    ("strasse\tstrasz", GERMAN + ["--jump"], [{"line": 1, "input": "strasse\tstrasz", "ulabel": "straße"}], 0),
+    ("strasse\tu", GERMAN + ["--jump"], [{"line": 1, "input": "strasse\tu", "ulabel": None}], 0),
+    ("oa\tx", SOURCES + ["--jump"], [refused("oa\tx", 40, "not made of table entries", **point("U+0061", 2))], 1),
+]
+
+
+def text_of(objects):
+    """The objects as the program writes them: no blank, members in order, and the shortest escapes."""
+    return "".join(json.dumps(each, ensure_ascii=False, separators=(",", ":")) + "\n" for each in objects).encode()
+
+
+def resolved(schema):
+    return SCHEMA["$defs"][schema["$ref"].rsplit("/", 1)[1]] if "$ref" in schema else schema
+
+
+def has_members(each, schema):
+    """Whether the object has the members of the schema, and no other."""
+    return set(schema["required"]) <= set(each) <= set(schema["properties"])
+
+
+def expect_schema(each):
+    if jsonschema is not None:
+        jsonschema.validate(each, SCHEMA)
+        return
+    kinds = [resolved(kind) for kind in SCHEMA["oneOf"]]
+    assert sum(has_members(each, kind) for kind in kinds) >= 1, each
+    if "refusal" in each:
+        assert has_members(each["refusal"], SCHEMA["$defs"]["refusal"]), each
+
+
+def objects_of(output):
+    objects = [json.loads(line) for line in output.decode().split("\n")[:-1]]
+    for each in objects:
+        expect_schema(each)
+    return objects
+
+
+def expect_row(folder, line, words, objects, status):
+    words = words_of(folder, words)
+    for more in (["--json"], ["--json", "--explain"]):
+        expect(words + more, given_of(line), text_of(objects), b"", status)
+    objects_of(text_of(objects))
+
+
+def answers_the_rows(folder):
+    for row in ROWS:
+        expect_row(folder, *row)
+
+
+def checks_a_table(folder):
+    words = ["--check-table", table_file(folder, b"0073-0073|00DF\n00DF\n")]
+    found = [{"source": "00DF", "missing": "0073-0073"}, {"entries": 2, "gaps": 1}]
+    expect(words + ["--json"], b"", text_of(found), b"", 1)
+    objects_of(text_of(found))
+
+
+def tells_the_fault_of_a_table(folder):
+    table = table_file(folder, b"0061\nzz\n")
+    fault = text_of([{"table_line": 2, "refusal": {"number": 30, "text": "table syntax"}}])
+    objects_of(fault)
+    for words in (["--check-table", table], ["--variants", table], ["--variants", table, "--jump"]):
+        expect(words + ["--json"], b"", fault, b"", 2)
+
+
+def tells_the_fault_of_the_registered_labels(folder):
+    registered = table_file(folder, "haus\nb-\n".encode(), "registered.txt")
+    fault = text_of([{"registered_line": 2, "refusal": {"number": 13, "text": "hyphen out of place"}}])
+    objects_of(fault)
+    expect(GERMAN + ["--among", registered, "--json"], b"haus\n", fault, b"", 2)
+
+
+def lists_registered_labels(folder):
+    registered = table_file(folder, "haus\nstrasse\n".encode(), "registered.txt")
+    objects = [
+        {"line": 1, "ulabel": "strasse", "alabel": "strasse", "disposition": "allocatable"},
+        {"line": 1, "input": "straße", "count": 1, "complete": True}, {"line": 2, "input": "maus", "count": 0, "complete": True},
+    ]
+    expect(GERMAN + ["--among", registered, "--json"], "straße\nmaus\n".encode(), text_of(objects), b"", 0)
+    stopped = [objects[0], {"line": 1, "input": "straße", "count": 1, "complete": False, "after": "strasse"}]
+    expect(GERMAN + ["--among", registered, "--limit", "1", "--json"], "straße\n".encode(), text_of(stopped), b"", 0)
+
+
+def ends_with_messages(folder):
+    """What ends a run is a message, as ever."""
+    expect(GERMAN[:1] + [os.path.join(folder, "missing.txt"), "--json"], b"a\n", b"", b"idn2: 60 read fault\n", 3)
+    for words in (["--json", "--json", "x"], ["--json", "--explain", "--explain", "x"], ["--json", "-r", "-d"]):
+        expect(words, b"", b"", b"idn2: 50 usage\n", 2)
+
+
+def cause_of(refusal):
+    """The cause of a refusal as a message has it, as far as the object tells it."""
+    parts = []
+    if "decoded" in refusal:
+        parts.append("decoded")
+    if "code_point" in refusal and refusal["number"] != 13:
+        parts.append(f"{refusal['code_point']} at place {refusal['place']}")
+    elif "place" in refusal:
+        parts.append(f"place {refusal['place']}")
+    if "label" in refusal:
+        parts.append(f"label {refusal['label']}")
+    if "bidi_class" in refusal:
+        parts.append(f"is {refusal['bidi_class']}")
+    if "rule" in refusal:
+        parts.append(refusal["rule"].replace(" condition", ", condition").replace("profile", "outside the profile"))
+    if "nfc" in refusal:
+        parts.append(f"NFC has {refusal['nfc']}")
+    for name, words in (("code_points", "{} code points"), ("octets", "{} octets"), ("alabel", "the A-label is {}"), ("byte", "at byte {}")):
+        if name in refusal:
+            parts.append(words.format(refusal[name]))
+    return parts
+
+
+def tells_the_causes_of_messages(folder):
+    """Each part of a cause that an object tells stands in the message of the same line, and the text before it is the same."""
+    for line, words, text, _ in CAUSES + MORE_ROWS:
+        words = words_of(folder, words)
+        message = run(words + ["--explain"], given_of(line)).stderr.decode()
+        done = run(words + ["--json"], given_of(line))
+        [each] = objects_of(done.stdout) if text is not None else [None]
+        if each is None:
+            continue
+        assert done.stderr == b"" and message.startswith(f"idn2: line 1: {each['refusal']['number']} {each['refusal']['text']}"), line
+        for part in cause_of(each["refusal"]):
+            assert part in message, (line, part, message)
+
+
+def plain_of(each):
+    """The line that says the same as an object without `--json`; None of a refusal, which is a message."""
+    if "refusal" in each:
+        return None
+    if "count" in each:
+        return f"#end {each['count']}" if each["complete"] else f"#stop {each['count']} {each['after']}"
+    if "disposition" in each:
+        return f"{each['ulabel']}\t{each['alabel']}\t{each['disposition']}"
+    if "input" not in each:
+        return f"{each['ulabel']}\t{each['alabel']}"
+    for name in ("alabel", "ascii", "unicode", "ulabel"):
+        if name in each:
+            return "#end" if each[name] is None else each[name]
+    raise AssertionError(each)
+
+
+def says_what_it_says_without(folder):
+    """Each mode over many lines: the objects, put into the words of plain answers, are the output and the messages without."""
+    lines = [row[0] for row in CAUSES + MORE_ROWS] + [row[0] for row in ROWS]
+    given = b"".join(given_of(line) for line in lines)
+    for words in (LOOKUP, REGISTER, DECODE, GERMAN, GERMAN + ["--limit", "1"], HAN, GERMAN + ["--jump"]):
+        plain, in_json = run(words, given), run(words + ["--json"], given)
+        objects = objects_of(in_json.stdout)
+        said = [plain_of(each) for each in objects if "refusal" not in each]
+        told = [f"idn2: line {each['line']}: {each['refusal']['number']} {each['refusal']['text']}" for each in objects if "refusal" in each]
+        assert plain.stdout.decode() == "".join(line + "\n" for line in said), words
+        assert plain.stderr.decode() == "".join(line + "\n" for line in told), words
+        assert in_json.stderr == b"" and plain.returncode == in_json.returncode, words
+
+
+def tells_each_line_as_it_was_read(folder):
+    lines = [row[0] for row in CAUSES + MORE_ROWS] + [row[0] for row in ROWS if "\n" not in str(row[0])]
+    given = b"".join(given_of(line) for line in lines)
+    for words in (LOOKUP, REGISTER, DECODE, GERMAN):
+        ends = {each["line"]: each for each in objects_of(run(words + ["--json"], given).stdout) if "input" in each or "input_hex" in each}
+        for number, line in enumerate(given.split(b"\n")[:-1], 1):
+            each, line = ends[number], line.removesuffix(b"\r")
+            if len(line) > 1024:
+                assert each["input"] is None, each
+            elif "input_hex" in each:
+                assert bytes.fromhex(each["input_hex"]) == line, each
+            else:
+                assert each["input"].encode() == line, each
+
+
+def answers_the_longest_lines(folder):
+    """Lines of 1,024 bytes, each of which is escaped by six: the longest objects."""
+    for line in ("\x01" * 1024, "\\" * 1024, "ü" * 512, "\U0010FFFF" * 256, ".".join(["a"] * 512)):
+        for words in (LOOKUP, REGISTER, DECODE, GERMAN, GERMAN + ["--jump"]):
+            done = run(words + ["--json"], given_of(line))
+            [each] = objects_of(done.stdout)
+            assert each["input"] == line and done.stderr == b"", (words, line[:10])
+            assert re.fullmatch(rb"[^\x00-\x1f]+\n", done.stdout), (words, line[:10])
+
+
+TESTS = [
+    answers_the_rows,
+    checks_a_table,
+    tells_the_fault_of_a_table,
+    tells_the_fault_of_the_registered_labels,
+    lists_registered_labels,
+    ends_with_messages,
+    tells_the_causes_of_messages,
+    says_what_it_says_without,
+    tells_each_line_as_it_was_read,
+    answers_the_longest_lines,
+]
+
+if __name__ == "__main__":
+    if jsonschema is None:
+        print("json_answers: the package jsonschema is not here, so members alone are held against the schema")
+    sys.exit(run_tests("json_answers", TESTS))
