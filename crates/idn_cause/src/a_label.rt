@@ -7,7 +7,8 @@ ghost use Rattle.idn_label.specs.FirstFault.{first_fault};
 ghost use Rattle.idn_label.specs.Register.{confirmed, decoded_code, u_label_answer};
 ghost use Rattle.idn_cause.specs.ALabelCauses.{a_label_cause, code_fault, decoded_cause, other_a_label, past_ascii, undecoded_cause};
 
-use crate::cause::{Cause, cause_of};
+use crate::cause::Cause;
+use crate::label::cause_of;
 use crate::places::code_point_at;
 use arrayvec::{ArrayString, ArrayVec};
 use idn_label::{ALabel, MAX_LABEL_LEN, ascii_text, is_all_ascii, test_label};
