@@ -1,19 +1,16 @@
 //! Why what begins with `xn--` is refused.
-ghost use Rattle.std.specs.Prelude.{◌≡◌, ◌<◌, ◌≤◌, length, drop, bytes_eq, Ok, Err, IfOk, IfSome, MatchOption};
+ghost use Rattle.std.specs.Prelude.{◌≡◌, ◌<◌, ◌≤◌, length, drop, bytes_eq, IfOk, IfSome};
 ghost use Rattle.std.specs.Result.{is_ok};
 ghost use Rattle.idn_text.specs.Points.{AreScalarValues};
-ghost use Rattle.idn_text.specs.declared.refusal.Refusal.TheVariants as refusals;
 ghost use Rattle.idn_label.specs.FirstFault.{first_fault};
-ghost use Rattle.idn_label.specs.Register.{confirmed, decoded_code, u_label_answer};
+ghost use Rattle.idn_label.specs.Register.{confirmed, u_label_answer};
 ghost use Rattle.idn_cause.specs.ALabelCauses.{a_label_cause, code_fault, decoded_cause, other_a_label, past_ascii, undecoded_cause};
 
 use crate::cause::Cause;
 use crate::label::cause_of;
-use crate::places::code_point_at;
-use arrayvec::{ArrayString, ArrayVec};
-use idn_label::{ALabel, MAX_LABEL_LEN, ascii_text, is_all_ascii, test_label};
+use arrayvec::ArrayVec;
+use idn_label::{ALabel, MAX_LABEL_LEN, code_point_at, decoded_code, test_label};
 use idn_text::{MAX_LINE_LEN, Refusal};
-use idna::{Errors, punycode};
 use std::alloc::{AllocError, Global};
 
 /// What gives an A-label its fault. Places are counted from 0, in code points.
@@ -79,36 +76,6 @@ fn code_of(given: &[u32]) -> &[u32]
     ensures { result.now ≡ drop 4 given.now }
 {
     if given.len() <= 4 { &[] } else { &given[4..] }
-}
-
-/// What a code stands for, if it is Punycode.
-#[tactic(auto, unfolding(idn_label::specs::Register::decoded_code))]
-fn decoded_code(alloc: Global, code: &[u32]) -> Result<Option<Vec<u32>>, AllocError>
-    requires { length code.now ≤ MAX_LINE_LEN }
-    ensures label { IfOk result (λ label. MatchOption label (decoded_code code.now ≡ Err refusals.BadALabel) (λ points. decoded_code code.now ≡ Ok points.items)) }
-    ensures scalar_values { IfOk result (λ label. MatchOption label (Unit {0}) (λ points. AreScalarValues points.items)) }
-{
-    if code.is_empty() || !is_all_ascii(code) {
-        return Ok(None);
-    }
-    let text: ArrayString<MAX_LINE_LEN> = ascii_text(code);
-    match punycode::decode(alloc, text.as_str()) {
-        Ok(label) => Ok(Some(points_of(alloc, &label)?)),
-        Err(Errors::Invalid) => Ok(None),
-        Err(Errors::OutOfMemory) => Err(AllocError),
-    }
-}
-
-/// A label as numbers.
-fn points_of(alloc: Global, label: &[char]) -> Result<Vec<u32>, AllocError>
-    ensures points { IfOk result (λ points. points.items ≡ label.now) }
-    ensures scalar_values { IfOk result (λ points. AreScalarValues points.items) }
-{
-    let mut points = Vec::with_capacity(alloc, label.len())?;
-    for character in label {
-        points.push(u32::from(*character))?;
-    }
-    Ok(points)
 }
 
 /// The cause where the code stands for no label.

@@ -6,11 +6,12 @@ ghost use Rattle.idn_cause.specs.Causes.{barred_at, barred_place, cause_of, cond
 use crate::cause::Cause;
 use crate::lengths::length_at;
 use crate::normalization::changed_at;
-use crate::places::{barred_place, code_point_at, misplaced_hyphen};
+use crate::places::{barred_place, misplaced_hyphen};
 use idn_class::{
     BidiClass, Broken, barring_line, broken_condition, leading_mark, misplaced_joiner,
     misplaced_other,
 };
+use idn_label::code_point_at;
 use idn_text::Refusal;
 use std::alloc::{AllocError, Global};
 

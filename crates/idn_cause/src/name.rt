@@ -4,7 +4,7 @@ ghost use Rattle.std.specs.Char.{to_ascii_lowercase};
 ghost use Rattle.idn_cause.specs.NameCauses.{cause_at_label, is_decoded, name_cause};
 
 use crate::a_label::{ALabelCause, a_label_cause, is_a_label};
-use idn_label::{has_ace_prefix_in_any_case, label_end};
+use idn_label::{has_ace_prefix_in_any_case, label_end, to_lowercase};
 use idn_text::{MAX_LINE_LEN, Refusal};
 use std::alloc::{AllocError, Global};
 
@@ -87,15 +87,4 @@ fn lowercase_of(alloc: Global, label: &[u32]) -> Result<Vec<u32>, AllocError>
         lower.push(to_lowercase(*point))?;
     }
     Ok(lower)
-}
-
-/// A code point in lower case, if it is an ASCII capital.
-fn to_lowercase(point: u32) -> u32
-    ensures { result ≡ to_ascii_lowercase point }
-{
-    if matches!(point, 0x41..=0x5A) {
-        point + 0x20
-    } else {
-        point
-    }
 }

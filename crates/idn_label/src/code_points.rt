@@ -72,7 +72,8 @@ pub(crate) fn to_char(c: u32) -> char
 
 /// A label as numbers.
 pub(crate) fn points_of(alloc: Global, label: &[char]) -> Result<Vec<u32>, AllocError>
-    ensures { IfOk result (λ points. points.items ≡ label.now) }
+    ensures points { IfOk result (λ points. points.items ≡ label.now) }
+    ensures scalar_values { IfOk result (λ points. AreScalarValues points.items) }
 {
     // Not by `collect`, which goes on where the room that it takes ahead is refused.
     let mut points = Vec::with_capacity(alloc, label.len())?;
