@@ -16,11 +16,11 @@ use std::alloc::{AllocError, Global};
 /// What gives an A-label its fault. Places are counted from 0, in code points.
 #[derive(Drop)]
 pub enum ALabelCause {
-    /// Nothing stands behind `xn--`.
+    /// Nothing stands after `xn--`.
     NoCode,
     /// A place and the code point there, the first that is not ASCII.
     NotAscii(usize, u32),
-    /// What stands behind `xn--` is no Punycode.
+    /// What stands after `xn--` is no Punycode.
     NoPunycode,
     /// The A-label of what it stands for, which is another one.
     Other(ArrayVec<u8, MAX_LABEL_LEN>),
@@ -71,7 +71,7 @@ fn is_confirmed(alloc: Global, given: &[u32], label: &[u32]) -> Result<bool, All
     }
 }
 
-/// What stands behind the four code points of the prefix.
+/// What stands after the four code points of the prefix.
 fn code_of(given: &[u32]) -> &[u32]
     ensures { result.now ≡ drop 4 given.now }
 {
