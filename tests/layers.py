@@ -6,6 +6,7 @@ where nothing failed. `--draw` draws the layers in that document as the source h
 import collections
 import functools
 import glob
+import graphlib
 import os
 import re
 import sys
@@ -109,7 +110,7 @@ def goes_up_nowhere(folder):
     for name, graph in graphs():
         layer_of = {module: number for number, layer in enumerate(drawing()[name]) for module in layer}
         up |= {(name, module, other) for module, others in graph.items() for other in others
-               if layer_of[other] >= layer_of[module]}
+               if {module, other} <= set(layer_of) and layer_of[other] >= layer_of[module]}
     assert not up, ("move what both need into a module below them", up)
 
 
@@ -172,9 +173,13 @@ def drawn_anew(graph):
 
 
 def draw():
-    """Puts the drawing of the source as it stands into the document."""
+    """Puts the drawing of the source as it stands into the document. Where modules use each other there is none."""
     lines = []
     for name, graph in graphs():
+        try:
+            graphlib.TopologicalSorter(graph).prepare()
+        except graphlib.CycleError as circle:
+            sys.exit(f"{name}: no layers, since these use each other: {', '.join(circle.args[1])}")
         lines += [f"    {name}", *(f"      {' '.join(layer)}" for layer in drawn_anew(graph))]
     text = text_of("docs", "ARCHITECTURE.md").replace(drawn_block(), "".join(line + "\n" for line in lines))
     with open(os.path.join(ROOT, "docs", "ARCHITECTURE.md"), "w", encoding="utf-8") as document:
