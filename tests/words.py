@@ -91,9 +91,9 @@ def names_of(path):
 
 
 def folders_of(kind, path):
-    """The kind in the folder at the top, and the crate, as exceptions name them."""
+    """The kind in the folder at the top, and the name of the crate, as exceptions name them."""
     first, second, *_ = path.split("/") + [""]
-    return f"{kind} of {first}", f"{first}/{second}"
+    return [f"{kind} of {first}", *([second] if first == "crates" else [])]
 
 
 def expect_none(kind, texts):
