@@ -42,7 +42,7 @@ pub fn a_label_cause(
 {
     let code = code_of(given);
     match decoded_code(alloc, code)? {
-        Some(label) => Ok(decoded_cause(alloc, given, &label, refusal)?),
+        Some(label) => decoded_cause(alloc, given, &label, refusal),
         None => Ok(undecoded_cause(code, refusal)),
     }
 }
@@ -54,7 +54,7 @@ pub(crate) fn is_a_label(alloc: Global, given: &[u32]) -> Result<bool, AllocErro
     ensures { IfOk result (λ is. is ≡ is_ok (u_label_answer given.now)) }
 {
     match decoded_code(alloc, code_of(given))? {
-        Some(label) => Ok(is_confirmed(alloc, given, &label)?),
+        Some(label) => is_confirmed(alloc, given, &label),
         None => Ok(false),
     }
 }
@@ -125,7 +125,7 @@ fn decoded_cause(
     ensures { IfOk result (λ cause. cause ≡ decoded_cause given.now label.now refusal) }
 {
     match refusal {
-        Refusal::BadALabel => Ok(other_a_label(alloc, given, label)?),
+        Refusal::BadALabel => other_a_label(alloc, given, label),
         _ => match cause_of(alloc, label, refusal)? {
             Some(cause) => Ok(Some(ALabelCause::Decoded(cause))),
             None => Ok(None),

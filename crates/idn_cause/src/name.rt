@@ -35,7 +35,7 @@ pub fn name_cause(
         let end = label_end(name, start);
         let label = &name[start..end];
         if !is_decoded(alloc, label)? {
-            return Ok(cause_at_label(alloc, number, label, refusal)?);
+            return cause_at_label(alloc, number, label, refusal);
         }
         if end == name.len() {
             return Ok(None);
@@ -55,7 +55,7 @@ fn is_decoded(alloc: Global, label: &[u32]) -> Result<bool, AllocError>
         return Ok(true);
     }
     let lower = lowercase_of(alloc, label)?;
-    Ok(is_a_label(alloc, &lower)?)
+    is_a_label(alloc, &lower)
 }
 
 /// The cause of the fault of the label of this number.

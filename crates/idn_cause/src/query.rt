@@ -40,7 +40,7 @@ pub fn query_cause(
     ensures { IfOk result (λ cause. cause ≡ query_cause name.now std3 refusal) }
 {
     match refusal {
-        Refusal::LookupLength => Ok(length_cause_of(alloc, name, std3)?),
+        Refusal::LookupLength => length_cause_of(alloc, name, std3),
         _ => Ok(None),
     }
 }
