@@ -9,17 +9,16 @@ ghost use Rattle.idn_label.specs.ALabel.{a_label_of};
 ghost use Rattle.idn_label.specs.FirstFault.{IsRegistrable};
 ghost use Rattle.idn_label.specs.Memory.{NeedsNoMemory};
 ghost use Rattle.idn_label.proofs.HopeLemmas.{none_hopeless};
-ghost use Rattle.variant_table.specs.WellFormed.{IsWellFormed};
 ghost use Rattle.variant_list.specs.Beginnings.{shortest_hopeless};
 ghost use Rattle.variant_list.specs.Sharing.{IsKeptOf};
-ghost use Rattle.variant_list.specs.Tested.{tested};
+ghost use Rattle.variant_list.specs.Tested.{tested_among};
 ghost use Rattle.variant_list.specs.Verdicts.{IsVerdict};
 ghost use Rattle.idn2_options.specs.Settings.{IsWithinLimits, keeping};
 ghost use Rattle.idn2_cli.specs.Transcript.{outputs, Output};
 ghost use Rattle.idn2_cli.specs.Answers.{is_registrable};
 ghost use Rattle.idn2_cli.specs.Said.{BlockEnd, Listed, disposition_field, said_text, variant_line};
 ghost use Rattle.idn2_cli.specs.inner.Asked.{asked_line};
-ghost use Rattle.idn2_cli.specs.inner.Dispositions.{block_by, field_by, TellsWell};
+ghost use Rattle.idn2_cli.specs.inner.Dispositions.{block_by, field_by};
 ghost use Rattle.idn2_cli.specs.inner.KeptLines.{IsBegun};
 ghost use Rattle.idn2_cli.specs.inner.LineAnswers.{reaches};
 ghost use Rattle.idn2_cli.specs.inner.Emitting.{Emits, StopsForMemory};
@@ -53,11 +52,10 @@ pub(crate) fn write_block<W: Sink, E: Sink>(
 ) -> Result<(), Stop>
     requires few { length asked.now.text.now ≤ MAX_LINE_LEN }
     requires limits { IsWithinLimits options.now }
-    requires table { IsWellFormed net.now.table }
-    requires dispositions { TellsWell dispositions.old }
+    requires spelled { All AreScalarValues net.now.spelled }
     ensures written { Emits console.old console.new
-        (outputs (said_text asked.now.form (asked_line asked.now)) (block_by (field_by dispositions.old) (keeping None options.now) net.now.table net.now.label)) result }
-    ensures begun { StopsForMemory (All NeedsNoMemory (tested hopeless net.now.table net.now.label options.now.after))
+        (outputs (said_text asked.now.form (asked_line asked.now)) (block_by (field_by dispositions.old) (keeping None options.now) net.now.spelled)) result }
+    ensures begun { StopsForMemory (All NeedsNoMemory (tested_among hopeless net.now.spelled options.now.after))
         console.old console.new result }
 {
     let mut cursor = Cursor::new(alloc, net, &options.after)?;

@@ -1,12 +1,12 @@
 //! The block of a label that is kept to registered labels.
 
-ghost use Rattle.std.specs.Prelude.{◌≡◌, ◌≤◌, Some, Err, length};
-ghost use Rattle.variant_table.specs.WellFormed.{IsWellFormed};
+ghost use Rattle.std.specs.Prelude.{◌≡◌, ◌≤◌, Some, All, Err, length};
+ghost use Rattle.idn_text.specs.Points.{AreScalarValues};
 ghost use Rattle.idn2_options.specs.Settings.{IsWithinLimits, keeping};
 ghost use Rattle.idn2_cli.specs.Said.{said_text};
 ghost use Rattle.idn2_cli.specs.Transcript.{outputs};
 ghost use Rattle.idn2_cli.specs.inner.Asked.{asked_line};
-ghost use Rattle.idn2_cli.specs.inner.Dispositions.{block_by, field_by, TellsWell};
+ghost use Rattle.idn2_cli.specs.inner.Dispositions.{block_by, field_by};
 ghost use Rattle.idn2_cli.specs.inner.Emitting.{Emits};
 ghost use Rattle.idn2_cli.specs.declared.session.stop.Stop.TheVariants as stop;
 
@@ -36,10 +36,9 @@ pub(crate) fn write_collisions<W: Sink, E: Sink>(
 ) -> Result<(), Stop>
     requires few { length asked.now.text.now ≤ MAX_LINE_LEN }
     requires limits { IsWithinLimits options.now }
-    requires table { IsWellFormed net.now.table }
-    requires dispositions { TellsWell dispositions.old }
+    requires spelled { All AreScalarValues net.now.spelled }
     ensures written { Emits console.old console.new
-        (outputs (said_text asked.now.form (asked_line asked.now)) (block_by (field_by dispositions.old) (keeping (Some registered.now) options.now) net.now.table net.now.label)) result }
+        (outputs (said_text asked.now.form (asked_line asked.now)) (block_by (field_by dispositions.old) (keeping (Some registered.now) options.now) net.now.spelled)) result }
     ensures begun { result ≡ Err stop.Memory → console.new ≡ console.old }
 {
     // How many there are is more than the count ever is.

@@ -4,7 +4,7 @@ ghost use Rattle.std.specs.Prelude.{◌≡◌, ◌≤◌, length, IfOk, Some};
 ghost use Rattle.variant_table.specs.Entries.{TableValue};
 ghost use Rattle.variant_table.specs.declared.version.Version.TheVariants.{Two};
 ghost use Rattle.idn2_cli.specs.Answers.{disposition_in};
-ghost use Rattle.idn2_cli.specs.inner.Dispositions.{AreOfTable, AreOfLabel, CanBeCut, TellsWell, field_by};
+ghost use Rattle.idn2_cli.specs.inner.Dispositions.{AreOfTable, AreOfLabel, CanBeCut, field_by};
 
 use answer_json::Disposition;
 use std::alloc::{AllocError, Global};
@@ -47,7 +47,6 @@ impl Dispositions<Table> {
         requires short { length label.now ≤ 63 }
         requires cut { CanBeCut self.now label.now }
         ensures label { (table : TableValue) → AreOfTable table self.now → IfOk result (AreOfLabel table label.now) }
-        ensures well { IfOk result TellsWell }
     {
         match self {
             Dispositions::Unstated => Ok(Dispositions::Unstated),
@@ -66,7 +65,6 @@ impl Dispositions<SpellingTest> {
     /// The disposition of a variant, if any is told. Takes no memory.
     #[inline]
     pub fn of_variant(&mut self, variant: &[u32]) -> Option<Disposition>
-        requires { TellsWell self.old }
         ensures field { result ≡ field_by self.old variant.now }
         ensures same { self.new ≡ self.old }
     {

@@ -1,12 +1,12 @@
 //! The least label that a label spells from a text on. A database that has its labels in byte order finds by it which of
 //! them are variants of a label.
 
-ghost use Rattle.std.specs.Prelude.{◌≡◌, ◌≤◌, ◌∷◌, [], true, length, slice_get, IfOk, IfErr, Err, None, Some};
+ghost use Rattle.std.specs.Prelude.{◌≡◌, ◌≤◌, ◌∷◌, [], true, length, slice_get, All, IfOk, IfErr, Err, None, Some};
 ghost use Rattle.std.specs.Result.{is_err};
 ghost use Rattle.idn_text.specs.Points.{AreScalarValues, IsUtf8Of};
 ghost use Rattle.idn_label.specs.FirstFault.{IsRegistrable};
 ghost use Rattle.variant_table.specs.WellFormed.{IsWellFormed};
-ghost use Rattle.variant_list.specs.Jumps.{candidates_from};
+ghost use Rattle.variant_list.specs.Jumps.{candidates_among_from};
 ghost use Rattle.idn2_cli.specs.Answers.{jump_answer, least_answer, requested_label, requested_text};
 ghost use Rattle.idn2_cli.specs.Explained.{ByRequest, if_wanted};
 ghost use Rattle.idn2_cli.specs.Memory.{IsRefusedWithoutMemory};
@@ -121,10 +121,10 @@ fn write_least<W: Sink, E: Sink>(
     console: &mut Console<'_, '_, W, E>,
 ) -> Result<(), Stop>
     requires few { length asked.now.text.now ≤ MAX_LINE_LEN }
-    requires table { IsWellFormed net.now.table }
+    requires spelled { All AreScalarValues net.now.spelled }
     ensures begun { result ≡ Err stop.Memory → console.new ≡ console.old }
     ensures written { Emits console.old console.new (Output (said_text asked.now.form (asked_line asked.now)
-        (Least (slice_get (candidates_from net.now.table net.now.label text.now) 0))) ∷ []) result }
+        (Least (slice_get (candidates_among_from net.now.spelled text.now) 0))) ∷ []) result }
 {
     let mut cursor = Cursor::new(alloc, net, text)?;
     let Some(_shared) = cursor.jump(text) else {

@@ -6,10 +6,11 @@ ghost use Rattle.idn_text.specs.Points.{IsUtf8Of};
 ghost use Rattle.idn_label.specs.FirstFault.{IsRegistrable};
 ghost use Rattle.idn_label.specs.Memory.{NeedsNoMemory};
 ghost use Rattle.variant_table.specs.WellFormed.{IsWellFormed};
+ghost use Rattle.variant_list.specs.Spelled.{spelled};
 ghost use Rattle.std.specs.Option.{option_copied};
 ghost use Rattle.idn2_options.specs.Settings.{IsWithinLimits, keeping, tells_causes};
 ghost use Rattle.idn2_cli.specs.Answers.{variants_answer, listing_answer, tested_after};
-ghost use Rattle.idn2_cli.specs.inner.Dispositions.{AreOfTable, TellsWell, block_by, field_by};
+ghost use Rattle.idn2_cli.specs.inner.Dispositions.{AreOfTable, block_by, field_by};
 ghost use Rattle.idn2_cli.specs.Explained.{ByTable, if_wanted};
 ghost use Rattle.idn2_cli.specs.Memory.{IsRefusedWithoutMemory};
 ghost use Rattle.idn2_cli.specs.Said.{said_text};
@@ -56,7 +57,7 @@ impl<'t, 'r, 'b> PointAnswering for Variants<'t, 'r, 'b> {
 
     ghost needs_none = { λ _ label. IsRefusedWithoutMemory label };
 
-    ghost goes_on = { λ mode label. All NeedsNoMemory (tested_after (keeping (option_copied mode.registered) mode.options.now) mode.table.now.entries label) };
+    ghost goes_on = { λ mode label. All NeedsNoMemory (tested_after (keeping (option_copied mode.registered) mode.options.now) (spelled mode.table.now.entries label)) };
 
     fn explaining(&self) -> Explaining<'_> {
         let options = self.options;
@@ -90,12 +91,11 @@ fn write_lines<W: Sink, E: Sink>(
 ) -> Result<(), Stop>
     requires few { length asked.now.text.now ≤ MAX_LINE_LEN }
     requires limits { IsWithinLimits mode.now.options.now }
-    requires table { IsWellFormed net.now.table }
-    requires dispositions { TellsWell dispositions.old }
+    requires spelled { All AreScalarValues net.now.spelled }
     ensures written { Emits console.old console.new
-        (outputs (said_text asked.now.form (asked_line asked.now)) (block_by (field_by dispositions.old) (keeping (option_copied mode.now.registered) mode.now.options.now) net.now.table net.now.label)) result }
+        (outputs (said_text asked.now.form (asked_line asked.now)) (block_by (field_by dispositions.old) (keeping (option_copied mode.now.registered) mode.now.options.now) net.now.spelled)) result }
     ensures begun { StopsForMemory
-        (All NeedsNoMemory (tested_after (keeping (option_copied mode.now.registered) mode.now.options.now) net.now.table net.now.label))
+        (All NeedsNoMemory (tested_after (keeping (option_copied mode.now.registered) mode.now.options.now) net.now.spelled))
         console.old console.new result }
 {
     match mode.registered {
@@ -135,7 +135,7 @@ fn list<W: Sink, E: Sink>(
     ensures refused { IfOk result
         (λ refused. refused ≡ is_err (listing_answer (keeping (option_copied mode.now.registered) mode.now.options.now) mode.now.table.now label.now)) }
     ensures begun { StopsForMemory
-        (All NeedsNoMemory (tested_after (keeping (option_copied mode.now.registered) mode.now.options.now) mode.now.table.now.entries label.now))
+        (All NeedsNoMemory (tested_after (keeping (option_copied mode.now.registered) mode.now.options.now) (spelled mode.now.table.now.entries label.now)))
         console.old console.new result }
 {
     match Net::build(alloc, mode.table, label) {
