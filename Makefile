@@ -39,6 +39,7 @@ test-crate:
 	@test -d 'crates/$(CRATE)/src' || { echo 'CRATE names no folder of crates/: make test-crate CRATE=idn_label' >&2; exit 2; }
 	python3 tests/edits.py
 	python3 tests/layers.py
+	python3 tests/words.py
 	cd crates/$(CRATE) && $(RT) check
 	$(RT) must-fail $(CRATE)
 	cd crates/idn2_rows && $(RT) try --test

@@ -35,10 +35,9 @@ import itertools
 import pathlib
 import subprocess
 import sys
-import tempfile
 
 from inputs import SEED, TABLE, write_inputs
-from runs import Failed, Run, found, in_turn, version
+from runs import Failed, Run, found, in_turn, measured, version
 
 HERE = pathlib.Path(__file__).resolve().parent
 OURS = HERE.parent / "crates/idn2/out/idn2"
@@ -199,13 +198,5 @@ def measure(options, folder):
         show_instructions(rows, counts)
 
 
-def main():
-    try:
-        with tempfile.TemporaryDirectory() as folder:
-            measure(read_options(), pathlib.Path(folder))
-    except Failed as failure:
-        return str(failure)
-
-
 if __name__ == "__main__":
-    sys.exit(main())
+    sys.exit(measured(read_options, measure))

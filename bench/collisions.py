@@ -31,13 +31,12 @@ import pathlib
 import random
 import subprocess
 import sys
-import tempfile
 import time
 
 import registered
 from bench import HERE, OURS
 from inputs import SEED, TABLE, write
-from runs import ENVIRONMENT, Failed, Run, found, in_turn, version
+from runs import ENVIRONMENT, Failed, Run, found, in_turn, measured, version
 
 # How often the load may take what sort takes, and how many bytes it may hold of a label beside the file.
 LOAD_WANTED, BYTES_WANTED = 2, 8
@@ -279,13 +278,5 @@ def measure(options, folder):
         show_instructions(options, (all_letters, words, han), between)
 
 
-def main():
-    try:
-        with tempfile.TemporaryDirectory() as folder:
-            measure(read_options(), pathlib.Path(folder))
-    except Failed as failure:
-        return str(failure)
-
-
 if __name__ == "__main__":
-    sys.exit(main())
+    sys.exit(measured(read_options, measure))

@@ -17,11 +17,10 @@ The table of the last two is made here.
 import argparse
 import pathlib
 import sys
-import tempfile
 
 from inputs import TABLE, write
 from registered import GERMAN
-from runs import Failed, Run, in_turn, version
+from runs import Failed, Run, in_turn, measured, version
 
 OURS = pathlib.Path(__file__).resolve().parent.parent / "crates/idn2/out/idn2"
 HEBREW = [chr(0x05D0 + number) for number in range(16)]
@@ -93,13 +92,5 @@ def read_options():
     return options
 
 
-def main():
-    try:
-        with tempfile.TemporaryDirectory() as folder:
-            measure(read_options(), pathlib.Path(folder))
-    except Failed as failure:
-        return str(failure)
-
-
 if __name__ == "__main__":
-    sys.exit(main())
+    sys.exit(measured(read_options, measure))

@@ -2,9 +2,11 @@
 
 import dataclasses
 import os
+import pathlib
 import re
 import shutil
 import subprocess
+import tempfile
 import time
 
 ENVIRONMENT = {"LC_ALL": "C.UTF-8", "PATH": "/usr/bin:/bin"}
@@ -100,3 +102,12 @@ def found(program):
 def version(program):
     done = subprocess.run([program, "--version"], capture_output=True, text=True, env=ENVIRONMENT, check=True)
     return done.stdout.split("\n")[0]
+
+
+def measured(read_options, measure):
+    """Measures by the options in a folder of its own, and gives what the process is to end with: why it failed, if it did."""
+    try:
+        with tempfile.TemporaryDirectory() as folder:
+            measure(read_options(), pathlib.Path(folder))
+    except Failed as failure:
+        return str(failure)

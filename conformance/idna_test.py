@@ -7,9 +7,9 @@ VerifyDnsLength on. Lookup has CheckHyphens off, and a test of lengths of its ow
 So the program is run with --usestd3asciirules, and
 
   - V2 and V3, the tests of hyphens, are put aside;
-  - a name with another status must be refused by 20;
+  - a name with another status must be refused with 20;
   - a name with no other status but A4_1, A4_2 or X4_2, those of lengths, must give the file's toAsciiN where the
-    lengths, one full stop at the end put aside, are in range, and else be refused by 21.
+    lengths, one full stop at the end put aside, are in range, and else be refused with 21.
 
 Names are passed over that no line of input can hold: with a surrogate, a line feed, a carriage return at the end, or
 over 1,024 bytes. A difference fails the run if the file is of the Unicode version of the program's tables; differences

@@ -795,7 +795,7 @@ def has_the_options_that_the_guide_says_beside_libidn2(folder):
     said = {option: here for cell, here in rows_of("Options") for option in re.findall(r"`([^`]*)`", cell)}
     for option, here in said.items():
         found = under(PROGRAM, os.path.join(folder, "here"), f"idn2 {option} x")
-        assert ((b"idn2: 50 usage\n", 2) == found) == here.startswith("refused by 50"), (option, here, found)
+        assert ((b"idn2: 50 usage\n", 2) == found) == here.startswith("refused with 50"), (option, here, found)
     others = re.search(r"Neither program has (.*?), some of", GUIDE, re.DOTALL).group(1)
     others = re.findall(r"`([^`]*)`", others)
     assert len(others) == 6, others

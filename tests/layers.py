@@ -6,19 +6,15 @@ where nothing failed. `--draw` draws the layers in that document as the source h
 import collections
 import functools
 import glob
+import graphlib
 import os
 import re
 import sys
 
 from program import ROOT, run_tests, text_of
 
-# What goes up today, each to be removed: (crate, module, what it uses). No other may come.
-TO_BE_REMOVED = {
-    # A cause stands beside the look for all causes; the files for single causes make it.
-    ("idn_cause", "lengths", "cause"),
-    ("idn_cause", "normalization", "cause"),
-}
-# The same of folders: a run serves the modes, and these use the buffers, the console and the stop that stand beside it.
+# Folders that use each other today, to be removed: a run serves the modes, and these use the buffers, the console and the
+# stop that stand beside it. No other may come.
 FOLDERS_TO_BE_REMOVED = {("idn2_cli", "modes", "session")}
 
 # The drawing of the crates themselves, and the crate of which nothing is drawn: each file of it is a test.
@@ -109,13 +105,13 @@ def draws_each_module_once(folder):
 
 
 def goes_up_nowhere(folder):
-    """Each crate and each module uses those of lower layers alone, but for what is to be removed."""
+    """Each crate and each module uses those of lower layers alone."""
     up = set()
     for name, graph in graphs():
         layer_of = {module: number for number, layer in enumerate(drawing()[name]) for module in layer}
         up |= {(name, module, other) for module, others in graph.items() for other in others
-               if layer_of[other] >= layer_of[module]}
-    assert up == TO_BE_REMOVED, ("new", up - TO_BE_REMOVED, "no more, so take it from the list", TO_BE_REMOVED - up)
+               if {module, other} <= set(layer_of) and layer_of[other] >= layer_of[module]}
+    assert not up, ("move what both need into a module below them", up)
 
 
 def has_no_circle_of_folders(folder):
@@ -164,12 +160,11 @@ def says_what_each_crate_stands_on(folder):
             assert said[crate] == set(below), (crate, said[crate] ^ set(below))
 
 
-def drawn_anew(name, graph):
+def drawn_anew(graph):
     """The layers of what is drawn, each module as low as what it uses allows."""
     @functools.cache
     def layer(module):
-        kept = (other for other in graph[module] if (name, module, other) not in TO_BE_REMOVED)
-        return 1 + max(map(layer, kept), default=-1)
+        return 1 + max(map(layer, graph[module]), default=-1)
 
     layers = collections.defaultdict(list)
     for module in graph:
@@ -178,10 +173,14 @@ def drawn_anew(name, graph):
 
 
 def draw():
-    """Puts the drawing of the source as it stands into the document."""
+    """Puts the drawing of the source as it stands into the document. Where modules use each other there is none."""
     lines = []
     for name, graph in graphs():
-        lines += [f"    {name}", *(f"      {' '.join(layer)}" for layer in drawn_anew(name, graph))]
+        try:
+            graphlib.TopologicalSorter(graph).prepare()
+        except graphlib.CycleError as circle:
+            sys.exit(f"{name}: no layers, since these use each other: {', '.join(circle.args[1])}")
+        lines += [f"    {name}", *(f"      {' '.join(layer)}" for layer in drawn_anew(graph))]
     text = text_of("docs", "ARCHITECTURE.md").replace(drawn_block(), "".join(line + "\n" for line in lines))
     with open(os.path.join(ROOT, "docs", "ARCHITECTURE.md"), "w", encoding="utf-8") as document:
         document.write(text)

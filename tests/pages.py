@@ -27,7 +27,7 @@ MANUAL_PAGE = os.path.join(ROOT, "docs", "idn2.1")
 
 # What of docs/PROFILE.md has a figure that isn't counted: what stands in standards, in the program, and in code.
 DECIDED = (r"`[^`]*`", r"RFC \d+(, section \d+)?", "UTS #46", r"docs/idn2\.1", r"U\+200C, ZERO WIDTH NON-JOINER",
-           r"the Arabic block \(U\+0600 to 06FF\)", "refuses that name by 20", "more than 63 code points")
+           r"the Arabic block \(U\+0600 to 06FF\)", "refuses that name with 20", "more than 63 code points")
 
 # Bounds that documents state, each with the clause of a contract or a definition that has it.
 EDGES = ("crates/variant_list/src/net.rt", "result ≤ 68544")
@@ -88,7 +88,7 @@ def counts_the_figures_of_the_profile(folder):
 
 
 def registers_the_code_points_that_are_counted(folder):
-    """Each code point by itself: those that may stand in a label are those that are refused neither by 10 nor by 11."""
+    """Each code point by itself: those that may stand in a label are those that are refused neither with 10 nor by 11."""
     points = [point for point in (*range(0xD800), *range(0xE000, 0x110000)) if chr(point) not in "\r\n"]
     messages = run(["--register"], "".join(chr(point) + "\n" for point in points).encode()).stderr
     barred = {points[int(number) - 1] for number in re.findall(rb"^idn2: line (\d+): 1[01] ", messages, re.MULTILINE)}

@@ -503,7 +503,7 @@ def markdown_blocks(text):
 
 def markdown_files(text):
     """The files that a text in Markdown tells to save: the name and the text of each."""
-    return re.findall(r"ave this as `(\S+)`:\s+^```\w+\n(.*?)^```$", text, re.MULTILINE | re.DOTALL)
+    return re.findall(r"ave (?:this|it) as\s`(\S+)`:\s+^```\w+\n(.*?)^```$", text, re.MULTILINE | re.DOTALL)
 
 
 def manual_blocks(text):

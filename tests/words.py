@@ -90,10 +90,17 @@ def names_of(path):
     return " ".join(word for name in names for word in re.sub(r"([a-z])([A-Z])", r"\1 \2", name).lower().split("_"))
 
 
+def folders_of(kind, path):
+    """The kind in the folder at the top, and the name of the crate, as exceptions name them."""
+    first, second, *_ = path.split("/") + [""]
+    return [f"{kind} of {first}", *([second] if first == "crates" else [])]
+
+
 def expect_none(kind, texts):
-    """None in these texts, by their paths; an exception may be for the kind of text, or for the kind in one folder."""
+    """None in these texts, by their paths; an exception may be for the kind of text, for the kind in one folder at the top, or
+    for one crate."""
     named = [(os.path.relpath(path, ROOT), text) for path, text in texts]
-    found = {path: words for path, text in named if (words := unused_in(text, (kind, f"{kind} of {path.split('/')[0]}")))}
+    found = {path: words for path, text in named if (words := unused_in(text, (kind, *folders_of(kind, path))))}
     assert not found, found
 
 

@@ -31,7 +31,9 @@ impl<W: Write> Output<W> {
         ensures { WritesAtMost result text.now }
     {
         let written = self.lend()?.write(text);
-        self.has_failed.set(written.is_err());
+        if written.is_err() {
+            self.has_failed.set(true);
+        }
         written
     }
 

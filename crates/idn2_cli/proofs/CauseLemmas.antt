@@ -71,4 +71,21 @@ unexplained_text bytes refusal = by_utf8 (is_utf8 bytes)
 pub text_cause-nothing : (explaining : Explaining) (bytes : List ℕ) (refusal : Refusal) → explaining ≡ by.Nothing → text_cause (explained_by explaining) bytes refusal ≡ None
 text_cause-nothing explaining bytes refusal is = ap (λ (e : Explaining). text_cause (explained_by e) bytes refusal) is ∙ unexplained_text bytes refusal
 
+-- only what explains nothing tells no cause
+pub unexplained-nothing : (explaining : Explaining) → explained_by explaining ≡ Unexplained → explaining ≡ by.Nothing
+unexplained-nothing by.Nothing is = refl
+unexplained-nothing by.Label is = cc
+unexplained-nothing by.Name is = cc
+unexplained-nothing (by.Query std3) is = cc
+unexplained-nothing (by.Sources table) is = cc
+unexplained-nothing (by.Request table) is = cc
+
+-- where nothing is explained a message ends as if there were no cause
+pub untold_body : (explaining : Explaining) (body : Option (List ℕ)) (refusal : Refusal) → explaining ≡ by.Nothing → body_tail (explained_by explaining) body refusal ≡ tail_text refusal None
+untold_body explaining body refusal is = ap (λ (e : Explaining). body_tail (explained_by e) body refusal) is ∙ unexplained_body body refusal
+
+pub untold_points : (explaining : Explaining) (points : List ℕ) (refusal : Refusal) → explaining ≡ by.Nothing → points_tail (explained_by explaining) points refusal ≡ tail_text refusal None
+unfolding points_cause
+untold_points explaining points refusal is = ap (λ (e : Explaining). points_tail (explained_by e) points refusal) is
+
 pub ruleset causes_of_text = (text_cause-points, text_cause-none, text_cause-nothing)

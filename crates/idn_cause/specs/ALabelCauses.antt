@@ -1,4 +1,4 @@
--- Why what begins with "xn--" is refused: what stands behind that is no Punycode, or stands for a label that has another A-label or
+-- Why what begins with "xn--" is refused: what stands after that is no Punycode, or stands for a label that has another A-label or
 -- a fault. Places are counted from 0.
 use Rattle.std.specs.Prelude.{◌≡◌, ◌≢◌, ◌⊎◌, ℕ, ◌+◌, ◌==◌, true, IsTrue, List, [], length, drop, bytes_eq, Option, Some, None, Ok, Err, slice_index, if◌then◌else◌}
 use Rattle.std.specs.Char.{is_ascii}

@@ -1,28 +1,26 @@
 //! Why what begins with `xn--` is refused.
-ghost use Rattle.std.specs.Prelude.{◌≡◌, ◌<◌, ◌≤◌, length, drop, bytes_eq, Ok, Err, IfOk, IfSome, MatchOption};
+ghost use Rattle.std.specs.Prelude.{◌≡◌, ◌<◌, ◌≤◌, length, drop, bytes_eq, IfOk, IfSome};
 ghost use Rattle.std.specs.Result.{is_ok};
 ghost use Rattle.idn_text.specs.Points.{AreScalarValues};
-ghost use Rattle.idn_text.specs.declared.refusal.Refusal.TheVariants as refusals;
 ghost use Rattle.idn_label.specs.FirstFault.{first_fault};
-ghost use Rattle.idn_label.specs.Register.{confirmed, decoded_code, u_label_answer};
+ghost use Rattle.idn_label.specs.Register.{confirmed, u_label_answer};
 ghost use Rattle.idn_cause.specs.ALabelCauses.{a_label_cause, code_fault, decoded_cause, other_a_label, past_ascii, undecoded_cause};
 
-use crate::cause::{Cause, cause_of};
-use crate::places::code_point_at;
-use arrayvec::{ArrayString, ArrayVec};
-use idn_label::{ALabel, MAX_LABEL_LEN, ascii_text, is_all_ascii, test_label};
+use crate::cause::Cause;
+use crate::label::cause_of;
+use arrayvec::ArrayVec;
+use idn_label::{ALabel, MAX_LABEL_LEN, code_point_at, decoded_code, test_label};
 use idn_text::{MAX_LINE_LEN, Refusal};
-use idna::{Errors, punycode};
 use std::alloc::{AllocError, Global};
 
 /// What gives an A-label its fault. Places are counted from 0, in code points.
 #[derive(Drop)]
 pub enum ALabelCause {
-    /// Nothing stands behind `xn--`.
+    /// Nothing stands after `xn--`.
     NoCode,
     /// A place and the code point there, the first that is not ASCII.
     NotAscii(usize, u32),
-    /// What stands behind `xn--` is no Punycode.
+    /// What stands after `xn--` is no Punycode.
     NoPunycode,
     /// The A-label of what it stands for, which is another one.
     Other(ArrayVec<u8, MAX_LABEL_LEN>),
@@ -44,7 +42,7 @@ pub fn a_label_cause(
 {
     let code = code_of(given);
     match decoded_code(alloc, code)? {
-        Some(label) => Ok(decoded_cause(alloc, given, &label, refusal)?),
+        Some(label) => decoded_cause(alloc, given, &label, refusal),
         None => Ok(undecoded_cause(code, refusal)),
     }
 }
@@ -56,7 +54,7 @@ pub(crate) fn is_a_label(alloc: Global, given: &[u32]) -> Result<bool, AllocErro
     ensures { IfOk result (λ is. is ≡ is_ok (u_label_answer given.now)) }
 {
     match decoded_code(alloc, code_of(given))? {
-        Some(label) => Ok(is_confirmed(alloc, given, &label)?),
+        Some(label) => is_confirmed(alloc, given, &label),
         None => Ok(false),
     }
 }
@@ -73,41 +71,11 @@ fn is_confirmed(alloc: Global, given: &[u32], label: &[u32]) -> Result<bool, All
     }
 }
 
-/// What stands behind the four code points of the prefix.
+/// What stands after the four code points of the prefix.
 fn code_of(given: &[u32]) -> &[u32]
     ensures { result.now ≡ drop 4 given.now }
 {
     if given.len() <= 4 { &[] } else { &given[4..] }
-}
-
-/// What a code stands for, if it is Punycode.
-#[tactic(auto, unfolding(idn_label::specs::Register::decoded_code))]
-fn decoded_code(alloc: Global, code: &[u32]) -> Result<Option<Vec<u32>>, AllocError>
-    requires { length code.now ≤ MAX_LINE_LEN }
-    ensures label { IfOk result (λ label. MatchOption label (decoded_code code.now ≡ Err refusals.BadALabel) (λ points. decoded_code code.now ≡ Ok points.items)) }
-    ensures scalar_values { IfOk result (λ label. MatchOption label (Unit {0}) (λ points. AreScalarValues points.items)) }
-{
-    if code.is_empty() || !is_all_ascii(code) {
-        return Ok(None);
-    }
-    let text: ArrayString<MAX_LINE_LEN> = ascii_text(code);
-    match punycode::decode(alloc, text.as_str()) {
-        Ok(label) => Ok(Some(points_of(alloc, &label)?)),
-        Err(Errors::Invalid) => Ok(None),
-        Err(Errors::OutOfMemory) => Err(AllocError),
-    }
-}
-
-/// A label as numbers.
-fn points_of(alloc: Global, label: &[char]) -> Result<Vec<u32>, AllocError>
-    ensures points { IfOk result (λ points. points.items ≡ label.now) }
-    ensures scalar_values { IfOk result (λ points. AreScalarValues points.items) }
-{
-    let mut points = Vec::with_capacity(alloc, label.len())?;
-    for character in label {
-        points.push(u32::from(*character))?;
-    }
-    Ok(points)
 }
 
 /// The cause where the code stands for no label.
@@ -157,7 +125,7 @@ fn decoded_cause(
     ensures { IfOk result (λ cause. cause ≡ decoded_cause given.now label.now refusal) }
 {
     match refusal {
-        Refusal::BadALabel => Ok(other_a_label(alloc, given, label)?),
+        Refusal::BadALabel => other_a_label(alloc, given, label),
         _ => match cause_of(alloc, label, refusal)? {
             Some(cause) => Ok(Some(ALabelCause::Decoded(cause))),
             None => Ok(None),

@@ -1,16 +1,6 @@
-ghost use Rattle.std.specs.Prelude.{◌≡◌, IfOk};
-ghost use Rattle.idn_text.specs.Points.{AreScalarValues};
-ghost use Rattle.idn_cause.specs.Causes.{barred_at, barred_place, cause_of, condition_at, hyphen_at, leading_place, point_at};
+//! What is told of a label that is refused: what breaks the rule of its first fault, and where.
 
-use crate::lengths::length_at;
-use crate::normalization::changed_at;
-use crate::places::{barred_place, code_point_at, misplaced_hyphen};
-use idn_class::{
-    BarringLine, BidiClass, Broken, barring_line, broken_condition, leading_mark, misplaced_joiner,
-    misplaced_other,
-};
-use idn_text::Refusal;
-use std::alloc::{AllocError, Global};
+use idn_class::{BarringLine, BidiClass, Broken};
 
 /// What gives a label its first fault. Places are counted from 0, in code points.
 #[derive(Clone, Copy, Debug, PartialEq, Eq)]
@@ -30,87 +20,4 @@ pub enum Cause {
     Points(usize),
     /// The octets of its A-label, more than 63.
     Octets(usize),
-}
-
-/// What gives a label this fault: the first place at which the rule is broken. `None` where no cause is told for the fault.
-/// Memory is taken only for a code point that may not be registered, or whose class no look-up tells; for Normalization
-/// Form C; and for the A-label of a label that is not all ASCII.
-#[cold]
-#[tactic(auto, unfolding(crate::specs::Causes::cause_of))]
-pub fn cause_of(alloc: Global, label: &[u32], refusal: Refusal) -> Result<Option<Cause>, AllocError>
-    requires { AreScalarValues label.now }
-    ensures { IfOk result (λ cause. cause ≡ cause_of label.now refusal) }
-{
-    let cause = match refusal {
-        Refusal::Disallowed | Refusal::Unassigned => {
-            barred_at(alloc, label, barred_place(alloc, label)?)?
-        }
-        Refusal::NotNfc => changed_at(alloc, label)?,
-        Refusal::Hyphen => hyphen_at(label, misplaced_hyphen(label)),
-        Refusal::LeadingMark => point_at(label, leading_place(label)),
-        Refusal::ContextJ => point_at(label, misplaced_joiner(label)),
-        Refusal::ContextO => point_at(label, misplaced_other(label)),
-        Refusal::Bidi => condition_at(label, broken_condition(label)),
-        Refusal::LabelTooLong => length_at(alloc, label)?,
-        _ => None,
-    };
-    Ok(cause)
-}
-
-/// The code point at a place, with the line that bars it.
-fn barred_at(
-    alloc: Global,
-    label: &[u32],
-    place: Option<usize>,
-) -> Result<Option<Cause>, AllocError>
-    ensures { IfOk result (λ cause. cause ≡ barred_at label.now place) }
-{
-    let Some(place) = place else {
-        return Ok(None);
-    };
-    let point = code_point_at(label, place);
-    match barring_line(alloc, point)? {
-        Some(line) => Ok(Some(Cause::Barred(place, point, line))),
-        None => Ok(None),
-    }
-}
-
-/// A hyphen at a place.
-fn hyphen_at(label: &[u32], place: Option<usize>) -> Option<Cause>
-    ensures { result ≡ hyphen_at label.now place }
-{
-    match place {
-        Some(place) => Some(Cause::Hyphen(place, label.len())),
-        None => None,
-    }
-}
-
-/// The first place, where a combining mark stands there.
-fn leading_place(label: &[u32]) -> Option<usize>
-    ensures { result ≡ leading_place label.now }
-{
-    if leading_mark(label) { Some(0) } else { None }
-}
-
-/// The code point at a place.
-fn point_at(label: &[u32], place: Option<usize>) -> Option<Cause>
-    ensures { result ≡ point_at label.now place }
-{
-    match place {
-        Some(place) => Some(Cause::Point(place, code_point_at(label, place))),
-        None => None,
-    }
-}
-
-/// A condition with the code point that breaks it.
-fn condition_at(label: &[u32], broken: Option<Broken>) -> Option<Cause>
-    ensures { result ≡ condition_at label.now broken }
-{
-    match broken {
-        Some(broken) => {
-            let point = code_point_at(label, broken.place);
-            Some(Cause::Condition(broken, point, BidiClass::of(point)))
-        }
-        None => None,
-    }
 }

@@ -4,6 +4,7 @@
 
 mod a_label;
 mod cause;
+mod label;
 mod laws;
 mod lengths;
 mod name;
@@ -12,7 +13,8 @@ mod places;
 mod query;
 
 pub use a_label::{ALabelCause, a_label_cause};
-pub use cause::{Cause, cause_of};
+pub use cause::Cause;
+pub use label::cause_of;
 pub use laws::{
     a_label_causes_are_told, causes_are_told, name_causes_are_told, query_causes_are_told,
 };

@@ -4,7 +4,7 @@ ghost use Rattle.std.specs.Char.{to_ascii_lowercase};
 ghost use Rattle.idn_cause.specs.NameCauses.{cause_at_label, is_decoded, name_cause};
 
 use crate::a_label::{ALabelCause, a_label_cause, is_a_label};
-use idn_label::{has_ace_prefix_in_any_case, label_end};
+use idn_label::{has_ace_prefix_in_any_case, label_end, to_lowercase};
 use idn_text::{MAX_LINE_LEN, Refusal};
 use std::alloc::{AllocError, Global};
 
@@ -35,7 +35,7 @@ pub fn name_cause(
         let end = label_end(name, start);
         let label = &name[start..end];
         if !is_decoded(alloc, label)? {
-            return Ok(cause_at_label(alloc, number, label, refusal)?);
+            return cause_at_label(alloc, number, label, refusal);
         }
         if end == name.len() {
             return Ok(None);
@@ -55,7 +55,7 @@ fn is_decoded(alloc: Global, label: &[u32]) -> Result<bool, AllocError>
         return Ok(true);
     }
     let lower = lowercase_of(alloc, label)?;
-    Ok(is_a_label(alloc, &lower)?)
+    is_a_label(alloc, &lower)
 }
 
 /// The cause of the fault of the label of this number.
@@ -87,15 +87,4 @@ fn lowercase_of(alloc: Global, label: &[u32]) -> Result<Vec<u32>, AllocError>
         lower.push(to_lowercase(*point))?;
     }
     Ok(lower)
-}
-
-/// A code point in lower case, if it is an ASCII capital.
-fn to_lowercase(point: u32) -> u32
-    ensures { result ≡ to_ascii_lowercase point }
-{
-    if matches!(point, 0x41..=0x5A) {
-        point + 0x20
-    } else {
-        point
-    }
 }

@@ -4,8 +4,7 @@ ghost use Rattle.idn_text.specs.Points.{AreScalarValues};
 ghost use Rattle.idn_cause.specs.Causes.{changed_at, changed_place, shared};
 
 use crate::cause::Cause;
-use crate::places::code_point_at;
-use idn_label::chars_of;
+use idn_label::{chars_of, code_point_at};
 use std::alloc::{AllocError, Global};
 use unicode_normalization::slice::extend_nfc;
 

@@ -1,17 +1,10 @@
 //! The first place at which a code point may not stand.
-ghost use Rattle.std.specs.Prelude.{◌≡◌, ◌<◌, length, slice_index, IfOk};
+ghost use Rattle.std.specs.Prelude.{◌≡◌, ◌<◌, length, IfOk};
 ghost use Rattle.idn_cause.specs.Causes.{barred_place, is_hyphen_out_of_place, misplaced_hyphen};
 
 use idn_class::{Class, class_of};
 use idn_label::is_hyphen_at;
 use std::alloc::{AllocError, Global};
-
-/// The code point at a place, or 0 past the end.
-pub(crate) fn code_point_at(label: &[u32], place: usize) -> u32
-    ensures { result ≡ slice_index label.now place }
-{
-    if place < label.len() { label[place] } else { 0 }
-}
 
 /// The place of the first code point that may not be registered.
 pub(crate) fn barred_place(alloc: Global, label: &[u32]) -> Result<Option<usize>, AllocError>

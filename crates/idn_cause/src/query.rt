@@ -1,5 +1,5 @@
 //! Which length the DNS does not allow of a name that is looked up (RFC 1035, section 2.3.4).
-ghost use Rattle.std.specs.Prelude.{◌≡◌, length, slice_index, IfOk};
+ghost use Rattle.std.specs.Prelude.{◌≡◌, length, IfOk};
 ghost use Rattle.std.specs.Int.{is_in_range};
 ghost use Rattle.std.specs.Option.{option_map};
 ghost use Rattle.idna.specs.declared.options.Hyphens.TheVariants.{Allow};
@@ -10,9 +10,9 @@ ghost use Rattle.idn_label.specs.Lookup.{deny_list};
 ghost use Rattle.idn_cause.specs.NameLabels.{first_failing_label};
 ghost use Rattle.idn_cause.specs.NameCauses.{has_label_length, length_cause, length_cause_of, query_cause, without_root};
 
-use idn_label::{MAX_LABEL_LEN, label_end};
+use idn_label::{MAX_LABEL_LEN, code_point_at, deny_list, label_end};
 use idn_text::Refusal;
-use idna::{AsciiDenyList, Errors, domain_to_ascii_cow};
+use idna::{Errors, domain_to_ascii_cow};
 use std::alloc::{AllocError, Global};
 
 /// The most octets of a name in the DNS, a full stop at its end put aside.
@@ -40,7 +40,7 @@ pub fn query_cause(
     ensures { IfOk result (λ cause. cause ≡ query_cause name.now std3 refusal) }
 {
     match refusal {
-        Refusal::LookupLength => Ok(length_cause_of(alloc, name, std3)?),
+        Refusal::LookupLength => length_cause_of(alloc, name, std3),
         _ => Ok(None),
     }
 }
@@ -57,16 +57,6 @@ fn length_cause_of(
         Ok(ascii) => Ok(length_cause(ascii.as_str().as_bytes())),
         Err(Errors::Invalid) => Ok(None),
         Err(Errors::OutOfMemory) => Err(AllocError),
-    }
-}
-
-fn deny_list(std3: bool) -> AsciiDenyList
-    ensures { result ≡ deny_list std3 }
-{
-    if std3 {
-        AsciiDenyList::STD3
-    } else {
-        AsciiDenyList::EMPTY
     }
 }
 
@@ -89,18 +79,11 @@ fn without_root(name: &[u8]) -> &[u8]
     ensures { result.now ≡ without_root name.now }
 {
     let last = name.len().saturating_sub(1);
-    if octet_at(name, last) == b'.' {
+    if code_point_at(name, last) == '.' as u32 {
         &name[..last]
     } else {
         name
     }
-}
-
-/// The octet at a place, or 0 past the end.
-fn octet_at(name: &[u8], place: usize) -> u8
-    ensures { result ≡ slice_index name.now place }
-{
-    if place < name.len() { name[place] } else { 0 }
 }
 
 /// The number of the first label of a wrong length, and its octets.

@@ -68,7 +68,7 @@ decode_answer-more name label others parts =
     join_more (Ok label) (Ok next) (Err refusal) = refl
     join_more (Ok label) (Ok next) (Ok others) = ap Ok (sym (append_assoc label (0x2E ∷ []) (join_labels (next ∷ others))))
 
--- ---- behind what was decoded before
+-- ---- after what was decoded before
 
 pub appended-nil : (answer : Answer) → appended [] answer ≡ answer
 appended-nil (Ok more) = refl

@@ -45,7 +45,7 @@ masked p f v lanes long fits all =
 
 -- ---- masks
 
--- letters behind some octets
+-- letters after some octets
 pub mask_l-padded : (p : ℕ → Bool) (xs : List ℕ) (n c : ℕ) → p c ≡ false → mask_l (map p (xs ++ replicate n c)) ≡ mask_l (map p xs)
 mask_l-padded p [] zero c other = refl
 mask_l-padded p [] (suc n) c other = rw (other, mask_l-padded p [] n c other) refl
@@ -70,8 +70,8 @@ mask_l-drop n ms =
     ap (λ m. m % 2) (shr-shr (mask_l ms) n i) ∙ bit_mask_l ms (n + i) ∙ ap (λ b. cond b 1 0) (sym (get_or-drop n ms i false)) ∙ sym (bit_mask_l (drop n ms) i))
 
 -- the mask of the places from `at` on, by that of those from `from` on
-pub mask_behind : (p : ℕ → Bool) (q : List ℕ) (from at end : ℕ) → from ≤ at → mask_l (map p (slice_range q from end)) / 2 ^ (at - from) ≡ mask_l (map p (slice_range q at end))
-mask_behind p q from at end le =
+pub mask_after : (p : ℕ → Bool) (q : List ℕ) (from at end : ℕ) → from ≤ at → mask_l (map p (slice_range q from end)) / 2 ^ (at - from) ≡ mask_l (map p (slice_range q at end))
+mask_after p q from at end le =
     let k = at - from in
     mask_l-drop k (map p (slice_range q from end))
     ∙ ap mask_l
@@ -79,12 +79,12 @@ mask_behind p q from at end le =
     ∙ ap (map p)
     (ap (drop k) (between_is q from end) ∙ drop-drop k from (take end q) ∙ ap (λ i. drop i (take end q)) (let e : from + k ≡ at = omega arith in e) ∙ sym (between_is q at end)))
 
--- of the places from `at` to `end`, r don't pass and then one passes; and the mask of those behind it
+-- of the places from `at` to `end`, r don't pass and then one passes; and the mask of those after it
 pub record IsNext (p : ℕ → Bool) (q : List ℕ) (at end mask r : ℕ) : Type 0 where
   pub before : at + r < end
   pub none : AllWithin (λ x. p x ≡ false) q at (at + r)
   pub passes : p (get_or q (at + r) 0) ≡ true
-  pub behind : mask / 2 ^ r / 2 ≡ mask_l (map p (slice_range q (at + r + 1) end))
+  pub after : mask / 2 ^ r / 2 ≡ mask_l (map p (slice_range q (at + r + 1) end))
 
 -- the lowest bit is the first place that passes
 pub next_lane : (p : ℕ → Bool) (q : List ℕ) (at end mask : ℕ) → at ≤ end → end ≤ length q → end ≤ at + 64 → mask ≡ mask_l (map p (slice_range q at end)) → mask ≢ 0 → IsNext p q at end mask (count_trailing_zeros 64 mask)
@@ -102,9 +102,9 @@ next_lane p q at end mask order within few is some =
       before = omega arith;
       none = none;
       passes = run_in_chunk_stops p q at n r 0 room counted before;
-      behind =
+      after =
           ap (λ m. m / 2 ^ r / 2) is
           ∙ shr-shr (mask_l (map p v)) r 1
           ∙ ap (λ k. mask_l (map p v) / 2 ^ k) (let e : r + 1 ≡ at + r + 1 - at = omega arith in e)
-          ∙ mask_behind p q at (at + r + 1) end (omega arith);
+          ∙ mask_after p q at (at + r + 1) end (omega arith);
     }

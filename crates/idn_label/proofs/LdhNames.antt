@@ -1,4 +1,4 @@
--- Names of ASCII letters, digits, hyphens and full stops: their labels, one behind another, and the answer of their lookup.
+-- Names of ASCII letters, digits, hyphens and full stops: their labels, one after another, and the answer of their lookup.
 use Rattle.std.proofs.Common.{◌≡◌, ℕ, ◌<◌, ◌&&◌, Bool, true, false, cond, List, [], ◌∷◌, map, length, take, slice_range, All, Some, Ok, Err, refl, sym, ap, subst, ◌∙◌, arith, ◌+◌, ◌-◌, ◌≤◌, ◌||◌, ◌++◌, drop, get_or, ap₂, append_assoc}
 use Rattle.std.specs.Char.{is_ascii_uppercase, to_ascii_lowercase}
 use Rattle.std.specs.List.{list_all, list_any, AllWithin}
@@ -63,7 +63,7 @@ cut_more {name} {at} {start} r end le more = record {
 
 -- ---- the prefix
 
--- a full stop behind a label makes no prefix of it
+-- a full stop after a label makes no prefix of it
 before_stop : (label more : List ℕ) → has_ace_prefix (label ++ full_stop ∷ more) ≡ has_ace_prefix label
 unfolding has_ace_prefix
 before_stop [] more = refl

@@ -1,4 +1,4 @@
--- The lengths of a name that is whole labels, each with a full stop behind it, and a last label, which may be empty.
+-- The lengths of a name that is whole labels, each with a full stop after it, and a last label, which may be empty.
 use Rattle.std.proofs.Common.{◌≡◌, ◌≢◌, ℕ, ◌+◌, ◌-◌, ◌<◌, ◌&&◌, nat_le, Bool, true, false, List, [], ◌∷◌, ◌++◌, length, take, get_or, All, refl, sym, ap, ◌∙◌, append_assoc, append-nil, length-append, arith, eq-eqb}
 use Rattle.std.specs.Int.{is_in_range}
 use Rattle.std.specs.List.{list_all}
@@ -68,7 +68,7 @@ measured_label whole last without_stops last_without_stop some =
     ∙ regroup (nat_le (length name) 253) (list_all has_length whole) (has_length last)
     ∙ ap (λ b. list_all has_length whole && b) (sym (may_end-label (length (terminated whole)) (length name) (length last) count some))
 
--- a name that ends in a full stop behind labels
+-- a name that ends in a full stop after labels
 measured_stop : (label : List ℕ) (labels : List (List ℕ)) (name : List ℕ) → name ≡ terminated (label ∷ labels) → All HasNoFullStop (label ∷ labels) → verify_dns_length name true ≡ (list_all has_length (label ∷ labels) && may_end (length name) (length name))
 measured_stop label labels name is without_stops =
     let front = join_labels (label ∷ labels) in

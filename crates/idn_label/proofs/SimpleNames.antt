@@ -193,7 +193,7 @@ to_ascii-simple deny bytes name query facts utf8 mapped passes are normalized te
 abbrev IsShort : List ℕ → Type 0
 IsShort label = length (a_label_of label) ≤ 63
 
--- they are tested, and their A-labels written with a full stop behind each
+-- they are tested, and their A-labels written with a full stop after each
 pub record IsWritten (facts : Facts) (name : List ℕ) (start : ℕ) (query : List ℕ) : Type 0 where
   pub within : start ≤ length name
   pub whole : List (List ℕ)

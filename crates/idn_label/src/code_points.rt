@@ -10,7 +10,8 @@ use std::alloc::{AllocError, Global};
 
 /// Reads a label in UTF-8 (RFC 3629) once: leaves its code points at the start of `room`, and returns how many they are
 /// and their facts. `None` where the octets are no UTF-8.
-#[inline]
+// Each of its callers reads all of its labels by it.
+#[inline(always)]
 pub(crate) fn read_points(label: &[u8], room: &mut [u32; MAX_LINE_LEN]) -> Option<(usize, Facts)>
     requires { length label.now ≤ MAX_LINE_LEN }
     ensures count { IfSome result (λ read. read.0 ≤ MAX_LINE_LEN) }
@@ -72,7 +73,8 @@ pub(crate) fn to_char(c: u32) -> char
 
 /// A label as numbers.
 pub(crate) fn points_of(alloc: Global, label: &[char]) -> Result<Vec<u32>, AllocError>
-    ensures { IfOk result (λ points. points.items ≡ label.now) }
+    ensures points { IfOk result (λ points. points.items ≡ label.now) }
+    ensures scalar_values { IfOk result (λ points. AreScalarValues points.items) }
 {
     // Not by `collect`, which goes on where the room that it takes ahead is refused.
     let mut points = Vec::with_capacity(alloc, label.len())?;

@@ -1,4 +1,4 @@
-//! The search for the full stop behind a label of a name.
+//! The search for the full stop after a label of a name.
 ghost use Rattle.std.specs.Prelude.{◌≤◌, length};
 ghost use Rattle.idn_label.specs.LabelEnds.{EndsLabel};
 

@@ -14,6 +14,7 @@ mod simple;
 
 use crate::code_points::to_char;
 pub use buffers::LookupBuffers;
+pub use full::deny_list;
 use full::full_lookup;
 use idn_text::Refusal;
 use ldh::ldh_query;

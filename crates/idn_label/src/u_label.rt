@@ -1,12 +1,13 @@
 //! What an A-label stands for (RFC 5891 section 5.3).
-ghost use Rattle.std.specs.Prelude.{◌≡◌, ◌≢◌, ◌<◌, ◌≤◌, ◌+◌, not, length, map, drop, true, Ok, Err, IfErr, OnOk};
+ghost use Rattle.std.specs.Prelude.{◌≡◌, ◌≢◌, ◌<◌, ◌≤◌, ◌+◌, not, length, map, drop, true, Ok, Err, IfOk, IfErr, OnOk, IfSome, MatchOption};
 ghost use Rattle.std.specs.Char.{is_ascii_uppercase, to_ascii_lowercase};
 ghost use Rattle.std.specs.List.{list_all};
 ghost use Rattle.std.specs.Result.{IsErr, IsErrAnd};
 ghost use Rattle.idna.specs.Validity.{is_all_ascii, has_ace_prefix};
+ghost use Rattle.idn_text.specs.Points.{AreScalarValues};
 ghost use Rattle.idn_label.specs.Answers.{Gives};
 ghost use Rattle.idn_label.specs.Memory.{NeedsNoMemoryDecoded};
-ghost use Rattle.idn_label.specs.Register.{u_label_answer};
+ghost use Rattle.idn_label.specs.Register.{decoded_code, u_label_answer};
 
 use crate::a_label::{MAX_LABEL_LEN, ascii_text};
 use crate::code_points::points_of;
@@ -16,7 +17,7 @@ use arrayvec::{ArrayString, ArrayVec};
 use idn_punycode::DecodedLabel;
 use idn_text::{MAX_LINE_LEN, Refusal};
 use idna::{Errors, punycode};
-use std::alloc::Global;
+use std::alloc::{AllocError, Global};
 
 /// Leaves in `label` what an A-label in any ASCII case stands for, in place of what stood there. A label that passes
 /// the test has no capital, so its code need not be put into lower case first.
@@ -108,23 +109,35 @@ fn code_of<U: Unit>(given: &[U]) -> &[U]
 }
 
 /// Refuses what is the A-label of no label which may be registered, and tells why.
-#[tactic(auto, using(crate::proofs::AnswerLemmas::confirming), unfolding(crate::specs::Register::u_label_answer, crate::specs::Register::decoded_code))]
+#[tactic(auto, using(crate::proofs::AnswerLemmas::confirming), unfolding(crate::specs::Register::u_label_answer))]
 pub(crate) fn refuse<U: Unit, T>(alloc: Global, given: &[U]) -> Result<T, Refusal>
     requires prefix { has_ace_prefix (map to_ascii_lowercase (U.codes given.now)) ≡ true }
     requires short { length given.now ≤ MAX_LINE_LEN }
     requires of_none { IsErr (u_label_answer (U.codes given.now)) }
     ensures { IsErrAnd result (λ refusal. refusal ≢ Refusal.Memory → u_label_answer (U.codes given.now) ≡ Err refusal) }
 {
-    let code = code_of(given);
+    if let Some(label) = decoded_code(alloc, code_of(given))? {
+        test_label(alloc, &label)?;
+    }
+    Err(Refusal::BadALabel)
+}
+
+/// What the code after the prefix stands for (RFC 3492 section 6.2). `None` where it is empty, not all ASCII or no Punycode.
+/// It takes memory.
+#[tactic(auto, unfolding(crate::specs::Register::decoded_code))]
+pub fn decoded_code<U: Unit>(alloc: Global, code: &[U]) -> Result<Option<Vec<u32>>, AllocError>
+    requires { length code.now ≤ MAX_LINE_LEN }
+    ensures label { IfOk result (λ label. MatchOption label (decoded_code (U.codes code.now) ≡ Err Refusal.BadALabel)
+        (λ points. decoded_code (U.codes code.now) ≡ Ok points.items)) }
+    ensures scalar_values { IfOk result (λ label. IfSome label (λ points. AreScalarValues points.items)) }
+{
     if code.is_empty() || !is_all_ascii(code) {
-        return Err(Refusal::BadALabel);
+        return Ok(None);
     }
     let text: ArrayString<MAX_LINE_LEN> = ascii_text(code);
-    let label = match punycode::decode(alloc, text.as_str()) {
-        Ok(label) => points_of(alloc, &label)?,
-        Err(Errors::Invalid) => return Err(Refusal::BadALabel),
-        Err(Errors::OutOfMemory) => return Err(Refusal::Memory),
-    };
-    test_label(alloc, &label)?;
-    Err(Refusal::BadALabel)
+    match punycode::decode(alloc, text.as_str()) {
+        Ok(label) => Ok(Some(points_of(alloc, &label)?)),
+        Err(Errors::Invalid) => Ok(None),
+        Err(Errors::OutOfMemory) => Err(AllocError),
+    }
 }

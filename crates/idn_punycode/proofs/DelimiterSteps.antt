@@ -10,7 +10,7 @@ use Rattle.idna.specs.Punycode.{delimiter, basic_part, extended_part}
 abbrev pub Ends : List ℕ → ℕ → Type 0
 Ends code after = (k : ℕ) → after ≤ k → k < length code → not (get_or code k 0 == delimiter) ≡ true
 
--- the place behind the last delimiter, or 0
+-- the place after the last delimiter, or 0
 abbrev pub after_delimiter : List ℕ → ℕ
 after_delimiter code = length code - suffix_len (λ c. not (c == delimiter)) code
 

@@ -47,7 +47,7 @@ digits_top (suc d) (suc turns) bias k q top small =
           omega (arith, more_digits turns bias k q le, digits_top d turns bias (k + 36) ((q - t) / (36 - t)) (omega arith) rest)
     ]
 
--- a threshold below 26 leaves less to the digits behind it
+-- a threshold below 26 leaves less to the digits after it
 top_rest : (q t e : ℕ) → t ≤ 26 → q < 26 + 10 * top_limit (suc e) → q < t + (36 - t) * top_limit (suc e)
 top_rest q t e few small =
     let m = top_limit (suc e) in
@@ -69,13 +69,13 @@ digits_few (suc d) (suc turns) bias k q small =
                 let one : t ≡ 1 = omega arith in
                 let rest : (q - t) / (36 - t) < limit d = quotient_small q t (limit d) (omega arith) le (rw one (omega (arith, small))) in
                 omega (arith, more_digits turns bias k q le, digits_few d turns bias (k + 36) ((q - t) / (36 - t)) rest)
-            | inl some ↦ digits_behind d turns bias k q some le small
+            | inl some ↦ digits_after d turns bias k q some le small
           ]
     ]
   where
-    digits_behind : (d turns bias k q : ℕ) → 1 < threshold bias k → threshold bias k ≤ q → q < limit (suc d) → length (write_integer (suc turns) bias k q) ≤ suc d
-    digits_behind zero turns bias k q some le small = absurd (omega (arith, small))
-    digits_behind (suc e) turns bias k q some le small =
+    digits_after : (d turns bias k q : ℕ) → 1 < threshold bias k → threshold bias k ≤ q → q < limit (suc d) → length (write_integer (suc turns) bias k q) ≤ suc d
+    digits_after zero turns bias k q some le small = absurd (omega (arith, small))
+    digits_after (suc e) turns bias k q some le small =
         let t = threshold bias k in
         let rest : (q - t) / (36 - t) < top_limit (suc e) = quotient_small q t (top_limit (suc e)) (omega arith) le (top_rest q t e (omega arith) (omega (arith, small))) in
         omega (arith, more_digits turns bias k q le, digits_top (suc e) turns bias (k + 36) ((q - t) / (36 - t)) (omega arith) rest)
@@ -123,7 +123,7 @@ most_steps : (c h delta a b : ℕ) → LeadsTo c h delta → c - 127 ≤ a → h
 most_steps c h delta a b leads few early =
     let le : (c - 127) * (h + 1) ≤ a * b = mul-le-mul few early in omega (arith, le, leads)
 
--- two digits for each octet of its UTF-8, and behind 15 others one more
+-- two digits for each octet of its UTF-8, and after 15 others one more
 digits_of_point : (c h delta turns bias : ℕ) → 128 ≤ c → c < 0x11_0000 → h < 30 → LeadsTo c h delta → length (write_integer turns bias 36 delta) + max 15 h ≤ 2 * len_utf8 c + max 15 (h + 1)
 digits_of_point c h delta turns bias low high early leads =
     elim (cases_lt c 0x800) [
@@ -147,7 +147,7 @@ digits_of_point c h delta turns bias low high early leads =
           ]
     ]
 
--- the first one takes one digit less, unless it is behind 15 others
+-- the first one takes one digit less, unless it is after 15 others
 digits_of_first : (c h delta turns : ℕ) → 128 ≤ c → c < 0x11_0000 → h < 15 → LeadsTo c h delta → length (write_integer turns 72 36 delta) + 1 ≤ 2 * len_utf8 c
 digits_of_first c h delta turns low high early leads =
     elim (cases_lt c 0x800) [
@@ -250,7 +250,7 @@ delta_after-le n delta (c ∷ rest) =
       | inr (inr gt) ↦ omega (arith, (Turn-above n delta c rest gt).after, delta_after-le n delta rest, ap length (below-other n c rest (omega arith)))
     ]
 
--- behind h code points the deltas take no more digits than so many octets, less one where the first one is among them
+-- after h code points the deltas take no more digits than so many octets, less one where the first one is among them
 abbrev pub TakesFew : List ℕ → ℕ → ℕ → ℕ → ℕ → Type 0
 TakesFew deltas h octets saved most =
     (bias : ℕ) (first : Bool) → Saves saved bias h → length (write_deltas bias (h + 1) first deltas) + max 15 h ≤ (octets - saved) + max 15 most

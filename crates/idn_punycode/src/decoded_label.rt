@@ -15,7 +15,7 @@ pub struct NotPunycode;
 /// A label of at most 63 code points that was decoded. Contracts see the label.
 #[derive(Drop)]
 pub struct DecodedLabel {
-    /// Its code points. What an earlier label or the decoding left behind them stays there.
+    /// Its code points. What an earlier label or the decoding left after them stays there.
     points: [u32; ROOM],
     len: usize,
 }

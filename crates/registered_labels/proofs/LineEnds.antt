@@ -23,8 +23,8 @@ no_feed-ldh : (part : List ℕ) → list_all is_ldh_point part ≡ true → HasN
 no_feed-ldh part ldh =
     All-weaker (λ c. is_ldh_point c ≡ true) (λ c. c ≢ 10) (λ c is feed. absurd (true≢false (sym is ∙ ap is_ldh_point feed))) part (AllPass-from_list_all is_ldh_point part ldh)
 
-pub IsLineEnd-behind : (text : List ℕ) (at ldh end : ℕ) → IsLdhEnd text at ldh → IsLineEnd text ldh end → IsLineEnd text at end
-IsLineEnd-behind text at ldh end first line = record {
+pub IsLineEnd-after : (text : List ℕ) (at ldh end : ℕ) → IsLdhEnd text at ldh → IsLineEnd text ldh end → IsLineEnd text at end
+IsLineEnd-after text at ldh end first line = record {
   reached = omega (arith, first.reached, line.reached);
   within = line.within;
   no_feed =

@@ -30,7 +30,7 @@ abbrev pub line_refusal : Option (List ℕ) → Option Refusal
 line_refusal None = Some LineTooLong
 line_refusal (Some bytes) = utf8_fault bytes
 
--- all lines before the line of this number, from 1, are labels in label order and end in time, and the line, behind so many bytes
+-- all lines before the line of this number, from 1, are labels in label order and end in time, and the line, after so many bytes
 -- of the text, is wrong after them
 pub record IsFirstWrong (text : List ℕ) (number : ℕ) (IsWrong : ℕ → List (List ℕ) → List ℕ → Type 0) : Type 0 where
   pub before : List (List ℕ)
@@ -54,7 +54,7 @@ pub record IsOutOfOrder (labels : List (List ℕ)) (body : Option (List ℕ)) : 
   pub ending : labels ≡ front ++ last ∷ []
   pub not_greater : ¬ IsBelow last label
 
--- a line behind so many bytes of the text, and after these labels, is wrong by itself; or it is not greater than the last of
+-- a line after so many bytes of the text, and after these labels, is wrong by itself; or it is not greater than the last of
 -- them; or it is neither, but it ends after byte 2^32 - 1 of the text, where the first is byte 1
 abbrev pub IsWrongBy : Refusal → ℕ → List (List ℕ) → List ℕ → Type 0
 IsWrongBy refusal at labels line =

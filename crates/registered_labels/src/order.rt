@@ -8,7 +8,7 @@ use std::simd::prelude::*;
 /// How many bytes are compared at once.
 const CHUNK_LEN: usize = 16;
 
-/// The order of what two texts begin with, so many bytes of each. Where they differ can't be foretold, so bytes behind
+/// The order of what two texts begin with, so many bytes of each. Where they differ can't be foretold, so bytes after
 /// these may be looked at, too. They change nothing.
 #[inline]
 pub(crate) fn order_of(one: &[u8], one_len: usize, other: &[u8], other_len: usize) -> Ordering

@@ -7,7 +7,7 @@ ghost use Rattle.idn_label.specs.Decode.{decode_answer};
 ghost use Rattle.idn_label.specs.Memory.{DecodesWithoutMemory};
 ghost use Rattle.idna.specs.Labels.{labels_of};
 ghost use Rattle.idn2_cli.specs.Answers.{one_line};
-ghost use Rattle.idn2_cli.specs.Explained.{ByName, if_wanted};
+ghost use Rattle.idn2_cli.specs.inner.Explaining.{explained_by};
 ghost use Rattle.idn_label.specs.Steps.{in_utf8};
 ghost use Rattle.idn2_cli.specs.inner.LineAnswers.{with_feed};
 ghost use Rattle.idn2_cli.specs.Memory.{DecodesLineWithoutMemory};
@@ -25,20 +25,20 @@ use std::alloc::{AllocError, Global};
 
 /// Decoding (RFC 5891 section 5.3).
 #[derive(Clone, Copy)]
-pub(crate) struct Decode {
-    /// Whether causes are told.
-    pub explain: bool,
+pub(crate) struct Decode<'t> {
+    /// How it explains what it refuses.
+    pub explaining: Explaining<'t>,
 }
 
-impl Answering for Decode {
+impl<'t> Answering for Decode<'t> {
     ghost answer_of = { λ _ name. one_line (in_utf8 (decode_answer name)) };
 
-    ghost explains = { λ mode. if_wanted mode.explain ByName };
+    ghost explains = { λ mode. explained_by mode.explaining };
 
     ghost needs_none = { λ _ name. DecodesLineWithoutMemory name };
 
-    fn explaining(&self) -> Explaining<'_> {
-        Explaining::Name.if_wanted(self.explain)
+    fn explaining(&self) -> &Explaining<'_> {
+        &self.explaining
     }
 
     fn answer<W: Sink, E: Sink>(
@@ -50,8 +50,8 @@ impl Answering for Decode {
         console: &mut Console<'_, '_, W, E>,
     ) -> Result<bool, Stop> {
         if text.is_empty() {
-            let explaining = Explaining::Name.if_wanted(self.explain);
-            return refuse(alloc, number, text, Refusal::Empty, explaining, console);
+            let refusal = Refusal::Empty;
+            return refuse(alloc, number, text, refusal, &self.explaining, console);
         }
         // A line past ASCII is answered by its code points.
         if !text.is_ascii() {
@@ -59,10 +59,7 @@ impl Answering for Decode {
         }
         match fill_line(alloc, text, &mut buffers.u_label, &mut buffers.answer) {
             Ok(len) => reply(&buffers.answer[..len], console),
-            Err(refusal) => {
-                let explaining = Explaining::Name.if_wanted(self.explain);
-                refuse(alloc, number, text, refusal, explaining, console)
-            }
+            Err(refusal) => refuse(alloc, number, text, refusal, &self.explaining, console),
         }
     }
 }
@@ -88,13 +85,13 @@ fn fill_line(
     Ok(len + 1)
 }
 
-impl PointAnswering for Decode {
+impl<'t> PointAnswering for Decode<'t> {
     ghost answer_of = { λ _ name. one_line (in_utf8 (decode_answer name)) };
 
-    ghost explains = { λ mode. if_wanted mode.explain ByName };
+    ghost explains = { λ mode. explained_by mode.explaining };
 
-    fn explaining(&self) -> Explaining<'_> {
-        Explaining::Name.if_wanted(self.explain)
+    fn explaining(&self) -> &Explaining<'_> {
+        &self.explaining
     }
 
     fn answer_points<W: Sink, E: Sink>(
@@ -107,8 +104,7 @@ impl PointAnswering for Decode {
         match line_of(alloc, points) {
             Ok(line) => reply(line.as_bytes(), console),
             Err(refusal) => {
-                let explaining = Explaining::Name.if_wanted(self.explain);
-                refuse_points(alloc, number, points, refusal, explaining, console)
+                refuse_points(alloc, number, points, refusal, &self.explaining, console)
             }
         }
     }

@@ -44,7 +44,7 @@ pub(crate) fn ldh_query(name: &[u8], room: &mut [u8]) -> Option<Result<usize, Re
         'labels: while stops != 0 {
             let count = stops.trailing_zeros() as usize;
             let stop = at + count;
-            // The octets behind the label are asked too, which never change the answer: whether a label has four can't
+            // The octets after the label are asked too, which never change the answer: whether a label has four can't
             // be foretold, but hardly one has a hyphen third.
             if has_ace_prefix_in_any_case(&name[start..]) {
                 return None;
@@ -68,7 +68,7 @@ pub(crate) fn ldh_query(name: &[u8], room: &mut [u8]) -> Option<Result<usize, Re
 
 /// Writes the octets of a name from `at` to `end`, at most 16, in lower case into the same places of `room`, where
 /// those before them stand, and tells the full stops among them by a bit each; or `None`, where one is no ASCII letter,
-/// digit, hyphen or full stop. What stood in `room` behind them may be lost.
+/// digit, hyphen or full stop. What stood in `room` after them may be lost.
 #[inline(always)]
 fn lowercase_chunk(name: &[u8], at: usize, end: usize, room: &mut [u8]) -> Option<u64>
     requires order { at ≤ end }
@@ -91,7 +91,7 @@ fn lowercase_chunk(name: &[u8], at: usize, end: usize, room: &mut [u8]) -> Optio
     Some(stops >> (at - start))
 }
 
-/// The 16 octets of a name before `end`. Where there are fewer, letters stand behind them: most short names have eight
+/// The 16 octets of a name before `end`. Where there are fewer, letters stand after them: most short names have eight
 /// octets or more, and these are copied by two moves of eight, which overlap, since a copy of a length that can't be
 /// foretold takes far longer.
 #[inline(always)]

@@ -5,7 +5,7 @@ use Rattle.idn_label.specs.Memory.{DecodesWithoutMemory}
 use Rattle.idn_label.specs.Steps.{appended, in_utf8}
 use Rattle.idn_label.proofs.ascii_name.decode_ascii.Given as goal
 
--- what is left of the name, decoded behind the text so far, is the whole name decoded
+-- what is left of the name, decoded after the text so far, is the whole name decoded
 abbrev pub invariant-labels : goal.invariant-labels
 invariant-labels l =
     (in_utf8 (decode_answer l.name) ≡ appended (take l.len l.room) (in_utf8 (decode_answer (drop l.start l.name))))

@@ -5,7 +5,7 @@ use Rattle.std.proofs.lemmas.List.Elements.{AllWithin-upto}
 use Rattle.std.proofs.lemmas.Simd.{length-chunk, bitmask_splat}
 use Rattle.idna.specs.Labels.{is_full_stop}
 use Rattle.idn_label.proofs.LabelsByPlace.{IsNoStop, AllWithin-join, ends_at_stop, ends_with_name}
-use Rattle.idn_label.proofs.LaneLemmas.{mask_behind, next_lane, none_from_mask}
+use Rattle.idn_label.proofs.LaneLemmas.{mask_after, next_lane, none_from_mask}
 use Rattle.idn_label.proofs.full_stops.end_in_octets.Goals as goal
 
 -- the full stops from `at` on in the chunk that begins at `from`, by a bit each
@@ -15,7 +15,7 @@ masked name at from early room =
     ap (λ m. m / 2 ^ (at - from))
     (bitmask_splat w8 eqb (chunk from 16 name) 16 46 (length-chunk from 16 name room) (omega arith)
     ∙ ap (λ n. mask_l (map is_full_stop (take n (drop from name)))) count)
-    ∙ mask_behind is_full_stop name from at (from + 16) early
+    ∙ mask_after is_full_stop name from at (from + 16) early
 
 pub returns-then-stops-ne0 : goal.returns-then-stops-ne0
 returns-then-stops-ne0 c =

@@ -4,7 +4,7 @@ use Rattle.std.proofs.lemmas.Bool.{not-true}
 use Rattle.std.proofs.lemmas.List.Elements.{AllWithin-upto}
 use Rattle.idn_label.specs.Steps.{is_ldh_point}
 use Rattle.idn_label.proofs.LabelsByPlace.{AllWithin-join}
-use Rattle.idn_label.proofs.LaneLemmas.{mask_behind, next_lane, none_from_mask}
+use Rattle.idn_label.proofs.LaneLemmas.{mask_after, next_lane, none_from_mask}
 use Rattle.idn_label.proofs.LdhEndLemmas.{ends_at_other}
 use Rattle.idn_label.proofs.ldh.ldh_end.Goals as goal
 
@@ -13,7 +13,7 @@ masked : (text : List ℕ) (at from mask : ℕ) → from ≤ at → mask ≡ mas
 masked text at from mask early is =
     let count : 16 ≡ from + 16 - from = omega arith in
     ap (λ m. m / 2 ^ (at - from)) (is ∙ ap (λ n. mask_l (map (λ c. not (is_ldh_point c)) (take n (drop from text)))) count)
-    ∙ mask_behind (λ c. not (is_ldh_point c)) text from at (from + 16) early
+    ∙ mask_after (λ c. not (is_ldh_point c)) text from at (from + 16) early
 
 pub returns-then-others-ne0 : goal.returns-then-others-ne0
 returns-then-others-ne0 c =

@@ -47,7 +47,7 @@ module _ (points old : List ℕ) (len place code_point : ℕ) (same : length poi
       same_number_lists _ _ (omega (arith, written, long, other, front, same, room))
       (λ k lt. get_or-take (len + 1) (set points place code_point) k 0 (omega (arith, lt, written)) ∙ at k (omega (arith, lt, written)))
 
--- and a chunk at the place, where those behind it were moved already
+-- and a chunk at the place, where those after it were moved already
 module _ (points old : List ℕ) (len place code_point : ℕ) (same : length points ≡ length old) (room : len + 9 ≤ length old) (within : place ≤ len)
     (below : (k : ℕ) → k ≤ place + 8 → get_or points k 0 ≡ get_or old k 0)
     (far : (k : ℕ) → place + 8 ≤ k → k < len → get_or points (k + 1) 0 ≡ get_or old k 0) where

@@ -1,7 +1,7 @@
 use Rattle.std.proofs.Common.{◌≡◌, ℕ, ◌+◌, ◌-◌, ◌*◌, ◌/◌, ◌<◌, ◌≤◌, length, get_or}
 use Rattle.idn_punycode.proofs.decoding.move_up.Given as goal
 
--- the chunks that are left stand where they stood, and those behind them one place further up
+-- the chunks that are left stand where they stood, and those after them one place further up
 abbrev pub invariant-loop-chunks : goal.invariant-loop-chunks
 invariant-loop-chunks l =
     (length l.points ≡ length l.fn.points) × (l.chunks ≤ (l.len - l.from) / 8 + 1)

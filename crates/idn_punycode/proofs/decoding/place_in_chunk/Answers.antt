@@ -48,7 +48,7 @@ module _ (code : List ℕ) (at : ℕ) (room : at + 8 ≤ length code) where
       ∙ sym (bit_mask_l (map is_delimiter v) i)
       ∙ ap (λ m. m / 2 ^ i % 2) (sym is)
 
-  -- the mask's digits end behind the last lane that passes
+  -- the mask's digits end after the last lane that passes
   digits : (n : ℕ) × (count_leading_zeros 64 mask + n ≡ 64) × (mask < 2 ^ n) × (2 ^ n ≤ 2 * mask + 1)
   digits = leading_length 64 mask (omega (arith, small))
 

@@ -4,8 +4,8 @@ use Rattle.idn_punycode.proofs.DelimiterSteps.{Ends, is_end, no_delimiter}
 use Rattle.idn_punycode.proofs.decoding.place_in_octets.Goals as goal
 
 -- what a chunk at `at` shows, of which a part may have been searched before
-chunk_ends : (code : List ℕ) (after at behind end : ℕ) → Ends code after → after ≤ at + 8 → ((k : ℕ) → at + behind ≤ k → k < at + 8 → get_or code k 0 ≢ 0x2D) → at + behind ≤ end → Ends code end
-chunk_ends code after at behind end before near others from k le lt =
+chunk_ends : (code : List ℕ) (after at found end : ℕ) → Ends code after → after ≤ at + 8 → ((k : ℕ) → at + found ≤ k → k < at + 8 → get_or code k 0 ≢ 0x2D) → at + found ≤ end → Ends code end
+chunk_ends code after at found end before near others from k le lt =
     elim (cases_lt k (at + 8)) [
       | inl inside ↦ no_delimiter _ (others k (omega (arith, le, from)) inside)
       | inr far ↦ before k (omega (arith, near, far)) lt
@@ -14,16 +14,16 @@ chunk_ends code after at behind end before near others from k le lt =
 pub loop-after-preserved : goal.loop-after-preserved
 loop-after-preserved c =
     let i = c.loop-after.invariant in
-    let others = c.place_in_chunk-behind.ensures.others in
-    (omega (arith, i.0), chunk_ends _ _ _ _ _ i.1 (omega arith) others (omega (arith, c.if-behind-gt0.false)))
+    let others = c.place_in_chunk-found.ensures.others in
+    (omega (arith, i.0), chunk_ends _ _ _ _ _ i.1 (omega arith) others (omega (arith, c.if-found-gt0.false)))
 
-pub returns-then-behind-gt0 : goal.returns-then-behind-gt0
-returns-then-behind-gt0 c =
+pub returns-then-found-gt0 : goal.returns-then-found-gt0
+returns-then-found-gt0 c =
     let i = c.loop-after.invariant in
-    let chunk = c.place_in_chunk-behind.ensures in
+    let chunk = c.place_in_chunk-found.ensures in
     is_end c.args.code.now _ (omega (arith, i.0, c.loop-after-test.true, chunk.within))
     (chunk_ends _ _ _ _ _ i.1 (omega arith) chunk.others (omega arith))
-    (λ _. rw (chunk.last c.if-behind-gt0.true) refl)
+    (λ _. rw (chunk.last c.if-found-gt0.true) refl)
 
 pub returns-then-code-ge-CHUNK_LEN : goal.returns-then-code-ge-CHUNK_LEN
 returns-then-code-ge-CHUNK_LEN c =

@@ -7,7 +7,7 @@ use Rattle.idn_punycode.proofs.OrderSteps.{HasPlaces-none, Turns-start, Turns-en
 use Rattle.idn_punycode.proofs.encoding.push_parts.Goals as goal
 use Rattle.idn_punycode.proofs.encoding.push_parts.Goals.{then-places-ne0+in_ok-push_basic, else-places-ne0, then-basic-gt0+in_ok-push_ascii, else-basic-gt0}
 
--- what is written behind a text, and then more
+-- what is written after a text, and then more
 Appends-more : (before code more : List ℕ) {text after : List ℕ} → text ≡ before ++ code → after ≡ text ++ more → after ≡ before ++ (code ++ more)
 Appends-more before code more is then = then ∙ ap (λ xs. xs ++ more) is ∙ append_assoc before code more
 
@@ -50,7 +50,7 @@ loop-key-init g c =
     let basic : c.len.result - c.len-2.result ≡ length code = omega (arith, c.len.ensures.value, c.len-2.ensures.value) in
     elim c.if-basic-gt0.branch [
       | then-basic-gt0+in_ok-push_ascii w ↦
-          rw (c.behind_basic-progress.ensures, c.keys-key-items.ensures, basic) (
+          rw (c.after_basic-progress.ensures, c.keys-key-items.ensures, basic) (
             code ++ 45 ∷ [],
             ap (λ t. t.bytes) w.longer-is ∙ w.in_ok-push_ascii.ensures.ok ∙ ap (λ xs. xs ++ 45 ∷ []) text ∙ append_assoc before code (45 ∷ []),
             Turns-start (Encodes-basic _ _ refl (omega (arith, w.if-basic-gt0.true))) c.requires.short c.requires.keys,
@@ -59,7 +59,7 @@ loop-key-init g c =
             omega (arith, ap (λ t. length t.bytes) w.longer-is, w.in_ok-push_ascii.ensures.short),
           )
       | else-basic-gt0 w ↦
-          rw (c.behind_basic-progress.ensures, c.keys-key-items.ensures, basic) (
+          rw (c.after_basic-progress.ensures, c.keys-key-items.ensures, basic) (
             code,
             ap (λ t. t.bytes) w.longer-is ∙ text,
             Turns-start (Encodes-no_basic _ _ refl (omega (arith, w.if-basic-gt0.false))) c.requires.short c.requires.keys,
@@ -83,7 +83,7 @@ returns-in_err-progress-clause-too_long g c =
 pub loop-key-preserved : goal.loop-key-preserved
 loop-key-preserved g c =
     let i = c.loop-key.invariant in
-    rw c.in_ok-progress.ensures.behind (
+    rw c.in_ok-progress.ensures.after (
       _,
       Appends-more _ _ _ i.1 c.in_ok-progress.ensures.ok,
       Turns-more i.2 c.requires.short i.3 c.loop-key-test.true _ refl i.4,

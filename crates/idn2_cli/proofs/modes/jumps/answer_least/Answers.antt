@@ -1,9 +1,7 @@
 use Rattle.std.proofs.Common.{◌∙◌, Err, ap, sym, refl}
 use Rattle.std.proofs.lemmas.Result.{err_from_is_err_and}
 use Rattle.idn_label.proofs.RequirementLemmas.{MeetsRequirements-registrable}
-use Rattle.idn_text.specs.declared.refusal.Refusal.TheVariants.{NotInTable}
 use Rattle.idn2_cli.specs.Answers.{requested_label}
-use Rattle.idn2_cli.proofs.RefusedLines.{emits_explained_points}
 use Rattle.idn2_cli.proofs.WrittenPieces.{stops, stops_first}
 use Rattle.idn2_cli.proofs.SegmentedLabels.{some-length, segmented_answer, unsegmented_answer}
 use Rattle.idn2_cli.proofs.modes.jumps.answer_least.Goals as goal
@@ -37,7 +35,7 @@ returns-in-Err-Memory-clause-written g c = stops_first _ _
 pub returns-in-Err-NotInTable-clause-written : goal.returns-in-Err-NotInTable-clause-written
 returns-in-Err-NotInTable-clause-written g c =
     rw (← c.parts_of.ensures.label, ← c.parts_of.ensures.text, unsegmented_answer c.args.mode.now.table.now.entries c.parts_of.result.0.now _ c.requires.table (c.in-Err-NotInTable.ensures.not_in_table c.in-Err-NotInTable.field-0-is))
-    (emits_explained_points _ _ _ _ c.args.points.now c.args.number (Err NotInTable) c.refuse_points.result c.if_wanted-explaining.ensures (c.refuse_points.ensures.told (λ e. cc)))
+    (c.refuse_points.ensures.told (λ e. cc))
 
 pub returns-in-Err-NotInTable-clause-refused : goal.returns-in-Err-NotInTable-clause-refused
 returns-in-Err-NotInTable-clause-refused g c =

@@ -1,4 +1,4 @@
-use Rattle.std.proofs.Common.{Ok, ap, chars, true}
+use Rattle.std.proofs.Common.{Ok, ap, chars, true, ◌∙◌}
 use Rattle.idn2_options.specs.Settings.{Settings}
 use Rattle.idn2_options.specs.declared.command_line.mode.Mode.TheVariants.{Jump}
 use Rattle.idn2_cli.specs.Answers.{jump_answer, requested_label}
@@ -15,5 +15,6 @@ returns-in-Err g c =
 pub returns : goal.returns
 returns g c =
     as_mode c.args.options.now Jump c.args.text.now (Ok c.in-Ok.table) _ _ _ _ _ c.serve_lines.result c.requires.mode c.in-Ok.ensures.table
-    (ap (λ x. lines_job (if_wanted x (ByRequest c.in-Ok.table.entries)) (jump_answer c.in-Ok.table) true (λ line. IsRefusedWithoutMemory (requested_label (chars line))) (λ line. Unit {0})) (ap (λ (v : Settings). v.explain) c.options.view_is))
+    (ap (λ e. lines_job e (jump_answer c.in-Ok.table) true (λ line. IsRefusedWithoutMemory (requested_label (chars line))) (λ line. Unit {0}))
+    (c.if_wanted.ensures ∙ ap (λ x. if_wanted x (ByRequest c.in-Ok.table.entries)) (ap (λ (v : Settings). v.explain) c.options.view_is)))
     c.serve_lines.ensures

@@ -1,6 +1,11 @@
-use Rattle.std.proofs.Common.{Ok, refl}
+use Rattle.std.proofs.Common.{Ok, All, ap, chars, true, ◌∙◌}
 use Rattle.std.specs.Option.{option_copied}
-use Rattle.idn2_options.specs.Settings.{keeping}
+use Rattle.idn2_options.specs.Settings.{Settings, keeping}
+use Rattle.idn_label.specs.Memory.{NeedsNoMemory}
+use Rattle.idn2_cli.specs.Answers.{tested_after, variants_answer}
+use Rattle.idn2_cli.specs.Ends.{lines_job}
+use Rattle.idn2_cli.specs.Explained.{ByTable, if_wanted}
+use Rattle.idn2_cli.specs.Memory.{IsRefusedWithoutMemory}
 use Rattle.std.proofs.lemmas.Result.{err_from_is_err_and}
 use Rattle.idn2_options.specs.declared.command_line.mode.Mode.TheVariants.{Variants}
 use Rattle.idn2_cli.proofs.RunEnds.{as_mode, lists_by_table, refused_lines, unread_stopped}
@@ -17,4 +22,9 @@ returns-in_err-dispositions g c =
 
 pub returns : goal.returns
 returns g c =
-    as_mode (keeping (option_copied c.args.registered) c.args.options.now) Variants c.args.text.now (Ok c.in-Ok.table) _ _ _ _ _ c.serve_lines.result c.requires.mode c.in-Ok.ensures.table refl c.serve_lines.ensures
+    let o : Settings = keeping (option_copied c.args.registered) c.args.options.now in
+    let entries = c.in-Ok.table.entries in
+    as_mode o Variants c.args.text.now (Ok c.in-Ok.table) _ _ _ _ _ c.serve_lines.result c.requires.mode c.in-Ok.ensures.table
+    (ap (λ e. lines_job e (variants_answer o c.in-Ok.table) true (λ line. IsRefusedWithoutMemory (chars line)) (λ line. All NeedsNoMemory (tested_after o entries (chars line))))
+    (c.if_wanted.ensures ∙ ap (λ x. if_wanted x (ByTable entries)) (ap (λ (v : Settings). v.explain) c.options.view_is)))
+    c.serve_lines.ensures

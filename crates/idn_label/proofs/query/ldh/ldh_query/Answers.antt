@@ -21,7 +21,7 @@ labels-preserved c =
     let next = next_lane is_full_stop (lowered name) c.labels.at c.min-end.result c.labels.stops i.within.1 (omega (arith, c.min-end.ensures)) (omega (arith, c.min-end.ensures, i.within)) i.stops c.labels-test.true in
     record {
       cut = cut_stop (cut_more i.cut _ (omega arith) next.none) (omega (arith, next.before, c.min-end.ensures)) next.passes (rest_prefix name c.labels.start c.if-has_ace_prefix_in_any_case.ensures) _ c.has_label_length-have_lengths.ensures;
-      stops = next.behind;
+      stops = next.after;
       within = (omega (arith, i.within), omega (arith, next.before));
     }
 

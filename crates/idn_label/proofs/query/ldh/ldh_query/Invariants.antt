@@ -19,7 +19,7 @@ invariant-chunks l = record {
 abbrev pub decreases-chunks : goal.decreases-chunks
 decreases-chunks l = length l.name - l.at
 
--- the same in a chunk, and the full stops of its octets behind them
+-- the same in a chunk, and the full stops of its octets after them
 abbrev pub invariant-labels : goal.invariant-labels
 invariant-labels l = record {
   cut : IsCut (map to_ascii_lowercase l.name) l.at l.start l.have_lengths;

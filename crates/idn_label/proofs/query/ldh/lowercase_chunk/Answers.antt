@@ -9,7 +9,7 @@ use Rattle.std.proofs.lemmas.List.Folds.{map_fixed}
 use Rattle.std.proofs.lemmas.Simd.{take_more_put_chunk}
 use Rattle.idna.specs.Labels.{is_full_stop}
 use Rattle.idn_label.specs.LdhNames.{is_name_point}
-use Rattle.idn_label.proofs.LaneLemmas.{take-slice_range, map-slice_range, mask_l-padded, mask_none, mask_behind, none_from_mask}
+use Rattle.idn_label.proofs.LaneLemmas.{take-slice_range, map-slice_range, mask_l-padded, mask_none, mask_after, none_from_mask}
 use Rattle.idn_label.proofs.LdhNames.{lowered}
 use Rattle.idn_label.proofs.query.ldh.lowercase_chunk.Goals as goal
 
@@ -69,7 +69,7 @@ returns-clause-stops c =
     ap₂ (λ m start. m / 2 ^ (at - start))
     (c.lowercase_lanes-stops.ensures.stops ∙ ap (λ v. mask_l (map is_full_stop v)) (lowered_lanes c.args.name.now (end - 16) end (16 - end) refl c.lanes_before.ensures) ∙ mask_l-padded is_full_stop (slice_range query (end - 16) end) (16 - end) 97 refl)
     c.saturating_sub-start.ensures
-    ∙ mask_behind is_full_stop query (end - 16) at end (omega (arith, c.requires.few))
+    ∙ mask_after is_full_stop query (end - 16) at end (omega (arith, c.requires.few))
 
 pub returns-clause-points : goal.returns-clause-points
 returns-clause-points c =

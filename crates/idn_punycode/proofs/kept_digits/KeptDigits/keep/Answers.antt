@@ -2,17 +2,17 @@ use Rattle.std.proofs.Common.{◌≡◌, ◌<◌, ◌≤◌, ◌+◌, ◌-◌, �
 use Rattle.std.proofs.lemmas.List.{take-take}
 use Rattle.std.proofs.lemmas.Str.{IsAscii-take}
 use Rattle.std.specs.Str.{IsAscii}
-use Rattle.idn_punycode.specs.inner.Digits.{AreOfKeys, all_digits, bias_behind, end_behind}
-use Rattle.idn_punycode.specs.inner.Progress.{behind_basic}
+use Rattle.idn_punycode.specs.inner.Digits.{AreOfKeys, all_digits, bias_after, end_after}
+use Rattle.idn_punycode.specs.inner.Progress.{after_basic}
 use Rattle.idn_punycode.proofs.ProgressSteps.{AreOfKeys-take, digits_of_keys-none, take-digits}
 use Rattle.idn_punycode.proofs.kept_digits.KeptDigits.keep.Goals as goal
 
 -- what a text that has the digits of all keys has before the end of the first ones
-begun : (count end : ℕ) (keys text ends : List ℕ) → 0 < count → count ≤ length keys → text ≡ codes "xn--" ++ all_digits keys → AreOfKeys end_behind keys ends → end ≡ get_or ends (count - 1) 0 → take end text ≡ codes "xn--" ++ all_digits (take count keys)
+begun : (count end : ℕ) (keys text ends : List ℕ) → 0 < count → count ≤ length keys → text ≡ codes "xn--" ++ all_digits keys → AreOfKeys end_after keys ends → end ≡ get_or ends (count - 1) 0 → take end text ≡ codes "xn--" ++ all_digits (take count keys)
 begun count end keys text ends some within digits are is =
     let last : (count - 1) + 1 ≡ count = omega (arith, some) in
-    ap (λ n. take n text) (is ∙ are (count - 1) 0 (omega (arith, within, some)) ∙ ap (λ n. end_behind (take n keys)) last)
-    ∙ ap (take (end_behind (take count keys))) digits
+    ap (λ n. take n text) (is ∙ are (count - 1) 0 (omega (arith, within, some)) ∙ ap (λ n. end_after (take n keys)) last)
+    ∙ ap (take (end_after (take count keys))) digits
     ∙ ap (λ xs. codes "xn--" ++ xs) (take-digits count keys)
 
 pub returns-then-count-eq0-clause-text : goal.returns-then-count-eq0-clause-text
@@ -21,7 +21,7 @@ returns-then-count-eq0-clause-text c =
     let none : take c.args.count keys ≡ [] = ap (λ n. take n keys) c.if-count-eq0.true in
     c.push_str.ensures.bytes
     ∙ ap (λ xs. xs ++ codes "xn--") c.clear.ensures
-    ∙ ap (λ xs. codes "xn--" ++ xs) (sym (ap all_digits none ∙ digits_of_keys-none 0 (behind_basic 0)))
+    ∙ ap (λ xs. codes "xn--" ++ xs) (sym (ap all_digits none ∙ digits_of_keys-none 0 (after_basic 0)))
 
 pub returns-else-count-eq0-clause-text : goal.returns-else-count-eq0-clause-text
 returns-else-count-eq0-clause-text c =
@@ -53,6 +53,6 @@ invariant_of-self-else-count-eq0 c =
         subst IsAscii (sym c.truncate.ensures) (IsAscii-take text c.from.result written.1),
         omega (arith, written.2, ap length c.truncate.ensures, length-take c.from.result text),
       ),
-      subst (λ ks. AreOfKeys bias_behind ks c.self.inside.biases) is (AreOfKeys-take bias_behind keys c.self.inside.biases count c.self.invariant.2),
-      subst (λ ks. AreOfKeys end_behind ks c.self.inside.ends) is (AreOfKeys-take end_behind keys c.self.inside.ends count c.self.invariant.3),
+      subst (λ ks. AreOfKeys bias_after ks c.self.inside.biases) is (AreOfKeys-take bias_after keys c.self.inside.biases count c.self.invariant.2),
+      subst (λ ks. AreOfKeys end_after ks c.self.inside.ends) is (AreOfKeys-take end_after keys c.self.inside.ends count c.self.invariant.3),
     )
