@@ -1,6 +1,8 @@
 -- The options of a run, as contracts see them.
 use Rattle.std.specs.Prelude.{◌≡◌, ◌≢◌, ◌≤◌, ℕ, Bool, List, [], Option, None, IfSome, length}
 use Rattle.idn_text.specs.Points.{AreScalarValues}
+use Rattle.variant_table.specs.declared.version.Notation.{Notation}
+use Rattle.variant_table.specs.declared.version.Notation.TheVariants.{Table}
 use Rattle.idn2_options.specs.declared.command_line.mode.Mode.{Mode}
 use Rattle.idn2_options.specs.declared.command_line.mode.Mode.TheVariants.{Variants, Jump, CheckTable}
 
@@ -11,6 +13,7 @@ pub record Settings : Type 0 where
   pub std3 : Bool
   pub explain : Bool
   pub file : List ℕ
+  pub notation : Notation
   pub strings : List (List ℕ)
   pub after : List ℕ
   pub limit : Option ℕ
@@ -44,5 +47,5 @@ pub record SuitsMode (o : Settings) : Type 0 where
   pub bounds : o.mode ≢ Variants → (o.after ≡ []) × (o.limit ≡ None) × (o.tries ≡ 1000000) × (o.steps ≡ None)
   pub among : o.mode ≢ Variants → o.among ≡ None
   pub untried : o.among ≢ None → (o.tries ≡ 1000000) × (o.steps ≡ None)
-  pub file : o.mode ≢ Variants → o.mode ≢ Jump → o.mode ≢ CheckTable → o.file ≡ []
+  pub file : o.mode ≢ Variants → o.mode ≢ Jump → o.mode ≢ CheckTable → (o.file ≡ []) × (o.notation ≡ Table)
   pub strings : o.mode ≡ CheckTable → o.strings ≡ []

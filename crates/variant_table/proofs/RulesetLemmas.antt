@@ -20,7 +20,7 @@ use Rattle.variant_table.specs.Texts.{LinesSpell, AreLinesOf, IsTextOf}
 use Rattle.variant_table.specs.Tokens.{tokens_of}
 use Rattle.variant_table.specs.Versions.{version_of, head_of, body_of, is_version_line}
 use Rattle.variant_table.specs.Reading.{◌>>=◌, in_line, sequences_of, sequences_after, entries_of_tokens, with_line, with_raw_line, with_lines, table_from, table_in, table_of_lines, table_of_text}
-use Rattle.variant_table.proofs.FaultlessLemmas.{read_by, text_read}
+use Rattle.variant_table.proofs.FaultlessLemmas.{read_by, text_read, whole_no}
 
 -- ---- a table of version 2 is a ruleset once its first line says so
 
@@ -78,18 +78,19 @@ refused_as_table line lines is =
           ∙ ap (λ b. table_in (Some One) (cond b (line ∷ []) []) (cond b lines (line ∷ lines))) other ∙ first_refused line lines refused.0 refused.1,
     )
 
+no_version : (v : Version) → (let o : Option Version = None in o) ≡ Some v → ⊥
+no_version v e = cc
+
 -- the lines of a ruleset begin with its version line
 begins_ruleset : (lines : List (List ℕ)) (v : Version) (table : TableValue) → version_of Ruleset lines ≡ Some v → table_of_lines Table lines ≡ Ok table → ⊥
-begins_ruleset [] v table named e = cc
+begins_ruleset [] v table named e = no_version v named
 begins_ruleset (line ∷ lines) v table named e = by_cases (is_version_line Ruleset line) refl
   where
     by_cases : (b : Bool) → is_version_line Ruleset line ≡ b → ⊥
     by_cases true h =
         let refused = refused_as_table line lines ((bytes_eq-Decides (strip_carriage_return line) (version_line Ruleset)).0 h) in
-        let clash : Err (1, refused.0) ≡ Ok table = sym refused.1 ∙ e in cc
-    by_cases false h =
-        let none : version_of Ruleset (line ∷ lines) ≡ None = ap (λ b. cond b (Some Three) None) h in
-        let clash : None ≡ Some v = sym none ∙ named in cc
+        whole_no table (1, refused.0) (table_of_lines Table (line ∷ lines)) e refused.1
+    by_cases false h = no_version v (sym (ap (λ b. cond b (Some Three) None) h) ∙ named)
 
 pub not_both_notations : (text : List ℕ) (a b : TableValue) → IsTextOf Table text a → IsTextOf Ruleset text b → ⊥
 not_both_notations text a b h g = begins_ruleset (raw_lines text) b.version a g.version (text_read Table text a h)

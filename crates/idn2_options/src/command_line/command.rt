@@ -5,8 +5,8 @@ ghost use Rattle.clap.specs.Words.{FailsBy, app_of, fault_of, found_of, matches_
 ghost use Rattle.idn2_options.specs.CommandLine.{app, flag_rule, short_flag_rule, value_rule, strings_rule, with_modes, with_collisions, with_switches, with_bounds};
 
 use crate::command_line::arguments::{
-    AFTER, AMONG, CHECK_TABLE, DECODE, EXPLAIN, JUMP, LIMIT, LOOKUP, QUIET, REGISTER, STD3, STEPS,
-    STRINGS, TR46NT, TRIES, VARIANTS,
+    AFTER, AMONG, CHECK_RULESET, CHECK_TABLE, DECODE, EXPLAIN, JUMP, LIMIT, LOOKUP, QUIET,
+    REGISTER, RULESET, STD3, STEPS, STRINGS, TR46NT, TRIES, VARIANTS,
 };
 use clap::{Arg, ArgAction, ArgMatches, Command, Error};
 use std::alloc::{AllocError, Global};
@@ -96,12 +96,26 @@ fn with_modes<'a>(command: Command<'a>, alloc: Global) -> Result<Command<'a>, Al
         "FILE",
         "List the variants of each label by the table in FILE",
     )?;
-    with_option(
+    let command = with_option(
         command,
         alloc,
         CHECK_TABLE,
         "FILE",
         "Print the pairs that the table in FILE lacks",
+    )?;
+    let command = with_option(
+        command,
+        alloc,
+        RULESET,
+        "FILE",
+        "As --variants, by the ruleset in FILE",
+    )?;
+    with_option(
+        command,
+        alloc,
+        CHECK_RULESET,
+        "FILE",
+        "As --check-table, for the ruleset in FILE",
     )
 }
 

@@ -1,5 +1,6 @@
 use crate::command_line::mode::Mode;
 use std::marker::Model;
+use variant_table::Notation;
 
 /// What the words of the command line request. `read_options` keeps the ranges below, and a run
 /// requires them.
@@ -12,8 +13,10 @@ pub struct Options {
     pub std3: bool,
     /// The messages of refused lines go on with the cause. The check of a table, which reads no line, doesn't read it.
     pub explain: bool,
-    /// The name of the table's file. Empty where the mode has no table.
+    /// The name of the file of the table or ruleset. Empty where the mode has none.
     pub file: String,
+    /// As what that file is read. `Table` where the mode has none.
+    pub notation: Notation,
     /// The lines given as words. Where there are none, the standard input is read.
     pub strings: Vec<String>,
     /// The code points that each listed variant is greater than: at most 1,024 scalar values.
@@ -41,6 +44,7 @@ impl Model for Options {
       std3 = o.std3;
       explain = o.explain;
       file = string_bytes o.file;
+      notation = o.notation;
       strings = map string_bytes o.strings.items;
       after = o.after.items;
       limit = o.limit;
