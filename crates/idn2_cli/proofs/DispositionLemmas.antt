@@ -1,11 +1,11 @@
 -- The third field of a variant's line: which variants the table without its blocked variants spells.
-use Rattle.std.proofs.Common.{◌≡◌, ◌⊎◌, inl, inr, ℕ, Bool, true, false, ◌||◌, ◌↔◌, IsTrue, List, [], ◌∷◌, ◌++◌, Option, Some, None, map, length, refl, sym, ap, subst, ◌∙◌, if◌then◌else◌}
+use Rattle.std.proofs.Common.{◌≡◌, ◌≢◌, ◌⊎◌, inl, inr, ℕ, Bool, true, false, ◌||◌, ◌↔◌, IsTrue, List, [], ◌∷◌, ◌++◌, Option, Some, None, map, length, refl, sym, ap, subst, ◌∙◌, if◌then◌else◌}
 use Rattle.std.specs.Prelude.{bytes_eq, codes, not}
 use Rattle.std.specs.Ordering.{is_le}
 use Rattle.std.specs.List.{AllByRecursion, All, Contains, filter, flat_map, list_any}
 use Rattle.std.proofs.lemmas.Slice.Eq.{bytes_eq-Decides}
 use Rattle.variant_table.specs.declared.version.Version.{Version}
-use Rattle.variant_table.specs.declared.version.Version.TheVariants.{One, Two}
+use Rattle.variant_table.specs.declared.version.Version.TheVariants.{One, Two, Three}
 use Rattle.variant_table.specs.Entries.{Variant, Entry, TableValue, has_blocked, replacements, sequences_in, unblocked, unblocked_entry}
 use Rattle.variant_table.specs.WellFormed.{IsEntry, IsWellFormed}
 use Rattle.variant_table.proofs.UnblockedLemmas.{unblocked_none, well_formed_kept}
@@ -21,7 +21,7 @@ use Rattle.variant_list.proofs.SpellingLemmas.{Spells-itself, Spells-nothing, Sp
 use Rattle.idn2_options.specs.Settings.{Settings}
 use Rattle.variant_list.specs.Variants.{variants}
 use Rattle.variant_list.proofs.RisingLists.{Contains-filter}
-use Rattle.idn2_cli.specs.Answers.{block, is_among, is_registrable, kept_to, is_allocatable, disposition_field, disposition, IsFieldOf, IsDisposition, stop_of, trailer, up_to, variant_line, variants_after}
+use Rattle.idn2_cli.specs.Answers.{block, is_among, is_registrable, kept_to, is_allocatable, allocation_field, disposition_field, disposition, IsFieldOf, IsAllocation, IsDisposition, stop_of, trailer, up_to, variant_line, variants_after}
 use Rattle.idn2_cli.specs.inner.Dispositions.{AreOfTable, AreOfLabel, CanBeCut, block_by, field_by}
 use Rattle.idn2_cli.specs.Transcript.{output_lines}
 use Rattle.idn2_cli.specs.declared.modes.dispositions.Dispositions.{Dispositions}
@@ -58,9 +58,15 @@ same-test true b h g = sym (g.1 (h.0 refl))
 same-test false true h g = h.1 (g.0 refl)
 same-test false false h g = refl
 
+-- a version with marks has the field
+field-marked : (n : Version) (b : Bool) → n ≢ One → disposition_field n b ≡ allocation_field b
+field-marked One b other = absurd (other refl)
+field-marked Two b other = refl
+field-marked Three b other = refl
+
 -- what a walk over a net tells
-pub spelled-told : (net : Built) (v : List ℕ) (told : Bool) → All IsEntry net.table → IsTrue told ↔ Spells net.table net.label v → disposition_field Two told ≡ field_by (BySpelling net) v
-spelled-told net v told well h = ap (disposition_field Two) (same-test told (list_any (bytes_eq v) (spelled net.table net.label)) h (spells-test net.table net.label v well))
+pub spelled-told : (net : Built) (v : List ℕ) (told : Bool) → All IsEntry net.table → IsTrue told ↔ Spells net.table net.label v → allocation_field told ≡ field_by (BySpelling net) v
+spelled-told net v told well h = ap allocation_field (same-test told (list_any (bytes_eq v) (spelled net.table net.label)) h (spells-test net.table net.label v well))
 
 -- ---- the sources stay
 
@@ -100,11 +106,11 @@ can_be_cut table (BySpelling other) label is h = subst (λ (t : List Entry). Has
 field-is : (table : TableValue) (label v : List ℕ) (told : Dispositions Built) → AreOfLabel table label told → Contains (spelled table.entries label) v → field_by told v ≡ disposition table label v
 field-is table label v Unstated is h = ap (λ (n : Version). disposition_field n (is_allocatable table.entries label v)) (sym is)
 field-is table label v AllAllocatable is h =
-    ap (disposition_field Two) (sym (ap (λ (t : List Entry). list_any (bytes_eq v) (spelled t label)) is.1 ∙ member-found v (spelled table.entries label) h))
-    ∙ ap (λ (n : Version). disposition_field n (is_allocatable table.entries label v)) (sym is.0)
+    ap allocation_field (sym (ap (λ (t : List Entry). list_any (bytes_eq v) (spelled t label)) is.1 ∙ member-found v (spelled table.entries label) h))
+    ∙ sym (field-marked table.version (is_allocatable table.entries label v) is.0)
 field-is table label v (BySpelling net) is h =
     ap (λ (n : Built). field_by (BySpelling n) v) is.1
-    ∙ ap (λ (n : Version). disposition_field n (is_allocatable table.entries label v)) (sym is.0)
+    ∙ sym (field-marked table.version (is_allocatable table.entries label v) is.0)
 
 map-same : (f g : List ℕ → List ℕ) (vs : List (List ℕ)) → AllByRecursion (λ v. f v ≡ g v) vs → map f vs ≡ map g vs
 map-same f g [] same = refl
@@ -156,26 +162,27 @@ disposition-IsDisposition table label v well = by_version table.version
     tests : (is_allocatable table.entries label v ≡ true) ↔ Spells (unblocked table.entries) label v
     tests = spells-test (unblocked table.entries) label v (well_formed_kept table.entries well)
 
-    by_test : (b : Bool) → is_allocatable table.entries label v ≡ b → IsFieldOf Two (Spells (unblocked table.entries) label v) (disposition_field Two b)
+    by_test : (b : Bool) → is_allocatable table.entries label v ≡ b → IsAllocation (Spells (unblocked table.entries) label v) (allocation_field b)
     by_test true e = inl (tests.0 e, refl)
     by_test false e = inr (λ spells. (let bad : false ≡ true = sym e ∙ tests.1 spells in cc), refl)
 
     by_version : (n : Version) → IsFieldOf n (Spells (unblocked table.entries) label v) (disposition_field n (is_allocatable table.entries label v))
     by_version One = refl
     by_version Two = by_test (is_allocatable table.entries label v) refl
+    by_version Three = by_test (is_allocatable table.entries label v) refl
 
 -- ---- laws
 
 pub disposition-one : (table : TableValue) (label v : List ℕ) → table.version ≡ One → disposition table label v ≡ []
 disposition-one table label v is = ap (λ (n : Version). disposition_field n (is_allocatable table.entries label v)) is
 
-allocatable-field : (table : TableValue) (label v : List ℕ) → table.version ≡ Two → is_allocatable table.entries label v ≡ true → disposition table label v ≡ codes "\tallocatable"
-allocatable-field table label v is told = ap (λ (n : Version). disposition_field n (is_allocatable table.entries label v)) is ∙ ap (disposition_field Two) told
+allocatable-field : (table : TableValue) (label v : List ℕ) → table.version ≢ One → is_allocatable table.entries label v ≡ true → disposition table label v ≡ codes "\tallocatable"
+allocatable-field table label v is told = field-marked table.version (is_allocatable table.entries label v) is ∙ ap allocation_field told
 
-pub disposition-itself : (table : TableValue) (label : List ℕ) → table.version ≡ Two → IsWellFormed table.entries → HasSegmentation table.entries label → disposition table label label ≡ codes "\tallocatable"
+pub disposition-itself : (table : TableValue) (label : List ℕ) → table.version ≢ One → IsWellFormed table.entries → HasSegmentation table.entries label → disposition table label label ≡ codes "\tallocatable"
 disposition-itself table label is formed has = allocatable-field table label label is (label-allocatable table.entries label formed.entries has)
 
-pub disposition-none_blocked : (table : TableValue) (label v : List ℕ) → table.version ≡ Two → IsWellFormed table.entries → has_blocked table.entries ≡ false → Spells table.entries label v
+pub disposition-none_blocked : (table : TableValue) (label v : List ℕ) → table.version ≢ One → IsWellFormed table.entries → has_blocked table.entries ≡ false → Spells table.entries label v
     → disposition table label v ≡ codes "\tallocatable"
 disposition-none_blocked table label v is formed none spells =
     allocatable-field table label v is

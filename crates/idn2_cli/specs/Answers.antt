@@ -16,7 +16,7 @@ use Rattle.idn_label.specs.Register.{register_answer}
 use Rattle.idn_label.specs.Decode.{decode_answer}
 use Rattle.idn_label.specs.Lookup.{lookup_answer}
 use Rattle.variant_table.specs.declared.version.Version.{Version}
-use Rattle.variant_table.specs.declared.version.Version.TheVariants.{One, Two}
+use Rattle.variant_table.specs.declared.version.Version.TheVariants.{One, Two, Three}
 use Rattle.variant_table.specs.Entries.{Entry, TableValue, unblocked}
 use Rattle.variant_list.specs.Spelled.{spelled}
 use Rattle.idn2_options.specs.Settings.{Settings}
@@ -97,10 +97,15 @@ up_to (Some b) labels = filter (λ v. is_le (label_cmp v b)) labels
 abbrev pub is_allocatable : List Entry → List ℕ → List ℕ → Bool
 is_allocatable entries label v = list_any (bytes_eq v) (spelled (unblocked entries) label)
 
--- the third field of a variant's line (RFC 7940, section 7.3), which version 1 doesn't have
+-- the third field of a variant's line (RFC 7940, section 7.3)
+abbrev pub allocation_field : Bool → List ℕ
+allocation_field allocatable = if allocatable then codes "\tallocatable" else codes "\tblocked"
+
+-- which version 1 doesn't have
 abbrev pub disposition_field : Version → Bool → List ℕ
 disposition_field One allocatable = []
-disposition_field Two allocatable = if allocatable then codes "\tallocatable" else codes "\tblocked"
+disposition_field Two allocatable = allocation_field allocatable
+disposition_field Three allocatable = allocation_field allocatable
 
 -- this field of each variant of a label
 abbrev pub disposition : TableValue → List ℕ → List ℕ → List ℕ
@@ -222,13 +227,17 @@ pub record IsAhead (o : Settings) (table : List Entry) (label v : List ℕ) : Ty
   pub spelled : Spells table label v
   pub whole : o.registered ≡ None
 
--- a field that says whether this holds, in the words of version 2; version 1 has none
+-- a field that says whether this holds
+abbrev pub IsAllocation : Type 0 → List ℕ → Type 0
+IsAllocation allocatable field = (allocatable × (field ≡ codes "\tallocatable")) ⊎ ((¬ allocatable) × (field ≡ codes "\tblocked"))
+
+-- which version 1 doesn't have
 abbrev pub IsFieldOf : Version → Type 0 → List ℕ → Type 0
 IsFieldOf One allocatable field = field ≡ []
-IsFieldOf Two allocatable field =
-    (allocatable × (field ≡ codes "\tallocatable")) ⊎ ((¬ allocatable) × (field ≡ codes "\tblocked"))
+IsFieldOf Two allocatable field = IsAllocation allocatable field
+IsFieldOf Three allocatable field = IsAllocation allocatable field
 
--- the third field of the line of v: none in version 1; in version 2 it says that v may be allocated exactly where the label
+-- the third field of the line of v: none in version 1; in others it says that v may be allocated exactly where the label
 -- spells v by the table without its blocked variants
 abbrev pub IsDisposition : TableValue → List ℕ → List ℕ → List ℕ → Type 0
 IsDisposition table label v field = IsFieldOf table.version (Spells (unblocked table.entries) label v) field

@@ -2,8 +2,7 @@
 
 ghost use Rattle.std.specs.Prelude.{◌≡◌, ◌≤◌, length, IfOk};
 ghost use Rattle.variant_table.specs.Entries.{TableValue};
-ghost use Rattle.variant_table.specs.declared.version.Version.TheVariants.{Two};
-ghost use Rattle.idn2_cli.specs.Answers.{disposition_field};
+ghost use Rattle.idn2_cli.specs.Answers.{allocation_field};
 ghost use Rattle.idn2_cli.specs.inner.Dispositions.{AreOfTable, AreOfLabel, CanBeCut, TellsWell, field_by};
 
 use std::alloc::{AllocError, Global};
@@ -78,9 +77,9 @@ impl Dispositions<SpellingTest> {
     }
 }
 
-/// The third field in version 2, with the tab before it.
+/// The third field in version 2 and 3, with the tab before it.
 fn field_of(is_allocatable: bool) -> &'static str
-    ensures field { result.now ≡ disposition_field Two is_allocatable }
+    ensures field { result.now ≡ allocation_field is_allocatable }
     ensures short { length result.now ≤ 16 }
 {
     if is_allocatable {

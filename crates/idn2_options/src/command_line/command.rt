@@ -18,6 +18,7 @@ const ABOUT: &str = "Converts and tests internationalized domain names, and list
 
 /// The lines of the help have at most 80 columns.
 const AFTER_HELP: &str = "\
+What goes with --variants goes with --ruleset, too.
 Without --limit and --steps there is no limit; without --tries it is 1000000.
 Write --after=TEXT where TEXT begins with '-';
 strings that begin with '-' come after '--'.
@@ -94,7 +95,7 @@ fn with_modes<'a>(command: Command<'a>, alloc: Global) -> Result<Command<'a>, Al
         alloc,
         VARIANTS,
         "FILE",
-        "List the variants of each label by the table in FILE",
+        "List each label's variants by the table in FILE",
     )?;
     let command = with_option(
         command,
@@ -108,14 +109,14 @@ fn with_modes<'a>(command: Command<'a>, alloc: Global) -> Result<Command<'a>, Al
         alloc,
         RULESET,
         "FILE",
-        "As --variants, by the ruleset in FILE",
+        "List each label's variants by the ruleset in FILE",
     )?;
     with_option(
         command,
         alloc,
         CHECK_RULESET,
         "FILE",
-        "As --check-table, for the ruleset in FILE",
+        "Print the pairs that the ruleset in FILE lacks",
     )
 }
 
@@ -133,7 +134,7 @@ fn with_collisions<'a>(command: Command<'a>, alloc: Global) -> Result<Command<'a
         command,
         alloc,
         JUMP,
-        "With --variants: answer LABEL TAB TEXT by one label",
+        "With --variants: answer LABEL TAB TEXT by a label",
     )
 }
 
@@ -151,7 +152,7 @@ fn with_switches<'a>(command: Command<'a>, alloc: Global) -> Result<Command<'a>,
         command,
         alloc,
         STD3,
-        "Lookup refuses ASCII but letters, digits and hyphens",
+        "Lookup refuses ASCII but letters, digits, hyphens",
     )?;
     let command = with_flag(
         command,
