@@ -40,13 +40,13 @@ BOUNDS = {
     ("docs/ARCHITECTURE.md", "at most 68,544 edges"): EDGES,
     ("docs/LISTING.md", "at most 68,544 edges"): EDGES,
     ("docs/PROOFS.md", "tests at most 256 times as many edges"):
-        ("crates/variant_list/src/cursor.rt", "≤ 256 * edge_count self.old.net.table self.old.net.label"),
+        ("crates/variant_list/src/cursor.rt", "≤ 256 * self.old.net.edges"),
     ("docs/PROOFS.md", "126 times are proved of one search"):
         ("crates/variant_list/src/search.rt", "≤ looks.old + 126 * length self.old.net.edges"),
     ("docs/PROOFS.md", "189 times are proved of one search"): JUMP,
     ("docs/LISTING.md", "then is a step: at most 189 scans"): JUMP,
     ("docs/PROOFS.md", "at most 64 times 128 more than there are edges"):
-        ("crates/variant_list/src/cursor.rt", "≤ 64 * (edge_count self.now.net.table self.now.net.label + 128)"),
+        ("crates/variant_list/src/cursor.rt", "≤ 64 * (self.now.net.edges + 128)"),
     ("docs/PROOFS.md", "after 2^40 read calls or 2^32 lines"):
         ("crates/idn_text/specs/Reading.antt", "((new.input.reads ≡ 2 ^ 40) ⊎ (new.number ≡ 2 ^ 32))"),
 }

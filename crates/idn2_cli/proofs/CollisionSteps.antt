@@ -4,14 +4,13 @@ use Rattle.std.specs.List.{filter, slice_get}
 use Rattle.std.proofs.lemmas.List.{append_assoc}
 use Rattle.std.proofs.lemmas.List.Elements.{All-drop, All-filter, All-head, All-tail}
 use Rattle.idn_label.specs.FirstFault.{IsRegistrable}
-use Rattle.variant_table.specs.WellFormed.{IsWellFormed}
 use Rattle.variant_list.specs.Labels.{IsRising}
 use Rattle.variant_list.specs.Positions.{Built}
 use Rattle.variant_list.proofs.RisingLists.{IsRising-filter, Contains-filter}
 use Rattle.variant_list.proofs.MutualLemmas.{has_variant-from, has_variant-is}
 use Rattle.variant_list.proofs.OrderLemmas.{IsRising-unique}
-use Rattle.variant_list.specs.Variants.{variants}
-use Rattle.variant_list.proofs.VariantLists.{variants-AreVariants}
+use Rattle.variant_list.specs.Variants.{variants_among}
+use Rattle.variant_list.proofs.ListedLemmas.{variants-IsListed}
 use Rattle.registered_labels.specs.Registered.{AreRegistered}
 use Rattle.registered_labels.specs.Collisions.{Matching, IsBegun, collisions, collisions_ahead, is_spelled}
 use Rattle.registered_labels.proofs.ListedCollisions.{collisions-exactly, collisions-variants}
@@ -80,33 +79,32 @@ no_try None n (Some m) = refl
 no_try (Some v) n None = refl
 no_try (Some v) n (Some m) = refl
 
-pub kept-collisions : (o : Settings) (net : Built) (labels : List (List ℕ)) → IsWellFormed net.table → AreRegistered labels
-    → variants_after (keeping (Some labels) o) net.table net.label ≡ collisions net labels o.after
-kept-collisions o net labels formed all =
-    let whole = variants is_registrable net.table net.label o.after in
-    let are = variants-AreVariants is_registrable net.table net.label o.after formed.entries in
-    IsRising-unique (filter (is_among labels) whole) (collisions net labels o.after)
+pub kept-collisions : (o : Settings) (spelled labels : List (List ℕ)) → AreRegistered labels → variants_after (keeping (Some labels) o) spelled ≡ collisions spelled labels o.after
+kept-collisions o spelled labels all =
+    let whole = variants_among is_registrable spelled o.after in
+    let are = variants-IsListed is_registrable spelled o.after in
+    IsRising-unique (filter (is_among labels) whole) (collisions spelled labels o.after)
     (IsRising-filter (is_among labels) whole are.rising)
-    (collisions-exactly net labels o.after formed all).rising
+    (collisions-exactly spelled labels o.after all).rising
     (λ v h. let kept = (Contains-filter (is_among labels) whole v).0 h in
-    (collisions-variants net labels o.after v formed all).1 (kept.1, has_variant-is labels v kept.0))
-    (λ v h. let both = (collisions-variants net labels o.after v formed all).0 h in
+    (collisions-variants spelled labels o.after v all).1 (kept.1, has_variant-is labels v kept.0))
+    (λ v h. let both = (collisions-variants spelled labels o.after v all).0 h in
     (Contains-filter (is_among labels) whole v).1 (has_variant-from labels v both.1, both.0))
 
 module _ (field : List ℕ → List ℕ) where
-  block-from : (o : Settings) (net : Built) (labels : List (List ℕ)) → IsWellFormed net.table → AreRegistered labels → IfSome o.limit IsCount
-      → block_by field (keeping (Some labels) o) net.table net.label ≡ lines_from (line_of field) o.limit 0 (collisions net labels o.after)
-  block-from o net labels formed all limits =
-      ap (λ (vs : List (List ℕ)). block_to field (lesser_label (nth_if_given vs o.limit) (lesser_label (nth [] o.tries) (nth_if_given [] o.steps))) vs) (kept-collisions o net labels formed all)
-      ∙ ap (λ (stop : Option (List ℕ)). block_to field stop (collisions net labels o.after)) (no_try (nth_if_given (collisions net labels o.after) o.limit) o.tries o.steps)
-      ∙ block-lines field (collisions net labels o.after) o.limit (collisions-exactly net labels o.after formed all).rising limits
+  block-from : (o : Settings) (net : Built) (labels : List (List ℕ)) → AreRegistered labels → IfSome o.limit IsCount
+      → block_by field (keeping (Some labels) o) net.spelled ≡ lines_from (line_of field) o.limit 0 (collisions net.spelled labels o.after)
+  block-from o net labels all limits =
+      ap (λ (vs : List (List ℕ)). block_to field (lesser_label (nth_if_given vs o.limit) (lesser_label (nth [] o.tries) (nth_if_given [] o.steps))) vs) (kept-collisions o net.spelled labels all)
+      ∙ ap (λ (stop : Option (List ℕ)). block_to field stop (collisions net.spelled labels o.after)) (no_try (nth_if_given (collisions net.spelled labels o.after) o.limit) o.tries o.steps)
+      ∙ block-lines field (collisions net.spelled labels o.after) o.limit (collisions-exactly net.spelled labels o.after all).rising limits
 
   -- ---- a listing under way
 
   -- `so_far` is written; what is to come follows from the collisions ahead and the count
   pub record IsUnderWay (o : Settings) (net : Built) (labels : List (List ℕ)) (old now : Held) (s : Matching) (count total : ℕ) : Type 0 where
     pub so_far : List Piece
-    pub split : output_lines (block_by field (keeping (Some labels) o) net.table net.label) ≡ so_far ++ output_lines (lines_from (line_of field) o.limit count (collisions_ahead s))
+    pub split : output_lines (block_by field (keeping (Some labels) o) net.spelled) ≡ so_far ++ output_lines (lines_from (line_of field) o.limit count (collisions_ahead s))
     pub pieces : Writes old now so_far
     pub few : count + length (collisions_ahead s) ≤ total
     pub registrable : All IsRegistrable (collisions_ahead s)
@@ -119,22 +117,22 @@ module _ (field : List ℕ → List ℕ) where
       by_test true h = omega (arith, h)
       by_test false h = omega (arith, h)
 
-  pub under_way-start : (o : Settings) (net : Built) (labels : List (List ℕ)) (old : Held) (s : Matching) (after : List ℕ) (total : ℕ) → IsWellFormed net.table → AreRegistered labels → IsWithinLimits o
+  pub under_way-start : (o : Settings) (net : Built) (labels : List (List ℕ)) (old : Held) (s : Matching) (after : List ℕ) (total : ℕ) → AreRegistered labels → IsWithinLimits o
       → after ≡ o.after → total ≡ length labels → IsBegun net labels after s → IsUnderWay o net labels old old s 0 total
-  under_way-start o net labels old s after total formed all limits same_after same_total begun =
-      let ahead : collisions_ahead s ≡ collisions net labels o.after = begun.ahead ∙ ap (λ (a : List ℕ). collisions net labels a) same_after in
+  under_way-start o net labels old s after total all limits same_after same_total begun =
+      let ahead : collisions_ahead s ≡ collisions net.spelled labels o.after = begun.ahead ∙ ap (λ (a : List ℕ). collisions net.spelled labels a) same_after in
       let count : length (collisions_ahead s) ≤ length labels = subst (λ (l : List (List ℕ)). length l ≤ length labels) (sym ahead) (filter-few _ labels) in record {
         so_far = [];
-        split = ap output_lines (block-from o net labels formed all limits.limit) ∙ ap (λ (l : List (List ℕ)). output_lines (lines_from (line_of field) o.limit 0 l)) (sym ahead);
+        split = ap output_lines (block-from o net labels all limits.limit) ∙ ap (λ (l : List (List ℕ)). output_lines (lines_from (line_of field) o.limit 0 l)) (sym ahead);
         pieces = writes_nothing old;
         few = omega (arith, count, same_total);
-        registrable = subst (λ (ls : List (List ℕ)). All IsRegistrable (filter (is_spelled s.net) (drop s.passed ls))) (sym begun.registered)
-            (All-filter (is_spelled s.net) IsRegistrable (drop s.passed labels) (All-drop IsRegistrable s.passed labels all.registrable));
+        registrable = subst (λ (ls : List (List ℕ)). All IsRegistrable (filter (is_spelled s.net.spelled) (drop s.passed ls))) (sym begun.registered)
+            (All-filter (is_spelled s.net.spelled) IsRegistrable (drop s.passed labels) (All-drop IsRegistrable s.passed labels all.registrable));
       }
 
   -- no label is left
   pub under_way-ended : {A : Type 0} (o : Settings) (net : Built) (labels : List (List ℕ)) (old now new : Held) (s : Matching) (count total : ℕ) (r : Result A Stop) → IsUnderWay o net labels old now s count total
-      → collisions_ahead s ≡ [] → Emits now new (Output (trailer count None ++ 10 ∷ []) ∷ []) r → Emits old new (output_lines (block_by field (keeping (Some labels) o) net.table net.label)) r
+      → collisions_ahead s ≡ [] → Emits now new (Output (trailer count None ++ 10 ∷ []) ∷ []) r → Emits old new (output_lines (block_by field (keeping (Some labels) o) net.spelled)) r
   under_way-ended o net labels old now new s count total r h none emits =
       emits_after old now new _ h.so_far (output_lines (trailer count None ∷ [])) r
       (h.split ∙ ap (λ (l : List (List ℕ)). h.so_far ++ output_lines (lines_from (line_of field) o.limit count l)) none) h.pieces emits
@@ -142,7 +140,7 @@ module _ (field : List ℕ → List ℕ) where
   -- the label found is the next line
   next-split : (o : Settings) (net : Built) (labels : List (List ℕ)) (old now : Held) (s next : Matching) (count total : ℕ) → (h : IsUnderWay o net labels old now s count total)
       → collisions_ahead s ≡ next.label ∷ collisions_ahead next
-      → output_lines (block_by field (keeping (Some labels) o) net.table net.label) ≡ h.so_far ++ (Output (line_of field next.label ++ 10 ∷ []) ∷ output_lines (lines_behind (line_of field) o.limit count next.label (collisions_ahead next)))
+      → output_lines (block_by field (keeping (Some labels) o) net.spelled) ≡ h.so_far ++ (Output (line_of field next.label ++ 10 ∷ []) ∷ output_lines (lines_behind (line_of field) o.limit count next.label (collisions_ahead next)))
   next-split o net labels old now s next count total h found =
       h.split ∙ ap (λ (l : List (List ℕ)). h.so_far ++ output_lines (lines_from (line_of field) o.limit count l)) found
 
@@ -155,7 +153,7 @@ module _ (field : List ℕ → List ℕ) where
   -- its line could not be written whole
   pub under_way-broken : {A : Type 0} (o : Settings) (net : Built) (labels : List (List ℕ)) (old now new : Held) (s next : Matching) (count total : ℕ) (v : List ℕ) (r : Result A Stop) (why : Stop) → IsUnderWay o net labels old now s count total
       → collisions_ahead s ≡ next.label ∷ collisions_ahead next → v ≡ next.label → Emits now new (Output (line_of field v ++ 10 ∷ []) ∷ []) r → r ≡ Err why
-      → StopsWithin why old new (output_lines (block_by field (keeping (Some labels) o) net.table net.label))
+      → StopsWithin why old new (output_lines (block_by field (keeping (Some labels) o) net.spelled))
   under_way-broken o net labels old now new s next count total v r why h found is emits stopped =
       stops_between old now new _ h.so_far (Output (line_of field next.label ++ 10 ∷ []) ∷ []) _ r why (next-split o net labels old now s next count total h found) h.pieces
       (subst (λ (u : List ℕ). Emits now new (Output (line_of field u ++ 10 ∷ []) ∷ []) r) is emits) stopped
@@ -179,7 +177,7 @@ module _ (field : List ℕ → List ℕ) where
   -- its line is written, and is the last
   pub under_way-reached : {A : Type 0} (o : Settings) (net : Built) (labels : List (List ℕ)) (old now new last : Held) (s next : Matching) (count total : ℕ) (v stop_at : List ℕ) (r : Result A Stop) → IsUnderWay o net labels old now s count total
       → collisions_ahead s ≡ next.label ∷ collisions_ahead next → v ≡ next.label → Writes now new (Output (line_of field v ++ 10 ∷ []) ∷ []) → reaches o.limit (count + 1) ≡ true
-      → stop_at ≡ next.label → Emits new last (Output (trailer (count + 1) (Some stop_at) ++ 10 ∷ []) ∷ []) r → Emits old last (output_lines (block_by field (keeping (Some labels) o) net.table net.label)) r
+      → stop_at ≡ next.label → Emits new last (Output (trailer (count + 1) (Some stop_at) ++ 10 ∷ []) ∷ []) r → Emits old last (output_lines (block_by field (keeping (Some labels) o) net.spelled)) r
   under_way-reached o net labels old now new last s next count total v stop_at r h found is written reached at emits =
       let line : List Piece = Output (line_of field next.label ++ 10 ∷ []) ∷ [] in
       let end : List Piece = Output (trailer (count + 1) (Some next.label) ++ 10 ∷ []) ∷ [] in

@@ -1,9 +1,10 @@
 -- The third field of a variant's line: which variants the table without its blocked variants spells.
-use Rattle.std.proofs.Common.{◌≡◌, ◌≢◌, ◌⊎◌, inl, inr, ℕ, Bool, true, false, ◌||◌, ◌↔◌, IsTrue, List, [], ◌∷◌, ◌++◌, Option, Some, None, map, length, refl, sym, ap, subst, ◌∙◌, if◌then◌else◌}
+use Rattle.std.proofs.Common.{◌≡◌, ◌≢◌, ◌⊎◌, inl, inr, ℕ, Bool, true, false, ◌||◌, ◌&&◌, ◌↔◌, IsTrue, List, [], ◌∷◌, ◌++◌, Option, Some, None, map, length, refl, sym, ap, subst, ◌∙◌, if◌then◌else◌}
 use Rattle.std.specs.Prelude.{bytes_eq, codes, not}
 use Rattle.std.specs.Ordering.{is_le}
 use Rattle.std.specs.List.{AllByRecursion, All, Contains, filter, flat_map, list_any}
 use Rattle.std.proofs.lemmas.Slice.Eq.{bytes_eq-Decides}
+use Rattle.idn_class.specs.Hopeless.{hopeless}
 use Rattle.variant_table.specs.declared.version.Version.{Version}
 use Rattle.variant_table.specs.declared.version.Version.TheVariants.{One, Two, Three}
 use Rattle.variant_table.specs.Entries.{Variant, Entry, TableValue, has_blocked, replacements, sequences_in, unblocked, unblocked_entry}
@@ -19,9 +20,13 @@ use Rattle.variant_list.proofs.ListMembers.{Contains-head, Contains-later, Conta
 use Rattle.variant_list.proofs.RecursionLemmas.{spelled-Spells}
 use Rattle.variant_list.proofs.SpellingLemmas.{Spells-itself, Spells-nothing, Spells-piece}
 use Rattle.idn2_options.specs.Settings.{Settings}
-use Rattle.variant_list.specs.Variants.{variants}
+use Rattle.variant_list.specs.Beginnings.{has_hope}
+use Rattle.variant_list.specs.Tested.{tested_among}
+use Rattle.variant_list.specs.Variants.{candidates_among, fits_label, in_order, variants_among}
+use Rattle.variant_list.specs.Visited.{visited}
+use Rattle.variant_list.proofs.NetLabels.{among-in_order}
 use Rattle.variant_list.proofs.RisingLists.{Contains-filter}
-use Rattle.idn2_cli.specs.Answers.{block, is_among, is_registrable, kept_to, is_allocatable, allocation_field, disposition_field, disposition, IsFieldOf, IsAllocation, IsDisposition, stop_of, trailer, up_to, variant_line, variants_after}
+use Rattle.idn2_cli.specs.Answers.{block, block_to, is_among, is_registrable, kept_to, lesser_label, nth, nth_if_given, unless_kept, is_allocatable, allocation_field, disposition_field, disposition, IsFieldOf, IsAllocation, IsDisposition, stop_of, trailer, up_to, variant_line, variants_after}
 use Rattle.idn2_cli.specs.inner.Dispositions.{AreOfTable, AreOfLabel, CanBeCut, block_by, field_by}
 use Rattle.idn2_cli.specs.Transcript.{output_lines}
 use Rattle.idn2_cli.specs.declared.modes.dispositions.Dispositions.{Dispositions}
@@ -65,8 +70,8 @@ field-marked Two b other = refl
 field-marked Three b other = refl
 
 -- what a walk over a net tells
-pub spelled-told : (net : Built) (v : List ℕ) (told : Bool) → All IsEntry net.table → IsTrue told ↔ Spells net.table net.label v → allocation_field told ≡ field_by (BySpelling net) v
-spelled-told net v told well h = ap allocation_field (same-test told (list_any (bytes_eq v) (spelled net.table net.label)) h (spells-test net.table net.label v well))
+pub spelled-told : (net : Built) (v : List ℕ) (told : Bool) → IsTrue told ↔ Contains net.spelled v → allocation_field told ≡ field_by (BySpelling net) v
+spelled-told net v told h = ap allocation_field (same-test told (is_among net.spelled v) h (found-member v net.spelled, member-found v net.spelled))
 
 -- ---- the sources stay
 
@@ -103,13 +108,16 @@ can_be_cut table (BySpelling other) label is h = subst (λ (t : List Entry). Has
 
 -- ---- the field that is told is that of the table
 
-field-is : (table : TableValue) (label v : List ℕ) (told : Dispositions Built) → AreOfLabel table label told → Contains (spelled table.entries label) v → field_by told v ≡ disposition table label v
-field-is table label v Unstated is h = ap (λ (n : Version). disposition_field n (is_allocatable table.entries label v)) (sym is)
-field-is table label v AllAllocatable is h =
+field-is : (table : TableValue) (label v : List ℕ) (told : Dispositions Built) → All IsEntry table.entries → AreOfLabel table label told → Contains (spelled table.entries label) v → field_by told v ≡ disposition table label v
+field-is table label v Unstated well is h = ap (λ (n : Version). disposition_field n (is_allocatable table.entries label v)) (sym is)
+field-is table label v AllAllocatable well is h =
     ap allocation_field (sym (ap (λ (t : List Entry). list_any (bytes_eq v) (spelled t label)) is.1 ∙ member-found v (spelled table.entries label) h))
     ∙ sym (field-marked table.version (is_allocatable table.entries label v) is.0)
-field-is table label v (BySpelling net) is h =
-    ap (λ (n : Built). field_by (BySpelling n) v) is.1
+field-is table label v (BySpelling net) well is h =
+    ap allocation_field
+    (same-test (is_among net.spelled v) (is_allocatable table.entries label v)
+    (λ found. (is.1 v).0 (found-member v net.spelled found), λ spells. member-found v net.spelled ((is.1 v).1 spells))
+    (spells-test (unblocked table.entries) label v (well_formed_kept table.entries well)))
     ∙ sym (field-marked table.version (is_allocatable table.entries label v) is.0)
 
 map-same : (f g : List ℕ → List ℕ) (vs : List (List ℕ)) → AllByRecursion (λ v. f v ≡ g v) vs → map f vs ≡ map g vs
@@ -138,21 +146,34 @@ kept-listed None vs v at = at
 kept-listed (Some registered) vs v at = ((Contains-filter (is_among registered) vs v).0 at).1
 
 -- the block by the fields that are told is the block
-told-block : (o : Settings) (table : TableValue) (label : List ℕ) (told : Dispositions Built) → AreOfLabel table label told
-    → block_by (field_by told) o table.entries label ≡ block_by (disposition table label) o table.entries label
-told-block o table label told is =
-    let vs = variants_after o table.entries label in
-    let stop = stop_of o table.entries label in
+told-block : (o : Settings) (table : TableValue) (label : List ℕ) (told : Dispositions Built) → All IsEntry table.entries → AreOfLabel table label told
+    → block_by (field_by told) o (spelled table.entries label) ≡ block_by (disposition table label) o (spelled table.entries label)
+told-block o table label told well is =
+    let vs = variants_after o (spelled table.entries label) in
+    let stop = stop_of o (spelled table.entries label) in
     let same : AllByRecursion (λ v. variant_line (field_by told v) v ≡ variant_line (disposition table label v) v) vs =
     all_members (λ v. variant_line (field_by told v) v ≡ variant_line (disposition table label v) v) vs
-    (λ v at. ap (λ field. variant_line field v) (field-is table label v told is (((variants-IsListed is_registrable table.entries label o.after).members v).0 (kept-listed o.registered (variants is_registrable table.entries label o.after) v at)).spelled)) in
+    (λ v at. ap (λ field. variant_line field v) (field-is table label v told well is (((variants-IsListed is_registrable (spelled table.entries label) o.after).members v).0 (kept-listed o.registered (variants_among is_registrable (spelled table.entries label) o.after) v at)).spelled)) in
     ap (λ lines. lines ++ trailer (length (up_to stop vs)) stop ∷ [])
     (map-same (λ v. variant_line (field_by told v) v) (λ v. variant_line (disposition table label v) v) (up_to stop vs) (up_to-all _ stop vs same))
 
+-- the block of labels that are the same in order
+block-same : (field : List ℕ → List ℕ) (o : Settings) (labels others : List (List ℕ)) → in_order labels ≡ in_order others → block_by field o labels ≡ block_by field o others
+block-same field o labels others same =
+    ap (λ (vs : List (List ℕ)). of_lists vs (tested_among hopeless labels o.after) (candidates_among labels o.after)) (among-in_order is_registrable labels others o.after same)
+    ∙ ap (λ (ts : List (List ℕ)). of_lists (variants_among is_registrable others o.after) ts (candidates_among labels o.after)) (among-in_order (λ v. fits_label v && has_hope hopeless v) labels others o.after same)
+    ∙ ap (of_lists (variants_among is_registrable others o.after) (tested_among hopeless others o.after)) (among-in_order fits_label labels others o.after same)
+  where
+    of_lists : List (List ℕ) → List (List ℕ) → List (List ℕ) → List (List ℕ)
+    of_lists vs ts cs =
+        let kept = kept_to o.registered vs in
+        block_to field (lesser_label (nth_if_given kept o.limit) (lesser_label (nth (unless_kept o.registered ts) o.tries) (nth_if_given (visited hopeless None (unless_kept o.registered cs)) o.steps))) kept
+
 -- what is written of a net is the block
-pub written_block : (o : Settings) (table : TableValue) (label : List ℕ) (net : Built) (told : Dispositions Built) → net ≡ record { table = table.entries; label = label } → AreOfLabel table label told
-    → output_lines (block_by (field_by told) o net.table net.label) ≡ output_lines (block o table label)
-written_block o table label net told same is = ap (λ (n : Built). output_lines (block_by (field_by told) o n.table n.label)) same ∙ ap output_lines (told-block o table label told is)
+pub written_block : (o : Settings) (table : TableValue) (label : List ℕ) (net : Built) (told : Dispositions Built) → All IsEntry table.entries → in_order net.spelled ≡ in_order (spelled table.entries label) → AreOfLabel table label told
+    → output_lines (block_by (field_by told) o net.spelled) ≡ output_lines (block o table label)
+written_block o table label net told well same is =
+    ap output_lines (block-same (field_by told) o net.spelled (spelled table.entries label) same ∙ told-block o table label told well is)
 
 -- ---- the field that computes is the field
 

@@ -54,11 +54,11 @@ filter-passes after (v ∷ vs) ldh =
 abbrev ldh_block : Settings → TableValue → List ℕ → List (List ℕ)
 ldh_block o table label =
     let vs = kept_to o.registered (variants passes table.entries label o.after) in
-    block_to (disposition table label) (lesser_label (nth_if_given vs o.limit) (lesser_label (nth (tested_after o table.entries label) o.tries) (nth_if_given (visited_in o table.entries label) o.steps))) vs
+    block_to (disposition table label) (lesser_label (nth_if_given vs o.limit) (lesser_label (nth (tested_after o (spelled table.entries label)) o.tries) (nth_if_given (visited_in o (spelled table.entries label)) o.steps))) vs
 
 block-ldh : (o : Settings) (table : TableValue) (label : List ℕ) → AllLdh (in_order (spelled table.entries label)) → block o table label ≡ ldh_block o table label
 block-ldh o table label ldh =
-    ap (λ (all : List (List ℕ)). let vs = kept_to o.registered all in block_to (disposition table label) (lesser_label (nth_if_given vs o.limit) (lesser_label (nth (tested_after o table.entries label) o.tries) (nth_if_given (visited_in o table.entries label) o.steps))) vs)
+    ap (λ (all : List (List ℕ)). let vs = kept_to o.registered all in block_to (disposition table label) (lesser_label (nth_if_given vs o.limit) (lesser_label (nth (tested_after o (spelled table.entries label)) o.tries) (nth_if_given (visited_in o (spelled table.entries label)) o.steps))) vs)
     (filter-passes o.after (in_order (spelled table.entries label)) ldh)
 
 pub blocks : ExamplesOfBlocks

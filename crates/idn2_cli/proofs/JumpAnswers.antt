@@ -1,6 +1,6 @@
 -- The answer to a request is the least label from its text on.
 use Rattle.std.proofs.Common.{◌≡◌, ◌⊎◌, inl, inr, ℕ, List, [], ◌∷◌, Option, Some, Err, refl, sym, ap, subst}
-use Rattle.std.specs.Prelude.{slice_get, codes}
+use Rattle.std.specs.Prelude.{slice_get, codes, Contains}
 use Rattle.idn_text.specs.Points.{utf8_of}
 use Rattle.idn_text.specs.declared.refusal.Refusal.{Refusal}
 use Rattle.idn_label.specs.Answers.{unless_fault}
@@ -10,18 +10,19 @@ use Rattle.variant_table.specs.WellFormed.{IsWellFormed}
 use Rattle.variant_list.specs.Labels.{IsListOf}
 use Rattle.variant_list.specs.Positions.{Built, Position}
 use Rattle.variant_list.specs.Segmentations.{HasSegmentation}
+use Rattle.variant_list.specs.Spelling.{Spells}
 use Rattle.variant_list.specs.Jumps.{IsFrom, IsLeastFrom, HasNoneFrom, IsCandidate, candidates_from}
 use Rattle.variant_list.proofs.FromLemmas.{candidates_from-IsListOf}
 use Rattle.variant_list.proofs.ListMembers.{Contains-head, Contains-none, Contains-cases}
 use Rattle.variant_list.proofs.ListedLemmas.{above_first}
-use Rattle.idn2_cli.specs.Answers.{IsJump, IsJumpAnswer, built, jump_answer, jump_line, least_answer, requested_label, requested_text}
+use Rattle.idn2_cli.specs.Answers.{IsJump, IsJumpAnswer, jump_answer, jump_line, least_answer, requested_label, requested_text}
 use Rattle.idn2_cli.proofs.SegmentedLabels.{segmented_answer, unsegmented_answer, segmented_or_not}
 
 -- the first of the candidates from a text on is the least
-least_is_first : (net : Built) (text : List ℕ) (vs : List (List ℕ)) → IsListOf (λ v. IsCandidate net v × IsFrom text v) vs
-    → ((v : List ℕ) × IsLeastFrom (IsCandidate net) text v × (jump_line (slice_get vs 0) ≡ utf8_of v)) ⊎ (HasNoneFrom (IsCandidate net) text × (jump_line (slice_get vs 0) ≡ codes "#end"))
-least_is_first net text [] list = inr (λ w is up. Contains-none w ((list.members w).1 (is, up)), refl)
-least_is_first net text (v ∷ vs) list =
+least_is_first : (P : List ℕ → Type 0) (text : List ℕ) (vs : List (List ℕ)) → IsListOf (λ v. IsCandidate P v × IsFrom text v) vs
+    → ((v : List ℕ) × IsLeastFrom (IsCandidate P) text v × (jump_line (slice_get vs 0) ≡ utf8_of v)) ⊎ (HasNoneFrom (IsCandidate P) text × (jump_line (slice_get vs 0) ≡ codes "#end"))
+least_is_first P text [] list = inr (λ w is up. Contains-none w ((list.members w).1 (is, up)), refl)
+least_is_first P text (v ∷ vs) list =
     let first = (list.members v).0 (Contains-head v vs) in
     inl (
       v,
@@ -35,7 +36,7 @@ least_is_first net text (v ∷ vs) list =
 
 least-IsJump : (table : TableValue) (label text : List ℕ) → IsWellFormed table.entries → IsJump table.entries label text (jump_line (slice_get (candidates_from table.entries label text) 0))
 least-IsJump table label text formed =
-    least_is_first (built table.entries label) text (candidates_from table.entries label text) (candidates_from-IsListOf (built table.entries label) text formed)
+    least_is_first (Spells table.entries label) text (candidates_from table.entries label text) (candidates_from-IsListOf table.entries label text formed)
 
 -- the answer to a request whose label may be registered
 pub jump_answer-IsJumpAnswer : (table : TableValue) (request : List ℕ) → IsWellFormed table.entries → IsRegistrable (requested_label request) → IsJumpAnswer table request (jump_answer table request)
@@ -58,7 +59,7 @@ jump-refused table request refusal fault = ap (λ (f : Option Refusal). unless_f
 
 -- the label to which a new cursor of a net jumped
 pub jumped_to : (net : Built) (after : List ℕ) (old new : Position) (text last : List ℕ) → old ≡ record { net = net; last = after; edge_tests = 0 }
-    → IsLeastFrom (IsCandidate old.net) text new.last → last ≡ new.last → IsLeastFrom (IsCandidate net) text last
+    → IsLeastFrom (IsCandidate (Contains old.net.spelled)) text new.last → last ≡ new.last → IsLeastFrom (IsCandidate (Contains net.spelled)) text last
 jumped_to net after old new text last begun found at =
-    subst (IsLeastFrom (IsCandidate net) text) (sym at)
-    (subst (λ (p : Position). IsLeastFrom (IsCandidate p.net) text new.last) begun found)
+    subst (IsLeastFrom (IsCandidate (Contains net.spelled)) text) (sym at)
+    (subst (λ (p : Position). IsLeastFrom (IsCandidate (Contains p.net.spelled)) text new.last) begun found)

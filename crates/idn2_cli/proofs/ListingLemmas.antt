@@ -2,28 +2,24 @@
 use Rattle.std.proofs.Common.{◌≡◌, ◌≤◌, ◌+◌, ◌-◌, ℕ, zero, suc, List, [], ◌∷◌, ◌++◌, ◌&&◌, ◌||◌, cond, Bool, true, false, IsTrue, Option, Some, None, IfSome, All, Contains, map, length, take, drop, refl, sym, ap, subst, ◌∙◌, arith, take-append-drop, length-take}
 use Rattle.std.specs.Option.{is_none}
 use Rattle.std.specs.List.{AllByRecursion, filter, slice_get}
-use Rattle.std.proofs.lemmas.List.Elements.{All-from_recursion, recursion_from_All}
+use Rattle.std.proofs.lemmas.List.Elements.{All-contains, All-from_recursion, recursion_from_All}
 use Rattle.idn_text.specs.Points.{IsScalarValue, AreScalarValues}
 use Rattle.idn_class.specs.Hopeless.{hopeless}
 use Rattle.idn_label.specs.FirstFault.{first_fault}
 use Rattle.idn_label.proofs.HopeLemmas.{none_hopeless}
 use Rattle.idn_label.proofs.RequirementLemmas.{MeetsRequirements-registrable}
-use Rattle.variant_table.specs.Entries.{Entry, replacements}
-use Rattle.variant_table.specs.WellFormed.{IsWellFormed, IsEntry, IsSequence}
 use Rattle.variant_list.specs.Labels.{IsBelow}
-use Rattle.variant_list.specs.Spelling.{JoinsReplacements}
 use Rattle.variant_list.specs.Beginnings.{has_hope, is_new, shortest_hopeless}
-use Rattle.variant_list.specs.Tested.{tested}
-use Rattle.variant_list.specs.Variants.{candidates, fits_label, variants}
+use Rattle.variant_list.specs.Tested.{tested_among}
+use Rattle.variant_list.specs.Variants.{candidates_among, fits_label, variants_among}
 use Rattle.variant_list.specs.Visited.{visited, visited_ahead}
 use Rattle.variant_list.specs.Positions.{Built, Position, candidates_ahead, tested_ahead}
 use Rattle.variant_list.specs.Jumps.{IsCandidate}
 use Rattle.variant_list.specs.Steps.{last_of, moved_over}
 use Rattle.variant_list.proofs.ListMembers.{Contains-head, Contains-later}
-use Rattle.variant_list.proofs.RecursionLemmas.{spelled-Spells}
 use Rattle.variant_list.proofs.ListedLemmas.{variants-IsListed, variants-behind}
 use Rattle.variant_list.proofs.ListingLemmas.{fits_label-short, variants-cut}
-use Rattle.variant_list.proofs.TestedLaws.{variants_are_accepted_tested, tested-cut}
+use Rattle.variant_list.proofs.TestedLaws.{accepted-tested, tested-cut}
 use Rattle.idn2_options.specs.Settings.{Settings, IsBound, IsCount, IsWithinLimits, keeping}
 use Rattle.idn2_cli.specs.Transcript.{Piece, Output, output_lines}
 use Rattle.idn2_cli.specs.Answers.{is_registrable, nth, nth_if_given, lesser_label, up_to, variant_line, trailer, block_to}
@@ -70,33 +66,33 @@ nth-here_if : (last : List ℕ) (vs : List (List ℕ)) (n : Option ℕ) → IfSo
 nth-here_if last vs None bound = refl
 nth-here_if last vs (Some n) bound = nth-here last vs n (omega (arith, bound.0))
 
-candidates-cut : (table : List Entry) (label after : List ℕ) → candidates table label after ≡ candidates table label (take 63 after)
-candidates-cut table label after = variants-cut fits_label fits_label-short table label after
+candidates-cut : (labels : List (List ℕ)) (after : List ℕ) → candidates_among labels after ≡ candidates_among labels (take 63 after)
+candidates-cut labels after = variants-cut fits_label fits_label-short labels after
 
 -- the start of a listing: its block are the lines up to the stop that is seen from there
 pub record IsStart (field : List ℕ → List ℕ) (o : Settings) (p : Position) : Type 0 where
   pub place : Option ℕ
   pub limit : o.limit ≡ limit_from 0 place
-  pub block : block_by field (keeping None o) p.net.table p.net.label ≡ lines_to (line_by field) 0 (stop_from place p o.tries o.steps) (variants_ahead p)
+  pub block : block_by field (keeping None o) p.net.spelled ≡ lines_to (line_by field) 0 (stop_from place p o.tries o.steps) (variants_ahead p)
 
 pub block-start : (field : List ℕ → List ℕ) (o : Settings) (net : Built) → IsWithinLimits o → IsStart field o (record { net = net; last = take 63 o.after; edge_tests = 0 })
 block-start field o net limits =
     let last : List ℕ = take 63 o.after in
-    let cs : List (List ℕ) = tested hopeless net.table net.label last in
-    let us : List (List ℕ) = visited hopeless None (candidates net.table net.label last) in
+    let cs : List (List ℕ) = tested_among hopeless net.spelled last in
+    let us : List (List ℕ) = visited hopeless None (candidates_among net.spelled last) in
     let place = at_place (filter is_registrable cs) o.limit limits.limit in
-    let vs : variants is_registrable net.table net.label o.after ≡ filter is_registrable cs =
-    variants_are_accepted_tested is_registrable hopeless registrable-short none_hopeless net.table net.label o.after ∙ ap (filter is_registrable) (tested-cut hopeless net.table net.label o.after) in
-    let tries : nth (tested hopeless net.table net.label o.after) o.tries ≡ from_here last cs o.tries =
-    ap (λ (ds : List (List ℕ)). nth ds o.tries) (tested-cut hopeless net.table net.label o.after) ∙ nth-here last cs o.tries limits.tries.0 in
-    let steps : nth_if_given (visited hopeless None (candidates net.table net.label o.after)) o.steps ≡ from_here_if last us o.steps =
-    ap (λ (ds : List (List ℕ)). nth_if_given (visited hopeless None ds) o.steps) (candidates-cut net.table net.label o.after) ∙ nth-here_if last us o.steps limits.steps in
+    let vs : variants_among is_registrable net.spelled o.after ≡ filter is_registrable cs =
+    accepted-tested is_registrable hopeless registrable-short none_hopeless net.spelled o.after ∙ ap (filter is_registrable) (tested-cut hopeless net.spelled o.after) in
+    let tries : nth (tested_among hopeless net.spelled o.after) o.tries ≡ from_here last cs o.tries =
+    ap (λ (ds : List (List ℕ)). nth ds o.tries) (tested-cut hopeless net.spelled o.after) ∙ nth-here last cs o.tries limits.tries.0 in
+    let steps : nth_if_given (visited hopeless None (candidates_among net.spelled o.after)) o.steps ≡ from_here_if last us o.steps =
+    ap (λ (ds : List (List ℕ)). nth_if_given (visited hopeless None ds) o.steps) (candidates-cut net.spelled o.after) ∙ nth-here_if last us o.steps limits.steps in
     record {
       place = place.0;
       limit = place.2;
       block =
-          ap (λ (ds : List (List ℕ)). block_to field (lesser_label (nth_if_given ds o.limit) (lesser_label (nth (tested hopeless net.table net.label o.after) o.tries) (nth_if_given (visited hopeless None (candidates net.table net.label o.after)) o.steps))) ds) vs
-          ∙ ap (λ (t : Option (List ℕ)). block_to field (lesser_label (nth_if_given (filter is_registrable cs) o.limit) (lesser_label t (nth_if_given (visited hopeless None (candidates net.table net.label o.after)) o.steps))) (filter is_registrable cs)) tries
+          ap (λ (ds : List (List ℕ)). block_to field (lesser_label (nth_if_given ds o.limit) (lesser_label (nth (tested_among hopeless net.spelled o.after) o.tries) (nth_if_given (visited hopeless None (candidates_among net.spelled o.after)) o.steps))) ds) vs
+          ∙ ap (λ (t : Option (List ℕ)). block_to field (lesser_label (nth_if_given (filter is_registrable cs) o.limit) (lesser_label t (nth_if_given (visited hopeless None (candidates_among net.spelled o.after)) o.steps))) (filter is_registrable cs)) tries
           ∙ ap (λ (s : Option (List ℕ)). block_to field (lesser_label (nth_if_given (filter is_registrable cs) o.limit) (lesser_label (from_here last cs o.tries) s)) (filter is_registrable cs)) steps
           ∙ ap (λ (l : Option (List ℕ)). block_to field (lesser_label l (lesser_label (from_here last cs o.tries) (from_here_if last us o.steps))) (filter is_registrable cs)) place.1
           ∙ lines_to-none field (lesser_label (get_if_given (filter is_registrable cs) place.0) (lesser_label (from_here last cs o.tries) (from_here_if last us o.steps))) (filter is_registrable cs);
@@ -113,41 +109,18 @@ pub record IsWritable (v : List ℕ) : Type 0 where
   pub short : length v ≤ 63
   pub scalar_values : AreScalarValues v
 
-append_scalar : (xs ys : List ℕ) → AllByRecursion IsScalarValue xs → AllByRecursion IsScalarValue ys → AllByRecursion IsScalarValue (xs ++ ys)
-append_scalar [] ys h g = g
-append_scalar (x ∷ xs) ys h g = (h.0, append_scalar xs ys h.1 g)
-
-all_at : {X : Type 0} (P : X → Type 0) (xs : List X) (x : X) → All P xs → Contains xs x → P x
-all_at P xs x all c = subst P c.2 (all c.0 x c.1)
-
-joins_scalar : (table : List Entry) → IsWellFormed table → (segmentation : List Entry) → AllByRecursion (Contains table) segmentation → (v : List ℕ) → JoinsReplacements segmentation v → AllByRecursion IsScalarValue v
-joins_scalar table formed [] of_table v joins = subst (AllByRecursion IsScalarValue) (sym joins) tt
-joins_scalar table formed (e ∷ segmentation) of_table v joins =
-    let r = joins.0 in
-    let w = joins.1 in
-    let sequence = all_at IsSequence (replacements e) r (all_at IsEntry table e formed.entries of_table.0).sequences joins.2 in
-    let first = recursion_from_All IsScalarValue r (λ k d lt. (sequence.points k d lt).scalar_value) in
-    subst (AllByRecursion IsScalarValue) (sym joins.4) (append_scalar r w first (joins_scalar table formed segmentation of_table.1 w joins.3))
-
 all_members : (P : List ℕ → Type 0) (vs : List (List ℕ)) → ((v : List ℕ) → Contains vs v → P v) → AllByRecursion P vs
 all_members P [] h = tt
 all_members P (v ∷ vs) h = (h v (Contains-head v vs), all_members P vs (λ w c. h w (Contains-later v vs w c)))
 
-candidates-writable : (table : List Entry) → IsWellFormed table → (label after : List ℕ) → AllByRecursion IsWritable (candidates table label after)
-candidates-writable table formed label after = all_members IsWritable (candidates table label after) (λ v c.
-    let is = ((variants-IsListed fits_label table label after).members v).0 c in
-    let spells = (spelled-Spells table label v formed.entries).0 is.spelled in
-    record {
-      short = fits_label-short v is.accepted;
-      scalar_values = All-from_recursion IsScalarValue v (joins_scalar table formed spells.0 spells.1.of_table v spells.2);
-    })
-
 -- a candidate can be written
-pub candidate-writable : (net : Built) → IsWellFormed net.table → (v : List ℕ) → IsCandidate net v → IsWritable v
-candidate-writable net formed v is = record {
-  short = is.short;
-  scalar_values = All-from_recursion IsScalarValue v (joins_scalar net.table formed is.spelled.0 is.spelled.1.of_table v is.spelled.2);
-}
+pub candidate-writable : (labels : List (List ℕ)) → All AreScalarValues labels → (v : List ℕ) → IsCandidate (Contains labels) v → IsWritable v
+candidate-writable labels scalar v is = record { short = is.short; scalar_values = All-contains AreScalarValues labels v scalar is.spelled }
+
+candidates-writable : (labels : List (List ℕ)) → All AreScalarValues labels → (after : List ℕ) → AllByRecursion IsWritable (candidates_among labels after)
+candidates-writable labels scalar after = all_members IsWritable (candidates_among labels after) (λ v c.
+    let is = ((variants-IsListed fits_label labels after).members v).0 c in
+    candidate-writable labels scalar v (record { spelled = is.spelled; short = fits_label-short v is.accepted }))
 
 last_of-writable : (start : List ℕ) (passed : List (List ℕ)) → IsWritable start → AllByRecursion IsWritable passed → IsWritable (last_of start passed)
 last_of-writable start [] h all = h
@@ -168,22 +141,22 @@ visited-all P before (v ∷ vs) all = by_test (has_hope hopeless v || is_new bef
     by_test false h = h
 
 -- where a cursor comes to can be written, where it was can
-pub visited-writable : (count : ℕ) (p : Position) → IsWellFormed p.net.table → IsWritable p.last → IsWritable (last_of p.last (take count (visited_ahead hopeless p)))
-visited-writable count p formed writable =
+pub visited-writable : (count : ℕ) (p : Position) → All AreScalarValues p.net.spelled → IsWritable p.last → IsWritable (last_of p.last (take count (visited_ahead hopeless p)))
+visited-writable count p scalar writable =
     last_of-writable p.last (take count (visited_ahead hopeless p)) writable
-    (take_all_of IsWritable count (visited_ahead hopeless p) (visited-all IsWritable None (candidates_ahead p) (candidates-writable p.net.table formed p.net.label p.last)))
+    (take_all_of IsWritable count (visited_ahead hopeless p) (visited-all IsWritable None (candidates_ahead p) (candidates-writable p.net.spelled scalar p.last)))
 
 pub ahead-above : (p : Position) → IsAbove p
 ahead-above p = record {
-  tested = all_members (IsBelow p.last) (tested_ahead hopeless p) (λ v c. (((variants-IsListed fits_with_hope p.net.table p.net.label p.last).members v).0 c).greater);
-  visited = visited-all (IsBelow p.last) None (candidates_ahead p) (all_members (IsBelow p.last) (candidates_ahead p) (λ v c. (((variants-IsListed fits_label p.net.table p.net.label p.last).members v).0 c).greater));
+  tested = all_members (IsBelow p.last) (tested_ahead hopeless p) (λ v c. (((variants-IsListed fits_with_hope p.net.spelled p.last).members v).0 c).greater);
+  visited = visited-all (IsBelow p.last) None (candidates_ahead p) (all_members (IsBelow p.last) (candidates_ahead p) (λ v c. (((variants-IsListed fits_label p.net.spelled p.last).members v).0 c).greater));
 }
 
 -- what is ahead of it then
 pub moved-ahead : (count : ℕ) (p : Position) → tested_ahead hopeless (moved_over hopeless count p) ≡ drop count (tested_ahead hopeless p)
 moved-ahead count p =
     let cs = tested_ahead hopeless p in
-    variants-behind fits_with_hope p.net.table p.net.label p.last (take count cs) (drop count cs) (sym (take-append-drop count cs))
+    variants-behind fits_with_hope p.net.spelled p.last (take count cs) (drop count cs) (sym (take-append-drop count cs))
 
 take_scalar : (n : ℕ) (points : List ℕ) → AreScalarValues points → AreScalarValues (take n points)
 take_scalar n points h = All-from_recursion IsScalarValue (take n points) (take_all_of IsScalarValue n points (recursion_from_All IsScalarValue points h))

@@ -26,10 +26,9 @@ use Rattle.idn_label.specs.ALabel.{a_label_of}
 use Rattle.variant_list.specs.Labels.{label_cmp, IsBelow, IsListOf}
 use Rattle.variant_list.specs.Segmentations.{HasSegmentation}
 use Rattle.variant_list.specs.Spelling.{Spells}
-use Rattle.variant_list.specs.Tested.{tested}
-use Rattle.variant_list.specs.Variants.{candidates, variants}
+use Rattle.variant_list.specs.Tested.{tested_among}
+use Rattle.variant_list.specs.Variants.{candidates_among, variants_among}
 use Rattle.variant_list.specs.Visited.{visited}
-use Rattle.variant_list.specs.Positions.{Built}
 use Rattle.variant_list.specs.Jumps.{IsCandidate, IsLeastFrom, HasNoneFrom, candidates_from}
 
 -- ---- the block of a label: a line for each of its variants, and a trailer that says where the listing ends
@@ -47,9 +46,9 @@ abbrev pub kept_to : Option (List (List ℕ)) → List (List ℕ) → List (List
 kept_to None labels = labels
 kept_to (Some registered) labels = filter (is_among registered) labels
 
--- the registrable labels that the label spells, after the text of the settings, as far as the listing is kept to them
-abbrev pub variants_after : Settings → List Entry → List ℕ → List (List ℕ)
-variants_after o table label = kept_to o.registered (variants is_registrable table label o.after)
+-- of the labels that a label spells the registrable ones, after the text of the settings, as far as the listing is kept to them
+abbrev pub variants_after : Settings → List (List ℕ) → List (List ℕ)
+variants_after o labels = kept_to o.registered (variants_among is_registrable labels o.after)
 
 -- the n-th of the labels, counted from 1, if there is one
 abbrev pub nth : List (List ℕ) → ℕ → Option (List ℕ)
@@ -72,21 +71,21 @@ abbrev pub unless_kept : Option (List (List ℕ)) → List (List ℕ) → List (
 unless_kept None labels = labels
 unless_kept (Some registered) labels = []
 
--- of the labels of at most 63 code points that the label spells, after the text of the settings, no beginning of which is hopeless
-abbrev pub tested_after : Settings → List Entry → List ℕ → List (List ℕ)
-tested_after o table label = unless_kept o.registered (tested hopeless table label o.after)
+-- those of at most 63 code points, after the text of the settings, no beginning of which is hopeless
+abbrev pub tested_after : Settings → List (List ℕ) → List (List ℕ)
+tested_after o labels = unless_kept o.registered (tested_among hopeless labels o.after)
 
 -- the labels that the steps of a listing come to: of the same labels, hopeless or not, those that are tested, and the first of those
 -- that share a hopeless beginning
-abbrev pub visited_in : Settings → List Entry → List ℕ → List (List ℕ)
-visited_in o table label = visited hopeless None (unless_kept o.registered (candidates table label o.after))
+abbrev pub visited_in : Settings → List (List ℕ) → List (List ℕ)
+visited_in o labels = visited hopeless None (unless_kept o.registered (candidates_among labels o.after))
 
 -- the stop of a listing: the limit-th variant, the tries-th tested label or the label of the last step, the least of those that
 -- exist
-abbrev pub stop_of : Settings → List Entry → List ℕ → Option (List ℕ)
-stop_of o table label =
-    lesser_label (nth_if_given (variants_after o table label) o.limit)
-    (lesser_label (nth (tested_after o table label) o.tries) (nth_if_given (visited_in o table label) o.steps))
+abbrev pub stop_of : Settings → List (List ℕ) → Option (List ℕ)
+stop_of o labels =
+    lesser_label (nth_if_given (variants_after o labels) o.limit)
+    (lesser_label (nth (tested_after o labels) o.tries) (nth_if_given (visited_in o labels) o.steps))
 
 -- the labels that are not greater than the stop; all of them, if there is no stop
 abbrev pub up_to : Option (List ℕ) → List (List ℕ) → List (List ℕ)
@@ -128,7 +127,7 @@ block_to field stop labels =
 -- the block of a label
 abbrev pub block : Settings → TableValue → List ℕ → List (List ℕ)
 block o table label =
-    block_to (disposition table label) (stop_of o table.entries label) (variants_after o table.entries label)
+    block_to (disposition table label) (stop_of o (spelled table.entries label)) (variants_after o (spelled table.entries label))
 
 -- ---- the least label from a text on
 
@@ -264,15 +263,11 @@ IsListing o table label (Err refusal) = (¬ HasSegmentation table.entries label)
 
 -- ---- the least label from a text on, by what it has to be
 
--- a net of this table and label
-abbrev pub built : List Entry → List ℕ → Built
-built table label = record { table = table; label = label }
-
 -- the line is the least label of at most 63 code points that the label spells and that is no less than the text; or there is none
 abbrev pub IsJump : List Entry → List ℕ → List ℕ → List ℕ → Type 0
 IsJump table label text line =
-    ((v : List ℕ) × IsLeastFrom (IsCandidate (built table label)) text v × (line ≡ utf8_of v))
-    ⊎ (HasNoneFrom (IsCandidate (built table label)) text × (line ≡ codes "#end"))
+    ((v : List ℕ) × IsLeastFrom (IsCandidate (Spells table label)) text v × (line ≡ utf8_of v))
+    ⊎ (HasNoneFrom (IsCandidate (Spells table label)) text × (line ≡ codes "#end"))
 
 -- a request whose label can be cut into sources of the table is answered by one line, and any other is refused
 abbrev pub IsJumpAnswer : TableValue → List ℕ → LineAnswer → Type 0

@@ -3,6 +3,7 @@ use Rattle.std.specs.Prelude.{◌≡◌, ℕ, List, [], ◌∷◌, ◌++◌, Som
 use Rattle.idn_text.specs.declared.refusal.Refusal.TheVariants.{Empty, LineTooLong, NotUtf8}
 use Rattle.variant_table.specs.Entries.{Entry}
 use Rattle.variant_list.specs.Examples.{allocatable}
+use Rattle.variant_list.specs.Spelled.{spelled}
 use Rattle.registered_labels.specs.Collisions.{collisions}
 use Rattle.registered_labels.specs.Texts.{line_refusal}
 
@@ -39,7 +40,7 @@ gap = pair (codes "a") (codes "b") ∷ plain (codes "b") ∷ []
 
 -- the registered labels after a text that a label spells under a table
 abbrev pub found : List Entry → List ℕ → List (List ℕ) → List ℕ → List (List ℕ)
-found table label registered after = collisions (record { table = table; label = label }) registered after
+found table label registered after = collisions (spelled table label) registered after
 
 abbrev pub strasse : List ℕ
 strasse = codes "strasse"

@@ -29,7 +29,7 @@ module _ (hopeless : List ℕ → Bool) where
   -- the tested labels ahead of a call: those that it decided, and those ahead of where it is
   parts : (old : Position) (tries : ℕ) (now : Position) (left : ℕ) (h : HasGone hopeless old tries now left) → tested_ahead hopeless old ≡ filter (has_hope hopeless) h.front ++ filter (has_hope hopeless) (candidates_ahead now)
   parts old tries now left h =
-      tested-filter hopeless old.net.table old.net.label old.last ∙ ap (filter (has_hope hopeless)) h.whole ∙ filter-append (has_hope hopeless) h.front (candidates_ahead now)
+      tested-filter hopeless old.net.spelled old.last ∙ ap (filter (has_hope hopeless)) h.whole ∙ filter-append (has_hope hopeless) h.front (candidates_ahead now)
 
   -- the first of those ahead
   first_tested : (now new : Position) → FindsHope hopeless now new → filter (has_hope hopeless) (candidates_ahead now) ≡ new.last ∷ filter (has_hope hopeless) (candidates_ahead new)
@@ -129,7 +129,7 @@ module _ (hopeless : List ℕ → Bool) where
         let more = filter (has_hope hopeless) (candidates_ahead now) in
         record {
           net = net ∙ h.gone.net;
-          ahead = ahead ∙ tested-filter hopeless now.net.table now.net.label now.last
+          ahead = ahead ∙ tested-filter hopeless now.net.spelled now.last
               ∙ sym (ap (drop (tries - left)) (parts old tries now left h.gone) ∙ drop_at decided more (tries - left) (omega (arith, h.gone.counted)));
         }
 
@@ -151,15 +151,15 @@ module _ (hopeless : List ℕ → Bool) where
   -- ---- what it costs
 
   module _ (old : Position) (tries : ℕ) (now : Position) (left : ℕ) where
-    looks-below : HasGone hopeless old tries now left → now.edge_tests ≤ 256 * (edges_of_net old * ((tries - left) + length (dead_ends_between hopeless old.net.table old.net.label old.last now.last) + 1))
+    looks-below : HasGone hopeless old tries now left → now.edge_tests ≤ 256 * (edges_of_net old * ((tries - left) + length (dead_ends_between hopeless old.net.spelled old.last now.last) + 1))
     looks-below h =
         let met = length (dead_ends hopeless None h.front) in
         let count = length (filter (has_hope hopeless) h.front) in
-        let paid = (tries - left) + length (dead_ends_between hopeless old.net.table old.net.label old.last now.last) + 1 in
+        let paid = (tries - left) + length (dead_ends_between hopeless old.net.spelled old.last now.last) + 1 in
         let few : met + count ≤ paid = omega (arith, h.counted, no_more h.front now.last h.shape h.whole) in
         omega (arith, h.looks, product-le (edges_of_net old) (met + count) paid few)
       where
-        no_more : (front : List (List ℕ)) (last : List ℕ) → ((front ≡ []) × (last ≡ old.last)) ⊎ EndsIn hopeless front last → candidates_ahead old ≡ front ++ candidates_ahead now → length (dead_ends hopeless None front) ≤ length (dead_ends_between hopeless old.net.table old.net.label old.last last)
+        no_more : (front : List (List ℕ)) (last : List ℕ) → ((front ≡ []) × (last ≡ old.last)) ⊎ EndsIn hopeless front last → candidates_ahead old ≡ front ++ candidates_ahead now → length (dead_ends hopeless None front) ≤ length (dead_ends_between hopeless old.net.spelled old.last last)
         no_more front last (inl none) whole = omega (arith, ap (λ f. length (dead_ends hopeless None f)) none.0)
         no_more front last (inr ends) whole =
             let all : candidates_ahead old ≡ ends.others ++ last ∷ candidates_ahead now = whole ∙ ap (λ f. f ++ candidates_ahead now) ends.is ∙ append_assoc ends.others (last ∷ []) (candidates_ahead now) in
@@ -169,42 +169,42 @@ module _ (hopeless : List ℕ → Bool) where
             omega (arith, ap (λ vs. length (dead_ends hopeless None vs)) below, ap (λ vs. length (dead_ends hopeless None vs)) ends.is, ap length once, ap length (append-nil (dead_ends hopeless None ends.others)))
 
     -- a search for hope that was undone
-    looks-back : (mid new : Position) (met : ℕ) (label : List ℕ) → HasGone hopeless old tries now left → mid.net ≡ now.net → mid.edge_tests ≤ now.edge_tests + 126 * (edges_of_net now * (met + 1)) → met ≤ length (dead_ends hopeless None (candidates_ahead now)) → GoesBack mid label new → new.edge_tests ≤ 256 * (edges_of_net old * ((tries - left) + length (dead_ends_after hopeless old.net.table old.net.label old.last) + 1))
+    looks-back : (mid new : Position) (met : ℕ) (label : List ℕ) → HasGone hopeless old tries now left → mid.net ≡ now.net → mid.edge_tests ≤ now.edge_tests + 126 * (edges_of_net now * (met + 1)) → met ≤ length (dead_ends hopeless None (candidates_ahead now)) → GoesBack mid label new → new.edge_tests ≤ 256 * (edges_of_net old * ((tries - left) + length (dead_ends_after hopeless old.net.spelled old.last) + 1))
     looks-back mid new met label h net more few back =
         let before = length (dead_ends hopeless None h.front) in
         let count = length (filter (has_hope hopeless) h.front) in
         let searches = before + count + (met + 1) in
-        let paid = (tries - left) + length (dead_ends_after hopeless old.net.table old.net.label old.last) + 1 in
+        let paid = (tries - left) + length (dead_ends_after hopeless old.net.spelled old.last) + 1 in
         let there : mid.edge_tests ≤ 126 * (edges_of_net old * searches) = looks-sum now.edge_tests mid.edge_tests (edges_of_net old) (before + count) (met + 1) searches h.looks (subst (λ e. mid.edge_tests ≤ now.edge_tests + 126 * (e * (met + 1))) (edges-same now old h.net) more) refl in
-        let all : length (dead_ends_after hopeless old.net.table old.net.label old.last) ≡ before + length (dead_ends hopeless None (candidates_ahead now)) =
+        let all : length (dead_ends_after hopeless old.net.spelled old.last) ≡ before + length (dead_ends hopeless None (candidates_ahead now)) =
         ap (λ vs. length (dead_ends hopeless None vs)) h.whole ∙ ap length (joined hopeless h.front now.last old.last (candidates_ahead now) h.shape) ∙ length-append (dead_ends hopeless None h.front) (dead_ends hopeless None (candidates_ahead now)) in
         let enough : searches ≤ paid = omega (arith, h.counted, all, few) in
         let edges : (edges_of_net mid) ≡ (edges_of_net old) = edges-same mid now net ∙ edges-same now old h.net in
         let once : edges_of_net old * 1 ≤ edges_of_net old * paid = product-le (edges_of_net old) 1 paid (omega arith) in
         omega (arith, there, back.looks, edges, product-le (edges_of_net old) searches paid enough, once)
 
-    pub HasMovedOver-below : HasGone hopeless old tries now left → HasMovedOver hopeless (tries - left) (length (dead_ends_between hopeless old.net.table old.net.label old.last (moved_over hopeless (tries - left) old).last)) old now
+    pub HasMovedOver-below : HasGone hopeless old tries now left → HasMovedOver hopeless (tries - left) (length (dead_ends_between hopeless old.net.spelled old.last (moved_over hopeless (tries - left) old).last)) old now
     HasMovedOver-below h =
         let last : now.last ≡ (moved_over hopeless (tries - left) old).last = last-gone old tries now left h in
         record {
           net = h.net;
           last = last;
-          edge_tests = subst (λ l. now.edge_tests ≤ 256 * (edges_of_net old * ((tries - left) + length (dead_ends_between hopeless old.net.table old.net.label old.last l) + 1))) last (looks-below h);
+          edge_tests = subst (λ l. now.edge_tests ≤ 256 * (edges_of_net old * ((tries - left) + length (dead_ends_between hopeless old.net.spelled old.last l) + 1))) last (looks-below h);
         }
 
     HasMovedOver-back : (mid new : Position) (met : ℕ) → HasGone hopeless old tries now left → mid.net ≡ now.net → mid.edge_tests ≤ now.edge_tests + 126 * (edges_of_net now * (met + 1)) → met ≤ length (dead_ends hopeless None (candidates_ahead now)) → GoesBack mid now.last new
-        → HasMovedOver hopeless (tries - left) (length (dead_ends_after hopeless old.net.table old.net.label old.last)) old new
+        → HasMovedOver hopeless (tries - left) (length (dead_ends_after hopeless old.net.spelled old.last)) old new
     HasMovedOver-back mid new met h net more few back = record {
       net = back.net ∙ net ∙ h.net;
       last = back.last ∙ last-gone old tries now left h;
       edge_tests = looks-back mid new met now.last h net more few back;
     }
 
-    pub HasMovedOver-ended : (mid new : Position) → HasGone hopeless old tries now left → FindsNone hopeless now mid → GoesBack mid now.last new → HasMovedOver hopeless (tries - left) (length (dead_ends_after hopeless old.net.table old.net.label old.last)) old new
+    pub HasMovedOver-ended : (mid new : Position) → HasGone hopeless old tries now left → FindsNone hopeless now mid → GoesBack mid now.last new → HasMovedOver hopeless (tries - left) (length (dead_ends_after hopeless old.net.spelled old.last)) old new
     HasMovedOver-ended mid new h found back =
         HasMovedOver-back mid new (length (dead_ends hopeless None (candidates_ahead now))) h found.net found.looks (omega arith) back
 
-    pub HasMovedOver-undone : (mid new : Position) → HasGone hopeless old tries now left → FindsHope hopeless now mid → GoesBack mid now.last new → HasMovedOver hopeless (tries - left) (length (dead_ends_after hopeless old.net.table old.net.label old.last)) old new
+    pub HasMovedOver-undone : (mid new : Position) → HasGone hopeless old tries now left → FindsHope hopeless now mid → GoesBack mid now.last new → HasMovedOver hopeless (tries - left) (length (dead_ends_after hopeless old.net.spelled old.last)) old new
     HasMovedOver-undone mid new h found back =
         let all = ap (dead_ends hopeless None) found.whole ∙ dead_ends-joined hopeless None found.passed mid.last (candidates_ahead mid) (no_shortest (shortest_hopeless hopeless mid.last) found.hope) in
         let few : length (dead_ends hopeless None found.passed) ≤ length (dead_ends hopeless None (candidates_ahead now)) = omega (arith, ap length all, length-append (dead_ends hopeless None found.passed) (dead_ends hopeless None (candidates_ahead mid))) in

@@ -1,7 +1,7 @@
 -- The least label that is no less than a text, of a net and of a cursor.
 use Rattle.std.proofs.Common.{◌≡◌, inl, inr, ◌↔◌, ℕ, zero, suc, ◌*◌, ◌<◌, ◌≤◌, Bool, false, List, [], ◌∷◌, length, take, min, Option, Some, None, is_some, refl, sym, ap, subst, ◌∙◌, arith, length-take}
 use Rattle.std.specs.Bool.{OnTrue, OnFalse}
-use Rattle.std.specs.Prelude.{IfSome, IfNone}
+use Rattle.std.specs.Prelude.{Contains, IfSome, IfNone}
 use Rattle.std.proofs.lemmas.Bool.{false_from_ne_true}
 use Rattle.std.proofs.lemmas.List.{take_all, take_min, take-take}
 use Rattle.variant_list.specs.Labels.{IsBelow}
@@ -10,13 +10,15 @@ use Rattle.variant_list.specs.Positions.{Position}
 use Rattle.variant_list.specs.Sharing.{IsShared, IsSharedThrough}
 use Rattle.variant_list.specs.Jumps.{IsFrom, IsLeastFrom, HasNoneFrom, IsCandidate, Jumps}
 use Rattle.variant_list.specs.inner.Least.{IsNext, HasNoNext}
-use Rattle.variant_list.specs.inner.NetPlans.{IsOf}
+use Rattle.variant_list.specs.inner.NetPlans.{IsNet, built_of, spelled_of}
 use Rattle.variant_list.specs.inner.Plans.{Plan}
 use Rattle.variant_list.specs.inner.Holding.{BitRows, Holds}
 use Rattle.variant_list.specs.inner.Scans.{Reached, IsRead, IsReadApart}
 use Rattle.variant_list.specs.inner.Searches.{IsPlaced}
 use Rattle.variant_list.proofs.BeginningLemmas.{shares-within}
+use Rattle.variant_list.proofs.CandidateLemmas.{at}
 use Rattle.variant_list.proofs.ListingLemmas.{cut-IsBelow}
+use Rattle.variant_list.proofs.NetLabels.{Reads-spelled}
 
 -- ---- the least label that is read
 
@@ -139,30 +141,33 @@ module _ (P Q : List ℕ → Type 0) (same : (v : List ℕ) → P v ↔ Q v) whe
   HasNoneFrom-same : (text : List ℕ) → HasNoneFrom P text → HasNoneFrom Q text
   HasNoneFrom-same text h w q up = h w ((same w).1 q) up
 
-pub Jumps-found : (r : Option ℕ) (old new : Position) (text : List ℕ) (plan : Plan) → IsOf old.net.table old.net.label plan → new.net ≡ old.net
+pub Jumps-found : (r : Option ℕ) (plan : Plan) (last : List ℕ) (tests : ℕ) (new : Position) (text : List ℕ) → IsNet plan → new.net ≡ built_of plan
     → IfSome r (λ _. IsLeastFrom (IsRead plan) text new.last) → IfNone r (HasNoneFrom (IsRead plan) text) → IfNone r (new.last ≡ take 63 text)
-    → new.edge_tests ≤ 189 * length plan.edges → Jumps old text (is_some r) new
-Jumps-found r old new text plan net same found none stays looks = record {
+    → new.edge_tests ≤ 189 * length plan.edges → Jumps (at plan last tests) text (is_some r) new
+Jumps-found r plan last tests new text net same found none stays looks = record {
   net = same;
   found = of_found r found;
   none = of_none r none;
   stays = where_it_stays r stays;
-  edge_tests = omega (arith, looks, net.net.edges);
+  edge_tests = omega (arith, looks);
 }
   where
-    read : (v : List ℕ) → IsRead plan v ↔ IsCandidate old.net v
+    spelled : List (List ℕ)
+    spelled = spelled_of plan
+
+    read : (v : List ℕ) → IsRead plan v ↔ IsCandidate (Contains spelled) v
     read v = (
-      λ r. record { spelled = (net.net.reads v).0 r.path; short = r.short },
-      λ k. record { path = (net.net.reads v).1 k.spelled; short = k.short },
+      λ r. record { spelled = (Reads-spelled plan net v).0 r.path; short = r.short },
+      λ k. record { path = (Reads-spelled plan net v).1 k.spelled; short = k.short },
     )
 
-    of_found : (r : Option ℕ) → IfSome r (λ _. IsLeastFrom (IsRead plan) text new.last) → OnTrue (is_some r) (IsLeastFrom (IsCandidate old.net) text new.last)
-    of_found (Some n) h = IsLeastFrom-same (IsRead plan) (IsCandidate old.net) read text new.last h
+    of_found : (r : Option ℕ) → IfSome r (λ _. IsLeastFrom (IsRead plan) text new.last) → OnTrue (is_some r) (IsLeastFrom (IsCandidate (Contains spelled)) text new.last)
+    of_found (Some n) h = IsLeastFrom-same (IsRead plan) (IsCandidate (Contains spelled)) read text new.last h
     of_found None h = h
 
-    of_none : (r : Option ℕ) → IfNone r (HasNoneFrom (IsRead plan) text) → OnFalse (is_some r) (HasNoneFrom (IsCandidate old.net) text)
+    of_none : (r : Option ℕ) → IfNone r (HasNoneFrom (IsRead plan) text) → OnFalse (is_some r) (HasNoneFrom (IsCandidate (Contains spelled)) text)
     of_none (Some n) h = h
-    of_none None h = HasNoneFrom-same (IsRead plan) (IsCandidate old.net) read text h
+    of_none None h = HasNoneFrom-same (IsRead plan) (IsCandidate (Contains spelled)) read text h
 
     where_it_stays : (r : Option ℕ) → IfNone r (new.last ≡ take 63 text) → OnFalse (is_some r) (new.last ≡ take 63 text)
     where_it_stays (Some n) h = h

@@ -24,7 +24,7 @@ spelled_from-each [] (suc k) l = absurd (omega (arith, l))
 spelled_from-each (here ∷ later) zero l = refl
 spelled_from-each (here ∷ later) (suc k) l = spelled_from-each later k (omega (arith, l))
 
-AreUses-drop : (uses : List (List Use)) (k : ℕ) → AreUses uses → AreUses (drop k uses)
+pub AreUses-drop : (uses : List (List Use)) (k : ℕ) → AreUses uses → AreUses (drop k uses)
 AreUses-drop [] zero are = tt
 AreUses-drop [] (suc k) are = tt
 AreUses-drop (here ∷ later) zero are = are

@@ -65,8 +65,8 @@ tested-behind hopeless old new passed whole lost =
     let front = passed ++ new.last ∷ [] in
     let rest = candidates_ahead new in
     let all : candidates_ahead old ≡ front ++ rest = whole ∙ sym (append_assoc passed (new.last ∷ []) rest) in
-    tested-filter hopeless new.net.table new.net.label new.last
-    ∙ sym (tested-filter hopeless old.net.table old.net.label old.last ∙ ap (filter (has_hope hopeless)) all ∙ filter-append (has_hope hopeless) front rest
+    tested-filter hopeless new.net.spelled new.last
+    ∙ sym (tested-filter hopeless old.net.spelled old.last ∙ ap (filter (has_hope hopeless)) all ∙ filter-append (has_hope hopeless) front rest
     ∙ ap (λ vs. vs ++ filter (has_hope hopeless) rest) (filter-none (has_hope hopeless) front lost))
 
 pub SkipsIn-more : (hopeless : List ℕ → Bool) (old : Position) (steps : Option ℕ) (top : ℕ) (now new : Position) (n : ℕ) (before left : Option ℕ) → SkipsIn hopeless old steps top now before → Searches now top true new

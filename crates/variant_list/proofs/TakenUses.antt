@@ -6,14 +6,11 @@ use Rattle.std.proofs.lemmas.Grind.{flat_map-append}
 use Rattle.std.proofs.lemmas.List.{take_more}
 use Rattle.std.proofs.lemmas.List.Elements.{Contains-append_right}
 use Rattle.variant_table.specs.Entries.{Entry}
-use Rattle.variant_table.specs.WellFormed.{IsWellFormed}
 use Rattle.variant_list.specs.inner.Layouts.{Draft, IsSound, IsLaid, HasTaken}
 use Rattle.variant_list.specs.inner.NetPlans.{IsNetOf}
-use Rattle.variant_list.specs.Uses.{uses_of_entry, uses_of}
+use Rattle.variant_list.specs.Uses.{Use, uses_of_entry}
 use Rattle.variant_list.proofs.ListMembers.{Contains-head}
 use Rattle.variant_list.proofs.PlainListerSteps.{got}
-use Rattle.variant_list.proofs.UsesLemmas.{UsesSpell-label, length-uses_from}
-use Rattle.variant_list.proofs.UseCounts.{use_edges-label, use_count-label}
 use Rattle.variant_list.proofs.DraftLemmas.{HasTaken-none, HasTaken-more, IsLaid-reads}
 
 pub take-next : {X : Type 0} (xs : List X) (i : ℕ) (x : X) → slice_get xs i ≡ Some x → take (i + 1) xs ≡ take i xs ++ x ∷ []
@@ -43,13 +40,10 @@ HasEntries-next all left e rest old new h next = subst (λ xs. Contains xs e) (s
 pub HasEntries-all : (all left : List Entry) (old new : Draft) → HasEntries all left old new → left ≡ [] → HasTaken old (flat_map uses_of_entry all) new
 HasEntries-all all left old new h over = subst (λ es. HasTaken old (flat_map uses_of_entry es) new) (sym (h.split ∙ ap (λ xs. h.done ++ xs) over ∙ append-nil h.done)) h.taken
 
--- the net of the uses of a label under a table
-pub IsNetOf-laid : (table : List Entry) (label : List ℕ) (draft : Draft) → IsWellFormed table → IsLaid (uses_of table label) draft → IsNetOf table label draft.plan
-IsNetOf-laid table label draft formed laid =
-    let counted = length-uses_from table label (length label) 0 in
-    record {
-      formed = formed;
-      reads = λ v. (let own = IsLaid-reads (uses_of table label) draft laid v in let same = UsesSpell-label table label formed v in (λ r. same.0 (own.0 r), λ s. own.1 (same.1 s)));
-      edges = omega (arith, laid.open_place.edges, laid.open_place.starts, use_edges-label table label);
-      places = omega (arith, laid.open_place.room, counted, use_count-label table label);
-    }
+-- the net of uses
+pub IsNetOf-laid : (uses : List (List Use)) (draft : Draft) → IsLaid uses draft → IsNetOf uses draft.plan
+IsNetOf-laid uses draft laid = record {
+  reads = λ v. IsLaid-reads uses draft laid v;
+  edges = omega (arith, laid.open_place.edges, laid.open_place.starts);
+  places = omega (arith, laid.open_place.room);
+}

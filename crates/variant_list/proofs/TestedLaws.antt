@@ -6,15 +6,14 @@ use Rattle.std.specs.List.{filter}
 use Rattle.std.specs.Option.{is_none}
 use Rattle.std.specs.Ordering.{is_gt}
 use Rattle.std.proofs.lemmas.List.{take-append-drop}
-use Rattle.variant_table.specs.Entries.{Entry}
 use Rattle.variant_list.specs.Labels.{IsBelow, label_cmp}
 use Rattle.variant_list.specs.Spelled.{spelled}
-use Rattle.variant_list.specs.Variants.{IsVariant, fits_label, in_order, variants}
+use Rattle.variant_list.specs.Variants.{IsVariant, fits_label, in_order, variants_among}
 use Rattle.variant_list.proofs.ListedLemmas.{IsListOf-same}
 use Rattle.variant_list.proofs.ListingLemmas.{variants-resume, variants-cut, fits_label-short}
 use Rattle.variant_list.proofs.VariantLists.{variants-AreVariants, both, joined}
 use Rattle.variant_list.specs.Beginnings.{shortest_hopeless, has_hope}
-use Rattle.variant_list.specs.Tested.{tested}
+use Rattle.variant_list.specs.Tested.{tested, tested_among}
 use Rattle.variant_list.specs.Laws.{up_to, ShortestIsFirst, IsTested, TestedAreListed, LeavesNoHope, VariantsAreAcceptedTested}
 use Rattle.variant_list.proofs.BeginningLemmas.{shortest_hopeless-at, shortest_hopeless-gives, shortest_hopeless-none, hope-gives}
 use Rattle.variant_list.proofs.TestedLemmas.{filter-both}
@@ -48,10 +47,10 @@ turned false true false h = refl
 turned false false g h = refl
 
 -- the labels that pass a test are those among the labels that pass a weaker one
-variants-among : (accepts test : List ℕ → Bool) → ((v : List ℕ) → accepts v ≡ true → test v ≡ true) → (table : List Entry) (label after : List ℕ) → variants accepts table label after ≡ filter accepts (variants test table label after)
-variants-among accepts test weaker table label after =
+among : (accepts test : List ℕ → Bool) → ((v : List ℕ) → accepts v ≡ true → test v ≡ true) → (labels : List (List ℕ)) (after : List ℕ) → variants_among accepts labels after ≡ filter accepts (variants_among test labels after)
+among accepts test weaker labels after =
     filter-both (λ v. test v && is_gt (label_cmp v after)) accepts (λ v. accepts v && is_gt (label_cmp v after))
-    (λ v. turned (accepts v) (test v) (is_gt (label_cmp v after)) (weaker v)) (in_order (spelled table label))
+    (λ v. turned (accepts v) (test v) (is_gt (label_cmp v after)) (weaker v)) (in_order labels)
 
 has_hope-accepted : (accepts hopeless : List ℕ → Bool) → LeavesNoHope accepts hopeless → (v : List ℕ) → accepts v ≡ true → (o : Option ℕ) → shortest_hopeless hopeless v ≡ o → is_none o ≡ true
 has_hope-accepted accepts hopeless leaves v accepted None is = refl
@@ -60,13 +59,17 @@ has_hope-accepted accepts hopeless leaves v accepted (Some n) is =
     let refused : accepts v ≡ false = ap accepts (sym (take-append-drop n v)) ∙ leaves (take n v) (drop n v) s.holds in
     let clash : true ≡ false = sym accepted ∙ refused in cc
 
-pub variants_are_accepted_tested : VariantsAreAcceptedTested
-variants_are_accepted_tested accepts hopeless short leaves table label after =
-    variants-among accepts (λ v. fits_label v && has_hope hopeless v)
-    (λ v accepted. joined (fits_label v) (has_hope hopeless v) (short-fits_label v (short v accepted)) (has_hope-accepted accepts hopeless leaves v accepted (shortest_hopeless hopeless v) refl)) table label after
+pub accepted-tested : (accepts hopeless : List ℕ → Bool) → ((v : List ℕ) → IsTrue (accepts v) → length v ≤ 63) → LeavesNoHope accepts hopeless
+    → (labels : List (List ℕ)) (after : List ℕ) → variants_among accepts labels after ≡ filter accepts (tested_among hopeless labels after)
+accepted-tested accepts hopeless short leaves =
+    among accepts (λ v. fits_label v && has_hope hopeless v)
+    (λ v accepted. joined (fits_label v) (has_hope hopeless v) (short-fits_label v (short v accepted)) (has_hope-accepted accepts hopeless leaves v accepted (shortest_hopeless hopeless v) refl))
 
-pub tested-resume : (hopeless : List ℕ → Bool) (table : List Entry) (label start stop : List ℕ) → ¬ IsBelow stop start → tested hopeless table label start ≡ up_to stop (tested hopeless table label start) ++ tested hopeless table label stop
+pub variants_are_accepted_tested : VariantsAreAcceptedTested
+variants_are_accepted_tested accepts hopeless short leaves table label after = accepted-tested accepts hopeless short leaves (spelled table label) after
+
+pub tested-resume : (hopeless : List ℕ → Bool) (labels : List (List ℕ)) (start stop : List ℕ) → ¬ IsBelow stop start → tested_among hopeless labels start ≡ up_to stop (tested_among hopeless labels start) ++ tested_among hopeless labels stop
 tested-resume hopeless = variants-resume (λ v. fits_label v && has_hope hopeless v)
 
-pub tested-cut : (hopeless : List ℕ → Bool) (table : List Entry) (label after : List ℕ) → tested hopeless table label after ≡ tested hopeless table label (take 63 after)
+pub tested-cut : (hopeless : List ℕ → Bool) (labels : List (List ℕ)) (after : List ℕ) → tested_among hopeless labels after ≡ tested_among hopeless labels (take 63 after)
 tested-cut hopeless = variants-cut (λ v. fits_label v && has_hope hopeless v) (λ v passes. fits_label-short v (both (fits_label v) (has_hope hopeless v) passes).0)

@@ -1,7 +1,6 @@
 -- How far a call of `seek` goes, counted in steps.
 use Rattle.std.specs.Prelude.{◌≡◌, ℕ, ◌*◌, ◌<◌, ◌≤◌, Bool, List, length, take, drop, Option, Some, IfSome, Result, Ok, Err}
 use Rattle.std.specs.declared.alloc.AllocError.{AllocError}
-use Rattle.variant_list.specs.Nets.{edge_count}
 use Rattle.variant_list.specs.Positions.{Position}
 use Rattle.variant_list.specs.Steps.{last_of}
 use Rattle.variant_list.specs.Visited.{visited_ahead, fewer_steps, Takes}
@@ -24,7 +23,7 @@ pub record Halts (hopeless : List ℕ → Bool) (old : Position) (steps : Option
   pub none : left ≡ Some 0
   pub there : count ≤ length (visited_ahead hopeless old)
   pub last : new.last ≡ last_of old.last (take count (visited_ahead hopeless old))
-  pub edge_tests : new.edge_tests ≤ 256 * (edge_count old.net.table old.net.label * count)
+  pub edge_tests : new.edge_tests ≤ 256 * (old.net.edges * count)
 
 -- no label is left: there were more steps than labels to be visited, and one less for each is left
 pub record VisitsAll (hopeless : List ℕ → Bool) (old : Position) (steps left : Option ℕ) : Type 0 where

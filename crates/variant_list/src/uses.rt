@@ -2,7 +2,7 @@
 ghost use Rattle.std.specs.Prelude.{◌≡◌, ◌+◌, ◌<◌, ◌≤◌, length, All, IfOk, OnOk};
 ghost use Rattle.variant_table.specs.Entries.{replacements};
 ghost use Rattle.variant_table.specs.WellFormed.{IsSequence, IsWellFormed};
-ghost use Rattle.variant_list.specs.Uses.{uses_of_entry, uses_at};
+ghost use Rattle.variant_list.specs.Uses.{uses_of_entry, uses_at, uses_of};
 ghost use Rattle.variant_list.specs.inner.NetPlans.{IsNetOf};
 ghost use Rattle.variant_list.specs.inner.Layouts.{IsSound, HasTaken};
 
@@ -14,7 +14,7 @@ use variant_table::{Entry, Table};
 /// The net of the label: a place for each of its beginnings, and a chain of edges for each replacement of each
 /// entry at a place.
 pub(crate) fn lay_out(alloc: Global, table: &Table, label: &[u32]) -> Result<Graph, AllocError>
-    ensures net { IfOk result (IsNetOf table.now.entries label.now) }
+    ensures net { IfOk result (IsNetOf (uses_of table.now.entries label.now)) }
     ensures well_formed { IsWellFormed table.now.entries }
 {
     // The length is read for its contract alone: a table is well-formed, so no source is empty.

@@ -9,15 +9,14 @@ ghost use Rattle.idn_label.specs.ALabel.{a_label_of};
 ghost use Rattle.idn_label.specs.FirstFault.{IsRegistrable};
 ghost use Rattle.idn_label.specs.Memory.{NeedsNoMemory};
 ghost use Rattle.idn_label.proofs.HopeLemmas.{none_hopeless};
-ghost use Rattle.variant_table.specs.WellFormed.{IsWellFormed};
 ghost use Rattle.variant_list.specs.Beginnings.{shortest_hopeless};
 ghost use Rattle.variant_list.specs.Sharing.{IsKeptOf};
-ghost use Rattle.variant_list.specs.Tested.{tested};
+ghost use Rattle.variant_list.specs.Tested.{tested_among};
 ghost use Rattle.variant_list.specs.Verdicts.{IsVerdict};
 ghost use Rattle.idn2_options.specs.Settings.{IsWithinLimits, keeping};
 ghost use Rattle.idn2_cli.specs.Transcript.{output_lines, Output};
 ghost use Rattle.idn2_cli.specs.Answers.{is_registrable, variant_line, trailer};
-ghost use Rattle.idn2_cli.specs.inner.Dispositions.{block_by, field_by, TellsWell};
+ghost use Rattle.idn2_cli.specs.inner.Dispositions.{block_by, field_by};
 ghost use Rattle.idn2_cli.specs.inner.KeptLines.{IsBegun};
 ghost use Rattle.idn2_cli.specs.inner.LineAnswers.{reaches};
 ghost use Rattle.idn2_cli.specs.inner.Emitting.{Emits, StopsForMemory};
@@ -46,11 +45,10 @@ pub(crate) fn write_block<W: Sink, E: Sink>(
     console: &mut Console<'_, '_, W, E>,
 ) -> Result<(), Stop>
     requires limits { IsWithinLimits options.now }
-    requires table { IsWellFormed net.now.table }
-    requires dispositions { TellsWell dispositions.old }
+    requires spelled { All AreScalarValues net.now.spelled }
     ensures written { Emits console.old console.new
-        (output_lines (block_by (field_by dispositions.old) (keeping None options.now) net.now.table net.now.label)) result }
-    ensures begun { StopsForMemory (All NeedsNoMemory (tested hopeless net.now.table net.now.label options.now.after))
+        (output_lines (block_by (field_by dispositions.old) (keeping None options.now) net.now.spelled)) result }
+    ensures begun { StopsForMemory (All NeedsNoMemory (tested_among hopeless net.now.spelled options.now.after))
         console.old console.new result }
 {
     let mut cursor = Cursor::new(alloc, net, &options.after)?;

@@ -3,7 +3,7 @@
 ghost use Rattle.std.specs.Prelude.{◌≡◌, ◌≤◌, length, IfOk};
 ghost use Rattle.variant_table.specs.Entries.{TableValue};
 ghost use Rattle.idn2_cli.specs.Answers.{allocation_field};
-ghost use Rattle.idn2_cli.specs.inner.Dispositions.{AreOfTable, AreOfLabel, CanBeCut, TellsWell, field_by};
+ghost use Rattle.idn2_cli.specs.inner.Dispositions.{AreOfTable, AreOfLabel, CanBeCut, field_by};
 
 use std::alloc::{AllocError, Global};
 use variant_list::{Net, NetFault, SpellingTest};
@@ -45,7 +45,6 @@ impl Dispositions<Table> {
         requires short { length label.now ≤ 63 }
         requires cut { CanBeCut self.now label.now }
         ensures label { (table : TableValue) → AreOfTable table self.now → IfOk result (AreOfLabel table label.now) }
-        ensures well { IfOk result TellsWell }
     {
         match self {
             Dispositions::Unstated => Ok(Dispositions::Unstated),
@@ -64,7 +63,6 @@ impl Dispositions<SpellingTest> {
     /// The third field of a variant's line, with the tab before it; nothing where none is told. Takes no memory.
     #[inline]
     pub fn field(&mut self, variant: &[u32]) -> &'static str
-        requires { TellsWell self.old }
         ensures field { result.now ≡ field_by self.old variant.now }
         ensures short { length result.now ≤ 16 }
         ensures same { self.new ≡ self.old }

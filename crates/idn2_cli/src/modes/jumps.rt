@@ -1,12 +1,12 @@
 //! The least label that a label spells from a text on. A database that has its labels in byte order finds by it which of
 //! them are variants of a label.
 
-ghost use Rattle.std.specs.Prelude.{◌≡◌, ◌≤◌, ◌∷◌, [], ◌++◌, true, length, slice_get, IfOk, Err};
+ghost use Rattle.std.specs.Prelude.{◌≡◌, ◌≤◌, ◌∷◌, [], ◌++◌, true, length, slice_get, All, IfOk, Err};
 ghost use Rattle.std.specs.Result.{is_err};
 ghost use Rattle.idn_text.specs.Points.{AreScalarValues};
 ghost use Rattle.idn_label.specs.FirstFault.{IsRegistrable};
 ghost use Rattle.variant_table.specs.WellFormed.{IsWellFormed};
-ghost use Rattle.variant_list.specs.Jumps.{candidates_from};
+ghost use Rattle.variant_list.specs.Jumps.{candidates_among_from};
 ghost use Rattle.idn2_cli.specs.Answers.{jump_answer, jump_line, least_answer, requested_label, requested_text};
 ghost use Rattle.idn2_cli.specs.inner.Explaining.{explained_by};
 ghost use Rattle.idn2_cli.specs.Memory.{IsRefusedWithoutMemory};
@@ -111,10 +111,10 @@ fn write_least<W: Sink, E: Sink>(
     text: &[u32],
     console: &mut Console<'_, '_, W, E>,
 ) -> Result<(), Stop>
-    requires { IsWellFormed net.now.table }
+    requires { All AreScalarValues net.now.spelled }
     ensures begun { result ≡ Err stop.Memory → console.new ≡ console.old }
     ensures written { Emits console.old console.new
-        (Output (jump_line (slice_get (candidates_from net.now.table net.now.label text.now) 0) ++ 10 ∷ []) ∷ []) result }
+        (Output (jump_line (slice_get (candidates_among_from net.now.spelled text.now) 0) ++ 10 ∷ []) ∷ []) result }
 {
     let mut cursor = Cursor::new(alloc, net, text)?;
     let Some(_shared) = cursor.jump(text) else {

@@ -6,10 +6,11 @@ ghost use Rattle.idn_text.specs.Points.{AreScalarValues};
 ghost use Rattle.idn_label.specs.FirstFault.{IsRegistrable};
 ghost use Rattle.idn_label.specs.Memory.{NeedsNoMemory};
 ghost use Rattle.variant_table.specs.WellFormed.{IsWellFormed};
+ghost use Rattle.variant_list.specs.Spelled.{spelled};
 ghost use Rattle.std.specs.Option.{option_copied};
 ghost use Rattle.idn2_options.specs.Settings.{IsWithinLimits, keeping};
 ghost use Rattle.idn2_cli.specs.Answers.{variants_answer, listing_answer, tested_after};
-ghost use Rattle.idn2_cli.specs.inner.Dispositions.{AreOfTable, TellsWell, block_by, field_by};
+ghost use Rattle.idn2_cli.specs.inner.Dispositions.{AreOfTable, block_by, field_by};
 ghost use Rattle.idn2_cli.specs.inner.Explaining.{explained_by};
 ghost use Rattle.idn2_cli.specs.Memory.{IsRefusedWithoutMemory};
 ghost use Rattle.idn2_cli.specs.Transcript.{output_lines, pieces_for, points_tail};
@@ -55,7 +56,7 @@ impl<'t, 'r, 'b> PointAnswering for Variants<'t, 'r, 'b> {
 
     ghost needs_none = { λ _ label. IsRefusedWithoutMemory label };
 
-    ghost goes_on = { λ mode label. All NeedsNoMemory (tested_after (keeping (option_copied mode.registered) mode.options.now) mode.table.now.entries label) };
+    ghost goes_on = { λ mode label. All NeedsNoMemory (tested_after (keeping (option_copied mode.registered) mode.options.now) (spelled mode.table.now.entries label)) };
 
     fn explaining(&self) -> &Explaining<'_> {
         &self.explaining
@@ -86,12 +87,11 @@ fn write_lines<W: Sink, E: Sink>(
     console: &mut Console<'_, '_, W, E>,
 ) -> Result<(), Stop>
     requires limits { IsWithinLimits mode.now.options.now }
-    requires table { IsWellFormed net.now.table }
-    requires dispositions { TellsWell dispositions.old }
+    requires spelled { All AreScalarValues net.now.spelled }
     ensures written { Emits console.old console.new
-        (output_lines (block_by (field_by dispositions.old) (keeping (option_copied mode.now.registered) mode.now.options.now) net.now.table net.now.label)) result }
+        (output_lines (block_by (field_by dispositions.old) (keeping (option_copied mode.now.registered) mode.now.options.now) net.now.spelled)) result }
     ensures begun { StopsForMemory
-        (All NeedsNoMemory (tested_after (keeping (option_copied mode.now.registered) mode.now.options.now) net.now.table net.now.label))
+        (All NeedsNoMemory (tested_after (keeping (option_copied mode.now.registered) mode.now.options.now) net.now.spelled))
         console.old console.new result }
 {
     match mode.registered {
@@ -122,7 +122,7 @@ fn list<W: Sink, E: Sink>(
     ensures refused { IfOk result
         (λ refused. refused ≡ is_err (listing_answer (keeping (option_copied mode.now.registered) mode.now.options.now) mode.now.table.now label.now)) }
     ensures begun { StopsForMemory
-        (All NeedsNoMemory (tested_after (keeping (option_copied mode.now.registered) mode.now.options.now) mode.now.table.now.entries label.now))
+        (All NeedsNoMemory (tested_after (keeping (option_copied mode.now.registered) mode.now.options.now) (spelled mode.now.table.now.entries label.now)))
         console.old console.new result }
 {
     match Net::build(alloc, mode.table, label) {

@@ -2,12 +2,11 @@
 use Rattle.std.specs.Prelude.{◌≡◌, ◌≤◌, ◌+◌, ◌*◌, ℕ, Bool, true, false, not, List, ◌∷◌, ◌++◌, length, filter, Some, None, slice_get, if◌then◌else◌}
 use Rattle.std.specs.List.{AllByRecursion}
 use Rattle.variant_list.specs.Beginnings.{has_hope, shares, dead_ends}
-use Rattle.variant_list.specs.Nets.{edge_count}
 use Rattle.variant_list.specs.Positions.{Position, candidates_ahead}
 
 -- how many edges the net of a cursor has
 abbrev pub edges_of_net : Position → ℕ
-edges_of_net p = edge_count p.net.table p.net.label
+edges_of_net p = p.net.edges
 
 -- those labels that do not begin with the first n code points of v
 abbrev pub outside : ℕ → List ℕ → List (List ℕ) → List (List ℕ)

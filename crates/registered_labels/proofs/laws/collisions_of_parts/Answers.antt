@@ -6,4 +6,4 @@ use Rattle.registered_labels.specs.Collisions.{is_spelled}
 use Rattle.registered_labels.proofs.laws.collisions_of_parts.Goals as goal
 
 pub returns : goal.returns
-returns c = λ net first second after. filter-append (λ v. is_gt (label_cmp v after) && is_spelled net v) first second
+returns c = λ spelled first second after. filter-append (λ v. is_gt (label_cmp v after) && is_spelled spelled v) first second

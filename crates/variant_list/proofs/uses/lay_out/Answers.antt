@@ -2,7 +2,7 @@ use Rattle.std.proofs.Common.{◌≡◌, ℕ, suc, ◌+◌, ◌-◌, ◌<◌, Li
 use Rattle.variant_table.specs.Entries.{Entry}
 use Rattle.variant_list.specs.inner.Layouts.{Draft, IsLaid}
 use Rattle.variant_list.specs.inner.NetPlans.{IsNetOf}
-use Rattle.variant_list.specs.Uses.{Use, uses_at, uses_from}
+use Rattle.variant_list.specs.Uses.{Use, uses_at, uses_from, uses_of}
 use Rattle.variant_list.proofs.TakenUses.{IsNetOf-laid}
 use Rattle.variant_list.proofs.UsesLemmas.{length-uses_from}
 use Rattle.variant_list.proofs.uses.lay_out.Goals as goal
@@ -38,6 +38,6 @@ returns-clause-net c =
     let draft : Draft = c.loop-count.draft in
     let over : c.loop-count.count ≡ length label = omega (arith, c.loop-count-test.false, c.loop-count.auto.count-end) in
     let first : length label - c.loop-count.count ≡ 0 = omega (arith, over) in
-    subst (IsNetOf table label) (sym c.finished.ensures)
-    (IsNetOf-laid table label draft c.len-entries.ensures.well_formed
+    subst (IsNetOf (uses_of table label)) (sym c.finished.ensures)
+    (IsNetOf-laid (uses_of table label) draft
     (subst (λ n. IsLaid (uses_from table label 0 n) draft) over (subst (λ p. IsLaid (uses_from table label p c.loop-count.count) draft) first c.loop-count.invariant)))

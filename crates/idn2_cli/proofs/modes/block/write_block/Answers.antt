@@ -52,12 +52,12 @@ variants-init g c = record {
 pub write_stop-requires-clause-scalar_values : goal.write_stop-requires-clause-scalar_values
 write_stop-requires-clause-scalar_values g c =
     (subst IsWritable (sym c.last.ensures.value)
-    (spent-writable (field_by c.args.dispositions.now) _ _ _ _ c.variants.cursor c.seek.new.self c.variants.count c.variants.tries c.seek.new.tries c.variants.steps c.seek.new.steps c.requires.table c.variants.invariant.listing (spent-from c.variants.cursor c.seek.new.self c.variants.tries c.seek.new.tries c.variants.steps c.seek.new.steps c.seek.result c.in_ok-seek.field-0 c.in_ok-seek.was c.seek.ensures.decided c.seek.ensures.moves c.seek.ensures.steps c.in-Spent.is))).scalar_values
+    (spent-writable (field_by c.args.dispositions.now) _ _ _ _ c.variants.cursor c.seek.new.self c.variants.count c.variants.tries c.seek.new.tries c.variants.steps c.seek.new.steps c.requires.spelled c.variants.invariant.listing (spent-from c.variants.cursor c.seek.new.self c.variants.tries c.seek.new.tries c.variants.steps c.seek.new.steps c.seek.result c.in_ok-seek.field-0 c.in_ok-seek.was c.seek.ensures.decided c.seek.ensures.moves c.seek.ensures.steps c.in-Spent.is))).scalar_values
 
 pub write_stop-requires-in-Halted-clause-scalar_values : goal.write_stop-requires-in-Halted-clause-scalar_values
 write_stop-requires-in-Halted-clause-scalar_values g c =
     (subst IsWritable (sym c.last-in-Halted.ensures.value)
-    (halted-writable (field_by c.args.dispositions.now) _ _ _ _ c.variants.cursor c.seek.new.self c.variants.count c.variants.tries c.seek.new.tries c.variants.steps c.seek.new.steps c.requires.table c.variants.invariant.listing (halted-from c.variants.cursor c.seek.new.self c.variants.tries c.seek.new.tries c.variants.steps c.seek.new.steps c.seek.result c.in_ok-seek.field-0 c.in_ok-seek.was c.seek.ensures.decided c.seek.ensures.moves c.seek.ensures.steps c.in-Halted.is))).scalar_values
+    (halted-writable (field_by c.args.dispositions.now) _ _ _ _ c.variants.cursor c.seek.new.self c.variants.count c.variants.tries c.seek.new.tries c.variants.steps c.seek.new.steps c.requires.spelled c.variants.invariant.listing (halted-from c.variants.cursor c.seek.new.self c.variants.tries c.seek.new.tries c.variants.steps c.seek.new.steps c.seek.result c.in_ok-seek.field-0 c.in_ok-seek.was c.seek.ensures.decided c.seek.ensures.moves c.seek.ensures.steps c.in-Halted.is))).scalar_values
 
 pub returns-in-Spent-clause-written : goal.returns-in-Spent-clause-written
 returns-in-Spent-clause-written g c =
@@ -86,7 +86,7 @@ returns-in_err-write_variant-clause-written g c =
 pub write_stop-requires-then-is_reached-clause-scalar_values : goal.write_stop-requires-then-is_reached-clause-scalar_values
 write_stop-requires-then-is_reached-clause-scalar_values g c =
     (subst IsWritable (sym c.last-then-is_reached.ensures.value)
-    (found-writable (field_by c.args.dispositions.now) _ _ _ _ c.variants.cursor c.seek.new.self c.variants.count c.variants.tries c.seek.new.tries c.variants.steps c.seek.new.steps c.requires.table c.variants.invariant.listing (found-from c.variants.cursor c.seek.new.self c.variants.tries c.seek.new.tries c.variants.steps c.seek.new.steps c.seek.result c.in_ok-seek.field-0 c.in_ok-seek.was c.seek.ensures.decided c.seek.ensures.moves c.seek.ensures.steps c.in-Found.is))).scalar_values
+    (found-writable (field_by c.args.dispositions.now) _ _ _ _ c.variants.cursor c.seek.new.self c.variants.count c.variants.tries c.seek.new.tries c.variants.steps c.seek.new.steps c.requires.spelled c.variants.invariant.listing (found-from c.variants.cursor c.seek.new.self c.variants.tries c.seek.new.tries c.variants.steps c.seek.new.steps c.seek.result c.in_ok-seek.field-0 c.in_ok-seek.was c.seek.ensures.decided c.seek.ensures.moves c.seek.ensures.steps c.in-Found.is))).scalar_values
 
 pub returns-then-is_reached-clause-written : goal.returns-then-is_reached-clause-written
 returns-then-is_reached-clause-written g c =
@@ -102,7 +102,7 @@ variants-preserved g c =
     let going = sym (ap (λ (o : Settings). reaches o.limit (c.variants.count + 1)) c.options.view_is) ∙ sym c.is_reached.ensures ∙ c.if-is_reached.false in
     record {
       same = c.field-field.ensures.same ∙ c.variants.invariant.same;
-      listing = listing-found (field_by c.args.dispositions.now) _ _ _ _ _ c.variants.cursor c.seek.new.self c.variants.count c.variants.tries c.seek.new.tries c.variants.steps c.seek.new.steps c.last-variant.result.now c.requires.table c.variants.invariant.listing
+      listing = listing-found (field_by c.args.dispositions.now) _ _ _ _ _ c.variants.cursor c.seek.new.self c.variants.count c.variants.tries c.seek.new.tries c.variants.steps c.seek.new.steps c.last-variant.result.now c.requires.spelled c.variants.invariant.listing
           found c.last-variant.ensures.value (writes_as _ _ Output _ _ (line_is c.last-variant.result.now (told c.last-variant.result.now c.field-field.ensures.field c.variants.invariant.same)) c.in_ok-write_variant.ensures.written) going;
       known = kept.0;
       apart = kept.1;

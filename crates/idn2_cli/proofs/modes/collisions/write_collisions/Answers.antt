@@ -31,7 +31,7 @@ returns-in_err-search-clause-written g c =
 pub collisions-init : goal.collisions-init
 collisions-init g c = record {
   same = refl;
-  under_way = under_way-start (field_by c.args.dispositions.now) c.args.options.now c.args.net.now c.args.registered.now _ c.in_ok-search.search c.deref.result.now c.len-total.result c.requires.table c.len-total.ensures.registered c.requires.limits
+  under_way = under_way-start (field_by c.args.dispositions.now) c.args.options.now c.args.net.now c.args.registered.now _ c.in_ok-search.search c.deref.result.now c.len-total.result c.len-total.ensures.registered c.requires.limits
       (c.deref.ensures.value ∙ ap (λ (o : Settings). o.after) c.options.view_is) c.len-total.ensures.count c.in_ok-search.ensures;
   begun = c.new-line.ensures c.in_ok-search.search.label;
 }

@@ -1,6 +1,8 @@
 use Rattle.std.proofs.Common.{◌∙◌, Err, ap, sym, refl}
 use Rattle.std.proofs.lemmas.Result.{err_from_is_err_and}
 use Rattle.idn_label.proofs.RequirementLemmas.{MeetsRequirements-registrable}
+use Rattle.variant_list.specs.Spelled.{spelled}
+use Rattle.variant_list.proofs.FromLemmas.{among_from-in_order}
 use Rattle.idn2_cli.specs.Answers.{requested_label}
 use Rattle.idn2_cli.proofs.WrittenPieces.{stops, stops_first}
 use Rattle.idn2_cli.proofs.SegmentedLabels.{some-length, segmented_answer, unsegmented_answer}
@@ -18,12 +20,12 @@ pub returns-in_err-write_least-in-Ok-clause-written : goal.returns-in_err-write_
 returns-in_err-write_least-in-Ok-clause-written g c =
     let p = err_from_is_err_and c.from_residual.result c.from_residual.ensures.1 in
     rw (← c.parts_of.ensures.label, ← c.parts_of.ensures.text, p.1, segmented_answer c.args.mode.now.table.now.entries c.parts_of.result.0.now _ c.requires.table c.in-Ok.ensures.segmented)
-    (stops _ _ _ c.write_least.result p.0 (rw c.in-Ok.ensures.net at c.write_least.ensures.written) (c.in_err-write_least-in-Ok.was ∙ ap Err (sym p.2)))
+    (stops _ _ _ c.write_least.result p.0 (rw (among_from-in_order c.in-Ok.net.spelled (spelled c.args.mode.now.table.now.entries c.parts_of.result.0.now) c.parts_of.result.1.now c.in-Ok.ensures.spelled) at c.write_least.ensures.written) (c.in_err-write_least-in-Ok.was ∙ ap Err (sym p.2)))
 
 pub returns-in_ok-write_least-in-Ok-clause-written : goal.returns-in_ok-write_least-in-Ok-clause-written
 returns-in_ok-write_least-in-Ok-clause-written g c =
     rw (← c.parts_of.ensures.label, ← c.parts_of.ensures.text, segmented_answer c.args.mode.now.table.now.entries c.parts_of.result.0.now _ c.requires.table c.in-Ok.ensures.segmented)
-    (rw c.in-Ok.ensures.net at c.in_ok-write_least-in-Ok.ensures.written)
+    (rw (among_from-in_order c.in-Ok.net.spelled (spelled c.args.mode.now.table.now.entries c.parts_of.result.0.now) c.parts_of.result.1.now c.in-Ok.ensures.spelled) at c.in_ok-write_least-in-Ok.ensures.written)
 
 pub returns-in_ok-write_least-in-Ok-clause-refused : goal.returns-in_ok-write_least-in-Ok-clause-refused
 returns-in_ok-write_least-in-Ok-clause-refused g c =

@@ -1,13 +1,12 @@
-use Rattle.std.proofs.Common.{◌∙◌, ap, sym, subst}
-use Rattle.idn2_cli.specs.inner.Dispositions.{field_by, TellsWell}
+use Rattle.std.proofs.Common.{◌∙◌, ap, sym}
 use Rattle.variant_list.specs.Positions.{Built}
+use Rattle.idn2_cli.specs.inner.Dispositions.{field_by}
 use Rattle.idn2_cli.specs.declared.modes.dispositions.Dispositions.{Dispositions}
 use Rattle.idn2_cli.proofs.DispositionLemmas.{spelled-told}
 use Rattle.idn2_cli.proofs.modes.dispositions.Dispositions+SpellingTest.field.Goals as goal
 
 pub returns-in-BySpelling-clause-field : goal.returns-in-BySpelling-clause-field
 returns-in-BySpelling-clause-field c =
-    let well = subst TellsWell c.in-BySpelling.is c.requires in
     c.field_of-in-BySpelling.ensures.field
-    ∙ spelled-told c.in-BySpelling.test c.args.variant.now c.spells.result well.entries c.spells.ensures.spelled
+    ∙ spelled-told c.in-BySpelling.test c.args.variant.now c.spells.result c.spells.ensures.spelled
     ∙ ap (λ (d : Dispositions Built). field_by d c.args.variant.now) (sym c.in-BySpelling.is)
