@@ -10,7 +10,7 @@ _idn2() {
         before=${COMP_WORDS[COMP_CWORD - 2]}
     fi
     case $before in
-        --variants | --check-table | --among)
+        --variants | --check-table | --ruleset | --check-ruleset | --among)
             mapfile -t COMPREPLY < <(compgen -f -- "$word")
             return
             ;;
@@ -24,11 +24,11 @@ _idn2() {
 # The options that may still be given: one mode at most, each option once, none behind '--'.
 _idn2_options() {
     local given=" ${COMP_WORDS[*]:1:COMP_CWORD-1} "
-    local modes="-l --lookup -r --register -d --decode --variants --check-table"
+    local modes="-l --lookup -r --register -d --decode --variants --check-table --ruleset --check-ruleset"
     local options="-N --tr46nt --usestd3asciirules --explain --json --quiet -h --help -V --version" option
     case $given in
         *" -- "*) return ;;
-        *" --variants "*) modes= options="$(_idn2_beside_variants "$given") $options" ;;
+        *" --variants "* | *" --ruleset "*) modes= options="$(_idn2_beside_variants "$given") $options" ;;
     esac
     for option in $modes; do
         [[ $given = *" $option "* ]] && modes=
@@ -38,7 +38,7 @@ _idn2_options() {
     done
 }
 
-# What goes with --variants and with what was given besides.
+# What goes with --variants and --ruleset, and with what was given besides.
 _idn2_beside_variants() {
     case $1 in
         *" --jump "*) ;;

@@ -86,15 +86,33 @@ def second_writing_spells(folder):
         assert again == ruleset, (text, again)
 
 
+# A line that the program doesn't read in a ruleset yet: a definition, a condition, tags, or an outside source.
+NOT_YET = re.compile(r"[ \t]*(?:%(?:tag|set|rule|never|always)\b.*|!.*|[^#]*\b(?:when|unless|as)\b.*)", re.ASCII)
+
+
+def not_read_yet(text):
+    """The number of the first line that the program doesn't read yet, or None."""
+    lines = enumerate(text.split("\n")[1:], 2)
+    return next((number for number, line in lines if NOT_YET.fullmatch(line.rstrip("\r"))), None)
+
+
 def program_answers(folder):
-    if not has_rulesets():
-        print("version_3: skipped the program, which has no --ruleset yet")
-        return
+    """What the program reads it answers as the rows say. A line that it doesn't read yet is refused, so that no condition is
+    passed over, unless a line before it is faulty."""
+    read = 0
     for words, given, files, wanted in ruleset_rows.rows():
-        words = [table_file(folder, files["table"].encode()) if word == "table" else word for word in words]
+        text = files["table"]
+        words = [table_file(folder, text.encode()) if word == "table" else word for word in words]
         done = run(words, given.encode())
         found = done.stdout.decode(), done.stderr.decode(), done.returncode
-        assert found == wanted, (words, given, files["table"][:400], told(found), told(wanted))
+        line = not_read_yet(text) if {"--ruleset", "--check-ruleset"}.intersection(words) else None
+        before = re.fullmatch(r"idn2: table line (\d+): .*\n", wanted[1])
+        if line and not (before and int(before.group(1)) < line):
+            wanted = "", f"idn2: table line {line}: 30 table syntax\n", 2
+        else:
+            read += 1
+        assert found == wanted, (words, given, text[:400], told(found), told(wanted))
+    assert read >= 20, read
 
 
 # The rulesets of tables/rulesets/: words that are to be accepted, labels that are not, each with its number, and variants that

@@ -3,13 +3,16 @@ ghost use Rattle.std.specs.Prelude.{IfErr};
 ghost use Rattle.idn2_cli.specs.Ends.{IsFault};
 
 use idn_text::Refusal;
-use idn2_cli::{Mode, Options};
+use idn2_cli::{Mode, Notation, Options};
 use std::env;
 use std::fs::File;
 use std::io::{self, BufWriter, ErrorKind, Read, Stdout};
 
 /// One byte more than a table's text may have: no later byte changes what is wrong with it.
 const TABLE_BYTES: u64 = 1_048_577;
+
+/// The same of a ruleset's text.
+const RULESET_BYTES: u64 = 8_388_609;
 
 /// As many bytes of the file of registered labels as can matter: 2^32, and behind these a line of 1,024 bytes with its line
 /// feed, so that the first line that ends too late is there as far as it is tested.
@@ -35,14 +38,18 @@ pub fn words(rt: &HostRuntime) -> Result<Vec<String>, Refusal>
     }
 }
 
-/// The bytes of the table's file, as many as can matter; none in a mode without a table.
+/// The bytes of the file of the table or ruleset, as many as can matter; none in a mode without one.
 pub fn read_table(rt: &HostRuntime, options: &Options) -> Result<Vec<u8>, Refusal>
     ensures { IfErr result IsFault }
 {
     match options.mode {
         Mode::Lookup | Mode::Register | Mode::Decode => Ok(Vec::new(rt.alloc())),
         Mode::Variants | Mode::Jump | Mode::CheckTable => {
-            read_file(rt, &options.file, TABLE_BYTES)
+            let most = match options.notation {
+                Notation::Table => TABLE_BYTES,
+                Notation::Ruleset => RULESET_BYTES,
+            };
+            read_file(rt, &options.file, most)
         }
     }
 }

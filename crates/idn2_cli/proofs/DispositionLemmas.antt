@@ -1,12 +1,12 @@
 -- The disposition of a variant: which variants the table without its blocked variants spells.
-use Rattle.std.proofs.Common.{◌≡◌, ◌⊎◌, inl, inr, ℕ, Bool, true, false, ◌||◌, ◌&&◌, ◌↔◌, IsTrue, List, [], ◌∷◌, ◌++◌, Option, Some, None, map, length, refl, sym, ap, subst, ◌∙◌, if◌then◌else◌}
+use Rattle.std.proofs.Common.{◌≡◌, ◌≢◌, ◌⊎◌, inl, inr, ℕ, Bool, true, false, ◌||◌, ◌&&◌, ◌↔◌, IsTrue, List, [], ◌∷◌, ◌++◌, Option, Some, None, map, length, refl, sym, ap, subst, ◌∙◌, if◌then◌else◌}
 use Rattle.std.specs.Prelude.{bytes_eq, not}
 use Rattle.std.specs.Ordering.{is_le}
 use Rattle.std.specs.List.{AllByRecursion, All, Contains, filter, flat_map, list_any}
 use Rattle.std.proofs.lemmas.Slice.Eq.{bytes_eq-Decides}
 use Rattle.idn_class.specs.Hopeless.{hopeless}
 use Rattle.variant_table.specs.declared.version.Version.{Version}
-use Rattle.variant_table.specs.declared.version.Version.TheVariants.{One, Two}
+use Rattle.variant_table.specs.declared.version.Version.TheVariants.{One, Two, Three}
 use Rattle.variant_table.specs.Entries.{Variant, Entry, TableValue, has_blocked, replacements, sequences_in, unblocked, unblocked_entry}
 use Rattle.variant_table.specs.WellFormed.{IsEntry, IsWellFormed}
 use Rattle.variant_table.proofs.UnblockedLemmas.{unblocked_none, well_formed_kept}
@@ -26,7 +26,7 @@ use Rattle.variant_list.specs.Variants.{candidates_among, fits_label, in_order, 
 use Rattle.variant_list.specs.Visited.{visited}
 use Rattle.variant_list.proofs.NetLabels.{among-in_order}
 use Rattle.variant_list.proofs.RisingLists.{Contains-filter}
-use Rattle.idn2_cli.specs.Answers.{block, block_to, is_among, is_registrable, kept_to, lesser_label, nth, nth_if_given, unless_kept, is_allocatable, disposition_in, disposition, IsFieldOf, IsDisposition, stop_of, up_to, variants_after}
+use Rattle.idn2_cli.specs.Answers.{block, block_to, is_among, is_registrable, kept_to, lesser_label, nth, nth_if_given, unless_kept, is_allocatable, allocation, disposition_in, disposition, IsFieldOf, IsAllocation, IsDisposition, stop_of, up_to, variants_after}
 use Rattle.answer_json.specs.declared.block.Disposition.TheVariants.{Allocatable, Blocked}
 use Rattle.idn2_cli.specs.Said.{Said, Listed, BlockEnd}
 use Rattle.idn2_cli.specs.inner.Dispositions.{AreOfTable, AreOfLabel, CanBeCut, block_by, field_by}
@@ -65,9 +65,15 @@ same-test true b h g = sym (g.1 (h.0 refl))
 same-test false true h g = h.1 (g.0 refl)
 same-test false false h g = refl
 
+-- a version with marks has a disposition
+disposition-marked : (n : Version) (b : Bool) → n ≢ One → disposition_in n b ≡ Some (allocation b)
+disposition-marked One b other = absurd (other refl)
+disposition-marked Two b other = refl
+disposition-marked Three b other = refl
+
 -- what a walk over a net tells
-pub spelled-told : (net : Built) (v : List ℕ) (told : Bool) → IsTrue told ↔ Contains net.spelled v → disposition_in Two told ≡ field_by (BySpelling net) v
-spelled-told net v told h = ap (disposition_in Two) (same-test told (is_among net.spelled v) h (found-member v net.spelled, member-found v net.spelled))
+pub spelled-told : (net : Built) (v : List ℕ) (told : Bool) → IsTrue told ↔ Contains net.spelled v → Some (allocation told) ≡ field_by (BySpelling net) v
+spelled-told net v told h = ap (λ (b : Bool). Some (allocation b)) (same-test told (is_among net.spelled v) h (found-member v net.spelled, member-found v net.spelled))
 
 -- ---- the sources stay
 
@@ -107,14 +113,14 @@ can_be_cut table (BySpelling other) label is h = subst (λ (t : List Entry). Has
 field-is : (table : TableValue) (label v : List ℕ) (told : Dispositions Built) → All IsEntry table.entries → AreOfLabel table label told → Contains (spelled table.entries label) v → field_by told v ≡ disposition table label v
 field-is table label v Unstated well is h = ap (λ (n : Version). disposition_in n (is_allocatable table.entries label v)) (sym is)
 field-is table label v AllAllocatable well is h =
-    ap (disposition_in Two) (sym (ap (λ (t : List Entry). list_any (bytes_eq v) (spelled t label)) is.1 ∙ member-found v (spelled table.entries label) h))
-    ∙ ap (λ (n : Version). disposition_in n (is_allocatable table.entries label v)) (sym is.0)
+    ap (λ (b : Bool). Some (allocation b)) (sym (ap (λ (t : List Entry). list_any (bytes_eq v) (spelled t label)) is.1 ∙ member-found v (spelled table.entries label) h))
+    ∙ sym (disposition-marked table.version (is_allocatable table.entries label v) is.0)
 field-is table label v (BySpelling net) well is h =
-    ap (disposition_in Two)
+    ap (λ (b : Bool). Some (allocation b))
     (same-test (is_among net.spelled v) (is_allocatable table.entries label v)
     (λ found. (is.1 v).0 (found-member v net.spelled found), λ spells. member-found v net.spelled ((is.1 v).1 spells))
     (spells-test (unblocked table.entries) label v (well_formed_kept table.entries well)))
-    ∙ ap (λ (n : Version). disposition_in n (is_allocatable table.entries label v)) (sym is.0)
+    ∙ sym (disposition-marked table.version (is_allocatable table.entries label v) is.0)
 
 map-same : (f g : List ℕ → Said) (vs : List (List ℕ)) → AllByRecursion (λ v. f v ≡ g v) vs → map f vs ≡ map g vs
 map-same f g [] same = refl
@@ -179,26 +185,27 @@ disposition-IsDisposition table label v well = by_version table.version
     tests : (is_allocatable table.entries label v ≡ true) ↔ Spells (unblocked table.entries) label v
     tests = spells-test (unblocked table.entries) label v (well_formed_kept table.entries well)
 
-    by_test : (b : Bool) → is_allocatable table.entries label v ≡ b → IsFieldOf Two (Spells (unblocked table.entries) label v) (disposition_in Two b)
+    by_test : (b : Bool) → is_allocatable table.entries label v ≡ b → IsAllocation (Spells (unblocked table.entries) label v) (Some (allocation b))
     by_test true e = inl (tests.0 e, refl)
     by_test false e = inr (λ spells. (let bad : false ≡ true = sym e ∙ tests.1 spells in cc), refl)
 
     by_version : (n : Version) → IsFieldOf n (Spells (unblocked table.entries) label v) (disposition_in n (is_allocatable table.entries label v))
     by_version One = refl
     by_version Two = by_test (is_allocatable table.entries label v) refl
+    by_version Three = by_test (is_allocatable table.entries label v) refl
 
 -- ---- laws
 
 pub disposition-one : (table : TableValue) (label v : List ℕ) → table.version ≡ One → disposition table label v ≡ None
 disposition-one table label v is = ap (λ (n : Version). disposition_in n (is_allocatable table.entries label v)) is
 
-allocatable-field : (table : TableValue) (label v : List ℕ) → table.version ≡ Two → is_allocatable table.entries label v ≡ true → disposition table label v ≡ Some Allocatable
-allocatable-field table label v is told = ap (λ (n : Version). disposition_in n (is_allocatable table.entries label v)) is ∙ ap (disposition_in Two) told
+allocatable-field : (table : TableValue) (label v : List ℕ) → table.version ≢ One → is_allocatable table.entries label v ≡ true → disposition table label v ≡ Some Allocatable
+allocatable-field table label v is told = disposition-marked table.version (is_allocatable table.entries label v) is ∙ ap (λ (b : Bool). Some (allocation b)) told
 
-pub disposition-itself : (table : TableValue) (label : List ℕ) → table.version ≡ Two → IsWellFormed table.entries → HasSegmentation table.entries label → disposition table label label ≡ Some Allocatable
+pub disposition-itself : (table : TableValue) (label : List ℕ) → table.version ≢ One → IsWellFormed table.entries → HasSegmentation table.entries label → disposition table label label ≡ Some Allocatable
 disposition-itself table label is formed has = allocatable-field table label label is (label-allocatable table.entries label formed.entries has)
 
-pub disposition-none_blocked : (table : TableValue) (label v : List ℕ) → table.version ≡ Two → IsWellFormed table.entries → has_blocked table.entries ≡ false → Spells table.entries label v
+pub disposition-none_blocked : (table : TableValue) (label v : List ℕ) → table.version ≢ One → IsWellFormed table.entries → has_blocked table.entries ≡ false → Spells table.entries label v
     → disposition table label v ≡ Some Allocatable
 disposition-none_blocked table label v is formed none spells =
     allocatable-field table label v is

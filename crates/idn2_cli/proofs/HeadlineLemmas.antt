@@ -17,6 +17,7 @@ use Rattle.idn_text.proofs.Utf8Lemmas.{points_from_utf8}
 use Rattle.idn_label.specs.Answers.{unless_fault}
 use Rattle.idn_label.specs.FirstFault.{first_fault, IsRegistrable}
 use Rattle.idn_label.proofs.ALabels.{registrable_scalars}
+use Rattle.variant_table.specs.declared.version.Notation.{Notation}
 use Rattle.variant_table.specs.Entries.{TableValue}
 use Rattle.variant_table.specs.WellFormed.{IsWellFormed}
 use Rattle.variant_table.proofs.TextLemmas.{one_table, not_both}
@@ -266,15 +267,15 @@ module _ (o : Settings) (table : TableValue) (formed : IsWellFormed table.entrie
       elim ends [ inl does ↦ done-prints start now old new status does | inr stops ↦ stopped-prints start now old new status stops ]
 
 -- the table that a run is given is the one that its text spells
-same_table : (text : List ℕ) (given : TableGiven) (table : TableValue) → IsReadAs text given → IsReadAs text (Ok table) → given ≡ Ok table
-same_table text (Ok other) table read spelled = ap Ok (one_table text other table read spelled)
-same_table text (Err fault) table read spelled = absurd (not_both text table fault.0 read.0 spelled read.2)
+same_table : (n : Notation) (text : List ℕ) (given : TableGiven) (table : TableValue) → IsReadAs n text given → IsReadAs n text (Ok table) → given ≡ Ok table
+same_table n text (Ok other) table read spelled = ap Ok (one_table n text other table read spelled)
+same_table n text (Err fault) table read spelled = absurd (not_both n text table fault.0 read.0 spelled read.2)
 
 -- the law: what a run ends with is the theorem of a listing
 pub headline : (o : Settings) (text : List ℕ) (table : TableValue) (given : TableGiven) (start now : Reading) (old new : Held) (status : Status)
-    → o.mode ≡ Variants → IsReadAs text (Ok table) → IsTableOf o.mode text given → Ends (mode_job o given) start now old new status
+    → o.mode ≡ Variants → IsReadAs o.notation text (Ok table) → IsTableOf o.mode o.notation text given → Ends (mode_job o given) start now old new status
     → PrintsListings o table start now old.output.contents new.output.contents status
 headline o text table given start now old new status is spelled read ends =
-    let same = same_table text given table (subst (λ (m : Mode). IsTableOf m text given) is read) spelled in
+    let same = same_table o.notation text given table (subst (λ (m : Mode). IsTableOf m o.notation text given) is read) spelled in
     ends-prints o table spelled.lines.well_formed.well_formed is start now old new status
     (subst (λ (g : TableGiven). Ends (mode_job o g) start now old new status) same ends)

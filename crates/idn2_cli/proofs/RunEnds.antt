@@ -19,6 +19,7 @@ use Rattle.idn2_cli.proofs.WrittenPieces.{stops_first}
 use Rattle.idn2_cli.proofs.LineSteps.{stands_at}
 use Rattle.idn2_cli.proofs.TableLemmas.{some_table, refused_table}
 use Rattle.std.specs.Prelude.{MatchOption}
+use Rattle.variant_table.specs.declared.version.Notation.{Notation}
 use Rattle.variant_table.specs.Texts.{IsToldOf}
 use Rattle.variant_table.specs.declared.fault.TableFault.{TableFault}
 use Rattle.idn2_cli.specs.inner.TableFaults.{told_of}
@@ -28,11 +29,11 @@ use Rattle.idn2_cli.specs.declared.session.status.Status.TheVariants.{Unusable}
 
 -- the table, and the job that its mode makes of it
 pub as_mode : (o : Settings) (mode : Mode) (text : List ℕ) (given : TableGiven) (job : Job) (start now : Reading) (old new : Held) (r : Result Status Stop)
-    → o.mode ≡ mode → IsTableOf mode text given → job ≡ mode_job (record o { mode = mode }) given → Does job start now old new r
-    → (table : TableGiven) × IsTableOf o.mode text table × Does (mode_job o table) start now old new r
+    → o.mode ≡ mode → IsTableOf mode o.notation text given → job ≡ mode_job (record o { mode = mode }) given → Does job start now old new r
+    → (table : TableGiven) × IsTableOf o.mode o.notation text table × Does (mode_job o table) start now old new r
 as_mode o mode text given job start now old new r e table same done = (
   given,
-  subst (λ (m : Mode). IsTableOf m text given) (sym e) table,
+  subst (λ (m : Mode). IsTableOf m o.notation text given) (sym e) table,
   subst (λ (j : Job). Does j start now old new r) (same ∙ ap (λ (m : Mode). mode_job (record o { mode = m }) given) (sym e)) done,
 )
 
@@ -62,8 +63,8 @@ with_false (Err why) status e = tt
 
 -- the check of a table, whatever its text is
 pub checked : (o : Settings) (text : List ℕ) (given : TableGiven) (start : Reading) (old new : Held) (r : Result Status Stop)
-    → o.mode ≡ CheckTable → IsReadAs text given → IsUnread start → Emits old new (check_pieces o.form given) r → IfOk r (λ status. status ≡ check_status given)
-    → (table : TableGiven) × IsTableOf o.mode text table × Does (mode_job o table) start start old new r
+    → o.mode ≡ CheckTable → IsReadAs o.notation text given → IsUnread start → Emits old new (check_pieces o.form given) r → IfOk r (λ status. status ≡ check_status given)
+    → (table : TableGiven) × IsTableOf o.mode o.notation text table × Does (mode_job o table) start start old new r
 checked o text (Ok table) start old new r e read unread writes answered =
     let job = mode_job (record o { mode = CheckTable }) (Ok table) in
     as_mode o CheckTable text (Ok table) job start start old new r e read refl (does_unread job start old new r unread writes (with_false r _ answered) refl)
@@ -81,7 +82,7 @@ emits_memory {A} old pieces r why e memory =
 -- its table is the one that the text spells
 pub record WorksByTable (o : Settings) (mode : Mode) : Type 0 where
   pub named : o.mode ≡ mode
-  pub reads : (text : List ℕ) (given : TableGiven) → IsReadAs text given → IsTableOf mode text given
+  pub reads : (text : List ℕ) (given : TableGiven) → IsReadAs o.notation text given → IsTableOf mode o.notation text given
   pub by_table : reads_table mode ≡ true
 
 pub lists_by_table : (o : Settings) → o.mode ≡ Variants → WorksByTable o Variants
@@ -93,9 +94,9 @@ jumps_by_table o is = record { named = is; reads = λ text given read. read; by_
 module _ (o : Settings) (mode : Mode) (works : WorksByTable o mode) (text : List ℕ) (start : Reading) where
   -- memory was refused while the table was read
   pub unread_stopped : (old : Held) (r : Result Status Stop) (why : Stop) → IsUnread start → r ≡ Err why → why ≡ stop.Memory
-      → (table : TableGiven) × IsTableOf o.mode text table × Does (mode_job o table) start start old old r
+      → (table : TableGiven) × IsTableOf o.mode o.notation text table × Does (mode_job o table) start start old old r
   unread_stopped old r why unread is memory =
-      let t = some_table text in
+      let t = some_table o.notation text in
       let job = mode_job (record o { mode = mode }) t.0 in
       as_mode o mode text t.0 job start start old old r works.named (works.reads text t.0 t.1) refl
       (does_unread job start old old r unread (emits_memory old (job.pieces []) r why is memory)
@@ -103,24 +104,24 @@ module _ (o : Settings) (mode : Mode) (works : WorksByTable o mode) (text : List
 
   -- the fault of the table is told
   faulty : (line : ℕ) (refusal : Refusal) (old new : Held) (r : Result Status Stop)
-      → IsReadAs text (Err (line, refusal)) → IsUnread start → Emits old new (check_pieces o.form (Err (line, refusal))) r → IfOk r (λ status. status ≡ check_status (Err (line, refusal)))
-      → (table : TableGiven) × IsTableOf o.mode text table × Does (mode_job o table) start start old new r
+      → IsReadAs o.notation text (Err (line, refusal)) → IsUnread start → Emits old new (check_pieces o.form (Err (line, refusal))) r → IfOk r (λ status. status ≡ check_status (Err (line, refusal)))
+      → (table : TableGiven) × IsTableOf o.mode o.notation text table × Does (mode_job o table) start start old new r
   faulty line refusal old new r read unread writes answered =
       let job = mode_job (record o { mode = mode }) (Err (line, refusal)) in
       as_mode o mode text (Err (line, refusal)) job start start old new r works.named (works.reads text (Err (line, refusal)) read) refl
       (does_unread job start old new r unread writes (with_false r _ answered) works.by_table)
 
   -- the table is not read
-  pub refused_lines : (fault : TableFault) (old new : Held) (r : Result Status Stop) → IsUnread start → IsToldOf text fault
+  pub refused_lines : (fault : TableFault) (old new : Held) (r : Result Status Stop) → IsUnread start → IsToldOf o.notation text fault
       → MatchOption (told_of fault) ((r ≡ Err stop.Memory) × (new ≡ old)) (λ told. Emits old new (check_pieces o.form (Err told)) r)
       → IfOk r (λ status. status ≡ Unusable)
-      → (table : TableGiven) × IsTableOf o.mode text table × Does (mode_job o table) start start old new r
-  refused_lines fault old new r unread is told answered = by (refused_table o.form text fault old new r is told)
+      → (table : TableGiven) × IsTableOf o.mode o.notation text table × Does (mode_job o table) start start old new r
+  refused_lines fault old new r unread is told answered = by (refused_table o.form o.notation text fault old new r is told)
     where
-      by : ((r ≡ Err stop.Memory) × (new ≡ old)) ⊎ ((told : ℕ × Refusal) × IsReadAs text (Err told) × Emits old new (check_pieces o.form (Err told)) r)
-          → (table : TableGiven) × IsTableOf o.mode text table × Does (mode_job o table) start start old new r
+      by : ((r ≡ Err stop.Memory) × (new ≡ old)) ⊎ ((told : ℕ × Refusal) × IsReadAs o.notation text (Err told) × Emits old new (check_pieces o.form (Err told)) r)
+          → (table : TableGiven) × IsTableOf o.mode o.notation text table × Does (mode_job o table) start start old new r
       by (inl memory) =
-          subst (λ (h : Held). (table : TableGiven) × IsTableOf o.mode text table × Does (mode_job o table) start start old h r) (sym memory.1)
+          subst (λ (h : Held). (table : TableGiven) × IsTableOf o.mode o.notation text table × Does (mode_job o table) start start old h r) (sym memory.1)
           (unread_stopped old r stop.Memory unread memory.0 refl)
       by (inr t) = faulty t.0.0 t.0.1 old new r t.1 unread t.2 answered
 
@@ -142,16 +143,16 @@ jump_job-kept o labels given is =
     kept (Ok table) = refl
 
 -- a table that is not read, in the check of a table
-pub refused_check : (form : Form) (text : List ℕ) (fault : TableFault) (old new : Held) (r : Result Status Stop) → IsToldOf text fault
+pub refused_check : (form : Form) (n : Notation) (text : List ℕ) (fault : TableFault) (old new : Held) (r : Result Status Stop) → IsToldOf n text fault
     → MatchOption (told_of fault) ((r ≡ Err stop.Memory) × (new ≡ old)) (λ told. Emits old new (check_pieces form (Err told)) r)
     → IfOk r (λ status. status ≡ Unusable)
-    → (given : TableGiven) × IsReadAs text given × Emits old new (check_pieces form given) r × IfOk r (λ status. status ≡ check_status given)
-refused_check form text fault old new r is told answered = by (refused_table form text fault old new r is told)
+    → (given : TableGiven) × IsReadAs n text given × Emits old new (check_pieces form given) r × IfOk r (λ status. status ≡ check_status given)
+refused_check form n text fault old new r is told answered = by (refused_table form n text fault old new r is told)
   where
-    by : ((r ≡ Err stop.Memory) × (new ≡ old)) ⊎ ((told : ℕ × Refusal) × IsReadAs text (Err told) × Emits old new (check_pieces form (Err told)) r)
-        → (given : TableGiven) × IsReadAs text given × Emits old new (check_pieces form given) r × IfOk r (λ status. status ≡ check_status given)
+    by : ((r ≡ Err stop.Memory) × (new ≡ old)) ⊎ ((told : ℕ × Refusal) × IsReadAs n text (Err told) × Emits old new (check_pieces form (Err told)) r)
+        → (given : TableGiven) × IsReadAs n text given × Emits old new (check_pieces form given) r × IfOk r (λ status. status ≡ check_status given)
     by (inl memory) =
-        let t = some_table text in (
+        let t = some_table n text in (
           t.0,
           t.1,
           subst (λ (h : Held). Emits old h (check_pieces form t.0) r) (sym memory.1) (emits_memory old (check_pieces form t.0) r stop.Memory memory.0 refl),

@@ -15,7 +15,7 @@ use Rattle.idn_label.specs.Register.{register_answer, u_label_answer}
 use Rattle.idn_label.specs.Decode.{decode_answer}
 use Rattle.idn_label.specs.Lookup.{lookup_answer}
 use Rattle.variant_table.specs.declared.version.Version.{Version}
-use Rattle.variant_table.specs.declared.version.Version.TheVariants.{One, Two}
+use Rattle.variant_table.specs.declared.version.Version.TheVariants.{One, Two, Three}
 use Rattle.variant_table.specs.Entries.{Entry, TableValue, unblocked}
 use Rattle.variant_list.specs.Spelled.{spelled}
 use Rattle.idn2_options.specs.Settings.{Settings}
@@ -97,10 +97,15 @@ up_to (Some b) labels = filter (λ v. is_le (label_cmp v b)) labels
 abbrev pub is_allocatable : List Entry → List ℕ → List ℕ → Bool
 is_allocatable entries label v = list_any (bytes_eq v) (spelled (unblocked entries) label)
 
--- the disposition of a variant (RFC 7940, section 7.3), which version 1 doesn't have
+-- the disposition of a variant (RFC 7940, section 7.3)
+abbrev pub allocation : Bool → Disposition
+allocation allocatable = if allocatable then Allocatable else Blocked
+
+-- which version 1 doesn't have
 abbrev pub disposition_in : Version → Bool → Option Disposition
 disposition_in One allocatable = None
-disposition_in Two allocatable = Some (if allocatable then Allocatable else Blocked)
+disposition_in Two allocatable = Some (allocation allocatable)
+disposition_in Three allocatable = Some (allocation allocatable)
 
 -- that of each variant of a label
 abbrev pub disposition : TableValue → List ℕ → List ℕ → Option Disposition
@@ -217,12 +222,17 @@ pub record IsAhead (o : Settings) (table : List Entry) (label v : List ℕ) : Ty
   pub spelled : Spells table label v
   pub whole : o.registered ≡ None
 
--- a disposition that says whether this holds; version 1 has none
+-- a disposition that says whether this holds
+abbrev pub IsAllocation : Type 0 → Option Disposition → Type 0
+IsAllocation allocatable field = (allocatable × (field ≡ Some Allocatable)) ⊎ ((¬ allocatable) × (field ≡ Some Blocked))
+
+-- which version 1 doesn't have
 abbrev pub IsFieldOf : Version → Type 0 → Option Disposition → Type 0
 IsFieldOf One allocatable field = field ≡ None
-IsFieldOf Two allocatable field = (allocatable × (field ≡ Some Allocatable)) ⊎ ((¬ allocatable) × (field ≡ Some Blocked))
+IsFieldOf Two allocatable field = IsAllocation allocatable field
+IsFieldOf Three allocatable field = IsAllocation allocatable field
 
--- the disposition of v: none in version 1; in version 2 it says that v may be allocated exactly where the label spells v by the
+-- the disposition of v: none in version 1; in others it says that v may be allocated exactly where the label spells v by the
 -- table without its blocked variants
 abbrev pub IsDisposition : TableValue → List ℕ → List ℕ → Option Disposition → Type 0
 IsDisposition table label v field = IsFieldOf table.version (Spells (unblocked table.entries) label v) field

@@ -4,7 +4,7 @@ use Rattle.std.specs.Str.{IsValidUpTo}
 use Rattle.idn_text.specs.declared.refusal.Refusal.{Refusal}
 use Rattle.idn_text.specs.declared.refusal.Refusal.TheVariants.{NotInTable}
 use Rattle.idn_cause.specs.declared.cause.Cause.TheVariants.{Point}
-use Rattle.variant_table.specs.declared.version.Version.TheVariants.{One, Two}
+use Rattle.variant_table.specs.declared.version.Version.TheVariants.{One}
 use Rattle.variant_table.specs.Entries.{Entry, TableValue, has_blocked, unblocked}
 use Rattle.variant_table.specs.WellFormed.{IsWellFormed}
 use Rattle.variant_list.specs.Furthest.{IsFurthest}
@@ -24,9 +24,9 @@ use Rattle.idn2_cli.specs.declared.session.cause.LineCause.TheVariants.{Byte}
 -- blocked, each of a label's variants may be; and what may be allocated is a variant of the label
 pub record DispositionsAreTold : Type 0 where
   pub unstated : (table : TableValue) (label v : List ℕ) → table.version ≡ One → disposition table label v ≡ None
-  pub itself : (table : TableValue) (label : List ℕ) → table.version ≡ Two → IsWellFormed table.entries → HasSegmentation table.entries label →
+  pub itself : (table : TableValue) (label : List ℕ) → table.version ≢ One → IsWellFormed table.entries → HasSegmentation table.entries label →
       disposition table label label ≡ Some Allocatable
-  pub none_blocked : (table : TableValue) (label v : List ℕ) → table.version ≡ Two → IsWellFormed table.entries → has_blocked table.entries ≡ false →
+  pub none_blocked : (table : TableValue) (label v : List ℕ) → table.version ≢ One → IsWellFormed table.entries → has_blocked table.entries ≡ false →
       Spells table.entries label v → disposition table label v ≡ Some Allocatable
   pub variants : (entries : List Entry) (label v : List ℕ) → Spells (unblocked entries) label v → Spells entries label v
 

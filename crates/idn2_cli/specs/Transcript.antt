@@ -6,6 +6,7 @@ use Rattle.std.specs.Fmt.{decimal}
 use Rattle.idn_text.specs.declared.refusal.Refusal.{Refusal}
 use Rattle.variant_table.specs.declared.version.Version.TheVariants.{One}
 use Rattle.variant_table.specs.Entries.{Entry, TableValue}
+use Rattle.variant_table.specs.declared.version.Notation.{Notation}
 use Rattle.variant_table.specs.Texts.{IsTextOf, IsFaultOf}
 use Rattle.variant_table.specs.Faults.{LineFault}
 use Rattle.idn2_options.specs.declared.command_line.mode.Mode.{Mode}
@@ -69,20 +70,20 @@ table_refusal faults.SameVariant = refusals.SameVariant
 table_refusal faults.SameSource = refusals.SameSource
 
 -- the text has this first fault
-abbrev pub HasFault : List ℕ → ℕ × Refusal → Type 0
-HasFault text fault = (kind : LineFault) × (table_refusal kind ≡ fault.1) × IsFaultOf text fault.0 kind
+abbrev pub HasFault : Notation → List ℕ → ℕ × Refusal → Type 0
+HasFault notation text fault = (kind : LineFault) × (table_refusal kind ≡ fault.1) × IsFaultOf notation text fault.0 kind
 
 -- the text spells this table, or has this first fault
-abbrev pub IsReadAs : List ℕ → TableGiven → Type 0
-IsReadAs text (Ok table) = IsTextOf text table
-IsReadAs text (Err fault) = HasFault text fault
+abbrev pub IsReadAs : Notation → List ℕ → TableGiven → Type 0
+IsReadAs notation text (Ok table) = IsTextOf notation text table
+IsReadAs notation text (Err fault) = HasFault notation text fault
 
 -- the table by which a mode works, as its text says; a mode that names no table has the empty one
-abbrev pub IsTableOf : Mode → List ℕ → TableGiven → Type 0
-IsTableOf Variants text table = IsReadAs text table
-IsTableOf Jump text table = IsReadAs text table
-IsTableOf CheckTable text table = IsReadAs text table
-IsTableOf mode text table = table ≡ Ok no_table
+abbrev pub IsTableOf : Mode → Notation → List ℕ → TableGiven → Type 0
+IsTableOf Variants notation text table = IsReadAs notation text table
+IsTableOf Jump notation text table = IsReadAs notation text table
+IsTableOf CheckTable notation text table = IsReadAs notation text table
+IsTableOf mode notation text table = table ≡ Ok no_table
 
 -- ---- messages
 

@@ -5,7 +5,7 @@ pub mod laws;
 mod modes;
 mod session;
 
-pub use idn2_options::{Form, Mode, Options, Usage, input_text, read_options};
+pub use idn2_options::{Form, Mode, Notation, Options, Usage, input_text, read_options};
 pub use session::report::{report, report_registered};
 pub use session::run::{run, run_among};
 pub use session::status::Status;

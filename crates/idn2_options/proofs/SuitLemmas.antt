@@ -1,17 +1,19 @@
 -- Options that the rules allow suit their mode.
-use Rattle.std.proofs.Common.{◌≡◌, ◌≢◌, ◌≤◌, ◌&&◌, ◌||◌, ◌==◌, ℕ, Bool, List, [], ◌∷◌, Option, Some, None, true, false, cond, length, ap, refl, sym, ◌∙◌, arith, not, is_some}
+use Rattle.std.proofs.Common.{◌≡◌, ◌≢◌, ◌+◌, ◌≤◌, ◌&&◌, ◌||◌, ◌==◌, ℕ, Bool, List, [], ◌∷◌, Option, Some, None, true, false, cond, length, ap, refl, sym, ◌∙◌, arith, not, is_some}
 use Rattle.std.specs.Prelude.{count_by, option_and_then, unwrap_or}
+use Rattle.std.specs.Option.{option_or}
 use Rattle.std.specs.Str.{bytes_eq, chars}
 use Rattle.std.proofs.lemmas.Bool.{and_parts}
 use Rattle.std.proofs.lemmas.Bool.Decides.{nat_tests}
 use Rattle.std.proofs.lemmas.Str.{chars-nil}
 use Rattle.clap.specs.Words.{Row, Text}
+use Rattle.variant_table.specs.declared.version.Notation.TheVariants.{Table, Ruleset}
 use Rattle.idn2_options.specs.Settings.{SuitsMode}
-use Rattle.idn2_options.specs.Words.{among_of, bounds_variants, checks_alone, count_of, file_of, has_counts, has_flag, has_short_start, has_strings, has_value, is_allowed, jumps_by_table, mode_of, names_one_mode, settings_of, start_of, steps_of, strings_of, suits_among, value_of}
+use Rattle.idn2_options.specs.Words.{among_of, bounds_variants, checked_file, checks, checks_alone, count_of, file_of, has_counts, has_flag, has_short_start, has_strings, has_value, is_allowed, jumps_by_table, listing_file, lists, mode_of, names_one_mode, notation_of, settings_of, start_of, steps_of, strings_of, suits_among, value_of}
 use Rattle.idn2_options.specs.declared.command_line.mode.Mode.{Mode}
 use Rattle.idn2_options.specs.declared.command_line.mode.Mode.TheVariants.{Lookup, Register, Decode, Variants, Jump, CheckTable}
 use Rattle.idn2_options.proofs.LimitLemmas.{le-test}
-use Rattle.idn2_options.specs.declared.command_line.arguments.TheConstants.{AFTER, AMONG, CHECK_TABLE, DECODE, JUMP, LIMIT, LOOKUP, REGISTER, STEPS, TRIES, VARIANTS}
+use Rattle.idn2_options.specs.declared.command_line.arguments.TheConstants.{AFTER, AMONG, CHECK_RULESET, CHECK_TABLE, DECODE, JUMP, LIMIT, LOOKUP, REGISTER, RULESET, STEPS, TRIES, VARIANTS}
 
 -- ---- tests
 
@@ -73,10 +75,24 @@ check-alone l r d v j k one is_k =
     let weight : cond {A = ℕ} k 1 0 ≡ 1 = rw is_k refl in
     rw (no_weight r (omega arith), no_weight d (omega arith), no_weight v (omega arith), is_k) refl
 
+-- a file is given twice at most by the word for tables and the one for rulesets
+either-weight : {X : Type 0} (a b : Option X) → cond {A = ℕ} (is_some (option_or a b)) 1 0 ≤ cond {A = ℕ} (is_some a) 1 0 + cond {A = ℕ} (is_some b) 1 0
+either-weight None b = omega arith
+either-weight (Some x) b = omega arith
+
+-- where at most one of the seven words is given, one of five is
+fewer-named : (l r d : Bool) (v w k m : Option Text) → count_by (λ named. named) (l ∷ r ∷ d ∷ is_some v ∷ is_some k ∷ is_some w ∷ is_some m ∷ []) ≤ 1 → IsOne l r d (is_some (option_or v w)) (is_some (option_or k m))
+fewer-named l r d v w k m one = omega (arith, one, either-weight v w, either-weight k m)
+
+-- a file by neither word
+neither-given : {X : Type 0} (a b : Option X) → is_some (option_or a b) ≡ false → (is_some a ≡ false) × (is_some b ≡ false)
+neither-given None b none = (refl, none)
+neither-given (Some x) b none = absurd (let bad : true ≡ false = none in cc)
+
 -- ---- the rules, one by one
 
 pub record Rules (rows : List Row) : Type 0 where
-  pub one : IsOne (has_flag LOOKUP.now rows) (has_flag REGISTER.now rows) (has_flag DECODE.now rows) (has_value VARIANTS.now rows) (has_value CHECK_TABLE.now rows)
+  pub one : IsOne (has_flag LOOKUP.now rows) (has_flag REGISTER.now rows) (has_flag DECODE.now rows) (lists rows) (checks rows)
   pub bounds : bounds_variants rows ≡ true
   pub jumps : jumps_by_table rows ≡ true
   pub among : suits_among rows ≡ true
@@ -91,7 +107,7 @@ rules rows allowed =
     let among = and_parts (names_one_mode rows && bounds_variants rows && jumps_by_table rows) (suits_among rows) counts.0 in
     let jumps = and_parts (names_one_mode rows && bounds_variants rows) (jumps_by_table rows) among.0 in
     let first = and_parts (names_one_mode rows) (bounds_variants rows) jumps.0 in
-    record { one = le-test _ 1 first.0; bounds = first.1; jumps = jumps.1; among = among.1; alone = last.1 }
+    record { one = fewer-named _ _ _ (value_of VARIANTS.now rows) (value_of RULESET.now rows) (value_of CHECK_TABLE.now rows) (value_of CHECK_RULESET.now rows) (le-test _ 1 first.0); bounds = first.1; jumps = jumps.1; among = among.1; alone = last.1 }
 
 -- a test of two that holds nowhere but in another mode
 both-false : (a b : Bool) → (a ≡ true → b ≡ true → ⊥) → (a && b) ≡ false
@@ -104,12 +120,12 @@ no_jump true none = absurd (let bad : false ≡ true = none in cc)
 no_jump false none = refl
 
 -- the mode is another than the listing
-no-listing : (rows : List Row) → Rules rows → mode_of rows ≢ Variants → (has_value VARIANTS.now rows && not (has_flag JUMP.now rows)) ≡ false
-no-listing rows r other = both-false (has_value VARIANTS.now rows) (not (has_flag JUMP.now rows)) (λ named listed.
+no-listing : (rows : List Row) → Rules rows → mode_of rows ≢ Variants → (lists rows && not (has_flag JUMP.now rows)) ≡ false
+no-listing rows r other = both-false (lists rows) (not (has_flag JUMP.now rows)) (λ named listed.
     other (variants-alone _ _ _ _ _ _ r.one named ∙ ap (λ (j : Bool). cond j Jump Variants) (no_jump (has_flag JUMP.now rows) listed)))
 
-no-check : (rows : List Row) → Rules rows → mode_of rows ≢ CheckTable → has_value CHECK_TABLE.now rows ≡ false
-no-check rows r other = false-where (has_value CHECK_TABLE.now rows) (λ named. other (check-alone _ _ _ _ _ _ r.one named))
+no-check : (rows : List Row) → Rules rows → mode_of rows ≢ CheckTable → checks rows ≡ false
+no-check rows r other = false-where (checks rows) (λ named. other (check-alone _ _ _ _ _ _ r.one named))
 
 -- nothing that bounds a listing is given
 record NoBounds (rows : List Row) : Type 0 where
@@ -126,7 +142,7 @@ none-given rows r other =
     let tries = has_value TRIES.now rows in
     let among = has_value AMONG.now rows in
     let steps = has_value STEPS.now rows in
-    let none = neither (after || limit || tries || steps) among (second-test (has_value VARIANTS.now rows && not (has_flag JUMP.now rows)) (not (after || limit || tries || steps || among)) r.bounds (no-listing rows r other)) in
+    let none = neither (after || limit || tries || steps) among (second-test (lists rows && not (has_flag JUMP.now rows)) (not (after || limit || tries || steps || among)) r.bounds (no-listing rows r other)) in
     let third = neither (after || limit || tries) steps (ap not none.0) in
     let second = neither (after || limit) tries (ap not third.0) in
     let first = neither after limit (ap not second.0) in
@@ -163,8 +179,8 @@ untried rows r named =
       ap (option_and_then steps_of) (not-given (value_of STEPS.now rows) (no_jump (has_value STEPS.now rows) both.1)),
     )
 
-no-variants : (rows : List Row) → Rules rows → mode_of rows ≢ Variants → mode_of rows ≢ Jump → has_value VARIANTS.now rows ≡ false
-no-variants rows r other jump = false-where (has_value VARIANTS.now rows) (λ named. either (has_flag JUMP.now rows) (variants-alone _ _ _ _ _ _ r.one named))
+no-variants : (rows : List Row) → Rules rows → mode_of rows ≢ Variants → mode_of rows ≢ Jump → lists rows ≡ false
+no-variants rows r other jump = false-where (lists rows) (λ named. either (has_flag JUMP.now rows) (variants-alone _ _ _ _ _ _ r.one named))
   where
     either : (j : Bool) → mode_of rows ≡ cond j Jump Variants → ⊥
     either true is = jump is
@@ -172,17 +188,24 @@ no-variants rows r other jump = false-where (has_value VARIANTS.now rows) (λ na
 
 no-file : (rows : List Row) → Rules rows → mode_of rows ≢ Variants → mode_of rows ≢ Jump → mode_of rows ≢ CheckTable → file_of rows ≡ []
 no-file rows r variants jump check =
-    let v = not-given (value_of VARIANTS.now rows) (no-variants rows r variants jump) in
-    let k = not-given (value_of CHECK_TABLE.now rows) (no-check rows r check) in
-    ap (λ (o : Option Text). unwrap_or o (unwrap_or (value_of CHECK_TABLE.now rows) [])) v ∙ ap (λ (o : Option Text). unwrap_or o []) k
+    let v = not-given (listing_file rows) (no-variants rows r variants jump) in
+    let k = not-given (checked_file rows) (no-check rows r check) in
+    ap (λ (o : Option Text). unwrap_or o (unwrap_or (checked_file rows) [])) v ∙ ap (λ (o : Option Text). unwrap_or o []) k
+
+-- so nothing is read as a ruleset
+no-ruleset : (rows : List Row) → Rules rows → mode_of rows ≢ Variants → mode_of rows ≢ Jump → mode_of rows ≢ CheckTable → notation_of rows ≡ Table
+no-ruleset rows r variants jump check =
+    let w = (neither-given (value_of VARIANTS.now rows) (value_of RULESET.now rows) (no-variants rows r variants jump)).1 in
+    let m = (neither-given (value_of CHECK_TABLE.now rows) (value_of CHECK_RULESET.now rows) (no-check rows r check)).1 in
+    ap (λ (b : Bool). cond (b || has_value CHECK_RULESET.now rows) Ruleset Table) w ∙ ap (λ (b : Bool). cond b Ruleset Table) m
 
 alone : (rows : List Row) → Rules rows → mode_of rows ≡ CheckTable → strings_of rows ≡ []
 alone rows r is =
-    let named = check-named (has_flag REGISTER.now rows) (has_flag DECODE.now rows) (has_value VARIANTS.now rows) (has_flag JUMP.now rows) (has_value CHECK_TABLE.now rows) is in
-    let none = second-test (not (has_value CHECK_TABLE.now rows)) (not (has_strings rows)) r.alone (ap not named) in
+    let named = check-named (has_flag REGISTER.now rows) (has_flag DECODE.now rows) (lists rows) (has_flag JUMP.now rows) (checks rows) is in
+    let none = second-test (not (checks rows)) (not (has_strings rows)) r.alone (ap not named) in
     no-strings (strings_of rows) (false-where (has_strings rows) (λ some. let bad : false ≡ true = ap not (sym some) ∙ none in cc))
 
 pub suits_mode : (rows : List Row) → is_allowed rows ≡ true → SuitsMode (settings_of rows)
 suits_mode rows allowed =
     let r = rules rows allowed in
-    record { bounds = no-bounds rows r; among = λ other. (none-given rows r other).among; untried = untried rows r; file = no-file rows r; strings = alone rows r }
+    record { bounds = no-bounds rows r; among = λ other. (none-given rows r other).among; untried = untried rows r; file = λ variants jump check. (no-file rows r variants jump check, no-ruleset rows r variants jump check); strings = alone rows r }

@@ -3,7 +3,7 @@
 use Rattle.std.specs.Prelude.{ℕ, ◌^◌, ◌-◌, Some, codes, true}
 use Rattle.clap.specs.Words.{App, Rule, Text, new_app, new_rule, with_rule}
 use Rattle.clap.specs.declared.builder.ArgAction.TheVariants.{SetTrue, Set, Append}
-use Rattle.idn2_options.specs.declared.command_line.arguments.TheConstants.{AFTER, AMONG, CHECK_TABLE, DECODE, EXPLAIN, JSON, JUMP, LIMIT, LOOKUP, QUIET, REGISTER, STD3, STEPS, STRINGS, TR46NT, TRIES, VARIANTS}
+use Rattle.idn2_options.specs.declared.command_line.arguments.TheConstants.{AFTER, AMONG, CHECK_RULESET, CHECK_TABLE, DECODE, EXPLAIN, JSON, JUMP, LIMIT, LOOKUP, QUIET, REGISTER, RULESET, STD3, STEPS, STRINGS, TR46NT, TRIES, VARIANTS}
 
 -- a flag, `--name`
 abbrev pub flag_rule : Text → Rule
@@ -24,14 +24,16 @@ strings_rule name = record (new_rule name) {
   range = Some (record { start_inclusive = 0; end_inclusive = 2 ^ 64 - 1 });
 }
 
--- `-l`, `-r`, `-d`, `--variants FILE`, `--check-table FILE`
+-- `-l`, `-r`, `-d`, `--variants FILE`, `--check-table FILE`, `--ruleset FILE`, `--check-ruleset FILE`
 abbrev pub with_modes : App → App
-with_modes a = with_rule (with_rule (with_rule (with_rule (with_rule a
+with_modes a = with_rule (with_rule (with_rule (with_rule (with_rule (with_rule (with_rule a
     (short_flag_rule LOOKUP.now 108))
     (short_flag_rule REGISTER.now 114))
     (short_flag_rule DECODE.now 100))
     (value_rule VARIANTS.now))
-    (value_rule CHECK_TABLE.now)
+    (value_rule CHECK_TABLE.now))
+    (value_rule RULESET.now))
+    (value_rule CHECK_RULESET.now)
 
 -- `--among FILE`, `--jump`
 abbrev pub with_collisions : App → App

@@ -1,15 +1,16 @@
 -- Worked examples of the definitions, by computation.
 use Rattle.std.specs.Prelude.{◌≡◌, ℕ, List, [], ◌∷◌, false, true, None, codes}
+use Rattle.variant_table.specs.declared.version.Notation.TheVariants.{Table, Ruleset}
 use Rattle.idn2_options.specs.Settings.{Settings}
 use Rattle.idn2_options.specs.Words.{Answer, options_of, chosen, bad}
 use Rattle.idn2_options.specs.declared.command_line.form.Form.TheVariants.{Plain, Json}
 use Rattle.idn2_options.specs.declared.command_line.mode.Mode.{Mode}
-use Rattle.idn2_options.specs.declared.command_line.mode.Mode.TheVariants.{Lookup}
+use Rattle.idn2_options.specs.declared.command_line.mode.Mode.TheVariants.{Lookup, Variants, CheckTable}
 
 -- a run of the mode, with no other option
 abbrev pub plain_run : Mode → List (List ℕ) → Settings
 plain_run mode strings =
-    record { mode = mode; std3 = false; explain = false; form = Plain; file = []; strings = strings; after = []; limit = None; tries = 1000000; steps = None; among = None; registered = None }
+    record { mode = mode; std3 = false; explain = false; form = Plain; file = []; notation = Table; strings = strings; after = []; limit = None; tries = 1000000; steps = None; among = None; registered = None }
 
 -- what the words after the program's name request
 abbrev pub asked : List (List ℕ) → Answer
@@ -22,4 +23,7 @@ pub record ExamplesOfWords : Type 0 where
   pub explained_twice : asked (codes "--explain" ∷ codes "--explain" ∷ codes "x" ∷ []) ≡ bad
   pub in_json : asked (codes "--json" ∷ codes "--explain" ∷ codes "x" ∷ []) ≡ chosen (record (plain_run Lookup (codes "x" ∷ [])) { explain = true; form = Json })
   pub in_json_twice : asked (codes "--json" ∷ codes "--json" ∷ codes "x" ∷ []) ≡ bad
+  pub by_ruleset : asked (codes "--ruleset" ∷ codes "f" ∷ codes "x" ∷ []) ≡ chosen (record (plain_run Variants (codes "x" ∷ [])) { file = codes "f"; notation = Ruleset })
+  pub checked_ruleset : asked (codes "--check-ruleset" ∷ codes "f" ∷ []) ≡ chosen (record (plain_run CheckTable []) { file = codes "f"; notation = Ruleset })
+  pub table_and_ruleset : asked (codes "--variants" ∷ codes "f" ∷ codes "--ruleset" ∷ codes "g" ∷ codes "x" ∷ []) ≡ bad
   pub after_alone : asked (codes "--after" ∷ [] ∷ codes "x" ∷ []) ≡ bad

@@ -1,19 +1,19 @@
 -- Laws of the definitions.
 use Rattle.std.specs.Prelude.{◌≡◌, ◌≢◌, ◌&&◌, Bool, not, true, false, List}
 use Rattle.clap.specs.Words.{Row}
-use Rattle.idn2_options.specs.Words.{has_flag, has_value, is_allowed, mode_of}
+use Rattle.idn2_options.specs.Words.{has_flag, checks, is_allowed, lists, mode_of}
 use Rattle.idn2_options.specs.declared.command_line.mode.Mode.{Mode}
 use Rattle.idn2_options.specs.declared.command_line.mode.Mode.TheVariants.{Lookup, Register, Decode, Variants, Jump, CheckTable}
-use Rattle.idn2_options.specs.declared.command_line.arguments.TheConstants.{CHECK_TABLE, DECODE, JUMP, LOOKUP, REGISTER, VARIANTS}
+use Rattle.idn2_options.specs.declared.command_line.arguments.TheConstants.{DECODE, JUMP, LOOKUP, REGISTER}
 
 -- a word of the command line names the mode
 abbrev pub is_named : Mode → List Row → Bool
 is_named Lookup rows = has_flag LOOKUP.now rows
 is_named Register rows = has_flag REGISTER.now rows
 is_named Decode rows = has_flag DECODE.now rows
-is_named Variants rows = has_value VARIANTS.now rows && not (has_flag JUMP.now rows)
+is_named Variants rows = lists rows && not (has_flag JUMP.now rows)
 is_named Jump rows = has_flag JUMP.now rows
-is_named CheckTable rows = has_value CHECK_TABLE.now rows
+is_named CheckTable rows = checks rows
 
 -- the mode is the one that is named, or lookup where none is; where two are named, the words are refused
 pub record ModeIsTheOneNamed : Type 0 where

@@ -3,6 +3,8 @@ use Rattle.std.specs.Prelude.{◌≡◌, ◌≢◌, ◌≤◌, ℕ, Bool, true, 
 use Rattle.idn_text.specs.Points.{AreScalarValues}
 use Rattle.idn2_options.specs.declared.command_line.form.Form.{Form}
 use Rattle.idn2_options.specs.declared.command_line.form.Form.TheVariants.{Plain, Json}
+use Rattle.variant_table.specs.declared.version.Notation.{Notation}
+use Rattle.variant_table.specs.declared.version.Notation.TheVariants.{Table}
 use Rattle.idn2_options.specs.declared.command_line.mode.Mode.{Mode}
 use Rattle.idn2_options.specs.declared.command_line.mode.Mode.TheVariants.{Variants, Jump, CheckTable}
 
@@ -14,6 +16,7 @@ pub record Settings : Type 0 where
   pub explain : Bool
   pub form : Form
   pub file : List ℕ
+  pub notation : Notation
   pub strings : List (List ℕ)
   pub after : List ℕ
   pub limit : Option ℕ
@@ -56,5 +59,5 @@ pub record SuitsMode (o : Settings) : Type 0 where
   pub bounds : o.mode ≢ Variants → (o.after ≡ []) × (o.limit ≡ None) × (o.tries ≡ 1000000) × (o.steps ≡ None)
   pub among : o.mode ≢ Variants → o.among ≡ None
   pub untried : o.among ≢ None → (o.tries ≡ 1000000) × (o.steps ≡ None)
-  pub file : o.mode ≢ Variants → o.mode ≢ Jump → o.mode ≢ CheckTable → o.file ≡ []
+  pub file : o.mode ≢ Variants → o.mode ≢ Jump → o.mode ≢ CheckTable → (o.file ≡ []) × (o.notation ≡ Table)
   pub strings : o.mode ≡ CheckTable → o.strings ≡ []

@@ -3,7 +3,7 @@
 use Rattle.std.specs.Prelude.{ℕ, ◌≡◌, ◌≢◌, ◌&&◌, ◌||◌, Bool, true, false, not, List, [], ◌∷◌, length, Option, Some, None}
 use Rattle.std.specs.Prelude.{codes, count_by, if◌then◌else◌, is_some, nat_eq, nat_le, option_and_then, unwrap_or}
 use Rattle.std.specs.Prelude.{Result, Ok, Err}
-use Rattle.std.specs.Option.{option_map_or}
+use Rattle.std.specs.Option.{option_map_or, option_or}
 use Rattle.std.specs.Char.{is_ascii_digit}
 use Rattle.std.specs.List.{list_all}
 use Rattle.std.specs.Str.{bytes_eq, chars}
@@ -12,6 +12,8 @@ use Rattle.clap.specs.Words.{Row, Text, all_of, fault_of, first_of, matches_of, 
 use Rattle.clap.specs.Kinds.{Kinds}
 use Rattle.clap.specs.declared.error.ErrorKind.{ErrorKind}
 use Rattle.clap.specs.declared.error.ErrorKind.TheVariants.{DisplayHelp, DisplayVersion, OutOfMemory}
+use Rattle.variant_table.specs.declared.version.Notation.{Notation}
+use Rattle.variant_table.specs.declared.version.Notation.TheVariants.{Table, Ruleset}
 use Rattle.idn2_options.specs.CommandLine.{app}
 use Rattle.idn2_options.specs.Settings.{Settings}
 use Rattle.idn2_options.specs.declared.command_line.form.Form.{Form}
@@ -20,7 +22,7 @@ use Rattle.idn2_options.specs.declared.command_line.mode.Mode.{Mode}
 use Rattle.idn2_options.specs.declared.command_line.mode.Mode.TheVariants.{Lookup, Register, Decode, Variants, Jump, CheckTable}
 use Rattle.idn2_options.specs.declared.command_line.usage.Usage.{Usage}
 use Rattle.idn2_options.specs.declared.command_line.usage.Usage.TheVariants.{Bad, Show, Memory}
-use Rattle.idn2_options.specs.declared.command_line.arguments.TheConstants.{AFTER, AMONG, CHECK_TABLE, DECODE, EXPLAIN, JSON, JUMP, LIMIT, LOOKUP, REGISTER, STD3, STEPS, STRINGS, TRIES, VARIANTS}
+use Rattle.idn2_options.specs.declared.command_line.arguments.TheConstants.{AFTER, AMONG, CHECK_RULESET, CHECK_TABLE, DECODE, EXPLAIN, JSON, JUMP, LIMIT, LOOKUP, REGISTER, RULESET, STD3, STEPS, STRINGS, TRIES, VARIANTS}
 
 -- ---- what `clap` found
 
@@ -76,9 +78,29 @@ is_bound_if_given rows = option_map_or (λ text. is_some (steps_of text)) (value
 
 -- ---- files
 
--- the name of the table's file; empty where the mode has no table
+-- the file by which variants are listed or requests are answered: a table or a ruleset
+abbrev pub listing_file : List Row → Option Text
+listing_file rows = option_or (value_of VARIANTS.now rows) (value_of RULESET.now rows)
+
+-- there is one
+abbrev pub lists : List Row → Bool
+lists rows = is_some (listing_file rows)
+
+-- the file that is checked: a table or a ruleset
+abbrev pub checked_file : List Row → Option Text
+checked_file rows = option_or (value_of CHECK_TABLE.now rows) (value_of CHECK_RULESET.now rows)
+
+-- there is one
+abbrev pub checks : List Row → Bool
+checks rows = is_some (checked_file rows)
+
+-- the name of that file; empty where the mode has none
 abbrev pub file_of : List Row → Text
-file_of rows = unwrap_or (value_of VARIANTS.now rows) (unwrap_or (value_of CHECK_TABLE.now rows) [])
+file_of rows = unwrap_or (listing_file rows) (unwrap_or (checked_file rows) [])
+
+-- as what it is read
+abbrev pub notation_of : List Row → Notation
+notation_of rows = if has_value RULESET.now rows || has_value CHECK_RULESET.now rows then Ruleset else Table
 
 -- the name of the file of registered labels; empty where there is none
 abbrev pub among_of : List Row → Text
@@ -86,24 +108,25 @@ among_of rows = unwrap_or (value_of AMONG.now rows) []
 
 -- ---- the program's own rules
 
--- at most one of the five modes is named
+-- at most one of the seven words that name a mode is given
 abbrev pub names_one_mode : List Row → Bool
 names_one_mode rows = nat_le (count_by (λ named. named)
     (has_flag LOOKUP.now rows ∷ has_flag REGISTER.now rows ∷ has_flag DECODE.now rows
-    ∷ has_value VARIANTS.now rows ∷ has_value CHECK_TABLE.now rows ∷ [])) 1
+    ∷ has_value VARIANTS.now rows ∷ has_value CHECK_TABLE.now rows
+    ∷ has_value RULESET.now rows ∷ has_value CHECK_RULESET.now rows ∷ [])) 1
 
 -- `--after`, `--limit`, `--tries`, `--steps` or `--among` is given, which say what a listing has
 abbrev pub bounds_listing : List Row → Bool
 bounds_listing rows =
     has_value AFTER.now rows || has_value LIMIT.now rows || has_value TRIES.now rows || has_value STEPS.now rows || has_value AMONG.now rows
 
--- these come with `--variants` alone, and not with `--jump`, which lists nothing
+-- these come with `--variants` or `--ruleset` alone, and not with `--jump`, which lists nothing
 abbrev pub bounds_variants : List Row → Bool
-bounds_variants rows = (has_value VARIANTS.now rows && not (has_flag JUMP.now rows)) || not (bounds_listing rows)
+bounds_variants rows = (lists rows && not (has_flag JUMP.now rows)) || not (bounds_listing rows)
 
--- `--jump` comes with `--variants` alone
+-- `--jump` comes with `--variants` or `--ruleset` alone
 abbrev pub jumps_by_table : List Row → Bool
-jumps_by_table rows = has_value VARIANTS.now rows || not (has_flag JUMP.now rows)
+jumps_by_table rows = lists rows || not (has_flag JUMP.now rows)
 
 -- with `--among` nothing is tried, and no label is passed over, so `--tries` and `--steps` do not come with it; and its file is
 -- not that of the table
@@ -124,9 +147,9 @@ start_of rows = unwrap_or (value_of AFTER.now rows) []
 abbrev pub has_short_start : List Row → Bool
 has_short_start rows = nat_le (length (start_of rows)) 1024
 
--- `--check-table` comes without STRINGS
+-- `--check-table` and `--check-ruleset` come without STRINGS
 abbrev pub checks_alone : List Row → Bool
-checks_alone rows = not (has_value CHECK_TABLE.now rows) || not (has_strings rows)
+checks_alone rows = not (checks rows) || not (has_strings rows)
 
 -- all of these rules hold
 abbrev pub is_allowed : List Row → Bool
@@ -141,8 +164,8 @@ abbrev pub mode_of : List Row → Mode
 mode_of rows =
     if has_flag REGISTER.now rows then Register
     else (if has_flag DECODE.now rows then Decode
-    else (if has_value VARIANTS.now rows then (if has_flag JUMP.now rows then Jump else Variants)
-    else (if has_value CHECK_TABLE.now rows then CheckTable
+    else (if lists rows then (if has_flag JUMP.now rows then Jump else Variants)
+    else (if checks rows then CheckTable
     else Lookup)))
 
 -- objects of JSON if `--json` is given
@@ -157,6 +180,7 @@ settings_of rows = record {
   explain = has_flag EXPLAIN.now rows;
   form = form_of rows;
   file = file_of rows;
+  notation = notation_of rows;
   strings = strings_of rows;
   after = chars (start_of rows);
   limit = option_and_then count_of (value_of LIMIT.now rows);

@@ -10,3 +10,4 @@ pub use command_line::options::Options;
 pub use command_line::strings::input_text;
 pub use command_line::usage::Usage;
 pub use command_line::words::read_options;
+pub use variant_table::Notation;

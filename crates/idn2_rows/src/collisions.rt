@@ -8,7 +8,7 @@ use std::alloc::Global;
 use std::process::Abort;
 use std::test::Fail;
 use variant_list::{Cursor, Net};
-use variant_table::Table;
+use variant_table::{Notation, Table};
 
 /// `a` and `b` are variants of each other, and there are other letters.
 const LETTERS: &[u8] = b"0061|0062\n0062|0061\n0063\n006F\n007A\n";
@@ -24,7 +24,7 @@ fn found(
     label: &str,
     after: &str,
 ) -> Result<(String, u64), Fail> {
-    let table = Table::read(alloc, table)?;
+    let table = Table::read(alloc, Notation::Table, table)?;
     let registered = RegisteredLabels::read(alloc, file.as_bytes())?;
     let label = points(alloc, label)?;
     let after = points_of(after)?;

@@ -2,7 +2,7 @@
 use std::alloc::{AllocError, Global};
 use std::test::Fail;
 use variant_list::{Net, NetFault, SpellingTest};
-use variant_table::Table;
+use variant_table::{Notation, Table};
 
 /// a and aa for each other.
 pub const DOUBLED: &[u8] = b"0061|0061-0061\n";
@@ -35,13 +35,13 @@ pub fn net_of(alloc: Global, table: &Table, label: &[u32]) -> Result<Net, Fail> 
 
 /// The same from the text of the table.
 pub fn net(alloc: Global, table: &[u8], label: &str) -> Result<Net, Fail> {
-    net_of(alloc, &Table::read(alloc, table)?, &points(alloc, label)?)
+    net_of(alloc, &Table::read(alloc, Notation::Table, table)?, &points(alloc, label)?)
 }
 
 /// The same of a label of so many times a code point.
 pub fn net_of_times(alloc: Global, table: &[u8], point: u32, count: usize) -> Result<Net, Fail> {
     let label: Vec<u32> = vec![in alloc; point; count]?;
-    net_of(alloc, &Table::read(alloc, table)?, &label)
+    net_of(alloc, &Table::read(alloc, Notation::Table, table)?, &label)
 }
 
 /// Labels with the number of edges of their nets, and the least length that they spell.
@@ -173,7 +173,7 @@ const STUCK: [(&[u8], &str); 4] = [
 #[test]
 fn labels_without_a_segmentation(rt: HostRuntime) -> Result<(), Fail> {
     for (table, label) in STUCK {
-        let table = Table::read(rt.alloc(), table)?;
+        let table = Table::read(rt.alloc(), Notation::Table, table)?;
         let points = points(rt.alloc(), label)?;
         if points.is_empty() || points.len() > 63 {
             return Err("not a label".into());

@@ -13,25 +13,28 @@ Arguments:
   [STRINGS]...  Lines of input [default: the standard input]
 
 Options:
-  -l, --lookup              Convert each name for a query; the default
-  -r, --register            Test each line, one label, and print its A-label
-  -d, --decode              Turn the A-labels of each name into U-labels
-      --variants <FILE>     List the variants of each label by the table in FILE
-      --check-table <FILE>  Print the pairs that the table in FILE lacks
-      --among <FILE>        With --variants: list only the labels in FILE
-      --jump                With --variants: answer LABEL TAB TEXT by one label
-  -N, --tr46nt              Non-transitional lookup, which lookup does anyway
-      --usestd3asciirules   Lookup refuses ASCII but letters, digits and hyphens
-      --explain             Messages of refused lines go on with the cause
-      --json                Answer by objects of JSON, refusals with causes too
-      --quiet               Accepted; there is no banner
-      --after <TEXT>        With --variants: list only variants after TEXT
-      --limit <N>           With --variants: stop after N variants of a line
-      --tries <N>           With --variants: stop after N tested labels
-      --steps <N>           With --variants: stop after N steps of the search
-  -h, --help                Print help
-  -V, --version             Print version
+  -l, --lookup                Convert each name for a query; the default
+  -r, --register              Test each line, one label, and print its A-label
+  -d, --decode                Turn the A-labels of each name into U-labels
+      --variants <FILE>       List each label's variants by the table in FILE
+      --check-table <FILE>    Print the pairs that the table in FILE lacks
+      --ruleset <FILE>        List each label's variants by the ruleset in FILE
+      --check-ruleset <FILE>  Print the pairs that the ruleset in FILE lacks
+      --among <FILE>          With --variants: list only the labels in FILE
+      --jump                  With --variants: answer LABEL TAB TEXT by a label
+  -N, --tr46nt                Non-transitional lookup, which lookup does anyway
+      --usestd3asciirules     Lookup refuses ASCII but letters, digits, hyphens
+      --explain               Messages of refused lines go on with the cause
+      --json                  Answer by objects of JSON, refusals with causes too
+      --quiet                 Accepted; there is no banner
+      --after <TEXT>          With --variants: list only variants after TEXT
+      --limit <N>             With --variants: stop after N variants of a line
+      --tries <N>             With --variants: stop after N tested labels
+      --steps <N>             With --variants: stop after N steps of the search
+  -h, --help                  Print help
+  -V, --version               Print version
 
+What goes with --variants goes with --ruleset, too.
 Without --limit and --steps there is no limit; without --tries it is 1000000.
 Write --after=TEXT where TEXT begins with '-';
 strings that begin with '-' come after '--'.
@@ -84,6 +87,7 @@ fn summary_of(alloc: Global, line: &str) -> Result<String, AllocError> {
                 explain,
                 form,
                 file,
+                notation,
                 strings: _,
                 after,
                 limit,
@@ -96,7 +100,7 @@ fn summary_of(alloc: Global, line: &str) -> Result<String, AllocError> {
                 Form::Json => "Json ",
             };
             format!(in alloc;
-                "{form}{mode:?} {std3} {explain} {file:?} {after:?} {limit:?} {tries} {steps:?} {among:?} {input:?}"
+                "{form}{mode:?} {std3} {explain} {file:?} {notation:?} {after:?} {limit:?} {tries} {steps:?} {among:?} {input:?}"
             )
         }
         Err(Usage::Bad) => String::from_str(alloc, "bad"),
@@ -106,90 +110,102 @@ fn summary_of(alloc: Global, line: &str) -> Result<String, AllocError> {
 }
 
 /// Words, separated by bars, and what they are read as.
-const READ: [(&str, &str); 21] = [
+const READ: [(&str, &str); 24] = [
     (
         "idn2",
-        "Lookup false false \"\" [] None 1000000 None None \"none\"",
+        "Lookup false false \"\" Table [] None 1000000 None None \"none\"",
     ),
     (
         "idn2|-r|faß",
-        "Register false false \"\" [] None 1000000 None None \"faß\\n\"",
+        "Register false false \"\" Table [] None 1000000 None None \"faß\\n\"",
     ),
     (
         "idn2|-N|--quiet|faß",
-        "Lookup false false \"\" [] None 1000000 None None \"faß\\n\"",
+        "Lookup false false \"\" Table [] None 1000000 None None \"faß\\n\"",
     ),
     (
         "idn2|-l|--usestd3asciirules|a_b",
-        "Lookup true false \"\" [] None 1000000 None None \"a_b\\n\"",
+        "Lookup true false \"\" Table [] None 1000000 None None \"a_b\\n\"",
     ),
     (
         "idn2|b|--decode|a|--|-c",
-        "Decode false false \"\" [] None 1000000 None None \"b\\na\\n-c\\n\"",
+        "Decode false false \"\" Table [] None 1000000 None None \"b\\na\\n-c\\n\"",
     ),
     (
         "idn2|--variants|t|-N|--usestd3asciirules|--quiet",
-        "Variants true false \"t\" [] None 1000000 None None \"none\"",
+        "Variants true false \"t\" Table [] None 1000000 None None \"none\"",
     ),
     (
         "idn2|-r|--explain|faß",
-        "Register false true \"\" [] None 1000000 None None \"faß\\n\"",
+        "Register false true \"\" Table [] None 1000000 None None \"faß\\n\"",
     ),
     (
         "idn2|--json|-d|--explain|x",
-        "Json Decode false true \"\" [] None 1000000 None None \"x\\n\"",
+        "Json Decode false true \"\" Table [] None 1000000 None None \"x\\n\"",
     ),
     (
         "idn2|--check-table|t|--json",
-        "Json CheckTable false false \"t\" [] None 1000000 None None \"none\"",
+        "Json CheckTable false false \"t\" Table [] None 1000000 None None \"none\"",
     ),
     (
         "idn2|--check-table|t",
-        "CheckTable false false \"t\" [] None 1000000 None None \"none\"",
+        "CheckTable false false \"t\" Table [] None 1000000 None None \"none\"",
     ),
     (
         "idn2|--variants=t|x|",
-        "Variants false false \"t\" [] None 1000000 None None \"x\\n\\n\"",
+        "Variants false false \"t\" Table [] None 1000000 None None \"x\\n\\n\"",
     ),
     (
         "idn2|--variants||-",
-        "Variants false false \"\" [] None 1000000 None None \"-\\n\"",
+        "Variants false false \"\" Table [] None 1000000 None None \"-\\n\"",
     ),
     (
         "idn2|--variants|t|--after|aß|--limit|0000000007|--tries|1|x",
-        "Variants false false \"t\" [97, 223] Some(7) 1 None None \"x\\n\"",
+        "Variants false false \"t\" Table [97, 223] Some(7) 1 None None \"x\\n\"",
     ),
     (
         "idn2|--variants|t|--after=-x|--limit=1000000000|--tries=1000000000",
-        "Variants false false \"t\" [45, 120] Some(1000000000) 1000000000 None None \"none\"",
+        "Variants false false \"t\" Table [45, 120] Some(1000000000) 1000000000 None None \"none\"",
     ),
     (
         "idn2|--variants|t|--after|",
-        "Variants false false \"t\" [] None 1000000 None None \"none\"",
+        "Variants false false \"t\" Table [] None 1000000 None None \"none\"",
     ),
     (
         "idn2|--variants|t|--after|-",
-        "Variants false false \"t\" [45] None 1000000 None None \"none\"",
+        "Variants false false \"t\" Table [45] None 1000000 None None \"none\"",
     ),
     (
         "idn2|--variants|t|--among|r|--limit|2|--after|a|x",
-        "Variants false false \"t\" [97] Some(2) 1000000 None Some(\"r\") \"x\\n\"",
+        "Variants false false \"t\" Table [97] Some(2) 1000000 None Some(\"r\") \"x\\n\"",
     ),
     (
         "idn2|--among=|--variants=t",
-        "Variants false false \"t\" [] None 1000000 None Some(\"\") \"none\"",
+        "Variants false false \"t\" Table [] None 1000000 None Some(\"\") \"none\"",
     ),
     (
         "idn2|--jump|--variants|t|x",
-        "Jump false false \"t\" [] None 1000000 None None \"x\\n\"",
+        "Jump false false \"t\" Table [] None 1000000 None None \"x\\n\"",
     ),
     (
         "idn2|--variants|t|--steps|2|--tries|3|x",
-        "Variants false false \"t\" [] None 3 Some(2) None \"x\\n\"",
+        "Variants false false \"t\" Table [] None 3 Some(2) None \"x\\n\"",
+    ),
+    (
+        "idn2|--ruleset|t|--limit|2|x",
+        "Variants false false \"t\" Ruleset [] Some(2) 1000000 None None \"x\\n\"",
+    ),
+    (
+        "idn2|--jump|--ruleset=t|x",
+        "Jump false false \"t\" Ruleset [] None 1000000 None None \"x\\n\"",
+    ),
+    (
+        "idn2|--check-ruleset|t",
+        "CheckTable false false \"t\" Ruleset [] None 1000000 None None \"none\"",
     ),
     (
         "idn2|--variants|t|--steps=1000000000000000000",
-        "Variants false false \"t\" [] None 1000000 Some(1000000000000000000) None \"none\"",
+        "Variants false false \"t\" Table [] None 1000000 Some(1000000000000000000) None \"none\"",
     ),
 ];
 
@@ -216,6 +232,14 @@ fn refused(rt: HostRuntime) -> Result<(), Fail> {
         "idn2|-l|-d|x",
         "idn2|-l|--variants|t",
         "idn2|--variants|t|--check-table|t",
+        "idn2|--variants|t|--ruleset|t|x",
+        "idn2|--ruleset|t|--check-ruleset|t",
+        "idn2|--ruleset|t|--ruleset|t|x",
+        "idn2|--check-ruleset|t|x",
+        "idn2|--check-ruleset|t|--limit|1",
+        "idn2|--check-ruleset|t|--jump",
+        "idn2|--ruleset|t|--among|t|x",
+        "idn2|--ruleset|t|--tries|0|x",
         "idn2|-r|--register|x",
         "idn2|--quiet|--quiet",
         "idn2|--explain|--explain|x",

@@ -7,7 +7,7 @@ use std::process::Abort;
 use std::test::Fail;
 use variant_list::plain::all_labels;
 use variant_list::{Cursor, Net, NetFault};
-use variant_table::Table;
+use variant_table::{Notation, Table};
 
 /// How many cases there are.
 const CASES: u32 = 4000;
@@ -168,7 +168,7 @@ fn random_tables_labels_and_texts(rt: HostRuntime) -> Result<(), Fail> {
         let text = numbers.table(alloc)?;
         let label = numbers.label(alloc, 7)?;
         let after = numbers.label(alloc, 6)?;
-        let Ok(table) = Table::read(alloc, text.as_bytes()) else {
+        let Ok(table) = Table::read(alloc, Notation::Table, text.as_bytes()) else {
             continue;
         };
         if !label.is_empty() && label.len() <= 63 {

@@ -4,7 +4,7 @@ ghost use Rattle.std.specs.Prelude.{◌≤◌, length};
 use std::alloc::Global;
 use std::process::Abort;
 use std::test::Fail;
-use variant_table::Table;
+use variant_table::{Notation, Table};
 
 /// Tables, a label, and for each of its places, its end too, the entries there: their replacements joined by '|', the
 /// source first.
@@ -67,7 +67,7 @@ fn assert_entries(
 #[test]
 fn at_places(rt: HostRuntime) -> Result<(), Fail> {
     for (text, label, want) in PLACES {
-        let table = Table::read(rt.alloc(), text.as_bytes())?;
+        let table = Table::read(rt.alloc(), Notation::Table, text.as_bytes())?;
         assert_entries(&rt, rt.alloc(), &table, label, want)?;
     }
     Ok(())

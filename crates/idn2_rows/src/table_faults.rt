@@ -1,6 +1,6 @@
 //! What is reported of a text that is no table: the first fault in it, and its line.
 use std::test::Fail;
-use variant_table::{Table, TableFault};
+use variant_table::{Notation, Table, TableFault};
 
 /// Texts whose first line is no entry, each for a cause of its own.
 const NO_ENTRIES: [&str; 27] = [
@@ -183,7 +183,7 @@ fn fault_texts(rt: HostRuntime) -> Result<(), Fail> {
 }
 
 fn fault(rt: &HostRuntime, text: &[u8]) -> Option<TableFault> {
-    Table::read(rt.alloc(), text).err()
+    Table::read(rt.alloc(), Notation::Table, text).err()
 }
 
 fn push_times(text: &mut Vec<u8>, byte: u8, count: u32) -> Result<(), Fail> {

@@ -1,7 +1,7 @@
 //! The canonical texts of tables and sequences.
 use arrayvec::ArrayVec;
 use std::test::Fail;
-use variant_table::{Table, write_sequence};
+use variant_table::{Notation, Table, write_sequence};
 
 /// Texts, and what the tables that they spell are written as.
 const TEXTS: [(&str, &str); 6] = [
@@ -23,7 +23,7 @@ const TEXTS: [(&str, &str); 6] = [
 #[test]
 fn tables(rt: HostRuntime) -> Result<(), Fail> {
     for (text, want) in TEXTS {
-        let table = Table::read(rt.alloc(), text.as_bytes())?;
+        let table = Table::read(rt.alloc(), Notation::Table, text.as_bytes())?;
         let written = table.write_table(rt.alloc())?;
         assert_eq!(&rt; written.as_slice(), want.as_bytes(), "{text:?}");
     }

@@ -3,7 +3,7 @@ use crate::row::{Row, hold};
 use std::alloc::Global;
 use std::process::Abort;
 use std::test::Fail;
-use variant_table::{Table, TableFault};
+use variant_table::{Notation, Table, TableFault};
 
 /// Texts after the version line, and what their tables are written as after it.
 const TEXTS: [(&str, &str); 6] = [
@@ -23,7 +23,7 @@ const TEXTS: [(&str, &str); 6] = [
 
 /// The canonical text of the table that a text spells.
 fn canonical(alloc: Global, text: &[u8]) -> Result<Vec<u8>, Fail> {
-    let table = Table::read(alloc, text)?;
+    let table = Table::read(alloc, Notation::Table, text)?;
     Ok(table.write_table(alloc)?)
 }
 
@@ -83,7 +83,7 @@ fn faults(rt: HostRuntime) -> Result<(), Fail> {
     let alloc = rt.alloc();
     for (body, want) in FAULTY {
         let text = format!(in alloc; "%version 2\r\n{body}")?;
-        let fault = Table::read(alloc, text.as_bytes()).err();
+        let fault = Table::read(alloc, Notation::Table, text.as_bytes()).err();
         assert_eq!(&rt; fault, Some(want), "{body:?}");
     }
     Ok(())
@@ -92,14 +92,14 @@ fn faults(rt: HostRuntime) -> Result<(), Fail> {
 /// A version line that is not the first line.
 #[test]
 fn late_version(rt: HostRuntime) {
-    let fault = Table::read(rt.alloc(), b"0061\n%version 2\n").err();
+    let fault = Table::read(rt.alloc(), Notation::Table, b"0061\n%version 2\n").err();
     assert_eq!(rt; fault, Some(TableFault::Syntax { line: 2 }));
 }
 
 /// A range may have as many code points as a table has entries.
 #[test]
 fn long_ranges(rt: HostRuntime) -> Result<(), Fail> {
-    let table = Table::read(rt.alloc(), b"%version 2\n4E00..5DFF")?;
+    let table = Table::read(rt.alloc(), Notation::Table, b"%version 2\n4E00..5DFF")?;
     assert_eq!(&rt; table.len(), 4096);
     let written = table.write_table(rt.alloc())?;
     assert_eq!(&rt; written.len(), 11 + 4096 * 5);
@@ -120,7 +120,7 @@ fn blocked(alloc: Global, table: &Table, label: &[u32]) -> Result<Vec<bool>, Fai
 /// Which variants are blocked.
 #[test]
 fn blocked_variants(rt: HostRuntime) -> Result<(), Fail> {
-    let table = Table::read(rt.alloc(), b"%version 2\n0061\n0078|!0079:007A:!0031")?;
+    let table = Table::read(rt.alloc(), Notation::Table, b"%version 2\n0061\n0078|!0079:007A:!0031")?;
     let got = blocked(rt.alloc(), &table, &[0x78])?;
     assert_eq!(&rt; got.as_slice(), [false, true, false, true].as_slice());
     Ok(())
@@ -138,7 +138,7 @@ const UNBLOCKED: [(&str, u8, &str); 2] = [
 
 /// The version of the table of a text, and that of the table without its blocked variants, and what that is written as.
 fn without_blocked(alloc: Global, text: &str) -> Result<(u8, u8, Vec<u8>), Fail> {
-    let table = Table::read(alloc, text.as_bytes())?;
+    let table = Table::read(alloc, Notation::Table, text.as_bytes())?;
     let unblocked = table.unblocked(alloc)?;
     let written = unblocked.write_table(alloc)?;
     Ok((table.version(), unblocked.version(), written))
@@ -169,7 +169,7 @@ fn tables_without_their_blocked_variants(rt: HostRuntime) -> Result<(), Fail> {
 
 /// How many gaps the table of a text has.
 fn gap_count(alloc: Global, text: &str) -> Result<usize, Fail> {
-    let table = Table::read(alloc, text.as_bytes())?;
+    let table = Table::read(alloc, Notation::Table, text.as_bytes())?;
     Ok(table.gaps(alloc)?.len())
 }
 

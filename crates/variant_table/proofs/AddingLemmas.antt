@@ -8,11 +8,12 @@ use Rattle.std.proofs.lemmas.List.FromFn.{length-map-range_with_len}
 use Rattle.variant_table.specs.declared.fault.TableFault.{TableFault}
 use Rattle.variant_table.specs.declared.fault.TableFault.TheVariants as tables
 use Rattle.variant_table.specs.declared.version.Version.{Version}
-use Rattle.variant_table.specs.declared.version.Version.TheVariants.{One, Two}
+use Rattle.variant_table.specs.declared.version.Version.TheVariants.{One, Two, Three}
 use Rattle.variant_table.specs.Faults.{LineFault, Limit, BadClass, SameSource}
 use Rattle.variant_table.specs.Canonical.{canonical_line, canonical_text, head_text, table_text}
 use Rattle.variant_table.specs.Conditions.{is_too_large, is_text_too_long, is_over_limit, has_bad_class, has_source_in}
 use Rattle.variant_table.specs.Entries.{Entry}
+use Rattle.variant_table.specs.Limits.{text_limit, entry_limit}
 use Rattle.variant_table.specs.inner.Held.{counted, IsCounted}
 use Rattle.variant_table.specs.Ranges.{point_entry}
 use Rattle.variant_table.specs.Reading.{◌>>=◌, with_entries}
@@ -34,6 +35,7 @@ fails_then number (tables.SameSource line) r f h = (h.0, ap (λ x. x >>= f) h.1)
 counted-append : (v : Version) (a b : List ℕ) → counted v (a ++ b) ≡ counted v a + counted v b
 counted-append One a b = refl
 counted-append Two a b = length-append a b
+counted-append Three a b = length-append a b
 
 counted-more : (v : Version) (t es : List Entry) → counted v (table_text v (t ++ es)) ≡ counted v (table_text v t) + counted v (canonical_text es)
 counted-more v t es =
@@ -46,22 +48,23 @@ counted-more v t es =
       counted-append v (head_text v) (canonical_text t),
     )
 
-too_long-counted : (v : Version) (t : List Entry) (n : ℕ) → n ≡ counted v (table_text v t) → is_text_too_long v t ≡ nat_lt 1048576 n
+too_long-counted : (v : Version) (t : List Entry) (n : ℕ) → n ≡ counted v (table_text v t) → is_text_too_long v t ≡ nat_lt (text_limit v) n
 too_long-counted One t n e = sym (ap (nat_lt 1048576) e)
 too_long-counted Two t n e = sym (ap (nat_lt 1048576) e)
+too_long-counted Three t n e = sym (ap (nat_lt 8388608) e)
 
 -- so many bytes of canonical text with the entries
 module _ (v : Version) (t es : List Entry) (written more : ℕ) (so_far : IsCounted v written t) (added : more ≡ counted v (canonical_text es)) where
   all_counted : written + more ≡ counted v (table_text v (t ++ es))
   all_counted = omega (arith, so_far.count, added, counted-more v t es)
 
-  pub counted_with : written + more ≤ 1048576 → IsCounted v (written + more) (t ++ es)
+  pub counted_with : written + more ≤ text_limit v → IsCounted v (written + more) (t ++ es)
   counted_with l = record { count = all_counted; within = l }
 
   -- the limits, where no entry is too large
-  over_limit-is : list_any is_too_large es ≡ false → length t + length es ≤ 4096 → is_over_limit v t es ≡ nat_lt 1048576 (written + more)
+  over_limit-is : list_any is_too_large es ≡ false → length t + length es ≤ entry_limit v → is_over_limit v t es ≡ nat_lt (text_limit v) (written + more)
   over_limit-is small few =
-      ap (λ b. (b || list_any is_too_large es) || is_text_too_long v (t ++ es)) (le-ltb 4096 (length t + length es) few)
+      ap (λ b. (b || list_any is_too_large es) || is_text_too_long v (t ++ es)) (le-ltb (entry_limit v) (length t + length es) few)
       ∙ ap (λ b. b || is_text_too_long v (t ++ es)) small ∙ too_long-counted v (t ++ es) (written + more) all_counted
 
 -- ---- the entries of a range
@@ -73,25 +76,25 @@ module _ (v : Version) (t : List Entry) (first count : ℕ) where
       with_entries-by v t (points_from first count) o b false (list_any (has_source_in t) (points_from first count)) e f (range_single first count) refl
       ∙ ap (λ r. cond o (Err Limit) (cond b (Err BadClass) r)) (sym (with_range t first count))
 
-  pub range_too_many : 4096 < length t + count → with_entries v t (points_from first count) ≡ Err Limit
+  pub range_too_many : entry_limit v < length t + count → with_entries v t (points_from first count) ≡ Err Limit
   range_too_many l =
       range_by true _ (ap (λ b. (b || list_any is_too_large (points_from first count)) || is_text_too_long v (t ++ points_from first count))
-      (lt-ltb 4096 (length t + length (points_from first count)) (omega (arith, l, length-map-range_with_len point_entry first count)))) refl
+      (lt-ltb (entry_limit v) (length t + length (points_from first count)) (omega (arith, l, length-map-range_with_len point_entry first count)))) refl
 
-module _ (v : Version) (t : List Entry) (first count written more : ℕ) (so_far : IsCounted v written t) (added : more ≡ counted v (canonical_text (points_from first count))) (few : length t + count ≤ 4096) where
-  range_limit-is : is_over_limit v t (points_from first count) ≡ nat_lt 1048576 (written + more)
+module _ (v : Version) (t : List Entry) (first count written more : ℕ) (so_far : IsCounted v written t) (added : more ≡ counted v (canonical_text (points_from first count))) (few : length t + count ≤ entry_limit v) where
+  range_limit-is : is_over_limit v t (points_from first count) ≡ nat_lt (text_limit v) (written + more)
   range_limit-is = over_limit-is v t (points_from first count) written more so_far added (range_small first count) (omega (arith, few, length-map-range_with_len point_entry first count))
 
-  pub range_too_long : 1048576 < written + more → with_entries v t (points_from first count) ≡ Err Limit
-  range_too_long l = range_by v t first count true _ (range_limit-is ∙ lt-ltb 1048576 (written + more) l) refl
+  pub range_too_long : text_limit v < written + more → with_entries v t (points_from first count) ≡ Err Limit
+  range_too_long l = range_by v t first count true _ (range_limit-is ∙ lt-ltb (text_limit v) (written + more) l) refl
 
-  pub range_bad : written + more ≤ 1048576 → list_any has_bad_class (points_from first count) ≡ true → with_entries v t (points_from first count) ≡ Err BadClass
-  range_bad l b = range_by v t first count false true (range_limit-is ∙ le-ltb 1048576 (written + more) l) b
+  pub range_bad : written + more ≤ text_limit v → list_any has_bad_class (points_from first count) ≡ true → with_entries v t (points_from first count) ≡ Err BadClass
+  range_bad l b = range_by v t first count false true (range_limit-is ∙ le-ltb (text_limit v) (written + more) l) b
 
-  pub range_good : written + more ≤ 1048576 → list_any has_bad_class (points_from first count) ≡ false → with_entries v t (points_from first count) ≡ with_new_sources t (points_from first count)
-  range_good l b = range_by v t first count false false (range_limit-is ∙ le-ltb 1048576 (written + more) l) b
+  pub range_good : written + more ≤ text_limit v → list_any has_bad_class (points_from first count) ≡ false → with_entries v t (points_from first count) ≡ with_new_sources t (points_from first count)
+  range_good l b = range_by v t first count false false (range_limit-is ∙ le-ltb (text_limit v) (written + more) l) b
 
-  pub range_added : written + more ≤ 1048576 → (t' : List Entry) → with_new_sources t (points_from first count) ≡ Ok t' → IsCounted v (written + more) t'
+  pub range_added : written + more ≤ text_limit v → (t' : List Entry) → with_new_sources t (points_from first count) ≡ Ok t' → IsCounted v (written + more) t'
   range_added l t' e = subst (IsCounted v (written + more)) (sym (new_table (list_any (has_source_in t) (points_from first count)) t' (sym (with_range t first count) ∙ e))) (counted_with v t (points_from first count) written more so_far added l)
     where
       new_table : (b : Bool) (t' : List Entry) → cond b (Err SameSource) (Ok (t ++ points_from first count)) ≡ Ok t' → t' ≡ t ++ points_from first count

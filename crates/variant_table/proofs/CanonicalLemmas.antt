@@ -1,5 +1,5 @@
 -- The canonical text of a well-formed table spells that table.
-use Rattle.std.proofs.Common.{◌≡◌, ◌≢◌, ℕ, zero, suc, ◌+◌, ◌*◌, ◌-◌, ◌<◌, ◌≤◌, Bool, true, false, cond, eqb, List, [], ◌∷◌, ◌++◌, length, map, get_or, take, inl, inr, refl, sym, ap, subst, ◌∙◌, append_assoc, arith, length-append, eq-eqb}
+use Rattle.std.proofs.Common.{◌≡◌, ◌≢◌, ℕ, zero, suc, ◌+◌, ◌*◌, ◌-◌, ◌<◌, ◌≤◌, Bool, true, false, cond, eqb, Option, Some, None, List, [], ◌∷◌, ◌++◌, length, map, get_or, take, inl, inr, refl, sym, ap, subst, ◌∙◌, append_assoc, arith, length-append, eq-eqb}
 use Rattle.std.specs.List.{AllByRecursion, list_all, flat_map}
 use Rattle.std.specs.Str.Lines.{strip_carriage_return}
 use Rattle.std.specs.Prelude.{bytes_eq}
@@ -12,15 +12,19 @@ use Rattle.idn_text.specs.Points.{is_hex_digit}
 use Rattle.variant_table.specs.declared.token.Token.{Token}
 use Rattle.variant_table.specs.declared.token.Token.TheVariants.{Point, Hyphen, Bar, Colon, Mark, Range, Unknown}
 use Rattle.variant_table.specs.declared.version.Version.{Version}
-use Rattle.variant_table.specs.declared.version.Version.TheVariants.{One, Two}
+use Rattle.variant_table.specs.declared.version.Notation.{Notation}
+use Rattle.variant_table.specs.declared.version.Notation.TheVariants.{Table, Ruleset}
+use Rattle.variant_table.specs.declared.version.Version.TheVariants.{One, Two, Three}
 use Rattle.variant_table.specs.Entries.{Variant, Entry, IsOfVersion, TableValue, sequences_in, replacements}
 use Rattle.variant_table.specs.Notation.{mark_tokens, further_points, sequence_tokens, further_variants, variants_tokens, entry_tokens, IsTokenText, SpellsTokens, IsEntryLine}
 use Rattle.variant_table.specs.Canonical.{point_text, token_text, canonical_line, canonical_text, version_line, head_text, table_text}
 use Rattle.variant_table.specs.WellFormed.{IsSequence, IsEntry, IsTable}
-use Rattle.variant_table.specs.Versions.{version_of, head_of, body_of, size_of, is_version_line}
+use Rattle.variant_table.specs.Limits.{line_limit, text_limit}
+use Rattle.variant_table.specs.Versions.{version_of, head_of, body_of, size_of, is_version_line, notation_of}
 use Rattle.variant_table.specs.Texts.{LinesSpell, AreLinesOf, IsTextOf}
 use Rattle.variant_table.proofs.HexLemmas.{hex_facts, other_than, point_of_hex-text, length-point_text}
 use Rattle.variant_table.proofs.ConditionLemmas.{AreScalars, IsScalarToken, sequences_scalar, sequences_filled}
+use Rattle.variant_table.proofs.LimitLemmas.{line_limit-least}
 use Rattle.variant_table.proofs.SizeLemmas.{size_of-cons}
 
 abbrev texts : List Token → List ℕ
@@ -188,9 +192,9 @@ canonical_spells v (e ∷ table) h of = (
   refl,
 )
 
-canonical_short : (table : List Entry) → AllByRecursion IsEntry table → AllByRecursion (λ line. length line ≤ 1024) (map canonical_line table)
-canonical_short [] h = tt
-canonical_short (e ∷ table) h = (omega (arith, length-marked_line e h.0), canonical_short table h.1)
+canonical_short : (v : Version) (table : List Entry) → AllByRecursion IsEntry table → AllByRecursion (λ line. length line ≤ line_limit v) (map canonical_line table)
+canonical_short v [] h = tt
+canonical_short v (e ∷ table) h = (omega (arith, length-marked_line e h.0, line_limit-least v), canonical_short v table h.1)
 
 size_of-canonical : (table : List Entry) → size_of (map canonical_line table) ≡ length (canonical_text table)
 size_of-canonical [] = refl
@@ -198,59 +202,59 @@ size_of-canonical (e ∷ table) =
     omega (arith, size_of-cons (canonical_line e) (map canonical_line table), size_of-canonical table, length-append (canonical_line e ++ 10 ∷ []) (canonical_text table), length-append (canonical_line e) (10 ∷ []))
 
 -- the lines of the entries
-lines_of_entries : (head : List (List ℕ)) (table : TableValue) → IsTable table → size_of head + length (canonical_text table.entries) ≤ 1048576 → AreLinesOf head (map canonical_line table.entries) table
+lines_of_entries : (head : List (List ℕ)) (table : TableValue) → IsTable table → size_of head + length (canonical_text table.entries) ≤ text_limit table.version → AreLinesOf head (map canonical_line table.entries) table
 lines_of_entries head table h size =
     let all = recursion_from_All IsEntry table.entries h.well_formed.entries in
     record {
       spelled = canonical_spells table.version table.entries all (recursion_from_All (IsOfVersion table.version) table.entries h.of_version);
-      short = All-from_recursion (λ line. length line ≤ 1024) (map canonical_line table.entries) (canonical_short table.entries all);
+      short = All-from_recursion (λ line. length line ≤ line_limit table.version) (map canonical_line table.entries) (canonical_short table.version table.entries all);
       size = omega (arith, size_of-canonical table.entries, size);
       well_formed = h;
     }
 
 -- in version 1 no line of an entry is a version line: it begins with a digit
 
-no_percent : (digits rest : List ℕ) → list_all is_hex_digit digits ≡ true → 1 ≤ length digits → bytes_eq (digits ++ rest) version_line ≡ true → ⊥
+no_percent : (digits rest : List ℕ) → list_all is_hex_digit digits ≡ true → 1 ≤ length digits → bytes_eq (digits ++ rest) (version_line Table) ≡ true → ⊥
 no_percent [] rest h l e = omega (arith, l)
 no_percent (c ∷ cs) rest h l e =
-    let same : c ∷ (cs ++ rest) ≡ version_line = (bytes_eq-Decides (c ∷ (cs ++ rest)) version_line).0 e in
+    let same : c ∷ (cs ++ rest) ≡ version_line Table = (bytes_eq-Decides (c ∷ (cs ++ rest)) (version_line Table)).0 e in
     let first : c ≡ 37 = ap (λ s. get_or s 0 0) same in
     let digit : is_hex_digit 37 ≡ true = ap is_hex_digit (sym first) ∙ (and_parts (is_hex_digit c) (list_all is_hex_digit cs) h).0 in
     let none : is_hex_digit 37 ≡ false = refl in
     let x : true ≡ false = sym digit ∙ none in cc
 
-begins_by_digit : (source : List ℕ) (tokens : List Token) → 0 < length source → AreScalars source → bytes_eq (texts (sequence_tokens source ++ tokens)) version_line ≡ true → ⊥
+begins_by_digit : (source : List ℕ) (tokens : List Token) → 0 < length source → AreScalars source → bytes_eq (texts (sequence_tokens source ++ tokens)) (version_line Table) ≡ true → ⊥
 begins_by_digit [] tokens l h e = omega (arith, l)
 begins_by_digit (c ∷ points) tokens l h e =
     let hex = hex_facts (point_text c) c (point_of_hex-text c h.0) in
     let long : 4 ≤ length (point_text c) = leb-true 4 (length (point_text c)) hex.long in
     no_percent (point_text c) (texts (further_points points ++ tokens)) hex.digit (omega (arith, long)) e
 
-no_version_line : (e : Entry) → IsEntry e → is_version_line (canonical_line e) ≡ false
+no_version_line : (e : Entry) → IsEntry e → is_version_line Table (canonical_line e) ≡ false
 no_version_line e h =
     let all = recursion_from_All IsSequence (replacements e) h.sequences in
-    ap (λ l. bytes_eq l version_line) (strip_nothing (canonical_line e) (texts_in_line (entry_tokens e) (entry_scalar_tokens e h)))
-    ∙ false_from_ne_true (bytes_eq (canonical_line e) version_line) (begins_by_digit e.source (variants_tokens e.variants) (sequences_filled (replacements e) all).0 (sequences_scalar (replacements e) all).0)
+    ap (λ l. bytes_eq l (version_line Table)) (strip_nothing (canonical_line e) (texts_in_line (entry_tokens e) (entry_scalar_tokens e h)))
+    ∙ false_from_ne_true (bytes_eq (canonical_line e) (version_line Table)) (begins_by_digit e.source (variants_tokens e.variants) (sequences_filled (replacements e) all).0 (sequences_scalar (replacements e) all).0)
 
 -- lines of which the first is no version line
 record AreBody (lines : List (List ℕ)) : Type 0 where
-  version : version_of lines ≡ One
-  head : head_of lines ≡ []
-  body : body_of lines ≡ lines
+  version : version_of Table lines ≡ Some One
+  head : head_of Table lines ≡ []
+  body : body_of Table lines ≡ lines
 
 body_alone : (table : List Entry) → AllByRecursion IsEntry table → AreBody (map canonical_line table)
 body_alone [] h = record { version = refl; head = refl; body = refl }
 body_alone (e ∷ table) h =
-    let none : is_version_line (canonical_line e) ≡ false = no_version_line e h.0 in
+    let none : is_version_line Table (canonical_line e) ≡ false = no_version_line e h.0 in
     let line : List ℕ = canonical_line e in
     let lines : List (List ℕ) = map canonical_line table in
     record {
-      version = ap (λ b. cond b Two One) none;
+      version = ap (λ b. cond b (Some Two) (Some One)) none;
       head = ap (λ b. cond b (line ∷ []) []) none;
       body = ap (λ b. cond b lines (line ∷ lines)) none;
     }
 
-spelled_one : (entries : List Entry) → IsTable (record { version = One; entries = entries }) → IsTextOf (table_text One entries) (record { version = One; entries = entries })
+spelled_one : (entries : List Entry) → IsTable (record { version = One; entries = entries }) → IsTextOf Table (table_text One entries) (record { version = One; entries = entries })
 spelled_one entries h =
     let table : TableValue = record { version = One; entries = entries } in
     let all = recursion_from_All IsEntry entries h.well_formed.entries in
@@ -258,29 +262,42 @@ spelled_one entries h =
     let alone = body_alone entries all in
     let lines = lines_of_entries [] table h (omega (arith, h.well_formed.short)) in
     record {
-      version = ap version_of cut ∙ alone.version;
-      lines = subst (λ ls. AreLinesOf (head_of ls) (body_of ls) table) (sym cut)
-          (subst (λ b. AreLinesOf (head_of (map canonical_line entries)) b table) (sym alone.body) (subst (λ d. AreLinesOf d (map canonical_line entries) table) (sym alone.head) lines));
+      version = ap (version_of Table) cut ∙ alone.version;
+      lines = subst (λ ls. AreLinesOf (head_of Table ls) (body_of Table ls) table) (sym cut)
+          (subst (λ b. AreLinesOf (head_of Table (map canonical_line entries)) b table) (sym alone.body) (subst (λ d. AreLinesOf d (map canonical_line entries) table) (sym alone.head) lines));
     }
 
--- in version 2 the first line is the version line
-cut_head : (rest : List ℕ) → raw_lines ((version_line ++ 10 ∷ []) ++ rest) ≡ version_line ∷ raw_lines rest
-cut_head rest = refl
+-- in version 2 and 3 the first line is the version line
+cut_head : (notation : Notation) (rest : List ℕ) → raw_lines ((version_line notation ++ 10 ∷ []) ++ rest) ≡ version_line notation ∷ raw_lines rest
+cut_head Table rest = refl
+cut_head Ruleset rest = refl
 
-spelled_two : (entries : List Entry) → IsTable (record { version = Two; entries = entries }) → IsTextOf (table_text Two entries) (record { version = Two; entries = entries })
+spelled_two : (entries : List Entry) → IsTable (record { version = Two; entries = entries }) → IsTextOf Table (table_text Two entries) (record { version = Two; entries = entries })
 spelled_two entries h =
     let table : TableValue = record { version = Two; entries = entries } in
     let all = recursion_from_All IsEntry entries h.well_formed.entries in
-    let cut : raw_lines (table_text Two entries) ≡ version_line ∷ map canonical_line entries = cut_head (canonical_text entries) ∙ ap (λ ls. version_line ∷ ls) (raw_lines-canonical entries all) in
+    let cut : raw_lines (table_text Two entries) ≡ version_line Table ∷ map canonical_line entries = cut_head Table (canonical_text entries) ∙ ap (λ ls. version_line Table ∷ ls) (raw_lines-canonical entries all) in
     record {
-      version = ap version_of cut;
-      lines = subst (λ ls. AreLinesOf (head_of ls) (body_of ls) table) (sym cut)
-          (lines_of_entries (version_line ∷ []) table h (omega (arith, h.short, length-append (head_text Two) (canonical_text entries), size_of-cons version_line [])));
+      version = ap (version_of Table) cut;
+      lines = subst (λ ls. AreLinesOf (head_of Table ls) (body_of Table ls) table) (sym cut)
+          (lines_of_entries (version_line Table ∷ []) table h (omega (arith, h.short, length-append (head_text Two) (canonical_text entries), size_of-cons (version_line Table) [])));
     }
 
-spelled_by : (version : Version) (entries : List Entry) → IsTable (record { version = version; entries = entries }) → IsTextOf (table_text version entries) (record { version = version; entries = entries })
+spelled_three : (entries : List Entry) → IsTable (record { version = Three; entries = entries }) → IsTextOf Ruleset (table_text Three entries) (record { version = Three; entries = entries })
+spelled_three entries h =
+    let table : TableValue = record { version = Three; entries = entries } in
+    let all = recursion_from_All IsEntry entries h.well_formed.entries in
+    let cut : raw_lines (table_text Three entries) ≡ version_line Ruleset ∷ map canonical_line entries = cut_head Ruleset (canonical_text entries) ∙ ap (λ ls. version_line Ruleset ∷ ls) (raw_lines-canonical entries all) in
+    record {
+      version = ap (version_of Ruleset) cut;
+      lines = subst (λ ls. AreLinesOf (head_of Ruleset ls) (body_of Ruleset ls) table) (sym cut)
+          (lines_of_entries (version_line Ruleset ∷ []) table h (omega (arith, h.short, length-append (head_text Three) (canonical_text entries), size_of-cons (version_line Ruleset) [])));
+    }
+
+spelled_by : (version : Version) (entries : List Entry) → IsTable (record { version = version; entries = entries }) → IsTextOf (notation_of version) (table_text version entries) (record { version = version; entries = entries })
 spelled_by One entries h = spelled_one entries h
 spelled_by Two entries h = spelled_two entries h
+spelled_by Three entries h = spelled_three entries h
 
-pub canonical_spelled : (table : TableValue) → IsTable table → IsTextOf (table_text table.version table.entries) table
+pub canonical_spelled : (table : TableValue) → IsTable table → IsTextOf (notation_of table.version) (table_text table.version table.entries) table
 canonical_spelled table h = spelled_by table.version table.entries h

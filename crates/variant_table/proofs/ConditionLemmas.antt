@@ -20,9 +20,10 @@ use Rattle.idn_class.proofs.ClassNumbers.{class_of-no_scalar, is_scalar-out}
 use Rattle.variant_table.specs.declared.token.Token.TheVariants.{Point, Unknown}
 use Rattle.variant_table.specs.Faults.{Limit, BadClass, SameVariant, SameSource}
 use Rattle.variant_table.specs.declared.version.Version.{Version}
-use Rattle.variant_table.specs.declared.version.Version.TheVariants.{Two}
-use Rattle.variant_table.specs.Entries.{Entry, replacements, IsOfVersion}
+use Rattle.variant_table.specs.declared.version.Version.TheVariants.{One, Two, Three}
+use Rattle.variant_table.specs.Entries.{Entry, replacements, HasMarks, IsOfVersion}
 use Rattle.variant_table.specs.Notation.{HasNoEmptySequence}
+use Rattle.variant_table.specs.Limits.{entry_limit}
 use Rattle.variant_table.specs.Ranges.{point_entry, range_size}
 use Rattle.variant_table.specs.Conditions.{is_too_large, is_text_too_long, is_over_limit, has_bad_point, has_bad_class, repeats, has_repeat, has_source_in}
 use Rattle.variant_table.specs.Reading.{with_entries}
@@ -190,14 +191,16 @@ pub filled_spelled : (v : Version) (line : List ℕ) (es : List Entry) → Spell
 filled_spelled v line es (inl h) = subst (AllByRecursion HasNoEmptySequence) (sym h.3) (h.1.0, tt)
 filled_spelled v line es (inr h) = subst (AllByRecursion HasNoEmptySequence) (sym h.4) (filled_points (range_with_len h.0 (range_size h.0 h.1)))
 
-points_of_version : (cs : List ℕ) → AllByRecursion (IsOfVersion Two) (map point_entry cs)
-points_of_version [] = tt
-points_of_version (c ∷ cs) = (tt, points_of_version cs)
+points_of_version : (v : Version) (cs : List ℕ) → HasMarks v → AllByRecursion (IsOfVersion v) (map point_entry cs)
+points_of_version v [] h = tt
+points_of_version One (c ∷ cs) h = absurd h
+points_of_version Two (c ∷ cs) h = (tt, points_of_version Two cs h)
+points_of_version Three (c ∷ cs) h = (tt, points_of_version Three cs h)
 
 pub version_spelled : (v : Version) (line : List ℕ) (es : List Entry) → Spells v line es → AllByRecursion (IsOfVersion v) es
 version_spelled v line es (inl h) = subst (AllByRecursion (IsOfVersion v)) (sym h.3) (h.2, tt)
 version_spelled v line es (inr h) =
-    subst (λ x. AllByRecursion (IsOfVersion x) es) (sym h.3) (subst (AllByRecursion (IsOfVersion Two)) (sym h.4) (points_of_version (range_with_len h.0 (range_size h.0 h.1))))
+    subst (AllByRecursion (IsOfVersion v)) (sym h.4) (points_of_version v (range_with_len h.0 (range_size h.0 h.1)) h.3)
 
 pub entries_from_tests : (es : List Entry) → AllByRecursion HasNoEmptySequence es → list_any is_too_large es ≡ false → list_any has_bad_class es ≡ false → list_any has_repeat es ≡ false → AllByRecursion IsEntry es
 entries_from_tests [] h a b d = tt
@@ -246,7 +249,7 @@ pub record Sound (v : Version) (t t' es : List Entry) : Type 0 where
   pub sound : AllByRecursion IsEntry es
   pub of_version : AllByRecursion (IsOfVersion v) es
   pub new : AreNewSources t es
-  pub few : length t + length es ≤ 4096
+  pub few : length t + length es ≤ entry_limit v
   pub fits : is_text_too_long v (t ++ es) ≡ false
 
 sound_by : (v : Version) (t t' es : List Entry) → AllByRecursion HasNoEmptySequence es → AllByRecursion (IsOfVersion v) es → (list_any (has_source_in t) es ≡ false → AreNewSources t es)
@@ -260,14 +263,14 @@ sound_by v t t' es filled of new e = by_cases _ _ _ _ refl refl refl refl (sym (
     by_cases false false true s f g i j k = absurd cc
     by_cases false false false true f g i j k = absurd cc
     by_cases false false false false f g i j k =
-        let p = or_parts (nat_lt 4096 (length t + length es) || list_any is_too_large es) (is_text_too_long v (t ++ es)) f in
-        let q = or_parts (nat_lt 4096 (length t + length es)) (list_any is_too_large es) p.0 in
+        let p = or_parts (nat_lt (entry_limit v) (length t + length es) || list_any is_too_large es) (is_text_too_long v (t ++ es)) f in
+        let q = or_parts (nat_lt (entry_limit v) (length t + length es)) (list_any is_too_large es) p.0 in
         record {
           is = cc;
           sound = entries_from_tests es filled q.1 g i;
           of_version = of;
           new = new j;
-          few = ltb-false 4096 (length t + length es) q.0;
+          few = ltb-false (entry_limit v) (length t + length es) q.0;
           fits = p.1;
         }
 

@@ -7,6 +7,7 @@ use Rattle.std.proofs.lemmas.Bool.{le-ltb, or_from, false_from_ne_true}
 use Rattle.std.proofs.lemmas.List.{append-nil}
 use Rattle.variant_table.specs.Faults.{LineFault, Limit, Syntax, BadClass, SameVariant, SameSource}
 use Rattle.variant_table.specs.Entries.{Entry, TableValue}
+use Rattle.variant_table.specs.Limits.{entry_limit}
 use Rattle.variant_table.specs.Conditions.{is_too_long, is_text_too_long, is_over_limit, has_bad_class, has_repeat, has_source_in}
 use Rattle.variant_table.specs.Texts.{LineSpells, Condition, too_long, no_form, over_limit, bad_class, same_variant, same_source, order_of, fault_of, Holds, SpellsSuch, IsLineFault}
 use Rattle.variant_table.specs.Reading.{with_entries, with_line, with_raw_line}
@@ -40,17 +41,17 @@ module _ (bytes : ℕ) (table : TableValue) (line : List ℕ) where
   no_ok : {X : Type 0} (f : LineFault) (b : List Entry) (r : Result (List Entry) LineFault) → r ≡ Err f → r ≡ Ok b → X
   no_ok f b r e g = absurd cc
 
-  raw_line : is_too_long bytes line ≡ false → with_raw_line table.version bytes table.entries line ≡ with_line table.version table.entries (strip_carriage_return line)
+  raw_line : is_too_long table.version bytes line ≡ false → with_raw_line table.version bytes table.entries line ≡ with_line table.version table.entries (strip_carriage_return line)
   unfolding with_raw_line
   raw_line h = ap (λ b. cond b (Err Limit) (with_line table.version table.entries (strip_carriage_return line))) h
 
-  raw_line-long : is_too_long bytes line ≡ true → with_raw_line table.version bytes table.entries line ≡ Err Limit
+  raw_line-long : is_too_long table.version bytes line ≡ true → with_raw_line table.version bytes table.entries line ≡ Err Limit
   unfolding with_raw_line
   raw_line-long h = ap (λ b. cond b (Err Limit) (with_line table.version table.entries (strip_carriage_return line))) h
 
-  module _ (es : List Entry) (h : Spells table.version (strip_carriage_return line) es) (short : is_too_long bytes line ≡ false) where
+  module _ (es : List Entry) (h : Spells table.version (strip_carriage_return line) es) (short : is_too_long table.version bytes line ≡ false) where
     earlier2 : (d : Condition) → order_of d < 3 → Holds bytes table line d → ⊥
-    earlier2 too_long l k = contradicts (is_too_long bytes line) k short
+    earlier2 too_long l k = contradicts (is_too_long table.version bytes line) k short
     earlier2 no_form l k = k es (inr (inr h))
     earlier2 over_limit l k = omega (arith, l)
     earlier2 bad_class l k = omega (arith, l)
@@ -58,7 +59,7 @@ module _ (bytes : ℕ) (table : TableValue) (line : List ℕ) where
     earlier2 same_source l k = omega (arith, l)
 
     earlier3 : is_over_limit table.version table.entries es ≡ false → (d : Condition) → order_of d < 4 → Holds bytes table line d → ⊥
-    earlier3 o too_long l k = contradicts (is_too_long bytes line) k short
+    earlier3 o too_long l k = contradicts (is_too_long table.version bytes line) k short
     earlier3 o no_form l k = k es (inr (inr h))
     earlier3 o over_limit l k = never es h (is_over_limit table.version table.entries) o k
     earlier3 o bad_class l k = omega (arith, l)
@@ -66,7 +67,7 @@ module _ (bytes : ℕ) (table : TableValue) (line : List ℕ) where
     earlier3 o same_source l k = omega (arith, l)
 
     earlier4 : is_over_limit table.version table.entries es ≡ false → list_any has_bad_class es ≡ false → (d : Condition) → order_of d < 5 → Holds bytes table line d → ⊥
-    earlier4 o b too_long l k = contradicts (is_too_long bytes line) k short
+    earlier4 o b too_long l k = contradicts (is_too_long table.version bytes line) k short
     earlier4 o b no_form l k = k es (inr (inr h))
     earlier4 o b over_limit l k = never es h (is_over_limit table.version table.entries) o k
     earlier4 o b bad_class l k = never es h (list_any has_bad_class) b k
@@ -74,7 +75,7 @@ module _ (bytes : ℕ) (table : TableValue) (line : List ℕ) where
     earlier4 o b same_source l k = omega (arith, l)
 
     earlier5 : is_over_limit table.version table.entries es ≡ false → list_any has_bad_class es ≡ false → list_any has_repeat es ≡ false → (d : Condition) → order_of d < 6 → Holds bytes table line d → ⊥
-    earlier5 o b r too_long l k = contradicts (is_too_long bytes line) k short
+    earlier5 o b r too_long l k = contradicts (is_too_long table.version bytes line) k short
     earlier5 o b r no_form l k = k es (inr (inr h))
     earlier5 o b r over_limit l k = never es h (is_over_limit table.version table.entries) o k
     earlier5 o b r bad_class l k = never es h (list_any has_bad_class) b k
@@ -89,8 +90,8 @@ module _ (bytes : ℕ) (table : TableValue) (line : List ℕ) where
     entries_fault f false false false true i j k m is = (same_source, err_is SameSource f (Err SameSource) refl is, such es h (list_any (has_source_in table.entries)) m, earlier5 i j k)
     entries_fault f false false false false i j k m is = no_ok f (table.entries ++ es) (Err f) refl (sym is)
 
-  formless_first : is_too_long bytes line ≡ false → (d : Condition) → order_of d < 2 → Holds bytes table line d → ⊥
-  formless_first h too_long l k = contradicts (is_too_long bytes line) k h
+  formless_first : is_too_long table.version bytes line ≡ false → (d : Condition) → order_of d < 2 → Holds bytes table line d → ⊥
+  formless_first h too_long l k = contradicts (is_too_long table.version bytes line) k h
   formless_first h no_form l k = omega (arith, l)
   formless_first h over_limit l k = omega (arith, l)
   formless_first h bad_class l k = omega (arith, l)
@@ -99,9 +100,9 @@ module _ (bytes : ℕ) (table : TableValue) (line : List ℕ) where
 
   -- what is told of a line is its first fault
   pub line_fault : (f : LineFault) → with_raw_line table.version bytes table.entries line ≡ Err f → IsLineFault bytes table line f
-  line_fault f e = by_cases (is_too_long bytes line) refl
+  line_fault f e = by_cases (is_too_long table.version bytes line) refl
     where
-      by_cases : (b : Bool) → is_too_long bytes line ≡ b → IsLineFault bytes table line f
+      by_cases : (b : Bool) → is_too_long table.version bytes line ≡ b → IsLineFault bytes table line f
       by_cases true h = (too_long, err_is Limit f (with_raw_line table.version bytes table.entries line) (raw_line-long h) e, h, λ d l k. nothing_first d l)
       by_cases false h =
           let here : with_line table.version table.entries (strip_carriage_return line) ≡ Err f = sym (raw_line h) ∙ e in
@@ -144,31 +145,31 @@ module _ (bytes : ℕ) (table : TableValue) (line : List ℕ) where
   ]
 
   -- a table within the limits stays so when no entry is added
-  no_room : length table.entries ≤ 4096 → is_text_too_long table.version table.entries ≡ false → is_over_limit table.version table.entries [] ≡ false
+  no_room : length table.entries ≤ entry_limit table.version → is_text_too_long table.version table.entries ≡ false → is_over_limit table.version table.entries [] ≡ false
   no_room few fits =
-      or_from (nat_lt 4096 (length table.entries + 0) || false) (is_text_too_long table.version (table.entries ++ []))
-      (or_from (nat_lt 4096 (length table.entries + 0)) false (le-ltb 4096 (length table.entries + 0) (omega (arith, few))) refl)
+      or_from (nat_lt (entry_limit table.version) (length table.entries + 0) || false) (is_text_too_long table.version (table.entries ++ []))
+      (or_from (nat_lt (entry_limit table.version) (length table.entries + 0)) false (le-ltb (entry_limit table.version) (length table.entries + 0) (omega (arith, few))) refl)
       (ap (is_text_too_long table.version) (append-nil table.entries) ∙ fits)
 
   -- the first condition that holds is told
-  pub told : length table.entries ≤ 4096 → is_text_too_long table.version table.entries ≡ false → (c : Condition) → Holds bytes table line c
+  pub told : length table.entries ≤ entry_limit table.version → is_text_too_long table.version table.entries ≡ false → (c : Condition) → Holds bytes table line c
       → ((d : Condition) → order_of d < order_of c → Holds bytes table line d → ⊥) → with_raw_line table.version bytes table.entries line ≡ Err (fault_of c)
   told few fits too_long k first = raw_line-long k
-  told few fits no_form k first = raw_line (false_from_ne_true (is_too_long bytes line) (first too_long (omega arith))) ∙ formless_line k
+  told few fits no_form k first = raw_line (false_from_ne_true (is_too_long table.version bytes line) (first too_long (omega arith))) ∙ formless_line k
   told few fits over_limit k first =
-      raw_line (false_from_ne_true (is_too_long bytes line) (first too_long (omega arith)))
+      raw_line (false_from_ne_true (is_too_long table.version bytes line) (first too_long (omega arith)))
       ∙ by_entries Limit (is_over_limit table.version table.entries) k (no_room few fits) (λ es h is_true. with_entries-by table.version table.entries es true _ _ _ is_true refl refl refl)
   told few fits bad_class k first =
-      raw_line (false_from_ne_true (is_too_long bytes line) (first too_long (omega arith)))
+      raw_line (false_from_ne_true (is_too_long table.version bytes line) (first too_long (omega arith)))
       ∙ by_entries BadClass (list_any has_bad_class) k refl (λ es h is_true.
       with_entries-by table.version table.entries es false true _ _ (test_false es h (is_over_limit table.version table.entries) (first over_limit (omega arith))) is_true refl refl)
   told few fits same_variant k first =
-      raw_line (false_from_ne_true (is_too_long bytes line) (first too_long (omega arith)))
+      raw_line (false_from_ne_true (is_too_long table.version bytes line) (first too_long (omega arith)))
       ∙ by_entries SameVariant (list_any has_repeat) k refl (λ es h is_true.
       with_entries-by table.version table.entries es false false true _ (test_false es h (is_over_limit table.version table.entries) (first over_limit (omega arith)))
       (test_false es h (list_any has_bad_class) (first bad_class (omega arith))) is_true refl)
   told few fits same_source k first =
-      raw_line (false_from_ne_true (is_too_long bytes line) (first too_long (omega arith)))
+      raw_line (false_from_ne_true (is_too_long table.version bytes line) (first too_long (omega arith)))
       ∙ by_entries SameSource (list_any (has_source_in table.entries)) k refl (λ es h is_true.
       with_entries-by table.version table.entries es false false false true (test_false es h (is_over_limit table.version table.entries) (first over_limit (omega arith)))
       (test_false es h (list_any has_bad_class) (first bad_class (omega arith))) (test_false es h (list_any has_repeat) (first same_variant (omega arith))) is_true)

@@ -8,10 +8,10 @@ use Rattle.std.proofs.lemmas.List.Folds.{list_any_none}
 use Rattle.variant_table.specs.declared.token.Token.{Token}
 use Rattle.variant_table.specs.declared.token.Token.TheVariants.{Point, Hyphen, Bar, Colon, Mark, Range}
 use Rattle.variant_table.specs.declared.version.Version.{Version}
-use Rattle.variant_table.specs.declared.version.Version.TheVariants.{One, Two}
+use Rattle.variant_table.specs.declared.version.Version.TheVariants.{One, Two, Three}
 use Rattle.variant_table.specs.Faults.{LineFault, Syntax}
 use Rattle.idn_text.specs.Points.{is_hex_digit}
-use Rattle.variant_table.specs.Entries.{Variant, Entry, IsOfVersion}
+use Rattle.variant_table.specs.Entries.{Variant, Entry, HasMarks, IsOfVersion}
 use Rattle.variant_table.specs.Ranges.{range_entries}
 use Rattle.variant_table.specs.Tokens.{is_blank, tokens_of}
 use Rattle.variant_table.specs.Notation.{sequence_tokens, variants_tokens, range_tokens, IsPointText, AreBlanks, SpellsTokens, IsEntryLine}
@@ -93,18 +93,23 @@ unmarked (v ∷ vs) h = let p = or_parts v.blocked (list_any (λ v. v.blocked) v
 in_place : (v : Version) (e : Entry) → IsOfVersion v e → has_mark_out_of_place v (whole e) ≡ false
 in_place One e h = list_any_none (λ v. v.blocked) e.variants h
 in_place Two e h = refl
+in_place Three e h = refl
 
 of_version : (v : Version) (ss : List Variant) → has_mark_out_of_place v ss ≡ false → IsOfVersion v (entry_from ss)
 of_version One [] h = All-from_recursion (λ v. v.blocked ≡ false) [] tt
 of_version One (s ∷ ss) h = All-from_recursion (λ v. v.blocked ≡ false) ss (unmarked ss (or_parts s.blocked (list_any (λ v. v.blocked) ss) h).1)
 of_version Two ss h = tt
+of_version Three ss h = tt
 
 -- ranges
 
-range_tokens_are : (v : Version) (tokens : List Token) (a b : ℕ) → range_ends v tokens ≡ Some (a, b) → (v ≡ Two) × (tokens ≡ range_tokens a b)
+range_tokens_are : (v : Version) (tokens : List Token) (a b : ℕ) → range_ends v tokens ≡ Some (a, b) → HasMarks v × (tokens ≡ range_tokens a b)
 range_tokens_are Two (Point first ∷ Range ∷ Point last ∷ []) a b e =
     let p : (first, last) ≡ (a, b) = cc in
-    (refl, ap (λ (x : ℕ × ℕ). range_tokens x.0 x.1) p)
+    (tt, ap (λ (x : ℕ × ℕ). range_tokens x.0 x.1) p)
+range_tokens_are Three (Point first ∷ Range ∷ Point last ∷ []) a b e =
+    let p : (first, last) ≡ (a, b) = cc in
+    (tt, ap (λ (x : ℕ × ℕ). range_tokens x.0 x.1) p)
 range_tokens_are v tokens a b e = absurd cc
 
 no_range_tokens : (a b : ℕ) (ss : List Variant) → sequences_of (range_tokens a b) ≡ Ok ss → ⊥
@@ -119,6 +124,11 @@ no_range v tokens ss (Some (a, b)) e h = absurd (no_range_tokens a b ss (ap sequ
 
 alone_read : (v : Version) (e : Entry) → IsOfVersion v e → entry_alone v (whole e) ≡ Ok (e ∷ [])
 alone_read v e h = ap (λ b. cond b (Err Syntax) (Ok (entry_from (whole e) ∷ []))) (in_place v e h)
+
+range_ends_read : (v : Version) (a b : ℕ) → HasMarks v → range_ends v (range_tokens a b) ≡ Some (a, b)
+range_ends_read One a b h = absurd h
+range_ends_read Two a b h = refl
+range_ends_read Three a b h = refl
 
 range_is_read : (a b : ℕ) → a ≤ b → cond (nat_le a b) (Ok (range_entries a b)) (Err Syntax) ≡ Ok (range_entries a b)
 range_is_read a b l = by_cases (nat_le a b) refl
@@ -135,7 +145,7 @@ spells_read v line es (inl h) =
     ∙ ap (λ r. r >>= entry_alone v) read ∙ alone_read v h.0 h.2 ∙ ap (λ x. Ok x) (sym h.3)
 spells_read v line es (inr h) =
     ap (λ t. entries_by v t (range_ends v t)) (range_read line h.0 h.1 h.2)
-    ∙ ap (λ x. entries_by x (range_tokens h.0 h.1) (range_ends x (range_tokens h.0 h.1))) h.3
+    ∙ ap (entries_by v (range_tokens h.0 h.1)) (range_ends_read v h.0 h.1 h.3)
     ∙ range_is_read h.0 h.1 h.2.0 ∙ ap (λ x. Ok x) (sym h.4)
 
 -- ---- what is read is spelled

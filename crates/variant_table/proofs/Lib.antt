@@ -1,3 +1,5 @@
+-- The limits of the versions.
+pub mod LimitLemmas
 -- One element of a list, and what follows it.
 pub mod ListLemmas
 -- The first token of a line.
@@ -12,6 +14,8 @@ pub mod DraftLemmas
 pub mod EntryLemmas
 -- Reading line by line.
 pub mod ReadLemmas
+-- Tables of version 2 as rulesets, and that no text is both.
+pub mod RulesetLemmas
 -- The entries at a place, one length after the other.
 pub mod PlaceLemmas
 -- Hexadecimal digits.

@@ -1,14 +1,15 @@
 -- Reading line by line.
-use Rattle.std.proofs.Common.{◌≡◌, inl, inr, ℕ, ◌+◌, ◌≤◌, List, [], ◌∷◌, length, Result, Ok, Err, refl, sym, ap, ◌∙◌, add_assoc, arith}
+use Rattle.std.proofs.Common.{◌≡◌, inl, inr, ℕ, ◌+◌, ◌≤◌, List, [], ◌∷◌, length, Option, Some, None, Result, Ok, Err, refl, sym, ap, ◌∙◌, add_assoc, arith}
 use Rattle.variant_table.specs.Faults.{LineFault, Limit, Syntax, BadClass, SameVariant, SameSource}
 use Rattle.variant_table.specs.declared.fault.TableFault.{TableFault}
 use Rattle.variant_table.specs.declared.fault.TableFault.TheVariants as tables
+use Rattle.variant_table.specs.declared.version.Notation.{Notation}
 use Rattle.variant_table.specs.declared.version.Version.{Version}
 use Rattle.variant_table.specs.Entries.{Entry, TableValue}
 use Rattle.variant_table.specs.Versions.{version_of, head_of, body_of, size_of}
 use Rattle.variant_table.specs.Reading.{◌>>=◌, in_line, with_raw_line, with_lines, table_from, table_of_lines}
 use Rattle.variant_table.specs.inner.ReadingSteps.{Fails, FailsIn}
-use Rattle.variant_table.proofs.FaultlessLemmas.{read_as-is}
+use Rattle.variant_table.proofs.FaultlessLemmas.{read_by}
 use Rattle.variant_table.proofs.SizeLemmas.{size_of-cons}
 
 abbrev WholeTable : Type 0
@@ -41,14 +42,17 @@ pub lines_end : (v : Version) (n b : ℕ) (t : List Entry) (rest : List (List �
 unfolding with_lines
 lines_end v n b t rest total e so_far = sym so_far ∙ ap (λ ls. with_lines v n b t ls >>= table_from v) e
 
--- reading begins behind the version line
-pub lines_begin : (lines : List (List ℕ)) (v : Version) (n b : ℕ) (t : List Entry) (rest : List (List ℕ)) → v ≡ version_of lines → n ≡ length (head_of lines) → b ≡ size_of (head_of lines) → t ≡ [] → rest ≡ body_of lines
-    → (with_lines v (n + 1) b t rest >>= table_from v) ≡ table_of_lines lines
-lines_begin lines v n b t rest e f g h i =
-    let w : Version = version_of lines in
-    ap (λ x. with_lines x (n + 1) b t rest >>= table_from x) e ∙ ap (λ x. with_lines w (x + 1) b t rest >>= table_from w) f
-    ∙ ap (λ x. with_lines w (length (head_of lines) + 1) x t rest >>= table_from w) g ∙ ap (λ x. with_lines w (length (head_of lines) + 1) (size_of (head_of lines)) x rest >>= table_from w) h
-    ∙ ap (λ x. with_lines w (length (head_of lines) + 1) (size_of (head_of lines)) [] x >>= table_from w) i ∙ sym (read_as-is lines)
+-- reading begins after the version line
+pub lines_begin : (m : Notation) (lines : List (List ℕ)) (v : Version) (n b : ℕ) (t : List Entry) (rest : List (List ℕ)) → version_of m lines ≡ Some v → n ≡ length (head_of m lines) → b ≡ size_of (head_of m lines) → t ≡ [] → rest ≡ body_of m lines
+    → (with_lines v (n + 1) b t rest >>= table_from v) ≡ table_of_lines m lines
+lines_begin m lines v n b t rest e f g h i =
+    ap (λ x. with_lines v (x + 1) b t rest >>= table_from v) f
+    ∙ ap (λ x. with_lines v (length (head_of m lines) + 1) x t rest >>= table_from v) g ∙ ap (λ x. with_lines v (length (head_of m lines) + 1) (size_of (head_of m lines)) x rest >>= table_from v) h
+    ∙ ap (λ x. with_lines v (length (head_of m lines) + 1) (size_of (head_of m lines)) [] x >>= table_from v) i ∙ sym (read_by m lines (Some v) e)
+
+-- a text that lacks its version is refused in its first line
+pub lines_lack : (m : Notation) (lines : List (List ℕ)) → version_of m lines ≡ None → FailsIn (tables.Syntax 1) (table_of_lines m lines)
+lines_lack m lines e = inr (1, Syntax, refl, read_by m lines None e)
 
 pub lines_counted : (lines : List (List ℕ)) → length lines ≤ size_of lines
 lines_counted [] = omega arith

@@ -12,8 +12,9 @@ use Rattle.std.proofs.lemmas.List.Sums.{sum_by-cons}
 use Rattle.idn_text.proofs.LawLemmas.{joined-raw_lines}
 use Rattle.variant_table.specs.declared.token.Token.{Token}
 use Rattle.variant_table.specs.declared.token.Token.TheVariants.{Point, Hyphen, Bar, Colon, Mark, Range, Unknown}
+use Rattle.variant_table.specs.declared.version.Notation.{Notation}
 use Rattle.variant_table.specs.declared.version.Version.{Version}
-use Rattle.variant_table.specs.declared.version.Version.TheVariants.{One, Two}
+use Rattle.variant_table.specs.declared.version.Version.TheVariants.{One, Two, Three}
 use Rattle.idn_text.specs.Points.{is_hex_digit}
 use Rattle.variant_table.specs.Entries.{Entry}
 use Rattle.variant_table.specs.Notation.{entry_tokens, IsPointText, IsTokenText, SpellsTokens, IsEntryLine}
@@ -104,7 +105,7 @@ canonical_line_long e line h = tokens_long (entry_tokens e) line h.1
 spelled_long : (line : List ℕ) (entries : List Entry) → Spells One (strip_carriage_return line) entries → length (canonical_text entries) ≤ length line + 1
 spelled_long line entries (inl h) =
     omega (arith, ap (λ es. length (canonical_text es)) h.3, canonical_line_long h.0 (strip_carriage_return line) h.1, (length-stripped line).0, length-append (canonical_line h.0 ++ 10 ∷ []) [], length-append (canonical_line h.0) (10 ∷ []))
-spelled_long line entries (inr h) = absurd (let other : One ≡ Two = h.3 in cc)
+spelled_long line entries (inr h) = absurd h.3
 
 line_long : (line : List ℕ) (entries : List Entry) → LineSpells One (strip_carriage_return line) entries → length (canonical_text entries) ≤ length line + 1
 line_long line entries s = elim (spelling_of One (strip_carriage_return line) entries s) [ none k is ↦ omega (arith, ap (λ es. length (canonical_text es)) is) | some h ↦ spelled_long line entries h ]
@@ -124,18 +125,19 @@ canonical_text_long (line ∷ lines) table s =
 table_text_long : (v : Version) (lines : List (List ℕ)) (table : List Entry) → v ≡ One → LinesSpell v lines table → length (table_text v table) ≤ size_of lines
 table_text_long One lines table e s = canonical_text_long lines table s
 table_text_long Two lines table e s = absurd cc
+table_text_long Three lines table e s = absurd cc
 
-body_shorter : (lines : List (List ℕ)) → size_of (body_of lines) ≤ size_of lines
-body_shorter [] = omega arith
-body_shorter (line ∷ lines) = by_cases (is_version_line line)
+body_shorter : (n : Notation) (lines : List (List ℕ)) → size_of (body_of n lines) ≤ size_of lines
+body_shorter n [] = omega arith
+body_shorter n (line ∷ lines) = by_cases (is_version_line n line)
   where
     by_cases : (b : Bool) → size_of (cond b lines (line ∷ lines)) ≤ size_of (line ∷ lines)
     by_cases true = omega (arith, size_of-cons line lines)
     by_cases false = omega arith
 
 -- in version 1 canonical text is at most as long as the text that was read
-pub never_longer : (v : Version) (lines : List (List ℕ)) (table : List Entry) → v ≡ One → LinesSpell v (body_of lines) table → length (table_text v table) ≤ size_of lines
-never_longer v lines table e s = omega (arith, table_text_long v (body_of lines) table e s, body_shorter lines)
+pub never_longer : (n : Notation) (v : Version) (lines : List (List ℕ)) (table : List Entry) → v ≡ One → LinesSpell v (body_of n lines) table → length (table_text v table) ≤ size_of lines
+never_longer n v lines table e s = omega (arith, table_text_long v (body_of n lines) table e s, body_shorter n lines)
 
 -- the lines joined, with a line feed behind each
 length-joined_lines : (lines : List (List ℕ)) → size_of lines ≡ length (joined_lines lines)

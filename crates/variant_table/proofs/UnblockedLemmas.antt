@@ -9,7 +9,7 @@ use Rattle.std.proofs.lemmas.Bool.{or_parts, or_from}
 use Rattle.std.proofs.lemmas.List.{append-nil, map-append, length-map}
 use Rattle.std.proofs.lemmas.List.Elements.{All-from_recursion, recursion_from_All}
 use Rattle.variant_table.specs.declared.version.Version.{Version}
-use Rattle.variant_table.specs.declared.version.Version.TheVariants.{One, Two}
+use Rattle.variant_table.specs.declared.version.Version.TheVariants.{One, Two, Three}
 use Rattle.variant_table.specs.Canonical.{sequence_text, canonical_line, canonical_text, head_text}
 use Rattle.variant_table.specs.Conditions.{repeats, has_source_in}
 use Rattle.variant_table.specs.Entries.{Variant, Entry, IsOfVersion, sequences_in, replacements, unblocked_entry, unblocked, has_blocked}
@@ -148,6 +148,7 @@ version_kept v [] h = tt
 version_kept One (e ∷ t) h =
     (All-from_recursion (λ x. x.blocked ≡ false) (free e.variants) (unmarked_free e.variants (recursion_from_All (λ x. x.blocked ≡ false) e.variants h.0)), version_kept One t h.1)
 version_kept Two (e ∷ t) h = (tt, version_kept Two t h.1)
+version_kept Three (e ∷ t) h = (tt, version_kept Three t h.1)
 
 -- ---- sources
 
@@ -217,5 +218,6 @@ table_kept version t h =
         short = omega (arith, well.short, text_kept t);
       };
       of_version = All-from_recursion (IsOfVersion version) (unblocked t) (version_kept version t (recursion_from_All (IsOfVersion version) t h.of_version));
+      few = omega (arith, h.few, length-map t unblocked_entry);
       short = omega (arith, h.short, text_kept t, length-append (head_text version) (canonical_text t), length-append (head_text version) (canonical_text (unblocked t)));
     }

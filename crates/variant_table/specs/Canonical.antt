@@ -1,10 +1,12 @@
--- The canonical text of a table: its tokens with nothing between them, one entry on each line, in version 2 after the version line.
+-- The canonical text of a table: its tokens with nothing between them, one entry on each line, after the version line that version 2 and 3 have.
 use Rattle.std.specs.Prelude.{ℕ, ◌+◌, ◌/◌, ◌%◌, nat_lt, ◌==◌, List, [], ◌∷◌, ◌++◌, codes, if◌then◌else◌}
 use Rattle.std.specs.List.{flat_map}
 use Rattle.variant_table.specs.declared.token.Token.{Token}
 use Rattle.variant_table.specs.declared.token.Token.TheVariants.{Point, Hyphen, Bar, Colon, Mark, Range, Unknown}
+use Rattle.variant_table.specs.declared.version.Notation.{Notation}
+use Rattle.variant_table.specs.declared.version.Notation.TheVariants.{Table, Ruleset}
 use Rattle.variant_table.specs.declared.version.Version.{Version}
-use Rattle.variant_table.specs.declared.version.Version.TheVariants.{One, Two}
+use Rattle.variant_table.specs.declared.version.Version.TheVariants.{One, Two, Three}
 use Rattle.variant_table.specs.Entries.{Entry}
 use Rattle.variant_table.specs.Notation.{sequence_tokens, entry_tokens}
 
@@ -53,14 +55,16 @@ canonical_line e = tokens_text (entry_tokens e)
 abbrev pub canonical_text : List Entry → List ℕ
 canonical_text table = flat_map (λ e. canonical_line e ++ 10 ∷ []) table
 
--- the line that begins a text of version 2
-abbrev pub version_line : List ℕ
-version_line = codes "%version 2"
+-- the line that begins a text of version 2, and that of a ruleset
+abbrev pub version_line : Notation → List ℕ
+version_line Table = codes "%version 2"
+version_line Ruleset = codes "%version 3"
 
--- what stands before the entries: in version 1 nothing, in version 2 the version line and its line feed
+-- what stands before the entries: in version 1 nothing, in others the version line and its line feed
 abbrev pub head_text : Version → List ℕ
 head_text One = []
-head_text Two = version_line ++ 10 ∷ []
+head_text Two = version_line Table ++ 10 ∷ []
+head_text Three = version_line Ruleset ++ 10 ∷ []
 
 -- the canonical text of a table of this version
 abbrev pub table_text : Version → List Entry → List ℕ

@@ -1,31 +1,32 @@
 -- What may be wrong with a line and its entries.
 use Rattle.std.specs.Prelude.{ℕ, ◌+◌, ◌++◌, Bool, false, ◌||◌, not, nat_lt, List, [], ◌∷◌, length, bytes_eq}
 use Rattle.std.specs.List.{list_any}
-use Rattle.idn_text.specs.Lines.{is_long_line}
 use Rattle.idn_class.specs.Class.{class_of}
 use Rattle.variant_table.specs.declared.version.Version.{Version}
-use Rattle.variant_table.specs.declared.version.Version.TheVariants.{One, Two}
+use Rattle.variant_table.specs.declared.version.Version.TheVariants.{One, Two, Three}
 use Rattle.variant_table.specs.Entries.{Entry, replacements}
 use Rattle.variant_table.specs.Canonical.{table_text}
+use Rattle.variant_table.specs.Limits.{line_limit, text_limit, entry_limit}
 use Rattle.variant_table.specs.WellFormed.{is_table_class}
 
--- a line that is too long, or one that ends, with its line feed, past byte 1,048,576 of the text, where it comes after so many bytes
-abbrev pub is_too_long : ℕ → List ℕ → Bool
-is_too_long bytes line = is_long_line line || nat_lt 1048576 (bytes + length line + 1)
+-- a line that is too long, or one that ends, with its line feed, past the limit of the text, where it comes after so many bytes
+abbrev pub is_too_long : Version → ℕ → List ℕ → Bool
+is_too_long version bytes line = nat_lt (line_limit version) (length line) || nat_lt (text_limit version) (bytes + length line + 1)
 
 -- more than 16 variants, or a sequence of more than 8 code points
 abbrev pub is_too_large : Entry → Bool
 is_too_large e = nat_lt 16 (length e.variants) || list_any (λ s. nat_lt 8 (length s)) (replacements e)
 
--- in version 2, a table whose canonical text has more than 1,048,576 bytes; in version 1 it is no longer than what was read
+-- a table whose canonical text is past the limit of a text; in version 1 it is no longer than what was read
 abbrev pub is_text_too_long : Version → List Entry → Bool
 is_text_too_long One entries = false
-is_text_too_long Two entries = nat_lt 1048576 (length (table_text Two entries))
+is_text_too_long Two entries = nat_lt (text_limit Two) (length (table_text Two entries))
+is_text_too_long Three entries = nat_lt (text_limit Three) (length (table_text Three entries))
 
--- an entry that is too large; or, with those of the table, more than 4,096 entries or too long a canonical text
+-- an entry that is too large; or, with those of the table, too many entries or too long a canonical text
 abbrev pub is_over_limit : Version → List Entry → List Entry → Bool
 is_over_limit version table entries =
-    nat_lt 4096 (length table + length entries) || list_any is_too_large entries || is_text_too_long version (table ++ entries)
+    nat_lt (entry_limit version) (length table + length entries) || list_any is_too_large entries || is_text_too_long version (table ++ entries)
 
 -- a code point of another class than PVALID, CONTEXTJ and CONTEXTO
 abbrev pub has_bad_point : List ℕ → Bool

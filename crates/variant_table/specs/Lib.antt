@@ -3,6 +3,7 @@ pub mod Notation
 pub mod Canonical
 pub mod WellFormed
 pub mod Versions
+pub mod Limits
 pub mod Ranges
 pub mod Conditions
 pub mod Texts

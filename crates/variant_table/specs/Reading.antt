@@ -7,8 +7,9 @@ use Rattle.variant_table.specs.declared.token.Token.{Token}
 use Rattle.variant_table.specs.declared.token.Token.TheVariants.{Point, Hyphen, Bar, Colon, Mark, Range}
 use Rattle.variant_table.specs.Faults.{LineFault, Limit, Syntax, BadClass, SameVariant, SameSource}
 use Rattle.variant_table.specs.Tokens.{is_blank, tokens_of}
+use Rattle.variant_table.specs.declared.version.Notation.{Notation}
 use Rattle.variant_table.specs.declared.version.Version.{Version}
-use Rattle.variant_table.specs.declared.version.Version.TheVariants.{One, Two}
+use Rattle.variant_table.specs.declared.version.Version.TheVariants.{One, Two, Three}
 use Rattle.variant_table.specs.Entries.{Variant, Entry, TableValue}
 use Rattle.variant_table.specs.Ranges.{range_entries}
 use Rattle.variant_table.specs.Versions.{version_of, head_of, body_of, size_of}
@@ -64,6 +65,7 @@ sequences_of tokens = Err Syntax
 abbrev pub has_mark_out_of_place : Version → List Variant → Bool
 has_mark_out_of_place One sequences = list_any (λ v. v.blocked) sequences
 has_mark_out_of_place Two sequences = false
+has_mark_out_of_place Three sequences = false
 
 -- the entry of these sequences as a list of one, if the version has such an entry
 abbrev pub entry_alone : Version → List Variant → Result (List Entry) LineFault
@@ -76,6 +78,7 @@ entry_of_tokens version tokens = sequences_of tokens >>= entry_alone version
 -- the ends of the range that tokens spell, if the version has ranges
 abbrev pub range_ends : Version → List Token → Option (ℕ × ℕ)
 range_ends Two (Point first ∷ Range ∷ Point last ∷ []) = Some (first, last)
+range_ends Three (Point first ∷ Range ∷ Point last ∷ []) = Some (first, last)
 range_ends version tokens = None
 
 -- the entries of tokens, given the ends of their range or none
@@ -106,7 +109,7 @@ with_line version table line =
 
 -- the same for a line as it stands in the text, after so many bytes
 unfoldable pub with_raw_line : Version → ℕ → List Entry → List ℕ → Result (List Entry) LineFault
-with_raw_line version bytes table line = if is_too_long bytes line then Err Limit else with_line version table (strip_carriage_return line)
+with_raw_line version bytes table line = if is_too_long version bytes line then Err Limit else with_line version table (strip_carriage_return line)
 
 -- a fault with the number of its line
 abbrev pub in_line : {A : Type 0} → ℕ → Result A LineFault → Result A (ℕ × LineFault)
@@ -123,11 +126,15 @@ with_lines version number bytes table (line ∷ lines) =
 abbrev pub table_from : Version → List Entry → Result TableValue (ℕ × LineFault)
 table_from version entries = Ok (record { version = version; entries = entries })
 
+-- the table that lines spell after their version line, if they have a version
+abbrev pub table_in : Option Version → List (List ℕ) → List (List ℕ) → Result TableValue (ℕ × LineFault)
+table_in None head body = Err (1, Syntax)
+table_in (Some version) head body = with_lines version (length head + 1) (size_of head) [] body >>= table_from version
+
 -- the table that lines spell, the first of which may be a version line
-unfoldable pub table_of_lines : List (List ℕ) → Result TableValue (ℕ × LineFault)
-table_of_lines lines =
-    with_lines (version_of lines) (length (head_of lines) + 1) (size_of (head_of lines)) [] (body_of lines) >>= table_from (version_of lines)
+unfoldable pub table_of_lines : Notation → List (List ℕ) → Result TableValue (ℕ × LineFault)
+table_of_lines notation lines = table_in (version_of notation lines) (head_of notation lines) (body_of notation lines)
 
 -- the table that a text spells, or the line and the kind of its first fault
-abbrev pub table_of_text : List ℕ → Result TableValue (ℕ × LineFault)
-table_of_text text = table_of_lines (raw_lines text)
+abbrev pub table_of_text : Notation → List ℕ → Result TableValue (ℕ × LineFault)
+table_of_text notation text = table_of_lines notation (raw_lines text)

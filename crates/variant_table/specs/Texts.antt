@@ -1,14 +1,15 @@
 -- What a text spells: one table, or one first fault.
-use Rattle.std.specs.Prelude.{◌≡◌, ◌⊎◌, ℕ, ◌+◌, ◌≤◌, ◌<◌, Bool, IsTrue, List, [], ◌∷◌, ◌++◌, length, All}
+use Rattle.std.specs.Prelude.{◌≡◌, ◌⊎◌, ℕ, ◌+◌, ◌≤◌, ◌<◌, Bool, IsTrue, Option, Some, None, List, [], ◌∷◌, ◌++◌, length, All}
 use Rattle.std.specs.List.{list_any}
 use Rattle.std.specs.Str.Lines.{strip_carriage_return}
 use Rattle.idn_text.specs.Lines.{raw_lines}
 use Rattle.variant_table.specs.Faults.{LineFault, Limit, Syntax, BadClass, SameVariant, SameSource, table_fault}
 use Rattle.variant_table.specs.declared.fault.TableFault.{TableFault}
 use Rattle.variant_table.specs.declared.fault.TableFault.TheVariants.{Memory}
+use Rattle.variant_table.specs.declared.version.Notation.{Notation}
 use Rattle.variant_table.specs.declared.version.Version.{Version}
-use Rattle.variant_table.specs.declared.version.Version.TheVariants.{Two}
-use Rattle.variant_table.specs.Entries.{Entry, IsOfVersion, TableValue}
+use Rattle.variant_table.specs.Entries.{Entry, HasMarks, IsOfVersion, TableValue}
+use Rattle.variant_table.specs.Limits.{line_limit, text_limit}
 use Rattle.variant_table.specs.Ranges.{range_entries}
 use Rattle.variant_table.specs.Versions.{version_of, head_of, body_of, size_of}
 use Rattle.variant_table.specs.Notation.{AreBlanks, IsEntryLine, IsRangeLine}
@@ -21,9 +22,9 @@ use Rattle.variant_table.specs.Conditions.{is_too_long, is_over_limit, has_bad_c
 abbrev pub IsComment : List ℕ → Type 0
 IsComment line = (blanks : List ℕ) × (rest : List ℕ) × AreBlanks blanks × (line ≡ blanks ++ 35 ∷ rest)
 
--- the line spells the entries of a range, as it may in version 2
+-- the line spells the entries of a range, as it may in version 2 and 3
 abbrev pub SpellsRange : Version → List ℕ → List Entry → Type 0
-SpellsRange version line entries = (first : ℕ) × (last : ℕ) × IsRangeLine first last line × (version ≡ Two) × (entries ≡ range_entries first last)
+SpellsRange version line entries = (first : ℕ) × (last : ℕ) × IsRangeLine first last line × HasMarks version × (entries ≡ range_entries first last)
 
 -- the entries that a line spells: none by a blank line or a comment, one by the line of an entry, and those of a range
 abbrev pub LineSpells : Version → List ℕ → List Entry → Type 0
@@ -44,14 +45,14 @@ LinesSpell version (line ∷ lines) table =
 -- lines without a fault, after a version line or without one, and the table that they spell
 pub record AreLinesOf (head lines : List (List ℕ)) (table : TableValue) : Type 0 where
   pub spelled : LinesSpell table.version lines table.entries
-  pub short : All (λ line. length line ≤ 1024) lines
-  pub size : size_of head + size_of lines ≤ 1048576
+  pub short : All (λ line. length line ≤ line_limit table.version) lines
+  pub size : size_of head + size_of lines ≤ text_limit table.version
   pub well_formed : IsTable table
 
 -- the text spells the table
-pub record IsTextOf (text : List ℕ) (table : TableValue) : Type 0 where
-  pub version : version_of (raw_lines text) ≡ table.version
-  pub lines : AreLinesOf (head_of (raw_lines text)) (body_of (raw_lines text)) table
+pub record IsTextOf (notation : Notation) (text : List ℕ) (table : TableValue) : Type 0 where
+  pub version : version_of notation (raw_lines text) ≡ Some table.version
+  pub lines : AreLinesOf (head_of notation (raw_lines text)) (body_of notation (raw_lines text)) table
 
 -- ---- the first fault of a text
 
@@ -88,7 +89,7 @@ SpellsSuch version line test = (entries : List Entry) × LineSpells version (str
 
 -- the condition holds for a line; the lines before it have so many bytes and spell the table
 abbrev pub Holds : ℕ → TableValue → List ℕ → Condition → Type 0
-Holds bytes table line too_long = IsTrue (is_too_long bytes line)
+Holds bytes table line too_long = IsTrue (is_too_long table.version bytes line)
 Holds bytes table line no_form = (entries : List Entry) → LineSpells table.version (strip_carriage_return line) entries → ⊥
 Holds bytes table line over_limit = SpellsSuch table.version line (is_over_limit table.version table.entries)
 Holds bytes table line bad_class = SpellsSuch table.version line (list_any has_bad_class)
@@ -101,18 +102,28 @@ IsLineFault bytes table line fault =
     (c : Condition) × (fault_of c ≡ fault) × Holds bytes table line c
     × ((d : Condition) → order_of d < order_of c → Holds bytes table line d → ⊥)
 
+-- the first line isn't the version line that each text of the notation has; an empty text has no such line either
+abbrev pub LacksVersion : Notation → List ℕ → Type 0
+LacksVersion notation text = version_of notation (raw_lines text) ≡ None
+
 -- the line of this number, from 1, has the fault, and the lines before it have none
-pub record IsFaultOf (text : List ℕ) (number : ℕ) (fault : LineFault) : Type 0 where
+pub record IsFirstFaulty (notation : Notation) (text : List ℕ) (number : ℕ) (fault : LineFault) : Type 0 where
   pub before : List (List ℕ)
   pub line : List ℕ
   pub behind : List (List ℕ)
   pub table : TableValue
-  pub version : version_of (raw_lines text) ≡ table.version
-  pub cut : body_of (raw_lines text) ≡ before ++ line ∷ behind
-  pub numbered : number ≡ length (head_of (raw_lines text)) + length before + 1
-  pub read : AreLinesOf (head_of (raw_lines text)) before table
-  pub faulty : IsLineFault (size_of (head_of (raw_lines text)) + size_of before) table line fault
+  pub version : version_of notation (raw_lines text) ≡ Some table.version
+  pub cut : body_of notation (raw_lines text) ≡ before ++ line ∷ behind
+  pub numbered : number ≡ length (head_of notation (raw_lines text)) + length before + 1
+  pub read : AreLinesOf (head_of notation (raw_lines text)) before table
+  pub faulty : IsLineFault (size_of (head_of notation (raw_lines text)) + size_of before) table line fault
+
+-- the first fault of the text, with the number of its line: a text that lacks its version has a fault of syntax in line 1
+abbrev pub IsFaultOf : Notation → List ℕ → ℕ → LineFault → Type 0
+IsFaultOf notation text number fault =
+    (LacksVersion notation text × (number ≡ 1) × (fault ≡ Syntax)) ⊎ IsFirstFaulty notation text number fault
 
 -- the fault is the text's, or memory was refused
-abbrev pub IsToldOf : List ℕ → TableFault → Type 0
-IsToldOf text fault = (fault ≡ Memory) ⊎ ((line : ℕ) × (kind : LineFault) × (fault ≡ table_fault line kind) × IsFaultOf text line kind)
+abbrev pub IsToldOf : Notation → List ℕ → TableFault → Type 0
+IsToldOf notation text fault =
+    (fault ≡ Memory) ⊎ ((line : ℕ) × (kind : LineFault) × (fault ≡ table_fault line kind) × IsFaultOf notation text line kind)

@@ -6,6 +6,7 @@ use Rattle.idn_class.specs.declared.class.Class.TheVariants.{Pvalid, Contextj, C
 use Rattle.idn_class.specs.Class.{class_of}
 use Rattle.variant_table.specs.Entries.{Entry, replacements, IsOfVersion, TableValue}
 use Rattle.variant_table.specs.Canonical.{canonical_text, table_text}
+use Rattle.variant_table.specs.Limits.{text_limit, entry_limit}
 
 -- PVALID, CONTEXTJ or CONTEXTO (RFC 5892, section 3)
 abbrev pub is_table_class : Class → Bool
@@ -31,15 +32,16 @@ pub record IsEntry (e : Entry) : Type 0 where
   pub few : length e.variants ≤ 16
   pub distinct : AllPairs (λ r s. r ≢ s) (replacements e)
 
--- at most 4,096 entries with different sources, whose canonical text has at most 1,048,576 bytes
+-- at most 65,536 entries with different sources, whose canonical text has at most 8,388,608 bytes: the largest limits of any version
 pub record IsWellFormed (table : List Entry) : Type 0 where
   pub entries : All IsEntry table
   pub sources : AllPairs (λ e f. e.source ≢ f.source) table
-  pub few : length table ≤ 4096
-  pub short : length (canonical_text table) ≤ 1048576
+  pub few : length table ≤ 65536
+  pub short : length (canonical_text table) ≤ 8388608
 
--- well-formed entries as the version has them, whose canonical text has at most 1,048,576 bytes with the version line
+-- well-formed entries as the version has them, within its limits, the version line counted
 pub record IsTable (table : TableValue) : Type 0 where
   pub well_formed : IsWellFormed table.entries
   pub of_version : All (IsOfVersion table.version) table.entries
-  pub short : length (table_text table.version table.entries) ≤ 1048576
+  pub few : length table.entries ≤ entry_limit table.version
+  pub short : length (table_text table.version table.entries) ≤ text_limit table.version

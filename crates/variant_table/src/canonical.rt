@@ -7,7 +7,7 @@ ghost use Rattle.variant_table.specs.Notation.{mark_tokens};
 ghost use Rattle.variant_table.specs.WellFormed.{IsEntry};
 
 use crate::entry::Entry;
-use crate::version::{VERSION_LINE, Version};
+use crate::version::Version;
 use arrayvec::ArrayVec;
 use std::alloc::AllocError;
 
@@ -83,14 +83,11 @@ fn push_byte(out: &mut ArrayVec<u8, 64>, byte: u8)
     out.push(byte);
 }
 
-/// Appends what comes before the entries: the version line in version 2, nothing in version 1.
+/// Appends what comes before the entries: the version line, or in version 1 nothing.
 pub fn push_head(out: &mut Vec<u8>, version: Version) -> Result<(), AllocError>
     ensures { OnOk result (out.new.items ≡ out.old.items ++ text.head_text version) }
 {
-    if version == Version::Two {
-        out.extend_from_slice(VERSION_LINE)?;
-        out.push(b'\n')?;
-    }
+    out.extend_from_slice(version.head())?;
     Ok(())
 }
 

@@ -2,14 +2,16 @@
 ghost use Rattle.std.specs.Prelude.{◌≡◌, ◌↔◌, ◌⊎◌, ◌≤◌, ℕ, true, false, List, [], ◌∷◌, ◌++◌, length, Ok, Err, codes};
 ghost use Rattle.idn_text.specs.Lines.{raw_lines, with_last_feed};
 ghost use Rattle.variant_table.specs.Faults.{LineFault};
-ghost use Rattle.variant_table.specs.Canonical.{canonical_line, table_text};
+ghost use Rattle.variant_table.specs.Canonical.{canonical_line, head_text, table_text};
 ghost use Rattle.variant_table.specs.Entries.{Variant, Entry, TableValue, IsOfVersion, unblocked};
 ghost use Rattle.variant_table.specs.Notation.{IsEntryLine};
 ghost use Rattle.variant_table.specs.Reading.{sequences_of, entry_from, begun, whole, table_of_text};
 ghost use Rattle.variant_table.specs.Texts.{IsTextOf, IsFaultOf};
 ghost use Rattle.variant_table.specs.Tokens.{tokens_of};
-ghost use Rattle.variant_table.specs.Versions.{size_of};
+ghost use Rattle.variant_table.specs.Versions.{notation_of, size_of};
 ghost use Rattle.variant_table.specs.Ranges.{point_entry};
+ghost use Rattle.variant_table.specs.declared.version.Notation.{Notation};
+ghost use Rattle.variant_table.specs.declared.version.Notation.TheVariants as notations;
 ghost use Rattle.variant_table.specs.declared.version.Version.TheVariants as versions;
 ghost use Rattle.variant_table.specs.Gaps.{AreGapsOf, gaps_of};
 ghost use Rattle.variant_table.specs.Places.{entries_at};
@@ -33,31 +35,49 @@ pub fn a_line_has_one_entry()
 
 /// The function that reads a text tells exactly what the definitions say of it.
 pub fn reading_is_exact()
-    ensures table { (text : List ℕ) (table : TableValue) → (table_of_text text ≡ Ok table) ↔ IsTextOf text table }
-    ensures fault { (text : List ℕ) (line : ℕ) (kind : LineFault) → (table_of_text text ≡ Err (line, kind)) ↔ IsFaultOf text line kind }
+    ensures table { (notation : Notation) (text : List ℕ) (table : TableValue) →
+        (table_of_text notation text ≡ Ok table) ↔ IsTextOf notation text table }
+    ensures fault { (notation : Notation) (text : List ℕ) (line : ℕ) (kind : LineFault) →
+        (table_of_text notation text ≡ Err (line, kind)) ↔ IsFaultOf notation text line kind }
 {}
 
-/// Each text has exactly one table, or exactly one fault: a line and what is told of it.
+/// In each notation each text has exactly one table, or exactly one fault: a line and what is told of it.
 pub fn a_text_has_one_table_or_one_fault()
-    ensures some { (text : List ℕ) → ((table : TableValue) × IsTextOf text table)
-        ⊎ ((line : ℕ) × (kind : LineFault) × IsFaultOf text line kind) }
-    ensures not_both { (text : List ℕ) (table : TableValue) (line : ℕ) (kind : LineFault) →
-        IsTextOf text table → IsFaultOf text line kind → ⊥ }
-    ensures one_table { (text : List ℕ) (a b : TableValue) → IsTextOf text a → IsTextOf text b → a ≡ b }
-    ensures one_fault { (text : List ℕ) (m n : ℕ) (f g : LineFault) →
-        IsFaultOf text m f → IsFaultOf text n g → (m ≡ n) × (f ≡ g) }
+    ensures some { (notation : Notation) (text : List ℕ) → ((table : TableValue) × IsTextOf notation text table)
+        ⊎ ((line : ℕ) × (kind : LineFault) × IsFaultOf notation text line kind) }
+    ensures not_both { (notation : Notation) (text : List ℕ) (table : TableValue) (line : ℕ) (kind : LineFault) →
+        IsTextOf notation text table → IsFaultOf notation text line kind → ⊥ }
+    ensures one_table { (notation : Notation) (text : List ℕ) (a b : TableValue) →
+        IsTextOf notation text a → IsTextOf notation text b → a ≡ b }
+    ensures one_fault { (notation : Notation) (text : List ℕ) (m n : ℕ) (f g : LineFault) →
+        IsFaultOf notation text m f → IsFaultOf notation text n g → (m ≡ n) × (f ≡ g) }
 {}
 
-/// The canonical text of a well-formed table spells that table.
+/// No text is both a table and a ruleset.
+pub fn no_text_is_a_table_and_a_ruleset()
+    ensures { (text : List ℕ) (a b : TableValue) →
+        IsTextOf notations.Table text a → IsTextOf notations.Ruleset text b → ⊥ }
+{}
+
+/// A table of version 2 is a ruleset of the same entries once its first line says so.
+pub fn a_table_of_version_2_is_a_ruleset()
+    ensures { (lines : List ℕ) (entries : List Entry) →
+        IsTextOf notations.Table (head_text versions.Two ++ lines) (record { version = versions.Two; entries = entries }) →
+        IsTextOf notations.Ruleset (head_text versions.Three ++ lines) (record { version = versions.Three; entries = entries }) }
+{}
+
+/// The canonical text of a well-formed table spells that table, in the notation of its version.
 pub fn canonical_text_is_read_back()
-    ensures { (table : TableValue) → IsTable table → IsTextOf (table_text table.version table.entries) table }
+    ensures { (table : TableValue) → IsTable table →
+        IsTextOf (notation_of table.version) (table_text table.version table.entries) table }
 {}
 
 /// The canonical text of a table of version 1 is at most as long as any text that spells the table, a
 /// line feed added where the last line has none. A canonical line has at most 951 bytes in version 1, and
-/// at most 967 in version 2.
+/// at most 967 in others.
 pub fn canonical_text_is_never_longer()
-    ensures text { (text : List ℕ) (table : TableValue) → IsTextOf text table → table.version ≡ versions.One →
+    ensures text { (notation : Notation) (text : List ℕ) (table : TableValue) →
+        IsTextOf notation text table → table.version ≡ versions.One →
         length (table_text table.version table.entries) ≤ size_of (raw_lines text) }
     ensures line { (e : Entry) → IsEntry e → IsOfVersion versions.One e → length (canonical_line e) ≤ 951 }
     ensures marked { (e : Entry) → IsEntry e → length (canonical_line e) ≤ 967 }
@@ -74,15 +94,15 @@ pub fn definitions_compute_the_examples()
     ensures read { sequences_of (tokens_of (codes "u+0061 | 0062 : 0063-0064")) ≡ Ok (begun false 97 ∷ begun false 98 ∷ record { sequence = 99 ∷ 100 ∷ []; blocked = false } ∷ []) }
     ensures written { table_text versions.One (record { source = 97 ∷ []; variants = begun false 98 ∷ record { sequence = 99 ∷ 100 ∷ []; blocked = false } ∷ [] } ∷ []) ≡ codes "0061|0062:0063-0064" ++ 10 ∷ [] }
     ensures six { canonical_line (record { source = 0x10FFFF ∷ 0x4E2D ∷ []; variants = [] }) ≡ codes "10FFFF-4E2D" }
-    ensures syntax { table_of_text (codes "0061|") ≡ Err (1, faults.Syntax) }
-    ensures range { table_of_text (codes "0061..0063") ≡ Err (1, faults.Syntax) }
-    ensures blocked { table_of_text (codes "0061|!0062") ≡ Err (1, faults.Syntax) }
-    ensures version { table_of_text (codes "%version 3") ≡ Err (1, faults.Syntax) }
-    ensures later { table_of_text (10 ∷ codes "%version 2") ≡ Err (2, faults.Syntax) }
-    ensures limit { table_of_text (codes "0041-0041-0041-0041-0041-0041-0041-0041-0041") ≡ Err (1, faults.Limit) }
-    ensures bad_class { table_of_text (codes "0041") ≡ Err (1, faults.BadClass) }
-    ensures same_variant { table_of_text (codes "0061|0061") ≡ Err (1, faults.SameVariant) }
-    ensures same_source { table_of_text (codes "0061" ++ 10 ∷ codes "0061") ≡ Err (2, faults.SameSource) }
+    ensures syntax { table_of_text notations.Table (codes "0061|") ≡ Err (1, faults.Syntax) }
+    ensures range { table_of_text notations.Table (codes "0061..0063") ≡ Err (1, faults.Syntax) }
+    ensures blocked { table_of_text notations.Table (codes "0061|!0062") ≡ Err (1, faults.Syntax) }
+    ensures version { table_of_text notations.Table (codes "%version 3") ≡ Err (1, faults.Syntax) }
+    ensures later { table_of_text notations.Table (10 ∷ codes "%version 2") ≡ Err (2, faults.Syntax) }
+    ensures limit { table_of_text notations.Table (codes "0041-0041-0041-0041-0041-0041-0041-0041-0041") ≡ Err (1, faults.Limit) }
+    ensures bad_class { table_of_text notations.Table (codes "0041") ≡ Err (1, faults.BadClass) }
+    ensures same_variant { table_of_text notations.Table (codes "0061|0061") ≡ Err (1, faults.SameVariant) }
+    ensures same_source { table_of_text notations.Table (codes "0061" ++ 10 ∷ codes "0061") ≡ Err (2, faults.SameSource) }
     ensures gaps { gaps_of (record { source = 97 ∷ []; variants = record { sequence = 97 ∷ 97 ∷ []; blocked = false } ∷ [] } ∷ []) ≡ (97 ∷ 97 ∷ [], 97 ∷ []) ∷ [] }
     ensures chain { gaps_of (record { source = 97 ∷ []; variants = begun false 98 ∷ [] } ∷ record { source = 98 ∷ []; variants = begun true 97 ∷ begun false 99 ∷ [] } ∷ record { source = 99 ∷ []; variants = begun false 98 ∷ [] } ∷ [])
         ≡ (97 ∷ [], 99 ∷ []) ∷ (99 ∷ [], 97 ∷ []) ∷ [] }
@@ -92,22 +112,39 @@ pub fn definitions_compute_the_examples()
 
 /// Examples of version 2.
 pub fn definitions_compute_the_examples_of_version_2()
-    ensures table { table_of_text (codes "%version 2" ++ 10 ∷ codes "0061..0063" ++ 10 ∷ codes "0078|!0079:007A") ≡ Ok (record {
+    ensures table { table_of_text notations.Table (codes "%version 2" ++ 10 ∷ codes "0061..0063" ++ 10 ∷ codes "0078|!0079:007A") ≡ Ok (record {
       version = versions.Two;
       entries = point_entry 0x61 ∷ point_entry 0x62 ∷ point_entry 0x63 ∷ record { source = 0x78 ∷ []; variants = begun true 0x79 ∷ begun false 0x7A ∷ [] } ∷ [];
     }) }
     ensures written { table_text versions.Two (point_entry 0x61 ∷ point_entry 0x62 ∷ point_entry 0x63 ∷ record { source = 0x78 ∷ []; variants = begun true 0x79 ∷ begun false 0x7A ∷ [] } ∷ [])
         ≡ codes "%version 2" ++ 10 ∷ codes "0061" ++ 10 ∷ codes "0062" ++ 10 ∷ codes "0063" ++ 10 ∷ codes "0078|!0079:007A" ++ 10 ∷ [] }
     ensures unblocked { unblocked (record { source = 0x78 ∷ []; variants = begun true 0x79 ∷ begun false 0x7A ∷ [] } ∷ []) ≡ record { source = 0x78 ∷ []; variants = begun false 0x7A ∷ [] } ∷ [] }
-    ensures empty { table_of_text (codes "%version 2" ++ 13 ∷ []) ≡ Ok (record { version = versions.Two; entries = [] }) }
-    ensures falling { table_of_text (codes "%version 2" ++ 10 ∷ codes "0063..0061") ≡ Err (2, faults.Syntax) }
-    ensures marked_source { table_of_text (codes "%version 2" ++ 10 ∷ codes "!0061|0062") ≡ Err (2, faults.Syntax) }
-    ensures variant_range { table_of_text (codes "%version 2" ++ 10 ∷ codes "0061|0062..0063") ≡ Err (2, faults.Syntax) }
-    ensures again { table_of_text (codes "%version 2" ++ 10 ∷ codes "%version 2") ≡ Err (2, faults.Syntax) }
-    ensures stops { table_of_text (codes "%version 2" ++ 10 ∷ codes "0061...0063") ≡ Err (2, faults.Syntax) }
-    ensures stops_apart { table_of_text (codes "%version 2" ++ 10 ∷ codes "0061. .0063") ≡ Err (2, faults.Syntax) }
-    ensures same_variant { table_of_text (codes "%version 2" ++ 10 ∷ codes "0061|0062:!0062") ≡ Err (2, faults.SameVariant) }
-    ensures bad_class { table_of_text (codes "%version 2" ++ 10 ∷ codes "005A..0061") ≡ Err (2, faults.BadClass) }
-    ensures same_source { table_of_text (codes "%version 2" ++ 10 ∷ codes "0062" ++ 10 ∷ codes "0061..0063") ≡ Err (3, faults.SameSource) }
-    ensures limit { table_of_text (codes "%version 2" ++ 10 ∷ codes "4E00..5E00") ≡ Err (2, faults.Limit) }
+    ensures empty { table_of_text notations.Table (codes "%version 2" ++ 13 ∷ []) ≡ Ok (record { version = versions.Two; entries = [] }) }
+    ensures falling { table_of_text notations.Table (codes "%version 2" ++ 10 ∷ codes "0063..0061") ≡ Err (2, faults.Syntax) }
+    ensures marked_source { table_of_text notations.Table (codes "%version 2" ++ 10 ∷ codes "!0061|0062") ≡ Err (2, faults.Syntax) }
+    ensures variant_range { table_of_text notations.Table (codes "%version 2" ++ 10 ∷ codes "0061|0062..0063") ≡ Err (2, faults.Syntax) }
+    ensures again { table_of_text notations.Table (codes "%version 2" ++ 10 ∷ codes "%version 2") ≡ Err (2, faults.Syntax) }
+    ensures stops { table_of_text notations.Table (codes "%version 2" ++ 10 ∷ codes "0061...0063") ≡ Err (2, faults.Syntax) }
+    ensures stops_apart { table_of_text notations.Table (codes "%version 2" ++ 10 ∷ codes "0061. .0063") ≡ Err (2, faults.Syntax) }
+    ensures same_variant { table_of_text notations.Table (codes "%version 2" ++ 10 ∷ codes "0061|0062:!0062") ≡ Err (2, faults.SameVariant) }
+    ensures bad_class { table_of_text notations.Table (codes "%version 2" ++ 10 ∷ codes "005A..0061") ≡ Err (2, faults.BadClass) }
+    ensures same_source { table_of_text notations.Table (codes "%version 2" ++ 10 ∷ codes "0062" ++ 10 ∷ codes "0061..0063") ≡ Err (3, faults.SameSource) }
+    ensures limit { table_of_text notations.Table (codes "%version 2" ++ 10 ∷ codes "4E00..5E00") ≡ Err (2, faults.Limit) }
+{}
+
+/// Examples of rulesets: which first line they have, and what they have of version 2.
+pub fn definitions_compute_the_examples_of_rulesets()
+    ensures empty { table_of_text notations.Ruleset [] ≡ Err (1, faults.Syntax) }
+    ensures unnamed { table_of_text notations.Ruleset (codes "0061") ≡ Err (1, faults.Syntax) }
+    ensures version_2 { table_of_text notations.Ruleset (codes "%version 2") ≡ Err (1, faults.Syntax) }
+    ensures version_4 { table_of_text notations.Ruleset (codes "%version 4") ≡ Err (1, faults.Syntax) }
+    ensures commented { table_of_text notations.Ruleset (codes "# a" ++ 10 ∷ codes "%version 3") ≡ Err (1, faults.Syntax) }
+    ensures alone { table_of_text notations.Ruleset (codes "%version 3") ≡ Ok (record { version = versions.Three; entries = [] }) }
+    ensures again { table_of_text notations.Ruleset (codes "%version 3" ++ 10 ∷ codes "%version 3") ≡ Err (2, faults.Syntax) }
+    ensures falling { table_of_text notations.Ruleset (codes "%version 3" ++ 10 ∷ codes "0063..0061") ≡ Err (2, faults.Syntax) }
+    ensures set { table_of_text notations.Ruleset (codes "%version 3" ++ 10 ∷ codes "% set C 0061") ≡ Err (2, faults.Syntax) }
+    ensures later { table_of_text notations.Table (codes "%version 2" ++ 10 ∷ codes "%version 3") ≡ Err (2, faults.Syntax) }
+    ensures limit { table_of_text notations.Ruleset (codes "%version 3" ++ 10 ∷ codes "0041-0041-0041-0041-0041-0041-0041-0041-0041") ≡ Err (2, faults.Limit) }
+    ensures written { table_text versions.Three (point_entry 0x61 ∷ record { source = 0x78 ∷ []; variants = begun true 0x79 ∷ [] } ∷ [])
+        ≡ codes "%version 3" ++ 10 ∷ codes "0061" ++ 10 ∷ codes "0078|!0079" ++ 10 ∷ [] }
 {}

@@ -22,7 +22,7 @@ pub fn entry_len(version: Version, sequences: &Sequences) -> usize
 {
     match version {
         Version::One => 0,
-        Version::Two => line_len(sequences),
+        Version::Two | Version::Three => line_len(sequences),
     }
 }
 
@@ -65,23 +65,23 @@ fn sequence_len(sequence: &[u32]) -> usize
 /// How many bytes the entries of `count` code points, from `first` on, add to the canonical text; 0 in
 /// version 1, which doesn't limit it.
 pub fn range_len(version: Version, first: u32, count: usize) -> usize
-    requires few { count ≤ 4096 }
+    requires few { count ≤ 65536 }
     requires last { first + count ≤ 2 ^ 32 }
     ensures count { result ≡ counted version (canonical_text (map point_entry (range_with_len first count))) }
-    ensures few { result ≤ 28672 }
+    ensures few { result ≤ 458752 }
 {
     match version {
         Version::One => 0,
-        Version::Two => lines_len(first, count),
+        Version::Two | Version::Three => lines_len(first, count),
     }
 }
 
 /// How many bytes the canonical lines of these entries have, with their line feeds.
 fn lines_len(first: u32, count: usize) -> usize
-    requires few { count ≤ 4096 }
+    requires few { count ≤ 65536 }
     requires last { first + count ≤ 2 ^ 32 }
     ensures count { result ≡ length (canonical_text (map point_entry (range_with_len first count))) }
-    ensures few { result ≤ 28672 }
+    ensures few { result ≤ 458752 }
 {
     let mut len = 0;
     for offset in 0..count {

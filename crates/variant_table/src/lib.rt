@@ -24,3 +24,4 @@ pub use entry::Entry;
 pub use fault::TableFault;
 pub use places::EntriesAt;
 pub use table::Table;
+pub use version::Notation;

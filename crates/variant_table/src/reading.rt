@@ -2,6 +2,7 @@
 ghost use Rattle.std.specs.Prelude.{◌≡◌, ◌+◌, ◌<◌, ◌≤◌, ◌^◌, [], ◌∷◌, length, map, OnOk};
 ghost use Rattle.std.specs.List.{range_with_len};
 ghost use Rattle.variant_table.specs.inner.Held.{IsCounted};
+ghost use Rattle.variant_table.specs.Limits.{text_limit};
 ghost use Rattle.variant_table.specs.Notation.{HasNoEmptySequence};
 ghost use Rattle.variant_table.specs.Ranges.{point_entry};
 ghost use Rattle.variant_table.specs.Reading.{entry_from, with_entries, with_line, with_raw_line, table_of_text, is_skipped as is_skipped_line};
@@ -14,22 +15,22 @@ use crate::lengths::{entry_len, range_len};
 use crate::rows::Rows;
 use crate::sequences::Sequences;
 use crate::token::without_blanks;
-use crate::version::{VERSION_LINE, Version, head_of};
-use idn_text::{MAX_LINE_LEN, without_carriage_return};
+use crate::version::{Notation, Version, head_of};
+use idn_text::without_carriage_return;
 use std::alloc::Global;
-
-/// The most entries of a table.
-const ENTRY_LIMIT: usize = 4096;
-
-/// The most bytes of a text, also of a canonical one. A line feed that is missing at the end is counted too.
-const TEXT_LIMIT: usize = 1_048_576;
 
 /// The version of a text, and the entries that it spells.
 #[tactic(auto, unfolding(crate::specs::Reading::table_of_lines))]
-pub fn read_rows(alloc: Global, text: &[u8]) -> Result<(Version, Rows), TableFault>
-    ensures { Reads result (table_of_text text.now) }
+pub fn read_rows(
+    alloc: Global,
+    notation: Notation,
+    text: &[u8],
+) -> Result<(Version, Rows), TableFault>
+    ensures { Reads result (table_of_text notation text.now) }
 {
-    let head = head_of(text);
+    let Some(head) = head_of(notation, text) else {
+        return Err(TableFault::Syntax { line: 1 });
+    };
     let mut reader = Reader::new(alloc, head.version);
     let mut number = head.lines;
     let mut bytes = head.bytes;
@@ -64,24 +65,22 @@ impl Reader {
             version,
             draft: Draft::new(alloc),
             rows: Rows::new(alloc),
-            written: match version {
-                Version::One => 0,
-                Version::Two => VERSION_LINE.len() + 1,
-            },
+            written: version.head().len(),
         }
     }
 
     /// Adds what the line of this number says, as it stands in a text after `bytes` bytes.
     #[tactic(auto, unfolding(crate::specs::Reading::with_raw_line))]
     fn add_raw_line(&mut self, number: u64, bytes: usize, line: &[u8]) -> Result<(), TableFault>
-        requires bytes { bytes ≤ 1048576 }
+        requires bytes { bytes ≤ text_limit self.old.version }
         requires counted { IsCounted self.old.version self.old.written self.old.rows }
         ensures read { Leaves number result self.new.rows (with_raw_line self.old.version bytes self.old.rows line.now) }
-        ensures within { OnOk result (bytes + length line.now + 1 ≤ 1048576) }
+        ensures within { OnOk result (bytes + length line.now + 1 ≤ text_limit self.old.version) }
         ensures counted { OnOk result (IsCounted self.old.version self.new.written self.new.rows) }
         ensures version { self.new.version ≡ self.old.version }
     {
-        if line.len() > MAX_LINE_LEN || bytes + line.len() + 1 > TEXT_LIMIT {
+        let version = self.version;
+        if line.len() > version.line_limit() || bytes + line.len() + 1 > version.text_limit() {
             return Err(TableFault::Limit { line: number });
         }
         self.add_line(number, without_carriage_return(line))
@@ -119,11 +118,11 @@ impl Reader {
         ensures version { self.new.version ≡ self.old.version }
     {
         let sequences = &self.draft.sequences;
-        if self.rows.len() >= ENTRY_LIMIT || is_too_large(sequences) {
+        if self.rows.len() >= self.version.entry_limit() || is_too_large(sequences) {
             return Err(TableFault::Limit { line: number });
         }
         let written = self.written + entry_len(self.version, sequences);
-        if written > TEXT_LIMIT {
+        if written > self.version.text_limit() {
             return Err(TableFault::Limit { line: number });
         }
         if has_bad_class(self.alloc, sequences)? {
@@ -146,11 +145,12 @@ impl Reader {
         ensures counted { OnOk result (IsCounted self.old.version self.new.written self.new.rows) }
         ensures version { self.new.version ≡ self.old.version }
     {
-        if count > ENTRY_LIMIT || self.rows.len() > ENTRY_LIMIT - count {
+        let limit = self.version.entry_limit();
+        if count > limit || self.rows.len() > limit - count {
             return Err(TableFault::Limit { line: number });
         }
         let written = self.written + range_len(self.version, first, count);
-        if written > TEXT_LIMIT {
+        if written > self.version.text_limit() {
             return Err(TableFault::Limit { line: number });
         }
         if has_bad_class_in(self.alloc, first, count)? {
@@ -171,7 +171,7 @@ fn add_points(
     count: usize,
 ) -> Result<(), TableFault>
     requires last { first + count ≤ 2 ^ 32 }
-    requires room { length rows.old + count ≤ 4096 }
+    requires room { length rows.old + count ≤ 65536 }
     ensures { Leaves number result rows.new (with_new_sources rows.old (map point_entry (range_with_len first count))) }
 {
     let mut sequences = Sequences::new(alloc);

@@ -1,6 +1,6 @@
 -- The dispositions of a listing's variants, and what tells them.
-use Rattle.std.specs.Prelude.{ℕ, true, List, Option, None, ◌≡◌, ◌↔◌, Contains}
-use Rattle.variant_table.specs.declared.version.Version.TheVariants.{One, Two}
+use Rattle.std.specs.Prelude.{ℕ, true, List, Option, Some, None, ◌≡◌, ◌≢◌, ◌↔◌, Contains}
+use Rattle.variant_table.specs.declared.version.Version.TheVariants.{One}
 use Rattle.variant_table.specs.Entries.{Entry, TableValue, unblocked}
 use Rattle.variant_list.specs.Positions.{Built}
 use Rattle.variant_list.specs.Segmentations.{HasSegmentation}
@@ -8,7 +8,7 @@ use Rattle.variant_list.specs.Spelling.{Spells}
 use Rattle.idn2_options.specs.Settings.{Settings}
 use Rattle.answer_json.specs.declared.block.Disposition.{Disposition}
 use Rattle.idn2_cli.specs.Said.{Said}
-use Rattle.idn2_cli.specs.Answers.{disposition_in, is_among, block_to, stop_of, variants_after}
+use Rattle.idn2_cli.specs.Answers.{allocation, is_among, block_to, stop_of, variants_after}
 use Rattle.idn2_cli.specs.declared.modes.dispositions.Dispositions.{Dispositions}
 use Rattle.idn2_cli.specs.declared.modes.dispositions.Dispositions.TheVariants.{Unstated, AllAllocatable, BySpelling}
 
@@ -19,15 +19,15 @@ block_by field o labels = block_to field (stop_of o labels) (variants_after o la
 -- what tells the dispositions is that of the table: it has no blocked variants, or this is the table without them
 abbrev pub AreOfTable : TableValue → Dispositions TableValue → Type 0
 AreOfTable table Unstated = table.version ≡ One
-AreOfTable table AllAllocatable = (table.version ≡ Two) × (unblocked table.entries ≡ table.entries)
-AreOfTable table (BySpelling other) = (table.version ≡ Two) × (other.entries ≡ unblocked table.entries)
+AreOfTable table AllAllocatable = (table.version ≢ One) × (unblocked table.entries ≡ table.entries)
+AreOfTable table (BySpelling other) = (table.version ≢ One) × (other.entries ≡ unblocked table.entries)
 
 -- the same of a label: the net spells what the label spells under the table without its blocked variants
 abbrev pub AreOfLabel : TableValue → List ℕ → Dispositions Built → Type 0
 AreOfLabel table label Unstated = table.version ≡ One
-AreOfLabel table label AllAllocatable = (table.version ≡ Two) × (unblocked table.entries ≡ table.entries)
+AreOfLabel table label AllAllocatable = (table.version ≢ One) × (unblocked table.entries ≡ table.entries)
 AreOfLabel table label (BySpelling net) =
-    (table.version ≡ Two) × ((v : List ℕ) → Contains net.spelled v ↔ Spells (unblocked table.entries) label v)
+    (table.version ≢ One) × ((v : List ℕ) → Contains net.spelled v ↔ Spells (unblocked table.entries) label v)
 
 -- the label can be cut into sources of the table that tells, if there is one
 abbrev pub CanBeCut : Dispositions TableValue → List ℕ → Type 0
@@ -37,5 +37,5 @@ CanBeCut other label = Unit {0}
 -- the disposition of a variant that is told
 abbrev pub field_by : Dispositions Built → List ℕ → Option Disposition
 field_by Unstated v = None
-field_by AllAllocatable v = disposition_in Two true
-field_by (BySpelling net) v = disposition_in Two (is_among net.spelled v)
+field_by AllAllocatable v = Some (allocation true)
+field_by (BySpelling net) v = Some (allocation (is_among net.spelled v))

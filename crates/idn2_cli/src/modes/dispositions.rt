@@ -2,8 +2,7 @@
 
 ghost use Rattle.std.specs.Prelude.{◌≡◌, ◌≤◌, length, IfOk, Some};
 ghost use Rattle.variant_table.specs.Entries.{TableValue};
-ghost use Rattle.variant_table.specs.declared.version.Version.TheVariants.{Two};
-ghost use Rattle.idn2_cli.specs.Answers.{disposition_in};
+ghost use Rattle.idn2_cli.specs.Answers.{allocation};
 ghost use Rattle.idn2_cli.specs.inner.Dispositions.{AreOfTable, AreOfLabel, CanBeCut, field_by};
 
 use answer_json::Disposition;
@@ -78,7 +77,7 @@ impl Dispositions<SpellingTest> {
 
 /// The disposition of a variant, by whether it may be allocated.
 fn disposition_of(is_allocatable: bool) -> Disposition
-    ensures { Some result ≡ disposition_in Two is_allocatable }
+    ensures { result ≡ allocation is_allocatable }
 {
     if is_allocatable {
         Disposition::Allocatable

@@ -26,7 +26,7 @@ use idn_text::{Lines, Sink, Source};
 use idn2_options::{Form, Mode, Options};
 use registered_labels::RegisteredLabels;
 use std::alloc::Global;
-use variant_table::Table;
+use variant_table::{Notation, Table};
 
 /// Runs a mode over its input, of which no line was read yet. Where nothing fails, the pieces of the
 /// transcript are written, and the status says whether something was refused. A fault of a reader,
@@ -42,18 +42,18 @@ pub fn run<R: Source, W: Sink, E: Sink>(
 ) -> Status
     requires limits { IsWithinLimits options.now }
     requires unread { IsUnread input.old }
-    ensures ends { (given : TableGiven) × IsTableOf options.now.mode table.now given
+    ensures ends { (given : TableGiven) × IsTableOf options.now.mode options.now.notation table.now given
         × Ends (mode_job options.now given) input.old input.new
         (held (W.state out.old) (E.state err.old)) (held (W.state out.new) (E.state err.new)) result }
     // The theorem of a listing: these bytes of this output are the lines of these labels.
-    ensures headline { (given : TableValue) → options.now.mode ≡ modes.Variants → IsReadAs table.now (Ok given) →
+    ensures headline { (given : TableValue) → options.now.mode ≡ modes.Variants → IsReadAs options.now.notation table.now (Ok given) →
         PrintsListings options.now given input.old input.new (W.state out.old).contents (W.state out.new).contents result }
     // What the transcript has for a label that may be registered, for a request, and for the check of a table.
-    ensures listing { (given : TableValue) (label : List ℕ) → IsReadAs table.now (Ok given) → IsRegistrable label →
+    ensures listing { (given : TableValue) (label : List ℕ) → IsReadAs options.now.notation table.now (Ok given) → IsRegistrable label →
         IsListing options.now given label (variants_answer options.now given label) }
-    ensures jump { (given : TableValue) (request : List ℕ) → IsReadAs table.now (Ok given) → IsRegistrable (requested_label request) →
+    ensures jump { (given : TableValue) (request : List ℕ) → IsReadAs options.now.notation table.now (Ok given) → IsRegistrable (requested_label request) →
         IsJumpAnswer given request (jump_answer given request) }
-    ensures check { (given : TableValue) → IsReadAs table.now (Ok given) → IsCheck given.entries (check_findings given.entries) }
+    ensures check { (given : TableValue) → IsReadAs options.now.notation table.now (Ok given) → IsCheck given.entries (check_findings given.entries) }
 {
     // Naming a field makes known what the options are seen as: they hold no registered labels.
     let _ = &options.mode;
@@ -73,13 +73,13 @@ pub fn run_among<R: Source, W: Sink, E: Sink>(
 ) -> Status
     requires limits { IsWithinLimits options.now }
     requires unread { IsUnread input.old }
-    ensures ends { (given : TableGiven) × IsTableOf options.now.mode table.now given
+    ensures ends { (given : TableGiven) × IsTableOf options.now.mode options.now.notation table.now given
         × Ends (mode_job (keeping (option_copied registered.entry) options.now) given) input.old input.new
         (held (W.state out.old) (E.state err.old)) (held (W.state out.new) (E.state err.new)) result }
-    ensures headline { (given : TableValue) → options.now.mode ≡ modes.Variants → IsReadAs table.now (Ok given) →
+    ensures headline { (given : TableValue) → options.now.mode ≡ modes.Variants → IsReadAs options.now.notation table.now (Ok given) →
         PrintsListings (keeping (option_copied registered.entry) options.now) given input.old input.new
         (W.state out.old).contents (W.state out.new).contents result }
-    ensures listing { (given : TableValue) (label : List ℕ) → IsReadAs table.now (Ok given) → IsRegistrable label →
+    ensures listing { (given : TableValue) (label : List ℕ) → IsReadAs options.now.notation table.now (Ok given) → IsRegistrable label →
         IsListing (keeping (option_copied registered.entry) options.now) given label
         (variants_answer (keeping (option_copied registered.entry) options.now) given label) }
 {
@@ -105,7 +105,7 @@ fn serve<R: Source, W: Sink, E: Sink>(
 ) -> Status
     requires limits { IsWithinLimits options.now }
     requires unread { IsUnread input.old }
-    ensures { (given : TableGiven) × IsTableOf options.now.mode table.now given
+    ensures { (given : TableGiven) × IsTableOf options.now.mode options.now.notation table.now given
         × Ends (mode_job (keeping (option_copied registered.entry) options.now) given) input.old input.new console.old console.new result }
 {
     match serve_mode(alloc, options, table, registered, input, console) {
@@ -125,7 +125,7 @@ fn serve_mode<R: Source, W: Sink, E: Sink>(
 ) -> Result<Status, Stop>
     requires limits { IsWithinLimits options.now }
     requires unread { IsUnread input.old }
-    ensures { (given : TableGiven) × IsTableOf options.now.mode table.now given
+    ensures { (given : TableGiven) × IsTableOf options.now.mode options.now.notation table.now given
         × Does (mode_job (keeping (option_copied registered.entry) options.now) given) input.old input.new console.old console.new result }
 {
     match options.mode {
@@ -150,7 +150,7 @@ fn serve_mode<R: Source, W: Sink, E: Sink>(
         }
         Mode::Variants => serve_variants(alloc, options, table, registered, input, console),
         Mode::Jump => serve_jumps(alloc, options, table, input, console),
-        Mode::CheckTable => serve_check(alloc, options.form, table, console),
+        Mode::CheckTable => serve_check(alloc, options.form, options.notation, table, console),
     }
 }
 
@@ -166,10 +166,10 @@ fn serve_variants<R: Source, W: Sink, E: Sink>(
     requires limits { IsWithinLimits options.now }
     requires mode { options.now.mode ≡ modes.Variants }
     requires unread { IsUnread input.old }
-    ensures { (given : TableGiven) × IsTableOf options.now.mode text.now given
+    ensures { (given : TableGiven) × IsTableOf options.now.mode options.now.notation text.now given
         × Does (mode_job (keeping (option_copied registered.entry) options.now) given) input.old input.new console.old console.new result }
 {
-    let table = match Table::read(alloc, text) {
+    let table = match Table::read(alloc, options.notation, text) {
         Ok(table) => table,
         Err(fault) => return refuse_table(options.form, fault, console),
     };
@@ -199,10 +199,10 @@ fn serve_jumps<R: Source, W: Sink, E: Sink>(
 ) -> Result<Status, Stop>
     requires mode { options.now.mode ≡ modes.Jump }
     requires unread { IsUnread input.old }
-    ensures { (given : TableGiven) × IsTableOf options.now.mode text.now given
+    ensures { (given : TableGiven) × IsTableOf options.now.mode options.now.notation text.now given
         × Does (mode_job options.now given) input.old input.new console.old console.new result }
 {
-    let table = match Table::read(alloc, text) {
+    let table = match Table::read(alloc, options.notation, text) {
         Ok(table) => table,
         Err(fault) => return refuse_table(options.form, fault, console),
     };
@@ -223,14 +223,15 @@ fn serve_jumps<R: Source, W: Sink, E: Sink>(
 fn serve_check<W: Sink, E: Sink>(
     alloc: Global,
     form: Form,
+    notation: Notation,
     text: &[u8],
     console: &mut Console<'_, '_, W, E>,
 ) -> Result<Status, Stop>
-    ensures { (given : TableGiven) × IsReadAs text.now given
+    ensures { (given : TableGiven) × IsReadAs notation text.now given
         × Emits console.old console.new (check_pieces form given) result
         × IfOk result (λ status. status ≡ check_status given) }
 {
-    match Table::read(alloc, text) {
+    match Table::read(alloc, notation, text) {
         Ok(table) => check_table(alloc, form, &table, console),
         Err(fault) => refuse_table(form, fault, console),
     }

@@ -16,6 +16,10 @@ pub(crate) const VARIANTS: &str = "variants";
 
 pub(crate) const CHECK_TABLE: &str = "check-table";
 
+pub(crate) const RULESET: &str = "ruleset";
+
+pub(crate) const CHECK_RULESET: &str = "check-ruleset";
+
 pub(crate) const AMONG: &str = "among";
 
 pub(crate) const JUMP: &str = "jump";

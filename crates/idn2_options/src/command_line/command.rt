@@ -5,8 +5,8 @@ ghost use Rattle.clap.specs.Words.{FailsBy, app_of, fault_of, found_of, matches_
 ghost use Rattle.idn2_options.specs.CommandLine.{app, flag_rule, short_flag_rule, value_rule, strings_rule, with_modes, with_collisions, with_switches, with_bounds};
 
 use crate::command_line::arguments::{
-    AFTER, AMONG, CHECK_TABLE, DECODE, EXPLAIN, JSON, JUMP, LIMIT, LOOKUP, QUIET, REGISTER, STD3,
-    STEPS, STRINGS, TR46NT, TRIES, VARIANTS,
+    AFTER, AMONG, CHECK_RULESET, CHECK_TABLE, DECODE, EXPLAIN, JSON, JUMP, LIMIT, LOOKUP, QUIET,
+    REGISTER, RULESET, STD3, STEPS, STRINGS, TR46NT, TRIES, VARIANTS,
 };
 use clap::{Arg, ArgAction, ArgMatches, Command, Error};
 use std::alloc::{AllocError, Global};
@@ -18,6 +18,7 @@ const ABOUT: &str = "Converts and tests internationalized domain names, and list
 
 /// The lines of the help have at most 80 columns.
 const AFTER_HELP: &str = "\
+What goes with --variants goes with --ruleset, too.
 Without --limit and --steps there is no limit; without --tries it is 1000000.
 Write --after=TEXT where TEXT begins with '-';
 strings that begin with '-' come after '--'.
@@ -94,14 +95,28 @@ fn with_modes<'a>(command: Command<'a>, alloc: Global) -> Result<Command<'a>, Al
         alloc,
         VARIANTS,
         "FILE",
-        "List the variants of each label by the table in FILE",
+        "List each label's variants by the table in FILE",
     )?;
-    with_option(
+    let command = with_option(
         command,
         alloc,
         CHECK_TABLE,
         "FILE",
         "Print the pairs that the table in FILE lacks",
+    )?;
+    let command = with_option(
+        command,
+        alloc,
+        RULESET,
+        "FILE",
+        "List each label's variants by the ruleset in FILE",
+    )?;
+    with_option(
+        command,
+        alloc,
+        CHECK_RULESET,
+        "FILE",
+        "Print the pairs that the ruleset in FILE lacks",
     )
 }
 
@@ -119,7 +134,7 @@ fn with_collisions<'a>(command: Command<'a>, alloc: Global) -> Result<Command<'a
         command,
         alloc,
         JUMP,
-        "With --variants: answer LABEL TAB TEXT by one label",
+        "With --variants: answer LABEL TAB TEXT by a label",
     )
 }
 
@@ -137,7 +152,7 @@ fn with_switches<'a>(command: Command<'a>, alloc: Global) -> Result<Command<'a>,
         command,
         alloc,
         STD3,
-        "Lookup refuses ASCII but letters, digits and hyphens",
+        "Lookup refuses ASCII but letters, digits, hyphens",
     )?;
     let command = with_flag(
         command,

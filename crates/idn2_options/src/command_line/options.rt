@@ -1,6 +1,7 @@
 use crate::command_line::form::Form;
 use crate::command_line::mode::Mode;
 use std::marker::Model;
+use variant_table::Notation;
 
 /// What the words of the command line request. `read_options` keeps the ranges below, and a run
 /// requires them.
@@ -15,8 +16,10 @@ pub struct Options {
     pub explain: bool,
     /// How answers are written. Objects of JSON always tell the cause of a refusal.
     pub form: Form,
-    /// The name of the table's file. Empty where the mode has no table.
+    /// The name of the file of the table or ruleset. Empty where the mode has none.
     pub file: String,
+    /// As what that file is read. `Table` where the mode has none.
+    pub notation: Notation,
     /// The lines given as words. Where there are none, the standard input is read.
     pub strings: Vec<String>,
     /// The code points that each listed variant is greater than: at most 1,024 scalar values.
@@ -45,6 +48,7 @@ impl Model for Options {
       explain = o.explain;
       form = o.form;
       file = string_bytes o.file;
+      notation = o.notation;
       strings = map string_bytes o.strings.items;
       after = o.after.items;
       limit = o.limit;

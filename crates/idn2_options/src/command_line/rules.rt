@@ -1,14 +1,15 @@
 //! The program's own rules on its options, which `clap` does not know.
-ghost use Rattle.std.specs.Prelude.{◌≡◌, count_by};
+ghost use Rattle.std.specs.Prelude.{◌≡◌, count_by, option_map};
 ghost use Rattle.clap.specs.Words.{found_of, rows_of};
-ghost use Rattle.idn2_options.specs.Words.{among_of, bounds_listing, bounds_variants, checks_alone, file_of, has_counts, has_short_start, is_allowed, is_bound_if_given, is_count_if_given, jumps_by_table, names_one_mode, start_of, suits_among};
+ghost use Rattle.idn2_options.specs.Words.{among_of, bounds_listing, bounds_variants, checked_file, checks, checks_alone, file_of, has_counts, has_short_start, is_allowed, is_bound_if_given, is_count_if_given, jumps_by_table, listing_file, lists, names_one_mode, notation_of, start_of, suits_among};
 
 use crate::command_line::arguments::{
-    AFTER, AMONG, CHECK_TABLE, DECODE, JUMP, LIMIT, LOOKUP, REGISTER, STEPS, TRIES, VARIANTS,
-    has_flag, has_strings, has_value, value_of,
+    AFTER, AMONG, CHECK_RULESET, CHECK_TABLE, DECODE, JUMP, LIMIT, LOOKUP, REGISTER, RULESET, STEPS,
+    TRIES, VARIANTS, has_flag, has_strings, has_value, value_of,
 };
 use crate::command_line::counts::{count_of, steps_of};
 use clap::ArgMatches;
+use variant_table::Notation;
 
 /// The most bytes of `--after`.
 const MAX_START: usize = 1_024;
@@ -45,6 +46,8 @@ fn names_one_mode(matches: &ArgMatches<'_>) -> bool
         has_flag(matches, DECODE),
         has_value(matches, VARIANTS),
         has_value(matches, CHECK_TABLE),
+        has_value(matches, RULESET),
+        has_value(matches, CHECK_RULESET),
     ];
     count_true(&named) <= 1
 }
@@ -58,7 +61,7 @@ fn count_true(tests: &[bool]) -> usize
 fn bounds_variants(matches: &ArgMatches<'_>) -> bool
     ensures { result ≡ bounds_variants (rows_of (found_of matches.now)) }
 {
-    has_value(matches, VARIANTS) && !has_flag(matches, JUMP) || !bounds_listing(matches)
+    lists(matches) && !has_flag(matches, JUMP) || !bounds_listing(matches)
 }
 
 fn bounds_listing(matches: &ArgMatches<'_>) -> bool
@@ -74,7 +77,7 @@ fn bounds_listing(matches: &ArgMatches<'_>) -> bool
 fn jumps_by_table(matches: &ArgMatches<'_>) -> bool
     ensures { result ≡ jumps_by_table (rows_of (found_of matches.now)) }
 {
-    has_value(matches, VARIANTS) || !has_flag(matches, JUMP)
+    lists(matches) || !has_flag(matches, JUMP)
 }
 
 fn suits_among(matches: &ArgMatches<'_>) -> bool
@@ -86,11 +89,56 @@ fn suits_among(matches: &ArgMatches<'_>) -> bool
             && file_of(matches) != among_of(matches)
 }
 
-/// The name of the table's file, which is empty where the mode has no table.
+/// The file by which variants are listed or requests are answered: a table or a ruleset.
+fn listing_file<'a>(matches: &ArgMatches<'a>) -> Option<&'a str>
+    ensures { option_map (λ file. file.now) result ≡ listing_file (rows_of (found_of matches.now)) }
+{
+    match value_of(matches, VARIANTS) {
+        Some(file) => Some(file),
+        None => value_of(matches, RULESET),
+    }
+}
+
+/// The file that is checked: a table or a ruleset.
+fn checked_file<'a>(matches: &ArgMatches<'a>) -> Option<&'a str>
+    ensures { option_map (λ file. file.now) result ≡ checked_file (rows_of (found_of matches.now)) }
+{
+    match value_of(matches, CHECK_TABLE) {
+        Some(file) => Some(file),
+        None => value_of(matches, CHECK_RULESET),
+    }
+}
+
+/// Whether there is a file by which variants are listed or requests are answered.
+pub(crate) fn lists(matches: &ArgMatches<'_>) -> bool
+    ensures { result ≡ lists (rows_of (found_of matches.now)) }
+{
+    listing_file(matches).is_some()
+}
+
+/// Whether there is a file that is checked.
+pub(crate) fn checks(matches: &ArgMatches<'_>) -> bool
+    ensures { result ≡ checks (rows_of (found_of matches.now)) }
+{
+    checked_file(matches).is_some()
+}
+
+/// As what the file is read.
+pub(crate) fn notation_of(matches: &ArgMatches<'_>) -> Notation
+    ensures { result ≡ notation_of (rows_of (found_of matches.now)) }
+{
+    if has_value(matches, RULESET) || has_value(matches, CHECK_RULESET) {
+        Notation::Ruleset
+    } else {
+        Notation::Table
+    }
+}
+
+/// The name of the file of the table or ruleset, which is empty where the mode has none.
 pub(crate) fn file_of<'a>(matches: &ArgMatches<'a>) -> &'a str
     ensures { result.now ≡ file_of (rows_of (found_of matches.now)) }
 {
-    match (value_of(matches, VARIANTS), value_of(matches, CHECK_TABLE)) {
+    match (listing_file(matches), checked_file(matches)) {
         (Some(file), _) => file,
         (None, Some(file)) => file,
         (None, None) => "",
@@ -141,5 +189,5 @@ fn has_short_start(matches: &ArgMatches<'_>) -> bool
 fn checks_alone(matches: &ArgMatches<'_>) -> bool
     ensures { result ≡ checks_alone (rows_of (found_of matches.now)) }
 {
-    !has_value(matches, CHECK_TABLE) || !has_strings(matches)
+    !checks(matches) || !has_strings(matches)
 }

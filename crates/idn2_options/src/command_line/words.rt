@@ -6,15 +6,14 @@ ghost use Rattle.idn2_options.specs.Settings.{IsWithinLimits, SuitsMode};
 ghost use Rattle.idn2_options.specs.Words.{IsAnswer, IsUsage, count_of, form_of, mode_of, options_of, settings_of, start_of, steps_of, strings_of, value_of};
 
 use crate::command_line::arguments::{
-    AMONG, CHECK_TABLE, DECODE, EXPLAIN, JSON, JUMP, LIMIT, REGISTER, STD3, STEPS, STRINGS, TRIES,
-    VARIANTS, has_flag, has_value, value_of,
+    AMONG, DECODE, EXPLAIN, JSON, JUMP, LIMIT, REGISTER, STD3, STEPS, STRINGS, TRIES, has_flag, value_of,
 };
 use crate::command_line::command;
 use crate::command_line::counts::{count_of, steps_of};
 use crate::command_line::form::Form;
 use crate::command_line::mode::Mode;
 use crate::command_line::options::Options;
-use crate::command_line::rules::{file_of, is_allowed, start_of};
+use crate::command_line::rules::{checks, file_of, is_allowed, lists, notation_of, start_of};
 use crate::command_line::usage::Usage;
 use clap::error::ErrorKind;
 use clap::{ArgMatches, Error};
@@ -67,6 +66,7 @@ fn settings_of(alloc: Global, matches: &ArgMatches<'_>) -> Result<Options, Alloc
         explain: has_flag(matches, EXPLAIN),
         form: form_of(matches),
         file: String::from_str(alloc, file_of(matches))?,
+        notation: notation_of(matches),
         strings: strings_of(alloc, matches)?,
         after: points_of(alloc, start_of(matches))?,
         limit: count_at(matches, LIMIT),
@@ -83,13 +83,13 @@ fn mode_of(matches: &ArgMatches<'_>) -> Mode
         Mode::Register
     } else if has_flag(matches, DECODE) {
         Mode::Decode
-    } else if has_value(matches, VARIANTS) {
+    } else if lists(matches) {
         if has_flag(matches, JUMP) {
             Mode::Jump
         } else {
             Mode::Variants
         }
-    } else if has_value(matches, CHECK_TABLE) {
+    } else if checks(matches) {
         Mode::CheckTable
     } else {
         Mode::Lookup

@@ -5,8 +5,9 @@ use Rattle.variant_table.specs.declared.sequences.Span.{Span}
 use Rattle.variant_table.specs.declared.sequences.Part.{Part}
 use Rattle.variant_table.specs.Entries.{Variant, Entry}
 use Rattle.variant_table.specs.declared.version.Version.{Version}
-use Rattle.variant_table.specs.declared.version.Version.TheVariants.{One, Two}
+use Rattle.variant_table.specs.declared.version.Version.TheVariants.{One, Two, Three}
 use Rattle.variant_table.specs.Canonical.{table_text}
+use Rattle.variant_table.specs.Limits.{text_limit}
 use Rattle.variant_table.specs.Reading.{entry_from}
 
 -- the part of a list that a span names
@@ -45,8 +46,9 @@ entries_of sequences spans = map (entry_at sequences) spans
 abbrev pub counted : Version → List ℕ → ℕ
 counted One text = 0
 counted Two text = length text
+counted Three text = length text
 
 -- so many bytes are counted of the canonical text of a table, and they are within the limit
 pub record IsCounted (version : Version) (written : ℕ) (table : List Entry) : Type 0 where
   pub count : written ≡ counted version (table_text version table)
-  pub within : written ≤ 1048576
+  pub within : written ≤ text_limit version

@@ -1,13 +1,14 @@
 use Rattle.std.proofs.Common.{◌≡◌, ◌+◌, ◌≤◌}
 use Rattle.variant_table.specs.inner.Held.{IsCounted}
+use Rattle.variant_table.specs.Limits.{text_limit}
 use Rattle.variant_table.specs.Reading.{◌>>=◌, with_lines, table_from, table_of_text}
 use Rattle.variant_table.proofs.reading.read_rows.Given as goal
 
 -- reading goes on as it does from the start
 abbrev pub invariant-loop-line : goal.invariant-loop-line
 invariant-loop-line l = record {
-  same : (with_lines l.reader.version (l.number + 1) l.bytes l.reader.rows l.line-iterator >>= table_from l.reader.version) ≡ table_of_text l.text;
-  within : l.bytes ≤ 1048576;
+  same : (with_lines l.reader.version (l.number + 1) l.bytes l.reader.rows l.line-iterator >>= table_from l.reader.version) ≡ table_of_text l.fn.notation l.text;
+  within : l.bytes ≤ text_limit l.reader.version;
   counted : l.number ≤ l.bytes;
   written : IsCounted l.reader.version l.reader.written l.reader.rows;
 }

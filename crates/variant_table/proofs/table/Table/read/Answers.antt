@@ -9,23 +9,23 @@ use Rattle.variant_table.proofs.table.Table.read.Goals as goal
 
 pub returns-in_err-version-clause-fault : goal.returns-in_err-version-clause-fault
 returns-in_err-version-clause-fault c =
-    let told : IsToldOf c.args.text.now c.in_err-version.field-0.0 = told_of c.args.text.now c.in_err-version.field-0.0 c.in_err-version.ensures in search rules
+    let told : IsToldOf c.args.notation c.args.text.now c.in_err-version.field-0.0 = told_of c.args.notation c.args.text.now c.in_err-version.field-0.0 c.in_err-version.ensures in search rules
 
 pub returns-in_err-version-clause-canonical : goal.returns-in_err-version-clause-canonical
-returns-in_err-version-clause-canonical c = λ table h is.
-    let memory : c.in_err-version.field-0.0 ≡ Memory = memory_alone c.args.text.now table c.in_err-version.field-0.0 (rw is (canonical_spelled table h)) c.in_err-version.ensures in search rules
+returns-in_err-version-clause-canonical c = λ table h named is.
+    let memory : c.in_err-version.field-0.0 ≡ Memory = memory_alone c.args.notation c.args.text.now table c.in_err-version.field-0.0 (rw is (rw named (canonical_spelled table h))) c.in_err-version.ensures in search rules
 
 pub invariant_of-result : goal.invariant_of-result
 invariant_of-result c =
     let table : TableValue = record { version = c.in_ok-version.version; entries = c.in_ok-version.rows } in
-    (read_text c.args.text.now table c.in_ok-version.ensures).lines.well_formed
+    (read_text c.args.notation c.args.text.now table c.in_ok-version.ensures).lines.well_formed
 
 pub returns-clause-table : goal.returns-clause-table
 returns-clause-table c =
     let table : TableValue = record { version = c.in_ok-version.version; entries = c.in_ok-version.rows } in
-    read_text c.args.text.now table c.in_ok-version.ensures
+    read_text c.args.notation c.args.text.now table c.in_ok-version.ensures
 
 pub returns-clause-canonical : goal.returns-clause-canonical
-returns-clause-canonical c = λ table h is.
+returns-clause-canonical c = λ table h named is.
     let read : TableValue = record { version = c.in_ok-version.version; entries = c.in_ok-version.rows } in
-    one_table c.args.text.now read table (read_text c.args.text.now read c.in_ok-version.ensures) (rw is (canonical_spelled table h))
+    one_table c.args.notation c.args.text.now read table (read_text c.args.notation c.args.text.now read c.in_ok-version.ensures) (rw is (rw named (canonical_spelled table h)))
