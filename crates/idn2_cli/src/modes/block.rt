@@ -70,14 +70,33 @@ pub(crate) fn write_block<W: Sink, E: Sink>(
     'variants: loop {
         match cursor.seek(alloc, &mut judge, &mut tries, &mut steps)? {
             Outcome::Found => {}
-            Outcome::Spent => return write_stop(asked, count, cursor.last(), &mut judge.line, console),
-            Outcome::Halted => return write_stop(asked, count, cursor.last(), &mut judge.line, console),
+            Outcome::Spent => return write_stop(
+                asked,
+                count,
+                cursor.last(),
+                &mut judge.line,
+                console,
+            ),
+            Outcome::Halted => return write_stop(
+                asked,
+                count,
+                cursor.last(),
+                &mut judge.line,
+                console,
+            ),
             Outcome::Ended => return write_end(asked, count, console),
         }
         let variant = cursor.last();
         let disposition = dispositions.of_variant(variant);
         let a_label = judge.test.a_label();
-        write_variant(asked, variant, a_label, disposition, &mut judge.line, console)?;
+        write_variant(
+            asked,
+            variant,
+            a_label,
+            disposition,
+            &mut judge.line,
+            console,
+        )?;
         count += 1;
         if is_reached(options.limit, count) {
             return write_stop(asked, count, cursor.last(), &mut judge.line, console);

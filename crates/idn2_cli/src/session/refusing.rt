@@ -51,7 +51,14 @@ pub(crate) fn refuse<W: Sink, E: Sink>(
         return Err(Stop::Memory);
     }
     let cause = cause_of_text(alloc, asked.text, refusal, explaining)?;
-    tell(asked.form, asked.number, Some(asked.text), refusal, cause, console)
+    tell(
+        asked.form,
+        asked.number,
+        Some(asked.text),
+        refusal,
+        cause,
+        console,
+    )
 }
 
 /// The same of the code points of a line.
@@ -79,7 +86,14 @@ pub(crate) fn refuse_points<W: Sink, E: Sink>(
         Refusal::Memory => Err(Stop::Memory),
         _ => {
             let cause = cause_of_points(alloc, points, refusal, explaining)?;
-            tell(asked.form, asked.number, Some(asked.text), refusal, cause, console)
+            tell(
+                asked.form,
+                asked.number,
+                Some(asked.text),
+                refusal,
+                cause,
+                console,
+            )
         }
     }
 }

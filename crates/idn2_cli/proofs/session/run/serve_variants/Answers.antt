@@ -1,6 +1,11 @@
-use Rattle.std.proofs.Common.{Ok, ap, true}
+use Rattle.std.proofs.Common.{All, Ok, ap, chars, true}
 use Rattle.std.specs.Option.{option_copied}
-use Rattle.idn2_options.specs.Settings.{Settings, keeping}
+use Rattle.idn_label.specs.Memory.{NeedsNoMemory}
+use Rattle.variant_table.specs.Entries.{TableValue}
+use Rattle.idn2_options.specs.Settings.{Settings, keeping, tells_causes}
+use Rattle.idn2_cli.specs.Answers.{tested_after, variants_answer}
+use Rattle.idn2_cli.specs.Explained.{ByTable, if_wanted}
+use Rattle.idn2_cli.specs.Memory.{IsRefusedWithoutMemory}
 use Rattle.idn2_cli.specs.Ends.{lines_job}
 use Rattle.std.proofs.lemmas.Result.{err_from_is_err_and}
 use Rattle.idn2_options.specs.declared.command_line.mode.Mode.TheVariants.{Variants}
@@ -19,4 +24,9 @@ returns-in_err-dispositions g c =
 
 pub returns : goal.returns
 returns g c =
-    as_mode (keeping (option_copied c.args.registered) c.args.options.now) Variants c.args.text.now (Ok c.in-Ok.table) _ _ _ _ _ c.serve_lines.result c.requires.mode c.in-Ok.ensures.table (ap (λ f. lines_job f _ _ true _ _) (ap (λ (v : Settings). v.form) c.options.view_is)) c.serve_lines.ensures
+    let o : Settings = keeping (option_copied c.args.registered) c.args.options.now in
+    let table : TableValue = c.in-Ok.table in
+    as_mode o Variants c.args.text.now (Ok table) _ _ _ _ _ c.serve_lines.result c.requires.mode c.in-Ok.ensures.table
+    (ap (λ f. lines_job f (if_wanted (tells_causes o) (ByTable table.entries)) (variants_answer o table) true (λ line. IsRefusedWithoutMemory (chars line)) (λ line. All NeedsNoMemory (tested_after o table.entries (chars line))))
+    (ap (λ (v : Settings). v.form) c.options.view_is))
+    c.serve_lines.ensures
