@@ -67,4 +67,11 @@ unexplained_text bytes refusal = by_utf8 (is_utf8 bytes)
 pub text_cause-nothing : (explaining : Explaining) (bytes : List ℕ) (refusal : Refusal) → explaining ≡ by.Nothing → text_cause (explained_by explaining) bytes refusal ≡ None
 text_cause-nothing explaining bytes refusal is = ap (λ (e : Explaining). text_cause (explained_by e) bytes refusal) is ∙ unexplained_text bytes refusal
 
-pub ruleset causes_of_text = (text_cause-points, text_cause-none, text_cause-nothing)
+-- only what explains nothing tells no cause
+pub unexplained-nothing : (explaining : Explaining) → explained_by explaining ≡ Unexplained → explaining ≡ by.Nothing
+unexplained-nothing by.Nothing is = refl
+unexplained-nothing by.Label is = cc
+unexplained-nothing by.Name is = cc
+unexplained-nothing (by.Query std3) is = cc
+unexplained-nothing (by.Sources table) is = cc
+unexplained-nothing (by.Request table) is = cc

@@ -47,8 +47,8 @@ pub(crate) trait Answering {
     ghost goes_on: { Self → List ℕ → Type 0 } = { λ _ _. Unit {0} };
 
     /// How it explains what it refuses.
-    fn explaining(&self) -> Explaining<'_>
-        ensures { explained_by result ≡ explains self.now };
+    fn explaining(&self) -> &Explaining<'_>
+        ensures { explained_by result.now ≡ explains self.now };
 
     /// Writes the answer to the bytes of a line, and returns whether it is a refusal.
     fn answer<W: Sink, E: Sink>(

@@ -42,8 +42,8 @@ pub(crate) trait PointAnswering {
     ghost goes_on: { Self → List ℕ → Type 0 } = { λ _ _. Unit {0} };
 
     /// How it explains what it refuses.
-    fn explaining(&self) -> Explaining<'_>
-        ensures { explained_by result ≡ explains self.now };
+    fn explaining(&self) -> &Explaining<'_>
+        ensures { explained_by result.now ≡ explains self.now };
 
     /// Writes the answer to a line that spells these code points, and returns whether it is a refusal.
     fn answer_points<W: Sink, E: Sink>(
@@ -83,7 +83,7 @@ impl<'m, M: PointAnswering> Answering for ByPoints<'m, M> {
 
     ghost goes_on = { λ by line. M.goes_on by.mode.now (chars line) };
 
-    fn explaining(&self) -> Explaining<'_> {
+    fn explaining(&self) -> &Explaining<'_> {
         self.mode.explaining()
     }
 

@@ -8,7 +8,7 @@ ghost use Rattle.idn_label.specs.Memory.{DecodesWithoutMemory};
 ghost use Rattle.idna.specs.Labels.{labels_of};
 ghost use Rattle.idn2_cli.specs.Answers.{one_answer};
 ghost use Rattle.idn2_cli.specs.Said.{Decoded};
-ghost use Rattle.idn2_cli.specs.Explained.{ByName, if_wanted};
+ghost use Rattle.idn2_cli.specs.inner.Explaining.{explained_by};
 ghost use Rattle.idn_label.specs.Steps.{in_utf8};
 ghost use Rattle.idn2_cli.specs.inner.LineAnswers.{with_feed};
 ghost use Rattle.idn2_cli.specs.Memory.{DecodesLineWithoutMemory};
@@ -27,20 +27,20 @@ use std::alloc::{AllocError, Global};
 
 /// Decoding (RFC 5891 section 5.3).
 #[derive(Clone, Copy)]
-pub(crate) struct Decode {
-    /// Whether causes are told.
-    pub explain: bool,
+pub(crate) struct Decode<'t> {
+    /// How it explains what it refuses.
+    pub explaining: Explaining<'t>,
 }
 
-impl Answering for Decode {
+impl<'t> Answering for Decode<'t> {
     ghost answer_of = { λ _ name. one_answer Decoded (in_utf8 (decode_answer name)) };
 
-    ghost explains = { λ mode. if_wanted mode.explain ByName };
+    ghost explains = { λ mode. explained_by mode.explaining };
 
     ghost needs_none = { λ _ name. DecodesLineWithoutMemory name };
 
-    fn explaining(&self) -> Explaining<'_> {
-        Explaining::Name.if_wanted(self.explain)
+    fn explaining(&self) -> &Explaining<'_> {
+        &self.explaining
     }
 
     fn answer<W: Sink, E: Sink>(
@@ -52,8 +52,7 @@ impl Answering for Decode {
     ) -> Result<bool, Stop> {
         let text = asked.text;
         if text.is_empty() {
-            let explaining = Explaining::Name.if_wanted(self.explain);
-            return refuse(alloc, asked, Refusal::Empty, explaining, console);
+            return refuse(alloc, asked, Refusal::Empty, &self.explaining, console);
         }
         // A line past ASCII is answered by its code points.
         if !text.is_ascii() {
@@ -61,10 +60,7 @@ impl Answering for Decode {
         }
         match fill_line(alloc, text, &mut buffers.u_label, &mut buffers.answer) {
             Ok(len) => reply(asked, Kind::Decoded, &buffers.answer[..len], console),
-            Err(refusal) => {
-                let explaining = Explaining::Name.if_wanted(self.explain);
-                refuse(alloc, asked, refusal, explaining, console)
-            }
+            Err(refusal) => refuse(alloc, asked, refusal, &self.explaining, console),
         }
     }
 }
@@ -90,13 +86,13 @@ fn fill_line(
     Ok(len + 1)
 }
 
-impl PointAnswering for Decode {
+impl<'t> PointAnswering for Decode<'t> {
     ghost answer_of = { λ _ name. one_answer Decoded (in_utf8 (decode_answer name)) };
 
-    ghost explains = { λ mode. if_wanted mode.explain ByName };
+    ghost explains = { λ mode. explained_by mode.explaining };
 
-    fn explaining(&self) -> Explaining<'_> {
-        Explaining::Name.if_wanted(self.explain)
+    fn explaining(&self) -> &Explaining<'_> {
+        &self.explaining
     }
 
     fn answer_points<W: Sink, E: Sink>(
@@ -109,8 +105,7 @@ impl PointAnswering for Decode {
         match line_of(alloc, points) {
             Ok(line) => reply(asked, Kind::Decoded, line.as_bytes(), console),
             Err(refusal) => {
-                let explaining = Explaining::Name.if_wanted(self.explain);
-                refuse_points(alloc, asked, points, refusal, explaining, console)
+                refuse_points(alloc, asked, points, refusal, &self.explaining, console)
             }
         }
     }

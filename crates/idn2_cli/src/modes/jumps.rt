@@ -8,7 +8,7 @@ ghost use Rattle.idn_label.specs.FirstFault.{IsRegistrable};
 ghost use Rattle.variant_table.specs.WellFormed.{IsWellFormed};
 ghost use Rattle.variant_list.specs.Jumps.{candidates_among_from};
 ghost use Rattle.idn2_cli.specs.Answers.{jump_answer, least_answer, requested_label, requested_text};
-ghost use Rattle.idn2_cli.specs.Explained.{ByRequest, if_wanted};
+ghost use Rattle.idn2_cli.specs.inner.Explaining.{explained_by};
 ghost use Rattle.idn2_cli.specs.Memory.{IsRefusedWithoutMemory};
 ghost use Rattle.idn2_cli.specs.Said.{Least, said_text};
 ghost use Rattle.idn2_cli.specs.Transcript.{Output, pieces_for};
@@ -37,14 +37,14 @@ use variant_table::Table;
 #[derive(Drop)]
 pub(crate) struct Jumps<'t> {
     pub table: &'t Table,
-    /// Whether causes are told.
-    pub explain: bool,
+    /// How it explains what it refuses.
+    pub explaining: Explaining<'t>,
 }
 
 impl<'t> PointAnswering for Jumps<'t> {
     ghost answer_of = { λ mode line. jump_answer mode.table.now line };
 
-    ghost explains = { λ mode. if_wanted mode.explain (ByRequest mode.table.now.entries) };
+    ghost explains = { λ mode. explained_by mode.explaining };
 
     ghost is_ready = { λ mode. IsWellFormed mode.table.now.entries };
 
@@ -52,8 +52,8 @@ impl<'t> PointAnswering for Jumps<'t> {
 
     ghost needs_none = { λ _ line. IsRefusedWithoutMemory (requested_label line) };
 
-    fn explaining(&self) -> Explaining<'_> {
-        Explaining::Request(self.table).if_wanted(self.explain)
+    fn explaining(&self) -> &Explaining<'_> {
+        &self.explaining
     }
 
     fn answer_points<W: Sink, E: Sink>(
@@ -66,7 +66,7 @@ impl<'t> PointAnswering for Jumps<'t> {
         match test_label(alloc, label_of_request(points)) {
             Ok(_) => answer_least(alloc, self, asked, points, console),
             Err(refusal) => {
-                refuse_points(alloc, asked, points, refusal, self.explaining(), console)
+                refuse_points(alloc, asked, points, refusal, &self.explaining, console)
             }
         }
     }
@@ -86,7 +86,7 @@ fn answer_least<W: Sink, E: Sink>(
     requires spelled { IsUtf8Of asked.now.text.now points.now }
     requires registrable { IsRegistrable (requested_label points.now) }
     ensures written { Emits console.old console.new
-        (pieces_for asked.now.form (if_wanted mode.now.explain (ByRequest mode.now.table.now.entries)) (asked_line asked.now)
+        (pieces_for asked.now.form (explained_by mode.now.explaining) (asked_line asked.now)
         (least_answer mode.now.table.now (requested_label points.now) (requested_text points.now))) result }
     ensures refused { IfOk result (λ refused. refused ≡ is_err (least_answer mode.now.table.now (requested_label points.now) (requested_text points.now))) }
     ensures begun { result ≡ Err stop.Memory → console.new ≡ console.old }
@@ -98,13 +98,12 @@ fn answer_least<W: Sink, E: Sink>(
             Ok(false)
         }
         Err(NetFault::NotInTable) => {
-            let explaining = Explaining::Request(mode.table).if_wanted(mode.explain);
             refuse_points(
                 alloc,
                 asked,
                 points,
                 Refusal::NotInTable,
-                explaining,
+                &mode.explaining,
                 console,
             )
         }

@@ -6,7 +6,7 @@ ghost use Rattle.idn_label.specs.Lookup.{lookup_answer};
 ghost use Rattle.idn_label.specs.Memory.{LooksUpWithoutMemory};
 ghost use Rattle.idn2_cli.specs.Answers.{one_answer};
 ghost use Rattle.idn2_cli.specs.Said.{LookedUp};
-ghost use Rattle.idn2_cli.specs.Explained.{ByQuery, if_wanted};
+ghost use Rattle.idn2_cli.specs.inner.Explaining.{explained_by};
 ghost use Rattle.idn2_cli.specs.inner.LineAnswers.{with_feed, query_answer};
 
 use crate::modes::answering::{Answering, Kind, reply};
@@ -22,22 +22,22 @@ use std::alloc::Global;
 
 /// Lookup (UTS 46 section 4.2).
 #[derive(Clone, Copy)]
-pub(crate) struct Lookup {
+pub(crate) struct Lookup<'t> {
     /// Whether ASCII code points other than letters, digits and hyphens are refused.
     pub std3: bool,
-    /// Whether causes are told.
-    pub explain: bool,
+    /// How it explains what it refuses.
+    pub explaining: Explaining<'t>,
 }
 
-impl Answering for Lookup {
+impl<'t> Answering for Lookup<'t> {
     ghost answer_of = { λ mode name. one_answer LookedUp (lookup_answer name mode.std3) };
 
-    ghost explains = { λ mode. if_wanted mode.explain (ByQuery mode.std3) };
+    ghost explains = { λ mode. explained_by mode.explaining };
 
     ghost needs_none = { λ mode name. LooksUpWithoutMemory mode.std3 name };
 
-    fn explaining(&self) -> Explaining<'_> {
-        Explaining::Query(self.std3).if_wanted(self.explain)
+    fn explaining(&self) -> &Explaining<'_> {
+        &self.explaining
     }
 
     fn answer<W: Sink, E: Sink>(
@@ -55,7 +55,7 @@ impl Answering for Lookup {
             &mut buffers.query,
         ) {
             Ok(len) => reply(asked, Kind::LookedUp, &buffers.query[..len], console),
-            Err(refusal) => refuse(alloc, asked, refusal, self.explaining(), console),
+            Err(refusal) => refuse(alloc, asked, refusal, &self.explaining, console),
         }
     }
 }

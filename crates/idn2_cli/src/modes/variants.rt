@@ -11,7 +11,7 @@ ghost use Rattle.std.specs.Option.{option_copied};
 ghost use Rattle.idn2_options.specs.Settings.{IsWithinLimits, keeping, tells_causes};
 ghost use Rattle.idn2_cli.specs.Answers.{variants_answer, listing_answer, tested_after};
 ghost use Rattle.idn2_cli.specs.inner.Dispositions.{AreOfTable, block_by, field_by};
-ghost use Rattle.idn2_cli.specs.Explained.{ByTable, if_wanted};
+ghost use Rattle.idn2_cli.specs.inner.Explaining.{explained_by};
 ghost use Rattle.idn2_cli.specs.Memory.{IsRefusedWithoutMemory};
 ghost use Rattle.idn2_cli.specs.Said.{said_text};
 ghost use Rattle.idn2_cli.specs.Transcript.{outputs, pieces_for};
@@ -43,12 +43,14 @@ pub(crate) struct Variants<'t, 'r, 'b> {
     pub dispositions: &'t Dispositions<Table>,
     pub options: &'t Options,
     pub registered: Option<&'r RegisteredLabels<'b>>,
+    /// How it explains what it refuses.
+    pub explaining: Explaining<'t>,
 }
 
 impl<'t, 'r, 'b> PointAnswering for Variants<'t, 'r, 'b> {
     ghost answer_of = { λ mode label. variants_answer (keeping (option_copied mode.registered) mode.options.now) mode.table.now label };
 
-    ghost explains = { λ mode. if_wanted (tells_causes mode.options.now) (ByTable mode.table.now.entries) };
+    ghost explains = { λ mode. explained_by mode.explaining };
 
     ghost is_ready = { λ mode. IsWithinLimits mode.options.now × IsWellFormed mode.table.now.entries
         × AreOfTable mode.table.now mode.dispositions.now };
@@ -59,9 +61,8 @@ impl<'t, 'r, 'b> PointAnswering for Variants<'t, 'r, 'b> {
 
     ghost goes_on = { λ mode label. All NeedsNoMemory (tested_after (keeping (option_copied mode.registered) mode.options.now) (spelled mode.table.now.entries label)) };
 
-    fn explaining(&self) -> Explaining<'_> {
-        let options = self.options;
-        Explaining::Sources(self.table).if_wanted(options.tells_causes())
+    fn explaining(&self) -> &Explaining<'_> {
+        &self.explaining
     }
 
     fn answer_points<W: Sink, E: Sink>(
@@ -74,7 +75,7 @@ impl<'t, 'r, 'b> PointAnswering for Variants<'t, 'r, 'b> {
         match test_label(alloc, points) {
             Ok(_) => list(alloc, self, asked, points, console),
             Err(refusal) => {
-                refuse_points(alloc, asked, points, refusal, self.explaining(), console)
+                refuse_points(alloc, asked, points, refusal, &self.explaining, console)
             }
         }
     }
@@ -130,7 +131,7 @@ fn list<W: Sink, E: Sink>(
     requires spelled { IsUtf8Of asked.now.text.now label.now }
     requires registrable { IsRegistrable label.now }
     ensures written { Emits console.old console.new
-        (pieces_for asked.now.form (if_wanted (tells_causes mode.now.options.now) (ByTable mode.now.table.now.entries)) (asked_line asked.now)
+        (pieces_for asked.now.form (explained_by mode.now.explaining) (asked_line asked.now)
         (listing_answer (keeping (option_copied mode.now.registered) mode.now.options.now) mode.now.table.now label.now)) result }
     ensures refused { IfOk result
         (λ refused. refused ≡ is_err (listing_answer (keeping (option_copied mode.now.registered) mode.now.options.now) mode.now.table.now label.now)) }
@@ -145,14 +146,12 @@ fn list<W: Sink, E: Sink>(
             Ok(false)
         }
         Err(NetFault::NotInTable) => {
-            let options = mode.options;
-            let explaining = Explaining::Sources(mode.table).if_wanted(options.tells_causes());
             refuse_points(
                 alloc,
                 asked,
                 label,
                 Refusal::NotInTable,
-                explaining,
+                &mode.explaining,
                 console,
             )
         }

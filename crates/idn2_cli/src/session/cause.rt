@@ -68,32 +68,11 @@ pub(crate) fn cause_of_text(
     alloc: Global,
     text: &[u8],
     refusal: Refusal,
-    explaining: Explaining<'_>,
+    explaining: &Explaining<'_>,
 ) -> Result<Option<LineCause>, AllocError>
     requires short { length text.now ≤ MAX_LINE_LEN }
-    ensures cause { IfOk result (λ cause. cause ≡ text_cause (explained_by explaining.entry) text.now refusal) }
-    ensures unexplained { explained_by explaining.entry ≡ explained.Unexplained → IsOk result }
-{
-    // Without the option nothing is looked for.
-    if let Explaining::Nothing = explaining {
-        return Ok(None);
-    }
-    wanted_cause_of_text(alloc, text, refusal, explaining)
-}
-
-/// The same, where it is looked for.
-#[cold]
-#[inline(never)]
-#[tactic(auto, using(crate::proofs::CauseLemmas::causes_of_text))]
-fn wanted_cause_of_text(
-    alloc: Global,
-    text: &[u8],
-    refusal: Refusal,
-    explaining: Explaining<'_>,
-) -> Result<Option<LineCause>, AllocError>
-    requires short { length text.now ≤ MAX_LINE_LEN }
-    ensures cause { IfOk result (λ cause. cause ≡ text_cause (explained_by explaining.entry) text.now refusal) }
-    ensures unexplained { explained_by explaining.entry ≡ explained.Unexplained → IsOk result }
+    ensures cause { IfOk result (λ cause. cause ≡ text_cause (explained_by explaining.now) text.now refusal) }
+    ensures unexplained { explained_by explaining.now ≡ explained.Unexplained → IsOk result }
 {
     let mut points = ArrayVec::new();
     match decode_points(text, &mut points) {
@@ -104,10 +83,10 @@ fn wanted_cause_of_text(
 
 /// A cause, if causes are wanted.
 pub(crate) fn cause_unless_unexplained(
-    explaining: Explaining<'_>,
+    explaining: &Explaining<'_>,
     cause: LineCause,
 ) -> Option<LineCause>
-    ensures { result ≡ unless_unexplained (explained_by explaining.entry) cause }
+    ensures { result ≡ unless_unexplained (explained_by explaining.now) cause }
 {
     match explaining {
         Explaining::Nothing => None,
@@ -135,18 +114,18 @@ pub(crate) fn cause_of_points(
     alloc: Global,
     points: &[u32],
     refusal: Refusal,
-    explaining: Explaining<'_>,
+    explaining: &Explaining<'_>,
 ) -> Result<Option<LineCause>, AllocError>
     requires short { length points.now ≤ MAX_LINE_LEN }
     requires scalar_values { AreScalarValues points.now }
-    ensures cause { IfOk result (λ cause. cause ≡ points_cause (explained_by explaining.entry) points.now refusal) }
-    ensures unexplained { explained_by explaining.entry ≡ explained.Unexplained → IsOk result }
+    ensures cause { IfOk result (λ cause. cause ≡ points_cause (explained_by explaining.now) points.now refusal) }
+    ensures unexplained { explained_by explaining.now ≡ explained.Unexplained → IsOk result }
 {
     match explaining {
         Explaining::Nothing => Ok(None),
         Explaining::Label => registered_cause(alloc, points, refusal),
         Explaining::Name => cause_of_name(alloc, points, refusal),
-        Explaining::Query(std3) => cause_of_query(alloc, points, std3, refusal),
+        Explaining::Query(std3) => cause_of_query(alloc, points, *std3, refusal),
         Explaining::Sources(table) => cause_by_table(alloc, points, refusal, table),
         Explaining::Request(table) => {
             cause_by_table(alloc, label_of_request(points), refusal, table)

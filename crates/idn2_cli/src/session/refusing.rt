@@ -36,13 +36,13 @@ pub(crate) fn refuse<W: Sink, E: Sink>(
     alloc: Global,
     asked: &Asked<'_>,
     refusal: Refusal,
-    explaining: Explaining<'_>,
+    explaining: &Explaining<'_>,
     console: &mut Console<'_, '_, W, E>,
 ) -> Result<bool, Stop>
     requires few { length asked.now.text.now ≤ MAX_LINE_LEN }
     ensures told { refusal ≢ Refusal.Memory →
-        Emits console.old console.new (pieces_for asked.now.form (explained_by explaining.entry) (asked_line asked.now) (Err refusal)) result }
-    ensures why { explained_by explaining.entry ≡ Unexplained → refusal ≢ Refusal.Memory → IfErr result (λ why. why ≢ stop.Memory) }
+        Emits console.old console.new (pieces_for asked.now.form (explained_by explaining.now) (asked_line asked.now) (Err refusal)) result }
+    ensures why { explained_by explaining.now ≡ Unexplained → refusal ≢ Refusal.Memory → IfErr result (λ why. why ≢ stop.Memory) }
     ensures memory { refusal ≡ Refusal.Memory → result ≡ Err stop.Memory }
     ensures begun { result ≡ Err stop.Memory → console.new ≡ console.old }
     ensures refused { IfOk result (λ refused. refused ≡ true) }
@@ -50,15 +50,17 @@ pub(crate) fn refuse<W: Sink, E: Sink>(
     if let Refusal::Memory = refusal {
         return Err(Stop::Memory);
     }
-    let cause = cause_of_text(alloc, asked.text, refusal, explaining)?;
-    tell(
-        asked.form,
-        asked.number,
-        Some(asked.text),
-        refusal,
-        cause,
-        console,
-    )
+    match explaining {
+        Explaining::Nothing => tell(
+            asked.form,
+            asked.number,
+            Some(asked.text),
+            refusal,
+            None,
+            console,
+        ),
+        _ => explain(alloc, asked, refusal, explaining, console),
+    }
 }
 
 /// The same of the code points of a line.
@@ -69,32 +71,32 @@ pub(crate) fn refuse_points<W: Sink, E: Sink>(
     asked: &Asked<'_>,
     points: &[u32],
     refusal: Refusal,
-    explaining: Explaining<'_>,
+    explaining: &Explaining<'_>,
     console: &mut Console<'_, '_, W, E>,
 ) -> Result<bool, Stop>
     requires few { length asked.now.text.now ≤ MAX_LINE_LEN }
     requires few_points { length points.now ≤ MAX_LINE_LEN }
     requires spelled { IsUtf8Of asked.now.text.now points.now }
     ensures told { refusal ≢ Refusal.Memory →
-        Emits console.old console.new (pieces_for asked.now.form (explained_by explaining.entry) (asked_line asked.now) (Err refusal)) result }
-    ensures why { explained_by explaining.entry ≡ Unexplained → refusal ≢ Refusal.Memory → IfErr result (λ why. why ≢ stop.Memory) }
+        Emits console.old console.new (pieces_for asked.now.form (explained_by explaining.now) (asked_line asked.now) (Err refusal)) result }
+    ensures why { explained_by explaining.now ≡ Unexplained → refusal ≢ Refusal.Memory → IfErr result (λ why. why ≢ stop.Memory) }
     ensures memory { refusal ≡ Refusal.Memory → result ≡ Err stop.Memory }
     ensures begun { result ≡ Err stop.Memory → console.new ≡ console.old }
     ensures refused { IfOk result (λ refused. refused ≡ true) }
 {
     match refusal {
         Refusal::Memory => Err(Stop::Memory),
-        _ => {
-            let cause = cause_of_points(alloc, points, refusal, explaining)?;
-            tell(
+        _ => match explaining {
+            Explaining::Nothing => tell(
                 asked.form,
                 asked.number,
                 Some(asked.text),
                 refusal,
-                cause,
+                None,
                 console,
-            )
-        }
+            ),
+            _ => explain_points(alloc, asked, points, refusal, explaining, console),
+        },
     }
 }
 
@@ -104,16 +106,80 @@ pub(crate) fn refuse_points<W: Sink, E: Sink>(
 pub(crate) fn refuse_long_line<W: Sink, E: Sink>(
     form: Form,
     number: u64,
-    explaining: Explaining<'_>,
+    explaining: &Explaining<'_>,
     console: &mut Console<'_, '_, W, E>,
 ) -> Result<bool, Stop>
     ensures told { Emits console.old console.new
-        (pieces_for form (explained_by explaining.entry) (record { number = number; body = None }) (Err LineTooLong)) result }
+        (pieces_for form (explained_by explaining.now) (record { number = number; body = None }) (Err LineTooLong)) result }
     ensures why { IfErr result (λ why. why ≢ stop.Memory) }
     ensures refused { IfOk result (λ refused. refused ≡ true) }
 {
     let cause = cause_unless_unexplained(explaining, LineCause::LongLine);
-    tell(form, number, None, Refusal::LineTooLong, cause, console)
+    tell(
+        form,
+        number,
+        None,
+        Refusal::LineTooLong,
+        cause.as_ref(),
+        console,
+    )
+}
+
+/// Reports a refusal of bytes with its cause, if there is one.
+///
+/// It stands apart, as does what follows: a refusal that is not explained makes no room for a cause.
+#[inline(never)]
+fn explain<W: Sink, E: Sink>(
+    alloc: Global,
+    asked: &Asked<'_>,
+    refusal: Refusal,
+    explaining: &Explaining<'_>,
+    console: &mut Console<'_, '_, W, E>,
+) -> Result<bool, Stop>
+    requires few { length asked.now.text.now ≤ MAX_LINE_LEN }
+    ensures told { Emits console.old console.new
+        (pieces_for asked.now.form (explained_by explaining.now) (asked_line asked.now) (Err refusal)) result }
+    ensures begun { result ≡ Err stop.Memory → console.new ≡ console.old }
+    ensures refused { IfOk result (λ refused. refused ≡ true) }
+{
+    let cause = cause_of_text(alloc, asked.text, refusal, explaining)?;
+    tell(
+        asked.form,
+        asked.number,
+        Some(asked.text),
+        refusal,
+        cause.as_ref(),
+        console,
+    )
+}
+
+/// The same of code points.
+#[inline(never)]
+fn explain_points<W: Sink, E: Sink>(
+    alloc: Global,
+    asked: &Asked<'_>,
+    points: &[u32],
+    refusal: Refusal,
+    explaining: &Explaining<'_>,
+    console: &mut Console<'_, '_, W, E>,
+) -> Result<bool, Stop>
+    requires few { length asked.now.text.now ≤ MAX_LINE_LEN }
+    requires few_points { length points.now ≤ MAX_LINE_LEN }
+    requires spelled { IsUtf8Of asked.now.text.now points.now }
+    ensures told { Emits console.old console.new
+        (pieces_for asked.now.form (explained_by explaining.now) (asked_line asked.now) (Err refusal)) result }
+    ensures begun { result ≡ Err stop.Memory → console.new ≡ console.old }
+    ensures refused { IfOk result (λ refused. refused ≡ true) }
+{
+    let cause = cause_of_points(alloc, points, refusal, explaining)?;
+    tell(
+        asked.form,
+        asked.number,
+        Some(asked.text),
+        refusal,
+        cause.as_ref(),
+        console,
+    )
 }
 
 /// Tells that a line of this number is refused, with its cause, if there is one. Of a line that is too long there is no
@@ -123,12 +189,12 @@ fn tell<W: Sink, E: Sink>(
     number: u64,
     text: Option<&[u8]>,
     refusal: Refusal,
-    cause: Option<LineCause>,
+    cause: Option<&LineCause>,
     console: &mut Console<'_, '_, W, E>,
 ) -> Result<bool, Stop>
     requires few { given_len (option_copied text) ≤ MAX_LINE_LEN }
     ensures told { Emits console.old console.new
-        (piece_in form (Refuses (record { number = number; body = option_copied text.entry }) refusal cause) ∷ []) result }
+        (piece_in form (Refuses (record { number = number; body = option_copied text.entry }) refusal (option_copied cause.entry)) ∷ []) result }
     ensures why { IfErr result (λ why. why ≢ stop.Memory) }
     ensures refused { IfOk result (λ refused. refused ≡ true) }
 {
@@ -142,16 +208,16 @@ fn tell<W: Sink, E: Sink>(
 fn tell_message<W: Sink, E: Sink>(
     number: u64,
     refusal: Refusal,
-    cause: Option<LineCause>,
+    cause: Option<&LineCause>,
     console: &mut Console<'_, '_, W, E>,
 ) -> Result<bool, Stop>
-    ensures told { Emits console.old console.new (Message (refused_message number refusal (tail_text refusal cause)) ∷ []) result }
+    ensures told { Emits console.old console.new (Message (refused_message number refusal (tail_text refusal (option_copied cause.entry))) ∷ []) result }
     ensures why { IfErr result (λ why. why ≡ stop.Messages) }
     ensures refused { IfOk result (λ refused. refused ≡ true) }
 {
     match cause {
         Some(cause) => {
-            let message = explained_message(number, &refusal, &cause);
+            let message = explained_message(number, &refusal, cause);
             write_message(message.as_slice(), console)
         }
         None => {
@@ -179,16 +245,16 @@ fn tell_object<W: Sink, E: Sink>(
     number: u64,
     text: Option<&[u8]>,
     refusal: Refusal,
-    cause: Option<LineCause>,
+    cause: Option<&LineCause>,
     console: &mut Console<'_, '_, W, E>,
 ) -> Result<bool, Stop>
     requires few { given_len (option_copied text) ≤ MAX_LINE_LEN }
     ensures told { Emits console.old console.new
-        (Output (refused_object (record { number = number; body = option_copied text.entry }) refusal cause) ∷ []) result }
+        (Output (refused_object (record { number = number; body = option_copied text.entry }) refusal (option_copied cause.entry)) ∷ []) result }
     ensures why { IfErr result (λ why. why ≡ stop.Output) }
     ensures refused { IfOk result (λ refused. refused ≡ true) }
 {
-    let members = details_of_refusal(&refusal, cause.as_ref());
+    let members = details_of_refusal(&refusal, cause);
     console.object(&Object::Refused(number, input_of(text), refusal, members))?;
     Ok(true)
 }

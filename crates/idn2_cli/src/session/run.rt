@@ -15,6 +15,7 @@ ghost use Rattle.idn2_options.specs.declared.command_line.mode.Mode.TheVariants 
 
 use crate::modes::code_points::ByPoints;
 use crate::modes::{Decode, Dispositions, Jumps, Lookup, Register, Variants, check_table};
+use crate::session::cause::Explaining;
 use crate::session::console::Console;
 use crate::session::lines::serve_lines;
 use crate::session::report::report;
@@ -132,19 +133,19 @@ fn serve_mode<R: Source, W: Sink, E: Sink>(
         Mode::Lookup => {
             let mode = Lookup {
                 std3: options.std3,
-                explain: options.tells_causes(),
+                explaining: Explaining::Query(options.std3).if_wanted(options.tells_causes()),
             };
             serve_lines(alloc, options.form, &mode, input, console)
         }
         Mode::Register => {
             let mode = Register {
-                explain: options.tells_causes(),
+                explaining: Explaining::Label.if_wanted(options.tells_causes()),
             };
             serve_lines(alloc, options.form, &mode, input, console)
         }
         Mode::Decode => {
             let mode = Decode {
-                explain: options.tells_causes(),
+                explaining: Explaining::Name.if_wanted(options.tells_causes()),
             };
             serve_lines(alloc, options.form, &mode, input, console)
         }
@@ -179,6 +180,7 @@ fn serve_variants<R: Source, W: Sink, E: Sink>(
         dispositions: &dispositions,
         options,
         registered,
+        explaining: Explaining::Sources(&table).if_wanted(options.tells_causes()),
     };
     serve_lines(
         alloc,
@@ -208,7 +210,7 @@ fn serve_jumps<R: Source, W: Sink, E: Sink>(
     };
     let mode = Jumps {
         table: &table,
-        explain: options.tells_causes(),
+        explaining: Explaining::Request(&table).if_wanted(options.tells_causes()),
     };
     serve_lines(
         alloc,

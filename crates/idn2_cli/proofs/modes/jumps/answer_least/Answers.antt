@@ -5,7 +5,6 @@ use Rattle.idn_text.specs.declared.refusal.Refusal.TheVariants.{NotInTable}
 use Rattle.variant_list.specs.Spelled.{spelled}
 use Rattle.variant_list.proofs.FromLemmas.{among_from-in_order}
 use Rattle.idn2_cli.specs.Answers.{requested_label}
-use Rattle.idn2_cli.proofs.RefusedLines.{emits_explained}
 use Rattle.idn2_cli.proofs.WrittenPieces.{stops, stops_first}
 use Rattle.idn2_cli.proofs.SegmentedLabels.{some-length, segmented_answer, unsegmented_answer}
 use Rattle.idn2_cli.proofs.modes.jumps.answer_least.Goals as goal
@@ -39,7 +38,7 @@ returns-in-Err-Memory-clause-written g c = stops_first _ _
 pub returns-in-Err-NotInTable-clause-written : goal.returns-in-Err-NotInTable-clause-written
 returns-in-Err-NotInTable-clause-written g c =
     rw (← c.parts_of.ensures.label, ← c.parts_of.ensures.text, unsegmented_answer c.args.mode.now.table.now.entries c.parts_of.result.0.now _ c.requires.table (c.in-Err-NotInTable.ensures.not_in_table c.in-Err-NotInTable.field-0-is))
-    (emits_explained _ _ _ _ _ _ (Err NotInTable) c.refuse_points.result c.if_wanted-explaining.ensures (c.refuse_points.ensures.told (λ e. cc)))
+    (c.refuse_points.ensures.told (λ e. cc))
 
 pub returns-in-Err-NotInTable-clause-refused : goal.returns-in-Err-NotInTable-clause-refused
 returns-in-Err-NotInTable-clause-refused g c =

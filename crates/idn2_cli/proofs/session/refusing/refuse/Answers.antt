@@ -1,16 +1,12 @@
-use Rattle.std.proofs.Common.{◌≡◌, ◌∙◌, Err, ap, false, refl, subst, true}
-use Rattle.std.specs.Result.{IsOk}
-use Rattle.std.proofs.lemmas.Result.{err_from_is_err_and}
-use Rattle.idn2_cli.proofs.WrittenPieces.{stops_first}
+use Rattle.std.proofs.Common.{sym}
+use Rattle.idn2_cli.proofs.CauseLemmas.{text_cause-nothing, unexplained-nothing}
+use Rattle.idn2_cli.proofs.RefusedLines.{emits_cause}
 use Rattle.idn2_cli.proofs.session.refusing.refuse.Goals as goal
 
-pub returns-in_err-cause : goal.returns-in_err-cause
-returns-in_err-cause g c =
-    let p = err_from_is_err_and c.from_residual.result c.from_residual.ensures.1 in
-    record {
-      told = λ other. rw (p.1, p.2) (stops_first _ _);
-      why = λ untold other. absurd (let bad : false ≡ true = subst IsOk c.in_err-cause.was (c.cause_of_text.ensures.unexplained untold) in cc);
-      memory = λ is. p.1 ∙ ap Err p.2;
-      begun = λ is. refl;
-      refused = rw p.1 tt;
-    }
+pub returns-in-Nothing-clause-told : goal.returns-in-Nothing-clause-told
+returns-in-Nothing-clause-told g c other =
+    emits_cause _ _ c.args.asked.now.form c.args.asked.now.number c.args.asked.now.text.now c.args.refusal _ _ c.tell.result
+    (sym (text_cause-nothing c.args.explaining.now c.args.asked.now.text.now c.args.refusal c.in-Nothing.is)) c.tell.ensures.told
+
+pub returns-in_default-explaining-clause-why : goal.returns-in_default-explaining-clause-why
+returns-in_default-explaining-clause-why g c untold other = absurd (c.in_default-explaining.not-Nothing (unexplained-nothing c.args.explaining.now untold))

@@ -5,6 +5,7 @@ use Rattle.idn2_cli.specs.Answers.{jump_answer, requested_label}
 use Rattle.idn2_cli.specs.Ends.{lines_job}
 use Rattle.idn2_cli.specs.Explained.{ByRequest, if_wanted}
 use Rattle.idn2_cli.specs.Memory.{IsRefusedWithoutMemory}
+use Rattle.idn2_cli.specs.inner.Explaining.{explained_by}
 use Rattle.idn2_cli.proofs.RunEnds.{as_mode, in_form, jumps_by_table, refused_lines}
 use Rattle.idn2_cli.proofs.session.run.serve_jumps.Goals as goal
 
@@ -16,6 +17,7 @@ returns-in-Err g c =
 pub returns : goal.returns
 returns g c =
     as_mode c.args.options.now Jump c.args.text.now (Ok c.in-Ok.table) _ _ _ _ _ c.serve_lines.result c.requires.mode c.in-Ok.ensures.table
-    (ap (λ f. lines_job f (if_wanted c.tells_causes.result (ByRequest c.in-Ok.table.entries)) (jump_answer c.in-Ok.table) true (λ line. IsRefusedWithoutMemory (requested_label (chars line))) (λ line. Unit {0})) (ap (λ (v : Settings). v.form) c.options.view_is)
-    ∙ ap (λ x. lines_job c.args.options.now.form (if_wanted x (ByRequest c.in-Ok.table.entries)) (jump_answer c.in-Ok.table) true (λ line. IsRefusedWithoutMemory (requested_label (chars line))) (λ line. Unit {0})) c.tells_causes.ensures)
+    (ap (λ f. lines_job f (explained_by c.if_wanted.result) (jump_answer c.in-Ok.table) true (λ line. IsRefusedWithoutMemory (requested_label (chars line))) (λ line. Unit {0})) (ap (λ (v : Settings). v.form) c.options.view_is)
+    ∙ ap (λ e. lines_job c.args.options.now.form e (jump_answer c.in-Ok.table) true (λ line. IsRefusedWithoutMemory (requested_label (chars line))) (λ line. Unit {0}))
+    (c.if_wanted.ensures ∙ ap (λ x. if_wanted x (ByRequest c.in-Ok.table.entries)) c.tells_causes.ensures))
     c.serve_lines.ensures

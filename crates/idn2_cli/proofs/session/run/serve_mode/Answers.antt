@@ -10,10 +10,11 @@ use Rattle.idn2_cli.specs.Answers.{LineAnswer, one_answer, u_label_of}
 use Rattle.idn2_cli.specs.Said.{LookedUp, Registered, Decoded}
 use Rattle.idn2_cli.specs.inner.Emitting.{Emits}
 use Rattle.idn2_options.specs.declared.command_line.form.Form.{Form}
-use Rattle.idn2_cli.specs.Explained.{ByLabel, ByName, ByQuery, if_wanted}
+use Rattle.idn2_cli.specs.Explained.{ByLabel, ByName, ByQuery, Explained, if_wanted}
 use Rattle.idn2_cli.specs.Memory.{DecodesLineWithoutMemory}
 use Rattle.idn2_cli.specs.Transcript.{check_pieces, no_table}
-use Rattle.idn2_cli.specs.Ends.{lines_job}
+use Rattle.idn2_cli.specs.inner.Explaining.{explained_by}
+use Rattle.idn2_cli.specs.Ends.{Job, lines_job}
 use Rattle.idn2_options.specs.declared.command_line.mode.Mode.TheVariants.{Lookup, Register, Decode}
 use Rattle.idn2_cli.proofs.RunEnds.{as_mode, checked, does_as, jump_job-kept}
 use Rattle.idn2_cli.proofs.session.run.serve_mode.Goals as goal
@@ -25,10 +26,11 @@ returns-in-Lookup g c =
     let form = ap (λ (v : Settings). v.form) c.options.view_is in
     let std3 = ap (λ (v : Settings). v.std3) c.options.view_is in
     let by : Bool → List ℕ → LineAnswer = λ b name. one_answer LookedUp (lookup_answer name b) in
+    let job : Form → Explained → Bool → Job = λ f e b. lines_job f e (by b) false (LooksUpWithoutMemory b) (λ line. Unit {0}) in
     as_mode o Lookup c.args.table.now (Ok no_table) _ _ _ _ _ c.serve_lines.result mode refl
-    (ap (λ f. lines_job f (if_wanted c.tells_causes.result (ByQuery c.options.inside.std3)) (by c.options.inside.std3) false (LooksUpWithoutMemory c.options.inside.std3) (λ line. Unit {0})) form
-    ∙ ap (λ b. lines_job o.form (if_wanted c.tells_causes.result (ByQuery b)) (by b) false (LooksUpWithoutMemory b) (λ line. Unit {0})) std3
-    ∙ ap (λ x. lines_job o.form (if_wanted x (ByQuery o.std3)) (by o.std3) false (LooksUpWithoutMemory o.std3) (λ line. Unit {0})) c.tells_causes.ensures) c.serve_lines.ensures
+    (ap (λ f. job f (explained_by c.if_wanted.result) c.options.inside.std3) form ∙ ap (λ e. job o.form e c.options.inside.std3) c.if_wanted.ensures
+    ∙ ap (λ b. job o.form (if_wanted c.tells_causes.result (ByQuery b)) b) std3 ∙ ap (λ x. job o.form (if_wanted x (ByQuery o.std3)) o.std3) c.tells_causes.ensures)
+    c.serve_lines.ensures
 
 pub returns-in-Register : goal.returns-in-Register
 returns-in-Register g c =
@@ -37,8 +39,9 @@ returns-in-Register g c =
     let form = ap (λ (v : Settings). v.form) c.options.view_is in
     let by : List ℕ → LineAnswer = λ label. one_answer (Registered (u_label_of label)) (register_answer label) in
     as_mode o Register c.args.table.now (Ok no_table) _ _ _ _ _ c.serve_lines-in-Register.result mode refl
-    (ap (λ f. lines_job f (if_wanted c.tells_causes-in-Register.result ByLabel) by false (λ line. RegistersWithoutMemory (chars line)) (λ line. Unit {0})) form
-    ∙ ap (λ x. lines_job o.form (if_wanted x ByLabel) by false (λ line. RegistersWithoutMemory (chars line)) (λ line. Unit {0})) c.tells_causes-in-Register.ensures)
+    (ap (λ f. lines_job f (explained_by c.if_wanted-in-Register.result) by false (λ line. RegistersWithoutMemory (chars line)) (λ line. Unit {0})) form
+    ∙ ap (λ e. lines_job o.form e by false (λ line. RegistersWithoutMemory (chars line)) (λ line. Unit {0}))
+    (c.if_wanted-in-Register.ensures ∙ ap (λ x. if_wanted x ByLabel) c.tells_causes-in-Register.ensures))
     c.serve_lines-in-Register.ensures
 
 pub returns-in-Decode : goal.returns-in-Decode
@@ -48,8 +51,9 @@ returns-in-Decode g c =
     let form = ap (λ (v : Settings). v.form) c.options.view_is in
     let by : List ℕ → LineAnswer = λ name. one_answer Decoded (in_utf8 (decode_answer name)) in
     as_mode o Decode c.args.table.now (Ok no_table) _ _ _ _ _ c.serve_lines-in-Decode.result mode refl
-    (ap (λ f. lines_job f (if_wanted c.tells_causes-in-Decode.result ByName) by false DecodesLineWithoutMemory (λ line. Unit {0})) form
-    ∙ ap (λ x. lines_job o.form (if_wanted x ByName) by false DecodesLineWithoutMemory (λ line. Unit {0})) c.tells_causes-in-Decode.ensures)
+    (ap (λ f. lines_job f (explained_by c.if_wanted-in-Decode.result) by false DecodesLineWithoutMemory (λ line. Unit {0})) form
+    ∙ ap (λ e. lines_job o.form e by false DecodesLineWithoutMemory (λ line. Unit {0}))
+    (c.if_wanted-in-Decode.ensures ∙ ap (λ x. if_wanted x ByName) c.tells_causes-in-Decode.ensures))
     c.serve_lines-in-Decode.ensures
 
 pub returns-in-CheckTable : goal.returns-in-CheckTable

@@ -1,11 +1,13 @@
-use Rattle.std.proofs.Common.{All, Ok, ap, chars, true}
+use Rattle.std.proofs.Common.{All, Ok, ap, chars, true, ◌∙◌}
 use Rattle.std.specs.Option.{option_copied}
 use Rattle.idn_label.specs.Memory.{NeedsNoMemory}
 use Rattle.variant_table.specs.Entries.{TableValue}
-use Rattle.idn2_options.specs.Settings.{Settings, keeping, tells_causes}
+use Rattle.variant_list.specs.Spelled.{spelled}
+use Rattle.idn2_options.specs.Settings.{Settings, keeping}
 use Rattle.idn2_cli.specs.Answers.{tested_after, variants_answer}
 use Rattle.idn2_cli.specs.Explained.{ByTable, if_wanted}
 use Rattle.idn2_cli.specs.Memory.{IsRefusedWithoutMemory}
+use Rattle.idn2_cli.specs.inner.Explaining.{explained_by}
 use Rattle.idn2_cli.specs.Ends.{lines_job}
 use Rattle.std.proofs.lemmas.Result.{err_from_is_err_and}
 use Rattle.idn2_options.specs.declared.command_line.mode.Mode.TheVariants.{Variants}
@@ -27,6 +29,8 @@ returns g c =
     let o : Settings = keeping (option_copied c.args.registered) c.args.options.now in
     let table : TableValue = c.in-Ok.table in
     as_mode o Variants c.args.text.now (Ok table) _ _ _ _ _ c.serve_lines.result c.requires.mode c.in-Ok.ensures.table
-    (ap (λ f. lines_job f (if_wanted (tells_causes o) (ByTable table.entries)) (variants_answer o table) true (λ line. IsRefusedWithoutMemory (chars line)) (λ line. All NeedsNoMemory (tested_after o table.entries (chars line))))
-    (ap (λ (v : Settings). v.form) c.options.view_is))
+    (ap (λ f. lines_job f (explained_by c.if_wanted.result) (variants_answer o table) true (λ line. IsRefusedWithoutMemory (chars line)) (λ line. All NeedsNoMemory (tested_after o (spelled table.entries (chars line)))))
+    (ap (λ (v : Settings). v.form) c.options.view_is)
+    ∙ ap (λ e. lines_job o.form e (variants_answer o table) true (λ line. IsRefusedWithoutMemory (chars line)) (λ line. All NeedsNoMemory (tested_after o (spelled table.entries (chars line)))))
+    (c.if_wanted.ensures ∙ ap (λ x. if_wanted x (ByTable table.entries)) c.tells_causes.ensures))
     c.serve_lines.ensures

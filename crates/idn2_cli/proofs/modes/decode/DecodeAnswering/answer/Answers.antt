@@ -5,14 +5,14 @@ use Rattle.idn2_cli.specs.Answers.{one_answer}
 use Rattle.idn2_cli.specs.Said.{Decoded}
 use Rattle.idn_label.specs.Steps.{in_utf8}
 use Rattle.idn2_cli.proofs.TextAnswers.{text_answer-none, text_answer-ascii, answered-filled, emits_answer, one_answer-answered, one_answer-refused}
-use Rattle.idn2_cli.proofs.RefusedLines.{emits_explained, emits_refusal, refused_is, refused_without}
+use Rattle.idn2_cli.proofs.RefusedLines.{emits_refusal, refused_is, refused_without}
 use Rattle.idn2_cli.proofs.modes.decode.DecodeAnswering.answer.Goals as goal
 
 pub returns-then-is_empty-clause-written : goal.returns-then-is_empty-clause-written
 returns-then-is_empty-clause-written g c =
     let none = sym c.is_empty.ensures ∙ c.if-is_empty.true in
     rw (text_answer-none (λ name. one_answer Decoded (in_utf8 (decode_answer name))) c.args.asked.now.text.now none)
-    (emits_explained _ _ _ _ _ _ (Err Empty) c.refuse.result c.if_wanted-explaining.ensures (c.refuse.ensures.told (λ e. cc)))
+    (c.refuse.ensures.told (λ e. cc))
 
 pub returns-then-is_empty-clause-refused : goal.returns-then-is_empty-clause-refused
 returns-then-is_empty-clause-refused g c =
@@ -45,8 +45,7 @@ returns-in-Err-clause-written g c =
     let answer = in_utf8 (decode_answer text) in
     let some = sym c.is_empty.ensures ∙ c.if-is_empty.false in
     let ascii : IsAscii text = search rules in
-    emits_explained _ _ _ _ _ _ _ c.refuse-in-Err.result c.if_wanted-explaining-in-Err.ensures
-    (emits_refusal _ _ _ _ _ c.in-Err.refusal _ c.refuse-in-Err.result (λ other. text_answer-ascii (λ name. one_answer Decoded (in_utf8 (decode_answer name))) text ascii some ∙ one_answer-refused Decoded answer c.in-Err.refusal (c.in-Err.ensures.answer other)) c.refuse-in-Err.ensures.told c.refuse-in-Err.ensures.memory c.refuse-in-Err.ensures.begun)
+    emits_refusal _ _ _ _ _ c.in-Err.refusal _ c.refuse-in-Err.result (λ other. text_answer-ascii (λ name. one_answer Decoded (in_utf8 (decode_answer name))) text ascii some ∙ one_answer-refused Decoded answer c.in-Err.refusal (c.in-Err.ensures.answer other)) c.refuse-in-Err.ensures.told c.refuse-in-Err.ensures.memory c.refuse-in-Err.ensures.begun
 
 pub returns-in-Err-clause-refused : goal.returns-in-Err-clause-refused
 returns-in-Err-clause-refused g c =
@@ -60,7 +59,7 @@ pub returns-then-is_empty-clause-no_memory : goal.returns-then-is_empty-clause-n
 returns-then-is_empty-clause-no_memory g c = λ none.
     let empty = sym c.is_empty.ensures ∙ c.if-is_empty.true in
     refused_without _ _ Empty c.refuse.result (λ e. cc) (λ other. text_answer-none (λ name. one_answer Decoded (in_utf8 (decode_answer name))) c.args.asked.now.text.now empty)
-    (λ untold. c.refuse.ensures.why (c.if_wanted-explaining.ensures ∙ untold)) none.causeless
+    c.refuse.ensures.why none.causeless
 
 pub returns-in-Err-clause-no_memory : goal.returns-in-Err-clause-no_memory
 returns-in-Err-clause-no_memory g c = λ none.
@@ -70,4 +69,4 @@ returns-in-Err-clause-no_memory g c = λ none.
     let ascii : IsAscii text = search rules in
     refused_without _ _ c.in-Err.refusal c.refuse-in-Err.result (λ e. c.in-Err.ensures.no_memory none.answered.1 (ap Err e))
     (λ other. text_answer-ascii (λ name. one_answer Decoded (in_utf8 (decode_answer name))) text ascii some ∙ one_answer-refused Decoded answer c.in-Err.refusal (c.in-Err.ensures.answer other))
-    (λ untold. c.refuse-in-Err.ensures.why (c.if_wanted-explaining-in-Err.ensures ∙ untold)) none.causeless
+    c.refuse-in-Err.ensures.why none.causeless

@@ -2,7 +2,7 @@ use Rattle.std.proofs.Common.{◌∙◌, ap, Err}
 use Rattle.idn2_cli.specs.Said.{LookedUp}
 use Rattle.idn2_cli.specs.inner.LineAnswers.{query_answer}
 use Rattle.idn2_cli.proofs.TextAnswers.{text_answer-query, answered-filled, emits_answer, one_answer-answered, one_answer-refused}
-use Rattle.idn2_cli.proofs.RefusedLines.{emits_explained, emits_refusal, refused_is, refused_without}
+use Rattle.idn2_cli.proofs.RefusedLines.{emits_refusal, refused_is, refused_without}
 use Rattle.idn2_cli.proofs.modes.lookup.LookupAnswering.answer.Goals as goal
 
 pub reply-requires-clause-filled : goal.reply-requires-clause-filled
@@ -24,8 +24,7 @@ pub returns-in-Err-clause-written : goal.returns-in-Err-clause-written
 returns-in-Err-clause-written g c =
     let std3 = c.args.self.now.std3 in
     let text = c.args.asked.now.text.now in
-    emits_explained _ _ _ _ _ _ _ c.refuse.result c.explaining.ensures
-    (emits_refusal _ _ _ _ _ c.in-Err.refusal _ c.refuse.result (λ other. text_answer-query std3 text ∙ one_answer-refused LookedUp (query_answer text std3) c.in-Err.refusal (c.in-Err.ensures.answer other)) c.refuse.ensures.told c.refuse.ensures.memory c.refuse.ensures.begun)
+    emits_refusal _ _ _ _ _ c.in-Err.refusal _ c.refuse.result (λ other. text_answer-query std3 text ∙ one_answer-refused LookedUp (query_answer text std3) c.in-Err.refusal (c.in-Err.ensures.answer other)) c.refuse.ensures.told c.refuse.ensures.memory c.refuse.ensures.begun
 
 pub returns-in-Err-clause-refused : goal.returns-in-Err-clause-refused
 returns-in-Err-clause-refused g c =
@@ -39,4 +38,4 @@ returns-in-Err-clause-no_memory g c = λ none.
     let text = c.args.asked.now.text.now in
     refused_without _ _ c.in-Err.refusal c.refuse.result (λ e. c.in-Err.ensures.no_memory none.answered (ap Err e))
     (λ other. text_answer-query std3 text ∙ one_answer-refused LookedUp (query_answer text std3) c.in-Err.refusal (c.in-Err.ensures.answer other))
-    (λ untold. c.refuse.ensures.why (c.explaining.ensures ∙ untold)) none.causeless
+    c.refuse.ensures.why none.causeless
