@@ -12,7 +12,7 @@ use Rattle.idn2_cli.specs.inner.Emitting.{Emits}
 use Rattle.idn2_options.specs.declared.command_line.form.Form.{Form}
 use Rattle.idn2_cli.specs.Explained.{ByLabel, ByName, ByQuery, Explained, if_wanted}
 use Rattle.idn2_cli.specs.Memory.{DecodesLineWithoutMemory}
-use Rattle.idn2_cli.specs.Transcript.{check_pieces, no_table}
+use Rattle.idn2_cli.specs.Transcript.{IsReadAs, check_pieces, no_table}
 use Rattle.idn2_cli.specs.inner.Explaining.{explained_by}
 use Rattle.idn2_cli.specs.Ends.{Job, lines_job}
 use Rattle.idn2_options.specs.declared.command_line.mode.Mode.TheVariants.{Lookup, Register, Decode}
@@ -60,7 +60,7 @@ pub returns-in-CheckTable : goal.returns-in-CheckTable
 returns-in-CheckTable g c =
     let mode = sym (ap (λ (v : Settings). v.mode) c.options.view_is) ∙ c.in-CheckTable.is in
     let k = c.serve_check.ensures in
-    checked (keeping (option_copied c.args.registered) c.args.options.now) c.args.table.now k.0 _ _ _ c.serve_check.result mode k.1 c.requires.unread
+    checked (keeping (option_copied c.args.registered) c.args.options.now) c.args.table.now k.0 _ _ _ c.serve_check.result mode (subst (λ n. IsReadAs n c.args.table.now k.0) (ap (λ (v : Settings). v.notation) c.options.view_is) k.1) c.requires.unread
     (subst (λ (f : Form). Emits c.args.console.now c.serve_check.new.console (check_pieces f k.0) c.serve_check.result) (ap (λ (v : Settings). v.form) c.options.view_is) k.2) k.3
 
 pub returns-in-Jump : goal.returns-in-Jump

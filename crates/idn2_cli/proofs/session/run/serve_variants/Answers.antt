@@ -1,9 +1,10 @@
-use Rattle.std.proofs.Common.{All, Ok, ap, chars, true, ◌∙◌}
+use Rattle.std.proofs.Common.{subst, All, Ok, ap, chars, true, ◌∙◌}
 use Rattle.std.specs.Option.{option_copied}
 use Rattle.idn_label.specs.Memory.{NeedsNoMemory}
 use Rattle.variant_table.specs.Entries.{TableValue}
 use Rattle.variant_list.specs.Spelled.{spelled}
 use Rattle.idn2_options.specs.Settings.{Settings, keeping}
+use Rattle.variant_table.specs.Texts.{IsTextOf, IsToldOf}
 use Rattle.idn2_cli.specs.Answers.{tested_after, variants_answer}
 use Rattle.idn2_cli.specs.Explained.{ByTable, if_wanted}
 use Rattle.idn2_cli.specs.Memory.{IsRefusedWithoutMemory}
@@ -16,7 +17,7 @@ use Rattle.idn2_cli.proofs.session.run.serve_variants.Goals as goal
 
 pub returns-in-Err : goal.returns-in-Err
 returns-in-Err g c =
-    refused_lines (keeping (option_copied c.args.registered) c.args.options.now) Variants (lists_by_table (keeping (option_copied c.args.registered) c.args.options.now) c.requires.mode) c.args.text.now _ c.in-Err.fault _ _ c.refuse_table.result c.requires.unread c.in-Err.ensures.fault
+    refused_lines (keeping (option_copied c.args.registered) c.args.options.now) Variants (lists_by_table (keeping (option_copied c.args.registered) c.args.options.now) c.requires.mode) c.args.text.now _ c.in-Err.fault _ _ c.refuse_table.result c.requires.unread (subst (λ n. IsToldOf n c.args.text.now c.in-Err.fault) (ap (λ (v : Settings). v.notation) c.options.view_is) c.in-Err.ensures.fault)
     (in_form c.args.text.now c.in-Err.fault _ _ _ _ c.refuse_table.result (ap (λ (v : Settings). v.form) c.options.view_is) c.refuse_table.ensures.told) c.refuse_table.ensures.status
 
 pub returns-in_err-dispositions : goal.returns-in_err-dispositions
@@ -28,7 +29,7 @@ pub returns : goal.returns
 returns g c =
     let o : Settings = keeping (option_copied c.args.registered) c.args.options.now in
     let table : TableValue = c.in-Ok.table in
-    as_mode o Variants c.args.text.now (Ok table) _ _ _ _ _ c.serve_lines.result c.requires.mode c.in-Ok.ensures.table
+    as_mode o Variants c.args.text.now (Ok table) _ _ _ _ _ c.serve_lines.result c.requires.mode (subst (λ n. IsTextOf n c.args.text.now c.in-Ok.table) (ap (λ (v : Settings). v.notation) c.options.view_is) c.in-Ok.ensures.table)
     (ap (λ f. lines_job f (explained_by c.if_wanted.result) (variants_answer o table) true (λ line. IsRefusedWithoutMemory (chars line)) (λ line. All NeedsNoMemory (tested_after o (spelled table.entries (chars line)))))
     (ap (λ (v : Settings). v.form) c.options.view_is)
     ∙ ap (λ e. lines_job o.form e (variants_answer o table) true (λ line. IsRefusedWithoutMemory (chars line)) (λ line. All NeedsNoMemory (tested_after o (spelled table.entries (chars line)))))
