@@ -75,7 +75,8 @@ dist:
 	rm -rf $(DIST)/$(PACKED)
 	$(MAKE) --no-print-directory install DESTDIR= PREFIX=$(abspath $(DIST))/$(PACKED)
 	find tables -name '*.txt' -o -name '*.py' | xargs -I % install -D -m 644 % $(DIST)/$(PACKED)/%
-	install -D -m 644 -t $(DIST)/$(PACKED)/docs docs/GUIDE.md docs/NOTATION.md docs/PROFILE.md docs/GLOSSARY.md docs/idn2.1
+	install -D -m 644 -t $(DIST)/$(PACKED)/docs docs/GUIDE.md docs/JSON.md docs/answers.schema.json docs/NOTATION.md \
+	    docs/PROFILE.md docs/GLOSSARY.md docs/idn2.1
 	install -m 644 -t $(DIST)/$(PACKED) CHANGELOG.md $(wildcard LICENSE* LICENCE* COPYING*)
 	cd $(DIST)/$(PACKED) && find . -type f ! -name SHA256SUMS -printf '%P\n' | LC_ALL=C sort | xargs sha256sum > SHA256SUMS
 	cd $(DIST) && tar --sort=name --mtime=@0 --owner=0 --group=0 --numeric-owner -cf - $(PACKED) | gzip -n > $(PACKED).tar.gz

@@ -25,6 +25,7 @@ REGISTER, DECODE, LOOKUP = ["-r"], ["-d"], ["-l"]
 
 with open(os.path.join(ROOT, "docs", "answers.schema.json"), encoding="utf-8") as file:
     SCHEMA = json.load(file)
+VALIDATOR = jsonschema and jsonschema.validators.validator_for(SCHEMA)(SCHEMA)
 
 
 def refused(line, number, text, **members):
@@ -115,8 +116,8 @@ def has_members(each, schema):
 
 
 def expect_schema(each):
-    if jsonschema is not None:
-        jsonschema.validate(each, SCHEMA)
+    if VALIDATOR is not None:
+        VALIDATOR.validate(each)
         return
     kinds = [resolved(kind) for kind in SCHEMA["oneOf"]]
     assert sum(has_members(each, kind) for kind in kinds) >= 1, each

@@ -423,15 +423,16 @@ def completes_words_in_bash(folder):
         (["--register", "--l"], []),
         (["--a"], []),
         (["--variants", "t", "--a"], ["--after", "--among"]),
-        (["--variants", "t", "--j"], ["--jump"]),
+        (["--variants", "t", "--j"], ["--jump", "--json"]),
         (["--variants", "t", "--among", "tables/ger"], ["tables/german.txt"]),
         (["--variants", "t", "--among", "f", "--t"], ["--tr46nt"]),
         (["--variants", "t", "--tries", "9", "--a"], ["--after"]),
-        (["--variants", "t", "--among", "f", "--j"], []),
-        (["--variants", "t", "--limit", "9", "--j"], []),
+        (["--variants", "t", "--among", "f", "--ju"], []),
+        (["--variants", "t", "--limit", "9", "--ju"], []),
         (["--variants", "t", "--jump", "--a"], []),
         (["--variants", "t", "--jump", "--l"], []),
-        (["--j"], []),
+        (["--j"], ["--json"]),
+        (["--json", "--j"], []),
         (["--variants", "t", "--limit", "7", "--l"], []),
         (["--variants", "tables/ger"], ["tables/german.txt"]),
         (["--check-table", "=", "tables/ger"], ["tables/german.txt"]),
@@ -526,8 +527,8 @@ def prints_in_a_locale_what_the_documents_show(folder, locale):
     os.symlink(TABLES, os.path.join(folder, "tables"))
     environment = {**os.environ, "LC_ALL": locale, "PATH": folder + os.pathsep + os.environ["PATH"]}
     documents = {"README.md": markdown_blocks, "docs/GUIDE.md": markdown_blocks, "docs/NOTATION.md": markdown_blocks,
-                 "docs/DEFINITIONS.md": markdown_blocks, "docs/idn2.1": manual_blocks}
-    for (name, blocks), least in zip(documents.items(), (8, 80, 7, 14, 6)):
+                 "docs/DEFINITIONS.md": markdown_blocks, "docs/JSON.md": markdown_blocks, "docs/idn2.1": manual_blocks}
+    for (name, blocks), least in zip(documents.items(), (8, 80, 7, 14, 2, 6)):
         with open(os.path.join(ROOT, name), encoding="utf-8") as file:
             text = file.read()
         sessions = [session for block in map(sessions_of, blocks(text)) if is_run(block) for session in block]

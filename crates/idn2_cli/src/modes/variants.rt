@@ -2,13 +2,13 @@
 
 ghost use Rattle.std.specs.Prelude.{◌≡◌, ◌≤◌, true, All, IfOk, length};
 ghost use Rattle.std.specs.Result.{is_err};
-ghost use Rattle.idn_text.specs.Points.{IsUtf8Of};
+ghost use Rattle.idn_text.specs.Points.{AreScalarValues, IsUtf8Of};
 ghost use Rattle.idn_label.specs.FirstFault.{IsRegistrable};
 ghost use Rattle.idn_label.specs.Memory.{NeedsNoMemory};
 ghost use Rattle.variant_table.specs.WellFormed.{IsWellFormed};
 ghost use Rattle.variant_list.specs.Spelled.{spelled};
 ghost use Rattle.std.specs.Option.{option_copied};
-ghost use Rattle.idn2_options.specs.Settings.{IsWithinLimits, keeping, tells_causes};
+ghost use Rattle.idn2_options.specs.Settings.{IsWithinLimits, keeping};
 ghost use Rattle.idn2_cli.specs.Answers.{variants_answer, listing_answer, tested_after};
 ghost use Rattle.idn2_cli.specs.inner.Dispositions.{AreOfTable, block_by, field_by};
 ghost use Rattle.idn2_cli.specs.inner.Explaining.{explained_by};
