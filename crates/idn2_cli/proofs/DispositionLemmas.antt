@@ -27,6 +27,7 @@ use Rattle.variant_list.specs.Visited.{visited}
 use Rattle.variant_list.proofs.NetLabels.{among-in_order}
 use Rattle.variant_list.proofs.RisingLists.{Contains-filter}
 use Rattle.idn2_cli.specs.Answers.{block, block_to, is_among, is_registrable, kept_to, lesser_label, nth, nth_if_given, unless_kept, is_allocatable, allocation, disposition_in, disposition, IsFieldOf, IsAllocation, IsDisposition, stop_of, up_to, variants_after}
+use Rattle.answer_json.specs.declared.block.Disposition.{Disposition}
 use Rattle.answer_json.specs.declared.block.Disposition.TheVariants.{Allocatable, Blocked}
 use Rattle.idn2_cli.specs.Said.{Said, Listed, BlockEnd}
 use Rattle.idn2_cli.specs.inner.Dispositions.{AreOfTable, AreOfLabel, CanBeCut, block_by, field_by}
@@ -160,13 +161,13 @@ told-block o table label told well is =
     (map-same (λ v. Listed (field_by told v) v) (λ v. Listed (disposition table label v) v) (up_to stop vs) (up_to-all _ stop vs same))
 
 -- the block of labels that are the same in order
-block-same : (field : List ℕ → List ℕ) (o : Settings) (labels others : List (List ℕ)) → in_order labels ≡ in_order others → block_by field o labels ≡ block_by field o others
+block-same : (field : List ℕ → Option Disposition) (o : Settings) (labels others : List (List ℕ)) → in_order labels ≡ in_order others → block_by field o labels ≡ block_by field o others
 block-same field o labels others same =
     ap (λ (vs : List (List ℕ)). of_lists vs (tested_among hopeless labels o.after) (candidates_among labels o.after)) (among-in_order is_registrable labels others o.after same)
     ∙ ap (λ (ts : List (List ℕ)). of_lists (variants_among is_registrable others o.after) ts (candidates_among labels o.after)) (among-in_order (λ v. fits_label v && has_hope hopeless v) labels others o.after same)
     ∙ ap (of_lists (variants_among is_registrable others o.after) (tested_among hopeless others o.after)) (among-in_order fits_label labels others o.after same)
   where
-    of_lists : List (List ℕ) → List (List ℕ) → List (List ℕ) → List (List ℕ)
+    of_lists : List (List ℕ) → List (List ℕ) → List (List ℕ) → List Said
     of_lists vs ts cs =
         let kept = kept_to o.registered vs in
         block_to field (lesser_label (nth_if_given kept o.limit) (lesser_label (nth (unless_kept o.registered ts) o.tries) (nth_if_given (visited hopeless None (unless_kept o.registered cs)) o.steps))) kept
@@ -175,7 +176,7 @@ block-same field o labels others same =
 pub written_block : (text : Said → List ℕ) (o : Settings) (table : TableValue) (label : List ℕ) (net : Built) (told : Dispositions Built) → All IsEntry table.entries → in_order net.spelled ≡ in_order (spelled table.entries label) → AreOfLabel table label told
     → outputs text (block_by (field_by told) o net.spelled) ≡ outputs text (block o table label)
 written_block text o table label net told well same is =
-    ap outputs text (block-same (field_by told) o net.spelled (spelled table.entries label) same ∙ told-block o table label told well is)
+    ap (outputs text) (block-same (field_by told) o net.spelled (spelled table.entries label) same ∙ told-block o table label told well is)
 
 -- ---- the field that computes is the field
 

@@ -13,4 +13,4 @@ returns-in_err-cause-clause-told g c =
 pub returns-clause-told : goal.returns-clause-told
 returns-clause-told g c =
     emits_cause _ _ c.args.asked.now.form c.args.asked.now.number c.args.asked.now.text.now c.args.refusal _ _ c.tell.result
-    (c.as_ref.ensures ∙ c.in_ok-cause.ensures.cause ∙ sym (text_cause-points _ c.args.asked.now.text.now c.args.points.now c.args.refusal c.requires.spelled)) c.tell.ensures.told
+    (c.as_ref.ensures.value ∙ c.in_ok-cause.ensures.cause ∙ sym (text_cause-points _ c.args.asked.now.text.now c.args.points.now c.args.refusal c.requires.spelled)) c.tell.ensures.told
