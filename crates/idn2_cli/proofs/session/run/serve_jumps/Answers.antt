@@ -1,6 +1,7 @@
-use Rattle.std.proofs.Common.{Ok, ap, chars, true, ◌∙◌}
+use Rattle.std.proofs.Common.{subst, Ok, ap, chars, true, ◌∙◌}
 use Rattle.idn2_options.specs.Settings.{Settings}
 use Rattle.idn2_options.specs.declared.command_line.mode.Mode.TheVariants.{Jump}
+use Rattle.variant_table.specs.Texts.{IsTextOf, IsToldOf}
 use Rattle.idn2_cli.specs.Answers.{jump_answer, requested_label}
 use Rattle.idn2_cli.specs.Ends.{lines_job}
 use Rattle.idn2_cli.specs.Explained.{ByRequest, if_wanted}
@@ -10,11 +11,11 @@ use Rattle.idn2_cli.proofs.session.run.serve_jumps.Goals as goal
 
 pub returns-in-Err : goal.returns-in-Err
 returns-in-Err g c =
-    refused_lines c.args.options.now Jump (jumps_by_table c.args.options.now c.requires.mode) c.args.text.now _ c.in-Err.fault _ _ c.refuse_table.result c.requires.unread c.in-Err.ensures.fault c.refuse_table.ensures.told c.refuse_table.ensures.status
+    refused_lines c.args.options.now Jump (jumps_by_table c.args.options.now c.requires.mode) c.args.text.now _ c.in-Err.fault _ _ c.refuse_table.result c.requires.unread (subst (λ n. IsToldOf n c.args.text.now c.in-Err.fault) (ap (λ (v : Settings). v.notation) c.options.view_is) c.in-Err.ensures.fault) c.refuse_table.ensures.told c.refuse_table.ensures.status
 
 pub returns : goal.returns
 returns g c =
-    as_mode c.args.options.now Jump c.args.text.now (Ok c.in-Ok.table) _ _ _ _ _ c.serve_lines.result c.requires.mode c.in-Ok.ensures.table
+    as_mode c.args.options.now Jump c.args.text.now (Ok c.in-Ok.table) _ _ _ _ _ c.serve_lines.result c.requires.mode (subst (λ n. IsTextOf n c.args.text.now c.in-Ok.table) (ap (λ (v : Settings). v.notation) c.options.view_is) c.in-Ok.ensures.table)
     (ap (λ e. lines_job e (jump_answer c.in-Ok.table) true (λ line. IsRefusedWithoutMemory (requested_label (chars line))) (λ line. Unit {0}))
     (c.if_wanted.ensures ∙ ap (λ x. if_wanted x (ByRequest c.in-Ok.table.entries)) (ap (λ (v : Settings). v.explain) c.options.view_is)))
     c.serve_lines.ensures

@@ -1,4 +1,4 @@
-use Rattle.std.proofs.Common.{refl, ap, sym, ◌∙◌, Ok, ℕ, List, Bool, false, chars}
+use Rattle.std.proofs.Common.{subst, refl, ap, sym, ◌∙◌, Ok, ℕ, List, Bool, false, chars}
 use Rattle.idn_label.specs.Lookup.{lookup_answer}
 use Rattle.idn_label.specs.Decode.{decode_answer}
 use Rattle.idn_label.specs.Memory.{LooksUpWithoutMemory, RegistersWithoutMemory}
@@ -9,7 +9,7 @@ use Rattle.idn2_options.specs.Settings.{Settings, keeping}
 use Rattle.idn2_cli.specs.Answers.{LineAnswer, one_line}
 use Rattle.idn2_cli.specs.Explained.{ByLabel, ByName, ByQuery, Explained, if_wanted}
 use Rattle.idn2_cli.specs.Memory.{DecodesLineWithoutMemory}
-use Rattle.idn2_cli.specs.Transcript.{no_table}
+use Rattle.idn2_cli.specs.Transcript.{IsReadAs, no_table}
 use Rattle.idn2_cli.specs.Ends.{Job, lines_job}
 use Rattle.idn2_options.specs.declared.command_line.mode.Mode.TheVariants.{Lookup, Register, Decode}
 use Rattle.idn2_cli.proofs.RunEnds.{as_mode, checked, does_as, jump_job-kept}
@@ -48,7 +48,7 @@ pub returns-in-CheckTable : goal.returns-in-CheckTable
 returns-in-CheckTable g c =
     let mode = sym (ap (λ (v : Settings). v.mode) c.options.view_is) ∙ c.in-CheckTable.is in
     let k = c.serve_check.ensures in
-    checked (keeping (option_copied c.args.registered) c.args.options.now) c.args.table.now k.0 _ _ _ c.serve_check.result mode k.1 c.requires.unread k.2 k.3
+    checked (keeping (option_copied c.args.registered) c.args.options.now) c.args.table.now k.0 _ _ _ c.serve_check.result mode (subst (λ n. IsReadAs n c.args.table.now k.0) (ap (λ (v : Settings). v.notation) c.options.view_is) k.1) c.requires.unread k.2 k.3
 
 pub returns-in-Jump : goal.returns-in-Jump
 returns-in-Jump g c =
