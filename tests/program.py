@@ -86,8 +86,8 @@ def shows_help_and_version(folder):
     for words in (["-h"], ["--help"], ["-V"], ["--version"]):
         done = run(words)
         assert (done.returncode, done.stderr) == (0, b"") and done.stdout, words
-    for option in (b"--register", b"--decode", b"--variants", b"--check-table", b"--among", b"--jump", b"--after",
-                   b"--limit", b"--tries", b"--steps"):
+    for option in (b"--register", b"--decode", b"--variants", b"--check-table", b"--ruleset", b"--check-ruleset", b"--among",
+                   b"--jump", b"--after", b"--limit", b"--tries", b"--steps"):
         assert option in run(["--help"]).stdout, option
     assert b"Unicode" in run(["--version"]).stdout
 
