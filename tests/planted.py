@@ -8,9 +8,9 @@ refusal of its own there is tried again by itself. So is one that edits anything
 
 What refuses an edit is told after it: a goal in the code; or a proof that was written for the right code and no longer
 serves, which says less of the contract. An edit that is refused only since a proof names what it takes away says nothing:
-it counts as a failure, as do one that is proved and one that doesn't compile. The copies begin with what earlier checks
-kept; LANES is how many crates are tried side by side. The last line is 'N passed, M failed', and the exit status is 0 where
-nothing failed."""
+it counts as a failure, as do one that is proved and one that doesn't compile. Each check begins with what that of the right
+code kept; LANES is how many crates are tried side by side. The last line is 'N passed, M failed', and the exit status is 0
+where nothing failed."""
 
 import collections
 import concurrent.futures
@@ -33,8 +33,9 @@ MOST = 16
 IMPL = re.compile(r"^impl\b(?:<.*?> )?(?:.* for )?&?\s*(\w+)")
 HEAD = re.compile(r"^( *)(?:pub(?:\(\w+\))? )?(?:final )?(?:const )?(?:unsafe )?fn (\w+)")
 GOAL = re.compile(r"^(?:note: )?(?:\./)?(src/\S+?):(\d+):\d+: (?:error: )?(.*)")
-PROOF = re.compile(r"^(?:\./)?(proofs/\S+?)/\w+\.antt:\d+:\d+: error: (.*)")
-NAMED = re.compile(r"has no field|is not in scope|has no `|was not admitted|were not checked")
+PROOF = re.compile(r"^(?:\./)?(proofs/\S+?)(?:/\w+)?\.antt:\d+:\d+: error: (.*)")
+# of a field that is gone the line names the record alone
+NAMED = re.compile(r"record `[^`]*`(?:$| \(nearest: )|has no field|is not in scope|has no `|was not admitted|were not checked")
 UNREADABLE = re.compile(r"\berror\[[\w-]+\]")
 
 # Its replacements, and the bodies that it edits; none where it edits anything else.
@@ -101,6 +102,11 @@ def needed_by(crate):
     return found
 
 
+def link_or_copy(source, target):
+    """A check replaces a module's file that it kept, and changes none, so these are linked."""
+    return os.link(source, target) if source.endswith(".oantt") else shutil.copy2(source, target)
+
+
 class Copy:
     """A copy of a crate, with what it stands on, in which edits are planted."""
 
@@ -113,6 +119,8 @@ class Copy:
         for name in needed:
             shutil.copytree(os.path.join(CRATES, name), os.path.join(self.folder, "crates", name))
         self.home = os.path.join(self.folder, "crates", crate)
+        self.work = os.path.join(self.home, "out", "incremental")
+        self.kept = os.path.join(self.folder, "kept")
         shutil.rmtree(os.path.join(self.home, "must-fail"), ignore_errors=True)
 
     def __enter__(self):
@@ -121,8 +129,15 @@ class Copy:
     def __exit__(self, *_):
         shutil.rmtree(self.folder, ignore_errors=True)
 
+    def keep_work(self):
+        """Has each later check begin with what the last one kept, and not with what one of a wrong body left."""
+        shutil.copytree(self.work, self.kept, copy_function=link_or_copy)
+
     def check(self, edits=()):
         """What the check of the crate with these edits says: its status and its lines."""
+        if os.path.isdir(self.kept):
+            shutil.rmtree(self.work)
+            shutil.copytree(self.kept, self.work, copy_function=link_or_copy)
         texts = {}
         for edit in edits:
             for file, old, new in edit.pairs:
@@ -190,6 +205,7 @@ def try_crate(crate, folder):
         if copy.check()[0] != 0:
             print(f"planted {crate}: it isn't proved as it stands", flush=True)
             return 0, len(edits)
+        copy.keep_work()
         for batch in batches_of(edits):
             for edit, is_refused, said in verdicts(copy, batch):
                 passed, failed = passed + is_refused, failed + (not is_refused)
