@@ -169,11 +169,18 @@ def refusal_of(edit, lines):
         goal = GOAL.match(line)
         if goal and (not edit.bodies or any(goal[1] == body.file and body.first <= int(goal[2]) <= body.last for body in edit.bodies)):
             return f"{goal[1]}:{goal[2]}: {goal[3][:120]}"
+    for folder, said in proofs_of(edit, lines):
+        if not NAMED.search(said):
+            return f"by the shape of a proof: {folder}: {said[:120]}"
+    return None
+
+
+def proofs_of(edit, lines):
+    """What is said of proofs of a body that an edit changes; of all proofs, where it edits anything else."""
     for line in lines:
         proof = PROOF.match(line)
-        if proof and not NAMED.search(proof[2]) and (not edit.bodies or any(is_of(body, proof[1]) for body in edit.bodies)):
-            return f"by the shape of a proof: {proof[1]}: {proof[2][:120]}"
-    return None
+        if proof and (not edit.bodies or any(is_of(body, proof[1]) for body in edit.bodies)):
+            yield proof.groups()
 
 
 def verdicts(copy, batch):
@@ -182,19 +189,19 @@ def verdicts(copy, batch):
     unread = next((line for line in lines if UNREADABLE.search(line)), None)
     for edit in batch:
         refusal = None if status == 0 or unread else refusal_of(edit, lines)
+        named = None if unread else next(proofs_of(edit, lines), None)
         if refusal:
             yield edit, True, refusal
-        elif len(batch) > 1:
+        elif len(batch) > 1 and not named:
             yield from verdicts(copy, [edit])
         elif status == 0:
             yield edit, False, "NOT REFUSED: the crate is still proved"
         elif unread:
             yield edit, False, f"it doesn't compile: {unread[:160]}"
         else:
-            named = next((line for line in lines if PROOF.match(line)), None)
             # what the prover says of code that it can't take, if it does
             told = next((line for line in lines if ": no proof: " in line), lines[-1] if lines else "")
-            yield edit, False, f"refused by a name alone: {named[:160]}" if named else f"no verdict: {told[:300]}"
+            yield edit, False, f"refused by a name alone: {': '.join(named)[:160]}" if named else f"no verdict: {told[:300]}"
 
 
 def try_crate(crate, folder):
