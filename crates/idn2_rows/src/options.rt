@@ -25,7 +25,7 @@ Options:
   -N, --tr46nt                Non-transitional lookup, which lookup does anyway
       --usestd3asciirules     Lookup refuses ASCII but letters, digits, hyphens
       --explain               Messages of refused lines go on with the cause
-      --json                  Answer by objects of JSON, refusals with causes too
+      --json                  Answer by objects of JSON, with causes of refusals
       --quiet                 Accepted; there is no banner
       --after <TEXT>          With --variants: list only variants after TEXT
       --limit <N>             With --variants: stop after N variants of a line

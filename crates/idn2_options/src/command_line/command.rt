@@ -164,7 +164,7 @@ fn with_switches<'a>(command: Command<'a>, alloc: Global) -> Result<Command<'a>,
         command,
         alloc,
         JSON,
-        "Answer by objects of JSON, refusals with causes too",
+        "Answer by objects of JSON, with causes of refusals",
     )?;
     with_flag(command, alloc, QUIET, "Accepted; there is no banner")
 }
