@@ -5,6 +5,7 @@ ghost use Rattle.std.specs.Result.{is_err};
 ghost use Rattle.idn2_cli.specs.Answers.{LineAnswer, text_answer};
 ghost use Rattle.idn2_cli.specs.Explained.{Explained};
 ghost use Rattle.idn2_cli.specs.Memory.{NeedsNone};
+ghost use Rattle.answer_json.specs.Answers.{line_of};
 ghost use Rattle.answer_json.specs.Inputs.{told_of};
 ghost use Rattle.idn2_cli.specs.Said.{said_object, said_text};
 ghost use Rattle.idn2_cli.specs.Transcript.{Output, pieces_for};
@@ -94,9 +95,29 @@ pub(crate) fn reply<W: Sink, E: Sink>(
 {
     match asked.form {
         Form::Plain => console.output(line)?,
-        Form::Json => console.object(&object_of(asked, kind, line))?,
+        Form::Json => write_object_of(asked, kind, line, console)?,
     }
     Ok(false)
+}
+
+/// Writes the object of such an answer.
+///
+/// It stands apart: a line that is answered by a text makes no room for an object.
+#[inline(never)]
+fn write_object_of<W: Sink, E: Sink>(
+    asked: &Asked<'_>,
+    kind: Kind,
+    line: &[u8],
+    console: &mut Console<'_, '_, W, E>,
+) -> Result<(), Stop>
+    requires few { length asked.now.text.now ≤ MAX_LINE_LEN }
+    requires filled { 1 ≤ length line.now }
+    requires short { length line.now ≤ longest kind }
+    ensures written { (text : List ℕ) → line.now ≡ text ++ 10 ∷ [] →
+        Emits console.old console.new (Output (line_of (said_object asked.now.number (told_of (Some asked.now.text.now)) (said_by kind text))) ∷ []) result }
+    ensures why { IfErr result (λ why. why ≡ stop.Output) }
+{
+    console.object(&object_of(asked, kind, line))
 }
 
 /// The object of such an answer.
