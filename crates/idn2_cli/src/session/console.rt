@@ -1,11 +1,12 @@
 //! The two writers of a run.
 
-ghost use Rattle.std.specs.Prelude.{◌≡◌, ◌∷◌, [], IfErr};
+ghost use Rattle.idn_text.specs.Writers.{TakesPart, TakesWhole};
+ghost use Rattle.std.specs.Prelude.{◌≡◌, ◌∷◌, [], IfErr, OnOk};
 
 use crate::session::object::{Object, write_object};
 use crate::session::stop::Stop;
 use answer_json::ObjectLine;
-use idn_text::{Sink, write_text};
+use idn_text::{Sink, WriteFault, write_text};
 use std::marker::Model;
 
 /// The output and the messages of a run. Contracts see what the two hold.
@@ -45,7 +46,7 @@ impl<'o, 'm, W: Sink, E: Sink> Console<'o, 'm, W, E> {
         ensures written { Emits self.old self.new (pieces.Output text.now ∷ []) result }
         ensures why { IfErr result (λ why. why ≡ stop.Output) }
     {
-        match write_text(self.output, text) {
+        match write_answer(self.output, text) {
             Ok(()) => Ok(()),
             Err(_fault) => Err(Stop::Output),
         }
@@ -58,7 +59,7 @@ impl<'o, 'm, W: Sink, E: Sink> Console<'o, 'm, W, E> {
         ensures why { IfErr result (λ why. why ≡ stop.Output) }
     {
         write_object(&mut self.room, object);
-        match write_text(self.output, self.room.as_slice()) {
+        match write_answer(self.output, self.room.as_slice()) {
             Ok(()) => Ok(()),
             Err(_fault) => Err(Stop::Output),
         }
@@ -74,4 +75,14 @@ impl<'o, 'm, W: Sink, E: Sink> Console<'o, 'm, W, E> {
             Err(_fault) => Err(Stop::Messages),
         }
     }
+}
+
+/// Writes a text whole to the output. Texts and objects go through it, so that `write_text` has one caller for the output, and
+/// stands where lines are answered.
+#[inline]
+fn write_answer<W: Sink>(output: &mut W, text: &[u8]) -> Result<(), WriteFault>
+    ensures whole { OnOk result (TakesWhole (W.state output.old) (W.state output.new) text.now) }
+    ensures part { IfErr result (λ fault. TakesPart (W.state output.old) (W.state output.new) text.now fault.taken) }
+{
+    write_text(output, text)
 }
