@@ -35,7 +35,11 @@ pub fn net_of(alloc: Global, table: &Table, label: &[u32]) -> Result<Net, Fail> 
 
 /// The same from the text of the table.
 pub fn net(alloc: Global, table: &[u8], label: &str) -> Result<Net, Fail> {
-    net_of(alloc, &Table::read(alloc, Notation::Table, table)?, &points(alloc, label)?)
+    net_of(
+        alloc,
+        &Table::read(alloc, Notation::Table, table)?,
+        &points(alloc, label)?,
+    )
 }
 
 /// The same of a label of so many times a code point.

@@ -120,7 +120,11 @@ fn blocked(alloc: Global, table: &Table, label: &[u32]) -> Result<Vec<bool>, Fai
 /// Which variants are blocked.
 #[test]
 fn blocked_variants(rt: HostRuntime) -> Result<(), Fail> {
-    let table = Table::read(rt.alloc(), Notation::Table, b"%version 2\n0061\n0078|!0079:007A:!0031")?;
+    let table = Table::read(
+        rt.alloc(),
+        Notation::Table,
+        b"%version 2\n0061\n0078|!0079:007A:!0031",
+    )?;
     let got = blocked(rt.alloc(), &table, &[0x78])?;
     assert_eq!(&rt; got.as_slice(), [false, true, false, true].as_slice());
     Ok(())

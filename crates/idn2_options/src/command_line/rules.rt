@@ -4,8 +4,8 @@ ghost use Rattle.clap.specs.Words.{found_of, rows_of};
 ghost use Rattle.idn2_options.specs.Words.{among_of, bounds_listing, bounds_variants, checked_file, checks, checks_alone, file_of, has_counts, has_short_start, is_allowed, is_bound_if_given, is_count_if_given, jumps_by_table, listing_file, lists, names_one_mode, notation_of, start_of, suits_among};
 
 use crate::command_line::arguments::{
-    AFTER, AMONG, CHECK_RULESET, CHECK_TABLE, DECODE, JUMP, LIMIT, LOOKUP, REGISTER, RULESET, STEPS,
-    TRIES, VARIANTS, has_flag, has_strings, has_value, value_of,
+    AFTER, AMONG, CHECK_RULESET, CHECK_TABLE, DECODE, JUMP, LIMIT, LOOKUP, REGISTER, RULESET,
+    STEPS, TRIES, VARIANTS, has_flag, has_strings, has_value, value_of,
 };
 use crate::command_line::counts::{count_of, steps_of};
 use clap::ArgMatches;

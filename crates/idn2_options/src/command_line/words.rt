@@ -6,7 +6,8 @@ ghost use Rattle.idn2_options.specs.Settings.{IsWithinLimits, SuitsMode};
 ghost use Rattle.idn2_options.specs.Words.{IsAnswer, IsUsage, count_of, form_of, mode_of, options_of, settings_of, start_of, steps_of, strings_of, value_of};
 
 use crate::command_line::arguments::{
-    AMONG, DECODE, EXPLAIN, JSON, JUMP, LIMIT, REGISTER, STD3, STEPS, STRINGS, TRIES, has_flag, value_of,
+    AMONG, DECODE, EXPLAIN, JSON, JUMP, LIMIT, REGISTER, STD3, STEPS, STRINGS, TRIES, has_flag,
+    value_of,
 };
 use crate::command_line::command;
 use crate::command_line::counts::{count_of, steps_of};
