@@ -24,12 +24,16 @@ strings_rule name = record (new_rule name) {
   range = Some (record { start_inclusive = 0; end_inclusive = 2 ^ 64 - 1 });
 }
 
--- `-l`, `-r`, `-d`, `--variants FILE`, `--check-table FILE`, `--ruleset FILE`, `--check-ruleset FILE`
+-- `-l`, `-r`, `-d`
 abbrev pub with_modes : App → App
-with_modes a = with_rule (with_rule (with_rule (with_rule (with_rule (with_rule (with_rule a
+with_modes a = with_rule (with_rule (with_rule a
     (short_flag_rule LOOKUP.now 108))
     (short_flag_rule REGISTER.now 114))
-    (short_flag_rule DECODE.now 100))
+    (short_flag_rule DECODE.now 100)
+
+-- `--variants FILE`, `--check-table FILE`, `--ruleset FILE`, `--check-ruleset FILE`
+abbrev pub with_tables : App → App
+with_tables a = with_rule (with_rule (with_rule (with_rule a
     (value_rule VARIANTS.now))
     (value_rule CHECK_TABLE.now))
     (value_rule RULESET.now))
@@ -64,5 +68,5 @@ versioned_app name = record (new_app name) { top = record (new_app name).top { h
 
 -- `idn2`; building it adds `-h`, `--help`, `-V` and `--version`
 unfoldable pub app : App
-app = with_rule (with_bounds (with_switches (with_collisions (with_modes (versioned_app (codes "idn2"))))))
+app = with_rule (with_bounds (with_switches (with_collisions (with_tables (with_modes (versioned_app (codes "idn2")))))))
     (strings_rule STRINGS.now)

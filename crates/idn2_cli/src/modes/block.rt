@@ -70,20 +70,12 @@ pub(crate) fn write_block<W: Sink, E: Sink>(
     'variants: loop {
         match cursor.seek(alloc, &mut judge, &mut tries, &mut steps)? {
             Outcome::Found => {}
-            Outcome::Spent => return write_stop(
-                asked,
-                count,
-                cursor.last(),
-                &mut judge.line,
-                console,
-            ),
-            Outcome::Halted => return write_stop(
-                asked,
-                count,
-                cursor.last(),
-                &mut judge.line,
-                console,
-            ),
+            Outcome::Spent => {
+                return write_stop(asked, count, cursor.last(), &mut judge.line, console);
+            }
+            Outcome::Halted => {
+                return write_stop(asked, count, cursor.last(), &mut judge.line, console);
+            }
             Outcome::Ended => return write_end(asked, count, console),
         }
         let variant = cursor.last();

@@ -2,7 +2,7 @@
 //! No argument has a rule on another, so that `clap`'s definition gives what the words mean.
 ghost use Rattle.std.specs.Prelude.{◌≡◌, IfOk, codes, false, map, string_bytes};
 ghost use Rattle.clap.specs.Words.{FailsBy, app_of, fault_of, found_of, matches_of, rows_of, rule_of, with_rule};
-ghost use Rattle.idn2_options.specs.CommandLine.{app, flag_rule, short_flag_rule, value_rule, strings_rule, with_modes, with_collisions, with_switches, with_bounds};
+ghost use Rattle.idn2_options.specs.CommandLine.{app, flag_rule, short_flag_rule, value_rule, strings_rule, with_modes, with_tables, with_collisions, with_switches, with_bounds};
 
 use crate::command_line::arguments::{
     AFTER, AMONG, CHECK_RULESET, CHECK_TABLE, DECODE, EXPLAIN, JSON, JUMP, LIMIT, LOOKUP, QUIET,
@@ -55,6 +55,7 @@ fn command<'a>(alloc: Global) -> Result<Command<'a>, AllocError>
         .about(ABOUT)
         .after_help(AFTER_HELP);
     let command = with_modes(command, alloc)?;
+    let command = with_tables(command, alloc)?;
     let command = with_collisions(command, alloc)?;
     let command = with_switches(command, alloc)?;
     let command = with_bounds(command, alloc)?;
@@ -83,13 +84,18 @@ fn with_modes<'a>(command: Command<'a>, alloc: Global) -> Result<Command<'a>, Al
         'r',
         "Test each line, one label, and print its A-label",
     )?;
-    let command = with_short_flag(
+    with_short_flag(
         command,
         alloc,
         DECODE,
         'd',
         "Turn the A-labels of each name into U-labels",
-    )?;
+    )
+}
+
+fn with_tables<'a>(command: Command<'a>, alloc: Global) -> Result<Command<'a>, AllocError>
+    ensures { IfOk result (λ r. app_of r ≡ with_tables (app_of command.entry)) }
+{
     let command = with_option(
         command,
         alloc,

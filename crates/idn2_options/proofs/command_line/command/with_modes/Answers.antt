@@ -1,14 +1,10 @@
-use Rattle.idn2_options.specs.CommandLine.{short_flag_rule, value_rule}
+use Rattle.idn2_options.specs.CommandLine.{short_flag_rule}
 use Rattle.idn2_options.proofs.AppLemmas.{IfOk-with_rule, with_rule-after}
 use Rattle.idn2_options.proofs.command_line.command.with_modes.Goals as goal
-use Rattle.idn2_options.specs.declared.command_line.arguments.TheConstants.{CHECK_RULESET, CHECK_TABLE, DECODE, REGISTER, RULESET, VARIANTS}
+use Rattle.idn2_options.specs.declared.command_line.arguments.TheConstants.{DECODE, REGISTER}
 
 pub returns : goal.returns
 returns c =
-    IfOk-with_rule c.with_option-4.result _ _ (value_rule CHECK_RULESET.now) c.with_option-4.ensures
-    (with_rule-after _ _ _ (value_rule RULESET.now) c.in_ok-command-6.ensures
-    (with_rule-after _ _ _ (value_rule CHECK_TABLE.now) c.in_ok-command-5.ensures
-    (with_rule-after _ _ _ (value_rule VARIANTS.now) c.in_ok-command-4.ensures
-    (with_rule-after _ _ _ (short_flag_rule DECODE.now 100) c.in_ok-command-3.ensures
+    IfOk-with_rule c.with_short_flag-3.result _ _ (short_flag_rule DECODE.now 100) c.with_short_flag-3.ensures
     (with_rule-after _ _ _ (short_flag_rule REGISTER.now 114) c.in_ok-command-2.ensures
-    c.in_ok-command.ensures)))))
+    c.in_ok-command.ensures)
