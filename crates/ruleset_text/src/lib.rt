@@ -36,7 +36,7 @@ pub use laws::{
     definitions_compute_the_entries, definitions_compute_the_examples,
     definitions_compute_the_lines, reading_a_pattern_is_exact, what_lines_define_has_no_fault,
 };
-pub use lexemes::next_lexeme;
+pub use lexemes::{next_lexeme, without_blanks};
 pub use limits::{has_its_sets, is_within, without_atoms};
 pub use names::{Name, is_name, number_of};
 pub use spans::read_spans;

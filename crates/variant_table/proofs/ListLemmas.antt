@@ -1,6 +1,6 @@
--- One element of a list, and what follows it.
+-- One element of a list, and what follows it; a fact about a failed call.
 use Rattle.std.proofs.Common.{◌≡◌, ℕ, zero, suc, ◌+◌, true, false, ◌||◌, List, [], ◌∷◌, ◌++◌, take, drop, Some, sym, ap, ◌∙◌, add-one}
-use Rattle.std.specs.Prelude.{slice_get, bytes_eq}
+use Rattle.std.specs.Prelude.{slice_get, bytes_eq, OnErr, Result, Ok, Err}
 use Rattle.std.specs.List.{list_any}
 use Rattle.variant_table.specs.Conditions.{repeats}
 
@@ -25,3 +25,7 @@ take_suc (y ∷ ys) (suc i) x e = ap (λ l. y ∷ l) (take_suc ys i x e)
 
 pub take_next : {X : Type 0} (xs : List X) (i : ℕ) (x : X) → slice_get xs i ≡ Some x → take (i + 1) xs ≡ take i xs ++ x ∷ []
 take_next xs i x e = ap (λ n. take n xs) (add-one i) ∙ take_suc xs i x e
+
+pub on_err : {A E : Type 0} (r : Result A E) (P : Type 0) → P → OnErr r P
+on_err (Ok x) P p = tt
+on_err (Err e) P p = p

@@ -1,9 +1,9 @@
 use Rattle.std.proofs.Common.{◌≡◌, ◌∙◌, sym, ap, ℕ, List, [], ◌∷◌, true, Some, None, eqb, cond, drop, refl}
 use Rattle.std.specs.Prelude.{slice_get}
 use Rattle.variant_table.specs.Reading.{is_skipped}
-use Rattle.variant_table.proofs.TokenLemmas.{first_place, is_blank-first}
 use Rattle.variant_table.proofs.SkipLemmas.{is_skipped-blanks}
 use Rattle.variant_table.proofs.reading.is_skipped.Goals as goal
+use Rattle.ruleset_text.proofs.LexemeLemmas.{first_place, is_blank-first}
 
 none_first : (front : List ℕ) → None ≡ slice_get front 0 → true ≡ is_skipped front
 none_first [] e = refl

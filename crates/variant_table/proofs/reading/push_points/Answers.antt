@@ -1,12 +1,12 @@
 use Rattle.std.proofs.Common.{◌≡◌, ◌+◌, ◌-◌, ◌++◌, ◌∷◌, [], rules, ℕ, List, Ok, length, refl, ap, sym, subst, ◌∙◌, arith, length-append}
 use Rattle.variant_table.specs.Conditions.{has_source_in}
-use Rattle.variant_table.specs.Entries.{Entry}
+use Rattle.variant_table.specs.Entries.{Entry, entry_from}
 use Rattle.variant_table.specs.Ranges.{point_entry}
-use Rattle.variant_table.specs.Reading.{◌>>=◌, entry_from}
+use Rattle.variant_table.specs.Reading.{◌>>=◌}
 use Rattle.variant_table.specs.inner.ReadingSteps.{Fails, with_new_source, with_new_sources}
 use Rattle.variant_table.proofs.AddingLemmas.{fails_then}
 use Rattle.variant_table.proofs.RangeLemmas.{points_from, points_next, added_new}
-use Rattle.variant_table.proofs.reading.add_points.Goals as goal
+use Rattle.variant_table.proofs.reading.push_points.Goals as goal
 
 pub returns-in_err-push-2 : goal.returns-in_err-push-2
 returns-in_err-push-2 c =

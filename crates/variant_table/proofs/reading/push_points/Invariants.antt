@@ -1,7 +1,7 @@
 use Rattle.std.proofs.Common.{◌≡◌, ◌+◌, ◌-◌, ◌≤◌, length}
 use Rattle.variant_table.specs.inner.ReadingSteps.{with_new_sources}
 use Rattle.variant_table.proofs.RangeLemmas.{points_from}
-use Rattle.variant_table.proofs.reading.add_points.Given as goal
+use Rattle.variant_table.proofs.reading.push_points.Given as goal
 
 -- the entries that are left are added to those so far
 abbrev pub invariant-loop-offset : goal.invariant-loop-offset
