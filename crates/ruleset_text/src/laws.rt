@@ -12,9 +12,8 @@ ghost use Rattle.ruleset_text.specs.Canonical.{HasPoints, pattern_text};
 ghost use Rattle.ruleset_text.specs.Definition.{contexts_of, demand_of};
 ghost use Rattle.ruleset_text.specs.Definition as definition;
 ghost use Rattle.ruleset_text.specs.Definitions.{Definitions, added, canonical_lines, canonical_size, defined, nothing_defined, with_lines, with_words};
-ghost use Rattle.ruleset_text.specs.Entries.{Mapped, entry_in};
-ghost use Rattle.ruleset_text.specs.EntryText.{IsForm, entry_text};
 ghost use Rattle.ruleset_text.specs.Grammar.{Is, Whole, SpellsPattern};
+ghost use Rattle.ruleset_text.specs.inner.EntrySteps.{entry_in};
 ghost use Rattle.ruleset_text.specs.inner.Examples.{some_defined, written};
 ghost use Rattle.ruleset_text.specs.Lexemes.{lexemes};
 ghost use Rattle.ruleset_text.specs.Names.{AreNames, is_name};
@@ -45,11 +44,6 @@ pub fn what_lines_define_has_no_fault()
 /// as these.
 pub fn canonical_lines_are_read_back()
     ensures { (d : Definitions) (limit : ℕ) → AreDefinitions d → canonical_size d ≤ limit → with_lines limit nothing_defined (canonical_lines d) ≡ Ok d }
-{}
-
-/// The canonical text of an entry or of a range is read as it.
-pub fn canonical_entries_are_read_back()
-    ensures { (mapped : List Mapped) (last : Option ℕ) → IsForm mapped last → entry_in (lexemes (entry_text mapped last)) ≡ Some (record { mapped = mapped; last = last }) }
 {}
 
 /// Examples, which the definitions compute; one set is defined, with the name A.
