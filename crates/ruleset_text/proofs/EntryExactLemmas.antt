@@ -28,7 +28,7 @@ one_form form other line is too = same (sym (entry_read form line is) ∙ entry_
     same e = cc
 
 -- a line that spells none gives none
-none_read : (line : List ℕ) → ((form : EntryForm) → IsEntryLine form line → ⊥) → entry_in (lexemes line) ≡ None
+pub none_read : (line : List ℕ) → ((form : EntryForm) → IsEntryLine form line → ⊥) → entry_in (lexemes line) ≡ None
 none_read line spelled_by_none = by_form (entry_in (lexemes line)) refl
   where
     by_form : (o : Option EntryForm) → entry_in (lexemes line) ≡ o → o ≡ None

@@ -1,10 +1,10 @@
 mod PatternLemmas
 mod StateLemmas
-mod LexemeLemmas
+pub mod LexemeLemmas
 mod NameLemmas
 mod TokenLemmas
 mod SpanLemmas
-mod HexLemmas
+pub mod HexLemmas
 mod PointLemmas
 mod SetWordLemmas
 mod TextLemmas

@@ -13,7 +13,7 @@ use Rattle.ruleset_text.specs.Canonical.{point_text}
 use Rattle.ruleset_text.specs.EntryText.{mark_text, sequence_text, IsSequence, IsMapped, IsForm}
 use Rattle.ruleset_text.specs.EntryWords.{IsEntryLine}
 use Rattle.ruleset_text.proofs.EntryBackLemmas.{form_back}
-use Rattle.variant_table.proofs.EntryExactLemmas.{entry_spelled}
+use Rattle.ruleset_text.proofs.EntryExactLemmas.{entry_spelled}
 use Rattle.ruleset_text.proofs.HexLemmas.{hex_facts, other_than, point_of_hex-text}
 use Rattle.variant_table.specs.declared.version.Version.{Version}
 use Rattle.variant_table.specs.declared.version.Notation.{Notation}

@@ -190,7 +190,7 @@ filled_mapped : (mapped : List Mapped) → AllByRecursion IsMapped mapped → Al
 filled_mapped [] h = tt
 filled_mapped (m ∷ mapped) h = (sequence_filled m.points h.0.sequence, filled_mapped mapped h.1)
 
-filled_form : (last : Option ℕ) (mapped : List Mapped) → IsForm mapped last → AllByRecursion HasNoEmptySequence (entries_to last mapped)
+pub filled_form : (last : Option ℕ) (mapped : List Mapped) → IsForm mapped last → AllByRecursion HasNoEmptySequence (entries_to last mapped)
 filled_form None [] h = absurd h
 filled_form None (m ∷ mapped) h = (filled_mapped (m ∷ mapped) h, tt)
 filled_form (Some last) [] h = tt

@@ -5,12 +5,13 @@ use Rattle.std.specs.List.{list_all, onto_first}
 use Rattle.std.proofs.lemmas.Bool.{eqb-true, and_parts, leb-true}
 use Rattle.std.proofs.lemmas.List.{append-nil}
 use Rattle.idn_text.specs.Points.{is_hex_digit, point_of_hex}
-use Rattle.ruleset_text.specs.Entries.{Mapped, EntryForm, entry_in}
+use Rattle.ruleset_text.specs.Entries.{Mapped, EntryForm}
+use Rattle.ruleset_text.specs.inner.EntrySteps.{entry_in}
 use Rattle.ruleset_text.specs.EntryText.{IsSequence, IsMapped, IsForm}
-use Rattle.ruleset_text.specs.EntryWords.{Word, Point, Mark, Bar, IsWord, AreWords, mark_words, sequence_words, last_words, tags_words, condition_words, mapped_words, variants_words, entry_words, point_of, IsEntryLine}
+use Rattle.ruleset_text.specs.EntryWords.{Word, Point, Mark, Hyphen, Bar, IsWord, AreWords, mark_words, sequence_words, last_words, tags_words, condition_words, mapped_words, variants_words, entry_words, point_of, IsEntryLine}
 use Rattle.ruleset_text.specs.Lexemes.{is_blank, is_joined, lexemes}
 use Rattle.ruleset_text.specs.Tokens.{without_prefix}
-use Rattle.variant_table.proofs.EntryExactLemmas.{entry_read, entry_spelled}
+use Rattle.ruleset_text.proofs.EntryExactLemmas.{entry_read, entry_spelled, one_form}
 use Rattle.ruleset_text.proofs.HexLemmas.{hex_facts}
 use Rattle.variant_table.specs.declared.version.Version.{Version}
 use Rattle.variant_table.specs.Faults.{LineFault, Syntax}
@@ -100,8 +101,8 @@ source_no_comment : (marked : Bool) (points : List ℕ) (after rest : List Word)
 source_no_comment marked [] after rest words s w = absurd s
 source_no_comment true (c ∷ []) after rest words s w = first_no_comment true c (after ++ rest) words w
 source_no_comment false (c ∷ []) after rest words s w = first_no_comment false c (after ++ rest) words w
-source_no_comment true (c ∷ d ∷ points) after rest words s w = first_no_comment true c _ words w
-source_no_comment false (c ∷ d ∷ points) after rest words s w = first_no_comment false c _ words w
+source_no_comment true (c ∷ d ∷ points) after rest words s w = first_no_comment true c (Hyphen ∷ ((sequence_words (d ∷ points) ++ after) ++ rest)) words w
+source_no_comment false (c ∷ d ∷ points) after rest words s w = first_no_comment false c (Hyphen ∷ ((sequence_words (d ∷ points) ++ after) ++ rest)) words w
 
 source_of : (m : Mapped) (last : Option ℕ) (rest : List Word) (words : List (List ℕ)) → IsMapped m → AreWords (mapped_words m last ++ rest) words → skips words ≡ false
 source_of m last rest words h w = source_no_comment m.marked m.points (last_words last ++ (tags_words m.tags ++ condition_words m.condition)) rest words h.sequence w
@@ -186,6 +187,13 @@ pub with_line-formless : (v : Version) (t : List Entry) (line : List ℕ) → is
 unfolding with_line
 with_line-formless v t line s none =
     ap (λ b. cond b (Ok t) (entries_in v (lexemes line) >>= with_entries v t)) s ∙ formless_step v t line (entries_in v (lexemes line)) refl none
+
+-- a line of a form that the version doesn't have spells nothing
+pub other_version : (v : Version) (line : List ℕ) (form : EntryForm) → IsEntryLine form line → has_form v form ≡ false → (es : List Entry) → SpellsEntries v line es → ⊥
+other_version v line form is lacks es h = let both : true ≡ false = sym h.2 ∙ ap (has_form v) (one_form h.0 form line h.1 is) ∙ lacks in cc
+
+pub with_line-form : (v : Version) (t : List Entry) (line : List ℕ) (form : EntryForm) → IsEntryLine form line → has_form v form ≡ true → with_line v t line ≡ with_entries v t (entries_of form)
+with_line-form v t line form is has = with_line-entries v t line (entries_of form) (form, is, has, refl)
 
 -- ---- the entries of a line
 

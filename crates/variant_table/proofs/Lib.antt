@@ -14,6 +14,8 @@ pub mod ReadLemmas
 pub mod RulesetLemmas
 -- The entries at a place, one length after the other.
 pub mod PlaceLemmas
+-- Sources and variants of a form, one after another.
+pub mod FormSteps
 -- The form of a line: skipped, the line of an entry or of a range, or none.
 pub mod FormLemmas
 -- Entries without a fault are those of a well-formed table.
@@ -50,5 +52,3 @@ pub mod LengthLemmas
 pub mod UnblockedLemmas
 -- What the entries of a line add.
 pub mod AddingLemmas
--- Reading the line of an entry is exact.
-pub mod EntryExactLemmas

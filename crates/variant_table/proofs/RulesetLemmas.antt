@@ -11,7 +11,10 @@ use Rattle.variant_table.specs.declared.version.Notation.TheVariants.{Table, Rul
 use Rattle.variant_table.specs.declared.version.Version.{Version}
 use Rattle.variant_table.specs.declared.version.Version.TheVariants.{One, Two, Three}
 use Rattle.variant_table.specs.Faults.{LineFault, Limit, Syntax}
+use Rattle.std.proofs.lemmas.Bool.{and_parts}
+use Rattle.ruleset_text.specs.inner.EntrySteps.{entry_in}
 use Rattle.variant_table.specs.Entries.{Entry, TableValue}
+use Rattle.variant_table.specs.Forms.{is_plain, begins_marked}
 use Rattle.variant_table.specs.Canonical.{canonical_text, head_text, version_line}
 use Rattle.variant_table.specs.Conditions.{is_too_long}
 use Rattle.variant_table.specs.WellFormed.{IsTable}

@@ -1,5 +1,6 @@
 //! What the line of an entry or of a range says: which versions have its form, and the sequences of its entry.
 ghost use Rattle.std.specs.Prelude.{◌≡◌, map, OnOk};
+ghost use Rattle.std.specs.List.{list_all};
 ghost use Rattle.ruleset_text.specs.EntryForms as held;
 ghost use Rattle.variant_table.specs.Forms as forms;
 
@@ -12,12 +13,35 @@ use std::alloc::AllocError;
 pub fn has_form(version: Version, form: &EntryForm) -> bool
     ensures { result ≡ forms.has_form version (held.entry_form form.now) }
 {
-    let mapped = &form.mapped;
     match version {
-        Version::One => mapped.iter().all(|m| is_bare(m)) && form.last.is_none(),
-        Version::Two => mapped.iter().all(|m| is_plain(m)) && !begins_marked(mapped),
-        Version::Three => mapped.iter().all(|m| is_plain(m)),
+        Version::One => are_bare(&form.mapped) && form.last.is_none(),
+        Version::Two => are_plain(&form.mapped) && !begins_marked(&form.mapped),
+        Version::Three => are_plain(&form.mapped),
     }
+}
+
+/// Whether each of these is plain.
+fn are_plain(mapped: &[Mapped]) -> bool
+    ensures { result ≡ list_all forms.is_plain (map held.mapped mapped.now) }
+{
+    for m in mapped {
+        if !is_plain(m) {
+            return false;
+        }
+    }
+    true
+}
+
+/// Whether each of these is bare.
+fn are_bare(mapped: &[Mapped]) -> bool
+    ensures { result ≡ list_all forms.is_bare (map held.mapped mapped.now) }
+{
+    for m in mapped {
+        if !is_bare(m) {
+            return false;
+        }
+    }
+    true
 }
 
 /// Whether a source or a variant has neither tags nor a condition.

@@ -7,7 +7,7 @@ use Rattle.variant_table.specs.Reading.{◌>>=◌, in_line, table_of_lines, tabl
 use Rattle.variant_table.proofs.ExampleLemmas.{letter, with_entries-capital, with_entries-own_variant, with_entries-letter, with_entries-letter_again}
 use Rattle.variant_table.proofs.laws.definitions_compute_the_examples.Goals as goal
 use Rattle.ruleset_text.specs.Canonical.{point_text}
-use Rattle.ruleset_text.specs.Entries.{entry_in}
+use Rattle.ruleset_text.specs.inner.EntrySteps.{entry_in}
 
 pub returns-clause-read : goal.returns-clause-read
 unfolding point_of_hex point_text entry_in table_of_lines with_lines with_raw_line with_line with_entries

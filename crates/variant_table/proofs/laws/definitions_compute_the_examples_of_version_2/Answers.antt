@@ -7,7 +7,7 @@ use Rattle.variant_table.specs.Reading.{◌>>=◌, in_line, table_of_lines, tabl
 use Rattle.variant_table.proofs.ExampleLemmas.{three, last_letter, with_entries-range, with_entries-blocked, with_entries-marked_twice, with_entries-from_capital, with_entries-b, with_entries-b_again}
 use Rattle.variant_table.proofs.laws.definitions_compute_the_examples_of_version_2.Goals as goal
 use Rattle.ruleset_text.specs.Canonical.{point_text}
-use Rattle.ruleset_text.specs.Entries.{entry_in}
+use Rattle.ruleset_text.specs.inner.EntrySteps.{entry_in}
 
 pub returns-clause-written : goal.returns-clause-written
 unfolding point_of_hex point_text entry_in table_of_lines with_lines with_raw_line with_line with_entries

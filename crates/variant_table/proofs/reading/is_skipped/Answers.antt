@@ -16,8 +16,8 @@ some_first line (d ∷ ds) c e f =
     ap (λ x. eqb x 35) same ∙ sym (ap (λ b. cond b (is_skipped ds) (eqb d 35)) (is_blank-first line d ds (sym e)))
 
 pub returns-in-None : goal.returns-in-None
-returns-in-None c = none_first c.without_blanks.result.now c.in-None.ensures.value ∙ ap is_skipped c.without_blanks.ensures ∙ sym (is_skipped-blanks c.args.line.now)
+returns-in-None c = none_first c.without_blanks.result.now c.in-None.ensures.value ∙ ap is_skipped c.without_blanks.ensures.is ∙ sym (is_skipped-blanks c.args.line.now)
 
 pub returns-in-Some : goal.returns-in-Some
 returns-in-Some c =
-    some_first c.args.line.now c.without_blanks.result.now c.in-Some.first.now c.without_blanks.ensures c.in-Some.ensures.value ∙ ap is_skipped c.without_blanks.ensures ∙ sym (is_skipped-blanks c.args.line.now)
+    some_first c.args.line.now c.without_blanks.result.now c.in-Some.first.now c.without_blanks.ensures.is c.in-Some.ensures.value ∙ ap is_skipped c.without_blanks.ensures.is ∙ sym (is_skipped-blanks c.args.line.now)
