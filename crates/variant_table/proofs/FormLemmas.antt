@@ -1,14 +1,13 @@
 -- The form of a line: skipped, the line of an entry or of a range, or none.
-use Rattle.std.proofs.Common.{◌≡◌, ◌⊎◌, inl, inr, ℕ, ◌<◌, ◌≤◌, Bool, true, false, ◌||◌, cond, eqb, List, [], ◌∷◌, ◌++◌, length, Option, Some, None, Result, Ok, Err, refl, sym, ap, subst, ◌∙◌, arith}
-use Rattle.std.specs.Prelude.{nat_le}
+use Rattle.std.proofs.Common.{◌≡◌, ◌⊎◌, inl, inr, ℕ, Bool, true, false, cond, eqb, List, [], ◌∷◌, ◌++◌, Option, Some, None, Result, Ok, Err, refl, sym, ap, subst, ◌∙◌}
 use Rattle.std.specs.List.{list_all, onto_first}
-use Rattle.std.proofs.lemmas.Bool.{eqb-true, and_parts, leb-true}
+use Rattle.std.proofs.lemmas.Bool.{eqb-true, and_parts}
 use Rattle.std.proofs.lemmas.List.{append-nil}
 use Rattle.idn_text.specs.Points.{is_hex_digit, point_of_hex}
 use Rattle.ruleset_text.specs.Entries.{Mapped, EntryForm}
 use Rattle.ruleset_text.specs.inner.EntrySteps.{entry_in}
 use Rattle.ruleset_text.specs.EntryText.{IsSequence, IsMapped, IsForm}
-use Rattle.ruleset_text.specs.EntryWords.{Word, Point, Mark, Hyphen, Bar, IsWord, AreWords, mark_words, sequence_words, last_words, tags_words, condition_words, mapped_words, variants_words, entry_words, point_of, IsEntryLine}
+use Rattle.ruleset_text.specs.EntryWords.{Word, Point, Hyphen, Bar, AreWords, mark_words, sequence_words, last_words, tags_words, condition_words, mapped_words, variants_words, entry_words, point_of, IsEntryLine}
 use Rattle.ruleset_text.specs.Lexemes.{is_blank, is_joined, lexemes}
 use Rattle.ruleset_text.specs.Tokens.{without_prefix}
 use Rattle.ruleset_text.proofs.EntryExactLemmas.{entry_read, entry_spelled, one_form}

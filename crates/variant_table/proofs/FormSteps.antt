@@ -1,5 +1,5 @@
 -- Sources and variants of a form, one after another.
-use Rattle.std.proofs.Common.{◌≡◌, ℕ, ◌+◌, ◌-◌, ◌<◌, ◌≤◌, Bool, true, false, ◌&&◌, List, [], ◌∷◌, ◌++◌, length, map, take, drop, get_or, refl, sym, ap, subst, ◌∙◌, arith}
+use Rattle.std.proofs.Common.{◌≡◌, ℕ, ◌+◌, ◌-◌, ◌<◌, ◌≤◌, Bool, true, false, ◌&&◌, List, [], ◌∷◌, ◌++◌, length, map, take, drop, get_or, sym, ap, subst, ◌∙◌, arith}
 use Rattle.std.specs.Prelude.{slice_index, slice_index_or, Option, Some, None}
 use Rattle.std.specs.List.{list_all, range_with_len}
 use Rattle.std.proofs.lemmas.List.{map-append, take_more}
@@ -10,7 +10,6 @@ use Rattle.ruleset_text.specs.EntryForms.{mapped, entry_form}
 use Rattle.ruleset_text.specs.EntryWords.{IsEntryLine}
 use Rattle.ruleset_text.proofs.EntryExactLemmas.{Spells}
 use Rattle.ruleset_text.specs.EntryText.{IsForm}
-use Rattle.variant_table.specs.Entries.{Variant}
 use Rattle.variant_table.specs.Forms.{variant_of, entries_to}
 use Rattle.variant_table.specs.Ranges.{point_entry, range_entries}
 use Rattle.variant_table.proofs.ListLemmas.{drop_item, drop_all}

@@ -15,7 +15,6 @@ use Rattle.variant_table.specs.Conditions.{repeats, has_source_in}
 use Rattle.variant_table.specs.Entries.{Variant, Entry, IsOfVersion, sequences_in, replacements, unblocked_entry, unblocked, has_blocked, entry_from}
 use Rattle.variant_table.specs.inner.Order.{IsOrderOf}
 use Rattle.variant_table.specs.WellFormed.{IsSequence, IsEntry, IsTable}
-use Rattle.std.proofs.lemmas.List.Concat.{flat_map-append}
 use Rattle.variant_table.proofs.ConditionLemmas.{AreNewSources, distinct_from, no_repeats, distinct_sources, new_sources, no_sources}
 use Rattle.variant_table.proofs.ListLemmas.{take_next}
 use Rattle.variant_table.proofs.EntryLemmas.{variant_marked}

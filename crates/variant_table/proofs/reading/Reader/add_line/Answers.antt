@@ -1,10 +1,8 @@
-use Rattle.std.proofs.Common.{◌≡◌, ◌∷◌, [], false, true, ℕ, List, Some, None, length, map, refl, sym, ap, subst, ◌∙◌, ◌<◌}
+use Rattle.std.proofs.Common.{◌≡◌, ◌∷◌, [], false, true, None, length, map, refl, sym, ap, subst, ◌∙◌, ◌<◌}
 use Rattle.std.proofs.lemmas.List.{length-map}
-use Rattle.ruleset_text.specs.declared.entry_form.EntryForm as held
 use Rattle.ruleset_text.specs.EntryForms.{mapped, entry_form}
 use Rattle.ruleset_text.specs.EntryText.{IsForm}
 use Rattle.ruleset_text.specs.EntryWords.{IsEntryLine}
-use Rattle.variant_table.specs.Entries.{Entry}
 use Rattle.variant_table.specs.Forms.{has_form, entry_of, entries_to}
 use Rattle.variant_table.specs.Reading.{is_skipped, with_entries, with_line}
 use Rattle.variant_table.specs.inner.Held.{HasNoEmptySequence}
