@@ -27,7 +27,7 @@ pub(crate) fn lay_out(
 {
     // The length is read for its contract alone: a table is well-formed, so no source is empty.
     let _entries = table.len();
-    let mut draft = NetDraft::new(alloc)?;
+    let mut draft = NetDraft::new(alloc, label.len())?;
     for count in 0..label.len() {
         add_uses_at(&mut draft, table, part, label, label.len() - count - 1)?;
         draft.end_place()?;
