@@ -20,4 +20,8 @@ mod DefinitionsBackLemmas
 mod DefinedLemmas
 mod KnownPatternLemmas
 mod EntryLemmas
-mod EntryBackLemmas
+mod EntryStateLemmas
+mod EntryReadLemmas
+mod EntrySpelledLemmas
+pub mod EntryExactLemmas
+pub mod EntryBackLemmas
