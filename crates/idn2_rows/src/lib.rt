@@ -39,6 +39,8 @@ mod nets;
 #[cfg(test)]
 mod options;
 #[cfg(test)]
+mod parts;
+#[cfg(test)]
 mod punycode;
 #[cfg(test)]
 mod reading;

@@ -72,7 +72,7 @@ pub fn definitions_compute_the_examples()
     ensures place_in_a_group { contexts_of (codes "A" ∷ []) (codes "(_)") ≡ None }
     ensures end_before { contexts_of (codes "A" ∷ []) (codes "$ _") ≡ None }
     ensures end_in_a_group { contexts_of (codes "A" ∷ []) (codes "(@A / $) _") ≡ None }
-    ensures start_behind { contexts_of (codes "A" ∷ []) (codes "_ ^") ≡ None }
+    ensures start_last { contexts_of (codes "A" ∷ []) (codes "_ ^") ≡ None }
     ensures no_context { contexts_of (codes "A" ∷ []) (codes "") ≡ None }
     ensures range { contexts_of (codes "A" ∷ []) (codes "0061..0062 _") ≡ None }
     ensures sequence { contexts_of (codes "A" ∷ []) (codes "0061-0062 _") ≡ None }
@@ -158,7 +158,7 @@ pub fn definitions_compute_the_entries()
     ensures two_marks { entry_in (lexemes (codes "!!0061")) ≡ None }
     ensures bar_last { entry_in (lexemes (codes "0061|")) ≡ None }
     ensures comma { entry_in (lexemes (codes "0061,0062")) ≡ None }
-    ensures comment_behind { entry_in (lexemes (codes "0061 # a")) ≡ None }
+    ensures comment_last { entry_in (lexemes (codes "0061 # a")) ≡ None }
     ensures falling { entry_in (lexemes (codes "0063..0061")) ≡ None }
     ensures variant_of_range { entry_in (lexemes (codes "0061..0063|0064")) ≡ None }
     ensures colon_first { entry_in (lexemes (codes "0061:0062")) ≡ None }

@@ -9,13 +9,16 @@ use Rattle.variant_table.specs.Entries.{Entry, Variant, replacements}
 use Rattle.variant_table.specs.Places.{AreEntriesAt, entries_at}
 use Rattle.variant_table.specs.WellFormed.{IsSequence, IsEntry, IsWellFormed}
 use Rattle.variant_table.proofs.BeginningLemmas.{entries_are_at}
+use Rattle.variant_list.specs.declared.part.Part.{Part}
+use Rattle.variant_list.specs.Parts.{replacements_in}
 use Rattle.variant_list.specs.inner.LabelSets.{SomeGives}
 use Rattle.variant_list.specs.inner.Layouts.{UseSpells}
-use Rattle.variant_list.specs.Uses.{Use, IsUse, AreUses, UsesSpell, spelled_from_each, spelled_by, uses_at, uses_from, uses_of}
+use Rattle.variant_list.specs.Uses.{Use, IsUse, AreUses, UsesSpell, spelled_from_each, spelled_by, use_of, uses_of_entry, uses_at, uses_from, uses_of}
 use Rattle.variant_list.proofs.ListMembers.{Contains-head, Contains-one, Contains-map, Contains-flat_map}
 use Rattle.variant_list.proofs.SpellingLemmas.{source_is_sequence}
 use Rattle.variant_list.proofs.UsesLemmas.{nothing_spelled, UsesSpell-here, uses_at-IsUseOf, length-uses_from}
-use Rattle.variant_list.proofs.UseCounts.{length-entries}
+use Rattle.variant_list.proofs.PartLemmas.{replacement-of_part, replacements_in-few}
+use Rattle.variant_list.proofs.UseCounts.{length-of_flat_map}
 
 -- from a later place on
 spelled_from-each : (uses : List (List Use)) (k : ℕ) → k ≤ length uses → slice_index_or (spelled_from_each uses) k [] ≡ spelled_by (drop k uses)
@@ -58,36 +61,37 @@ pub spelled_by-UsesSpell : (uses : List (List Use)) (v : List ℕ) → AreUses u
 spelled_by-UsesSpell uses v are = spelled_within (length uses) uses v are (omega arith)
 
 -- the uses under a well-formed table end within the label, and are few
-module _ (table : List Entry) (label : List ℕ) (formed : IsWellFormed table) where
-  is_use : (place n : ℕ) (u : Use) → place + suc n ≡ length label → Contains (uses_at table label place) u → IsUse (length (uses_from table label (suc place) n) + 1) u
+module _ (part : Part) (table : List Entry) (label : List ℕ) (formed : IsWellFormed table) where
+  is_use : (place n : ℕ) (u : Use) → place + suc n ≡ length label → Contains (uses_at part table label place) u → IsUse (length (uses_from part table label (suc place) n) + 1) u
   is_use place n u whole m =
-      let is = (uses_at-IsUseOf table label place u).0 m in
+      let is = (uses_at-IsUseOf part table label place u).0 m in
       let here = ((entries_are_at table label place formed).members is.entry).0 is.at in
       let each : IsEntry is.entry = All-contains IsEntry table is.entry formed.entries here.0 in
-      let one : IsSequence u.points = All-contains IsSequence (replacements is.entry) u.points each.sequences is.replaces in
+      let one : IsSequence u.points = All-contains IsSequence (replacements is.entry) u.points each.sequences (replacement-of_part part is.entry u.points is.replaces) in
       record {
         some = omega (arith, source_is_sequence table is.entry formed.entries here.0, is.covers);
-        within = omega (arith, is.covers, ap length here.1.1, length-append is.entry.source here.1.0, length-drop place label, whole, length-uses_from table label n (suc place));
+        within = omega (arith, is.covers, ap length here.1.1, length-append is.entry.source here.1.0, length-drop place label, whole, length-uses_from part table label n (suc place));
         filled = one.filled;
         short = one.short;
       }
 
-  few_uses : (place : ℕ) → length (uses_at table label place) ≤ 136
+  few_uses : (place : ℕ) → length (uses_at part table label place) ≤ 136
   few_uses place =
       let here : List Entry = entries_at table label place in
       let at : AreEntriesAt table label place here = entries_are_at table label place formed in
-      let of_entry : (e : Entry) → IsEntry e → length (replacements e) ≤ 17 = λ (e : Entry) is. omega (arith, length-map e.variants (λ (v : Variant). v.sequence), is.few) in
-      let each : (k : ℕ) (d : Entry) → k < length here → length (replacements (get_or here k d)) ≤ 17 =
+      let of_entry : (e : Entry) → IsEntry e → length (uses_of_entry part e) ≤ 17 = λ (e : Entry) is.
+      omega (arith, length-map (replacements_in part e) (use_of e), replacements_in-few part e, length-map e.variants (λ (v : Variant). v.sequence), is.few) in
+      let each : (k : ℕ) (d : Entry) → k < length here → length (uses_of_entry part (get_or here k d)) ≤ 17 =
       λ (k : ℕ) (d : Entry) l. of_entry (get_or here k d) (All-contains IsEntry table (get_or here k d) formed.entries ((at.members (get_or here k d)).0 (Contains-get_or here k d l)).0) in
-      omega (arith, sum_by-le (λ (e : Entry). length (replacements e)) 17 here each, length-entries here, at.few)
+      omega (arith, sum_by-le (λ (e : Entry). length (uses_of_entry part e)) 17 here each, length-of_flat_map (uses_of_entry part) (λ (e : Entry). length (uses_of_entry part e)) (λ (e : Entry). refl) here, at.few)
 
-  AreUses-from : (place n : ℕ) → place + n ≡ length label → AreUses (uses_from table label place n)
+  AreUses-from : (place n : ℕ) → place + n ≡ length label → AreUses (uses_from part table label place n)
   AreUses-from place zero whole = tt
   AreUses-from place (suc n) whole = (
-    λ k d l. is_use place n (get_or (uses_at table label place) k d) whole (Contains-get_or (uses_at table label place) k d l),
+    λ k d l. is_use place n (get_or (uses_at part table label place) k d) whole (Contains-get_or (uses_at part table label place) k d l),
     few_uses place,
     AreUses-from (suc place) n (omega (arith, whole)),
   )
 
-  pub AreUses-label : AreUses (uses_of table label)
+  pub AreUses-label : AreUses (uses_of part table label)
   AreUses-label = AreUses-from 0 (length label) (omega arith)

@@ -1,8 +1,10 @@
 -- The uses of a label: what may stand in the place of which of its code points. The net of a label is laid out from them.
 use Rattle.std.specs.Prelude.{◌≡◌, ℕ, zero, suc, ◌+◌, ◌-◌, ◌≤◌, List, [], ◌∷◌, ◌++◌, length, drop, map, sum_by, slice_index_or, Contains, All}
 use Rattle.std.specs.List.{flat_map}
-use Rattle.variant_table.specs.Entries.{Entry, replacements}
+use Rattle.variant_table.specs.Entries.{Entry}
 use Rattle.variant_table.specs.Places.{entries_at}
+use Rattle.variant_list.specs.declared.part.Part.{Part}
+use Rattle.variant_list.specs.Parts.{replacements_in}
 
 -- these code points may stand in the place of so many code points of a label
 pub record Use : Type 0 where
@@ -57,23 +59,23 @@ points_in = sum_by (λ u. length u.points)
 abbrev pub use_edges : List (List Use) → ℕ
 use_edges = sum_by points_in
 
--- ---- the uses of a label under a table
+-- ---- the uses of a label under a part of a table
 
 -- a replacement of the entry may stand in the place of its source
 abbrev pub use_of : Entry → List ℕ → Use
 use_of e r = record { covers = length e.source; points = r }
 
-abbrev pub uses_of_entry : Entry → List Use
-uses_of_entry e = map (use_of e) (replacements e)
+abbrev pub uses_of_entry : Part → Entry → List Use
+uses_of_entry part e = map (use_of e) (replacements_in part e)
 
 -- those at a place of the label
-abbrev pub uses_at : List Entry → List ℕ → ℕ → List Use
-uses_at table label place = flat_map uses_of_entry (entries_at table label place)
+abbrev pub uses_at : Part → List Entry → List ℕ → ℕ → List Use
+uses_at part table label place = flat_map (uses_of_entry part) (entries_at table label place)
 
 -- those at so many places, from this one on
-abbrev pub uses_from : List Entry → List ℕ → ℕ → ℕ → List (List Use)
-uses_from table label place zero = []
-uses_from table label place (suc n) = uses_at table label place ∷ uses_from table label (suc place) n
+abbrev pub uses_from : Part → List Entry → List ℕ → ℕ → ℕ → List (List Use)
+uses_from part table label place zero = []
+uses_from part table label place (suc n) = uses_at part table label place ∷ uses_from part table label (suc place) n
 
-abbrev pub uses_of : List Entry → List ℕ → List (List Use)
-uses_of table label = uses_from table label 0 (length label)
+abbrev pub uses_of : Part → List Entry → List ℕ → List (List Use)
+uses_of part table label = uses_from part table label 0 (length label)

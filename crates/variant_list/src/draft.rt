@@ -29,12 +29,13 @@ impl Model for NetDraft {
 }
 
 impl NetDraft {
-    /// Only the end of the label.
-    pub(crate) fn new(alloc: Global) -> Result<NetDraft, AllocError>
+    /// Only the end of a label of so many code points. Memory for its places is taken at once, which is much faster than
+    /// by and by.
+    pub(crate) fn new(alloc: Global, count: usize) -> Result<NetDraft, AllocError>
         ensures { IfOk result (IsLaid []) }
     {
-        let layout = Layout::new(alloc)?;
-        let mut places = Vec::new(alloc);
+        let layout = Layout::new(alloc, count)?;
+        let mut places = Vec::with_capacity(alloc, count.saturating_add(1))?;
         places.push(0)?;
         Ok(NetDraft {
             layout,

@@ -83,9 +83,9 @@ pub returns-clause-comma : goal.returns-clause-comma
 unfolding entry_in point_of_hex
 returns-clause-comma c = refl
 
-pub returns-clause-comment_behind : goal.returns-clause-comment_behind
+pub returns-clause-comment_last : goal.returns-clause-comment_last
 unfolding entry_in point_of_hex
-returns-clause-comment_behind c = refl
+returns-clause-comment_last c = refl
 
 pub returns-clause-falling : goal.returns-clause-falling
 unfolding entry_in point_of_hex

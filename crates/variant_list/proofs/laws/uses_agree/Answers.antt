@@ -5,7 +5,7 @@ use Rattle.variant_list.proofs.laws.uses_agree.Goals as goal
 
 pub returns : goal.returns
 returns c = record {
-  spells = λ table label v formed. UsesSpell-label table label formed v;
+  spells = λ part table label v formed. UsesSpell-label part table label formed v;
   computes = spelled_by-UsesSpell;
   fit = AreUses-label;
   count = use_count-label;

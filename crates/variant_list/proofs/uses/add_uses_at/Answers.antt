@@ -14,7 +14,7 @@ pub add_uses_of-requires-clause-sequences : goal.add_uses_of-requires-clause-seq
 add_uses_of-requires-clause-sequences c =
     let e : Entry = c.in-Some.entry in
     let at : AreEntriesAt c.args.table.now.entries c.args.label.now c.args.place c.into_iter-entry-iterator.result = subst (AreEntriesAt c.args.table.now.entries c.args.label.now c.args.place) (sym c.into_iter-entry-iterator.ensures.into_iter_gives) c.entries_at-entry-items.ensures.entries in
-    let m : Contains c.into_iter-entry-iterator.result e = HasEntries-next c.into_iter-entry-iterator.result c.loop-entry.entry-iterator e c.next.new.self c.args.draft.now c.loop-entry.draft c.loop-entry.invariant c.in-Some.ensures.steps in
+    let m : Contains c.into_iter-entry-iterator.result e = HasEntries-next c.args.part c.into_iter-entry-iterator.result c.loop-entry.entry-iterator e c.next.new.self c.args.draft.now c.loop-entry.draft c.loop-entry.invariant c.in-Some.ensures.steps in
     let one : IsEntry e = All-contains IsEntry c.args.table.now.entries e c.entries_at-entry-items.ensures.well_formed.entries ((at.members e).0 m).0 in
     one.sequences
 
@@ -23,16 +23,16 @@ add_uses_of-requires-clause-within c =
     let e : Entry = c.in-Some.entry in
     let label : List ℕ = c.args.label.now in
     let at : AreEntriesAt c.args.table.now.entries label c.args.place c.into_iter-entry-iterator.result = subst (AreEntriesAt c.args.table.now.entries label c.args.place) (sym c.into_iter-entry-iterator.ensures.into_iter_gives) c.entries_at-entry-items.ensures.entries in
-    let m : Contains c.into_iter-entry-iterator.result e = HasEntries-next c.into_iter-entry-iterator.result c.loop-entry.entry-iterator e c.next.new.self c.args.draft.now c.loop-entry.draft c.loop-entry.invariant c.in-Some.ensures.steps in
+    let m : Contains c.into_iter-entry-iterator.result e = HasEntries-next c.args.part c.into_iter-entry-iterator.result c.loop-entry.entry-iterator e c.next.new.self c.args.draft.now c.loop-entry.draft c.loop-entry.invariant c.in-Some.ensures.steps in
     let begins = ((at.members e).0 m).1 in
     omega (arith, ap length begins.1, length-drop c.args.place label, length-append e.source begins.0, c.requires.count, ap length c.loop-entry.invariant.taken.places)
 
 pub loop-entry-preserved : goal.loop-entry-preserved
 loop-entry-preserved c =
-    HasEntries-more c.into_iter-entry-iterator.result c.loop-entry.entry-iterator c.in-Some.entry c.next.new.self c.args.draft.now c.loop-entry.draft c.add_uses_of.new.draft
+    HasEntries-more c.args.part c.into_iter-entry-iterator.result c.loop-entry.entry-iterator c.in-Some.entry c.next.new.self c.args.draft.now c.loop-entry.draft c.add_uses_of.new.draft
     c.loop-entry.invariant c.in-Some.ensures.steps c.in_ok-add_uses_of.ensures
 
 pub returns : goal.returns
 returns c =
-    subst (λ es. HasTaken c.args.draft.now (flat_map uses_of_entry es) c.loop-entry.draft) (c.into_iter-entry-iterator.ensures.into_iter_gives ∙ c.entries_at-entry-items.ensures.list)
-    (HasEntries-all c.into_iter-entry-iterator.result c.loop-entry.entry-iterator c.args.draft.now c.loop-entry.draft c.loop-entry.invariant c.in-None.ensures.steps.0)
+    subst (λ es. HasTaken c.args.draft.now (flat_map (uses_of_entry c.args.part) es) c.loop-entry.draft) (c.into_iter-entry-iterator.ensures.into_iter_gives ∙ c.entries_at-entry-items.ensures.list)
+    (HasEntries-all c.args.part c.into_iter-entry-iterator.result c.loop-entry.entry-iterator c.args.draft.now c.loop-entry.draft c.loop-entry.invariant c.in-None.ensures.steps.0)

@@ -11,7 +11,7 @@ pub add_uses_at-requires-clause-count : goal.add_uses_at-requires-clause-count
 add_uses_at-requires-clause-count c =
     let label : List ℕ = c.args.label.now in
     let count : ℕ = c.loop-count.count in
-    omega (arith, c.loop-count.invariant.open_place.count, length-uses_from c.args.table.now.entries label count (length label - count), c.loop-count-test.true)
+    omega (arith, c.loop-count.invariant.open_place.count, length-uses_from c.args.part c.args.table.now.entries label count (length label - count), c.loop-count-test.true)
 
 pub loop-count-preserved : goal.loop-count-preserved
 loop-count-preserved c =
@@ -20,16 +20,16 @@ loop-count-preserved c =
     let count : ℕ = c.loop-count.count in
     let position : ℕ = length label - count - 1 in
     let less : count < length label = c.loop-count-test.true in
-    let later : List (List Use) = uses_from table label (length label - count) count in
+    let later : List (List Use) = uses_from c.args.part table label (length label - count) count in
     let new : Draft = c.end_place.new.self in
-    let laid : IsLaid (uses_at table label position ∷ later) new =
-    c.in_ok-end_place.ensures.uses later (uses_at table label position) (c.in_ok-add_uses_at.ensures.uses later [] c.loop-count.invariant.open_place) in
+    let laid : IsLaid (uses_at c.args.part table label position ∷ later) new =
+    c.in_ok-end_place.ensures.uses later (uses_at c.args.part table label position) (c.in_ok-add_uses_at.ensures.uses later [] c.loop-count.invariant.open_place) in
     let behind : length label - count ≡ suc position = omega (arith, less) in
     let here : position ≡ length label - (count + 1) = omega arith in
     let more : suc count ≡ count + 1 = omega arith in
-    subst (λ n. IsLaid (uses_from table label (length label - (count + 1)) n) new) more
-    (subst (λ p. IsLaid (uses_from table label p (suc count)) new) here
-    (subst (λ p. IsLaid (uses_at table label position ∷ uses_from table label p count) new) behind laid))
+    subst (λ n. IsLaid (uses_from c.args.part table label (length label - (count + 1)) n) new) more
+    (subst (λ p. IsLaid (uses_from c.args.part table label p (suc count)) new) here
+    (subst (λ p. IsLaid (uses_at c.args.part table label position ∷ uses_from c.args.part table label p count) new) behind laid))
 
 pub returns-clause-net : goal.returns-clause-net
 returns-clause-net c =
@@ -38,6 +38,6 @@ returns-clause-net c =
     let draft : Draft = c.loop-count.draft in
     let over : c.loop-count.count ≡ length label = omega (arith, c.loop-count-test.false, c.loop-count.auto.count-end) in
     let first : length label - c.loop-count.count ≡ 0 = omega (arith, over) in
-    subst (IsNetOf (uses_of table label)) (sym c.finished.ensures)
-    (IsNetOf-laid (uses_of table label) draft
-    (subst (λ n. IsLaid (uses_from table label 0 n) draft) over (subst (λ p. IsLaid (uses_from table label p c.loop-count.count) draft) first c.loop-count.invariant)))
+    subst (IsNetOf (uses_of c.args.part table label)) (sym c.finished.ensures)
+    (IsNetOf-laid (uses_of c.args.part table label) draft
+    (subst (λ n. IsLaid (uses_from c.args.part table label 0 n) draft) over (subst (λ p. IsLaid (uses_from c.args.part table label p c.loop-count.count) draft) first c.loop-count.invariant)))

@@ -1,0 +1,154 @@
+-- What a label spells under a part of a table, and that this is what it spells under the table, or under the table without its
+-- blocked variants.
+use Rattle.std.proofs.Common.{◌≡◌, ◌<◌, ◌≤◌, ℕ, zero, suc, Bool, true, false, List, [], ◌∷◌, ◌++◌, length, Some, slice_get, refl, sym, ap, ◌∙◌, subst, inl, inr, ◌↔◌, map, arith}
+use Rattle.std.specs.Prelude.{not, filter, if◌then◌else◌}
+use Rattle.std.specs.Option.{option_map}
+use Rattle.std.specs.List.{Contains, AllByRecursion, flat_map}
+use Rattle.std.proofs.lemmas.List.{length-map}
+use Rattle.std.proofs.lemmas.Option.{slice_get-map}
+use Rattle.variant_table.specs.Entries.{Entry, Variant, replacements, marks, sequences_in, unblocked, unblocked_entry}
+use Rattle.variant_list.specs.declared.part.Part.{Part}
+use Rattle.variant_list.specs.declared.part.Part.TheVariants.{Whole, Unblocked}
+use Rattle.variant_list.specs.Segmentations.{HasSegmentation}
+use Rattle.variant_list.specs.Spelling.{JoinsReplacements, Spells}
+use Rattle.variant_list.specs.Parts.{marked, part_has, replacements_in, JoinsReplacementsIn, PartSpells}
+use Rattle.variant_list.proofs.ListMembers.{Contains-head, Contains-later, Contains-none, Contains-cases, Contains-map}
+
+-- ---- piece by piece
+
+pub PartSpells-nothing : (part : Part) (table : List Entry) → PartSpells part table [] []
+PartSpells-nothing part table = ([], record { of_table = tt; joined = refl }, refl)
+
+pub PartSpells-piece : (part : Part) (table : List Entry) (e : Entry) (later r w : List ℕ) → Contains table e → Contains (replacements_in part e) r → PartSpells part table later w → PartSpells part table (e.source ++ later) (r ++ w)
+PartSpells-piece part table e later r w in_table replaces s =
+    (e ∷ s.0, record { of_table = (in_table, s.1.of_table); joined = ap (λ z. e.source ++ z) s.1.joined }, (r, w, replaces, s.2, refl))
+
+-- ---- the whole table
+
+all_kept : (vs : List Variant) → filter (part_has Whole) vs ≡ vs
+all_kept [] = refl
+all_kept (v ∷ vs) = ap (λ ws. v ∷ ws) (all_kept vs)
+
+pub replacements_in-Whole : (e : Entry) → replacements_in Whole e ≡ replacements e
+replacements_in-Whole e = ap sequences_in (all_kept (marked e))
+
+joins-Whole : (segmentation : List Entry) (v : List ℕ) → JoinsReplacementsIn Whole segmentation v ↔ JoinsReplacements segmentation v
+joins-Whole [] v = (λ h. h, λ h. h)
+joins-Whole (e ∷ segmentation) v = (
+  λ h. (h.0, h.1, subst (λ rs. Contains rs h.0) (replacements_in-Whole e) h.2, (joins-Whole segmentation h.1).0 h.3, h.4),
+  λ h. (h.0, h.1, subst (λ rs. Contains rs h.0) (sym (replacements_in-Whole e)) h.2, (joins-Whole segmentation h.1).1 h.3, h.4),
+)
+
+pub PartSpells-Whole : (table : List Entry) (label v : List ℕ) → PartSpells Whole table label v ↔ Spells table label v
+PartSpells-Whole table label v = (λ s. (s.0, s.1, (joins-Whole s.0 v).0 s.2), λ s. (s.0, s.1, (joins-Whole s.0 v).1 s.2))
+
+-- ---- a part has no more
+
+kept-of_list : (part : Part) (vs : List Variant) (r : List ℕ) → Contains (sequences_in (filter (part_has part) vs)) r → Contains (sequences_in vs) r
+kept-of_list part [] r m = absurd (Contains-none r m)
+kept-of_list part (v ∷ vs) r m = by_test (part_has part v) m (kept-of_list part vs r)
+  where
+    by_test : (t : Bool) → Contains (sequences_in (if t then v ∷ filter (part_has part) vs else filter (part_has part) vs)) r
+        → (Contains (sequences_in (filter (part_has part) vs)) r → Contains (sequences_in vs) r) → Contains (v.sequence ∷ sequences_in vs) r
+    by_test true m go = elim (Contains-cases v.sequence (sequences_in (filter (part_has part) vs)) r m) [
+      | inl e ↦ subst (Contains (v.sequence ∷ sequences_in vs)) e (Contains-head v.sequence (sequences_in vs))
+      | inr later ↦ Contains-later v.sequence (sequences_in vs) r (go later)
+    ]
+    by_test false m go = Contains-later v.sequence (sequences_in vs) r (go m)
+
+pub replacement-of_part : (part : Part) (e : Entry) (r : List ℕ) → Contains (replacements_in part e) r → Contains (replacements e) r
+replacement-of_part part e r m = kept-of_list part (marked e) r m
+
+kept-few : (part : Part) (vs : List Variant) → length (filter (part_has part) vs) ≤ length vs
+kept-few part [] = omega arith
+kept-few part (v ∷ vs) = by_test (part_has part v) (kept-few part vs)
+  where
+    by_test : (t : Bool) → length (filter (part_has part) vs) ≤ length vs → length (if t then v ∷ filter (part_has part) vs else filter (part_has part) vs) ≤ suc (length vs)
+    by_test true few = omega (arith, few)
+    by_test false few = omega (arith, few)
+
+pub replacements_in-few : (part : Part) (e : Entry) → length (replacements_in part e) ≤ length (replacements e)
+replacements_in-few part e =
+    omega (arith, length-map (filter (part_has part) (marked e)) (λ (v : Variant). v.sequence), kept-few part (marked e), length-map (marked e) (λ (v : Variant). v.sequence))
+
+joins-of_part : (part : Part) (segmentation : List Entry) (v : List ℕ) → JoinsReplacementsIn part segmentation v → JoinsReplacements segmentation v
+joins-of_part part [] v h = h
+joins-of_part part (e ∷ segmentation) v h = (h.0, h.1, replacement-of_part part e h.0 h.2, joins-of_part part segmentation h.1 h.3, h.4)
+
+pub Spells-of_part : (part : Part) (table : List Entry) (label v : List ℕ) → PartSpells part table label v → Spells table label v
+Spells-of_part part table label v s = (s.0, s.1, joins-of_part part s.0 v s.2)
+
+-- ---- the table without its blocked variants
+
+unblocked_sources : (segmentation : List Entry) → flat_map (λ (e : Entry). e.source) (unblocked segmentation) ≡ flat_map (λ (e : Entry). e.source) segmentation
+unblocked_sources [] = refl
+unblocked_sources (e ∷ segmentation) = ap (λ xs. e.source ++ xs) (unblocked_sources segmentation)
+
+unblocked_of_table : (table segmentation : List Entry) → AllByRecursion (Contains table) segmentation → AllByRecursion (Contains (unblocked table)) (unblocked segmentation)
+unblocked_of_table table [] h = tt
+unblocked_of_table table (e ∷ segmentation) h = ((Contains-map unblocked_entry table (unblocked_entry e)).1 (e, h.0, refl), unblocked_of_table table segmentation h.1)
+
+unblocked_joins : (segmentation : List Entry) (v : List ℕ) → JoinsReplacementsIn Unblocked segmentation v → JoinsReplacements (unblocked segmentation) v
+unblocked_joins [] v h = h
+unblocked_joins (e ∷ segmentation) v h = (h.0, h.1, h.2, unblocked_joins segmentation h.1 h.3, h.4)
+
+-- entries of the table without its blocked variants come from entries of the table
+pub record IsFrom (table segmentation : List Entry) (v : List ℕ) : Type 0 where
+  pub entries : List Entry
+  pub of_table : AllByRecursion (Contains table) entries
+  pub sources : flat_map (λ (e : Entry). e.source) entries ≡ flat_map (λ (e : Entry). e.source) segmentation
+  pub joins : JoinsReplacementsIn Unblocked entries v
+
+from_unblocked : (table segmentation : List Entry) (v : List ℕ) → AllByRecursion (Contains (unblocked table)) segmentation → JoinsReplacements segmentation v → IsFrom table segmentation v
+from_unblocked table [] v of joins = record { entries = []; of_table = tt; sources = refl; joins = joins }
+from_unblocked table (e ∷ segmentation) v of joins =
+    let g = (Contains-map unblocked_entry table e).0 of.0 in
+    let same : unblocked_entry g.0 ≡ e = sym g.2 in
+    let rest = from_unblocked table segmentation joins.1 of.1 joins.3 in
+    record {
+      entries = g.0 ∷ rest.entries;
+      of_table = (g.1, rest.of_table);
+      sources = ap (λ (x : Entry). x.source ++ flat_map (λ (y : Entry). y.source) rest.entries) same ∙ ap (λ xs. e.source ++ xs) rest.sources;
+      joins = (joins.0, joins.1, subst (λ (x : Entry). Contains (replacements x) joins.0) g.2 joins.2, rest.joins, joins.4);
+    }
+
+pub PartSpells-Unblocked : (table : List Entry) (label v : List ℕ) → PartSpells Unblocked table label v ↔ Spells (unblocked table) label v
+PartSpells-Unblocked table label v = (
+  λ s. (unblocked s.0, record { of_table = unblocked_of_table table s.0 s.1.of_table; joined = unblocked_sources s.0 ∙ s.1.joined }, unblocked_joins s.0 v s.2),
+  λ s. (let f = from_unblocked table s.0 v s.1.of_table s.2 in (f.entries, record { of_table = f.of_table; joined = f.sources ∙ s.1.joined }, f.joins)),
+)
+
+-- no source is blocked, so a label spells itself
+sources_are_joined : (segmentation : List Entry) → JoinsReplacementsIn Unblocked segmentation (flat_map (λ (e : Entry). e.source) segmentation)
+sources_are_joined [] = refl
+sources_are_joined (e ∷ segmentation) =
+    (e.source, flat_map (λ (x : Entry). x.source) segmentation, Contains-head e.source (sequences_in (filter (part_has Unblocked) e.variants)), sources_are_joined segmentation, refl)
+
+pub PartSpells-itself : (table : List Entry) (label : List ℕ) → HasSegmentation table label → PartSpells Unblocked table label label
+PartSpells-itself table label h = (h.0, h.1, subst (JoinsReplacementsIn Unblocked h.0) h.1.joined (sources_are_joined h.0))
+
+-- ---- which replacements a part has, by their numbers
+
+Some-same : {X : Type 0} (x y : X) → Some x ≡ Some y → x ≡ y
+Some-same x y e = cc
+
+pub mapped-at : {X Y : Type 0} (f : X → Y) (xs : List X) (i : ℕ) (y : Y) → slice_get (map f xs) i ≡ Some y → (x : X) × (slice_get xs i ≡ Some x) × (f x ≡ y)
+mapped-at f [] i y e = cc
+mapped-at f (x ∷ xs) zero y e = (x, refl, Some-same (f x) y e)
+mapped-at f (x ∷ xs) (suc i) y e = mapped-at f xs i y e
+
+pub mapped-same : {X Y : Type 0} (f : X → Y) (xs : List X) (i : ℕ) (x : X) (y : Y) → slice_get xs i ≡ Some x → slice_get (map f xs) i ≡ Some y → f x ≡ y
+mapped-same f xs i x y at e = Some-same (f x) y (sym (slice_get-map f xs i ∙ ap (option_map f) at) ∙ e)
+
+whole-list : (vs : List Variant) (i : ℕ) → i < length vs → slice_get (map (part_has Whole) vs) i ≡ Some true
+whole-list [] i l = absurd (omega (arith, l))
+whole-list (v ∷ vs) zero l = refl
+whole-list (v ∷ vs) (suc i) l = whole-list vs i (omega (arith, l))
+
+pub has-Whole : (e : Entry) (i : ℕ) → i < length (replacements e) → slice_get (map (part_has Whole) (marked e)) i ≡ Some true
+has-Whole e i l = whole-list (marked e) i (omega (arith, l, length-map (marked e) (λ (v : Variant). v.sequence)))
+
+pub has-Unblocked : (e : Entry) (i : ℕ) (blocked : Bool) → slice_get (marks e) i ≡ Some blocked → slice_get (map (part_has Unblocked) (marked e)) i ≡ Some (not blocked)
+has-Unblocked e i blocked at =
+    let m = mapped-at (λ (v : Variant). v.blocked) (marked e) i blocked at in
+    slice_get-map (part_has Unblocked) (marked e) i ∙ ap (option_map (part_has Unblocked)) m.1 ∙ ap (λ t. Some (not t)) m.2

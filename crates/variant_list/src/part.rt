@@ -1,0 +1,10 @@
+//! The parts of a table.
+
+/// Which replacements of a table's entries may stand in the place of their sources.
+#[derive(Clone, Copy, PartialEq, Eq, Debug)]
+pub enum Part {
+    /// All of them.
+    Whole,
+    /// Those that are not blocked. A source is not, as a replacement of itself.
+    Unblocked,
+}
