@@ -50,8 +50,10 @@ WORDS = ["-l", "--lookup", "-r", "--register", "-d", "--decode", "-N", "--tr46nt
 LIMITS = ("1", "2", "3", "7")
 # Where ranges begin: the three code points after each are letters or digits, too.
 RANGES = (0x30, 0x61, 0x62, 0x6B, 0xDF, 0x0430, 0x05D0, 0x0627, 0x0660, 0x06F0, 0x4E2D, 0x56FD)
-VERSION_LINE = "%version 2"
-FAULTY_LINES = ("0061|", "0041", "0061-0061-0061|0061-0061-0061", VERSION_LINE, "%version 3", "%", "0063..0061", "!0061|0062",
+# No line for version 1, which is drawn twice as often as each of the others.
+VERSION_LINES = ((), (), ("%version 2",), ("%version 3",))
+RULESET = b"%version 3"
+FAULTY_LINES = ("0061|", "0041", "0061-0061-0061|0061-0061-0061", "%version 2", "%version 3", "%", "0063..0061", "!0061|0062",
                 "0061..0063|0064", "0061|0062..0063", "0061-0062..0063", "0061...0063", "0061. .0063", "0061..D800",
                 "005A..0061", "D7FF..E000", "4E00..5E00", "4E00..5DFF", "0061|!!0062", "0061|!", "0061|0062:!0062",
                 "0061|!0061", "0061|!0041", "0061..0063", "0061|!0062")
@@ -136,42 +138,47 @@ class Fuzz:
         return "".join(self.chance.choices(letters, k=self.chance.choice((1, 1, 1, 2, longest))))
 
     def table(self, letters):
-        """The text of a table of either version, and the variants of each source. Now and then it has a fault."""
+        """The text of a table or a ruleset, and the variants of each source. Now and then it has a fault. Of what only rulesets
+        have it has outside sources, which no label may have: these are among the sources now and then."""
         entries = {}
         for _ in range(self.chance.randint(1, 6)):
             source = self.sequence(letters)
             variants = {self.sequence(letters) for _ in range(self.chance.choice((0, 1, 1, 2, 3)))} - {source}
             if source not in entries:
                 entries[source] = sorted(variants, key=lambda _: self.chance.random())
-        is_marked = self.chance.random() < 0.5
-        lines = [VERSION_LINE] if is_marked else []
+        lines = list(self.chance.choice(VERSION_LINES))
+        is_marked, is_ruleset = bool(lines), lines == [RULESET.decode()]
         marks = ("", "!", "! ") if is_marked else ("",)
+        outside = {source for source in list(entries)[1:] if is_ruleset and self.chance.random() < 0.4}
         for source, variants in entries.items():
             marked = ":".join(self.chance.choice(marks) + spelled(variant) for variant in variants)
-            lines.append(spelled(source) + ("|" if variants else "") + marked)
+            lines.append(("!" if source in outside else "") + spelled(source) + ("|" if variants else "") + marked)
         if is_marked and self.chance.random() < 0.5:
-            entries.update(dict.fromkeys(self.range(entries, lines), ()))
+            entries.update(dict.fromkeys(self.range(entries, lines, is_ruleset and self.chance.random() < 0.3), ()))
+        if self.chance.random() < 0.9:
+            entries = {source: variants for source, variants in entries.items() if source not in outside}
         if self.chance.random() < 0.05:
             lines.insert(self.chance.randint(0, len(lines)), self.chance.choice((*FAULTY_LINES, lines[-1])))
         return self.chance.choice(("\n", "\n", "\r\n")).join(lines).encode(), entries
 
-    def range(self, entries, lines):
-        """Puts a range without any of the sources into the lines, and answers its sources."""
+    def range(self, entries, lines, is_outside):
+        """Puts a range without any of the sources into the lines, and answers its sources, or none if they are outside."""
         first = self.chance.choice(RANGES)
         last = first + self.chance.randint(0, 3)
         sources = [chr(point) for point in range(first, last + 1)]
         if any(source in entries for source in sources):
             return []
         space = self.chance.choice(("", "", " ", "\t"))
-        lines.insert(self.chance.randint(1, len(lines)), f"{first:04X}{space}..{space}{last:04X}")
-        return sources
+        mark = "!" if is_outside else ""
+        lines.insert(self.chance.randint(1, len(lines)), f"{mark}{first:04X}{space}..{space}{last:04X}")
+        return [] if is_outside else sources
 
     def variants(self):
         letters = self.chance.choice(ALPHABETS)
         table, entries = self.table(letters)
         starts = [self.sequence(letters, 6) for _ in range(3)]
         options = {"--limit=": LIMITS, "--tries=": ("1", "2", "5", "40"), "--steps=": ("2", "3", "4", "6", "9", "30"), "--after=": starts}
-        words = ["--variants", "table", *self.some_of(options)]
+        words = [listing_of(table), "table", *self.some_of(options)]
         longest = self.chance.choice((3, 5, 8, 8, 70))
         return self.compare(words, self.lines(lambda: "".join(self.sources(entries, longest))), table=table)
 
@@ -207,7 +214,7 @@ class Fuzz:
         labels = [self.requested(entries) for _ in range(self.chance.randint(1, 4))]
         near = [self.near(entries, letters, self.chance.choice(labels)) for _ in range(self.chance.randint(0, 20))]
         starts = [self.sequence(letters, 6), *near, *(each + letters[0] * 64 for each in near)]
-        words = ["--variants", "table", "--among", "registered", *self.some_of({"--limit=": LIMITS, "--after=": starts})]
+        words = [listing_of(table), "table", "--among", "registered", *self.some_of({"--limit=": LIMITS, "--after=": starts})]
         given = self.lines(lambda: "".join(self.chance.choice(labels)))
         return self.compare(words, given, table=table, registered=self.registered(near))
 
@@ -223,7 +230,7 @@ class Fuzz:
                                        self.sequence(letters, 80) + "\t" + self.sequence(letters), ""))
             return "".join(sources) + self.chance.choice(("\t", "\t", "\t", "\t", "\t\t", "")) + text
 
-        return self.compare(["--variants", "table", "--jump"], self.lines(request), table=table)
+        return self.compare([listing_of(table), "table", "--jump"], self.lines(request), table=table)
 
     def near(self, entries, letters, sources):
         """A label that the sources spell, or a neighbour of it."""
@@ -252,7 +259,8 @@ class Fuzz:
             damage = self.chance.choice((b"|", b"-", b":", b" ", b"\t", b"#", b"\n", b"\r\n", b"U+", b"0", b"\0", b"\xff", b".",
                                          b"..", b"!", b"%"))
             table = table[:place] + damage + table[place + self.chance.randint(0, 1):]
-        return self.compare(["--check-table", "table"], b"", table=table)
+        check = "--check-ruleset" if table.startswith(RULESET) else "--check-table"
+        return self.compare([check, "table"], b"", table=table)
 
     def words(self):
         words = self.chance.choice(([], ["--variants", "table"]))
@@ -272,6 +280,11 @@ def obeys(name, answer, strict):
     if text is not None and re.fullmatch("[-.0-9a-z]*", text):
         return strict == answer
     return strict == (None, 20) or (number == 21 and strict == (None, 21))
+
+
+def listing_of(table):
+    """The option by which variants are listed under a table or a ruleset."""
+    return "--ruleset" if table.startswith(RULESET) else "--variants"
 
 
 def spelled(sequence):
