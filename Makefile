@@ -93,6 +93,7 @@ bench: all
 	python3 bench/bench.py
 	python3 bench/collisions.py
 	python3 bench/limits.py
+	python3 bench/rulesets.py
 
 # Compares the program with libidn2, with a second writing of the rules and of the table notation, and with Unicode's
 # IDNA test file where IDNA_TEST_FILE names it.
