@@ -69,34 +69,34 @@ module _ (v : Version) (t es : List Entry) (written more : ℕ) (so_far : IsCoun
 
 -- ---- the entries of a range
 
-module _ (v : Version) (t : List Entry) (first count : ℕ) where
-  range_by : (o b : Bool) → is_over_limit v t (points_from first count) ≡ o → list_any has_bad_class (points_from first count) ≡ b
-      → with_entries v t (points_from first count) ≡ cond o (Err Limit) (cond b (Err BadClass) (with_new_sources t (points_from first count)))
-  range_by o b e f =
-      with_entries-by v t (points_from first count) o b false (list_any (has_source_in t) (points_from first count)) e f (range_single first count) refl
-      ∙ ap (λ r. cond o (Err Limit) (cond b (Err BadClass) r)) (sym (with_range t first count))
+module _ (v : Version) (t : List Entry) (o : Bool) (first count : ℕ) where
+  range_by : (over b : Bool) → is_over_limit v t (points_from o first count) ≡ over → list_any has_bad_class (points_from o first count) ≡ b
+      → with_entries v t (points_from o first count) ≡ cond over (Err Limit) (cond b (Err BadClass) (with_new_sources t (points_from o first count)))
+  range_by over b e f =
+      with_entries-by v t (points_from o first count) over b false (list_any (has_source_in t) (points_from o first count)) e f (range_single o first count) refl
+      ∙ ap (λ r. cond over (Err Limit) (cond b (Err BadClass) r)) (sym (with_range o t first count))
 
-  pub range_too_many : entry_limit v < length t + count → with_entries v t (points_from first count) ≡ Err Limit
+  pub range_too_many : entry_limit v < length t + count → with_entries v t (points_from o first count) ≡ Err Limit
   range_too_many l =
-      range_by true _ (ap (λ b. (b || list_any is_too_large (points_from first count)) || is_text_too_long v (t ++ points_from first count))
-      (lt-ltb (entry_limit v) (length t + length (points_from first count)) (omega (arith, l, length-map-range_with_len point_entry first count)))) refl
+      range_by true _ (ap (λ b. (b || list_any is_too_large (points_from o first count)) || is_text_too_long v (t ++ points_from o first count))
+      (lt-ltb (entry_limit v) (length t + length (points_from o first count)) (omega (arith, l, length-map-range_with_len (point_entry o) first count)))) refl
 
-module _ (v : Version) (t : List Entry) (first count written more : ℕ) (so_far : IsCounted v written t) (added : more ≡ counted v (canonical_text (points_from first count))) (few : length t + count ≤ entry_limit v) where
-  range_limit-is : is_over_limit v t (points_from first count) ≡ nat_lt (text_limit v) (written + more)
-  range_limit-is = over_limit-is v t (points_from first count) written more so_far added (range_small first count) (omega (arith, few, length-map-range_with_len point_entry first count))
+module _ (v : Version) (t : List Entry) (o : Bool) (first count written more : ℕ) (so_far : IsCounted v written t) (added : more ≡ counted v (canonical_text (points_from o first count))) (few : length t + count ≤ entry_limit v) where
+  range_limit-is : is_over_limit v t (points_from o first count) ≡ nat_lt (text_limit v) (written + more)
+  range_limit-is = over_limit-is v t (points_from o first count) written more so_far added (range_small o first count) (omega (arith, few, length-map-range_with_len (point_entry o) first count))
 
-  pub range_too_long : text_limit v < written + more → with_entries v t (points_from first count) ≡ Err Limit
-  range_too_long l = range_by v t first count true _ (range_limit-is ∙ lt-ltb (text_limit v) (written + more) l) refl
+  pub range_too_long : text_limit v < written + more → with_entries v t (points_from o first count) ≡ Err Limit
+  range_too_long l = range_by v t o first count true _ (range_limit-is ∙ lt-ltb (text_limit v) (written + more) l) refl
 
-  pub range_bad : written + more ≤ text_limit v → list_any has_bad_class (points_from first count) ≡ true → with_entries v t (points_from first count) ≡ Err BadClass
-  range_bad l b = range_by v t first count false true (range_limit-is ∙ le-ltb (text_limit v) (written + more) l) b
+  pub range_bad : written + more ≤ text_limit v → list_any has_bad_class (points_from o first count) ≡ true → with_entries v t (points_from o first count) ≡ Err BadClass
+  range_bad l b = range_by v t o first count false true (range_limit-is ∙ le-ltb (text_limit v) (written + more) l) b
 
-  pub range_good : written + more ≤ text_limit v → list_any has_bad_class (points_from first count) ≡ false → with_entries v t (points_from first count) ≡ with_new_sources t (points_from first count)
-  range_good l b = range_by v t first count false false (range_limit-is ∙ le-ltb (text_limit v) (written + more) l) b
+  pub range_good : written + more ≤ text_limit v → list_any has_bad_class (points_from o first count) ≡ false → with_entries v t (points_from o first count) ≡ with_new_sources t (points_from o first count)
+  range_good l b = range_by v t o first count false false (range_limit-is ∙ le-ltb (text_limit v) (written + more) l) b
 
-  pub range_added : written + more ≤ text_limit v → (t' : List Entry) → with_new_sources t (points_from first count) ≡ Ok t' → IsCounted v (written + more) t'
-  range_added l t' e = subst (IsCounted v (written + more)) (sym (new_table (list_any (has_source_in t) (points_from first count)) t' (sym (with_range t first count) ∙ e))) (counted_with v t (points_from first count) written more so_far added l)
+  pub range_added : written + more ≤ text_limit v → (t' : List Entry) → with_new_sources t (points_from o first count) ≡ Ok t' → IsCounted v (written + more) t'
+  range_added l t' e = subst (IsCounted v (written + more)) (sym (new_table (list_any (has_source_in t) (points_from o first count)) t' (sym (with_range o t first count) ∙ e))) (counted_with v t (points_from o first count) written more so_far added l)
     where
-      new_table : (b : Bool) (t' : List Entry) → cond b (Err SameSource) (Ok (t ++ points_from first count)) ≡ Ok t' → t' ≡ t ++ points_from first count
+      new_table : (b : Bool) (t' : List Entry) → cond b (Err SameSource) (Ok (t ++ points_from o first count)) ≡ Ok t' → t' ≡ t ++ points_from o first count
       new_table true t' h = absurd cc
       new_table false t' h = cc

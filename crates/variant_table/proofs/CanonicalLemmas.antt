@@ -1,5 +1,5 @@
 -- The canonical text of a well-formed table spells that table.
-use Rattle.std.proofs.Common.{◌≡◌, ◌≢◌, ℕ, zero, suc, ◌+◌, ◌*◌, ◌-◌, ◌<◌, ◌≤◌, Bool, true, false, cond, eqb, Option, Some, None, List, [], ◌∷◌, ◌++◌, length, map, get_or, take, inl, inr, refl, sym, ap, subst, ◌∙◌, append_assoc, arith, length-append, eq-eqb}
+use Rattle.std.proofs.Common.{◌≡◌, ◌≢◌, ℕ, zero, suc, ◌+◌, ◌*◌, ◌-◌, ◌<◌, ◌≤◌, Bool, true, false, cond, eqb, Some, List, [], ◌∷◌, ◌++◌, length, map, get_or, take, inl, inr, refl, sym, ap, subst, ◌∙◌, append_assoc, arith, length-append, eq-eqb}
 use Rattle.std.specs.List.{AllByRecursion, list_all, flat_map}
 use Rattle.std.specs.Str.Lines.{strip_carriage_return}
 use Rattle.std.specs.Prelude.{bytes_eq}
@@ -65,10 +65,14 @@ scalar_variants : (variants : List Variant) → AllByRecursion AreScalars (seque
 scalar_variants [] h = tt
 scalar_variants (v ∷ variants) h = (tt, scalar_marked v.blocked v.sequence (further_variants variants) h.0 (scalar_further variants h.1))
 
+scalar_source : (outside : Bool) (s : List ℕ) (tokens : List Token) → AreScalars s → AllByRecursion IsScalarToken tokens → AllByRecursion IsScalarToken (mark_tokens outside ++ (sequence_tokens s ++ tokens))
+scalar_source true s tokens h g = (tt, scalar_sequence s tokens h g)
+scalar_source false s tokens h g = scalar_sequence s tokens h g
+
 entry_scalar_tokens : (e : Entry) → IsEntry e → AllByRecursion IsScalarToken (entry_tokens e)
 entry_scalar_tokens e h =
     let s = sequences_scalar (replacements e) (recursion_from_All IsSequence (replacements e) h.sequences) in
-    scalar_sequence e.source (variants_tokens e.variants) s.0 (scalar_variants e.variants s.1)
+    scalar_source e.outside e.source (variants_tokens e.variants) s.0 (scalar_variants e.variants s.1)
 
 -- the canonical line of an entry spells it
 pub canonical_line_spells : (e : Entry) → IsEntry e → IsEntryLine e (canonical_line e)
@@ -139,14 +143,18 @@ unfolding marked
 length-variants [] h g = omega arith
 length-variants (v ∷ variants) h g = omega (arith, length-marked v.blocked v.sequence (further_variants variants) h.0 g.0, length-further variants h.1 g.1)
 
+length-source : (outside : Bool) (s : List ℕ) (tokens : List Token) → 0 < length s → length s ≤ 8 → length (texts (mark_tokens outside ++ (sequence_tokens s ++ tokens))) ≤ 55 + length (mark_tokens outside) + length (texts tokens)
+length-source true s tokens l k = omega (arith, length-sequence s tokens l k)
+length-source false s tokens l k = omega (arith, length-sequence s tokens l k)
+
+one_mark : (marked : Bool) → length (mark_tokens marked) ≤ 1
+one_mark true = omega arith
+one_mark false = omega arith
+
 marked-few : (variants : List Variant) → marked variants ≤ length variants
 unfolding marked
 marked-few [] = omega arith
 marked-few (v ∷ variants) = omega (arith, one_mark v.blocked, marked-few variants)
-  where
-    one_mark : (blocked : Bool) → length (mark_tokens blocked) ≤ 1
-    one_mark true = omega arith
-    one_mark false = omega arith
 
 marked-none : (variants : List Variant) → AllByRecursion (λ v. v.blocked ≡ false) variants → marked variants ≡ 0
 unfolding marked
@@ -158,20 +166,24 @@ short_sequences [] h = tt
 short_sequences (s ∷ ss) h = (h.0.short, short_sequences ss h.1)
 
 -- a canonical line has at most 951 bytes and one more for each mark
-length-by_marks : (e : Entry) → IsEntry e → length (canonical_line e) ≤ 951 + marked e.variants
+length-by_marks : (e : Entry) → IsEntry e → length (canonical_line e) ≤ 951 + length (mark_tokens e.outside) + marked e.variants
 length-by_marks e h =
     let all = recursion_from_All IsSequence (replacements e) h.sequences in
     let filled = sequences_filled (replacements e) all in
     let short = short_sequences (replacements e) all in
-    omega (arith, h.few, length-sequence e.source (variants_tokens e.variants) filled.0 short.0, length-variants e.variants filled.1 short.1)
+    omega (arith, h.few, length-source e.outside e.source (variants_tokens e.variants) filled.0 short.0, length-variants e.variants filled.1 short.1)
 
--- in version 2 it has at most 967 bytes
-pub length-marked_line : (e : Entry) → IsEntry e → length (canonical_line e) ≤ 967
-length-marked_line e h = omega (arith, h.few, length-by_marks e h, marked-few e.variants)
+-- with all its marks it has at most 968 bytes
+pub length-marked_line : (e : Entry) → IsEntry e → length (canonical_line e) ≤ 968
+length-marked_line e h = omega (arith, h.few, length-by_marks e h, one_mark e.outside, marked-few e.variants)
+
+-- in version 2 it has at most 967
+pub length-blocked_line : (e : Entry) → IsEntry e → IsOfVersion Two e → length (canonical_line e) ≤ 967
+length-blocked_line e h of = omega (arith, h.few, length-by_marks e h, ap (λ b. length (mark_tokens b)) of, marked-few e.variants)
 
 -- in version 1 it has at most 951
 pub length-canonical_line : (e : Entry) → IsEntry e → IsOfVersion One e → length (canonical_line e) ≤ 951
-length-canonical_line e h of = omega (arith, length-by_marks e h, marked-none e.variants (recursion_from_All (λ v. v.blocked ≡ false) e.variants of))
+length-canonical_line e h of = omega (arith, length-by_marks e h, ap (λ b. length (mark_tokens b)) of.0, marked-none e.variants (recursion_from_All (λ v. v.blocked ≡ false) e.variants of.1))
 
 -- ---- the text
 
@@ -212,7 +224,7 @@ lines_of_entries head table h size =
       well_formed = h;
     }
 
--- in version 1 no line of an entry is a version line: it begins with a digit
+-- in version 1 no line of an entry is a version line: it begins with a digit, or with a mark
 
 no_percent : (digits rest : List ℕ) → list_all is_hex_digit digits ≡ true → 1 ≤ length digits → bytes_eq (digits ++ rest) (version_line Table) ≡ true → ⊥
 no_percent [] rest h l e = omega (arith, l)
@@ -230,11 +242,15 @@ begins_by_digit (c ∷ points) tokens l h e =
     let long : 4 ≤ length (point_text c) = leb-true 4 (length (point_text c)) hex.long in
     no_percent (point_text c) (texts (further_points points ++ tokens)) hex.digit (omega (arith, long)) e
 
+begins_by_mark : (outside : Bool) (source : List ℕ) (tokens : List Token) → 0 < length source → AreScalars source → bytes_eq (texts (mark_tokens outside ++ (sequence_tokens source ++ tokens))) (version_line Table) ≡ true → ⊥
+begins_by_mark true source tokens l h e = let none : 33 ≡ 37 = ap (λ s. get_or s 0 0) ((bytes_eq-Decides (33 ∷ texts (sequence_tokens source ++ tokens)) (version_line Table)).0 e) in cc
+begins_by_mark false source tokens l h e = begins_by_digit source tokens l h e
+
 no_version_line : (e : Entry) → IsEntry e → is_version_line Table (canonical_line e) ≡ false
 no_version_line e h =
     let all = recursion_from_All IsSequence (replacements e) h.sequences in
     ap (λ l. bytes_eq l (version_line Table)) (strip_nothing (canonical_line e) (texts_in_line (entry_tokens e) (entry_scalar_tokens e h)))
-    ∙ false_from_ne_true (bytes_eq (canonical_line e) (version_line Table)) (begins_by_digit e.source (variants_tokens e.variants) (sequences_filled (replacements e) all).0 (sequences_scalar (replacements e) all).0)
+    ∙ false_from_ne_true (bytes_eq (canonical_line e) (version_line Table)) (begins_by_mark e.outside e.source (variants_tokens e.variants) (sequences_filled (replacements e) all).0 (sequences_scalar (replacements e) all).0)
 
 -- lines of which the first is no version line
 record AreBody (lines : List (List ℕ)) : Type 0 where

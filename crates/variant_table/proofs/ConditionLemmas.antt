@@ -21,7 +21,7 @@ use Rattle.variant_table.specs.declared.token.Token.TheVariants.{Point, Unknown}
 use Rattle.variant_table.specs.Faults.{Limit, BadClass, SameVariant, SameSource}
 use Rattle.variant_table.specs.declared.version.Version.{Version}
 use Rattle.variant_table.specs.declared.version.Version.TheVariants.{One, Two, Three}
-use Rattle.variant_table.specs.Entries.{Entry, replacements, HasMarks, IsOfVersion}
+use Rattle.variant_table.specs.Entries.{Entry, replacements, HasRanges, IsOfVersion}
 use Rattle.variant_table.specs.Notation.{HasNoEmptySequence}
 use Rattle.variant_table.specs.Limits.{entry_limit}
 use Rattle.variant_table.specs.Ranges.{point_entry, range_size}
@@ -183,24 +183,24 @@ new_sources before (e ∷ table) h = (
 
 -- ---- the entries of a line
 
-filled_points : (cs : List ℕ) → AllByRecursion HasNoEmptySequence (map point_entry cs)
-filled_points [] = tt
-filled_points (c ∷ cs) = ((omega arith, tt), filled_points cs)
+filled_points : (o : Bool) (cs : List ℕ) → AllByRecursion HasNoEmptySequence (map (point_entry o) cs)
+filled_points o [] = tt
+filled_points o (c ∷ cs) = ((omega arith, tt), filled_points o cs)
 
 pub filled_spelled : (v : Version) (line : List ℕ) (es : List Entry) → Spells v line es → AllByRecursion HasNoEmptySequence es
 filled_spelled v line es (inl h) = subst (AllByRecursion HasNoEmptySequence) (sym h.3) (h.1.0, tt)
-filled_spelled v line es (inr h) = subst (AllByRecursion HasNoEmptySequence) (sym h.4) (filled_points (range_with_len h.0 (range_size h.0 h.1)))
+filled_spelled v line es (inr h) = subst (AllByRecursion HasNoEmptySequence) (sym h.5) (filled_points h.0 (range_with_len h.1 (range_size h.1 h.2)))
 
-points_of_version : (v : Version) (cs : List ℕ) → HasMarks v → AllByRecursion (IsOfVersion v) (map point_entry cs)
-points_of_version v [] h = tt
-points_of_version One (c ∷ cs) h = absurd h
-points_of_version Two (c ∷ cs) h = (tt, points_of_version Two cs h)
-points_of_version Three (c ∷ cs) h = (tt, points_of_version Three cs h)
+points_of_version : (v : Version) (o : Bool) (cs : List ℕ) → HasRanges v o → AllByRecursion (IsOfVersion v) (map (point_entry o) cs)
+points_of_version v o [] h = tt
+points_of_version One o (c ∷ cs) h = absurd h
+points_of_version Two o (c ∷ cs) h = (h, points_of_version Two o cs h)
+points_of_version Three o (c ∷ cs) h = (tt, points_of_version Three o cs h)
 
 pub version_spelled : (v : Version) (line : List ℕ) (es : List Entry) → Spells v line es → AllByRecursion (IsOfVersion v) es
 version_spelled v line es (inl h) = subst (AllByRecursion (IsOfVersion v)) (sym h.3) (h.2, tt)
 version_spelled v line es (inr h) =
-    subst (AllByRecursion (IsOfVersion v)) (sym h.4) (points_of_version v (range_with_len h.0 (range_size h.0 h.1)) h.3)
+    subst (AllByRecursion (IsOfVersion v)) (sym h.5) (points_of_version v h.0 (range_with_len h.1 (range_size h.1 h.2)) h.4)
 
 pub entries_from_tests : (es : List Entry) → AllByRecursion HasNoEmptySequence es → list_any is_too_large es ≡ false → list_any has_bad_class es ≡ false → list_any has_repeat es ≡ false → AllByRecursion IsEntry es
 entries_from_tests [] h a b d = tt
@@ -222,25 +222,25 @@ other_points : (a b : ℕ) → a < b → bytes_eq (a ∷ []) (b ∷ []) ≡ fals
 other_points a b l = false_from_ne_true (bytes_eq (a ∷ []) (b ∷ [])) (λ t.
     (let same : a ≡ b = ap (λ s. get_or s 0 0) ((bytes_eq-Decides (a ∷ []) (b ∷ [])).0 t) in omega (arith, same, l)))
 
-range_push : (t : List Entry) (a b n : ℕ) → a < b → list_any (has_source_in t) (map point_entry (range_with_len b n)) ≡ false → list_any (has_source_in (t ++ point_entry a ∷ [])) (map point_entry (range_with_len b n)) ≡ false
-range_push t a b zero l h = refl
-range_push t a b (suc n) l h =
-    let p = or_parts (has_source_in t (point_entry b)) (list_any (has_source_in t) (map point_entry (range_with_len (b + 1) n))) h in
-    or_from (has_source_in (t ++ point_entry a ∷ []) (point_entry b)) (list_any (has_source_in (t ++ point_entry a ∷ [])) (map point_entry (range_with_len (b + 1) n)))
-    (source_push t (point_entry a) (point_entry b) p.0 (other_points a b l)) (range_push t a (b + 1) n (omega (arith, l)) p.1)
+range_push : (o : Bool) (t : List Entry) (a b n : ℕ) → a < b → list_any (has_source_in t) (map (point_entry o) (range_with_len b n)) ≡ false → list_any (has_source_in (t ++ point_entry o a ∷ [])) (map (point_entry o) (range_with_len b n)) ≡ false
+range_push o t a b zero l h = refl
+range_push o t a b (suc n) l h =
+    let p = or_parts (has_source_in t (point_entry o b)) (list_any (has_source_in t) (map (point_entry o) (range_with_len (b + 1) n))) h in
+    or_from (has_source_in (t ++ point_entry o a ∷ []) (point_entry o b)) (list_any (has_source_in (t ++ point_entry o a ∷ [])) (map (point_entry o) (range_with_len (b + 1) n)))
+    (source_push t (point_entry o a) (point_entry o b) p.0 (other_points a b l)) (range_push o t a (b + 1) n (omega (arith, l)) p.1)
 
-pub new_range : (t : List Entry) (a n : ℕ) → list_any (has_source_in t) (map point_entry (range_with_len a n)) ≡ false → AreNewSources t (map point_entry (range_with_len a n))
-new_range t a zero h = tt
-new_range t a (suc n) h =
-    let p = or_parts (has_source_in t (point_entry a)) (list_any (has_source_in t) (map point_entry (range_with_len (a + 1) n))) h in
-    (p.0, new_range (t ++ point_entry a ∷ []) (a + 1) n (range_push t a (a + 1) n (omega arith) p.1))
+pub new_range : (o : Bool) (t : List Entry) (a n : ℕ) → list_any (has_source_in t) (map (point_entry o) (range_with_len a n)) ≡ false → AreNewSources t (map (point_entry o) (range_with_len a n))
+new_range o t a zero h = tt
+new_range o t a (suc n) h =
+    let p = or_parts (has_source_in t (point_entry o a)) (list_any (has_source_in t) (map (point_entry o) (range_with_len (a + 1) n))) h in
+    (p.0, new_range o (t ++ point_entry o a ∷ []) (a + 1) n (range_push o t a (a + 1) n (omega arith) p.1))
 
 pub new_spelled : (v : Version) (t : List Entry) (line : List ℕ) (es : List Entry) → Spells v line es → list_any (has_source_in t) es ≡ false → AreNewSources t es
 new_spelled v t line es (inl h) k =
     let one : list_any (has_source_in t) (h.0 ∷ []) ≡ false = ap (list_any (has_source_in t)) (sym h.3) ∙ k in
     subst (AreNewSources t) (sym h.3) ((or_parts (has_source_in t h.0) false one).0, tt)
 new_spelled v t line es (inr h) k =
-    subst (AreNewSources t) (sym h.4) (new_range t h.0 (range_size h.0 h.1) (ap (list_any (has_source_in t)) (sym h.4) ∙ k))
+    subst (AreNewSources t) (sym h.5) (new_range h.0 t h.1 (range_size h.1 h.2) (ap (list_any (has_source_in t)) (sym h.5) ∙ k))
 
 -- ---- a line without a fault
 

@@ -222,18 +222,23 @@ record EntryOf (tokens : List Token) (ss : List Variant) : Type 0 where
   some : 0 < length ss
   known : AllByRecursion IsKnown tokens
 
-entry_of_parsed : (c : ℕ) (tokens : List Token) (ss : List Variant) → Parsed false [] (begun false c) tokens ss → EntryOf (Point c ∷ tokens) ss
-entry_of_parsed c tokens ss p = record {
-  spelled = ap (λ ts. Point c ∷ ts) p.spelled ∙ ap (λ s. entry_tokens (entry_from s)) (sym p.same);
+known_source : (outside : Bool) (c : ℕ) (tokens : List Token) → AllByRecursion IsKnown tokens → AllByRecursion IsKnown (mark_tokens outside ++ Point c ∷ tokens)
+known_source true c tokens h = (tt, (tt, h))
+known_source false c tokens h = (tt, h)
+
+entry_of_parsed : (outside : Bool) (c : ℕ) (tokens : List Token) (ss : List Variant) → Parsed false [] (begun outside c) tokens ss → EntryOf (mark_tokens outside ++ Point c ∷ tokens) ss
+entry_of_parsed outside c tokens ss p = record {
+  spelled = ap (λ ts. mark_tokens outside ++ Point c ∷ ts) p.spelled ∙ ap (λ s. entry_tokens (entry_from s)) (sym p.same);
   filled = subst AreFilled (sym p.same) (omega arith, p.filled);
   some = subst (λ s. 0 < length s) (sym p.same) (omega arith);
-  known = subst (AllByRecursion IsKnown) (ap (λ ts. Point c ∷ ts) (sym p.spelled)) (tt, known_points p.points (variants_tokens p.variants) (known_variants p.variants));
+  known = subst (AllByRecursion IsKnown) (ap (λ ts. mark_tokens outside ++ Point c ∷ ts) (sym p.spelled)) (known_source outside c _ (known_points p.points (variants_tokens p.variants) (known_variants p.variants)));
 }
 
 entry_of_tokens : (tokens : List Token) (ss : List Variant) → sequences_of tokens ≡ Ok ss → EntryOf tokens ss
 unfolding sequences_of
 entry_of_tokens [] ss e = absurd cc
-entry_of_tokens (Point c ∷ tokens) ss e = entry_of_parsed c tokens ss (parsed false [] (begun false c) tokens ss e)
+entry_of_tokens (Point c ∷ tokens) ss e = entry_of_parsed false c tokens ss (parsed false [] (begun false c) tokens ss e)
+entry_of_tokens (Mark ∷ Point c ∷ tokens) ss e = entry_of_parsed true c tokens ss (parsed false [] (begun true c) tokens ss e)
 entry_of_tokens (token ∷ tokens) ss e = absurd cc
 
 filled_entry : (ss : List Variant) → 0 < length ss → AreFilled ss → AllByRecursion (λ s. 0 < length s) (replacements (entry_from ss))

@@ -54,6 +54,16 @@ source_at sequences s x l e =
     let at = sequence_found sequences s.start x e in
     ap (λ d. (entry_from (take (s.end - s.start) d)).source) (drop_next sequences s.start at.0 at.1) ∙ first_of_take (s.end - s.start) at.0 (drop (s.start + 1) sequences) (omega arith) ∙ at.2
 
+outside_of_take : (n : ℕ) (x : Variant) (xs : List Variant) → 0 < n → (entry_from (take n (x ∷ xs))).outside ≡ x.blocked
+outside_of_take zero x xs l = absurd (omega arith)
+outside_of_take (suc n) x xs l = refl
+
+-- an entry is outside by the mark of its first sequence
+pub outside_at : (sequences : List Variant) (s : Span) (b : Bool) → s.start < s.end → slice_get (map (λ v. v.blocked) sequences) s.start ≡ Some b → (entry_at sequences s).outside ≡ b
+outside_at sequences s b l e =
+    let at = variant_marked sequences s.start b e in
+    ap (λ d. (entry_from (take (s.end - s.start) d)).outside) (drop_next sequences s.start at.0 at.1) ∙ outside_of_take (s.end - s.start) at.0 (drop (s.start + 1) sequences) (omega arith) ∙ at.2
+
 pub source-first : (sequences : List Variant) (x : List ℕ) → slice_get (sequences_in sequences) 0 ≡ Some x → (entry_from sequences).source ≡ x
 source-first [] x e = absurd cc
 source-first (s ∷ sequences) x e = cc

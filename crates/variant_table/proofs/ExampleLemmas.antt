@@ -25,7 +25,7 @@ with_entries-by v t es o b r s f g h i =
 
 -- the entry of a and these variants
 abbrev pub letter : List Variant → Entry
-letter variants = record { source = 0x61 ∷ []; variants = variants }
+letter variants = record { source = 0x61 ∷ []; outside = false; variants = variants }
 
 pvalid : (c : ℕ) → class_of c ≡ Pvalid → has_bad_point (c ∷ []) ≡ false
 pvalid c e = rw e
@@ -65,9 +65,9 @@ bad-5A : has_bad_point (0x5A ∷ []) ≡ true
 unfolding in_table
 bad-5A = disallowed 0x5A (class_of-in_table 0x5A Disallowed refl)
 
-pub with_entries-capital : with_entries One [] (point_entry 0x41 ∷ []) ≡ Err BadClass
+pub with_entries-capital : with_entries One [] (point_entry false 0x41 ∷ []) ≡ Err BadClass
 unfolding point_text
-with_entries-capital = with_entries-by One [] (point_entry 0x41 ∷ []) false true false false refl (rw bad-41) refl refl
+with_entries-capital = with_entries-by One [] (point_entry false 0x41 ∷ []) false true false false refl (rw bad-41) refl refl
 
 pub with_entries-own_variant : with_entries One [] (letter (begun false 0x61 ∷ []) ∷ []) ≡ Err SameVariant
 with_entries-own_variant = with_entries-by One [] (letter (begun false 0x61 ∷ []) ∷ []) false false true false refl (rw good-61) refl refl
@@ -81,11 +81,11 @@ with_entries-letter_again = with_entries-by One (letter [] ∷ []) (letter [] �
 -- ---- version 2
 
 abbrev pub three : List Entry
-three = range_entries 0x61 0x63
+three = range_entries false 0x61 0x63
 
 -- x, with y blocked and z
 abbrev pub last_letter : Entry
-last_letter = record { source = 0x78 ∷ []; variants = begun true 0x79 ∷ begun false 0x7A ∷ [] }
+last_letter = record { source = 0x78 ∷ []; outside = false; variants = begun true 0x79 ∷ begun false 0x7A ∷ [] }
 
 good-three : list_any has_bad_class three ≡ false
 good-three = rw good-61 (rw good-62 (rw good-63 refl))
@@ -102,14 +102,14 @@ pub with_entries-marked_twice : with_entries Two [] (letter (begun false 0x62 �
 unfolding point_text
 with_entries-marked_twice = with_entries-by Two [] (letter (begun false 0x62 ∷ begun true 0x62 ∷ []) ∷ []) false false true false refl (rw good-61 (rw good-62 refl)) refl refl
 
-pub with_entries-from_capital : with_entries Two [] (range_entries 0x5A 0x61) ≡ Err BadClass
+pub with_entries-from_capital : with_entries Two [] (range_entries false 0x5A 0x61) ≡ Err BadClass
 unfolding point_text
-with_entries-from_capital = with_entries-by Two [] (range_entries 0x5A 0x61) false true false false refl (rw bad-5A) refl refl
+with_entries-from_capital = with_entries-by Two [] (range_entries false 0x5A 0x61) false true false false refl (rw bad-5A) refl refl
 
-pub with_entries-b : with_entries Two [] (point_entry 0x62 ∷ []) ≡ Ok (point_entry 0x62 ∷ [])
+pub with_entries-b : with_entries Two [] (point_entry false 0x62 ∷ []) ≡ Ok (point_entry false 0x62 ∷ [])
 unfolding point_text
-with_entries-b = with_entries-by Two [] (point_entry 0x62 ∷ []) false false false false refl (rw good-62) refl refl
+with_entries-b = with_entries-by Two [] (point_entry false 0x62 ∷ []) false false false false refl (rw good-62) refl refl
 
-pub with_entries-b_again : with_entries Two (point_entry 0x62 ∷ []) three ≡ Err SameSource
+pub with_entries-b_again : with_entries Two (point_entry false 0x62 ∷ []) three ≡ Err SameSource
 unfolding point_text
-with_entries-b_again = with_entries-by Two (point_entry 0x62 ∷ []) three false false false true refl good-three refl refl
+with_entries-b_again = with_entries-by Two (point_entry false 0x62 ∷ []) three false false false true refl good-three refl refl

@@ -11,10 +11,10 @@ use Rattle.variant_table.specs.declared.version.Version.{Version}
 use Rattle.variant_table.specs.declared.version.Version.TheVariants.{One, Two, Three}
 use Rattle.variant_table.specs.Faults.{LineFault, Syntax}
 use Rattle.idn_text.specs.Points.{is_hex_digit}
-use Rattle.variant_table.specs.Entries.{Variant, Entry, HasMarks, IsOfVersion}
+use Rattle.variant_table.specs.Entries.{Variant, Entry, HasRanges, IsOfVersion}
 use Rattle.variant_table.specs.Ranges.{range_entries}
 use Rattle.variant_table.specs.Tokens.{is_blank, tokens_of}
-use Rattle.variant_table.specs.Notation.{sequence_tokens, variants_tokens, range_tokens, IsPointText, AreBlanks, SpellsTokens, IsEntryLine}
+use Rattle.variant_table.specs.Notation.{mark_tokens, further_points, sequence_tokens, variants_tokens, range_tokens, IsPointText, AreBlanks, SpellsTokens, IsEntryLine}
 use Rattle.variant_table.specs.Reading.{◌>>=◌, begun, longer, whole, is_skipped, sequences_after, sequences_of, has_mark_out_of_place, entry_alone, range_ends, entries_by, entries_of_tokens, entry_from, with_entries, with_line}
 use Rattle.variant_table.specs.Texts.{IsComment, LineSpells, SpellsRange}
 use Rattle.variant_table.proofs.HexLemmas.{hex_facts, other_than}
@@ -56,12 +56,17 @@ point_begins : (c : ℕ) (text rest : List ℕ) → IsPointText c text → is_sk
 point_begins c text rest (inl e) = let h = hex_facts text c e in hex_begins text rest h.long h.digit
 point_begins c text rest (inr p) = elim p.1 [ inl is ↦ ap (λ t. is_skipped (t ++ rest)) is | inr is ↦ ap (λ t. is_skipped (t ++ rest)) is ]
 
-entry_not_skipped : (source : List ℕ) (tokens : List Token) (line : List ℕ) → 0 < length source → SpellsTokens (sequence_tokens source ++ tokens) line → is_skipped line ≡ false
-entry_not_skipped [] tokens line l s = absurd (omega (arith, l))
-entry_not_skipped (c ∷ points) tokens line l s = ap is_skipped s.6 ∙ skipped_front s.0 (s.1 ++ s.2) s.3 ∙ point_begins c s.1 s.2 s.4
+-- a line that begins with a point, or with a mark
+marked_not_skipped : (marked : Bool) (c : ℕ) (tokens : List Token) (line : List ℕ) → SpellsTokens (mark_tokens marked ++ Point c ∷ tokens) line → is_skipped line ≡ false
+marked_not_skipped true c tokens line s = ap is_skipped s.6 ∙ skipped_front s.0 (s.1 ++ s.2) s.3 ∙ ap (λ t. is_skipped (t ++ s.2)) s.4
+marked_not_skipped false c tokens line s = ap is_skipped s.6 ∙ skipped_front s.0 (s.1 ++ s.2) s.3 ∙ point_begins c s.1 s.2 s.4
+
+entry_not_skipped : (outside : Bool) (source : List ℕ) (tokens : List Token) (line : List ℕ) → 0 < length source → SpellsTokens (mark_tokens outside ++ (sequence_tokens source ++ tokens)) line → is_skipped line ≡ false
+entry_not_skipped outside [] tokens line l s = absurd (omega (arith, l))
+entry_not_skipped outside (c ∷ points) tokens line l s = marked_not_skipped outside c (further_points points ++ tokens) line s
 
 pub IsEntryLine-not_skipped : (e : Entry) (line : List ℕ) → IsEntryLine e line → is_skipped line ≡ false
-IsEntryLine-not_skipped e line h = entry_not_skipped e.source (variants_tokens e.variants) line h.0.0 h.1
+IsEntryLine-not_skipped e line h = entry_not_skipped e.outside e.source (variants_tokens e.variants) line h.0.0 h.1
 
 -- a line spells one entry at most
 pub one_entry : (line : List ℕ) (e f : Entry) → IsEntryLine e line → IsEntryLine f line → e ≡ f
@@ -77,12 +82,9 @@ one_entry line e f h k =
 abbrev pub Spells : Version → List ℕ → List Entry → Type 0
 Spells version line entries = ((e : Entry) × IsEntryLine e line × IsOfVersion version e × (entries ≡ e ∷ [])) ⊎ SpellsRange version line entries
 
-range_not_skipped : (first : ℕ) (tokens : List Token) (line : List ℕ) → SpellsTokens (Point first ∷ tokens) line → is_skipped line ≡ false
-range_not_skipped first tokens line s = ap is_skipped s.6 ∙ skipped_front s.0 (s.1 ++ s.2) s.3 ∙ point_begins first s.1 s.2 s.4
-
 pub spells-not_skipped : (v : Version) (line : List ℕ) (es : List Entry) → Spells v line es → is_skipped line ≡ false
 spells-not_skipped v line es (inl h) = IsEntryLine-not_skipped h.0 line h.1
-spells-not_skipped v line es (inr h) = range_not_skipped h.0 (Range ∷ Point h.1 ∷ []) line h.2.1
+spells-not_skipped v line es (inr h) = marked_not_skipped h.0 h.1 (Range ∷ Point h.2 ∷ []) line h.3.1
 
 -- marks
 
@@ -91,49 +93,54 @@ unmarked [] h = tt
 unmarked (v ∷ vs) h = let p = or_parts v.blocked (list_any (λ v. v.blocked) vs) h in (p.0, unmarked vs p.1)
 
 in_place : (v : Version) (e : Entry) → IsOfVersion v e → has_mark_out_of_place v (whole e) ≡ false
-in_place One e h = list_any_none (λ v. v.blocked) e.variants h
-in_place Two e h = refl
+in_place One e h = ap (λ b. b || list_any (λ v. v.blocked) e.variants) h.0 ∙ list_any_none (λ v. v.blocked) e.variants h.1
+in_place Two e h = h
 in_place Three e h = refl
 
 of_version : (v : Version) (ss : List Variant) → has_mark_out_of_place v ss ≡ false → IsOfVersion v (entry_from ss)
-of_version One [] h = All-from_recursion (λ v. v.blocked ≡ false) [] tt
-of_version One (s ∷ ss) h = All-from_recursion (λ v. v.blocked ≡ false) ss (unmarked ss (or_parts s.blocked (list_any (λ v. v.blocked) ss) h).1)
-of_version Two ss h = tt
+of_version One [] h = (refl, All-from_recursion (λ v. v.blocked ≡ false) [] tt)
+of_version One (s ∷ ss) h = let p = or_parts s.blocked (list_any (λ v. v.blocked) ss) h in (p.0, All-from_recursion (λ v. v.blocked ≡ false) ss (unmarked ss p.1))
+of_version Two ss h = h
 of_version Three ss h = tt
 
 -- ranges
 
-range_tokens_are : (v : Version) (tokens : List Token) (a b : ℕ) → range_ends v tokens ≡ Some (a, b) → HasMarks v × (tokens ≡ range_tokens a b)
-range_tokens_are Two (Point first ∷ Range ∷ Point last ∷ []) a b e =
-    let p : (first, last) ≡ (a, b) = cc in
-    (tt, ap (λ (x : ℕ × ℕ). range_tokens x.0 x.1) p)
-range_tokens_are Three (Point first ∷ Range ∷ Point last ∷ []) a b e =
-    let p : (first, last) ≡ (a, b) = cc in
-    (tt, ap (λ (x : ℕ × ℕ). range_tokens x.0 x.1) p)
-range_tokens_are v tokens a b e = absurd cc
+same_range : (o : Bool) (a b : ℕ) (r : Bool × ℕ × ℕ) → Some (o, a, b) ≡ Some r → (o, a, b) ≡ r
+same_range o a b r e = cc
 
-no_range_tokens : (a b : ℕ) (ss : List Variant) → sequences_of (range_tokens a b) ≡ Ok ss → ⊥
+range_tokens_are : (v : Version) (tokens : List Token) (r : Bool × ℕ × ℕ) → range_ends v tokens ≡ Some r → HasRanges v r.0 × (tokens ≡ range_tokens r.0 r.1 r.2)
+range_tokens_are Two (Point first ∷ Range ∷ Point last ∷ []) r e =
+    let p = same_range false first last r e in
+    (ap (λ (x : Bool × ℕ × ℕ). x.0) (sym p), ap (λ (x : Bool × ℕ × ℕ). range_tokens x.0 x.1 x.2) p)
+range_tokens_are Three (Point first ∷ Range ∷ Point last ∷ []) r e = (tt, ap (λ (x : Bool × ℕ × ℕ). range_tokens x.0 x.1 x.2) (same_range false first last r e))
+range_tokens_are Three (Mark ∷ Point first ∷ Range ∷ Point last ∷ []) r e = (tt, ap (λ (x : Bool × ℕ × ℕ). range_tokens x.0 x.1 x.2) (same_range true first last r e))
+range_tokens_are v tokens r e = absurd cc
+
+no_range_tokens : (o : Bool) (a b : ℕ) (ss : List Variant) → sequences_of (range_tokens o a b) ≡ Ok ss → ⊥
 unfolding sequences_of sequences_after
-no_range_tokens a b ss e = absurd cc
+no_range_tokens true a b ss e = absurd cc
+no_range_tokens false a b ss e = absurd cc
 
-no_range : (v : Version) (tokens : List Token) (ss : List Variant) (o : Option (ℕ × ℕ)) → range_ends v tokens ≡ o → sequences_of tokens ≡ Ok ss → o ≡ None
+no_range : (v : Version) (tokens : List Token) (ss : List Variant) (o : Option (Bool × ℕ × ℕ)) → range_ends v tokens ≡ o → sequences_of tokens ≡ Ok ss → o ≡ None
 no_range v tokens ss None e h = refl
-no_range v tokens ss (Some (a, b)) e h = absurd (no_range_tokens a b ss (ap sequences_of (sym (range_tokens_are v tokens a b e).1) ∙ h))
+no_range v tokens ss (Some r) e h = absurd (no_range_tokens r.0 r.1 r.2 ss (ap sequences_of (sym (range_tokens_are v tokens r e).1) ∙ h))
 
 -- ---- what is spelled is read
 
 alone_read : (v : Version) (e : Entry) → IsOfVersion v e → entry_alone v (whole e) ≡ Ok (e ∷ [])
 alone_read v e h = ap (λ b. cond b (Err Syntax) (Ok (entry_from (whole e) ∷ []))) (in_place v e h)
 
-range_ends_read : (v : Version) (a b : ℕ) → HasMarks v → range_ends v (range_tokens a b) ≡ Some (a, b)
-range_ends_read One a b h = absurd h
-range_ends_read Two a b h = refl
-range_ends_read Three a b h = refl
+range_ends_read : (v : Version) (o : Bool) (a b : ℕ) → HasRanges v o → range_ends v (range_tokens o a b) ≡ Some (o, a, b)
+range_ends_read One o a b h = absurd h
+range_ends_read Two true a b h = absurd cc
+range_ends_read Two false a b h = refl
+range_ends_read Three true a b h = refl
+range_ends_read Three false a b h = refl
 
-range_is_read : (a b : ℕ) → a ≤ b → cond (nat_le a b) (Ok (range_entries a b)) (Err Syntax) ≡ Ok (range_entries a b)
-range_is_read a b l = by_cases (nat_le a b) refl
+range_is_read : (o : Bool) (a b : ℕ) → a ≤ b → cond (nat_le a b) (Ok (range_entries o a b)) (Err Syntax) ≡ Ok (range_entries o a b)
+range_is_read o a b l = by_cases (nat_le a b) refl
   where
-    by_cases : (x : Bool) → nat_le a b ≡ x → cond x (Ok (range_entries a b)) (Err Syntax) ≡ Ok (range_entries a b)
+    by_cases : (x : Bool) → nat_le a b ≡ x → cond x (Ok (range_entries o a b)) (Err Syntax) ≡ Ok (range_entries o a b)
     by_cases true e = refl
     by_cases false e = absurd (omega (arith, l, leb-false a b e))
 
@@ -144,9 +151,9 @@ spells_read v line es (inl h) =
     ap (entries_by v (tokens_of line)) (no_range v (tokens_of line) (whole h.0) (range_ends v (tokens_of line)) refl read)
     ∙ ap (λ r. r >>= entry_alone v) read ∙ alone_read v h.0 h.2 ∙ ap (λ x. Ok x) (sym h.3)
 spells_read v line es (inr h) =
-    ap (λ t. entries_by v t (range_ends v t)) (range_read line h.0 h.1 h.2)
-    ∙ ap (entries_by v (range_tokens h.0 h.1)) (range_ends_read v h.0 h.1 h.3)
-    ∙ range_is_read h.0 h.1 h.2.0 ∙ ap (λ x. Ok x) (sym h.4)
+    ap (λ t. entries_by v t (range_ends v t)) (range_read line h.0 h.1 h.2 h.3)
+    ∙ ap (entries_by v (range_tokens h.0 h.1 h.2)) (range_ends_read v h.0 h.1 h.2 h.4)
+    ∙ range_is_read h.0 h.1 h.2 h.3.0 ∙ ap (λ x. Ok x) (sym h.5)
 
 -- ---- what is read is spelled
 
@@ -161,16 +168,20 @@ sequences_spelled : (v : Version) (line : List ℕ) (es : List Entry) (r : Resul
 sequences_spelled v line es (Ok ss) e h = alone_spelled v line es ss _ e refl h
 sequences_spelled v line es (Err f) e h = absurd cc
 
-range_spelled : (v : Version) (line : List ℕ) (es : List Entry) (a b : ℕ) (l : Bool) → range_ends v (tokens_of line) ≡ Some (a, b) → nat_le a b ≡ l → cond l (Ok (range_entries a b)) (Err Syntax) ≡ Ok es → Spells v line es
-range_spelled v line es a b false e l h = absurd cc
-range_spelled v line es a b true e l h =
-    let p = range_tokens_are v (tokens_of line) a b e in
-    let spelled : SpellsTokens (range_tokens a b) line = subst (λ ts. SpellsTokens ts line) p.1 (tokens_spell line (subst (AllByRecursion IsKnown) (sym p.1) (tt, (tt, (tt, tt))))) in
-    inr (a, b, (leb-true a b l, spelled), p.0, same_entries es (range_entries a b) (Ok es) refl (sym h))
+range_known : (o : Bool) (a b : ℕ) → AllByRecursion IsKnown (range_tokens o a b)
+range_known true a b = (tt, (tt, (tt, (tt, tt))))
+range_known false a b = (tt, (tt, (tt, tt)))
 
-ends_spelled : (v : Version) (line : List ℕ) (es : List Entry) (o : Option (ℕ × ℕ)) → range_ends v (tokens_of line) ≡ o → entries_by v (tokens_of line) o ≡ Ok es → Spells v line es
+range_spelled : (v : Version) (line : List ℕ) (es : List Entry) (o : Bool) (a b : ℕ) (l : Bool) → range_ends v (tokens_of line) ≡ Some (o, a, b) → nat_le a b ≡ l → cond l (Ok (range_entries o a b)) (Err Syntax) ≡ Ok es → Spells v line es
+range_spelled v line es o a b false e l h = absurd cc
+range_spelled v line es o a b true e l h =
+    let p = range_tokens_are v (tokens_of line) (o, a, b) e in
+    let spelled : SpellsTokens (range_tokens o a b) line = subst (λ ts. SpellsTokens ts line) p.1 (tokens_spell line (subst (AllByRecursion IsKnown) (sym p.1) (range_known o a b))) in
+    inr (o, a, b, (leb-true a b l, spelled), p.0, same_entries es (range_entries o a b) (Ok es) refl (sym h))
+
+ends_spelled : (v : Version) (line : List ℕ) (es : List Entry) (o : Option (Bool × ℕ × ℕ)) → range_ends v (tokens_of line) ≡ o → entries_by v (tokens_of line) o ≡ Ok es → Spells v line es
 ends_spelled v line es None e h = sequences_spelled v line es _ refl h
-ends_spelled v line es (Some (a, b)) e h = range_spelled v line es a b _ e refl h
+ends_spelled v line es (Some (o, a, b)) e h = range_spelled v line es o a b _ e refl h
 
 pub read_spells : (v : Version) (line : List ℕ) (es : List Entry) → entries_of_tokens v (tokens_of line) ≡ Ok es → Spells v line es
 unfolding entries_of_tokens
@@ -211,6 +222,7 @@ syntax_of : (tokens : List Token) (f : LineFault) → sequences_of tokens ≡ Er
 unfolding sequences_of
 syntax_of [] f e = cc
 syntax_of (Point c ∷ tokens) f e = syntax_after false [] (begun false c) tokens f e
+syntax_of (Mark ∷ Point c ∷ tokens) f e = syntax_after false [] (begun true c) tokens f e
 syntax_of (token ∷ tokens) f e = cc
 
 syntax_mark : (m : Bool) (es : List Entry) (f : LineFault) → cond m (Err Syntax) (Ok es) ≡ Err f → f ≡ Syntax
@@ -225,9 +237,9 @@ syntax_alone : (v : Version) (tokens : List Token) (r : Result (List Variant) Li
 syntax_alone v tokens (Ok ss) f e h = syntax_mark (has_mark_out_of_place v ss) (entry_from ss ∷ []) f h
 syntax_alone v tokens (Err g) f e h = (let same : f ≡ g = cc in same ∙ syntax_of tokens g e)
 
-syntax_by : (v : Version) (tokens : List Token) (o : Option (ℕ × ℕ)) (f : LineFault) → entries_by v tokens o ≡ Err f → f ≡ Syntax
+syntax_by : (v : Version) (tokens : List Token) (o : Option (Bool × ℕ × ℕ)) (f : LineFault) → entries_by v tokens o ≡ Err f → f ≡ Syntax
 syntax_by v tokens None f e = syntax_alone v tokens (sequences_of tokens) f refl e
-syntax_by v tokens (Some (a, b)) f e = syntax_range (nat_le a b) (range_entries a b) f e
+syntax_by v tokens (Some (o, a, b)) f e = syntax_range (nat_le a b) (range_entries o a b) f e
 
 syntax_entries : (v : Version) (tokens : List Token) (f : LineFault) → entries_of_tokens v tokens ≡ Err f → f ≡ Syntax
 unfolding entries_of_tokens

@@ -76,12 +76,13 @@ length-variants_next ss n v l e =
       length-append (tokens_text (mark_tokens v.blocked)) (sequence_text v.sequence),
     )
 
-pub length-one_line : (e : Entry) → length (canonical_text (e ∷ [])) ≡ length (sequence_text e.source) + 1 + length (variants_text e.variants)
+pub length-one_line : (e : Entry) → length (canonical_text (e ∷ [])) ≡ length (tokens_text (mark_tokens e.outside)) + length (sequence_text e.source) + 1 + length (variants_text e.variants)
 length-one_line e =
     omega (
       arith,
       length-append (canonical_line e ++ 10 ∷ []) [],
       length-append (canonical_line e) (10 ∷ []),
       ap length (canonical_line-is e),
+      length-append (tokens_text (mark_tokens e.outside)) (sequence_text e.source ++ variants_text e.variants),
       length-append (sequence_text e.source) (variants_text e.variants),
     )

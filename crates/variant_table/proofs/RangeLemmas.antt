@@ -5,7 +5,8 @@ use Rattle.std.specs.List.{range_with_len, list_any}
 use Rattle.std.proofs.lemmas.List.{append-nil}
 use Rattle.variant_table.specs.Faults.{SameSource}
 use Rattle.variant_table.specs.Entries.{Entry}
-use Rattle.variant_table.specs.Canonical.{point_text, canonical_line, canonical_text}
+use Rattle.variant_table.specs.Notation.{mark_tokens}
+use Rattle.variant_table.specs.Canonical.{point_text, tokens_text, canonical_line, canonical_text}
 use Rattle.variant_table.specs.Conditions.{is_too_large, has_repeat, has_source_in}
 use Rattle.variant_table.specs.Ranges.{point_entry}
 use Rattle.variant_table.specs.Reading.{◌>>=◌}
@@ -13,43 +14,45 @@ use Rattle.variant_table.specs.inner.ReadingSteps.{with_new_source, with_new_sou
 use Rattle.variant_table.proofs.ConditionLemmas.{AreNewSources, new_range}
 
 -- so many entries from a code point on
-abbrev pub points_from : ℕ → ℕ → List Entry
-points_from first count = map point_entry (range_with_len first count)
+abbrev pub points_from : Bool → ℕ → ℕ → List Entry
+points_from o first count = map (point_entry o) (range_with_len first count)
 
-same_points : (a b m n : ℕ) → a ≡ b → m ≡ n → points_from a m ≡ points_from b n
-same_points a b m n e f = ap (λ x. points_from x m) e ∙ ap (points_from b) f
+same_points : (o : Bool) (a b m n : ℕ) → a ≡ b → m ≡ n → points_from o a m ≡ points_from o b n
+same_points o a b m n e f = ap (λ x. points_from o x m) e ∙ ap (points_from o b) f
 
 -- the entries from a place on are that of its code point and those behind it
-pub points_next : (first count i : ℕ) → i < count → points_from (first + i) (count - i) ≡ point_entry (first + i) ∷ points_from (first + (i + 1)) (count - (i + 1))
-points_next first count i l =
-    same_points (first + i) (first + i) (count - i) (suc (count - (i + 1))) refl (omega arith)
-    ∙ ap (λ es. point_entry (first + i) ∷ es) (same_points (first + i + 1) (first + (i + 1)) (count - (i + 1)) (count - (i + 1)) (omega arith) refl)
+pub points_next : (o : Bool) (first count i : ℕ) → i < count → points_from o (first + i) (count - i) ≡ point_entry o (first + i) ∷ points_from o (first + (i + 1)) (count - (i + 1))
+points_next o first count i l =
+    same_points o (first + i) (first + i) (count - i) (suc (count - (i + 1))) refl (omega arith)
+    ∙ ap (λ es. point_entry o (first + i) ∷ es) (same_points o (first + i + 1) (first + (i + 1)) (count - (i + 1)) (count - (i + 1)) (omega arith) refl)
 
-pub points_start : (first count : ℕ) → points_from (first + 0) (count - 0) ≡ points_from first count
-points_start first count = same_points (first + 0) first (count - 0) count (omega arith) (omega arith)
+pub points_start : (o : Bool) (first count : ℕ) → points_from o (first + 0) (count - 0) ≡ points_from o first count
+points_start o first count = same_points o (first + 0) first (count - 0) count (omega arith) (omega arith)
 
-pub points_end : (first count i : ℕ) → count ≤ i → points_from (first + i) (count - i) ≡ []
-points_end first count i l = same_points (first + i) (first + i) (count - i) 0 refl (omega (arith, l))
+pub points_end : (o : Bool) (first count i : ℕ) → count ≤ i → points_from o (first + i) (count - i) ≡ []
+points_end o first count i l = same_points o (first + i) (first + i) (count - i) 0 refl (omega (arith, l))
 
-pub length-points_text : (c : ℕ) (es : List Entry) → length (canonical_text (point_entry c ∷ es)) ≡ length (point_text c) + 1 + length (canonical_text es)
-length-points_text c es =
-    omega (arith, length-append (canonical_line (point_entry c) ++ 10 ∷ []) (canonical_text es), length-append (canonical_line (point_entry c)) (10 ∷ []), length-append (point_text c) [])
+pub length-points_text : (o : Bool) (c : ℕ) (es : List Entry) → length (canonical_text (point_entry o c ∷ es)) ≡ length (tokens_text (mark_tokens o)) + length (point_text c) + 1 + length (canonical_text es)
+length-points_text true c es =
+    omega (arith, length-append (canonical_line (point_entry true c) ++ 10 ∷ []) (canonical_text es), length-append (canonical_line (point_entry true c)) (10 ∷ []), length-append (point_text c) [])
+length-points_text false c es =
+    omega (arith, length-append (canonical_line (point_entry false c) ++ 10 ∷ []) (canonical_text es), length-append (canonical_line (point_entry false c)) (10 ∷ []), length-append (point_text c) [])
 
 -- ---- such entries have no fault of their own but a bad class
 
-points_small : (cs : List ℕ) → list_any is_too_large (map point_entry cs) ≡ false
-points_small [] = refl
-points_small (c ∷ cs) = points_small cs
+points_small : (o : Bool) (cs : List ℕ) → list_any is_too_large (map (point_entry o) cs) ≡ false
+points_small o [] = refl
+points_small o (c ∷ cs) = points_small o cs
 
-points_single : (cs : List ℕ) → list_any has_repeat (map point_entry cs) ≡ false
-points_single [] = refl
-points_single (c ∷ cs) = points_single cs
+points_single : (o : Bool) (cs : List ℕ) → list_any has_repeat (map (point_entry o) cs) ≡ false
+points_single o [] = refl
+points_single o (c ∷ cs) = points_single o cs
 
-pub range_small : (first count : ℕ) → list_any is_too_large (points_from first count) ≡ false
-range_small first count = points_small (range_with_len first count)
+pub range_small : (o : Bool) (first count : ℕ) → list_any is_too_large (points_from o first count) ≡ false
+range_small o first count = points_small o (range_with_len first count)
 
-pub range_single : (first count : ℕ) → list_any has_repeat (points_from first count) ≡ false
-range_single first count = points_single (range_with_len first count)
+pub range_single : (o : Bool) (first count : ℕ) → list_any has_repeat (points_from o first count) ≡ false
+range_single o first count = points_single o (range_with_len first count)
 
 -- ---- new sources, one after another
 
@@ -97,9 +100,9 @@ some_known t [] h = absurd cc
 some_known t (e ∷ es) h = some_step t e es (has_source_in t e) refl h (λ k. some_known (t ++ e ∷ []) es k)
 
 -- the table with the entries of a range, by whether it has one of their sources
-pub with_range : (t : List Entry) (first count : ℕ) → with_new_sources t (points_from first count) ≡ cond (list_any (has_source_in t) (points_from first count)) (Err SameSource) (Ok (t ++ points_from first count))
-with_range t first count = by_cases (list_any (has_source_in t) (points_from first count)) refl
+pub with_range : (o : Bool) (t : List Entry) (first count : ℕ) → with_new_sources t (points_from o first count) ≡ cond (list_any (has_source_in t) (points_from o first count)) (Err SameSource) (Ok (t ++ points_from o first count))
+with_range o t first count = by_cases (list_any (has_source_in t) (points_from o first count)) refl
   where
-    by_cases : (b : Bool) → list_any (has_source_in t) (points_from first count) ≡ b → with_new_sources t (points_from first count) ≡ cond b (Err SameSource) (Ok (t ++ points_from first count))
-    by_cases true h = some_known t (points_from first count) h
-    by_cases false h = all_new t (points_from first count) (new_range t first count h)
+    by_cases : (b : Bool) → list_any (has_source_in t) (points_from o first count) ≡ b → with_new_sources t (points_from o first count) ≡ cond b (Err SameSource) (Ok (t ++ points_from o first count))
+    by_cases true h = some_known t (points_from o first count) h
+    by_cases false h = all_new t (points_from o first count) (new_range o t first count h)

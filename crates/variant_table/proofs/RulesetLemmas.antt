@@ -1,5 +1,5 @@
 -- Tables of version 2 as rulesets, and that no text is both.
-use Rattle.std.proofs.Common.{◌≡◌, inl, inr, ℕ, ◌+◌, ◌≤◌, Bool, true, false, cond, List, [], ◌∷◌, ◌++◌, length, Option, Some, None, Result, Ok, Err, refl, sym, ap, subst, ◌∙◌, arith, length-append}
+use Rattle.std.proofs.Common.{◌≡◌, inl, inr, ℕ, ◌+◌, ◌≤◌, Bool, true, false, cond, List, [], ◌∷◌, ◌++◌, length, Option, Some, None, Ok, Err, refl, sym, ap, ◌∙◌, arith, length-append}
 use Rattle.std.specs.Prelude.{bytes_eq}
 use Rattle.std.specs.List.{AllByRecursion}
 use Rattle.std.specs.Str.Lines.{strip_carriage_return}
@@ -7,26 +7,31 @@ use Rattle.std.proofs.lemmas.List.Elements.{All-from_recursion, recursion_from_A
 use Rattle.std.proofs.lemmas.Slice.Eq.{bytes_eq-Decides}
 use Rattle.idn_text.specs.Lines.{raw_lines}
 use Rattle.idn_text.specs.Points.{point_of_hex}
-use Rattle.variant_table.specs.declared.version.Notation.{Notation}
 use Rattle.variant_table.specs.declared.version.Notation.TheVariants.{Table, Ruleset}
 use Rattle.variant_table.specs.declared.version.Version.{Version}
 use Rattle.variant_table.specs.declared.version.Version.TheVariants.{One, Two, Three}
 use Rattle.variant_table.specs.Faults.{LineFault, Limit, Syntax}
-use Rattle.variant_table.specs.Entries.{Entry, IsOfVersion, TableValue}
-use Rattle.variant_table.specs.Canonical.{canonical_text, head_text, table_text, version_line}
+use Rattle.variant_table.specs.Entries.{Entry, TableValue}
+use Rattle.variant_table.specs.Canonical.{canonical_text, head_text, version_line}
 use Rattle.variant_table.specs.Conditions.{is_too_long}
 use Rattle.variant_table.specs.WellFormed.{IsTable}
-use Rattle.variant_table.specs.Texts.{LinesSpell, AreLinesOf, IsTextOf}
+use Rattle.variant_table.specs.Texts.{LineSpells, LinesSpell, IsTextOf}
 use Rattle.variant_table.specs.Tokens.{tokens_of}
-use Rattle.variant_table.specs.Versions.{version_of, head_of, body_of, is_version_line}
-use Rattle.variant_table.specs.Reading.{◌>>=◌, in_line, sequences_of, sequences_after, entries_of_tokens, with_line, with_raw_line, with_lines, table_from, table_in, table_of_lines, table_of_text}
+use Rattle.variant_table.specs.Versions.{version_of, is_version_line}
+use Rattle.variant_table.specs.Reading.{◌>>=◌, in_line, sequences_of, sequences_after, entries_of_tokens, with_line, with_raw_line, with_lines, table_from, table_in, table_of_lines}
 use Rattle.variant_table.proofs.FaultlessLemmas.{read_by, text_read, whole_no}
 
 -- ---- a table of version 2 is a ruleset once its first line says so
 
+line_three : (line : List ℕ) (entries : List Entry) → LineSpells Two line entries → LineSpells Three line entries
+line_three line entries (inl h) = inl h
+line_three line entries (inr (inl h)) = inr (inl h)
+line_three line entries (inr (inr (inl h))) = inr (inr (inl (h.0, h.1, tt, h.3)))
+line_three line entries (inr (inr (inr h))) = inr (inr (inr (h.0, h.1, h.2, h.3, tt, h.5)))
+
 lines_three : (lines : List (List ℕ)) (entries : List Entry) → LinesSpell Two lines entries → LinesSpell Three lines entries
 lines_three [] entries h = h
-lines_three (line ∷ lines) entries h = (h.0, h.1, h.2, lines_three lines h.1 h.3, h.4)
+lines_three (line ∷ lines) entries h = (h.0, h.1, line_three (strip_carriage_return line) h.0 h.2, lines_three lines h.1 h.3, h.4)
 
 shorter : (lines : List (List ℕ)) → AllByRecursion (λ line. length line ≤ 1024) lines → AllByRecursion (λ line. length line ≤ 8192) lines
 shorter [] h = tt
@@ -35,7 +40,7 @@ shorter (line ∷ lines) h = (omega (arith, h.0), shorter lines h.1)
 as_ruleset : (entries : List Entry) → IsTable (record { version = Two; entries = entries }) → IsTable (record { version = Three; entries = entries })
 as_ruleset entries h = record {
   well_formed = h.well_formed;
-  of_version = h.of_version;
+  of_version = λ k d l. tt;
   few = omega (arith, h.few);
   short = omega (arith, h.short, length-append (head_text Two) (canonical_text entries), length-append (head_text Three) (canonical_text entries));
 }

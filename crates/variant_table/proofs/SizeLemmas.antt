@@ -105,7 +105,7 @@ canonical_line_long e line h = tokens_long (entry_tokens e) line h.1
 spelled_long : (line : List ℕ) (entries : List Entry) → Spells One (strip_carriage_return line) entries → length (canonical_text entries) ≤ length line + 1
 spelled_long line entries (inl h) =
     omega (arith, ap (λ es. length (canonical_text es)) h.3, canonical_line_long h.0 (strip_carriage_return line) h.1, (length-stripped line).0, length-append (canonical_line h.0 ++ 10 ∷ []) [], length-append (canonical_line h.0) (10 ∷ []))
-spelled_long line entries (inr h) = absurd h.3
+spelled_long line entries (inr h) = absurd h.4
 
 line_long : (line : List ℕ) (entries : List Entry) → LineSpells One (strip_carriage_return line) entries → length (canonical_text entries) ≤ length line + 1
 line_long line entries s = elim (spelling_of One (strip_carriage_return line) entries s) [ none k is ↦ omega (arith, ap (λ es. length (canonical_text es)) is) | some h ↦ spelled_long line entries h ]

@@ -10,11 +10,11 @@ use Rattle.std.proofs.lemmas.List.{append-nil, map-append, length-map}
 use Rattle.std.proofs.lemmas.List.Elements.{All-from_recursion, recursion_from_All}
 use Rattle.variant_table.specs.declared.version.Version.{Version}
 use Rattle.variant_table.specs.declared.version.Version.TheVariants.{One, Two, Three}
-use Rattle.variant_table.specs.Canonical.{sequence_text, canonical_line, canonical_text, head_text}
+use Rattle.variant_table.specs.Canonical.{tokens_text, sequence_text, canonical_line, canonical_text, head_text}
 use Rattle.variant_table.specs.Conditions.{repeats, has_source_in}
 use Rattle.variant_table.specs.Entries.{Variant, Entry, IsOfVersion, sequences_in, replacements, unblocked_entry, unblocked, has_blocked}
-use Rattle.variant_table.specs.Notation.{variant_tokens, further_variants}
-use Rattle.variant_table.specs.Canonical.{token_text, tokens_text}
+use Rattle.variant_table.specs.Notation.{mark_tokens, variant_tokens, further_variants}
+use Rattle.variant_table.specs.Canonical.{token_text}
 use Rattle.variant_table.specs.inner.Order.{IsOrderOf}
 use Rattle.variant_table.specs.Reading.{entry_from}
 use Rattle.variant_table.specs.WellFormed.{IsSequence, IsEntry, IsTable}
@@ -63,7 +63,7 @@ pub unblocked_none : (t : List Entry) → has_blocked t ≡ false → unblocked 
 unblocked_none [] h = refl
 unblocked_none (e ∷ t) h =
     let p = or_parts (list_any (λ v. v.blocked) e.variants) (has_blocked t) h in
-    ap (λ vs. record { source = e.source; variants = vs } ∷ unblocked t) (none_left e.variants p.0) ∙ ap (λ x. e ∷ x) (unblocked_none t p.1)
+    ap (λ vs. record { source = e.source; outside = e.outside; variants = vs } ∷ unblocked t) (none_left e.variants p.0) ∙ ap (λ x. e ∷ x) (unblocked_none t p.1)
 
 -- ---- the order of the sources stays
 
@@ -146,8 +146,8 @@ unmarked_free (v ∷ variants) h = by_mark v.blocked (unmarked_free variants h.1
 version_kept : (v : Version) (t : List Entry) → AllByRecursion (IsOfVersion v) t → AllByRecursion (IsOfVersion v) (unblocked t)
 version_kept v [] h = tt
 version_kept One (e ∷ t) h =
-    (All-from_recursion (λ x. x.blocked ≡ false) (free e.variants) (unmarked_free e.variants (recursion_from_All (λ x. x.blocked ≡ false) e.variants h.0)), version_kept One t h.1)
-version_kept Two (e ∷ t) h = (tt, version_kept Two t h.1)
+    ((h.0.0, All-from_recursion (λ x. x.blocked ≡ false) (free e.variants) (unmarked_free e.variants (recursion_from_All (λ x. x.blocked ≡ false) e.variants h.0.1))), version_kept One t h.1)
+version_kept Two (e ∷ t) h = (h.0, version_kept Two t h.1)
 version_kept Three (e ∷ t) h = (tt, version_kept Three t h.1)
 
 -- ---- sources
@@ -185,6 +185,8 @@ line_kept e =
       arith,
       ap length (canonical_line-is (unblocked_entry e)),
       ap length (canonical_line-is e),
+      length-append (tokens_text (mark_tokens e.outside)) (sequence_text e.source ++ variants_text (free e.variants)),
+      length-append (tokens_text (mark_tokens e.outside)) (sequence_text e.source ++ variants_text e.variants),
       length-append (sequence_text e.source) (variants_text (free e.variants)),
       length-append (sequence_text e.source) (variants_text e.variants),
       length-variants_text (free e.variants),

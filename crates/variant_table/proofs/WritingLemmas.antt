@@ -71,8 +71,10 @@ variants_more variants i v e l =
 pub variant_text-is : (v : Variant) → variant_text v ≡ tokens_text (mark_tokens v.blocked) ++ sequence_text v.sequence
 variant_text-is v = flat_map-append token_text (mark_tokens v.blocked) (sequence_tokens v.sequence)
 
-pub canonical_line-is : (e : Entry) → canonical_line e ≡ sequence_text e.source ++ variants_text e.variants
-canonical_line-is e = flat_map-append token_text (sequence_tokens e.source) (variants_tokens e.variants)
+pub canonical_line-is : (e : Entry) → canonical_line e ≡ tokens_text (mark_tokens e.outside) ++ (sequence_text e.source ++ variants_text e.variants)
+canonical_line-is e =
+    flat_map-append token_text (mark_tokens e.outside) (sequence_tokens e.source ++ variants_tokens e.variants)
+    ∙ ap (λ t. tokens_text (mark_tokens e.outside) ++ t) (flat_map-append token_text (sequence_tokens e.source) (variants_tokens e.variants))
 
 -- ---- a table
 

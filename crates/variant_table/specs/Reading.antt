@@ -30,14 +30,14 @@ abbrev pub is_skipped : List ℕ → Bool
 is_skipped [] = true
 is_skipped (c ∷ cs) = if is_blank c then is_skipped cs else c == 35
 
--- the entry that a list of sequences is, the source first
+-- the entry that a list of sequences is: the source first, which is outside if it has a mark
 abbrev pub entry_from : List Variant → Entry
-entry_from [] = record { source = []; variants = [] }
-entry_from (first ∷ variants) = record { source = first.sequence; variants = variants }
+entry_from [] = record { source = []; outside = false; variants = [] }
+entry_from (first ∷ variants) = record { source = first.sequence; outside = first.blocked; variants = variants }
 
--- the sequences of an entry, the source first
+-- the sequences of an entry with their marks, the source first
 abbrev pub whole : Entry → List Variant
-whole e = record { sequence = e.source; blocked = false } ∷ e.variants
+whole e = record { sequence = e.source; blocked = e.outside } ∷ e.variants
 
 -- a sequence of one code point, and one with a further code point
 abbrev pub begun : Bool → ℕ → Variant
@@ -59,12 +59,13 @@ sequences_after in_variants ended current (token ∷ tokens) = Err Syntax
 -- the sequences of an entry's tokens, the source first
 unfoldable pub sequences_of : List Token → Result (List Variant) LineFault
 sequences_of (Point c ∷ tokens) = sequences_after false [] (begun false c) tokens
+sequences_of (Mark ∷ Point c ∷ tokens) = sequences_after false [] (begun true c) tokens
 sequences_of tokens = Err Syntax
 
--- some sequence is blocked, and the version has no blocked ones
+-- some sequence has a mark that the version doesn't have there
 abbrev pub has_mark_out_of_place : Version → List Variant → Bool
 has_mark_out_of_place One sequences = list_any (λ v. v.blocked) sequences
-has_mark_out_of_place Two sequences = false
+has_mark_out_of_place Two sequences = (entry_from sequences).outside
 has_mark_out_of_place Three sequences = false
 
 -- the entry of these sequences as a list of one, if the version has such an entry
@@ -75,16 +76,17 @@ entry_alone version sequences = if has_mark_out_of_place version sequences then 
 abbrev pub entry_of_tokens : Version → List Token → Result (List Entry) LineFault
 entry_of_tokens version tokens = sequences_of tokens >>= entry_alone version
 
--- the ends of the range that tokens spell, if the version has ranges
-abbrev pub range_ends : Version → List Token → Option (ℕ × ℕ)
-range_ends Two (Point first ∷ Range ∷ Point last ∷ []) = Some (first, last)
-range_ends Three (Point first ∷ Range ∷ Point last ∷ []) = Some (first, last)
+-- the range that tokens spell, if the version has such ranges: whether it is outside, and its ends
+abbrev pub range_ends : Version → List Token → Option (Bool × ℕ × ℕ)
+range_ends Two (Point first ∷ Range ∷ Point last ∷ []) = Some (false, first, last)
+range_ends Three (Point first ∷ Range ∷ Point last ∷ []) = Some (false, first, last)
+range_ends Three (Mark ∷ Point first ∷ Range ∷ Point last ∷ []) = Some (true, first, last)
 range_ends version tokens = None
 
--- the entries of tokens, given the ends of their range or none
-abbrev pub entries_by : Version → List Token → Option (ℕ × ℕ) → Result (List Entry) LineFault
+-- the entries of tokens, given their range or none
+abbrev pub entries_by : Version → List Token → Option (Bool × ℕ × ℕ) → Result (List Entry) LineFault
 entries_by version tokens None = entry_of_tokens version tokens
-entries_by version tokens (Some (first, last)) = if nat_le first last then Ok (range_entries first last) else Err Syntax
+entries_by version tokens (Some (outside, first, last)) = if nat_le first last then Ok (range_entries outside first last) else Err Syntax
 
 -- the entries of a line's tokens
 unfoldable pub entries_of_tokens : Version → List Token → Result (List Entry) LineFault

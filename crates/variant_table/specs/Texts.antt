@@ -1,5 +1,5 @@
 -- What a text spells: one table, or one first fault.
-use Rattle.std.specs.Prelude.{◌≡◌, ◌⊎◌, ℕ, ◌+◌, ◌≤◌, ◌<◌, Bool, IsTrue, Option, Some, None, List, [], ◌∷◌, ◌++◌, length, All}
+use Rattle.std.specs.Prelude.{◌≡◌, ◌⊎◌, ℕ, ◌+◌, ◌≤◌, ◌<◌, Bool, IsTrue, Some, None, List, [], ◌∷◌, ◌++◌, length, All}
 use Rattle.std.specs.List.{list_any}
 use Rattle.std.specs.Str.Lines.{strip_carriage_return}
 use Rattle.idn_text.specs.Lines.{raw_lines}
@@ -8,7 +8,7 @@ use Rattle.variant_table.specs.declared.fault.TableFault.{TableFault}
 use Rattle.variant_table.specs.declared.fault.TableFault.TheVariants.{Memory}
 use Rattle.variant_table.specs.declared.version.Notation.{Notation}
 use Rattle.variant_table.specs.declared.version.Version.{Version}
-use Rattle.variant_table.specs.Entries.{Entry, HasMarks, IsOfVersion, TableValue}
+use Rattle.variant_table.specs.Entries.{Entry, HasRanges, IsOfVersion, TableValue}
 use Rattle.variant_table.specs.Limits.{line_limit, text_limit}
 use Rattle.variant_table.specs.Ranges.{range_entries}
 use Rattle.variant_table.specs.Versions.{version_of, head_of, body_of, size_of}
@@ -22,9 +22,10 @@ use Rattle.variant_table.specs.Conditions.{is_too_long, is_over_limit, has_bad_c
 abbrev pub IsComment : List ℕ → Type 0
 IsComment line = (blanks : List ℕ) × (rest : List ℕ) × AreBlanks blanks × (line ≡ blanks ++ 35 ∷ rest)
 
--- the line spells the entries of a range, as it may in version 2 and 3
+-- the line spells the entries of a range, as it may in version 2 and 3, and in version 3 also of an outside one
 abbrev pub SpellsRange : Version → List ℕ → List Entry → Type 0
-SpellsRange version line entries = (first : ℕ) × (last : ℕ) × IsRangeLine first last line × HasMarks version × (entries ≡ range_entries first last)
+SpellsRange version line entries =
+    (outside : Bool) × (first : ℕ) × (last : ℕ) × IsRangeLine outside first last line × HasRanges version outside × (entries ≡ range_entries outside first last)
 
 -- the entries that a line spells: none by a blank line or a comment, one by the line of an entry, and those of a range
 abbrev pub LineSpells : Version → List ℕ → List Entry → Type 0

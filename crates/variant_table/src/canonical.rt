@@ -97,6 +97,7 @@ pub fn push_entry(out: &mut Vec<u8>, entry: &Entry) -> Result<(), AllocError>
     ensures { OnOk result (out.new.items ≡ out.old.items ++ (text.canonical_line entry.now ++ 10 ∷ [])) }
 {
     let mut sequence = ArrayVec::new();
+    push_mark(out, entry.is_outside())?;
     write_sequence(entry.source(), &mut sequence);
     out.extend_from_slice(&sequence)?;
     for number in 1..entry.replacements() {
@@ -109,11 +110,11 @@ pub fn push_entry(out: &mut Vec<u8>, entry: &Entry) -> Result<(), AllocError>
     Ok(())
 }
 
-/// Appends the mark of a variant, if the variant is blocked.
-fn push_mark(out: &mut Vec<u8>, blocked: bool) -> Result<(), AllocError>
-    ensures { OnOk result (out.new.items ≡ out.old.items ++ text.tokens_text (mark_tokens blocked)) }
+/// Appends the mark of a blocked variant or an outside source, if it is one.
+fn push_mark(out: &mut Vec<u8>, marked: bool) -> Result<(), AllocError>
+    ensures { OnOk result (out.new.items ≡ out.old.items ++ text.tokens_text (mark_tokens marked)) }
 {
-    if blocked {
+    if marked {
         out.push(b'!')?;
     }
     Ok(())

@@ -1,5 +1,5 @@
 //! What may be wrong with an entry by itself.
-ghost use Rattle.std.specs.Prelude.{◌≡◌, ◌+◌, ◌<◌, ◌≤◌, ◌^◌, length, map, bytes_eq, drop, IfOk};
+ghost use Rattle.std.specs.Prelude.{◌≡◌, ◌+◌, ◌<◌, Bool, ◌≤◌, ◌^◌, length, map, bytes_eq, drop, IfOk};
 ghost use Rattle.std.specs.List.{list_any, range_with_len};
 ghost use Rattle.variant_table.specs.Conditions as conditions;
 ghost use Rattle.variant_table.specs.Entries.{sequences_in};
@@ -41,7 +41,7 @@ pub fn has_bad_class(alloc: Global, sequences: &Sequences) -> Result<bool, Alloc
 /// Whether one of `count` code points, from `first` on, has such a class.
 pub fn has_bad_class_in(alloc: Global, first: u32, count: usize) -> Result<bool, AllocError>
     requires { first + count ≤ 2 ^ 32 }
-    ensures { IfOk result (λ bad. bad ≡ list_any conditions.has_bad_class (map point_entry (range_with_len first count))) }
+    ensures { IfOk result (λ bad. (outside : Bool) → bad ≡ list_any conditions.has_bad_class (map (point_entry outside) (range_with_len first count))) }
 {
     for offset in 0..count {
         if has_bad_point(alloc, &[first + offset as u32])? {

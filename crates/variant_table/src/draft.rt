@@ -1,9 +1,10 @@
 //! The entry that a line spells, before its faults are looked for.
-ghost use Rattle.std.specs.Prelude.{◌≡◌, ◌<◌, [], ◌∷◌, ◌++◌, length, OnOk};
+ghost use Rattle.std.specs.Prelude.{◌≡◌, ◌<◌, [], ◌∷◌, ◌++◌, length, OnOk, MatchOption};
 ghost use Rattle.variant_table.specs.Notation.{HasNoEmptySequence};
 ghost use Rattle.variant_table.specs.Tokens.{tokens_of};
-ghost use Rattle.variant_table.specs.Reading.{entry_from, entry_of_tokens, sequences_of, range_ends as range_ends_of};
-ghost use Rattle.variant_table.specs.inner.ReadingSteps.{Leaves, IsPoint, IsMarkedPoint};
+ghost use Rattle.variant_table.specs.Reading.{entry_from, entry_of_tokens, sequences_of, has_mark_out_of_place as is_mark_out_of_place, range_ends as range_ends_of};
+ghost use Rattle.variant_table.specs.declared.token.Token.TheVariants.{Point, Range};
+ghost use Rattle.variant_table.specs.inner.ReadingSteps.{Leaves, IsPoint, IsMarkedPoint, EndsRange};
 
 use crate::fault::TableFault;
 use crate::sequences::Sequences;
@@ -48,7 +49,7 @@ impl Draft {
         ensures filled { OnOk result (HasNoEmptySequence (entry_from self.new.sequences)) }
     {
         self.read_sequences(number, line)?;
-        if version == Version::One && self.sequences.has_blocked() {
+        if has_mark_out_of_place(version, &self.sequences) {
             return Err(TableFault::Syntax { line: number });
         }
         Ok(())
@@ -62,9 +63,10 @@ impl Draft {
     {
         self.sequences.clear();
         self.current.clear();
-        self.is_blocked = false;
         let mut tokens = Tokens::new(line);
-        self.current.push(next_point(number, &mut tokens)?)?;
+        let (outside, first) = next_marked_point(number, &mut tokens)?;
+        self.is_blocked = outside;
+        self.current.push(first)?;
         let mut in_variants = false;
         while let Some(token) = tokens.next() {
             let (blocked, point) = match token {
@@ -88,22 +90,47 @@ impl Draft {
     }
 }
 
-/// The ends of the range that a line spells, if it spells one and the version has ranges.
-pub fn range_ends(version: Version, line: &[u8]) -> Option<(u32, u32)>
+/// Whether some sequence, the source first, has a mark that the version doesn't have there.
+fn has_mark_out_of_place(version: Version, sequences: &Sequences) -> bool
+    requires { 0 < length sequences.now }
+    ensures { result ≡ is_mark_out_of_place version sequences.now }
+{
+    match version {
+        Version::One => sequences.has_blocked(),
+        Version::Two => sequences.is_blocked(0),
+        Version::Three => false,
+    }
+}
+
+/// The range that a line spells, if it spells one and the version has such ranges: whether it is outside, and
+/// its ends.
+pub fn range_ends(version: Version, line: &[u8]) -> Option<(bool, u32, u32)>
     ensures { result ≡ range_ends_of version (tokens_of line.now) }
 {
-    if version == Version::One {
-        return None;
-    }
     let mut tokens = Tokens::new(line);
-    let Some(Token::Point(first)) = tokens.next() else {
-        return None;
-    };
+    match tokens.next()? {
+        Token::Point(first) if version != Version::One => {
+            Some((false, first, range_end(&mut tokens)?))
+        }
+        Token::Mark if version == Version::Three => {
+            let Some(Token::Point(first)) = tokens.next() else {
+                return None;
+            };
+            Some((true, first, range_end(&mut tokens)?))
+        }
+        _ => None,
+    }
+}
+
+/// The last code point of a range, if the tokens are what follows its first one.
+fn range_end(tokens: &mut Tokens) -> Option<u32>
+    ensures { MatchOption result (EndsRange (tokens_of tokens.old.rest.now) → ⊥) (λ last. tokens_of tokens.old.rest.now ≡ Range ∷ Point last ∷ []) }
+{
     let Some(Token::Range) = tokens.next() else {
         return None;
     };
     match (tokens.next(), tokens.next()) {
-        (Some(Token::Point(last)), None) => Some((first, last)),
+        (Some(Token::Point(last)), None) => Some(last),
         _ => None,
     }
 }

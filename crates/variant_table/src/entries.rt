@@ -84,7 +84,7 @@ fn take_unblocked(sequences: &mut Sequences, entry: &Entry) -> Result<(), AllocE
     ensures some { OnOk result (0 < length sequences.new) }
 {
     sequences.clear();
-    sequences.push(entry.source(), false)?;
+    sequences.push(entry.source(), entry.is_outside())?;
     for number in 1..entry.replacements() {
         if !entry.blocked(number) {
             sequences.push(entry.replacement(number), false)?;

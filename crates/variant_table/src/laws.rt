@@ -5,7 +5,7 @@ ghost use Rattle.variant_table.specs.Faults.{LineFault};
 ghost use Rattle.variant_table.specs.Canonical.{canonical_line, head_text, table_text};
 ghost use Rattle.variant_table.specs.Entries.{Variant, Entry, TableValue, IsOfVersion, unblocked};
 ghost use Rattle.variant_table.specs.Notation.{IsEntryLine};
-ghost use Rattle.variant_table.specs.Reading.{sequences_of, entry_from, begun, whole, table_of_text};
+ghost use Rattle.variant_table.specs.Reading.{sequences_of, entries_of_tokens, entry_from, begun, whole, table_of_text};
 ghost use Rattle.variant_table.specs.Texts.{IsTextOf, IsFaultOf};
 ghost use Rattle.variant_table.specs.Tokens.{tokens_of};
 ghost use Rattle.variant_table.specs.Versions.{notation_of, size_of};
@@ -73,14 +73,15 @@ pub fn canonical_text_is_read_back()
 {}
 
 /// The canonical text of a table of version 1 is at most as long as any text that spells the table, a
-/// line feed added where the last line has none. A canonical line has at most 951 bytes in version 1, and
-/// at most 967 in others.
+/// line feed added where the last line has none. A canonical line has at most 951 bytes in version 1, 967 in
+/// version 2 and 968 in version 3.
 pub fn canonical_text_is_never_longer()
     ensures text { (notation : Notation) (text : List ℕ) (table : TableValue) →
         IsTextOf notation text table → table.version ≡ versions.One →
         length (table_text table.version table.entries) ≤ size_of (raw_lines text) }
     ensures line { (e : Entry) → IsEntry e → IsOfVersion versions.One e → length (canonical_line e) ≤ 951 }
-    ensures marked { (e : Entry) → IsEntry e → length (canonical_line e) ≤ 967 }
+    ensures blocked { (e : Entry) → IsEntry e → IsOfVersion versions.Two e → length (canonical_line e) ≤ 967 }
+    ensures marked { (e : Entry) → IsEntry e → length (canonical_line e) ≤ 968 }
     ensures feeds { (text : List ℕ) → size_of (raw_lines text) ≡ length (with_last_feed text) }
 {}
 
@@ -92,8 +93,8 @@ pub fn gaps_of_are_the_gaps()
 /// Examples of version 1, which the definitions compute.
 pub fn definitions_compute_the_examples()
     ensures read { sequences_of (tokens_of (codes "u+0061 | 0062 : 0063-0064")) ≡ Ok (begun false 97 ∷ begun false 98 ∷ record { sequence = 99 ∷ 100 ∷ []; blocked = false } ∷ []) }
-    ensures written { table_text versions.One (record { source = 97 ∷ []; variants = begun false 98 ∷ record { sequence = 99 ∷ 100 ∷ []; blocked = false } ∷ [] } ∷ []) ≡ codes "0061|0062:0063-0064" ++ 10 ∷ [] }
-    ensures six { canonical_line (record { source = 0x10FFFF ∷ 0x4E2D ∷ []; variants = [] }) ≡ codes "10FFFF-4E2D" }
+    ensures written { table_text versions.One (record { source = 97 ∷ []; outside = false; variants = begun false 98 ∷ record { sequence = 99 ∷ 100 ∷ []; blocked = false } ∷ [] } ∷ []) ≡ codes "0061|0062:0063-0064" ++ 10 ∷ [] }
+    ensures six { canonical_line (record { source = 0x10FFFF ∷ 0x4E2D ∷ []; outside = false; variants = [] }) ≡ codes "10FFFF-4E2D" }
     ensures syntax { table_of_text notations.Table (codes "0061|") ≡ Err (1, faults.Syntax) }
     ensures range { table_of_text notations.Table (codes "0061..0063") ≡ Err (1, faults.Syntax) }
     ensures blocked { table_of_text notations.Table (codes "0061|!0062") ≡ Err (1, faults.Syntax) }
@@ -103,22 +104,22 @@ pub fn definitions_compute_the_examples()
     ensures bad_class { table_of_text notations.Table (codes "0041") ≡ Err (1, faults.BadClass) }
     ensures same_variant { table_of_text notations.Table (codes "0061|0061") ≡ Err (1, faults.SameVariant) }
     ensures same_source { table_of_text notations.Table (codes "0061" ++ 10 ∷ codes "0061") ≡ Err (2, faults.SameSource) }
-    ensures gaps { gaps_of (record { source = 97 ∷ []; variants = record { sequence = 97 ∷ 97 ∷ []; blocked = false } ∷ [] } ∷ []) ≡ (97 ∷ 97 ∷ [], 97 ∷ []) ∷ [] }
-    ensures chain { gaps_of (record { source = 97 ∷ []; variants = begun false 98 ∷ [] } ∷ record { source = 98 ∷ []; variants = begun true 97 ∷ begun false 99 ∷ [] } ∷ record { source = 99 ∷ []; variants = begun false 98 ∷ [] } ∷ [])
+    ensures gaps { gaps_of (record { source = 97 ∷ []; outside = false; variants = record { sequence = 97 ∷ 97 ∷ []; blocked = false } ∷ [] } ∷ []) ≡ (97 ∷ 97 ∷ [], 97 ∷ []) ∷ [] }
+    ensures chain { gaps_of (record { source = 97 ∷ []; outside = false; variants = begun false 98 ∷ [] } ∷ record { source = 98 ∷ []; outside = false; variants = begun true 97 ∷ begun false 99 ∷ [] } ∷ record { source = 99 ∷ []; outside = false; variants = begun false 98 ∷ [] } ∷ [])
         ≡ (97 ∷ [], 99 ∷ []) ∷ (99 ∷ [], 97 ∷ []) ∷ [] }
-    ensures places { entries_at (point_entry 115 ∷ record { source = 115 ∷ 115 ∷ []; variants = begun false 0xDF ∷ [] } ∷ []) (115 ∷ 115 ∷ 115 ∷ []) 2
-        ≡ point_entry 115 ∷ [] }
+    ensures places { entries_at (point_entry false 115 ∷ record { source = 115 ∷ 115 ∷ []; outside = false; variants = begun false 0xDF ∷ [] } ∷ []) (115 ∷ 115 ∷ 115 ∷ []) 2
+        ≡ point_entry false 115 ∷ [] }
 {}
 
 /// Examples of version 2.
 pub fn definitions_compute_the_examples_of_version_2()
     ensures table { table_of_text notations.Table (codes "%version 2" ++ 10 ∷ codes "0061..0063" ++ 10 ∷ codes "0078|!0079:007A") ≡ Ok (record {
       version = versions.Two;
-      entries = point_entry 0x61 ∷ point_entry 0x62 ∷ point_entry 0x63 ∷ record { source = 0x78 ∷ []; variants = begun true 0x79 ∷ begun false 0x7A ∷ [] } ∷ [];
+      entries = point_entry false 0x61 ∷ point_entry false 0x62 ∷ point_entry false 0x63 ∷ record { source = 0x78 ∷ []; outside = false; variants = begun true 0x79 ∷ begun false 0x7A ∷ [] } ∷ [];
     }) }
-    ensures written { table_text versions.Two (point_entry 0x61 ∷ point_entry 0x62 ∷ point_entry 0x63 ∷ record { source = 0x78 ∷ []; variants = begun true 0x79 ∷ begun false 0x7A ∷ [] } ∷ [])
+    ensures written { table_text versions.Two (point_entry false 0x61 ∷ point_entry false 0x62 ∷ point_entry false 0x63 ∷ record { source = 0x78 ∷ []; outside = false; variants = begun true 0x79 ∷ begun false 0x7A ∷ [] } ∷ [])
         ≡ codes "%version 2" ++ 10 ∷ codes "0061" ++ 10 ∷ codes "0062" ++ 10 ∷ codes "0063" ++ 10 ∷ codes "0078|!0079:007A" ++ 10 ∷ [] }
-    ensures unblocked { unblocked (record { source = 0x78 ∷ []; variants = begun true 0x79 ∷ begun false 0x7A ∷ [] } ∷ []) ≡ record { source = 0x78 ∷ []; variants = begun false 0x7A ∷ [] } ∷ [] }
+    ensures unblocked { unblocked (record { source = 0x78 ∷ []; outside = false; variants = begun true 0x79 ∷ begun false 0x7A ∷ [] } ∷ []) ≡ record { source = 0x78 ∷ []; outside = false; variants = begun false 0x7A ∷ [] } ∷ [] }
     ensures empty { table_of_text notations.Table (codes "%version 2" ++ 13 ∷ []) ≡ Ok (record { version = versions.Two; entries = [] }) }
     ensures falling { table_of_text notations.Table (codes "%version 2" ++ 10 ∷ codes "0063..0061") ≡ Err (2, faults.Syntax) }
     ensures marked_source { table_of_text notations.Table (codes "%version 2" ++ 10 ∷ codes "!0061|0062") ≡ Err (2, faults.Syntax) }
@@ -144,7 +145,14 @@ pub fn definitions_compute_the_examples_of_rulesets()
     ensures falling { table_of_text notations.Ruleset (codes "%version 3" ++ 10 ∷ codes "0063..0061") ≡ Err (2, faults.Syntax) }
     ensures set { table_of_text notations.Ruleset (codes "%version 3" ++ 10 ∷ codes "% set C 0061") ≡ Err (2, faults.Syntax) }
     ensures later { table_of_text notations.Table (codes "%version 2" ++ 10 ∷ codes "%version 3") ≡ Err (2, faults.Syntax) }
+    ensures outside { entries_of_tokens versions.Three (tokens_of (codes "! 0061|!0062")) ≡ Ok (record { source = 0x61 ∷ []; outside = true; variants = begun true 0x62 ∷ [] } ∷ []) }
+    ensures outside_range { entries_of_tokens versions.Three (tokens_of (codes "!0062..0063")) ≡ Ok (point_entry true 0x62 ∷ point_entry true 0x63 ∷ []) }
+    ensures outside_in_version_2 { entries_of_tokens versions.Two (tokens_of (codes "!0062..0063")) ≡ Err faults.Syntax }
+    ensures two_marks { table_of_text notations.Ruleset (codes "%version 3" ++ 10 ∷ codes "!!0061") ≡ Err (2, faults.Syntax) }
+    ensures no_source { table_of_text notations.Ruleset (codes "%version 3" ++ 10 ∷ codes "!|0061") ≡ Err (2, faults.Syntax) }
     ensures limit { table_of_text notations.Ruleset (codes "%version 3" ++ 10 ∷ codes "0041-0041-0041-0041-0041-0041-0041-0041-0041") ≡ Err (2, faults.Limit) }
-    ensures written { table_text versions.Three (point_entry 0x61 ∷ record { source = 0x78 ∷ []; variants = begun true 0x79 ∷ [] } ∷ [])
+    ensures written { table_text versions.Three (point_entry false 0x61 ∷ record { source = 0x78 ∷ []; outside = false; variants = begun true 0x79 ∷ [] } ∷ [])
         ≡ codes "%version 3" ++ 10 ∷ codes "0061" ++ 10 ∷ codes "0078|!0079" ++ 10 ∷ [] }
+    ensures marked { table_text versions.Three (record { source = 0x61 ∷ 0x62 ∷ []; outside = true; variants = begun true 0x63 ∷ [] } ∷ [])
+        ≡ codes "%version 3" ++ 10 ∷ codes "!0061-0062|!0063" ++ 10 ∷ [] }
 {}

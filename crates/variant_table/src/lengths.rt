@@ -34,18 +34,18 @@ fn line_len(sequences: &Sequences) -> usize
     ensures count { result ≡ length (canonical_text (entry_from sequences.now ∷ [])) }
     ensures few { result ≤ 1024 }
 {
-    let mut len = sequence_len(sequences.get(0));
+    let mut len = mark_len(sequences.is_blocked(0)) + sequence_len(sequences.get(0));
     for number in 1..sequences.len() {
         len += sequence_len(sequences.get(number)) + mark_len(sequences.is_blocked(number));
     }
     len
 }
 
-/// How many bytes the mark of a variant has: none if the variant is not blocked.
-fn mark_len(blocked: bool) -> usize
-    ensures { result ≡ length (tokens_text (mark_tokens blocked)) }
+/// How many bytes the mark of a blocked variant or an outside source has: none if it is neither.
+fn mark_len(marked: bool) -> usize
+    ensures { result ≡ length (tokens_text (mark_tokens marked)) }
 {
-    if blocked { 1 } else { 0 }
+    if marked { 1 } else { 0 }
 }
 
 /// How many bytes a sequence has, and one more for what follows it.
@@ -62,30 +62,30 @@ fn sequence_len(sequence: &[u32]) -> usize
     len
 }
 
-/// How many bytes the entries of `count` code points, from `first` on, add to the canonical text; 0 in
-/// version 1, which doesn't limit it.
-pub fn range_len(version: Version, first: u32, count: usize) -> usize
+/// How many bytes the entries of `count` code points, from `first` on, outside or not, add to the canonical text;
+/// 0 in version 1, which doesn't limit it.
+pub fn range_len(version: Version, outside: bool, first: u32, count: usize) -> usize
     requires few { count ≤ 65536 }
     requires last { first + count ≤ 2 ^ 32 }
-    ensures count { result ≡ counted version (canonical_text (map point_entry (range_with_len first count))) }
-    ensures few { result ≤ 458752 }
+    ensures count { result ≡ counted version (canonical_text (map (point_entry outside) (range_with_len first count))) }
+    ensures few { result ≤ 524288 }
 {
     match version {
         Version::One => 0,
-        Version::Two | Version::Three => lines_len(first, count),
+        Version::Two | Version::Three => lines_len(outside, first, count),
     }
 }
 
 /// How many bytes the canonical lines of these entries have, with their line feeds.
-fn lines_len(first: u32, count: usize) -> usize
+fn lines_len(outside: bool, first: u32, count: usize) -> usize
     requires few { count ≤ 65536 }
     requires last { first + count ≤ 2 ^ 32 }
-    ensures count { result ≡ length (canonical_text (map point_entry (range_with_len first count))) }
-    ensures few { result ≤ 458752 }
+    ensures count { result ≡ length (canonical_text (map (point_entry outside) (range_with_len first count))) }
+    ensures few { result ≤ 524288 }
 {
     let mut len = 0;
     for offset in 0..count {
-        len += point_len(first + offset as u32) + 1;
+        len += mark_len(outside) + point_len(first + offset as u32) + 1;
     }
     len
 }

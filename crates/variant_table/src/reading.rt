@@ -97,11 +97,11 @@ impl Reader {
         if is_skipped(line) {
             return Ok(());
         }
-        if let Some((first, last)) = range_ends(self.version, line) {
+        if let Some((outside, first, last)) = range_ends(self.version, line) {
             if first > last {
                 return Err(TableFault::Syntax { line: number });
             }
-            return self.add_range(number, first, (last - first) as usize + 1);
+            return self.add_range(number, outside, first, (last - first) as usize + 1);
         }
         self.draft.read(self.version, number, line)?;
         self.add_entry(number)
@@ -136,12 +136,18 @@ impl Reader {
         Ok(())
     }
 
-    /// Adds the entries of `count` code points, from `first` on, unless one has a fault.
+    /// Adds the entries of `count` code points, from `first` on, outside or not, unless one has a fault.
     #[tactic(auto, unfolding(crate::specs::Reading::with_entries))]
-    fn add_range(&mut self, number: u64, first: u32, count: usize) -> Result<(), TableFault>
+    fn add_range(
+        &mut self,
+        number: u64,
+        outside: bool,
+        first: u32,
+        count: usize,
+    ) -> Result<(), TableFault>
         requires last { first + count ≤ 2 ^ 32 }
         requires counted { IsCounted self.old.version self.old.written self.old.rows }
-        ensures read { Leaves number result self.new.rows (with_entries self.old.version self.old.rows (map point_entry (range_with_len first count))) }
+        ensures read { Leaves number result self.new.rows (with_entries self.old.version self.old.rows (map (point_entry outside) (range_with_len first count))) }
         ensures counted { OnOk result (IsCounted self.old.version self.new.written self.new.rows) }
         ensures version { self.new.version ≡ self.old.version }
     {
@@ -149,35 +155,36 @@ impl Reader {
         if count > limit || self.rows.len() > limit - count {
             return Err(TableFault::Limit { line: number });
         }
-        let written = self.written + range_len(self.version, first, count);
+        let written = self.written + range_len(self.version, outside, first, count);
         if written > self.version.text_limit() {
             return Err(TableFault::Limit { line: number });
         }
         if has_bad_class_in(self.alloc, first, count)? {
             return Err(TableFault::BadClass { line: number });
         }
-        add_points(self.alloc, &mut self.rows, number, first, count)?;
+        add_points(self.alloc, &mut self.rows, number, outside, first, count)?;
         self.written = written;
         Ok(())
     }
 }
 
-/// Adds the entries of `count` code points, from `first` on, if their sources are new.
+/// Adds the entries of `count` code points, from `first` on, outside or not, if their sources are new.
 fn add_points(
     alloc: Global,
     rows: &mut Rows,
     number: u64,
+    outside: bool,
     first: u32,
     count: usize,
 ) -> Result<(), TableFault>
     requires last { first + count ≤ 2 ^ 32 }
     requires room { length rows.old + count ≤ 65536 }
-    ensures { Leaves number result rows.new (with_new_sources rows.old (map point_entry (range_with_len first count))) }
+    ensures { Leaves number result rows.new (with_new_sources rows.old (map (point_entry outside) (range_with_len first count))) }
 {
     let mut sequences = Sequences::new(alloc);
     for offset in 0..count {
         sequences.clear();
-        sequences.push(&[first + offset as u32], false)?;
+        sequences.push(&[first + offset as u32], outside)?;
         rows.push(number, &sequences)?;
     }
     Ok(())

@@ -9,7 +9,7 @@ ghost use Rattle.variant_table.specs.Versions.{version_number};
 use idn_text::{TextLines, without_carriage_return};
 
 /// Version 2 adds ranges of code points and blocked variants to version 1. Version 3, that of a ruleset,
-/// adds larger limits.
+/// adds larger limits and outside sources.
 #[derive(Clone, Copy, Debug, PartialEq, Eq)]
 pub enum Version {
     One,

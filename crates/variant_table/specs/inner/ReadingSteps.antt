@@ -1,7 +1,7 @@
 -- What each step of reading leaves: the table so far, or the fault of its line.
 use Rattle.std.specs.Prelude.{◌≡◌, ◌⊎◌, ℕ, Bool, List, [], ◌∷◌, ◌++◌, Result, Ok, Err, if◌then◌else◌}
 use Rattle.variant_table.specs.declared.token.Token.{Token}
-use Rattle.variant_table.specs.declared.token.Token.TheVariants.{Point, Mark}
+use Rattle.variant_table.specs.declared.token.Token.TheVariants.{Point, Mark, Range}
 use Rattle.variant_table.specs.declared.fault.TableFault.{TableFault}
 use Rattle.variant_table.specs.declared.fault.TableFault.TheVariants as tables
 use Rattle.variant_table.specs.Faults.{LineFault, Limit, Syntax, BadClass, SameVariant, SameSource, table_fault}
@@ -43,6 +43,11 @@ BeginsWithPoint tokens = ⊥
 abbrev pub IsPoint : ℕ → Result ℕ TableFault → List Token → List Token → Type 0
 IsPoint number (Ok c) old new = old ≡ Point c ∷ new
 IsPoint number (Err fault) old new = (fault ≡ tables.Syntax number) × (BeginsWithPoint old → ⊥)
+
+-- the tokens are what follows the first code point of a range
+abbrev pub EndsRange : List Token → Type 0
+EndsRange (Range ∷ Point c ∷ []) = Unit {0}
+EndsRange tokens = ⊥
 
 -- the first token is a point, or a mark followed by a point
 abbrev pub BeginsVariant : List Token → Type 0

@@ -29,15 +29,15 @@ loop-number-preserved c =
     let v : Variant = record { sequence = s; blocked = c.blocked.result } in
     let mark : List ℕ = tokens_text (mark_tokens c.blocked.result) in
     let old : List ℕ = c.args.out.now.items in
-    let source : List ℕ = sequence_text e.source in
+    let source : List ℕ = tokens_text (mark_tokens e.outside) ++ sequence_text e.source in
     let front : List ℕ = variants_text (take (n - 1) e.variants) in
     let tail : List ℕ = separator (n - 1) ∷ variant_text v in
     let here : slice_get e.variants (n - 1) ≡ Some v = variant_from e.variants (n - 1) s c.blocked.result
     (sym (slice_get-later e.source (sequences_in e.variants) n (omega arith)) ∙ c.replacement.ensures) (sym (slice_get-later false (map (λ v. v.blocked) e.variants) n (omega arith)) ∙ c.blocked.ensures) in
     let count : n + 1 - 1 ≡ n - 1 + 1 = omega arith in
     let written : c.extend_from_slice-in-loop-number.new.self.items ≡ (c.loop-number.out.items ++ separator (n - 1) ∷ []) ++ variant_text v =
-    c.in_ok-extend_from_slice-2.ensures.items ∙ ap (λ t. c.push_mark.new.out.items ++ t) (c.deref-in-loop-number.ensures.0 ∙ c.write_sequence-in-loop-number.ensures)
-    ∙ ap (λ t. t ++ sequence_text s) (c.in_ok-push_mark.ensures ∙ ap (λ t. t ++ mark) (c.in_ok-push.ensures.items ∙ ap (λ x. c.loop-number.out.items ++ x ∷ []) c.separator_before.ensures))
+    c.in_ok-extend_from_slice-2.ensures.items ∙ ap (λ t. c.push_mark-in-loop-number.new.out.items ++ t) (c.deref-in-loop-number.ensures.0 ∙ c.write_sequence-in-loop-number.ensures)
+    ∙ ap (λ t. t ++ sequence_text s) (c.in_ok-push_mark-2.ensures ∙ ap (λ t. t ++ mark) (c.in_ok-push.ensures.items ∙ ap (λ x. c.loop-number.out.items ++ x ∷ []) c.separator_before.ensures))
     ∙ append_assoc (c.loop-number.out.items ++ separator (n - 1) ∷ []) mark (sequence_text s) ∙ ap (λ t. (c.loop-number.out.items ++ separator (n - 1) ∷ []) ++ t) (sym (variant_text-is v)) in
     written ∙ append_assoc c.loop-number.out.items (separator (n - 1) ∷ []) (variant_text v) ∙ ap (λ t. t ++ tail) c.loop-number.invariant
     ∙ append_assoc old (source ++ front) tail ∙ ap (λ t. old ++ t) (append_assoc source front tail
@@ -48,7 +48,7 @@ returns c =
     let e : Entry = c.args.entry.now in
     let n : ℕ = c.loop-number.number in
     let old : List ℕ = c.args.out.now.items in
-    let source : List ℕ = sequence_text e.source in
+    let source : List ℕ = tokens_text (mark_tokens e.outside) ++ sequence_text e.source in
     let over : length e.variants ≤ n - 1 = omega (arith, c.loop-number-test.false, c.replacements-number-end.ensures, length-map e.variants (λ v. v.sequence)) in
-    c.in_ok-push-2.ensures.items ∙ ap (λ t. t ++ 10 ∷ []) (c.loop-number.invariant ∙ ap (λ vs. old ++ (source ++ variants_text vs)) (take_all (n - 1) e.variants over) ∙ ap (λ t. old ++ t) (sym (canonical_line-is e)))
+    c.in_ok-push-2.ensures.items ∙ ap (λ t. t ++ 10 ∷ []) (c.loop-number.invariant ∙ ap (λ vs. old ++ (source ++ variants_text vs)) (take_all (n - 1) e.variants over) ∙ ap (λ t. old ++ t) (append_assoc (tokens_text (mark_tokens e.outside)) (sequence_text e.source) (variants_text e.variants) ∙ sym (canonical_line-is e)))
     ∙ append_assoc old (canonical_line e) (10 ∷ [])

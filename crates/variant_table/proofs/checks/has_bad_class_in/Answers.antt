@@ -1,13 +1,23 @@
-use Rattle.std.proofs.Common.{◌≡◌, ◌+◌, ◌-◌, ◌∷◌, [], ◌||◌, false, ℕ, sym, ap, ◌∙◌}
+use Rattle.std.proofs.Common.{◌≡◌, ◌+◌, ◌-◌, ◌∷◌, [], ◌||◌, true, false, ℕ, sym, ap, ◌∙◌}
 use Rattle.std.specs.List.{list_any}
 use Rattle.variant_table.specs.Conditions.{has_bad_class, has_bad_point}
 use Rattle.variant_table.proofs.RangeLemmas.{points_from, points_next}
 use Rattle.variant_table.proofs.checks.has_bad_class_in.Goals as goal
 
+pub returns-then-branch : goal.returns-then-branch
+returns-then-branch c =
+    let first : ℕ = c.args.first in
+    let i : ℕ = c.loop-offset.offset in
+    let bad : has_bad_point ((first + i) ∷ []) ≡ true = sym (c.in_ok-has_bad_point.ensures {u = tt}) ∙ c.if-branch.true in
+    λ outside.
+    let rest = points_from outside (first + (i + 1)) (c.args.count - (i + 1)) in
+    sym (sym (c.loop-offset.invariant outside) ∙ ap (list_any has_bad_class) (points_next outside first c.args.count i c.loop-offset-test.true) ∙ ap (λ b. (b || false) || list_any has_bad_class rest) bad)
+
 pub loop-offset-preserved : goal.loop-offset-preserved
 loop-offset-preserved c =
     let first : ℕ = c.args.first in
     let i : ℕ = c.loop-offset.offset in
-    let rest = points_from (first + (i + 1)) (c.args.count - (i + 1)) in
     let good : has_bad_point ((first + i) ∷ []) ≡ false = sym (c.in_ok-has_bad_point.ensures {u = tt}) ∙ c.if-branch.false in
-    sym (ap (list_any has_bad_class) (points_next first c.args.count i c.loop-offset-test.true) ∙ ap (λ b. (b || false) || list_any has_bad_class rest) good) ∙ c.loop-offset.invariant
+    λ outside.
+    let rest = points_from outside (first + (i + 1)) (c.args.count - (i + 1)) in
+    sym (ap (list_any has_bad_class) (points_next outside first c.args.count i c.loop-offset-test.true) ∙ ap (λ b. (b || false) || list_any has_bad_class rest) good) ∙ c.loop-offset.invariant outside

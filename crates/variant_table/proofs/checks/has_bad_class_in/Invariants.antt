@@ -1,4 +1,4 @@
-use Rattle.std.proofs.Common.{◌≡◌, ◌+◌, ◌-◌}
+use Rattle.std.proofs.Common.{◌≡◌, Bool, ◌+◌, ◌-◌}
 use Rattle.std.specs.List.{list_any}
 use Rattle.variant_table.specs.Conditions.{has_bad_class}
 use Rattle.variant_table.proofs.RangeLemmas.{points_from}
@@ -6,4 +6,4 @@ use Rattle.variant_table.proofs.checks.has_bad_class_in.Given as goal
 
 -- a bad code point is still to be found
 abbrev pub invariant-loop-offset : goal.invariant-loop-offset
-invariant-loop-offset l = list_any has_bad_class (points_from (l.first + l.offset) (l.count - l.offset)) ≡ list_any has_bad_class (points_from l.first l.count)
+invariant-loop-offset l = (outside : Bool) → list_any has_bad_class (points_from outside (l.first + l.offset) (l.count - l.offset)) ≡ list_any has_bad_class (points_from outside l.first l.count)

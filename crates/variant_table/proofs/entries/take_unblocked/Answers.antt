@@ -11,7 +11,7 @@ pub loop-number-preserved : goal.loop-number-preserved
 loop-number-preserved c =
     let e : Entry = c.args.entry.now in
     let n : ℕ = c.loop-number.number in
-    let source : Variant = record { sequence = e.source; blocked = false } in
+    let source : Variant = record { sequence = e.source; blocked = e.outside } in
     let mark : slice_get (map (λ v. v.blocked) e.variants) (n - 1) ≡ Some c.blocked.result = sym (slice_get-later false (map (λ v. v.blocked) e.variants) n (omega arith)) ∙ c.blocked.ensures in
     let count : n - 1 + 1 ≡ n + 1 - 1 = omega arith in
     elim c.if-not-blocked.branch [

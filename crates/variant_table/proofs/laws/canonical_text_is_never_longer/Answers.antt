@@ -1,5 +1,5 @@
 use Rattle.idn_text.specs.Lines.{raw_lines}
-use Rattle.variant_table.proofs.CanonicalLemmas.{length-canonical_line, length-marked_line}
+use Rattle.variant_table.proofs.CanonicalLemmas.{length-canonical_line, length-blocked_line, length-marked_line}
 use Rattle.variant_table.proofs.SizeLemmas.{never_longer, size_of-raw_lines}
 use Rattle.variant_table.proofs.laws.canonical_text_is_never_longer.Goals as goal
 
@@ -8,6 +8,9 @@ returns-clause-text c = λ notation text table h one. never_longer notation tabl
 
 pub returns-clause-line : goal.returns-clause-line
 returns-clause-line c = length-canonical_line
+
+pub returns-clause-blocked : goal.returns-clause-blocked
+returns-clause-blocked c = length-blocked_line
 
 pub returns-clause-marked : goal.returns-clause-marked
 returns-clause-marked c = length-marked_line

@@ -52,3 +52,27 @@ returns-clause-limit c = refl
 pub returns-clause-written : goal.returns-clause-written
 unfolding point_of_hex point_text sequences_of sequences_after entries_of_tokens table_of_lines with_lines with_raw_line with_line with_entries tokens_of
 returns-clause-written c = refl
+
+pub returns-clause-outside : goal.returns-clause-outside
+unfolding point_of_hex point_text sequences_of sequences_after entries_of_tokens table_of_lines with_lines with_raw_line with_line with_entries tokens_of
+returns-clause-outside c = refl
+
+pub returns-clause-outside_range : goal.returns-clause-outside_range
+unfolding point_of_hex point_text sequences_of sequences_after entries_of_tokens table_of_lines with_lines with_raw_line with_line with_entries tokens_of
+returns-clause-outside_range c = refl
+
+pub returns-clause-outside_in_version_2 : goal.returns-clause-outside_in_version_2
+unfolding point_of_hex point_text sequences_of sequences_after entries_of_tokens table_of_lines with_lines with_raw_line with_line with_entries tokens_of
+returns-clause-outside_in_version_2 c = refl
+
+pub returns-clause-two_marks : goal.returns-clause-two_marks
+unfolding point_of_hex point_text sequences_of sequences_after entries_of_tokens table_of_lines with_lines with_raw_line with_line with_entries tokens_of
+returns-clause-two_marks c = refl
+
+pub returns-clause-no_source : goal.returns-clause-no_source
+unfolding point_of_hex point_text sequences_of sequences_after entries_of_tokens table_of_lines with_lines with_raw_line with_line with_entries tokens_of
+returns-clause-no_source c = refl
+
+pub returns-clause-marked : goal.returns-clause-marked
+unfolding point_of_hex point_text sequences_of sequences_after entries_of_tokens table_of_lines with_lines with_raw_line with_line with_entries tokens_of
+returns-clause-marked c = refl

@@ -25,7 +25,7 @@ loop-token-preserved c =
     elim c.match-token.branch [
       | in-Hyphen+in_ok-next_point-in-Hyphen w ↦
           let point : ℕ = w.in_ok-next_point-in-Hyphen.field-0 in
-          let rest : List Token = tokens_of w.next_point-in-Hyphen.new.tokens.rest.now in
+          let rest : List Token = tokens_of w.next_point.new.tokens.rest.now in
           let h : sequences_after c.loop-token.in_variants closed (longer current point) rest ≡ total =
           after_hyphen closed current point rest total c.loop-token.in_variants (at c.loop-token.in_variants Hyphen (Point point ∷ rest) refl w.in-Hyphen.is w.in_ok-next_point-in-Hyphen.ensures) in
           record {
@@ -39,7 +39,7 @@ loop-token-preserved c =
       | in-Bar+in_ok-end_sequence-in-Bar+in_ok-next_marked_point-in-Bar w ↦
           let blocked : Bool = w.in_ok-next_marked_point-in-Bar.blocked in
           let point : ℕ = w.in_ok-next_marked_point-in-Bar.point in
-          let rest : List Token = tokens_of w.next_marked_point.new.tokens.rest.now in
+          let rest : List Token = tokens_of w.next_marked_point-in-Bar.new.tokens.rest.now in
           let h : sequences_after true (closed ++ current ∷ []) (begun blocked point) rest ≡ total =
           after_bar closed current point rest total blocked (at false Bar (mark_tokens blocked ++ Point point ∷ rest) w.if-not-in_variants.true w.in-Bar.is w.in_ok-next_marked_point-in-Bar.ensures) in
           record {
