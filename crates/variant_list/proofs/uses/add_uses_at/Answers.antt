@@ -10,7 +10,6 @@ use Rattle.variant_list.specs.Segmentations.{inside_of}
 use Rattle.variant_list.specs.inner.Layouts.{Draft, HasTaken}
 use Rattle.variant_list.specs.Uses.{uses_of_entry}
 use Rattle.variant_list.proofs.TakenUses.{HasEntries, HasEntries-more, HasEntries-skip, HasEntries-next, HasEntries-all}
-use Rattle.variant_list.proofs.uses.add_uses_at.Goals.{then-not-is_outside+in_ok-add_uses_of, else-not-is_outside}
 use Rattle.variant_list.proofs.uses.add_uses_at.Goals as goal
 
 pub add_uses_of-requires-clause-sequences : goal.add_uses_of-requires-clause-sequences
@@ -30,23 +29,17 @@ add_uses_of-requires-clause-within c =
     let begins = ((at.members e).0 m).1 in
     omega (arith, ap length begins.1, length-drop c.args.place label, length-append e.source begins.0, c.requires.count, ap length c.loop-entry.invariant.taken.places)
 
+pub loop-entry-preserved-in-Continue-1 : goal.loop-entry-preserved-in-Continue-1
+loop-entry-preserved-in-Continue-1 c =
+    let tested : c.is_outside.result ≡ false = search in
+    HasEntries-more c.args.part c.into_iter-entry-iterator.result c.loop-entry.entry-iterator c.in-Some.entry c.next.new.self c.args.draft.now c.loop-entry.draft c.add_uses_of.new.draft
+    c.loop-entry.invariant c.in-Some.ensures.steps (sym c.is_outside.ensures ∙ tested) c.in_ok-add_uses_of.ensures
+
 pub loop-entry-preserved : goal.loop-entry-preserved
 loop-entry-preserved c =
-    let part : Part = c.args.part in
-    let all : List Entry = c.into_iter-entry-iterator.result in
-    let e : Entry = c.in-Some.entry in
-    let rest : List Entry = c.next.new.self in
-    let old : Draft = c.args.draft.now in
-    elim c.if-not-is_outside.branch [
-      | then-not-is_outside+in_ok-add_uses_of w ↦
-          let tested : c.is_outside.result ≡ false = search in
-          subst (HasEntries part all rest old) (sym w.draft-is)
-          (HasEntries-more part all c.loop-entry.entry-iterator e rest old c.loop-entry.draft w.add_uses_of.new.draft c.loop-entry.invariant c.in-Some.ensures.steps (sym c.is_outside.ensures ∙ tested) w.in_ok-add_uses_of.ensures)
-      | else-not-is_outside w ↦
-          let tested : c.is_outside.result ≡ true = search in
-          subst (HasEntries part all rest old) (sym w.draft-is)
-          (HasEntries-skip part all c.loop-entry.entry-iterator e rest old c.loop-entry.draft c.loop-entry.invariant c.in-Some.ensures.steps (sym c.is_outside.ensures ∙ tested))
-    ]
+    let tested : c.is_outside.result ≡ true = search in
+    HasEntries-skip c.args.part c.into_iter-entry-iterator.result c.loop-entry.entry-iterator c.in-Some.entry c.next.new.self c.args.draft.now c.loop-entry.draft
+    c.loop-entry.invariant c.in-Some.ensures.steps (sym c.is_outside.ensures ∙ tested)
 
 pub returns : goal.returns
 returns c =
