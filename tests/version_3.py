@@ -86,8 +86,8 @@ def second_writing_spells(folder):
         assert again == ruleset, (text, again)
 
 
-# A line that the program doesn't read in a ruleset yet: a definition, a condition, tags, or an outside source.
-NOT_YET = re.compile(r"[ \t]*(?:%(?:tag|set|rule|never|always)\b.*|!.*|[^#]*\b(?:when|unless|as)\b.*)", re.ASCII)
+# A line that the program doesn't read in a ruleset yet: a definition, a condition, or tags.
+NOT_YET = re.compile(r"[ \t]*(?:%(?:tag|set|rule|never|always)\b.*|[^#]*\b(?:when|unless|as)\b.*)", re.ASCII)
 
 
 def not_read_yet(text):

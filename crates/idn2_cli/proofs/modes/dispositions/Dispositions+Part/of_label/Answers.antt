@@ -25,3 +25,11 @@ returns-in_ok-new-in-Ok c =
             (let own = spelled v in let same = PartSpells-Unblocked table.entries label v in (λ m. same.0 (own.0 m), λ s. own.1 (same.1 s))),
       );
     }
+
+pub unreachable-requires : goal.unreachable-requires
+unreachable-requires c =
+    let table : TableValue = c.args.table.now in
+    let label : List ℕ = c.args.label.now in
+    let is = subst (AreOfTable table) c.in-BySpelling.is c.requires.table in
+    c.in-Err-NotInTable.ensures.not_in_table c.in-Err-NotInTable.field-0-is label
+    (subst (λ (part : Part). PartSpells part table.entries label label) (sym is.1) (PartSpells-itself table.entries label c.requires.cut))
