@@ -1,6 +1,6 @@
 -- The form of an entry, lexeme by lexeme.
 use Rattle.std.proofs.Common.{◌≡◌, ℕ, List, [], ◌∷◌, Option, Some, None, refl, sym, ap, ◌∙◌}
-use Rattle.ruleset_text.specs.Entries.{State, start, step, state_after, ended, entry_at, entry_in}
+use Rattle.ruleset_text.specs.inner.EntrySteps.{State, start, step, state_after, ended, entry_at, entry_in}
 use Rattle.ruleset_text.specs.Lexemes.{lexemes}
 
 -- the form of a text by the state so far and the lexemes of the rest
@@ -18,7 +18,7 @@ next_reads text rest lexeme others s o e is before =
     ∙ ap (λ l. entry_at (state_after (Some s) l)) (sym e)
     ∙ before
 
-none_after : (words : List (List ℕ)) → state_after None words ≡ None
+pub none_after : (words : List (List ℕ)) → state_after None words ≡ None
 none_after [] = refl
 none_after (word ∷ words) = none_after words
 

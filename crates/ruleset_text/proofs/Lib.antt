@@ -1,10 +1,10 @@
 mod PatternLemmas
 mod StateLemmas
-mod LexemeLemmas
+pub mod LexemeLemmas
 mod NameLemmas
 mod TokenLemmas
 mod SpanLemmas
-mod HexLemmas
+pub mod HexLemmas
 mod PointLemmas
 mod SetWordLemmas
 mod TextLemmas
@@ -20,4 +20,8 @@ mod DefinitionsBackLemmas
 mod DefinedLemmas
 mod KnownPatternLemmas
 mod EntryLemmas
-mod EntryBackLemmas
+mod EntryStateLemmas
+mod EntryReadLemmas
+mod EntrySpelledLemmas
+pub mod EntryExactLemmas
+pub mod EntryBackLemmas

@@ -19,4 +19,5 @@ pub mod WellFormed
 pub mod Entries
 pub mod EntryForms
 pub mod EntryText
+pub mod EntryWords
 pub mod inner

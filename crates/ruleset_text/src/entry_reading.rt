@@ -1,10 +1,10 @@
 //! Reading the form of an entry or of a range, lexeme by lexeme.
-ghost use Rattle.std.specs.Prelude.{◌≡◌, IfOk, slice_index};
+ghost use Rattle.std.specs.Prelude.{◌≡◌, IfOk, MatchOption, slice_index};
 ghost use Rattle.std.specs.Option.{option_map};
-ghost use Rattle.ruleset_text.specs.Entries as words;
-ghost use Rattle.ruleset_text.specs.Entries.{entry_in};
+ghost use Rattle.ruleset_text.specs.Entries as entries;
 ghost use Rattle.ruleset_text.specs.EntryForms as forms;
-ghost use Rattle.ruleset_text.specs.Lexemes.{lexemes};
+ghost use Rattle.ruleset_text.specs.EntryWords.{IsEntryLine, point_of};
+ghost use Rattle.ruleset_text.specs.inner.EntrySteps as steps;
 
 use crate::entry_form::{Condition, ConditionKind, EntryForm, Mapped};
 use crate::lexemes::next_lexeme;
@@ -68,7 +68,7 @@ struct EntryState {
 
 /// The entry or the range that a text spells, or none if it spells none. Tags and rules go by their names.
 pub fn read_entry(alloc: Global, text: &[u8]) -> Result<Option<EntryForm>, AllocError>
-    ensures { IfOk result (λ found. entry_in (lexemes text.now) ≡ option_map forms.entry_form found) }
+    ensures { IfOk result (λ found. MatchOption found ((form : entries.EntryForm) → IsEntryLine form text.now → ⊥) (λ read. IsEntryLine (forms.entry_form read) text.now)) }
 {
     let mut state = start(alloc);
     let mut rest = text;
@@ -83,7 +83,7 @@ pub fn read_entry(alloc: Global, text: &[u8]) -> Result<Option<EntryForm>, Alloc
 }
 
 fn nothing(alloc: Global) -> Mapped
-    ensures { forms.mapped result ≡ words.nothing }
+    ensures { forms.mapped result ≡ steps.nothing }
 {
     Mapped {
         marked: false,
@@ -94,7 +94,7 @@ fn nothing(alloc: Global) -> Mapped
 }
 
 fn start(alloc: Global) -> EntryState
-    ensures { forms.state result ≡ words.start }
+    ensures { steps.state result ≡ steps.start }
 {
     EntryState {
         done: Vec::new(alloc),
@@ -106,27 +106,27 @@ fn start(alloc: Global) -> EntryState
 
 /// The state with a lexeme more, or none if it may not stand there.
 fn step(alloc: Global, state: EntryState, lexeme: &[u8]) -> Result<Option<EntryState>, AllocError>
-    ensures { IfOk result (λ found. words.step (forms.state state) lexeme.now ≡ option_map forms.state found) }
+    ensures { IfOk result (λ found. steps.step (steps.state state) lexeme.now ≡ option_map steps.state found) }
 {
     let phase = state.phase;
     match phase {
         Phase::Begin => begin(state, lexeme),
         Phase::Mark => with_point(state, lexeme),
-        Phase::Point => behind_point(alloc, state, lexeme),
+        Phase::Point => after_point(alloc, state, lexeme),
         Phase::Hyphen => with_point(state, lexeme),
         Phase::Range => Ok(with_last(state, lexeme)),
-        Phase::Last => behind_points(alloc, state, word_of(lexeme)),
+        Phase::Last => after_points(alloc, state, word_of(lexeme)),
         Phase::As => with_tag(alloc, state, lexeme),
-        Phase::Tag => behind_tag(alloc, state, word_of(lexeme)),
+        Phase::Tag => after_tag(alloc, state, word_of(lexeme)),
         Phase::When => with_rule(alloc, state, ConditionKind::When, lexeme),
         Phase::Unless => with_rule(alloc, state, ConditionKind::Unless, lexeme),
-        Phase::Rule => behind_rule(alloc, state, word_of(lexeme)),
+        Phase::Rule => after_rule(alloc, state, word_of(lexeme)),
     }
 }
 
 /// The state in another phase.
 fn with_phase(state: EntryState, phase: Phase) -> EntryState
-    ensures { forms.state result ≡ words.with_phase (forms.state state) phase }
+    ensures { steps.state result ≡ steps.with_phase (steps.state state) phase }
 {
     EntryState {
         done: state.done,
@@ -137,7 +137,7 @@ fn with_phase(state: EntryState, phase: Phase) -> EntryState
 }
 
 fn begin(state: EntryState, lexeme: &[u8]) -> Result<Option<EntryState>, AllocError>
-    ensures { IfOk result (λ found. words.begin (forms.state state) lexeme.now ≡ option_map forms.state found) }
+    ensures { IfOk result (λ found. steps.begin (steps.state state) lexeme.now ≡ option_map steps.state found) }
 {
     match word_of(lexeme) {
         EntryWord::Mark => Ok(Some(marked(state))),
@@ -146,7 +146,7 @@ fn begin(state: EntryState, lexeme: &[u8]) -> Result<Option<EntryState>, AllocEr
 }
 
 fn marked(state: EntryState) -> EntryState
-    ensures { forms.state result ≡ words.marked (forms.state state) }
+    ensures { steps.state result ≡ steps.marked (steps.state state) }
 {
     let EntryState {
         done,
@@ -165,7 +165,7 @@ fn marked(state: EntryState) -> EntryState
 }
 
 fn with_point(state: EntryState, lexeme: &[u8]) -> Result<Option<EntryState>, AllocError>
-    ensures { IfOk result (λ found. words.at_point (forms.state state) (words.point_of lexeme.now) ≡ option_map forms.state found) }
+    ensures { IfOk result (λ found. steps.at_point (steps.state state) (point_of lexeme.now) ≡ option_map steps.state found) }
 {
     let Some(point) = hex_point(without_prefix(lexeme)) else {
         return Ok(None);
@@ -186,12 +186,12 @@ fn with_point(state: EntryState, lexeme: &[u8]) -> Result<Option<EntryState>, Al
     }))
 }
 
-fn behind_point(
+fn after_point(
     alloc: Global,
     state: EntryState,
     lexeme: &[u8],
 ) -> Result<Option<EntryState>, AllocError>
-    ensures { IfOk result (λ found. words.behind_point (forms.state state) (words.word_of lexeme.now) ≡ option_map forms.state found) }
+    ensures { IfOk result (λ found. steps.after_point (steps.state state) (steps.word_of lexeme.now) ≡ option_map steps.state found) }
 {
     match word_of(lexeme) {
         EntryWord::Hyphen => Ok(Some(with_phase(state, Phase::Hyphen))),
@@ -200,19 +200,19 @@ fn behind_point(
         } else {
             None
         }),
-        word => behind_points(alloc, state, word),
+        word => after_points(alloc, state, word),
     }
 }
 
 /// Whether all that was read is one code point.
 fn may_be_range(state: &EntryState) -> bool
-    ensures { result ≡ words.may_be_range (forms.state state.now) }
+    ensures { result ≡ steps.may_be_range (steps.state state.now) }
 {
     state.done.is_empty() && state.current.points.len() == 1
 }
 
 fn with_last(state: EntryState, lexeme: &[u8]) -> Option<EntryState>
-    ensures { words.at_last (forms.state state) (words.point_of lexeme.now) ≡ option_map forms.state result }
+    ensures { steps.at_last (steps.state state) (point_of lexeme.now) ≡ option_map steps.state result }
 {
     let last = hex_point(without_prefix(lexeme))?;
     if first_point(&state.current.points) > last {
@@ -233,12 +233,12 @@ fn first_point(points: &[u32]) -> u32
     if points.is_empty() { 0 } else { points[0] }
 }
 
-fn behind_points(
+fn after_points(
     alloc: Global,
     state: EntryState,
     word: EntryWord,
 ) -> Result<Option<EntryState>, AllocError>
-    ensures { IfOk result (λ found. words.behind_points (forms.state state) word ≡ option_map forms.state found) }
+    ensures { IfOk result (λ found. steps.after_points (steps.state state) word ≡ option_map steps.state found) }
 {
     match word {
         EntryWord::As => Ok(if state.current.marked {
@@ -246,7 +246,7 @@ fn behind_points(
         } else {
             Some(with_phase(state, Phase::As))
         }),
-        word => behind_tags(alloc, state, word),
+        word => after_tags(alloc, state, word),
     }
 }
 
@@ -255,7 +255,7 @@ fn with_tag(
     state: EntryState,
     lexeme: &[u8],
 ) -> Result<Option<EntryState>, AllocError>
-    ensures { IfOk result (λ found. words.at_tag (forms.state state) lexeme.now ≡ option_map forms.state found) }
+    ensures { IfOk result (λ found. steps.at_tag (steps.state state) lexeme.now ≡ option_map steps.state found) }
 {
     if !is_name(lexeme) || is_one_of(&state.current.tags, lexeme) {
         return Ok(None);
@@ -276,30 +276,30 @@ fn with_tag(
     }))
 }
 
-fn behind_tag(
+fn after_tag(
     alloc: Global,
     state: EntryState,
     word: EntryWord,
 ) -> Result<Option<EntryState>, AllocError>
-    ensures { IfOk result (λ found. words.behind_tag (forms.state state) word ≡ option_map forms.state found) }
+    ensures { IfOk result (λ found. steps.after_tag (steps.state state) word ≡ option_map steps.state found) }
 {
     match word {
         EntryWord::Comma => Ok(Some(with_phase(state, Phase::As))),
-        word => behind_tags(alloc, state, word),
+        word => after_tags(alloc, state, word),
     }
 }
 
-fn behind_tags(
+fn after_tags(
     alloc: Global,
     state: EntryState,
     word: EntryWord,
 ) -> Result<Option<EntryState>, AllocError>
-    ensures { IfOk result (λ found. words.behind_tags (forms.state state) word ≡ option_map forms.state found) }
+    ensures { IfOk result (λ found. steps.after_tags (steps.state state) word ≡ option_map steps.state found) }
 {
     match word {
         EntryWord::When => Ok(Some(with_phase(state, Phase::When))),
         EntryWord::Unless => Ok(Some(with_phase(state, Phase::Unless))),
-        word => behind_rule(alloc, state, word),
+        word => after_rule(alloc, state, word),
     }
 }
 
@@ -309,7 +309,7 @@ fn with_rule(
     kind: ConditionKind,
     lexeme: &[u8],
 ) -> Result<Option<EntryState>, AllocError>
-    ensures { IfOk result (λ found. words.at_rule (forms.state state) kind lexeme.now ≡ option_map forms.state found) }
+    ensures { IfOk result (λ found. steps.at_rule (steps.state state) kind lexeme.now ≡ option_map steps.state found) }
 {
     if !is_name(lexeme) {
         return Ok(None);
@@ -331,13 +331,13 @@ fn with_rule(
     }))
 }
 
-/// The state behind a separator, or none if it is none: `|` behind the source, `:` behind a variant, nothing behind a range.
-fn behind_rule(
+/// The state after a separator, or none if it is none: `|` after the source, `:` after a variant, nothing after a range.
+fn after_rule(
     alloc: Global,
     state: EntryState,
     word: EntryWord,
 ) -> Result<Option<EntryState>, AllocError>
-    ensures { IfOk result (λ found. words.behind_rule (forms.state state) word ≡ option_map forms.state found) }
+    ensures { IfOk result (λ found. steps.after_rule (steps.state state) word ≡ option_map steps.state found) }
 {
     if state.last.is_some() {
         return Ok(None);
@@ -363,7 +363,7 @@ fn behind_rule(
 
 /// The state at the beginning of a further variant.
 fn with_done(alloc: Global, state: EntryState) -> Result<EntryState, AllocError>
-    ensures { IfOk result (λ next. forms.state next ≡ words.with_done (forms.state state)) }
+    ensures { IfOk result (λ next. steps.state next ≡ steps.with_done (steps.state state)) }
 {
     let EntryState {
         done,
@@ -383,7 +383,7 @@ fn with_done(alloc: Global, state: EntryState) -> Result<EntryState, AllocError>
 
 /// The form, if nothing is left open.
 fn ended(state: EntryState) -> Result<Option<EntryForm>, AllocError>
-    ensures { IfOk result (λ found. words.ended (forms.state state) ≡ option_map forms.entry_form found) }
+    ensures { IfOk result (λ found. steps.ended (steps.state state) ≡ option_map forms.entry_form found) }
 {
     if !is_complete(state.phase) {
         return Ok(None);
@@ -400,13 +400,13 @@ fn ended(state: EntryState) -> Result<Option<EntryForm>, AllocError>
 }
 
 fn is_complete(phase: Phase) -> bool
-    ensures { result ≡ words.is_complete phase }
+    ensures { result ≡ steps.is_complete phase }
 {
     matches!(phase, Phase::Point | Phase::Last | Phase::Tag | Phase::Rule)
 }
 
 fn word_of(lexeme: &[u8]) -> EntryWord
-    ensures { result ≡ words.word_of lexeme.now }
+    ensures { result ≡ steps.word_of lexeme.now }
 {
     match lexeme {
         b"!" => EntryWord::Mark,

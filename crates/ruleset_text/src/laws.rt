@@ -12,9 +12,8 @@ ghost use Rattle.ruleset_text.specs.Canonical.{HasPoints, pattern_text};
 ghost use Rattle.ruleset_text.specs.Definition.{contexts_of, demand_of};
 ghost use Rattle.ruleset_text.specs.Definition as definition;
 ghost use Rattle.ruleset_text.specs.Definitions.{Definitions, added, canonical_lines, canonical_size, defined, nothing_defined, with_lines, with_words};
-ghost use Rattle.ruleset_text.specs.Entries.{Mapped, entry_in};
-ghost use Rattle.ruleset_text.specs.EntryText.{IsForm, entry_text};
 ghost use Rattle.ruleset_text.specs.Grammar.{Is, Whole, SpellsPattern};
+ghost use Rattle.ruleset_text.specs.inner.EntrySteps.{entry_in};
 ghost use Rattle.ruleset_text.specs.inner.Examples.{some_defined, written};
 ghost use Rattle.ruleset_text.specs.Lexemes.{lexemes};
 ghost use Rattle.ruleset_text.specs.Names.{AreNames, is_name};
@@ -47,11 +46,6 @@ pub fn canonical_lines_are_read_back()
     ensures { (d : Definitions) (limit : ℕ) → AreDefinitions d → canonical_size d ≤ limit → with_lines limit nothing_defined (canonical_lines d) ≡ Ok d }
 {}
 
-/// The canonical text of an entry or of a range is read as it.
-pub fn canonical_entries_are_read_back()
-    ensures { (mapped : List Mapped) (last : Option ℕ) → IsForm mapped last → entry_in (lexemes (entry_text mapped last)) ≡ Some (record { mapped = mapped; last = last }) }
-{}
-
 /// Examples, which the definitions compute; one set is defined, with the name A.
 pub fn definitions_compute_the_examples()
     ensures demand { demand_of (codes "A" ∷ []) (codes "(0030 /u+0031).*@A?") ≡ Some (patterns.Then (patterns.Group (patterns.Either (patterns.Point 48) (patterns.Point 49))) (patterns.Then (patterns.Many patterns.Any) (patterns.Optional (patterns.Set 0)))) }
@@ -78,7 +72,7 @@ pub fn definitions_compute_the_examples()
     ensures place_in_a_group { contexts_of (codes "A" ∷ []) (codes "(_)") ≡ None }
     ensures end_before { contexts_of (codes "A" ∷ []) (codes "$ _") ≡ None }
     ensures end_in_a_group { contexts_of (codes "A" ∷ []) (codes "(@A / $) _") ≡ None }
-    ensures start_behind { contexts_of (codes "A" ∷ []) (codes "_ ^") ≡ None }
+    ensures start_last { contexts_of (codes "A" ∷ []) (codes "_ ^") ≡ None }
     ensures no_context { contexts_of (codes "A" ∷ []) (codes "") ≡ None }
     ensures range { contexts_of (codes "A" ∷ []) (codes "0061..0062 _") ≡ None }
     ensures sequence { contexts_of (codes "A" ∷ []) (codes "0061-0062 _") ≡ None }
@@ -164,7 +158,7 @@ pub fn definitions_compute_the_entries()
     ensures two_marks { entry_in (lexemes (codes "!!0061")) ≡ None }
     ensures bar_last { entry_in (lexemes (codes "0061|")) ≡ None }
     ensures comma { entry_in (lexemes (codes "0061,0062")) ≡ None }
-    ensures comment_behind { entry_in (lexemes (codes "0061 # a")) ≡ None }
+    ensures comment_last { entry_in (lexemes (codes "0061 # a")) ≡ None }
     ensures falling { entry_in (lexemes (codes "0063..0061")) ≡ None }
     ensures variant_of_range { entry_in (lexemes (codes "0061..0063|0064")) ≡ None }
     ensures colon_first { entry_in (lexemes (codes "0061:0062")) ≡ None }

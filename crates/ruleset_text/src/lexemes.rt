@@ -17,7 +17,7 @@ pub fn next_lexeme(line: &[u8]) -> Option<(&[u8], &[u8])>
 }
 
 /// What follows the spaces and tabs at the front.
-fn without_blanks(text: &[u8]) -> &[u8]
+pub fn without_blanks(text: &[u8]) -> &[u8]
     ensures is { result.now ≡ drop (position_or_len (λ c. not (lexemes.is_blank c)) text.now) text.now }
     ensures within { length result.now ≤ length text.now }
 {

@@ -8,6 +8,7 @@ mod definition_line;
 mod definition_reading;
 mod definitions;
 mod entry_form;
+mod entry_laws;
 mod entry_reading;
 mod fault;
 mod keyword;
@@ -28,15 +29,16 @@ pub use definition::{Definition, DemandKind, push_definition};
 pub use definition_reading::{read_contexts, read_definition, read_demand, read_name};
 pub use definitions::{Definitions, Demand};
 pub use entry_form::{Condition, ConditionKind, EntryForm, Mapped};
+pub use entry_laws::{canonical_entries_are_read_back, reading_an_entry_is_exact};
 pub use entry_reading::read_entry;
 pub use fault::DefinitionFault;
 pub use keyword::{Keyword, keyword_of};
 pub use laws::{
-    canonical_entries_are_read_back, canonical_lines_are_read_back, canonical_text_is_read_back,
-    definitions_compute_the_entries, definitions_compute_the_examples,
-    definitions_compute_the_lines, reading_a_pattern_is_exact, what_lines_define_has_no_fault,
+    canonical_lines_are_read_back, canonical_text_is_read_back, definitions_compute_the_entries,
+    definitions_compute_the_examples, definitions_compute_the_lines, reading_a_pattern_is_exact,
+    what_lines_define_has_no_fault,
 };
-pub use lexemes::next_lexeme;
+pub use lexemes::{next_lexeme, without_blanks};
 pub use limits::{has_its_sets, is_within, without_atoms};
 pub use names::{Name, is_name, number_of};
 pub use spans::read_spans;

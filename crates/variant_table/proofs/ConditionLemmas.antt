@@ -1,9 +1,9 @@
 -- Entries without a fault are those of a well-formed table.
-use Rattle.std.proofs.Common.{◌≡◌, inl, inr, ℕ, zero, suc, ◌+◌, ◌<◌, Bool, true, false, not, ◌||◌, cond, List, [], ◌∷◌, ◌++◌, length, map, get_or, Ok, Err, refl, sym, ap, subst, ◌∙◌, arith, append_assoc, length-append}
-use Rattle.std.specs.Prelude.{nat_lt, bytes_eq, ◌≢◌, ◌≤◌}
-use Rattle.std.specs.List.{AllByRecursion, All, AllPairs, list_any, range_with_len}
+use Rattle.std.proofs.Common.{◌≡◌, ℕ, zero, suc, ◌+◌, ◌<◌, Bool, true, false, not, ◌||◌, cond, List, [], ◌∷◌, ◌++◌, length, map, get_or, Ok, Err, refl, sym, ap, subst, ◌∙◌, arith, append_assoc, length-append}
+use Rattle.std.specs.Prelude.{nat_lt, bytes_eq, ◌≢◌, ◌≤◌, Option, Some, None, slice_index}
+use Rattle.std.specs.List.{AllByRecursion, All, AllPairs, list_all, list_any, range_with_len}
 use Rattle.std.proofs.lemmas.Bool.Decides.{nat_tests}
-use Rattle.std.proofs.lemmas.Bool.{ltb-false, le-ltb, or_parts, or_from, not-false, not_from_true, false_from_ne_true}
+use Rattle.std.proofs.lemmas.Bool.{and_parts, ltb-false, le-ltb, or_parts, or_from, not-false, not_from_true, false_from_ne_true}
 use Rattle.std.proofs.lemmas.List.{append-nil}
 use Rattle.std.proofs.Math.ListN.{get_or-append}
 use Rattle.std.proofs.Math.Seq.{get_or-append_seam}
@@ -13,29 +13,24 @@ use Rattle.std.proofs.lemmas.List.Kept.{AllPairs-cons}
 use Rattle.std.proofs.lemmas.List.Quantifiers.{all_pairs_push}
 use Rattle.std.proofs.lemmas.Slice.Eq.{bytes_eq-Decides}
 use Rattle.idn_text.specs.Points.{is_scalar_value}
-use Rattle.variant_table.specs.declared.token.Token.{Token}
-use Rattle.variant_table.specs.WellFormed.{is_table_class, IsTablePoint, IsSequence, IsEntry}
+use Rattle.variant_table.specs.WellFormed.{is_table_class, IsTablePoint, IsSequence as IsTableSequence, IsEntry}
 use Rattle.idn_class.specs.Class.{class_of, is_scalar}
 use Rattle.idn_class.proofs.ClassNumbers.{class_of-no_scalar, is_scalar-out}
-use Rattle.variant_table.specs.declared.token.Token.TheVariants.{Point, Unknown}
 use Rattle.variant_table.specs.Faults.{Limit, BadClass, SameVariant, SameSource}
 use Rattle.variant_table.specs.declared.version.Version.{Version}
 use Rattle.variant_table.specs.declared.version.Version.TheVariants.{One, Two, Three}
-use Rattle.variant_table.specs.Entries.{Entry, replacements, HasRanges, IsOfVersion}
-use Rattle.variant_table.specs.Notation.{HasNoEmptySequence}
+use Rattle.variant_table.specs.Entries.{Entry, replacements, sequences_in, IsOfVersion}
+use Rattle.variant_table.specs.inner.Held.{HasNoEmptySequence}
 use Rattle.variant_table.specs.Limits.{entry_limit}
 use Rattle.variant_table.specs.Ranges.{point_entry, range_size}
 use Rattle.variant_table.specs.Conditions.{is_too_large, is_text_too_long, is_over_limit, has_bad_point, has_bad_class, repeats, has_repeat, has_source_in}
 use Rattle.variant_table.specs.Reading.{with_entries}
 use Rattle.variant_table.proofs.ExampleLemmas.{with_entries-by}
-use Rattle.variant_table.proofs.FormLemmas.{Spells}
+use Rattle.ruleset_text.specs.Entries.{Mapped}
+use Rattle.ruleset_text.specs.EntryText.{IsSequence, IsMapped, IsForm}
+use Rattle.variant_table.specs.Forms.{is_plain, is_bare, begins_marked, has_form, variant_of, entry_of, entries_to, SpellsEntries}
 
--- ---- tokens of scalar values
-
-abbrev pub IsScalarToken : Token → Type 0
-IsScalarToken (Point c) = is_scalar_value c ≡ true
-IsScalarToken Unknown = ⊥
-IsScalarToken token = Unit {0}
+-- ---- scalar values
 
 abbrev pub AreScalars : List ℕ → Type 0
 AreScalars s = AllByRecursion (λ c. is_scalar_value c ≡ true) s
@@ -66,22 +61,22 @@ points_good (c ∷ s) h = or_from (not (is_table_class (class_of c))) (has_bad_p
 
 -- ---- one entry
 
-sequences_table : (ss : List (List ℕ)) → AllByRecursion (λ s. 0 < length s) ss → list_any (λ s. nat_lt 8 (length s)) ss ≡ false → list_any has_bad_point ss ≡ false → AllByRecursion IsSequence ss
+sequences_table : (ss : List (List ℕ)) → AllByRecursion (λ s. 0 < length s) ss → list_any (λ s. nat_lt 8 (length s)) ss ≡ false → list_any has_bad_point ss ≡ false → AllByRecursion IsTableSequence ss
 sequences_table [] f l k = tt
 sequences_table (s ∷ ss) f l k =
     let p = or_parts (nat_lt 8 (length s)) (list_any (λ s. nat_lt 8 (length s)) ss) l in
     let q = or_parts (has_bad_point s) (list_any has_bad_point ss) k in
     (record { filled = omega (arith, f.0); short = ltb-false 8 (length s) p.0; points = All-from_recursion IsTablePoint s (points_table s q.0) }, sequences_table ss f.1 p.1 q.1)
 
-sequences_short : (ss : List (List ℕ)) → AllByRecursion IsSequence ss → list_any (λ s. nat_lt 8 (length s)) ss ≡ false
+sequences_short : (ss : List (List ℕ)) → AllByRecursion IsTableSequence ss → list_any (λ s. nat_lt 8 (length s)) ss ≡ false
 sequences_short [] h = refl
 sequences_short (s ∷ ss) h = or_from (nat_lt 8 (length s)) (list_any (λ s. nat_lt 8 (length s)) ss) (le-ltb 8 (length s) h.0.short) (sequences_short ss h.1)
 
-sequences_good : (ss : List (List ℕ)) → AllByRecursion IsSequence ss → list_any has_bad_point ss ≡ false
+sequences_good : (ss : List (List ℕ)) → AllByRecursion IsTableSequence ss → list_any has_bad_point ss ≡ false
 sequences_good [] h = refl
 sequences_good (s ∷ ss) h = or_from (has_bad_point s) (list_any has_bad_point ss) (points_good s (recursion_from_All IsTablePoint s h.0.points)) (sequences_good ss h.1)
 
-pub sequences_filled : (ss : List (List ℕ)) → AllByRecursion IsSequence ss → AllByRecursion (λ s. 0 < length s) ss
+pub sequences_filled : (ss : List (List ℕ)) → AllByRecursion IsTableSequence ss → AllByRecursion (λ s. 0 < length s) ss
 sequences_filled [] h = tt
 sequences_filled (s ∷ ss) h = (omega (arith, h.0.filled), sequences_filled ss h.1)
 
@@ -89,7 +84,7 @@ points_scalars : (s : List ℕ) → AllByRecursion IsTablePoint s → AreScalars
 points_scalars [] h = tt
 points_scalars (c ∷ s) h = (h.0.scalar_value, points_scalars s h.1)
 
-pub sequences_scalar : (ss : List (List ℕ)) → AllByRecursion IsSequence ss → AllByRecursion AreScalars ss
+pub sequences_scalar : (ss : List (List ℕ)) → AllByRecursion IsTableSequence ss → AllByRecursion AreScalars ss
 sequences_scalar [] h = tt
 sequences_scalar (s ∷ ss) h = (points_scalars s (recursion_from_All IsTablePoint s h.0.points), sequences_scalar ss h.1)
 
@@ -125,7 +120,7 @@ pub entry_from_tests : (e : Entry) → HasNoEmptySequence e → is_too_large e �
 entry_from_tests e h a b d =
     let p = or_parts (nat_lt 16 (length e.variants)) (list_any (λ s. nat_lt 8 (length s)) (replacements e)) a in
     record {
-      sequences = All-from_recursion IsSequence (replacements e) (sequences_table (replacements e) h p.1 b);
+      sequences = All-from_recursion IsTableSequence (replacements e) (sequences_table (replacements e) h p.1 b);
       few = ltb-false 16 (length e.variants) p.0;
       distinct = distinct_from (replacements e) d;
     }
@@ -133,10 +128,10 @@ entry_from_tests e h a b d =
 pub small_from_entry : (e : Entry) → IsEntry e → is_too_large e ≡ false
 small_from_entry e h =
     or_from (nat_lt 16 (length e.variants)) (list_any (λ s. nat_lt 8 (length s)) (replacements e)) (le-ltb 16 (length e.variants) h.few)
-    (sequences_short (replacements e) (recursion_from_All IsSequence (replacements e) h.sequences))
+    (sequences_short (replacements e) (recursion_from_All IsTableSequence (replacements e) h.sequences))
 
 pub good_from_entry : (e : Entry) → IsEntry e → has_bad_class e ≡ false
-good_from_entry e h = sequences_good (replacements e) (recursion_from_All IsSequence (replacements e) h.sequences)
+good_from_entry e h = sequences_good (replacements e) (recursion_from_All IsTableSequence (replacements e) h.sequences)
 
 pub single_from_entry : (e : Entry) → IsEntry e → has_repeat e ≡ false
 single_from_entry e h = no_repeats (replacements e) h.distinct
@@ -187,20 +182,63 @@ filled_points : (o : Bool) (cs : List ℕ) → AllByRecursion HasNoEmptySequence
 filled_points o [] = tt
 filled_points o (c ∷ cs) = ((omega arith, tt), filled_points o cs)
 
-pub filled_spelled : (v : Version) (line : List ℕ) (es : List Entry) → Spells v line es → AllByRecursion HasNoEmptySequence es
-filled_spelled v line es (inl h) = subst (AllByRecursion HasNoEmptySequence) (sym h.3) (h.1.0, tt)
-filled_spelled v line es (inr h) = subst (AllByRecursion HasNoEmptySequence) (sym h.5) (filled_points h.0 (range_with_len h.1 (range_size h.1 h.2)))
+sequence_filled : (points : List ℕ) → IsSequence points → 0 < length points
+sequence_filled [] h = absurd h
+sequence_filled (c ∷ points) h = omega arith
 
-points_of_version : (v : Version) (o : Bool) (cs : List ℕ) → HasRanges v o → AllByRecursion (IsOfVersion v) (map (point_entry o) cs)
-points_of_version v o [] h = tt
-points_of_version One o (c ∷ cs) h = absurd h
-points_of_version Two o (c ∷ cs) h = (h, points_of_version Two o cs h)
-points_of_version Three o (c ∷ cs) h = (tt, points_of_version Three o cs h)
+filled_mapped : (mapped : List Mapped) → AllByRecursion IsMapped mapped → AllByRecursion (λ s. 0 < length s) (sequences_in (map variant_of mapped))
+filled_mapped [] h = tt
+filled_mapped (m ∷ mapped) h = (sequence_filled m.points h.0.sequence, filled_mapped mapped h.1)
 
-pub version_spelled : (v : Version) (line : List ℕ) (es : List Entry) → Spells v line es → AllByRecursion (IsOfVersion v) es
-version_spelled v line es (inl h) = subst (AllByRecursion (IsOfVersion v)) (sym h.3) (h.2, tt)
-version_spelled v line es (inr h) =
-    subst (AllByRecursion (IsOfVersion v)) (sym h.5) (points_of_version v h.0 (range_with_len h.1 (range_size h.1 h.2)) h.4)
+pub filled_form : (last : Option ℕ) (mapped : List Mapped) → IsForm mapped last → AllByRecursion HasNoEmptySequence (entries_to last mapped)
+filled_form None [] h = absurd h
+filled_form None (m ∷ mapped) h = (filled_mapped (m ∷ mapped) h, tt)
+filled_form (Some last) [] h = tt
+filled_form (Some last) (m ∷ mapped) h = filled_points m.marked (range_with_len (slice_index m.points 0) (range_size (slice_index m.points 0) last))
+
+pub filled_spelled : (v : Version) (line : List ℕ) (es : List Entry) → SpellsEntries v line es → AllByRecursion HasNoEmptySequence es
+filled_spelled v line es h = subst (AllByRecursion HasNoEmptySequence) (sym h.3) (filled_form h.0.last h.0.mapped h.1.0)
+
+-- ---- the forms of a version
+
+true_not : (b : Bool) → not b ≡ true → b ≡ false
+true_not true e = absurd cc
+true_not false e = refl
+
+bare_unmarked : (mapped : List Mapped) → list_all is_bare mapped ≡ true → AllByRecursion (λ v. v.blocked ≡ false) (map variant_of mapped)
+bare_unmarked [] h = tt
+bare_unmarked (m ∷ mapped) h =
+    let p = and_parts (is_bare m) (list_all is_bare mapped) h in
+    (true_not m.marked (and_parts (is_plain m) (not m.marked) p.0).1, bare_unmarked mapped p.1)
+
+bare_entry : (mapped : List Mapped) → list_all is_bare mapped ≡ true → IsOfVersion One (entry_of mapped)
+bare_entry [] h = (refl, All-from_recursion (λ v. v.blocked ≡ false) [] tt)
+bare_entry (m ∷ mapped) h = let all = bare_unmarked (m ∷ mapped) h in (all.0, All-from_recursion (λ v. v.blocked ≡ false) (map variant_of mapped) all.1)
+
+inside_entry : (mapped : List Mapped) → begins_marked mapped ≡ false → IsOfVersion Two (entry_of mapped)
+inside_entry [] h = refl
+inside_entry (m ∷ mapped) h = h
+
+points_inside : (o : Bool) (cs : List ℕ) → o ≡ false → AllByRecursion (IsOfVersion Two) (map (point_entry o) cs)
+points_inside o [] h = tt
+points_inside o (c ∷ cs) h = (h, points_inside o cs h)
+
+all_of_three : (es : List Entry) → AllByRecursion (IsOfVersion Three) es
+all_of_three [] = tt
+all_of_three (e ∷ es) = (tt, all_of_three es)
+
+version_form : (v : Version) (last : Option ℕ) (mapped : List Mapped) → has_form v (record { mapped = mapped; last = last }) ≡ true → AllByRecursion (IsOfVersion v) (entries_to last mapped)
+version_form One None mapped h = (bare_entry mapped (and_parts (list_all is_bare mapped) true h).0, tt)
+version_form One (Some last) mapped h = absurd (let p = (and_parts (list_all is_bare mapped) false h).1 in cc)
+version_form Two None mapped h = (inside_entry mapped (true_not (begins_marked mapped) (and_parts (list_all is_plain mapped) (not (begins_marked mapped)) h).1), tt)
+version_form Two (Some last) [] h = tt
+version_form Two (Some last) (m ∷ mapped) h =
+    points_inside m.marked (range_with_len (slice_index m.points 0) (range_size (slice_index m.points 0) last))
+    (true_not m.marked (and_parts (list_all is_plain (m ∷ mapped)) (not m.marked) h).1)
+version_form Three last mapped h = all_of_three (entries_to last mapped)
+
+pub version_spelled : (v : Version) (line : List ℕ) (es : List Entry) → SpellsEntries v line es → AllByRecursion (IsOfVersion v) es
+version_spelled v line es h = subst (AllByRecursion (IsOfVersion v)) (sym h.3) (version_form v h.0.last h.0.mapped h.2)
 
 pub entries_from_tests : (es : List Entry) → AllByRecursion HasNoEmptySequence es → list_any is_too_large es ≡ false → list_any has_bad_class es ≡ false → list_any has_repeat es ≡ false → AllByRecursion IsEntry es
 entries_from_tests [] h a b d = tt
@@ -235,12 +273,13 @@ new_range o t a (suc n) h =
     let p = or_parts (has_source_in t (point_entry o a)) (list_any (has_source_in t) (map (point_entry o) (range_with_len (a + 1) n))) h in
     (p.0, new_range o (t ++ point_entry o a ∷ []) (a + 1) n (range_push o t a (a + 1) n (omega arith) p.1))
 
-pub new_spelled : (v : Version) (t : List Entry) (line : List ℕ) (es : List Entry) → Spells v line es → list_any (has_source_in t) es ≡ false → AreNewSources t es
-new_spelled v t line es (inl h) k =
-    let one : list_any (has_source_in t) (h.0 ∷ []) ≡ false = ap (list_any (has_source_in t)) (sym h.3) ∙ k in
-    subst (AreNewSources t) (sym h.3) ((or_parts (has_source_in t h.0) false one).0, tt)
-new_spelled v t line es (inr h) k =
-    subst (AreNewSources t) (sym h.5) (new_range h.0 t h.1 (range_size h.1 h.2) (ap (list_any (has_source_in t)) (sym h.5) ∙ k))
+new_form : (t : List Entry) (last : Option ℕ) (mapped : List Mapped) → list_any (has_source_in t) (entries_to last mapped) ≡ false → AreNewSources t (entries_to last mapped)
+new_form t None mapped h = ((or_parts (has_source_in t (entry_of mapped)) false h).0, tt)
+new_form t (Some last) [] h = tt
+new_form t (Some last) (m ∷ mapped) h = new_range m.marked t (slice_index m.points 0) (range_size (slice_index m.points 0) last) h
+
+pub new_spelled : (v : Version) (t : List Entry) (line : List ℕ) (es : List Entry) → SpellsEntries v line es → list_any (has_source_in t) es ≡ false → AreNewSources t es
+new_spelled v t line es h k = subst (AreNewSources t) (sym h.3) (new_form t h.0.last h.0.mapped (ap (list_any (has_source_in t)) (sym h.3) ∙ k))
 
 -- ---- a line without a fault
 
@@ -274,5 +313,5 @@ sound_by v t t' es filled of new e = by_cases _ _ _ _ refl refl refl refl (sym (
           fits = p.1;
         }
 
-pub sound_spelled : (v : Version) (t t' : List Entry) (line : List ℕ) (es : List Entry) → Spells v line es → with_entries v t es ≡ Ok t' → Sound v t t' es
+pub sound_spelled : (v : Version) (t t' : List Entry) (line : List ℕ) (es : List Entry) → SpellsEntries v line es → with_entries v t es ≡ Ok t' → Sound v t t' es
 sound_spelled v t t' line es h e = sound_by v t t' es (filled_spelled v line es h) (version_spelled v line es h) (new_spelled v t line es h) e

@@ -5,8 +5,7 @@ use Rattle.std.specs.List.{All, AllByRecursion, slice_range}
 use Rattle.std.proofs.lemmas.List.{map-append, length-map, take-append-drop}
 use Rattle.std.proofs.lemmas.List.Elements.{recursion_from_All}
 use Rattle.variant_table.specs.declared.sequences.Span.{Span}
-use Rattle.variant_table.specs.Entries.{Variant, sequences_in, replacements, marks}
-use Rattle.variant_table.specs.Reading.{entry_from}
+use Rattle.variant_table.specs.Entries.{Variant, sequences_in, replacements, marks, entry_from}
 use Rattle.variant_table.specs.inner.Held.{entry_at, entries_of, IsEntryBelow}
 use Rattle.variant_table.proofs.ListLemmas.{drop_next}
 use Rattle.variant_table.proofs.PartLemmas.{slice_range-append, slice_range-end}

@@ -7,11 +7,11 @@ use Rattle.idn_class.proofs.ComputedLabels.{in_table, class_of-in_table}
 use Rattle.variant_table.specs.Faults.{Limit, BadClass, SameVariant, SameSource}
 use Rattle.variant_table.specs.declared.version.Version.{Version}
 use Rattle.variant_table.specs.declared.version.Version.TheVariants.{One, Two}
-use Rattle.variant_table.specs.Canonical.{point_text}
 use Rattle.variant_table.specs.Entries.{Variant, Entry}
-use Rattle.variant_table.specs.Ranges.{point_entry, range_entries}
+use Rattle.variant_table.specs.Ranges.{point_entry, range_entries, point_variant}
 use Rattle.variant_table.specs.Conditions.{is_over_limit, has_bad_class, has_bad_point, has_repeat, has_source_in}
-use Rattle.variant_table.specs.Reading.{begun, with_entries}
+use Rattle.variant_table.specs.Reading.{with_entries}
+use Rattle.ruleset_text.specs.Canonical.{point_text}
 
 -- entries by their tests
 pub with_entries-by : (v : Version) (t es : List Entry) (o b r s : Bool) → is_over_limit v t es ≡ o → list_any has_bad_class es ≡ b → list_any has_repeat es ≡ r → list_any (has_source_in t) es ≡ s
@@ -69,8 +69,8 @@ pub with_entries-capital : with_entries One [] (point_entry false 0x41 ∷ []) �
 unfolding point_text
 with_entries-capital = with_entries-by One [] (point_entry false 0x41 ∷ []) false true false false refl (rw bad-41) refl refl
 
-pub with_entries-own_variant : with_entries One [] (letter (begun false 0x61 ∷ []) ∷ []) ≡ Err SameVariant
-with_entries-own_variant = with_entries-by One [] (letter (begun false 0x61 ∷ []) ∷ []) false false true false refl (rw good-61) refl refl
+pub with_entries-own_variant : with_entries One [] (letter (point_variant false 0x61 ∷ []) ∷ []) ≡ Err SameVariant
+with_entries-own_variant = with_entries-by One [] (letter (point_variant false 0x61 ∷ []) ∷ []) false false true false refl (rw good-61) refl refl
 
 pub with_entries-letter : with_entries One [] (letter [] ∷ []) ≡ Ok (letter [] ∷ [])
 with_entries-letter = with_entries-by One [] (letter [] ∷ []) false false false false refl (rw good-61) refl refl
@@ -85,7 +85,7 @@ three = range_entries false 0x61 0x63
 
 -- x, with y blocked and z
 abbrev pub last_letter : Entry
-last_letter = record { source = 0x78 ∷ []; outside = false; variants = begun true 0x79 ∷ begun false 0x7A ∷ [] }
+last_letter = record { source = 0x78 ∷ []; outside = false; variants = point_variant true 0x79 ∷ point_variant false 0x7A ∷ [] }
 
 good-three : list_any has_bad_class three ≡ false
 good-three = rw good-61 (rw good-62 (rw good-63 refl))
@@ -98,9 +98,9 @@ pub with_entries-blocked : with_entries Two three (last_letter ∷ []) ≡ Ok (t
 unfolding point_text
 with_entries-blocked = with_entries-by Two three (last_letter ∷ []) false false false false refl (rw good-78 (rw good-79 (rw good-7A refl))) refl refl
 
-pub with_entries-marked_twice : with_entries Two [] (letter (begun false 0x62 ∷ begun true 0x62 ∷ []) ∷ []) ≡ Err SameVariant
+pub with_entries-marked_twice : with_entries Two [] (letter (point_variant false 0x62 ∷ point_variant true 0x62 ∷ []) ∷ []) ≡ Err SameVariant
 unfolding point_text
-with_entries-marked_twice = with_entries-by Two [] (letter (begun false 0x62 ∷ begun true 0x62 ∷ []) ∷ []) false false true false refl (rw good-61 (rw good-62 refl)) refl refl
+with_entries-marked_twice = with_entries-by Two [] (letter (point_variant false 0x62 ∷ point_variant true 0x62 ∷ []) ∷ []) false false true false refl (rw good-61 (rw good-62 refl)) refl refl
 
 pub with_entries-from_capital : with_entries Two [] (range_entries false 0x5A 0x61) ≡ Err BadClass
 unfolding point_text

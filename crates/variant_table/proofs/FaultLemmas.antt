@@ -9,10 +9,11 @@ use Rattle.variant_table.specs.Faults.{LineFault, Limit, Syntax, BadClass, SameV
 use Rattle.variant_table.specs.Entries.{Entry, TableValue}
 use Rattle.variant_table.specs.Limits.{entry_limit}
 use Rattle.variant_table.specs.Conditions.{is_too_long, is_text_too_long, is_over_limit, has_bad_class, has_repeat, has_source_in}
+use Rattle.variant_table.specs.Forms.{SpellsEntries}
 use Rattle.variant_table.specs.Texts.{LineSpells, Condition, too_long, no_form, over_limit, bad_class, same_variant, same_source, order_of, fault_of, Holds, SpellsSuch, IsLineFault}
 use Rattle.variant_table.specs.Reading.{with_entries, with_line, with_raw_line}
 use Rattle.variant_table.proofs.ExampleLemmas.{with_entries-by}
-use Rattle.variant_table.proofs.FormLemmas.{Spells, skipped, of_entries, formless, form_of, with_line-skipped, with_line-entries, with_line-formless, LineSpells-skipped, spelling-entries, spelling-skipped, spelling-formless}
+use Rattle.variant_table.proofs.FormLemmas.{skipped, of_entries, formless, form_of, with_line-skipped, with_line-entries, with_line-formless, LineSpells-skipped, spelling-entries, spelling-skipped, spelling-formless}
 
 -- ---- the fault of a line
 
@@ -29,10 +30,10 @@ contradicts b e f = let g : true ≡ false = sym e ∙ f in cc
 
 module _ (bytes : ℕ) (table : TableValue) (line : List ℕ) where
   -- no test is true of the entries of a line, where it is false of those that it was read as
-  never : (es : List Entry) → Spells table.version (strip_carriage_return line) es → (test : List Entry → Bool) → test es ≡ false → SpellsSuch table.version line test → ⊥
+  never : (es : List Entry) → SpellsEntries table.version (strip_carriage_return line) es → (test : List Entry → Bool) → test es ≡ false → SpellsSuch table.version line test → ⊥
   never es h test is_false s = contradicts (test es) (ap test (sym (spelling-entries table.version (strip_carriage_return line) s.0 es h s.1)) ∙ s.2) is_false
 
-  such : (es : List Entry) → Spells table.version (strip_carriage_return line) es → (test : List Entry → Bool) → test es ≡ true → SpellsSuch table.version line test
+  such : (es : List Entry) → SpellsEntries table.version (strip_carriage_return line) es → (test : List Entry → Bool) → test es ≡ true → SpellsSuch table.version line test
   such es h test is_true = (es, inr (inr h), is_true)
 
   err_is : (f g : LineFault) (r : Result (List Entry) LineFault) → r ≡ Err f → r ≡ Err g → f ≡ g
@@ -49,7 +50,7 @@ module _ (bytes : ℕ) (table : TableValue) (line : List ℕ) where
   unfolding with_raw_line
   raw_line-long h = ap (λ b. cond b (Err Limit) (with_line table.version table.entries (strip_carriage_return line))) h
 
-  module _ (es : List Entry) (h : Spells table.version (strip_carriage_return line) es) (short : is_too_long table.version bytes line ≡ false) where
+  module _ (es : List Entry) (h : SpellsEntries table.version (strip_carriage_return line) es) (short : is_too_long table.version bytes line ≡ false) where
     earlier2 : (d : Condition) → order_of d < 3 → Holds bytes table line d → ⊥
     earlier2 too_long l k = contradicts (is_too_long table.version bytes line) k short
     earlier2 no_form l k = k es (inr (inr h))
@@ -121,15 +122,15 @@ module _ (bytes : ℕ) (table : TableValue) (line : List ℕ) where
   -- ---- the other way
 
   -- a test that is true of the entries of a line is true of those that it is read as
-  test_of : (es : List Entry) → Spells table.version (strip_carriage_return line) es → (test : List Entry → Bool) → SpellsSuch table.version line test → test es ≡ true
+  test_of : (es : List Entry) → SpellsEntries table.version (strip_carriage_return line) es → (test : List Entry → Bool) → SpellsSuch table.version line test → test es ≡ true
   test_of es h test s = ap test (sym (spelling-entries table.version (strip_carriage_return line) s.0 es h s.1)) ∙ s.2
 
-  test_false : (es : List Entry) → Spells table.version (strip_carriage_return line) es → (test : List Entry → Bool) → (SpellsSuch table.version line test → ⊥) → test es ≡ false
+  test_false : (es : List Entry) → SpellsEntries table.version (strip_carriage_return line) es → (test : List Entry → Bool) → (SpellsSuch table.version line test → ⊥) → test es ≡ false
   test_false es h test never_so = false_from_ne_true (test es) (λ is_true. never_so (such es h test is_true))
 
   -- a line that spells entries of which a test is true has an entry or a range
   by_entries : (f : LineFault) (test : List Entry → Bool) → SpellsSuch table.version line test → test [] ≡ false
-      → ((es : List Entry) → Spells table.version (strip_carriage_return line) es → test es ≡ true → with_entries table.version table.entries es ≡ Err f)
+      → ((es : List Entry) → SpellsEntries table.version (strip_carriage_return line) es → test es ≡ true → with_entries table.version table.entries es ≡ Err f)
       → with_line table.version table.entries (strip_carriage_return line) ≡ Err f
   by_entries f test s empty at = elim (form_of table.version (strip_carriage_return line)) [
     | skipped k ↦ absurd (contradicts (test []) (ap test (sym (spelling-skipped table.version (strip_carriage_return line) s.0 k s.1)) ∙ s.2) empty)

@@ -3,13 +3,15 @@ use Rattle.std.proofs.Common.{◌≡◌, ℕ, zero, suc, ◌+◌, ◌-◌, ◌<�
 use Rattle.std.specs.Prelude.{slice_get, nat_lt}
 use Rattle.std.specs.List.{AllByRecursion, list_any}
 use Rattle.std.proofs.lemmas.Bool.{ltb-false, or_parts}
-use Rattle.variant_table.specs.Entries.{Variant, Entry, sequences_in, replacements}
-use Rattle.variant_table.specs.Notation.{mark_tokens, HasNoEmptySequence}
-use Rattle.variant_table.specs.Canonical.{point_text, tokens_text, sequence_text, separator, canonical_line, canonical_text}
+use Rattle.variant_table.specs.Entries.{Variant, Entry, sequences_in, replacements, entry_from}
+use Rattle.variant_table.specs.Canonical.{separator, canonical_line, canonical_text}
 use Rattle.variant_table.specs.Conditions.{is_too_large}
-use Rattle.variant_table.specs.Reading.{entry_from}
-use Rattle.variant_table.proofs.WritingLemmas.{further_text, further_more, variant_text, variant_text-is, variants_text, variants_more, canonical_line-is, slice_get-within}
+use Rattle.variant_table.proofs.WritingLemmas.{further_text, sequence_text-is, further_more, variant_text, variants_text, variants_more, canonical_line-is, slice_get-within}
 use Rattle.variant_table.proofs.EntryLemmas.{replacements-entry_from}
+use Rattle.variant_table.specs.inner.Held.{HasNoEmptySequence}
+use Rattle.ruleset_text.specs.Canonical.{point_text}
+use Rattle.ruleset_text.specs.EntryText.{sequence_text}
+use Rattle.ruleset_text.specs.EntryText.{mark_text}
 
 -- ---- a sequence
 
@@ -19,7 +21,7 @@ length-further_next s i l = omega (arith, ap length (further_more s i l), length
 
 pub length-further : (s : List ℕ) → 0 < length s → length (further_text s) ≡ length (sequence_text s) + 1
 length-further [] l = absurd (omega (arith, l))
-length-further (c ∷ points) l = omega arith
+length-further (c ∷ points) l = omega (arith, ap length (sequence_text-is c points), length-append (point_text c) (further_text points))
 
 -- ---- an entry
 
@@ -55,14 +57,14 @@ variant_before [] n v l e = absurd cc
 variant_before (x ∷ ss) zero v l e = absurd (omega (arith, l))
 variant_before (x ∷ ss) (suc n) v l e = ap (slice_get ss) (let same : suc n - 1 ≡ n = omega arith in same) ∙ e
 
-pub one_mark : (blocked : Bool) → length (tokens_text (mark_tokens blocked)) ≤ 1
+pub one_mark : (blocked : Bool) → length (mark_text blocked) ≤ 1
 one_mark true = omega arith
 one_mark false = omega arith
 
 -- each variant has its mark, and one byte more of the separator before it
 pub length-variants_next : (ss : List Variant) (n : ℕ) (v : Variant) → 1 ≤ n → slice_get ss n ≡ Some v
     → length (variants_text (take (n + 1 - 1) (entry_from ss).variants))
-    ≡ length (variants_text (take (n - 1) (entry_from ss).variants)) + (length (sequence_text v.sequence) + 1 + length (tokens_text (mark_tokens v.blocked)))
+    ≡ length (variants_text (take (n - 1) (entry_from ss).variants)) + (length (sequence_text v.sequence) + 1 + length (mark_text v.blocked))
 length-variants_next ss n v l e =
     let vs : List Variant = (entry_from ss).variants in
     let at : slice_get vs (n - 1) ≡ Some v = variant_before ss n v l e in
@@ -72,17 +74,16 @@ length-variants_next ss n v l e =
       ap (λ k. length (variants_text (take k vs))) count,
       ap length (variants_more vs (n - 1) v at (slice_get-within vs (n - 1) v at)),
       length-append (variants_text (take (n - 1) vs)) (separator (n - 1) ∷ variant_text v),
-      ap length (variant_text-is v),
-      length-append (tokens_text (mark_tokens v.blocked)) (sequence_text v.sequence),
+      length-append (mark_text v.blocked) (sequence_text v.sequence),
     )
 
-pub length-one_line : (e : Entry) → length (canonical_text (e ∷ [])) ≡ length (tokens_text (mark_tokens e.outside)) + length (sequence_text e.source) + 1 + length (variants_text e.variants)
+pub length-one_line : (e : Entry) → length (canonical_text (e ∷ [])) ≡ length (mark_text e.outside) + length (sequence_text e.source) + 1 + length (variants_text e.variants)
 length-one_line e =
     omega (
       arith,
       length-append (canonical_line e ++ 10 ∷ []) [],
       length-append (canonical_line e) (10 ∷ []),
       ap length (canonical_line-is e),
-      length-append (tokens_text (mark_tokens e.outside)) (sequence_text e.source ++ variants_text e.variants),
-      length-append (sequence_text e.source) (variants_text e.variants),
+      length-append (mark_text e.outside ++ sequence_text e.source) (variants_text e.variants),
+      length-append (mark_text e.outside) (sequence_text e.source),
     )

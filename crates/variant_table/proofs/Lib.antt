@@ -1,15 +1,11 @@
 -- The limits of the versions.
 pub mod LimitLemmas
--- One element of a list, and what follows it.
+-- One element of a list, and what follows it; a fact about a failed call.
 pub mod ListLemmas
--- The first token of a line.
-pub mod TokenLemmas
 -- A blank line or a comment.
 pub mod SkipLemmas
 -- Parts of a vector that grows.
 pub mod PartLemmas
--- The sequences of an entry, token by token.
-pub mod DraftLemmas
 -- Entries as spans of a list of sequences.
 pub mod EntryLemmas
 -- Reading line by line.
@@ -18,12 +14,8 @@ pub mod ReadLemmas
 pub mod RulesetLemmas
 -- The entries at a place, one length after the other.
 pub mod PlaceLemmas
--- Hexadecimal digits.
-pub mod HexLemmas
--- What spells tokens is cut into them.
-pub mod SpelledLemmas
--- What is read as an entry spells it.
-pub mod CutLemmas
+-- Sources and variants of a form, one after another.
+pub mod FormSteps
 -- The form of a line: skipped, the line of an entry or of a range, or none.
 pub mod FormLemmas
 -- Entries without a fault are those of a well-formed table.

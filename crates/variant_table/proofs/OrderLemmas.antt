@@ -15,11 +15,10 @@ use Rattle.std.proofs.lemmas.List.Edits.{length-insert, get_or-insert_at, get_or
 use Rattle.std.proofs.lemmas.List.Elements.{All-get_or, All-from_recursion}
 use Rattle.std.proofs.lemmas.List.FromFn.{length-range_with_len, get_or-range_with_len}
 use Rattle.std.proofs.lemmas.List.Sorted.{All-permutation, Contains-permutation, length_permutation, IsPermutation-insert, IsPermutation-push_more}
-use Rattle.variant_table.specs.Entries.{Entry}
+use Rattle.variant_table.specs.Entries.{Entry, entry_from}
 use Rattle.variant_table.specs.Conditions.{has_source_in}
 use Rattle.variant_table.specs.inner.Order.{source_at, IsOrderOf, IsGapFor, begins_at, HasNoLonger}
 use Rattle.variant_table.specs.Places.{entry_with}
-use Rattle.variant_table.specs.Reading.{entry_from}
 use Rattle.variant_table.proofs.BeginningLemmas.{entry_with-found, entry_with-of}
 
 abbrev source_cmp : List ℕ → List ℕ → Ordering

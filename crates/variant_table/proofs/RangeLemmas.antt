@@ -5,13 +5,14 @@ use Rattle.std.specs.List.{range_with_len, list_any}
 use Rattle.std.proofs.lemmas.List.{append-nil}
 use Rattle.variant_table.specs.Faults.{SameSource}
 use Rattle.variant_table.specs.Entries.{Entry}
-use Rattle.variant_table.specs.Notation.{mark_tokens}
-use Rattle.variant_table.specs.Canonical.{point_text, tokens_text, canonical_line, canonical_text}
+use Rattle.variant_table.specs.Canonical.{canonical_line, canonical_text}
 use Rattle.variant_table.specs.Conditions.{is_too_large, has_repeat, has_source_in}
 use Rattle.variant_table.specs.Ranges.{point_entry}
 use Rattle.variant_table.specs.Reading.{◌>>=◌}
 use Rattle.variant_table.specs.inner.ReadingSteps.{with_new_source, with_new_sources}
 use Rattle.variant_table.proofs.ConditionLemmas.{AreNewSources, new_range}
+use Rattle.ruleset_text.specs.Canonical.{point_text}
+use Rattle.ruleset_text.specs.EntryText.{mark_text}
 
 -- so many entries from a code point on
 abbrev pub points_from : Bool → ℕ → ℕ → List Entry
@@ -32,7 +33,7 @@ points_start o first count = same_points o (first + 0) first (count - 0) count (
 pub points_end : (o : Bool) (first count i : ℕ) → count ≤ i → points_from o (first + i) (count - i) ≡ []
 points_end o first count i l = same_points o (first + i) (first + i) (count - i) 0 refl (omega (arith, l))
 
-pub length-points_text : (o : Bool) (c : ℕ) (es : List Entry) → length (canonical_text (point_entry o c ∷ es)) ≡ length (tokens_text (mark_tokens o)) + length (point_text c) + 1 + length (canonical_text es)
+pub length-points_text : (o : Bool) (c : ℕ) (es : List Entry) → length (canonical_text (point_entry o c ∷ es)) ≡ length (mark_text o) + length (point_text c) + 1 + length (canonical_text es)
 length-points_text true c es =
     omega (arith, length-append (canonical_line (point_entry true c) ++ 10 ∷ []) (canonical_text es), length-append (canonical_line (point_entry true c)) (10 ∷ []), length-append (point_text c) [])
 length-points_text false c es =

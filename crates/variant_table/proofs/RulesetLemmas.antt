@@ -1,7 +1,7 @@
 -- Tables of version 2 as rulesets, and that no text is both.
-use Rattle.std.proofs.Common.{◌≡◌, inl, inr, ℕ, ◌+◌, ◌≤◌, Bool, true, false, cond, List, [], ◌∷◌, ◌++◌, length, Option, Some, None, Ok, Err, refl, sym, ap, ◌∙◌, arith, length-append}
+use Rattle.std.proofs.Common.{◌≡◌, inl, inr, ℕ, ◌+◌, ◌≤◌, Bool, true, false, not, cond, List, [], ◌∷◌, ◌++◌, length, Option, Some, None, Ok, Err, refl, sym, ap, ◌∙◌, arith, length-append}
 use Rattle.std.specs.Prelude.{bytes_eq}
-use Rattle.std.specs.List.{AllByRecursion}
+use Rattle.std.specs.List.{AllByRecursion, list_all}
 use Rattle.std.specs.Str.Lines.{strip_carriage_return}
 use Rattle.std.proofs.lemmas.List.Elements.{All-from_recursion, recursion_from_All}
 use Rattle.std.proofs.lemmas.Slice.Eq.{bytes_eq-Decides}
@@ -11,14 +11,16 @@ use Rattle.variant_table.specs.declared.version.Notation.TheVariants.{Table, Rul
 use Rattle.variant_table.specs.declared.version.Version.{Version}
 use Rattle.variant_table.specs.declared.version.Version.TheVariants.{One, Two, Three}
 use Rattle.variant_table.specs.Faults.{LineFault, Limit, Syntax}
+use Rattle.std.proofs.lemmas.Bool.{and_parts}
+use Rattle.ruleset_text.specs.inner.EntrySteps.{entry_in}
 use Rattle.variant_table.specs.Entries.{Entry, TableValue}
+use Rattle.variant_table.specs.Forms.{is_plain, begins_marked}
 use Rattle.variant_table.specs.Canonical.{canonical_text, head_text, version_line}
 use Rattle.variant_table.specs.Conditions.{is_too_long}
 use Rattle.variant_table.specs.WellFormed.{IsTable}
 use Rattle.variant_table.specs.Texts.{LineSpells, LinesSpell, IsTextOf}
-use Rattle.variant_table.specs.Tokens.{tokens_of}
 use Rattle.variant_table.specs.Versions.{version_of, is_version_line}
-use Rattle.variant_table.specs.Reading.{◌>>=◌, in_line, sequences_of, sequences_after, entries_of_tokens, with_line, with_raw_line, with_lines, table_from, table_in, table_of_lines}
+use Rattle.variant_table.specs.Reading.{◌>>=◌, in_line, with_line, with_raw_line, with_lines, table_from, table_in, table_of_lines}
 use Rattle.variant_table.proofs.FaultlessLemmas.{read_by, text_read, whole_no}
 
 -- ---- a table of version 2 is a ruleset once its first line says so
@@ -26,8 +28,7 @@ use Rattle.variant_table.proofs.FaultlessLemmas.{read_by, text_read, whole_no}
 line_three : (line : List ℕ) (entries : List Entry) → LineSpells Two line entries → LineSpells Three line entries
 line_three line entries (inl h) = inl h
 line_three line entries (inr (inl h)) = inr (inl h)
-line_three line entries (inr (inr (inl h))) = inr (inr (inl (h.0, h.1, tt, h.3)))
-line_three line entries (inr (inr (inr h))) = inr (inr (inr (h.0, h.1, h.2, h.3, tt, h.5)))
+line_three line entries (inr (inr h)) = inr (inr (h.0, h.1, (and_parts (list_all is_plain h.0.mapped) (not (begins_marked h.0.mapped)) h.2).0, h.3))
 
 lines_three : (lines : List (List ℕ)) (entries : List Entry) → LinesSpell Two lines entries → LinesSpell Three lines entries
 lines_three [] entries h = h
@@ -62,7 +63,7 @@ as_three lines entries h =
 
 -- the first line of a ruleset spells nothing in a table
 refused_line : with_line One [] (version_line Ruleset) ≡ Err Syntax
-unfolding point_of_hex sequences_of sequences_after entries_of_tokens with_line tokens_of
+unfolding point_of_hex entry_in with_line
 refused_line = refl
 
 refused_by : (line : List ℕ) (b : Bool) → is_too_long One 0 line ≡ b → strip_carriage_return line ≡ version_line Ruleset → (kind : LineFault) × (with_raw_line One 0 [] line ≡ Err kind)

@@ -1,28 +1,33 @@
 -- In version 1 canonical text is never longer than what was read.
-use Rattle.std.proofs.Common.{◌≡◌, inl, inr, ℕ, ◌+◌, ◌/◌, ◌%◌, ◌-◌, ◌<◌, ◌≤◌, Bool, true, false, cond, eqb, List, [], ◌∷◌, ◌++◌, length, take, refl, sym, ap, subst, ◌∙◌, arith, length-append, length-take}
-use Rattle.std.specs.Prelude.{nat_lt, slice_index}
+use Rattle.std.proofs.Common.{◌≡◌, ℕ, ◌+◌, ◌/◌, ◌%◌, ◌-◌, ◌<◌, ◌≤◌, Bool, true, false, not, ◌||◌, ◌&&◌, cond, eqb, List, [], ◌∷◌, ◌++◌, map, length, take, refl, sym, ap, subst, ◌∙◌, arith, length-append, length-take}
+use Rattle.std.specs.Prelude.{nat_lt, slice_index, is_some, Option, Some, None}
 use Rattle.std.specs.Char.{digit_value}
-use Rattle.std.specs.List.{list_all}
+use Rattle.std.specs.List.{flat_map, list_all, onto_first}
 use Rattle.idn_text.specs.Lines.{raw_lines, joined_lines, with_last_feed}
 use Rattle.std.specs.Str.Lines.{strip_carriage_return}
 use Rattle.std.specs.Str.Parse.{digits_value}
 use Rattle.std.proofs.lemmas.Bool.{ltb-true, lt-ltb, and_parts}
+use Rattle.std.proofs.lemmas.List.{append-nil}
 use Rattle.std.proofs.lemmas.List.Concat.{flat_map-append}
 use Rattle.std.proofs.lemmas.List.Sums.{sum_by-cons}
 use Rattle.idn_text.proofs.LawLemmas.{joined-raw_lines}
-use Rattle.variant_table.specs.declared.token.Token.{Token}
-use Rattle.variant_table.specs.declared.token.Token.TheVariants.{Point, Hyphen, Bar, Colon, Mark, Range, Unknown}
+use Rattle.idn_text.specs.Points.{is_hex_digit, point_of_hex}
+use Rattle.ruleset_text.specs.declared.entry_form.Condition.{Condition}
+use Rattle.ruleset_text.specs.Canonical.{four_digits, hex_digit, point_text}
+use Rattle.ruleset_text.specs.Entries.{Mapped}
+use Rattle.ruleset_text.specs.EntryText.{mark_text, sequence_text, mapped_text, variants_text, entry_text, IsForm}
+use Rattle.ruleset_text.specs.EntryWords.{Word, Point, Name, Mark, Hyphen, Bar, Colon, Comma, Range, As, When, Unless, IsWord, AreWords, point_of, mark_words, sequence_words, mapped_words, variants_words, entry_words}
+use Rattle.ruleset_text.specs.Lexemes.{is_blank, is_joined, lexemes}
+use Rattle.ruleset_text.proofs.HexLemmas.{IsHex, hex_facts, length-point_text}
 use Rattle.variant_table.specs.declared.version.Notation.{Notation}
 use Rattle.variant_table.specs.declared.version.Version.{Version}
 use Rattle.variant_table.specs.declared.version.Version.TheVariants.{One, Two, Three}
-use Rattle.idn_text.specs.Points.{is_hex_digit}
-use Rattle.variant_table.specs.Entries.{Entry}
-use Rattle.variant_table.specs.Notation.{entry_tokens, IsPointText, IsTokenText, SpellsTokens, IsEntryLine}
-use Rattle.variant_table.specs.Canonical.{four_digits, hex_digit, point_text, token_text, tokens_text, canonical_line, canonical_text, table_text}
+use Rattle.variant_table.specs.Entries.{Variant, Entry}
+use Rattle.variant_table.specs.Forms.{has_tags, is_plain, is_bare, has_form, variant_of, entry_of, entries_to, SpellsEntries, mapped_of}
+use Rattle.variant_table.specs.Canonical.{canonical_line, canonical_text, table_text}
 use Rattle.variant_table.specs.Versions.{size_of, body_of, is_version_line}
 use Rattle.variant_table.specs.Texts.{LineSpells, LinesSpell}
-use Rattle.variant_table.proofs.HexLemmas.{IsHex, hex_facts, length-point_text}
-use Rattle.variant_table.proofs.FormLemmas.{Spells, none, some, spelling_of}
+use Rattle.variant_table.proofs.FormLemmas.{none, some, spelling_of}
 
 -- ---- a point
 
@@ -69,27 +74,105 @@ digits_long (v ∷ x ∷ y ∷ z ∷ w ∷ []) c h =
     five_long c (subst (λ n. n < 1048576) h.value small)
 digits_long (u ∷ v ∷ x ∷ y ∷ z ∷ w ∷ more) c h = omega (arith, length-point_text c)
 
-point_long : (c : ℕ) (text : List ℕ) → IsPointText c text → length (point_text c) ≤ length text
-point_long c text (inl e) = digits_long text c (hex_facts text c e)
-point_long c text (inr p) =
-    let l : length (point_text c) ≤ length p.0 = digits_long p.0 c (hex_facts p.0 c p.2) in
-    elim p.1 [ inl is ↦ subst (λ t. length (point_text c) ≤ length t) (sym is) (omega (arith, l)) | inr is ↦ subst (λ t. length (point_text c) ≤ length t) (sym is) (omega (arith, l)) ]
+point_long : (c : ℕ) (lexeme : List ℕ) → point_of lexeme ≡ Some c → length (point_text c) ≤ length lexeme
+point_long c [] e = digits_long [] c (hex_facts [] c e)
+point_long c (x ∷ []) e = digits_long (x ∷ []) c (hex_facts (x ∷ []) c e)
+point_long c (x ∷ y ∷ ds) e = by_cases ((eqb x 85 || eqb x 117) && eqb y 43) e
+  where
+    by_cases : (b : Bool) → point_of_hex (cond b ds (x ∷ y ∷ ds)) ≡ Some c → length (point_text c) ≤ length (x ∷ y ∷ ds)
+    by_cases true h = omega (arith, digits_long ds c (hex_facts ds c h))
+    by_cases false h = digits_long (x ∷ y ∷ ds) c (hex_facts (x ∷ y ∷ ds) c h)
+
+-- ---- words and lexemes
+
+total : List (List ℕ) → ℕ
+total [] = 0
+total (lexeme ∷ lexemes) = length lexeme + total lexemes
+
+total_onto : (c : ℕ) (words : List (List ℕ)) → total (onto_first c words) ≡ 1 + total words
+unfolding total
+total_onto c [] = omega arith
+total_onto c (word ∷ words) = omega arith
+
+fit_step : (c : ℕ) (cs : List ℕ) (b j : Bool) → total (lexemes cs) ≤ length cs → total (cond b (lexemes cs) (cond j (onto_first c (lexemes cs)) ((c ∷ []) ∷ lexemes cs))) ≤ length (c ∷ cs)
+unfolding total
+fit_step c cs true j l = omega (arith, l)
+fit_step c cs false true l = omega (arith, l, total_onto c (lexemes cs))
+fit_step c cs false false l = omega (arith, l)
+
+-- the lexemes of a line are parts of it
+lexemes_fit : (line : List ℕ) → total (lexemes line) ≤ length line
+unfolding total
+lexemes_fit [] = omega arith
+lexemes_fit (c ∷ cs) = fit_step c cs (is_blank c) (is_joined c cs) (lexemes_fit cs)
+
+-- the text of a word of an entry without tags and conditions
+word_text : Word → List ℕ
+word_text (Point c) = point_text c
+word_text Hyphen = 45 ∷ []
+word_text Bar = 124 ∷ []
+word_text Colon = 58 ∷ []
+word_text Mark = 33 ∷ []
+word_text word = []
+
+abbrev words_text : List Word → List ℕ
+words_text words = flat_map word_text words
+
+word_long : (word : Word) (lexeme : List ℕ) → IsWord word lexeme → length (word_text word) ≤ length lexeme
+unfolding word_text
+word_long (Point c) lexeme h = point_long c lexeme h
+word_long Hyphen lexeme h = omega (arith, ap length h)
+word_long Bar lexeme h = omega (arith, ap length h)
+word_long Colon lexeme h = omega (arith, ap length h)
+word_long Mark lexeme h = omega (arith, ap length h)
+word_long (Name name) lexeme h = omega arith
+word_long Comma lexeme h = omega arith
+word_long Range lexeme h = omega arith
+word_long As lexeme h = omega arith
+word_long When lexeme h = omega arith
+word_long Unless lexeme h = omega arith
+
+words_long : (words : List Word) (others : List (List ℕ)) → AreWords words others → length (words_text words) ≤ total others
+unfolding total
+words_long [] [] h = omega arith
+words_long [] (lexeme ∷ others) h = absurd h
+words_long (word ∷ words) [] h = absurd h
+words_long (word ∷ words) (lexeme ∷ others) h = omega (arith, length-append (word_text word) (words_text words), word_long word lexeme h.0, words_long words others h.1)
+
+sequence_words-text : (s : List ℕ) → words_text (sequence_words s) ≡ sequence_text s
+unfolding word_text
+sequence_words-text [] = refl
+sequence_words-text (c ∷ []) = append-nil (point_text c)
+sequence_words-text (c ∷ d ∷ s) = ap (λ t. point_text c ++ 45 ∷ t) (sequence_words-text (d ∷ s))
+
+mark_words-text : (marked : Bool) → words_text (mark_words marked) ≡ mark_text marked
+unfolding word_text
+mark_words-text true = refl
+mark_words-text false = refl
+
+plain_words-text : (v : Variant) → words_text (mapped_words (mapped_of v) None) ≡ mapped_text (mapped_of v) None
+plain_words-text v =
+    flat_map-append word_text (mark_words v.blocked) (sequence_words v.sequence ++ [])
+    ∙ ap (λ t. t ++ words_text (sequence_words v.sequence ++ [])) (mark_words-text v.blocked)
+    ∙ ap (λ t. mark_text v.blocked ++ t) (flat_map-append word_text (sequence_words v.sequence) [] ∙ ap (λ t. t ++ []) (sequence_words-text v.sequence))
+
+variants_words-text : (v : Variant) (variants : List Variant) → words_text (variants_words (map mapped_of (v ∷ variants))) ≡ variants_text (map mapped_of (v ∷ variants))
+unfolding word_text
+variants_words-text v [] = plain_words-text v
+variants_words-text v (u ∷ variants) =
+    flat_map-append word_text (mapped_words (mapped_of v) None) (Colon ∷ variants_words (map mapped_of (u ∷ variants)))
+    ∙ ap (λ t. t ++ 58 ∷ words_text (variants_words (map mapped_of (u ∷ variants)))) (plain_words-text v)
+    ∙ ap (λ t. mapped_text (mapped_of v) None ++ 58 ∷ t) (variants_words-text u variants)
+
+entry_words-text : (source : Variant) (variants : List Variant) → words_text (entry_words (map mapped_of (source ∷ variants)) None) ≡ entry_text (map mapped_of (source ∷ variants)) None
+unfolding word_text
+entry_words-text source [] = plain_words-text source
+entry_words-text source (v ∷ variants) =
+    flat_map-append word_text (mapped_words (mapped_of source) None) (Bar ∷ variants_words (map mapped_of (v ∷ variants)))
+    ∙ ap (λ t. t ++ 124 ∷ words_text (variants_words (map mapped_of (v ∷ variants)))) (plain_words-text source)
+    ∙ ap (λ t. mapped_text (mapped_of source) None ++ 124 ∷ t) (variants_words-text v variants)
 
 -- ---- a line
-
-token_long : (token : Token) (text : List ℕ) → IsTokenText token text → length (token_text token) ≤ length text
-token_long (Point c) text t = point_long c text t
-token_long Hyphen text t = omega (arith, ap length t)
-token_long Bar text t = omega (arith, ap length t)
-token_long Colon text t = omega (arith, ap length t)
-token_long Mark text t = omega (arith, ap length t)
-token_long Range text t = omega (arith, ap length t)
-token_long Unknown text t = absurd t
-
-tokens_long : (tokens : List Token) (line : List ℕ) → SpellsTokens tokens line → length (tokens_text tokens) ≤ length line
-tokens_long [] line s = omega arith
-tokens_long (token ∷ tokens) line s =
-    omega (arith, length-append (token_text token) (tokens_text tokens), token_long token s.1 s.4, tokens_long tokens s.2 s.5, ap length s.6, length-append s.0 (s.1 ++ s.2), length-append s.1 s.2)
 
 pub length-stripped : (line : List ℕ) → (length (strip_carriage_return line) ≤ length line) × (length line ≤ length (strip_carriage_return line) + 1)
 length-stripped line = by_cases (eqb (slice_index line (length line - 1)) 13)
@@ -98,14 +181,49 @@ length-stripped line = by_cases (eqb (slice_index line (length line - 1)) 13)
     by_cases true = let count = length-take (length line - 1) line in (omega (arith, count), omega (arith, count))
     by_cases false = (omega arith, omega arith)
 
-pub canonical_line_long : (e : Entry) (line : List ℕ) → IsEntryLine e line → length (canonical_line e) ≤ length line
-canonical_line_long e line h = tokens_long (entry_tokens e) line h.1
+no_tags : (tags : List (List ℕ)) → not (has_tags tags) ≡ true → tags ≡ []
+no_tags [] h = refl
+no_tags (tag ∷ tags) h = absurd cc
+
+no_condition : (c : Option Condition) → not (is_some c) ≡ true → c ≡ None
+no_condition None h = refl
+no_condition (Some c) h = absurd cc
+
+-- what is plain is written as its variant
+plain_is : (m : Mapped) → is_bare m ≡ true → mapped_of (variant_of m) ≡ m
+plain_is m h =
+    let p = and_parts (not (has_tags m.tags)) (not (is_some m.condition)) (and_parts (is_plain m) (not m.marked) h).0 in
+    ap (λ t. record { marked = m.marked; points = m.points; tags = t; condition = None }) (sym (no_tags m.tags p.0))
+    ∙ ap (λ c. record { marked = m.marked; points = m.points; tags = m.tags; condition = c }) (sym (no_condition m.condition p.1))
+
+all_plain : (mapped : List Mapped) → list_all is_bare mapped ≡ true → map mapped_of (map variant_of mapped) ≡ mapped
+all_plain [] h = refl
+all_plain (m ∷ mapped) h =
+    let p = and_parts (is_bare m) (list_all is_bare mapped) h in
+    ap (λ x. x ∷ map mapped_of (map variant_of mapped)) (plain_is m p.0) ∙ ap (λ xs. m ∷ xs) (all_plain mapped p.1)
+
+-- the canonical text of an entry that a line spells is no longer than the line
+bare_long : (last : Option ℕ) (mapped : List Mapped) (line : List ℕ) → IsForm mapped last → AreWords (entry_words mapped last) (lexemes line) → has_form One (record { mapped = mapped; last = last }) ≡ true
+    → length (canonical_text (entries_to last mapped)) ≤ length line + 1
+bare_long (Some c) mapped line f w h = absurd (let p = (and_parts (list_all is_bare mapped) false h).1 in cc)
+bare_long None [] line f w h = absurd f
+bare_long None (m ∷ mapped) line f w h =
+    let plain = all_plain (m ∷ mapped) (and_parts (list_all is_bare (m ∷ mapped)) true h).0 in
+    let text : words_text (entry_words (m ∷ mapped) None) ≡ canonical_line (entry_of (m ∷ mapped)) =
+    ap (λ ms. words_text (entry_words ms None)) (sym plain) ∙ entry_words-text (variant_of m) (map variant_of mapped) in
+    omega (
+      arith,
+      ap length text,
+      words_long (entry_words (m ∷ mapped) None) (lexemes line) w,
+      lexemes_fit line,
+      length-append (canonical_line (entry_of (m ∷ mapped)) ++ 10 ∷ []) [],
+      length-append (canonical_line (entry_of (m ∷ mapped))) (10 ∷ []),
+    )
 
 -- in version 1 no line spells a range
-spelled_long : (line : List ℕ) (entries : List Entry) → Spells One (strip_carriage_return line) entries → length (canonical_text entries) ≤ length line + 1
-spelled_long line entries (inl h) =
-    omega (arith, ap (λ es. length (canonical_text es)) h.3, canonical_line_long h.0 (strip_carriage_return line) h.1, (length-stripped line).0, length-append (canonical_line h.0 ++ 10 ∷ []) [], length-append (canonical_line h.0) (10 ∷ []))
-spelled_long line entries (inr h) = absurd h.4
+spelled_long : (line : List ℕ) (entries : List Entry) → SpellsEntries One (strip_carriage_return line) entries → length (canonical_text entries) ≤ length line + 1
+spelled_long line entries h =
+    omega (arith, ap (λ es. length (canonical_text es)) h.3, bare_long h.0.last h.0.mapped (strip_carriage_return line) h.1.0 h.1.1 h.2, (length-stripped line).0)
 
 line_long : (line : List ℕ) (entries : List Entry) → LineSpells One (strip_carriage_return line) entries → length (canonical_text entries) ≤ length line + 1
 line_long line entries s = elim (spelling_of One (strip_carriage_return line) entries s) [ none k is ↦ omega (arith, ap (λ es. length (canonical_text es)) is) | some h ↦ spelled_long line entries h ]

@@ -1,8 +1,8 @@
 -- A blank line or a comment.
 use Rattle.std.proofs.Common.{◌≡◌, ℕ, suc, ◌+◌, Bool, true, false, not, cond, eqb, List, [], ◌∷◌, drop, refl, ap, ◌∙◌, arith}
-use Rattle.variant_table.specs.Tokens.{is_blank}
 use Rattle.variant_table.specs.Reading.{is_skipped}
-use Rattle.variant_table.proofs.TokenLemmas.{first_place}
+use Rattle.ruleset_text.specs.Lexemes.{is_blank}
+use Rattle.ruleset_text.proofs.LexemeLemmas.{first_place}
 
 skipped_step : (c : ℕ) (cs : List ℕ) (b : Bool) → is_blank c ≡ b → is_skipped cs ≡ is_skipped (drop (first_place cs) cs) → is_skipped (c ∷ cs) ≡ is_skipped (drop (cond (not (not b)) (1 + first_place cs) 0) (c ∷ cs))
 skipped_step c cs true e rest =

@@ -10,19 +10,17 @@ use Rattle.std.proofs.lemmas.List.{append-nil, map-append, length-map}
 use Rattle.std.proofs.lemmas.List.Elements.{All-from_recursion, recursion_from_All}
 use Rattle.variant_table.specs.declared.version.Version.{Version}
 use Rattle.variant_table.specs.declared.version.Version.TheVariants.{One, Two, Three}
-use Rattle.variant_table.specs.Canonical.{tokens_text, sequence_text, canonical_line, canonical_text, head_text}
+use Rattle.variant_table.specs.Canonical.{canonical_line, canonical_text, head_text}
 use Rattle.variant_table.specs.Conditions.{repeats, has_source_in}
-use Rattle.variant_table.specs.Entries.{Variant, Entry, IsOfVersion, sequences_in, replacements, unblocked_entry, unblocked, has_blocked}
-use Rattle.variant_table.specs.Notation.{mark_tokens, variant_tokens, further_variants}
-use Rattle.variant_table.specs.Canonical.{token_text}
+use Rattle.variant_table.specs.Entries.{Variant, Entry, IsOfVersion, sequences_in, replacements, unblocked_entry, unblocked, has_blocked, entry_from}
 use Rattle.variant_table.specs.inner.Order.{IsOrderOf}
-use Rattle.variant_table.specs.Reading.{entry_from}
 use Rattle.variant_table.specs.WellFormed.{IsSequence, IsEntry, IsTable}
-use Rattle.std.proofs.lemmas.List.Concat.{flat_map-append}
 use Rattle.variant_table.proofs.ConditionLemmas.{AreNewSources, distinct_from, no_repeats, distinct_sources, new_sources, no_sources}
 use Rattle.variant_table.proofs.ListLemmas.{take_next}
 use Rattle.variant_table.proofs.EntryLemmas.{variant_marked}
-use Rattle.variant_table.proofs.WritingLemmas.{variant_text, variants_text, canonical_line-is}
+use Rattle.variant_table.proofs.WritingLemmas.{variant_text, further_variants_text, variants_text, canonical_line-is}
+use Rattle.ruleset_text.specs.EntryText.{sequence_text}
+use Rattle.ruleset_text.specs.EntryText.{mark_text}
 
 -- the variants that are not blocked
 abbrev pub free : List Variant → List Variant
@@ -162,20 +160,20 @@ new_kept before (e ∷ t) h = (has_kept before e ∙ h.0, subst (λ x. AreNewSou
 
 -- ---- the canonical text is no longer
 
-length-further_variants : (v : Variant) (variants : List Variant) → length (tokens_text (further_variants (v ∷ variants))) ≡ length (variant_text v) + 1 + length (tokens_text (further_variants variants))
-length-further_variants v variants = omega (arith, ap length (flat_map-append token_text (variant_tokens v) (further_variants variants)), length-append (variant_text v) (tokens_text (further_variants variants)))
+length-further_variants : (v : Variant) (variants : List Variant) → length (further_variants_text (v ∷ variants)) ≡ length (variant_text v) + 1 + length (further_variants_text variants)
+length-further_variants v variants = omega (arith, length-append (variant_text v) (further_variants_text variants))
 
-further_free : (variants : List Variant) → length (tokens_text (further_variants (free variants))) ≤ length (tokens_text (further_variants variants))
+further_free : (variants : List Variant) → length (further_variants_text (free variants)) ≤ length (further_variants_text variants)
 further_free [] = omega arith
 further_free (v ∷ variants) = by_mark v.blocked (further_free variants)
   where
-    by_mark : (b : Bool) → length (tokens_text (further_variants (free variants))) ≤ length (tokens_text (further_variants variants))
-        → length (tokens_text (further_variants (cond (not b) (v ∷ free variants) (free variants)))) ≤ length (tokens_text (further_variants (v ∷ variants)))
+    by_mark : (b : Bool) → length (further_variants_text (free variants)) ≤ length (further_variants_text variants)
+        → length (further_variants_text (cond (not b) (v ∷ free variants) (free variants))) ≤ length (further_variants_text (v ∷ variants))
     by_mark true rest = omega (arith, rest, length-further_variants v variants)
     by_mark false rest = omega (arith, rest, length-further_variants v variants, length-further_variants v (free variants))
 
 -- '|' and ':' have one byte each
-length-variants_text : (variants : List Variant) → length (variants_text variants) ≡ length (tokens_text (further_variants variants))
+length-variants_text : (variants : List Variant) → length (variants_text variants) ≡ length (further_variants_text variants)
 length-variants_text [] = refl
 length-variants_text (v ∷ variants) = refl
 
@@ -185,10 +183,8 @@ line_kept e =
       arith,
       ap length (canonical_line-is (unblocked_entry e)),
       ap length (canonical_line-is e),
-      length-append (tokens_text (mark_tokens e.outside)) (sequence_text e.source ++ variants_text (free e.variants)),
-      length-append (tokens_text (mark_tokens e.outside)) (sequence_text e.source ++ variants_text e.variants),
-      length-append (sequence_text e.source) (variants_text (free e.variants)),
-      length-append (sequence_text e.source) (variants_text e.variants),
+      length-append (mark_text e.outside ++ sequence_text e.source) (variants_text (free e.variants)),
+      length-append (mark_text e.outside ++ sequence_text e.source) (variants_text e.variants),
       length-variants_text (free e.variants),
       length-variants_text e.variants,
       further_free e.variants,

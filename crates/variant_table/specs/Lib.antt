@@ -1,14 +1,13 @@
 pub mod Entries
-pub mod Notation
 pub mod Canonical
 pub mod WellFormed
 pub mod Versions
 pub mod Limits
 pub mod Ranges
+pub mod Forms
 pub mod Conditions
 pub mod Texts
 pub mod Places
-pub mod Tokens
 pub mod Reading
 pub mod Faults
 pub mod Gaps

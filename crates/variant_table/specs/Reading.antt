@@ -1,17 +1,16 @@
 -- Reading as a function, line by line over the table so far.
-use Rattle.std.specs.Prelude.{ℕ, ◌+◌, Bool, true, false, ◌==◌, nat_le, Option, Some, None, List, [], ◌∷◌, ◌++◌, length, Result, Ok, Err, if◌then◌else◌}
+use Rattle.std.specs.Prelude.{ℕ, ◌+◌, Bool, true, ◌==◌, Option, Some, None, List, [], ◌∷◌, ◌++◌, length, Result, Ok, Err, if◌then◌else◌}
 use Rattle.std.specs.List.{list_any}
 use Rattle.std.specs.Str.Lines.{strip_carriage_return}
 use Rattle.idn_text.specs.Lines.{raw_lines}
-use Rattle.variant_table.specs.declared.token.Token.{Token}
-use Rattle.variant_table.specs.declared.token.Token.TheVariants.{Point, Hyphen, Bar, Colon, Mark, Range}
 use Rattle.variant_table.specs.Faults.{LineFault, Limit, Syntax, BadClass, SameVariant, SameSource}
-use Rattle.variant_table.specs.Tokens.{is_blank, tokens_of}
+use Rattle.ruleset_text.specs.Entries.{EntryForm}
+use Rattle.ruleset_text.specs.inner.EntrySteps.{entry_in}
+use Rattle.ruleset_text.specs.Lexemes.{is_blank, lexemes}
 use Rattle.variant_table.specs.declared.version.Notation.{Notation}
 use Rattle.variant_table.specs.declared.version.Version.{Version}
-use Rattle.variant_table.specs.declared.version.Version.TheVariants.{One, Two, Three}
-use Rattle.variant_table.specs.Entries.{Variant, Entry, TableValue}
-use Rattle.variant_table.specs.Ranges.{range_entries}
+use Rattle.variant_table.specs.Entries.{Entry, TableValue}
+use Rattle.variant_table.specs.Forms.{has_form, entries_of}
 use Rattle.variant_table.specs.Versions.{version_of, head_of, body_of, size_of}
 use Rattle.variant_table.specs.Conditions.{is_too_long, is_over_limit, has_bad_class, has_repeat, has_source_in}
 
@@ -23,74 +22,21 @@ abbrev pub ◌>>=◌ : {A B F : Type 0} → Result A F → (A → Result B F) �
 (Ok x) >>= f = f x
 (Err e) >>= f = Err e
 
--- ---- the entry of a line
+-- ---- the entries of a line
 
 -- nothing but blanks, or a comment
 abbrev pub is_skipped : List ℕ → Bool
 is_skipped [] = true
 is_skipped (c ∷ cs) = if is_blank c then is_skipped cs else c == 35
 
--- the entry that a list of sequences is: the source first, which is outside if it has a mark
-abbrev pub entry_from : List Variant → Entry
-entry_from [] = record { source = []; outside = false; variants = [] }
-entry_from (first ∷ variants) = record { source = first.sequence; outside = first.blocked; variants = variants }
+-- the entries of a form, if there is one and the version has it
+abbrev pub entries_by : Version → Option EntryForm → Result (List Entry) LineFault
+entries_by version None = Err Syntax
+entries_by version (Some form) = if has_form version form then Ok (entries_of form) else Err Syntax
 
--- the sequences of an entry with their marks, the source first
-abbrev pub whole : Entry → List Variant
-whole e = record { sequence = e.source; blocked = e.outside } ∷ e.variants
-
--- a sequence of one code point, and one with a further code point
-abbrev pub begun : Bool → ℕ → Variant
-begun blocked c = record { sequence = c ∷ []; blocked = blocked }
-
-abbrev pub longer : Variant → ℕ → Variant
-longer v c = record { sequence = v.sequence ++ c ∷ []; blocked = v.blocked }
-
--- after a point: the sequences that are complete, and the one that this point may complete
-unfoldable pub sequences_after : Bool → List Variant → Variant → List Token → Result (List Variant) LineFault
-sequences_after in_variants ended current [] = Ok (ended ++ current ∷ [])
-sequences_after in_variants ended current (Hyphen ∷ Point c ∷ tokens) = sequences_after in_variants ended (longer current c) tokens
-sequences_after false ended current (Bar ∷ Point c ∷ tokens) = sequences_after true (ended ++ current ∷ []) (begun false c) tokens
-sequences_after false ended current (Bar ∷ Mark ∷ Point c ∷ tokens) = sequences_after true (ended ++ current ∷ []) (begun true c) tokens
-sequences_after true ended current (Colon ∷ Point c ∷ tokens) = sequences_after true (ended ++ current ∷ []) (begun false c) tokens
-sequences_after true ended current (Colon ∷ Mark ∷ Point c ∷ tokens) = sequences_after true (ended ++ current ∷ []) (begun true c) tokens
-sequences_after in_variants ended current (token ∷ tokens) = Err Syntax
-
--- the sequences of an entry's tokens, the source first
-unfoldable pub sequences_of : List Token → Result (List Variant) LineFault
-sequences_of (Point c ∷ tokens) = sequences_after false [] (begun false c) tokens
-sequences_of (Mark ∷ Point c ∷ tokens) = sequences_after false [] (begun true c) tokens
-sequences_of tokens = Err Syntax
-
--- some sequence has a mark that the version doesn't have there
-abbrev pub has_mark_out_of_place : Version → List Variant → Bool
-has_mark_out_of_place One sequences = list_any (λ v. v.blocked) sequences
-has_mark_out_of_place Two sequences = (entry_from sequences).outside
-has_mark_out_of_place Three sequences = false
-
--- the entry of these sequences as a list of one, if the version has such an entry
-abbrev pub entry_alone : Version → List Variant → Result (List Entry) LineFault
-entry_alone version sequences = if has_mark_out_of_place version sequences then Err Syntax else Ok (entry_from sequences ∷ [])
-
--- the same for the sequences of tokens
-abbrev pub entry_of_tokens : Version → List Token → Result (List Entry) LineFault
-entry_of_tokens version tokens = sequences_of tokens >>= entry_alone version
-
--- the range that tokens spell, if the version has such ranges: whether it is outside, and its ends
-abbrev pub range_ends : Version → List Token → Option (Bool × ℕ × ℕ)
-range_ends Two (Point first ∷ Range ∷ Point last ∷ []) = Some (false, first, last)
-range_ends Three (Point first ∷ Range ∷ Point last ∷ []) = Some (false, first, last)
-range_ends Three (Mark ∷ Point first ∷ Range ∷ Point last ∷ []) = Some (true, first, last)
-range_ends version tokens = None
-
--- the entries of tokens, given their range or none
-abbrev pub entries_by : Version → List Token → Option (Bool × ℕ × ℕ) → Result (List Entry) LineFault
-entries_by version tokens None = entry_of_tokens version tokens
-entries_by version tokens (Some (outside, first, last)) = if nat_le first last then Ok (range_entries outside first last) else Err Syntax
-
--- the entries of a line's tokens
-unfoldable pub entries_of_tokens : Version → List Token → Result (List Entry) LineFault
-entries_of_tokens version tokens = entries_by version tokens (range_ends version tokens)
+-- the entries of a line's lexemes
+abbrev pub entries_in : Version → List (List ℕ) → Result (List Entry) LineFault
+entries_in version words = entries_by version (entry_in words)
 
 -- ---- the table so far
 
@@ -107,7 +53,7 @@ with_entries version table entries =
 unfoldable pub with_line : Version → List Entry → List ℕ → Result (List Entry) LineFault
 with_line version table line =
     if is_skipped line then Ok table else
-    (entries_of_tokens version (tokens_of line) >>= with_entries version table)
+    (entries_in version (lexemes line) >>= with_entries version table)
 
 -- the same for a line as it stands in the text, after so many bytes
 unfoldable pub with_raw_line : Version → ℕ → List Entry → List ℕ → Result (List Entry) LineFault

@@ -1,6 +1,6 @@
 -- What a text spells: one table, or one first fault.
 use Rattle.std.specs.Prelude.{◌≡◌, ◌⊎◌, ℕ, ◌+◌, ◌≤◌, ◌<◌, Bool, IsTrue, Some, None, List, [], ◌∷◌, ◌++◌, length, All}
-use Rattle.std.specs.List.{list_any}
+use Rattle.std.specs.List.{AllByRecursion, list_any}
 use Rattle.std.specs.Str.Lines.{strip_carriage_return}
 use Rattle.idn_text.specs.Lines.{raw_lines}
 use Rattle.variant_table.specs.Faults.{LineFault, Limit, Syntax, BadClass, SameVariant, SameSource, table_fault}
@@ -8,31 +8,27 @@ use Rattle.variant_table.specs.declared.fault.TableFault.{TableFault}
 use Rattle.variant_table.specs.declared.fault.TableFault.TheVariants.{Memory}
 use Rattle.variant_table.specs.declared.version.Notation.{Notation}
 use Rattle.variant_table.specs.declared.version.Version.{Version}
-use Rattle.variant_table.specs.Entries.{Entry, HasRanges, IsOfVersion, TableValue}
+use Rattle.ruleset_text.specs.Lexemes.{is_blank}
+use Rattle.variant_table.specs.Entries.{Entry, TableValue}
 use Rattle.variant_table.specs.Limits.{line_limit, text_limit}
-use Rattle.variant_table.specs.Ranges.{range_entries}
 use Rattle.variant_table.specs.Versions.{version_of, head_of, body_of, size_of}
-use Rattle.variant_table.specs.Notation.{AreBlanks, IsEntryLine, IsRangeLine}
+use Rattle.variant_table.specs.Forms.{SpellsEntries}
 use Rattle.variant_table.specs.WellFormed.{IsTable}
 use Rattle.variant_table.specs.Conditions.{is_too_long, is_over_limit, has_bad_class, has_repeat, has_source_in}
 
 -- ---- a line, less one carriage return at its end
 
+-- nothing but spaces and tabs
+abbrev pub AreBlanks : List ℕ → Type 0
+AreBlanks line = AllByRecursion (λ c. IsTrue (is_blank c)) line
+
 -- a comment: '#' is the first byte that is no space or tab
 abbrev pub IsComment : List ℕ → Type 0
 IsComment line = (blanks : List ℕ) × (rest : List ℕ) × AreBlanks blanks × (line ≡ blanks ++ 35 ∷ rest)
 
--- the line spells the entries of a range, as it may in version 2 and 3, and in version 3 also of an outside one
-abbrev pub SpellsRange : Version → List ℕ → List Entry → Type 0
-SpellsRange version line entries =
-    (outside : Bool) × (first : ℕ) × (last : ℕ) × IsRangeLine outside first last line × HasRanges version outside × (entries ≡ range_entries outside first last)
-
--- the entries that a line spells: none by a blank line or a comment, one by the line of an entry, and those of a range
+-- the entries that a line spells: none by a blank line or a comment, and those of an entry or a range
 abbrev pub LineSpells : Version → List ℕ → List Entry → Type 0
-LineSpells version line entries =
-    (AreBlanks line × (entries ≡ [])) ⊎ (IsComment line × (entries ≡ []))
-    ⊎ ((e : Entry) × IsEntryLine e line × IsOfVersion version e × (entries ≡ e ∷ []))
-    ⊎ SpellsRange version line entries
+LineSpells version line entries = (AreBlanks line × (entries ≡ [])) ⊎ (IsComment line × (entries ≡ [])) ⊎ SpellsEntries version line entries
 
 -- ---- a text without a fault
 

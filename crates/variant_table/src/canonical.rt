@@ -2,8 +2,9 @@
 ghost use Rattle.std.specs.Prelude.{◌≡◌, ◌+◌, ◌<◌, ◌≤◌, [], ◌∷◌, ◌++◌, length, OnOk};
 ghost use Rattle.arrayvec.specs.ArrayVec.{array_vec_len};
 ghost use Rattle.idn_text.specs.Points.{AreScalarValues, IsScalarValue};
+ghost use Rattle.ruleset_text.specs.Canonical as points;
+ghost use Rattle.ruleset_text.specs.EntryText as entries;
 ghost use Rattle.variant_table.specs.Canonical as text;
-ghost use Rattle.variant_table.specs.Notation.{mark_tokens};
 ghost use Rattle.variant_table.specs.WellFormed.{IsEntry};
 
 use crate::entry::Entry;
@@ -18,7 +19,7 @@ pub fn write_sequence(sequence: &[u32], out: &mut ArrayVec<u8, 64>)
     requires filled { 1 ≤ length sequence.now }
     requires short { length sequence.now ≤ 8 }
     requires points { AreScalarValues sequence.now }
-    ensures { out.new.items ≡ text.sequence_text sequence.now }
+    ensures { out.new.items ≡ entries.sequence_text sequence.now }
 {
     out.clear();
     let [first, others @ ..] = sequence else {
@@ -32,11 +33,11 @@ pub fn write_sequence(sequence: &[u32], out: &mut ArrayVec<u8, 64>)
 }
 
 /// Appends a code point.
-#[tactic(auto, unfolding(crate::specs::Canonical::point_text))]
+#[tactic(auto, unfolding(ruleset_text::specs::Canonical::point_text))]
 fn push_point(out: &mut ArrayVec<u8, 64>, point: u32)
     requires point { IsScalarValue point }
     requires room { array_vec_len out.old ≤ 58 }
-    ensures { out.new.items ≡ out.old.items ++ text.point_text point }
+    ensures { out.new.items ≡ out.old.items ++ points.point_text point }
 {
     if point < 0x1_0000 {
         push_four(out, point);
@@ -53,7 +54,7 @@ fn push_point(out: &mut ArrayVec<u8, 64>, point: u32)
 /// Appends the last four digits of a number.
 fn push_four(out: &mut ArrayVec<u8, 64>, number: u32)
     requires { array_vec_len out.old ≤ 60 }
-    ensures { out.new.items ≡ out.old.items ++ text.four_digits number }
+    ensures { out.new.items ≡ out.old.items ++ points.four_digits number }
 {
     push_digit(out, number / 0x1000 % 16);
     push_digit(out, number / 0x100 % 16);
@@ -64,7 +65,7 @@ fn push_four(out: &mut ArrayVec<u8, 64>, number: u32)
 fn push_digit(out: &mut ArrayVec<u8, 64>, value: u32)
     requires digit { value < 16 }
     requires room { array_vec_len out.old < 64 }
-    ensures items { out.new.items ≡ out.old.items ++ text.hex_digit value ∷ [] }
+    ensures items { out.new.items ≡ out.old.items ++ points.hex_digit value ∷ [] }
     ensures len { array_vec_len out.new ≡ array_vec_len out.old + 1 }
 {
     let digit = if value < 10 {
@@ -112,7 +113,7 @@ pub fn push_entry(out: &mut Vec<u8>, entry: &Entry) -> Result<(), AllocError>
 
 /// Appends the mark of a blocked variant or an outside source, if it is one.
 fn push_mark(out: &mut Vec<u8>, marked: bool) -> Result<(), AllocError>
-    ensures { OnOk result (out.new.items ≡ out.old.items ++ text.tokens_text (mark_tokens marked)) }
+    ensures { OnOk result (out.new.items ≡ out.old.items ++ entries.mark_text marked) }
 {
     if marked {
         out.push(b'!')?;

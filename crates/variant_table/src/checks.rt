@@ -2,9 +2,8 @@
 ghost use Rattle.std.specs.Prelude.{◌≡◌, ◌+◌, ◌<◌, Bool, ◌≤◌, ◌^◌, length, map, bytes_eq, drop, IfOk};
 ghost use Rattle.std.specs.List.{list_any, range_with_len};
 ghost use Rattle.variant_table.specs.Conditions as conditions;
-ghost use Rattle.variant_table.specs.Entries.{sequences_in};
+ghost use Rattle.variant_table.specs.Entries.{sequences_in, entry_from};
 ghost use Rattle.variant_table.specs.Ranges.{point_entry};
-ghost use Rattle.variant_table.specs.Reading.{entry_from};
 ghost use Rattle.variant_table.specs.WellFormed.{is_table_class};
 
 use crate::sequences::Sequences;

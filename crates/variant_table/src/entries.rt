@@ -1,7 +1,6 @@
 //! Entries in memory, in the order in which they were added.
 ghost use Rattle.std.specs.Prelude.{◌≡◌, ◌<◌, [], ◌∷◌, ◌++◌, length, slice_get, Some, IfOk, OnOk, OnErr};
-ghost use Rattle.variant_table.specs.Entries.{unblocked, unblocked_entry};
-ghost use Rattle.variant_table.specs.Reading.{entry_from};
+ghost use Rattle.variant_table.specs.Entries.{unblocked, unblocked_entry, entry_from};
 
 use crate::entry::Entry;
 use crate::sequences::{Sequences, Span};

@@ -3,13 +3,14 @@ ghost use Rattle.std.specs.Prelude.{◌≡◌, ◌↔◌, ◌⊎◌, ◌≤◌, 
 ghost use Rattle.idn_text.specs.Lines.{raw_lines, with_last_feed};
 ghost use Rattle.variant_table.specs.Faults.{LineFault};
 ghost use Rattle.variant_table.specs.Canonical.{canonical_line, head_text, table_text};
-ghost use Rattle.variant_table.specs.Entries.{Variant, Entry, TableValue, IsOfVersion, unblocked};
-ghost use Rattle.variant_table.specs.Notation.{IsEntryLine};
-ghost use Rattle.variant_table.specs.Reading.{sequences_of, entries_of_tokens, entry_from, begun, whole, table_of_text};
-ghost use Rattle.variant_table.specs.Texts.{IsTextOf, IsFaultOf};
-ghost use Rattle.variant_table.specs.Tokens.{tokens_of};
+ghost use Rattle.variant_table.specs.Entries.{Entry, TableValue, IsOfVersion, unblocked};
+ghost use Rattle.ruleset_text.specs.Lexemes.{lexemes};
+ghost use Rattle.variant_table.specs.Forms.{SpellsEntries};
+ghost use Rattle.variant_table.specs.Reading.{entries_in, table_of_text};
+ghost use Rattle.variant_table.specs.Texts.{IsTextOf, IsFaultOf, LineSpells};
+ghost use Rattle.variant_table.specs.declared.version.Version.{Version};
 ghost use Rattle.variant_table.specs.Versions.{notation_of, size_of};
-ghost use Rattle.variant_table.specs.Ranges.{point_entry};
+ghost use Rattle.variant_table.specs.Ranges.{point_entry, point_variant};
 ghost use Rattle.variant_table.specs.declared.version.Notation.{Notation};
 ghost use Rattle.variant_table.specs.declared.version.Notation.TheVariants as notations;
 ghost use Rattle.variant_table.specs.declared.version.Version.TheVariants as versions;
@@ -18,19 +19,15 @@ ghost use Rattle.variant_table.specs.Places.{entries_at};
 ghost use Rattle.variant_table.specs.Faults as faults;
 ghost use Rattle.variant_table.specs.WellFormed.{IsEntry, IsWellFormed, IsTable};
 
-/// The line of an entry is read as that entry.
-pub fn entry_line_is_read()
-    ensures { (e : Entry) (line : List ℕ) → IsEntryLine e line → sequences_of (tokens_of line) ≡ Ok (whole e) }
+/// The entries that are read from the lexemes of a line are those that it spells, and where it spells none, none are read.
+pub fn reading_a_line_is_exact()
+    ensures { (version : Version) (line : List ℕ) (entries : List Entry) →
+        (entries_in version (lexemes line) ≡ Ok entries) ↔ SpellsEntries version line entries }
 {}
 
-/// What is read as an entry is a line of that entry.
-pub fn what_is_read_is_an_entry_line()
-    ensures { (line : List ℕ) (sequences : List Variant) → sequences_of (tokens_of line) ≡ Ok sequences → IsEntryLine (entry_from sequences) line }
-{}
-
-/// A line is a line of one entry at most.
-pub fn a_line_has_one_entry()
-    ensures { (line : List ℕ) (e f : Entry) → IsEntryLine e line → IsEntryLine f line → e ≡ f }
+/// A line has the entries of one entry or range at most.
+pub fn a_line_has_one_form()
+    ensures { (version : Version) (line : List ℕ) (a b : List Entry) → LineSpells version line a → LineSpells version line b → a ≡ b }
 {}
 
 /// The function that reads a text tells exactly what the definitions say of it.
@@ -92,8 +89,8 @@ pub fn gaps_of_are_the_gaps()
 
 /// Examples of version 1, which the definitions compute.
 pub fn definitions_compute_the_examples()
-    ensures read { sequences_of (tokens_of (codes "u+0061 | 0062 : 0063-0064")) ≡ Ok (begun false 97 ∷ begun false 98 ∷ record { sequence = 99 ∷ 100 ∷ []; blocked = false } ∷ []) }
-    ensures written { table_text versions.One (record { source = 97 ∷ []; outside = false; variants = begun false 98 ∷ record { sequence = 99 ∷ 100 ∷ []; blocked = false } ∷ [] } ∷ []) ≡ codes "0061|0062:0063-0064" ++ 10 ∷ [] }
+    ensures read { entries_in versions.One (lexemes (codes "u+0061 | 0062 : 0063-0064")) ≡ Ok (record { source = 97 ∷ []; outside = false; variants = point_variant false 98 ∷ record { sequence = 99 ∷ 100 ∷ []; blocked = false } ∷ [] } ∷ []) }
+    ensures written { table_text versions.One (record { source = 97 ∷ []; outside = false; variants = point_variant false 98 ∷ record { sequence = 99 ∷ 100 ∷ []; blocked = false } ∷ [] } ∷ []) ≡ codes "0061|0062:0063-0064" ++ 10 ∷ [] }
     ensures six { canonical_line (record { source = 0x10FFFF ∷ 0x4E2D ∷ []; outside = false; variants = [] }) ≡ codes "10FFFF-4E2D" }
     ensures syntax { table_of_text notations.Table (codes "0061|") ≡ Err (1, faults.Syntax) }
     ensures range { table_of_text notations.Table (codes "0061..0063") ≡ Err (1, faults.Syntax) }
@@ -105,9 +102,9 @@ pub fn definitions_compute_the_examples()
     ensures same_variant { table_of_text notations.Table (codes "0061|0061") ≡ Err (1, faults.SameVariant) }
     ensures same_source { table_of_text notations.Table (codes "0061" ++ 10 ∷ codes "0061") ≡ Err (2, faults.SameSource) }
     ensures gaps { gaps_of (record { source = 97 ∷ []; outside = false; variants = record { sequence = 97 ∷ 97 ∷ []; blocked = false } ∷ [] } ∷ []) ≡ (97 ∷ 97 ∷ [], 97 ∷ []) ∷ [] }
-    ensures chain { gaps_of (record { source = 97 ∷ []; outside = false; variants = begun false 98 ∷ [] } ∷ record { source = 98 ∷ []; outside = false; variants = begun true 97 ∷ begun false 99 ∷ [] } ∷ record { source = 99 ∷ []; outside = false; variants = begun false 98 ∷ [] } ∷ [])
+    ensures chain { gaps_of (record { source = 97 ∷ []; outside = false; variants = point_variant false 98 ∷ [] } ∷ record { source = 98 ∷ []; outside = false; variants = point_variant true 97 ∷ point_variant false 99 ∷ [] } ∷ record { source = 99 ∷ []; outside = false; variants = point_variant false 98 ∷ [] } ∷ [])
         ≡ (97 ∷ [], 99 ∷ []) ∷ (99 ∷ [], 97 ∷ []) ∷ [] }
-    ensures places { entries_at (point_entry false 115 ∷ record { source = 115 ∷ 115 ∷ []; outside = false; variants = begun false 0xDF ∷ [] } ∷ []) (115 ∷ 115 ∷ 115 ∷ []) 2
+    ensures places { entries_at (point_entry false 115 ∷ record { source = 115 ∷ 115 ∷ []; outside = false; variants = point_variant false 0xDF ∷ [] } ∷ []) (115 ∷ 115 ∷ 115 ∷ []) 2
         ≡ point_entry false 115 ∷ [] }
 {}
 
@@ -115,11 +112,11 @@ pub fn definitions_compute_the_examples()
 pub fn definitions_compute_the_examples_of_version_2()
     ensures table { table_of_text notations.Table (codes "%version 2" ++ 10 ∷ codes "0061..0063" ++ 10 ∷ codes "0078|!0079:007A") ≡ Ok (record {
       version = versions.Two;
-      entries = point_entry false 0x61 ∷ point_entry false 0x62 ∷ point_entry false 0x63 ∷ record { source = 0x78 ∷ []; outside = false; variants = begun true 0x79 ∷ begun false 0x7A ∷ [] } ∷ [];
+      entries = point_entry false 0x61 ∷ point_entry false 0x62 ∷ point_entry false 0x63 ∷ record { source = 0x78 ∷ []; outside = false; variants = point_variant true 0x79 ∷ point_variant false 0x7A ∷ [] } ∷ [];
     }) }
-    ensures written { table_text versions.Two (point_entry false 0x61 ∷ point_entry false 0x62 ∷ point_entry false 0x63 ∷ record { source = 0x78 ∷ []; outside = false; variants = begun true 0x79 ∷ begun false 0x7A ∷ [] } ∷ [])
+    ensures written { table_text versions.Two (point_entry false 0x61 ∷ point_entry false 0x62 ∷ point_entry false 0x63 ∷ record { source = 0x78 ∷ []; outside = false; variants = point_variant true 0x79 ∷ point_variant false 0x7A ∷ [] } ∷ [])
         ≡ codes "%version 2" ++ 10 ∷ codes "0061" ++ 10 ∷ codes "0062" ++ 10 ∷ codes "0063" ++ 10 ∷ codes "0078|!0079:007A" ++ 10 ∷ [] }
-    ensures unblocked { unblocked (record { source = 0x78 ∷ []; outside = false; variants = begun true 0x79 ∷ begun false 0x7A ∷ [] } ∷ []) ≡ record { source = 0x78 ∷ []; outside = false; variants = begun false 0x7A ∷ [] } ∷ [] }
+    ensures unblocked { unblocked (record { source = 0x78 ∷ []; outside = false; variants = point_variant true 0x79 ∷ point_variant false 0x7A ∷ [] } ∷ []) ≡ record { source = 0x78 ∷ []; outside = false; variants = point_variant false 0x7A ∷ [] } ∷ [] }
     ensures empty { table_of_text notations.Table (codes "%version 2" ++ 13 ∷ []) ≡ Ok (record { version = versions.Two; entries = [] }) }
     ensures falling { table_of_text notations.Table (codes "%version 2" ++ 10 ∷ codes "0063..0061") ≡ Err (2, faults.Syntax) }
     ensures marked_source { table_of_text notations.Table (codes "%version 2" ++ 10 ∷ codes "!0061|0062") ≡ Err (2, faults.Syntax) }
@@ -145,14 +142,14 @@ pub fn definitions_compute_the_examples_of_rulesets()
     ensures falling { table_of_text notations.Ruleset (codes "%version 3" ++ 10 ∷ codes "0063..0061") ≡ Err (2, faults.Syntax) }
     ensures set { table_of_text notations.Ruleset (codes "%version 3" ++ 10 ∷ codes "% set C 0061") ≡ Err (2, faults.Syntax) }
     ensures later { table_of_text notations.Table (codes "%version 2" ++ 10 ∷ codes "%version 3") ≡ Err (2, faults.Syntax) }
-    ensures outside { entries_of_tokens versions.Three (tokens_of (codes "! 0061|!0062")) ≡ Ok (record { source = 0x61 ∷ []; outside = true; variants = begun true 0x62 ∷ [] } ∷ []) }
-    ensures outside_range { entries_of_tokens versions.Three (tokens_of (codes "!0062..0063")) ≡ Ok (point_entry true 0x62 ∷ point_entry true 0x63 ∷ []) }
-    ensures outside_in_version_2 { entries_of_tokens versions.Two (tokens_of (codes "!0062..0063")) ≡ Err faults.Syntax }
+    ensures outside { entries_in versions.Three (lexemes (codes "! 0061|!0062")) ≡ Ok (record { source = 0x61 ∷ []; outside = true; variants = point_variant true 0x62 ∷ [] } ∷ []) }
+    ensures outside_range { entries_in versions.Three (lexemes (codes "!0062..0063")) ≡ Ok (point_entry true 0x62 ∷ point_entry true 0x63 ∷ []) }
+    ensures outside_in_version_2 { entries_in versions.Two (lexemes (codes "!0062..0063")) ≡ Err faults.Syntax }
     ensures two_marks { table_of_text notations.Ruleset (codes "%version 3" ++ 10 ∷ codes "!!0061") ≡ Err (2, faults.Syntax) }
     ensures no_source { table_of_text notations.Ruleset (codes "%version 3" ++ 10 ∷ codes "!|0061") ≡ Err (2, faults.Syntax) }
     ensures limit { table_of_text notations.Ruleset (codes "%version 3" ++ 10 ∷ codes "0041-0041-0041-0041-0041-0041-0041-0041-0041") ≡ Err (2, faults.Limit) }
-    ensures written { table_text versions.Three (point_entry false 0x61 ∷ record { source = 0x78 ∷ []; outside = false; variants = begun true 0x79 ∷ [] } ∷ [])
+    ensures written { table_text versions.Three (point_entry false 0x61 ∷ record { source = 0x78 ∷ []; outside = false; variants = point_variant true 0x79 ∷ [] } ∷ [])
         ≡ codes "%version 3" ++ 10 ∷ codes "0061" ++ 10 ∷ codes "0078|!0079" ++ 10 ∷ [] }
-    ensures marked { table_text versions.Three (record { source = 0x61 ∷ 0x62 ∷ []; outside = true; variants = begun true 0x63 ∷ [] } ∷ [])
+    ensures marked { table_text versions.Three (record { source = 0x61 ∷ 0x62 ∷ []; outside = true; variants = point_variant true 0x63 ∷ [] } ∷ [])
         ≡ codes "%version 3" ++ 10 ∷ codes "!0061-0062|!0063" ++ 10 ∷ [] }
 {}

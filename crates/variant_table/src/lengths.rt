@@ -1,12 +1,13 @@
 //! How many bytes canonical lines have, each with its line feed, if the version limits the canonical text.
 ghost use Rattle.std.specs.Prelude.{◌≡◌, ◌+◌, ◌<◌, ◌≤◌, ◌^◌, [], ◌∷◌, false, length, map};
 ghost use Rattle.std.specs.List.{range_with_len};
-ghost use Rattle.variant_table.specs.Canonical.{point_text, tokens_text, sequence_text, canonical_text};
+ghost use Rattle.ruleset_text.specs.Canonical.{point_text};
+ghost use Rattle.ruleset_text.specs.EntryText.{mark_text, sequence_text};
+ghost use Rattle.variant_table.specs.Canonical.{canonical_text};
 ghost use Rattle.variant_table.specs.Conditions.{is_too_large};
-ghost use Rattle.variant_table.specs.inner.Held.{counted};
-ghost use Rattle.variant_table.specs.Notation.{mark_tokens, HasNoEmptySequence};
+ghost use Rattle.variant_table.specs.Entries.{entry_from};
+ghost use Rattle.variant_table.specs.inner.Held.{counted, HasNoEmptySequence};
 ghost use Rattle.variant_table.specs.Ranges.{point_entry};
-ghost use Rattle.variant_table.specs.Reading.{entry_from};
 
 use crate::sequences::Sequences;
 use crate::version::Version;
@@ -43,7 +44,7 @@ fn line_len(sequences: &Sequences) -> usize
 
 /// How many bytes the mark of a blocked variant or an outside source has: none if it is neither.
 fn mark_len(marked: bool) -> usize
-    ensures { result ≡ length (tokens_text (mark_tokens marked)) }
+    ensures { result ≡ length (mark_text marked) }
 {
     if marked { 1 } else { 0 }
 }
@@ -91,7 +92,7 @@ fn lines_len(outside: bool, first: u32, count: usize) -> usize
 }
 
 /// How many bytes a code point has.
-#[tactic(auto, unfolding(crate::specs::Canonical::point_text))]
+#[tactic(auto, unfolding(ruleset_text::specs::Canonical::point_text))]
 fn point_len(point: u32) -> usize
     ensures count { result ≡ length (point_text point) }
     ensures few { result ≤ 6 }

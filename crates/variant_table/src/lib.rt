@@ -4,10 +4,10 @@
 
 mod canonical;
 mod checks;
-mod draft;
 mod entries;
 mod entry;
 mod fault;
+mod forms;
 mod gaps;
 pub mod laws;
 mod lengths;
@@ -16,7 +16,6 @@ mod reading;
 mod rows;
 mod sequences;
 mod table;
-mod token;
 mod version;
 
 pub use canonical::write_sequence;

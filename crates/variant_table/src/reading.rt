@@ -1,22 +1,23 @@
 //! Reading the entries of a text, line by line.
-ghost use Rattle.std.specs.Prelude.{◌≡◌, ◌+◌, ◌<◌, ◌≤◌, ◌^◌, [], ◌∷◌, length, map, OnOk};
+ghost use Rattle.std.specs.Prelude.{◌≡◌, ◌+◌, ◌<◌, ◌≤◌, ◌^◌, [], ◌∷◌, length, map, OnOk, slice_index};
 ghost use Rattle.std.specs.List.{range_with_len};
-ghost use Rattle.variant_table.specs.inner.Held.{IsCounted};
+ghost use Rattle.variant_table.specs.inner.Held.{HasNoEmptySequence, IsCounted};
+ghost use Rattle.ruleset_text.specs.EntryForms.{mapped as form_of};
+ghost use Rattle.variant_table.specs.Forms.{entry_of};
 ghost use Rattle.variant_table.specs.Limits.{text_limit};
-ghost use Rattle.variant_table.specs.Notation.{HasNoEmptySequence};
-ghost use Rattle.variant_table.specs.Ranges.{point_entry};
-ghost use Rattle.variant_table.specs.Reading.{entry_from, with_entries, with_line, with_raw_line, table_of_text, is_skipped as is_skipped_line};
+ghost use Rattle.variant_table.specs.Ranges.{point_entry, range_entries};
+ghost use Rattle.variant_table.specs.Reading.{with_entries, with_line, with_raw_line, table_of_text, is_skipped as is_skipped_line};
 ghost use Rattle.variant_table.specs.inner.ReadingSteps.{Leaves, Reads, with_new_sources};
 
 use crate::checks::{has_bad_class, has_bad_class_in, has_repeat, is_too_large};
-use crate::draft::{Draft, range_ends};
 use crate::fault::TableFault;
+use crate::forms::{has_form, take_sequences};
 use crate::lengths::{entry_len, range_len};
 use crate::rows::Rows;
 use crate::sequences::Sequences;
-use crate::token::without_blanks;
 use crate::version::{Notation, Version, head_of};
 use idn_text::without_carriage_return;
+use ruleset_text::{Mapped, read_entry, without_blanks};
 use std::alloc::Global;
 
 /// The version of a text, and the entries that it spells.
@@ -47,7 +48,8 @@ pub fn read_rows(
 struct Reader {
     alloc: Global,
     version: Version,
-    draft: Draft,
+    /// The sequences of the entry that is being added. Their memory is used again for each line.
+    sequences: Sequences,
     rows: Rows,
     /// The bytes of the canonical text so far, where the version limits them.
     written: usize,
@@ -63,7 +65,7 @@ impl Reader {
         Reader {
             alloc,
             version,
-            draft: Draft::new(alloc),
+            sequences: Sequences::new(alloc),
             rows: Rows::new(alloc),
             written: version.head().len(),
         }
@@ -87,7 +89,7 @@ impl Reader {
     }
 
     /// Adds what the line of this number says.
-    #[tactic(auto, unfolding(crate::specs::Reading::with_line, crate::specs::Reading::entries_of_tokens))]
+    #[tactic(auto, unfolding(crate::specs::Reading::with_line))]
     fn add_line(&mut self, number: u64, line: &[u8]) -> Result<(), TableFault>
         requires { IsCounted self.old.version self.old.written self.old.rows }
         ensures read { Leaves number result self.new.rows (with_line self.old.version self.old.rows line.now) }
@@ -97,27 +99,30 @@ impl Reader {
         if is_skipped(line) {
             return Ok(());
         }
-        if let Some((outside, first, last)) = range_ends(self.version, line) {
-            if first > last {
-                return Err(TableFault::Syntax { line: number });
-            }
-            return self.add_range(number, outside, first, (last - first) as usize + 1);
+        let Some(form) = read_entry(self.alloc, line)? else {
+            return Err(TableFault::Syntax { line: number });
+        };
+        if !has_form(self.version, &form) {
+            return Err(TableFault::Syntax { line: number });
         }
-        self.draft.read(self.version, number, line)?;
-        self.add_entry(number)
+        match form.last {
+            None => self.add_entry(number, &form.mapped),
+            Some(last) => self.add_range(number, &form.mapped[0], last),
+        }
     }
 
-    /// Adds the entry of the draft, unless it has a fault.
+    /// Adds the entry of a source and its variants, unless it has a fault.
     #[tactic(auto, unfolding(crate::specs::Reading::with_entries))]
-    fn add_entry(&mut self, number: u64) -> Result<(), TableFault>
-        requires some { 0 < length self.old.draft.sequences }
-        requires filled { HasNoEmptySequence (entry_from self.old.draft.sequences) }
+    fn add_entry(&mut self, number: u64, mapped: &[Mapped]) -> Result<(), TableFault>
+        requires some { 0 < length mapped.now }
+        requires filled { HasNoEmptySequence (entry_of (map form_of mapped.now)) }
         requires counted { IsCounted self.old.version self.old.written self.old.rows }
-        ensures read { Leaves number result self.new.rows (with_entries self.old.version self.old.rows (entry_from self.old.draft.sequences ∷ [])) }
+        ensures read { Leaves number result self.new.rows (with_entries self.old.version self.old.rows (entry_of (map form_of mapped.now) ∷ [])) }
         ensures counted { OnOk result (IsCounted self.old.version self.new.written self.new.rows) }
         ensures version { self.new.version ≡ self.old.version }
     {
-        let sequences = &self.draft.sequences;
+        take_sequences(&mut self.sequences, mapped)?;
+        let sequences = &self.sequences;
         if self.rows.len() >= self.version.entry_limit() || is_too_large(sequences) {
             return Err(TableFault::Limit { line: number });
         }
@@ -136,9 +141,23 @@ impl Reader {
         Ok(())
     }
 
+    /// Adds the entries of a range from its source, one code point, to the last code point, unless one has a fault.
+    #[tactic(auto, unfolding(crate::specs::Reading::with_entries))]
+    fn add_range(&mut self, number: u64, source: &Mapped, last: u32) -> Result<(), TableFault>
+        requires first { slice_index source.now.points.items 0 ≤ last }
+        requires some { 0 < length source.now.points.items }
+        requires counted { IsCounted self.old.version self.old.written self.old.rows }
+        ensures read { Leaves number result self.new.rows (with_entries self.old.version self.old.rows (range_entries source.now.marked (slice_index source.now.points.items 0) last)) }
+        ensures counted { OnOk result (IsCounted self.old.version self.new.written self.new.rows) }
+        ensures version { self.new.version ≡ self.old.version }
+    {
+        let first = source.points[0];
+        self.add_points(number, source.marked, first, (last - first) as usize + 1)
+    }
+
     /// Adds the entries of `count` code points, from `first` on, outside or not, unless one has a fault.
     #[tactic(auto, unfolding(crate::specs::Reading::with_entries))]
-    fn add_range(
+    fn add_points(
         &mut self,
         number: u64,
         outside: bool,
@@ -162,14 +181,14 @@ impl Reader {
         if has_bad_class_in(self.alloc, first, count)? {
             return Err(TableFault::BadClass { line: number });
         }
-        add_points(self.alloc, &mut self.rows, number, outside, first, count)?;
+        push_points(self.alloc, &mut self.rows, number, outside, first, count)?;
         self.written = written;
         Ok(())
     }
 }
 
 /// Adds the entries of `count` code points, from `first` on, outside or not, if their sources are new.
-fn add_points(
+fn push_points(
     alloc: Global,
     rows: &mut Rows,
     number: u64,

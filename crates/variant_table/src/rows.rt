@@ -1,9 +1,8 @@
 //! Entries with different sources, and the order of their sources.
 ghost use Rattle.std.specs.Prelude.{◌≡◌, ◌<◌, ◌^◌, [], length, slice_get, Some, IfOk, OnErr, false};
-ghost use Rattle.variant_table.specs.Entries.{unblocked};
+ghost use Rattle.variant_table.specs.Entries.{unblocked, entry_from};
 ghost use Rattle.variant_table.specs.inner.Order.{IsOrderOf, IsPlaceFor, begins_at as begins_at_place, HasNoLonger};
 ghost use Rattle.variant_table.specs.Places.{entry_with};
-ghost use Rattle.variant_table.specs.Reading.{entry_from};
 ghost use Rattle.variant_table.specs.inner.ReadingSteps.{Leaves, with_new_source};
 
 use crate::entries::Entries;

@@ -1,4 +1,4 @@
--- Definitions that lines of examples stand behind, and parts of examples.
+-- Definitions that stand before lines of examples, and parts of examples.
 use Rattle.std.specs.Prelude.{ℕ, Bool, Option, List, [], ◌∷◌, codes}
 use Rattle.label_patterns.specs.Patterns as patterns
 use Rattle.ruleset_text.specs.declared.entry_form.Condition.{Condition}

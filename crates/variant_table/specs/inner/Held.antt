@@ -1,14 +1,13 @@
 -- How a table lies in memory: sequences are parts of one vector of code points, entries are parts of the sequences.
 use Rattle.std.specs.Prelude.{◌≡◌, ℕ, ◌<◌, ◌≤◌, List, length, map, All}
-use Rattle.std.specs.List.{slice_range}
+use Rattle.std.specs.List.{AllByRecursion, slice_range}
 use Rattle.variant_table.specs.declared.sequences.Span.{Span}
 use Rattle.variant_table.specs.declared.sequences.Part.{Part}
-use Rattle.variant_table.specs.Entries.{Variant, Entry}
+use Rattle.variant_table.specs.Entries.{Variant, Entry, entry_from, replacements}
 use Rattle.variant_table.specs.declared.version.Version.{Version}
 use Rattle.variant_table.specs.declared.version.Version.TheVariants.{One, Two, Three}
 use Rattle.variant_table.specs.Canonical.{table_text}
 use Rattle.variant_table.specs.Limits.{text_limit}
-use Rattle.variant_table.specs.Reading.{entry_from}
 
 -- the part of a list that a span names
 abbrev pub part_at : {X : Type 0} → List X → Span → List X
@@ -41,6 +40,10 @@ entry_at sequences s = entry_from (part_at sequences s)
 -- the entries whose sequences the spans name
 abbrev pub entries_of : List Variant → List Span → List Entry
 entries_of sequences spans = map (entry_at sequences) spans
+
+-- no sequence of the entry is empty
+abbrev pub HasNoEmptySequence : Entry → Type 0
+HasNoEmptySequence e = AllByRecursion (λ s. 0 < length s) (replacements e)
 
 -- how many bytes of a canonical text are counted: none in version 1, which doesn't limit them
 abbrev pub counted : Version → List ℕ → ℕ

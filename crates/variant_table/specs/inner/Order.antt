@@ -6,8 +6,7 @@ use Rattle.std.specs.Cmp.Lexicographic.{slice_cmp}
 use Rattle.std.specs.List.{range_with_len, starts_with}
 use Rattle.variant_table.specs.declared.rows.Place.{Place}
 use Rattle.variant_table.specs.declared.rows.Place.TheVariants.{Found, Absent}
-use Rattle.variant_table.specs.Entries.{Entry}
-use Rattle.variant_table.specs.Reading.{entry_from}
+use Rattle.variant_table.specs.Entries.{Entry, entry_from}
 
 -- the source of the entry whose number stands at the place
 abbrev pub source_at : List Entry → List ℕ → ℕ → List ℕ

@@ -1,13 +1,10 @@
 -- What each step of reading leaves: the table so far, or the fault of its line.
-use Rattle.std.specs.Prelude.{◌≡◌, ◌⊎◌, ℕ, Bool, List, [], ◌∷◌, ◌++◌, Result, Ok, Err, if◌then◌else◌}
-use Rattle.variant_table.specs.declared.token.Token.{Token}
-use Rattle.variant_table.specs.declared.token.Token.TheVariants.{Point, Mark, Range}
+use Rattle.std.specs.Prelude.{◌≡◌, ◌⊎◌, ℕ, List, [], ◌∷◌, ◌++◌, Result, Ok, Err, if◌then◌else◌}
 use Rattle.variant_table.specs.declared.fault.TableFault.{TableFault}
 use Rattle.variant_table.specs.declared.fault.TableFault.TheVariants as tables
 use Rattle.variant_table.specs.Faults.{LineFault, Limit, Syntax, BadClass, SameVariant, SameSource, table_fault}
 use Rattle.variant_table.specs.declared.version.Version.{Version}
 use Rattle.variant_table.specs.Entries.{Entry, TableValue}
-use Rattle.variant_table.specs.Notation.{mark_tokens}
 use Rattle.variant_table.specs.Conditions.{has_source_in}
 use Rattle.variant_table.specs.Reading.{◌>>=◌, table_from}
 
@@ -33,32 +30,6 @@ with_new_source table e = if has_source_in table e then Err SameSource else Ok (
 abbrev pub with_new_sources : List Entry → List Entry → Result (List Entry) LineFault
 with_new_sources table [] = Ok table
 with_new_sources table (e ∷ entries) = with_new_source table e >>= λ t. with_new_sources t entries
-
--- the first token is a point
-abbrev pub BeginsWithPoint : List Token → Type 0
-BeginsWithPoint (Point c ∷ tokens) = Unit {0}
-BeginsWithPoint tokens = ⊥
-
--- the point was taken off the tokens of the line of this number, or they don't begin with one
-abbrev pub IsPoint : ℕ → Result ℕ TableFault → List Token → List Token → Type 0
-IsPoint number (Ok c) old new = old ≡ Point c ∷ new
-IsPoint number (Err fault) old new = (fault ≡ tables.Syntax number) × (BeginsWithPoint old → ⊥)
-
--- the tokens are what follows the first code point of a range
-abbrev pub EndsRange : List Token → Type 0
-EndsRange (Range ∷ Point c ∷ []) = Unit {0}
-EndsRange tokens = ⊥
-
--- the first token is a point, or a mark followed by a point
-abbrev pub BeginsVariant : List Token → Type 0
-BeginsVariant (Point c ∷ tokens) = Unit {0}
-BeginsVariant (Mark ∷ Point c ∷ tokens) = Unit {0}
-BeginsVariant tokens = ⊥
-
--- the point and the mark before it, if there is one, were taken off the tokens, or they don't begin so
-abbrev pub IsMarkedPoint : ℕ → Result (Bool × ℕ) TableFault → List Token → List Token → Type 0
-IsMarkedPoint number (Ok (blocked, c)) old new = old ≡ mark_tokens blocked ++ Point c ∷ new
-IsMarkedPoint number (Err fault) old new = (fault ≡ tables.Syntax number) × (BeginsVariant old → ⊥)
 
 -- the fault that reading gives, unless memory was refused
 abbrev pub FailsIn : {Y : Type 0} → TableFault → Result Y (ℕ × LineFault) → Type 0

@@ -1,9 +1,11 @@
 use Rattle.std.proofs.Common.{rules, ◌≡◌, ◌∷◌, Option, Some, None, sym, ap, subst, ◌∙◌}
 use Rattle.std.specs.Prelude.{IfOk}
 use Rattle.std.specs.Option.{option_map}
-use Rattle.ruleset_text.specs.Entries.{EntryForm, step}
-use Rattle.ruleset_text.specs.EntryForms.{entry_form, state}
+use Rattle.ruleset_text.specs.Entries.{EntryForm}
+use Rattle.ruleset_text.specs.EntryForms.{entry_form}
+use Rattle.ruleset_text.specs.inner.EntrySteps.{state, step}
 use Rattle.ruleset_text.specs.Lexemes.{lexemes}
+use Rattle.ruleset_text.proofs.EntryExactLemmas.{read_found, all_found}
 use Rattle.ruleset_text.proofs.EntryLemmas.{Reads, start_reads, next_reads, none_reads, end_reads}
 use Rattle.ruleset_text.proofs.entry_reading.read_entry.Goals as goal
 
@@ -18,7 +20,7 @@ returns-in_default-2 c =
     let others = c.in-Some.others.now in
     let first : lexemes rest ≡ lexeme ∷ lexemes others = search rules in
     let none : step (state c.loop-lexeme.state) lexeme ≡ None = c.in_ok-next.ensures {u = tt} ∙ ap (option_map state) c.in_default-2.is in
-    none_reads text others (next_reads text rest lexeme others (state c.loop-lexeme.state) None first none c.loop-lexeme.invariant)
+    read_found text None (none_reads text others (next_reads text rest lexeme others (state c.loop-lexeme.state) None first none c.loop-lexeme.invariant))
 
 pub loop-lexeme-preserved : goal.loop-lexeme-preserved
 loop-lexeme-preserved c =
@@ -32,5 +34,6 @@ loop-lexeme-preserved c =
 
 pub returns : goal.returns
 returns c =
+    let text = c.args.text.now in
     let P : Option EntryForm → Type 0 = λ o. IfOk c.ended.result (λ found. o ≡ option_map entry_form found) in
-    subst P (end_reads c.args.text.now c.loop-lexeme.rest.now (state c.loop-lexeme.state) (c.in_default.ensures {u = tt}).is c.loop-lexeme.invariant) c.ended.ensures
+    all_found text c.ended.result (subst P (end_reads text c.loop-lexeme.rest.now (state c.loop-lexeme.state) (c.in_default.ensures {u = tt}).is c.loop-lexeme.invariant) c.ended.ensures)

@@ -1,6 +1,6 @@
 use Rattle.std.proofs.Common.{refl}
 use Rattle.idn_text.specs.Points.{point_of_hex}
-use Rattle.ruleset_text.specs.Entries.{entry_in}
+use Rattle.ruleset_text.specs.inner.EntrySteps.{entry_in}
 use Rattle.ruleset_text.proofs.laws.definitions_compute_the_entries.Goals as goal
 
 pub returns-clause-entry : goal.returns-clause-entry
@@ -83,9 +83,9 @@ pub returns-clause-comma : goal.returns-clause-comma
 unfolding entry_in point_of_hex
 returns-clause-comma c = refl
 
-pub returns-clause-comment_behind : goal.returns-clause-comment_behind
+pub returns-clause-comment_last : goal.returns-clause-comment_last
 unfolding entry_in point_of_hex
-returns-clause-comment_behind c = refl
+returns-clause-comment_last c = refl
 
 pub returns-clause-falling : goal.returns-clause-falling
 unfolding entry_in point_of_hex

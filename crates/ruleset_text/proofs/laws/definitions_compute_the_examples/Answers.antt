@@ -102,9 +102,9 @@ pub returns-clause-end_in_a_group : goal.returns-clause-end_in_a_group
 unfolding pattern_of spans_in tokens_in number_of point_of_hex
 returns-clause-end_in_a_group c = refl
 
-pub returns-clause-start_behind : goal.returns-clause-start_behind
+pub returns-clause-start_last : goal.returns-clause-start_last
 unfolding pattern_of spans_in tokens_in number_of point_of_hex
-returns-clause-start_behind c = refl
+returns-clause-start_last c = refl
 
 pub returns-clause-no_context : goal.returns-clause-no_context
 unfolding pattern_of spans_in tokens_in number_of point_of_hex

@@ -2,10 +2,10 @@ use Rattle.std.proofs.Common.{rules, arith, ◌≡◌, ◌<◌, ◌≤◌, ◌-�
 use Rattle.std.proofs.lemmas.List.{take_all}
 use Rattle.std.proofs.lemmas.List.Elements.{All-get_or, All-take, All-drop}
 use Rattle.idn_text.specs.Points.{IsScalarValue}
-use Rattle.variant_table.specs.Canonical.{point_text}
-use Rattle.variant_table.proofs.HexLemmas.{length-point_text}
 use Rattle.variant_table.proofs.WritingLemmas.{further_text, further_more, whole_text, regroup, length-further_text}
 use Rattle.variant_table.proofs.canonical.write_sequence.Goals as goal
+use Rattle.ruleset_text.specs.Canonical.{point_text}
+use Rattle.ruleset_text.proofs.HexLemmas.{length-point_text}
 
 -- so many points so far leave room for one more
 room : (s out : List ℕ) (i : ℕ) → length s ≤ 8 → i < length (take (length s - 1) (drop 1 s)) → out ≡ point_text (get_or s 0 0) ++ further_text (take i (take (length s - 1) (drop 1 s))) → length out ≤ 48

@@ -1,7 +1,7 @@
 use Rattle.std.proofs.Common.{◌≡◌, ◌++◌, take, get_or}
-use Rattle.variant_table.specs.Canonical.{point_text}
 use Rattle.variant_table.proofs.WritingLemmas.{further_text}
 use Rattle.variant_table.proofs.canonical.write_sequence.Given as goal
+use Rattle.ruleset_text.specs.Canonical.{point_text}
 
 -- the points so far
 abbrev pub invariant-loop-point : goal.invariant-loop-point

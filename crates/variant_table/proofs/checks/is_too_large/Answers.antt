@@ -4,8 +4,7 @@ use Rattle.std.specs.List.{list_any}
 use Rattle.std.proofs.lemmas.Bool.{le-ltb}
 use Rattle.std.proofs.lemmas.Iterator.Consumers.{YieldsList-from_first}
 use Rattle.std.proofs.lemmas.Iterator.Search.{any_from_yields_List}
-use Rattle.variant_table.specs.Entries.{sequences_in, replacements}
-use Rattle.variant_table.specs.Reading.{entry_from}
+use Rattle.variant_table.specs.Entries.{sequences_in, replacements, entry_from}
 use Rattle.variant_table.proofs.EntryLemmas.{replacements-entry_from, length-variants}
 use Rattle.variant_table.proofs.checks.is_too_large.Goals as goal
 

@@ -1,7 +1,9 @@
-use Rattle.std.proofs.Common.{arith}
-use Rattle.variant_table.specs.Entries.{Variant}
-use Rattle.variant_table.proofs.EntryLemmas.{variant_from}
-use Rattle.variant_table.proofs.LengthLemmas.{one_mark, sequence_filled, sequence_short, length-variants_next}
+use Rattle.std.proofs.Common.{◌-◌, ◌≤◌, length, ap, arith}
+use Rattle.std.proofs.lemmas.List.{take_all}
+use Rattle.variant_table.specs.Entries.{Variant, Entry, entry_from}
+use Rattle.variant_table.proofs.EntryLemmas.{variant_from, length-variants}
+use Rattle.variant_table.proofs.WritingLemmas.{variants_text}
+use Rattle.variant_table.proofs.LengthLemmas.{one_mark, sequence_filled, sequence_short, length-variants_next, length-one_line}
 use Rattle.variant_table.proofs.lengths.line_len.Goals as goal
 
 pub sequence_len-requires-in-loop-number-clause-some : goal.sequence_len-requires-in-loop-number-clause-some
@@ -18,3 +20,9 @@ loop-number-preserved c =
       omega (arith, c.loop-number.invariant.0, next, c.sequence_len-in-loop-number.ensures.count, c.mark_len-in-loop-number.ensures),
       omega (arith, c.loop-number.invariant.1, c.sequence_len-in-loop-number.ensures.few, one_mark c.is_blocked-in-loop-number.result, c.mark_len-in-loop-number.ensures),
     )
+
+pub returns-clause-count : goal.returns-clause-count
+returns-clause-count c =
+    let e : Entry = entry_from c.args.sequences.now in
+    let over : length e.variants ≤ c.loop-number.number - 1 = omega (arith, c.loop-number-test.false, length-variants c.args.sequences.now c.requires.some) in
+    omega (arith, c.loop-number.invariant.0, ap (λ vs. length (variants_text vs)) (take_all (c.loop-number.number - 1) e.variants over), length-one_line e)

@@ -1,10 +1,9 @@
 use Rattle.std.proofs.Common.{length-append, ◌≡◌, ◌+◌, ◌++◌, ◌∷◌, [], List, length, ap, ◌∙◌}
-use Rattle.variant_table.specs.Entries.{Variant}
+use Rattle.variant_table.specs.Entries.{Variant, entry_from}
 use Rattle.variant_table.specs.inner.Held.{entries_of}
-use Rattle.variant_table.specs.Reading.{entry_from}
-use Rattle.variant_table.proofs.DraftLemmas.{on_err}
 use Rattle.variant_table.proofs.EntryLemmas.{entries_of-longer, entries_of-push}
 use Rattle.variant_table.proofs.entries.Entries.push.Goals as goal
+use Rattle.variant_table.proofs.ListLemmas.{on_err}
 
 pub returns-in_err-append-clause-err : goal.returns-in_err-append-clause-err
 returns-in_err-append-clause-err c =

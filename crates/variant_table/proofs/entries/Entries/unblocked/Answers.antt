@@ -1,6 +1,5 @@
 use Rattle.std.proofs.Common.{◌++◌, ◌∷◌, [], take, ap, sym, ◌∙◌}
-use Rattle.variant_table.specs.Entries.{unblocked}
-use Rattle.variant_table.specs.Reading.{entry_from}
+use Rattle.variant_table.specs.Entries.{unblocked, entry_from}
 use Rattle.variant_table.proofs.UnblockedLemmas.{unblocked_next}
 use Rattle.variant_table.proofs.entries.Entries.unblocked.Goals as goal
 

@@ -1,45 +1,12 @@
-use Rattle.std.proofs.Common.{◌+◌, ◌<◌, ◌≤◌, length, rules, refl, sym, subst, ◌∙◌, arith}
-use Rattle.variant_table.specs.Limits.{entry_limit}
+use Rattle.std.proofs.Common.{subst}
 use Rattle.variant_table.specs.Reading.{with_entries}
-use Rattle.variant_table.specs.inner.ReadingSteps.{Fails}
-use Rattle.variant_table.proofs.AddingLemmas.{range_too_many, range_bad, range_good, range_added}
-use Rattle.variant_table.proofs.RangeLemmas.{points_from}
+use Rattle.variant_table.specs.inner.ReadingSteps.{Leaves}
+use Rattle.std.specs.Prelude.{slice_index}
+use Rattle.variant_table.proofs.FormSteps.{first_is, range_is}
 use Rattle.variant_table.proofs.reading.Reader.add_range.Goals as goal
-use Rattle.variant_table.proofs.reading.Reader.add_range.Goals.{then-count-limit-via-then-count-limit, then-count-limit-via-else-count-limit+then-len-limit}
-
-pub returns-then-count-limit-clause-read : goal.returns-then-count-limit-clause-read
-returns-then-count-limit-clause-read c =
-    let over : entry_limit c.args.self.now.version < length c.args.self.now.rows + c.args.count = elim c.then-count-limit.branch [
-      | then-count-limit-via-then-count-limit w ↦ omega (arith, w.if-count-limit.true, c.entry_limit-limit.ensures.limit)
-      | then-count-limit-via-else-count-limit+then-len-limit w ↦ omega (arith, w.if-len-limit.true, w.if-count-limit.false, w.len.ensures, c.entry_limit-limit.ensures.limit)
-    ] in
-    (refl, range_too_many c.args.self.now.version c.args.self.now.rows c.args.outside c.args.first c.args.count over)
-
-pub returns-then-branch-clause-read : goal.returns-then-branch-clause-read
-returns-then-branch-clause-read c =
-    let few : length c.args.self.now.rows + c.args.count ≤ entry_limit c.args.self.now.version = omega (arith, c.entry_limit-limit.ensures.limit, c.if-count-limit.false, c.if-len-limit.false, c.len.ensures) in (
-      refl,
-      range_bad c.args.self.now.version c.args.self.now.rows c.args.outside c.args.first c.args.count c.args.self.now.written c.range_len.result c.requires.counted c.range_len.ensures.count few
-          (omega (arith, c.if-written-text_limit.false, c.text_limit.ensures.limit)) (sym (c.in_ok-has_bad_class_in.ensures {u = tt} c.args.outside) ∙ c.if-branch.true),
-    )
-
-pub returns-in_err-add_points-clause-read : goal.returns-in_err-add_points-clause-read
-returns-in_err-add_points-clause-read c =
-    let few : length c.args.self.now.rows + c.args.count ≤ entry_limit c.args.self.now.version = omega (arith, c.entry_limit-limit.ensures.limit, c.if-count-limit.false, c.if-len-limit.false, c.len.ensures) in
-    let good = range_good c.args.self.now.version c.args.self.now.rows c.args.outside c.args.first c.args.count c.args.self.now.written c.range_len.result c.requires.counted c.range_len.ensures.count few
-    (omega (arith, c.if-written-text_limit.false, c.text_limit.ensures.limit)) (sym (c.in_ok-has_bad_class_in.ensures {u = tt} c.args.outside) ∙ c.if-branch.false) in
-    let fails : Fails c.args.number c.in_err-add_points.field-0.0 (with_entries c.args.self.now.version c.args.self.now.rows (points_from c.args.outside c.args.first c.args.count)) =
-    subst (Fails c.args.number c.in_err-add_points.field-0.0) (sym good) c.in_err-add_points.ensures in
-    search rules
 
 pub returns-clause-read : goal.returns-clause-read
 returns-clause-read c =
-    let few : length c.args.self.now.rows + c.args.count ≤ entry_limit c.args.self.now.version = omega (arith, c.entry_limit-limit.ensures.limit, c.if-count-limit.false, c.if-len-limit.false, c.len.ensures) in
-    range_good c.args.self.now.version c.args.self.now.rows c.args.outside c.args.first c.args.count c.args.self.now.written c.range_len.result c.requires.counted c.range_len.ensures.count few
-    (omega (arith, c.if-written-text_limit.false, c.text_limit.ensures.limit)) (sym (c.in_ok-has_bad_class_in.ensures {u = tt} c.args.outside) ∙ c.if-branch.false) ∙ c.in_ok-add_points.ensures
-
-pub returns-clause-counted : goal.returns-clause-counted
-returns-clause-counted c =
-    let few : length c.args.self.now.rows + c.args.count ≤ entry_limit c.args.self.now.version = omega (arith, c.entry_limit-limit.ensures.limit, c.if-count-limit.false, c.if-len-limit.false, c.len.ensures) in
-    range_added c.args.self.now.version c.args.self.now.rows c.args.outside c.args.first c.args.count c.args.self.now.written c.range_len.result c.requires.counted c.range_len.ensures.count few
-    (omega (arith, c.if-written-text_limit.false, c.text_limit.ensures.limit)) c.add_points.new.rows c.in_ok-add_points.ensures
+    subst (λ es. Leaves c.args.number c.add_points.result c.add_points.new.self.rows (with_entries c.args.self.now.version c.args.self.now.rows es))
+    (range_is c.args.source.now.marked (slice_index c.args.source.now.points.items 0) c.index-first.result.now c.args.last
+    (first_is c.args.source.now.points.items c.index-first.result.now c.requires.some c.index-first.ensures) c.requires.first) c.add_points.ensures.read

@@ -4,9 +4,8 @@ use Rattle.std.specs.List.{insert}
 use Rattle.variant_table.specs.Faults.{SameSource}
 use Rattle.variant_table.specs.declared.rows.Place.TheVariants.{Found, Absent}
 use Rattle.variant_table.specs.Conditions.{has_source_in}
-use Rattle.variant_table.specs.Entries.{Entry}
+use Rattle.variant_table.specs.Entries.{Entry, entry_from}
 use Rattle.variant_table.specs.inner.Order.{IsPlaceFor, IsOrderOf, IsGapFor}
-use Rattle.variant_table.specs.Reading.{entry_from}
 use Rattle.variant_table.specs.inner.ReadingSteps.{with_new_source}
 use Rattle.variant_table.proofs.EntryLemmas.{source-first}
 use Rattle.variant_table.proofs.OrderLemmas.{known-at, new-gap, order-pushed}
