@@ -61,7 +61,7 @@ entry source variants = record { source = source; outside = false; variants = va
 abbrev pub y_or_z : TableValue
 y_or_z = record {
   version = Two;
-  entries = range_entries 0x61 0x63 ++ entry (codes "x") (blocked (codes "y") ∷ allocatable (codes "z") ∷ []) ∷ [];
+  entries = range_entries false 0x61 0x63 ++ entry (codes "x") (blocked (codes "y") ∷ allocatable (codes "z") ∷ []) ∷ [];
 }
 
 -- the table 0061|!0062, 0061-0061|0062-0062 of version 2
