@@ -14,11 +14,12 @@ use Rattle.variant_list.specs.Labels.{label_cmp}
 use Rattle.variant_list.specs.Positions.{Built}
 use Rattle.variant_list.specs.Segmentations.{HasSegmentation}
 use Rattle.variant_list.specs.Spelled.{spelled}
-use Rattle.variant_list.specs.Spelling.{JoinsReplacements, Spells}
+use Rattle.variant_list.specs.declared.part.Part.TheVariants.{Unblocked}
+use Rattle.variant_list.specs.Spelling.{Spells}
 use Rattle.variant_list.proofs.ListedLemmas.{variants-IsListed}
 use Rattle.variant_list.proofs.ListMembers.{Contains-head, Contains-later, Contains-none, Contains-cases}
 use Rattle.variant_list.proofs.RecursionLemmas.{spelled-Spells}
-use Rattle.variant_list.proofs.SpellingLemmas.{Spells-itself, Spells-nothing, Spells-piece}
+use Rattle.variant_list.proofs.PartLemmas.{PartSpells-Unblocked, PartSpells-itself, Spells-of_part}
 use Rattle.idn2_options.specs.Settings.{Settings}
 use Rattle.variant_list.specs.Beginnings.{has_hope}
 use Rattle.variant_list.specs.Tested.{tested_among}
@@ -30,7 +31,7 @@ use Rattle.idn2_cli.specs.Answers.{block, block_to, is_among, is_registrable, ke
 use Rattle.answer_json.specs.declared.block.Disposition.{Disposition}
 use Rattle.answer_json.specs.declared.block.Disposition.TheVariants.{Allocatable, Blocked}
 use Rattle.idn2_cli.specs.Said.{Said, Listed, BlockEnd}
-use Rattle.idn2_cli.specs.inner.Dispositions.{AreOfTable, AreOfLabel, CanBeCut, block_by, field_by}
+use Rattle.idn2_cli.specs.inner.Dispositions.{AreOfLabel, block_by, field_by}
 use Rattle.idn2_cli.specs.Transcript.{outputs}
 use Rattle.idn2_cli.specs.declared.modes.dispositions.Dispositions.{Dispositions}
 use Rattle.idn2_cli.specs.declared.modes.dispositions.Dispositions.TheVariants.{Unstated, AllAllocatable, BySpelling}
@@ -77,37 +78,12 @@ pub spelled-told : (net : Built) (v : List ℕ) (told : Bool) → IsTrue told �
 spelled-told net v told h = ap (λ (b : Bool). Some (allocation b)) (same-test told (is_among net.spelled v) h (found-member v net.spelled, member-found v net.spelled))
 
 -- ---- the sources stay
-
-Contains-map : (f : Entry → Entry) (entries : List Entry) (e : Entry) → Contains entries e → Contains (map f entries) (f e)
-Contains-map f [] e h = absurd (Contains-none e h)
-Contains-map f (x ∷ entries) e h = elim (Contains-cases x entries e h) [
-  | inl same ↦ subst (λ (y : Entry). Contains (f x ∷ map f entries) (f y)) same (Contains-head (f x) (map f entries))
-  | inr later ↦ Contains-later (f x) (map f entries) (f e) (Contains-map f entries e later)
-]
-
-kept_pieces : (entries segmentation : List Entry) → AllByRecursion (Contains entries) segmentation → AllByRecursion (Contains (unblocked entries)) (unblocked segmentation)
-kept_pieces entries [] h = tt
-kept_pieces entries (e ∷ segmentation) h = (Contains-map unblocked_entry entries e h.0, kept_pieces entries segmentation h.1)
-
-kept_sources : (segmentation : List Entry) → flat_map (λ e. e.source) (unblocked segmentation) ≡ flat_map (λ e. e.source) segmentation
-kept_sources [] = refl
-kept_sources (e ∷ segmentation) = ap (λ xs. e.source ++ xs) (kept_sources segmentation)
-
--- a label that can be cut into sources of a table can be cut into those of the table without its blocked variants
-pub still_cut : (entries : List Entry) (label : List ℕ) → HasSegmentation entries label → HasSegmentation (unblocked entries) label
-still_cut entries label h = (unblocked h.0, record { of_table = kept_pieces entries h.0 h.1.of_table; joined = kept_sources h.0 ∙ h.1.joined })
-
 -- a label may itself be allocated
 pub spells_itself : (entries : List Entry) (label : List ℕ) → HasSegmentation entries label → Spells (unblocked entries) label label
-spells_itself entries label h = let kept = still_cut entries label h in Spells-itself (unblocked entries) kept.0 label kept.1
+spells_itself entries label h = (PartSpells-Unblocked entries label label).0 (PartSpells-itself entries label h)
 
 pub label-allocatable : (entries : List Entry) (label : List ℕ) → All IsEntry entries → HasSegmentation entries label → is_allocatable entries label label ≡ true
 label-allocatable entries label well h = (spells-test (unblocked entries) label label (well_formed_kept entries well)).1 (spells_itself entries label h)
-
-pub can_be_cut : (table : TableValue) (told : Dispositions TableValue) (label : List ℕ) → AreOfTable table told → HasSegmentation table.entries label → CanBeCut told label
-can_be_cut table Unstated label is h = tt
-can_be_cut table AllAllocatable label is h = tt
-can_be_cut table (BySpelling other) label is h = subst (λ (t : List Entry). HasSegmentation t label) (sym is.1) (still_cut table.entries label h)
 
 -- ---- the field that is told is that of the table
 
@@ -212,43 +188,5 @@ disposition-none_blocked table label v is formed none spells =
     allocatable-field table label v is
     (ap (λ (t : List Entry). list_any (bytes_eq v) (spelled t label)) (unblocked_none table.entries none) ∙ (spells-test table.entries label v formed.entries).1 spells)
 
--- what a sequence that is not blocked replaces, it replaces with the blocked ones there
-kept-variant : (variants : List Variant) (s : List ℕ) → Contains (sequences_in (filter (λ v. not v.blocked) variants)) s → Contains (sequences_in variants) s
-kept-variant [] s h = h
-kept-variant (v ∷ variants) s h = by_mark v.blocked h (kept-variant variants s)
-  where
-    by_mark : (b : Bool) → Contains (sequences_in (if not b then v ∷ filter (λ v. not v.blocked) variants else filter (λ v. not v.blocked) variants)) s
-        → (Contains (sequences_in (filter (λ v. not v.blocked) variants)) s → Contains (sequences_in variants) s) → Contains (sequences_in (v ∷ variants)) s
-    by_mark true at go = Contains-later v.sequence (sequences_in variants) s (go at)
-    by_mark false at go = elim (Contains-cases v.sequence (sequences_in (filter (λ v. not v.blocked) variants)) s at) [
-      | inl same ↦ subst (Contains (v.sequence ∷ sequences_in variants)) same (Contains-head v.sequence (sequences_in variants))
-      | inr later ↦ Contains-later v.sequence (sequences_in variants) s (go later)
-    ]
-
-kept-replacement : (e : Entry) (s : List ℕ) → Contains (replacements (unblocked_entry e)) s → Contains (replacements e) s
-kept-replacement e s h = elim (Contains-cases e.source (sequences_in (unblocked_entry e).variants) s h) [
-  | inl same ↦ subst (Contains (replacements e)) same (Contains-head e.source (sequences_in e.variants))
-  | inr later ↦ Contains-later e.source (sequences_in e.variants) s (kept-variant e.variants s later)
-]
-
--- the entry that an entry without its blocked variants comes from
-whole-entry : (entries : List Entry) (x : Entry) → Contains (unblocked entries) x → (e : Entry) × Contains entries e × (unblocked_entry e ≡ x)
-whole-entry [] x h = absurd (Contains-none x h)
-whole-entry (e ∷ entries) x h = elim (Contains-cases (unblocked_entry e) (unblocked entries) x h) [
-  | inl same ↦ (e, Contains-head e entries, same)
-  | inr later ↦ let rest = whole-entry entries x later in (rest.0, Contains-later e entries rest.0 rest.1, rest.2)
-]
-
-still_joined : (entries segmentation : List Entry) (v : List ℕ) → AllByRecursion (Contains (unblocked entries)) segmentation → JoinsReplacements segmentation v
-    → Spells entries (flat_map (λ e. e.source) segmentation) v
-still_joined entries [] v of_table joins = subst (Spells entries []) (sym joins) (Spells-nothing entries)
-still_joined entries (x ∷ segmentation) v of_table joins =
-    let whole = whole-entry entries x of_table.0 in
-    let later : List ℕ = flat_map (λ e. e.source) segmentation in
-    let rest = still_joined entries segmentation joins.1 of_table.1 joins.3 in
-    let replaces : Contains (replacements whole.0) joins.0 = kept-replacement whole.0 joins.0 (subst (λ (y : Entry). Contains (replacements y) joins.0) (sym whole.2) joins.2) in
-    subst (λ (y : Entry). Spells entries (y.source ++ later) v) whole.2
-    (subst (Spells entries (whole.0.source ++ later)) (sym joins.4) (Spells-piece entries whole.0 later joins.0 joins.1 whole.1 replaces rest))
-
 pub spelled_still : (entries : List Entry) (label v : List ℕ) → Spells (unblocked entries) label v → Spells entries label v
-spelled_still entries label v s = subst (λ l. Spells entries l v) s.1.joined (still_joined entries s.0 v s.1.of_table s.2)
+spelled_still entries label v s = Spells-of_part Unblocked entries label v ((PartSpells-Unblocked entries label v).1 s)

@@ -1,5 +1,5 @@
 -- Worked examples of the definitions, by computation.
-use Rattle.std.specs.Prelude.{◌≡◌, ℕ, List, [], ◌∷◌, ◌++◌, true, Some, None, Option, Ok, Err, codes, map}
+use Rattle.std.specs.Prelude.{◌≡◌, ℕ, List, [], ◌∷◌, ◌++◌, true, false, Some, None, Option, Ok, Err, codes, map}
 use Rattle.idn_text.specs.Points.{utf8_of}
 use Rattle.idn_text.specs.Lines.{lines_of}
 use Rattle.idn_text.specs.declared.refusal.Refusal.TheVariants.{Disallowed, Empty, LineTooLong, NotUtf8, Syntax, WriteFault}
@@ -55,13 +55,13 @@ blocked s = record { sequence = s; blocked = true }
 
 -- an entry
 abbrev pub entry : List ℕ → List Variant → Entry
-entry source variants = record { source = source; variants = variants }
+entry source variants = record { source = source; outside = false; variants = variants }
 
 -- the table 0061..0063, 0078|!0079:007A of version 2
 abbrev pub y_or_z : TableValue
 y_or_z = record {
   version = Two;
-  entries = range_entries 0x61 0x63 ++ entry (codes "x") (blocked (codes "y") ∷ allocatable (codes "z") ∷ []) ∷ [];
+  entries = range_entries false 0x61 0x63 ++ entry (codes "x") (blocked (codes "y") ∷ allocatable (codes "z") ∷ []) ∷ [];
 }
 
 -- the table 0061|!0062, 0061-0061|0062-0062 of version 2

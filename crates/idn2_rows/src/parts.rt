@@ -14,8 +14,11 @@ const ONE_WAY: &str = "%version 2\n0061|!0062\n0061-0061|0062-0062\n";
 /// Nothing is blocked.
 const PLAIN: &str = "0061|0062\n";
 
+/// a and c may become b, which is outside, c only blocked.
+const OUTSIDE: &str = "%version 3\n0061|0062\n!0062|0061\n0063|!0062\n";
+
 /// Labels, others, and whether they spell them: under the whole table, and under what is not blocked of it.
-const SPELLED: [(&str, &str, &str, (bool, bool)); 12] = [
+const SPELLED: [(&str, &str, &str, (bool, bool)); 15] = [
     (MARKED, "a", "a", (true, true)),
     (MARKED, "a", "b", (true, false)),
     (MARKED, "a", "c", (true, true)),
@@ -28,7 +31,19 @@ const SPELLED: [(&str, &str, &str, (bool, bool)); 12] = [
     (ONE_WAY, "aaa", "bba", (true, true)),
     (ONE_WAY, "aaa", "bab", (true, false)),
     (PLAIN, "a", "b", (true, true)),
+    (OUTSIDE, "ac", "bb", (true, false)),
+    (OUTSIDE, "ac", "bc", (true, true)),
+    (OUTSIDE, "aa", "bb", (true, true)),
 ];
+
+/// As what the text of a table is read.
+fn notation_of(table: &str) -> Notation {
+    if table.starts_with("%version 3") {
+        Notation::Ruleset
+    } else {
+        Notation::Table
+    }
+}
 
 /// The net of a label under a part of the table of a text, or why there is none.
 fn net_of(
@@ -37,7 +52,7 @@ fn net_of(
     part: Part,
     label: &str,
 ) -> Result<Result<Net, NetFault>, Fail> {
-    let table = Table::read(alloc, Notation::Table, table.as_bytes())?;
+    let table = Table::read(alloc, notation_of(table), table.as_bytes())?;
     let label = points(alloc, label)?;
     if label.is_empty() || label.len() > 63 {
         return Err("a label of no code point, or of more than 63".into());
@@ -88,12 +103,14 @@ fn edges_of_parts(rt: HostRuntime) -> Result<(), Fail> {
     Ok(())
 }
 
-/// A label that the sources don't cover spells nothing, under any part.
+/// A label that the sources don't cover spells nothing, under any part, and so does one with an outside source.
 #[test]
 fn no_net_of_a_label_outside_the_table(rt: HostRuntime) -> Result<(), Fail> {
     for part in [Part::Whole, Part::Unblocked] {
-        let fault = net_of(rt.alloc(), MARKED, part, "ab")?.err();
-        assert_eq!(&rt; fault, Some(NetFault::NotInTable), "{part:?}");
+        for (table, label) in [(MARKED, "ab"), (OUTSIDE, "b"), (OUTSIDE, "abc")] {
+            let fault = net_of(rt.alloc(), table, part, label)?.err();
+            assert_eq!(&rt; fault, Some(NetFault::NotInTable), "{label} under {part:?}");
+        }
     }
     Ok(())
 }

@@ -41,14 +41,33 @@ impl Numbers {
     fn table(&mut self, alloc: Global) -> Result<String, Fail> {
         let mut text = String::new(alloc);
         for _ in 0..=self.below(5) {
-            self.write_sequence(&mut text)?;
-            for variant in 0..self.below(3) {
-                text.push(if variant == 0 { '|' } else { ':' })?;
-                self.write_sequence(&mut text)?;
-            }
-            text.push('\n')?;
+            self.write_entry(&mut text)?;
         }
         Ok(text)
+    }
+
+    /// The same as a ruleset, in which a third of the sources are outside.
+    fn ruleset(&mut self, alloc: Global) -> Result<String, Fail> {
+        let mut text = String::new(alloc);
+        text.push_str("%version 3\n")?;
+        for _ in 0..=self.below(5) {
+            if self.below(3) == 0 {
+                text.push('!')?;
+            }
+            self.write_entry(&mut text)?;
+        }
+        Ok(text)
+    }
+
+    /// The line of an entry.
+    fn write_entry(&mut self, text: &mut String) -> Result<(), Fail> {
+        self.write_sequence(text)?;
+        for variant in 0..self.below(3) {
+            text.push(if variant == 0 { '|' } else { ':' })?;
+            self.write_sequence(text)?;
+        }
+        text.push('\n')?;
+        Ok(())
     }
 
     /// A text of at most so many of these letters.
@@ -159,6 +178,25 @@ fn assert_case(
     Ok(assert_listed(rt, &net, &labels, &mut cursor, after))
 }
 
+/// The same for a text in a notation, where it spells a table.
+fn assert_text(
+    rt: &impl Abort,
+    alloc: Global,
+    notation: Notation,
+    text: &str,
+    numbers: &mut Numbers,
+) -> Result<u64, Fail> {
+    let label = numbers.label(alloc, 7)?;
+    let after = numbers.label(alloc, 6)?;
+    let Ok(table) = Table::read(alloc, notation, text.as_bytes()) else {
+        return Ok(0);
+    };
+    if label.is_empty() || label.len() > 63 {
+        return Ok(0);
+    }
+    assert_case(rt, alloc, &table, &label, &after)
+}
+
 #[test]
 fn random_tables_labels_and_texts(rt: HostRuntime) -> Result<(), Fail> {
     let alloc = rt.alloc();
@@ -166,15 +204,23 @@ fn random_tables_labels_and_texts(rt: HostRuntime) -> Result<(), Fail> {
     let mut listed: u64 = 0;
     for _ in 0..CASES {
         let text = numbers.table(alloc)?;
-        let label = numbers.label(alloc, 7)?;
-        let after = numbers.label(alloc, 6)?;
-        let Ok(table) = Table::read(alloc, Notation::Table, text.as_bytes()) else {
-            continue;
-        };
-        if !label.is_empty() && label.len() <= 63 {
-            listed = listed.saturating_add(assert_case(&rt, alloc, &table, &label, &after)?);
-        }
+        let more = assert_text(&rt, alloc, Notation::Table, &text, &mut numbers)?;
+        listed = listed.saturating_add(more);
     }
     assert!(&rt; listed > 2000, "{listed} candidates alone");
+    Ok(())
+}
+
+#[test]
+fn random_rulesets_with_outside_sources(rt: HostRuntime) -> Result<(), Fail> {
+    let alloc = rt.alloc();
+    let mut numbers = Numbers(2);
+    let mut listed: u64 = 0;
+    for _ in 0..CASES {
+        let text = numbers.ruleset(alloc)?;
+        let more = assert_text(&rt, alloc, Notation::Ruleset, &text, &mut numbers)?;
+        listed = listed.saturating_add(more);
+    }
+    assert!(&rt; listed > 1000, "{listed} candidates alone");
     Ok(())
 }

@@ -1,5 +1,5 @@
 -- Worked examples of the definitions, by computation.
-use Rattle.std.specs.Prelude.{◌≡◌, ℕ, List, [], ◌∷◌, ◌++◌, Some, None, true, codes}
+use Rattle.std.specs.Prelude.{◌≡◌, ℕ, List, [], ◌∷◌, ◌++◌, Some, None, true, false, codes}
 use Rattle.idn_text.specs.declared.refusal.Refusal.TheVariants.{Empty, LineTooLong, NotUtf8}
 use Rattle.variant_table.specs.Entries.{Entry}
 use Rattle.variant_list.specs.Examples.{allocatable}
@@ -9,10 +9,10 @@ use Rattle.registered_labels.specs.Texts.{line_refusal}
 
 -- a source without variants, and one with a single variant
 abbrev pub plain : List ℕ → Entry
-plain source = record { source = source; variants = [] }
+plain source = record { source = source; outside = false; variants = [] }
 
 abbrev pub pair : List ℕ → List ℕ → Entry
-pair source variant = record { source = source; variants = allocatable variant ∷ [] }
+pair source variant = record { source = source; outside = false; variants = allocatable variant ∷ [] }
 
 -- ß
 abbrev pub sharp : List ℕ
@@ -27,7 +27,7 @@ german =
 -- o with 0 as a blocked variant, and ss with ß
 abbrev pub alike : List Entry
 alike =
-    plain (codes "0") ∷ record { source = codes "o"; variants = record { sequence = codes "0"; blocked = true } ∷ [] } ∷ plain (codes "s") ∷ plain (codes "t")
+    plain (codes "0") ∷ record { source = codes "o"; outside = false; variants = record { sequence = codes "0"; blocked = true } ∷ [] } ∷ plain (codes "s") ∷ plain (codes "t")
     ∷ pair (codes "ss") sharp ∷ []
 
 -- two characters for China, of which the second has two forms

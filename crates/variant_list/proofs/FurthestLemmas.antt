@@ -16,7 +16,7 @@ abbrev NoneBeyond : List Entry → List ℕ → ℕ → Type 0
 NoneBeyond table label place = (count : ℕ) → place < count → count ≤ length label → HasSegmentation table (take count label) → ⊥
 
 empty_reached : (table : List Entry) (label : List ℕ) → HasSegmentation table (take 0 label)
-empty_reached table label = ([], record { of_table = tt; joined = refl })
+empty_reached table label = ([], record { of_table = tt; inside = tt; joined = refl })
 
 some_length : (n : ℕ) → (n == 0) ≡ false → 0 < n
 some_length zero h = let clash : true ≡ false = h in cc

@@ -17,11 +17,11 @@ use Rattle.variant_list.proofs.ListMembers.{Contains-head, Contains-later, Conta
 -- ---- piece by piece
 
 pub PartSpells-nothing : (part : Part) (table : List Entry) → PartSpells part table [] []
-PartSpells-nothing part table = ([], record { of_table = tt; joined = refl }, refl)
+PartSpells-nothing part table = ([], record { of_table = tt; inside = tt; joined = refl }, refl)
 
-pub PartSpells-piece : (part : Part) (table : List Entry) (e : Entry) (later r w : List ℕ) → Contains table e → Contains (replacements_in part e) r → PartSpells part table later w → PartSpells part table (e.source ++ later) (r ++ w)
-PartSpells-piece part table e later r w in_table replaces s =
-    (e ∷ s.0, record { of_table = (in_table, s.1.of_table); joined = ap (λ z. e.source ++ z) s.1.joined }, (r, w, replaces, s.2, refl))
+pub PartSpells-piece : (part : Part) (table : List Entry) (e : Entry) (later r w : List ℕ) → Contains table e → e.outside ≡ false → Contains (replacements_in part e) r → PartSpells part table later w → PartSpells part table (e.source ++ later) (r ++ w)
+PartSpells-piece part table e later r w in_table inside replaces s =
+    (e ∷ s.0, record { of_table = (in_table, s.1.of_table); inside = (inside, s.1.inside); joined = ap (λ z. e.source ++ z) s.1.joined }, (r, w, replaces, s.2, refl))
 
 -- ---- the whole table
 
@@ -88,6 +88,10 @@ unblocked_of_table : (table segmentation : List Entry) → AllByRecursion (Conta
 unblocked_of_table table [] h = tt
 unblocked_of_table table (e ∷ segmentation) h = ((Contains-map unblocked_entry table (unblocked_entry e)).1 (e, h.0, refl), unblocked_of_table table segmentation h.1)
 
+unblocked_inside : (segmentation : List Entry) → AllByRecursion (λ (e : Entry). e.outside ≡ false) segmentation → AllByRecursion (λ (e : Entry). e.outside ≡ false) (unblocked segmentation)
+unblocked_inside [] h = tt
+unblocked_inside (e ∷ segmentation) h = (h.0, unblocked_inside segmentation h.1)
+
 unblocked_joins : (segmentation : List Entry) (v : List ℕ) → JoinsReplacementsIn Unblocked segmentation v → JoinsReplacements (unblocked segmentation) v
 unblocked_joins [] v h = h
 unblocked_joins (e ∷ segmentation) v h = (h.0, h.1, h.2, unblocked_joins segmentation h.1 h.3, h.4)
@@ -96,26 +100,28 @@ unblocked_joins (e ∷ segmentation) v h = (h.0, h.1, h.2, unblocked_joins segme
 pub record IsFrom (table segmentation : List Entry) (v : List ℕ) : Type 0 where
   pub entries : List Entry
   pub of_table : AllByRecursion (Contains table) entries
+  pub inside : AllByRecursion (λ (e : Entry). e.outside ≡ false) entries
   pub sources : flat_map (λ (e : Entry). e.source) entries ≡ flat_map (λ (e : Entry). e.source) segmentation
   pub joins : JoinsReplacementsIn Unblocked entries v
 
-from_unblocked : (table segmentation : List Entry) (v : List ℕ) → AllByRecursion (Contains (unblocked table)) segmentation → JoinsReplacements segmentation v → IsFrom table segmentation v
-from_unblocked table [] v of joins = record { entries = []; of_table = tt; sources = refl; joins = joins }
-from_unblocked table (e ∷ segmentation) v of joins =
+from_unblocked : (table segmentation : List Entry) (v : List ℕ) → AllByRecursion (Contains (unblocked table)) segmentation → AllByRecursion (λ (e : Entry). e.outside ≡ false) segmentation → JoinsReplacements segmentation v → IsFrom table segmentation v
+from_unblocked table [] v of inside joins = record { entries = []; of_table = tt; inside = tt; sources = refl; joins = joins }
+from_unblocked table (e ∷ segmentation) v of inside joins =
     let g = (Contains-map unblocked_entry table e).0 of.0 in
     let same : unblocked_entry g.0 ≡ e = sym g.2 in
-    let rest = from_unblocked table segmentation joins.1 of.1 joins.3 in
+    let rest = from_unblocked table segmentation joins.1 of.1 inside.1 joins.3 in
     record {
       entries = g.0 ∷ rest.entries;
       of_table = (g.1, rest.of_table);
+      inside = (ap (λ (x : Entry). x.outside) same ∙ inside.0, rest.inside);
       sources = ap (λ (x : Entry). x.source ++ flat_map (λ (y : Entry). y.source) rest.entries) same ∙ ap (λ xs. e.source ++ xs) rest.sources;
       joins = (joins.0, joins.1, subst (λ (x : Entry). Contains (replacements x) joins.0) g.2 joins.2, rest.joins, joins.4);
     }
 
 pub PartSpells-Unblocked : (table : List Entry) (label v : List ℕ) → PartSpells Unblocked table label v ↔ Spells (unblocked table) label v
 PartSpells-Unblocked table label v = (
-  λ s. (unblocked s.0, record { of_table = unblocked_of_table table s.0 s.1.of_table; joined = unblocked_sources s.0 ∙ s.1.joined }, unblocked_joins s.0 v s.2),
-  λ s. (let f = from_unblocked table s.0 v s.1.of_table s.2 in (f.entries, record { of_table = f.of_table; joined = f.sources ∙ s.1.joined }, f.joins)),
+  λ s. (unblocked s.0, record { of_table = unblocked_of_table table s.0 s.1.of_table; inside = unblocked_inside s.0 s.1.inside; joined = unblocked_sources s.0 ∙ s.1.joined }, unblocked_joins s.0 v s.2),
+  λ s. (let f = from_unblocked table s.0 v s.1.of_table s.1.inside s.2 in (f.entries, record { of_table = f.of_table; inside = f.inside; joined = f.sources ∙ s.1.joined }, f.joins)),
 )
 
 -- no source is blocked, so a label spells itself

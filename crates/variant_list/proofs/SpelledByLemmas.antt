@@ -11,12 +11,14 @@ use Rattle.variant_table.specs.WellFormed.{IsSequence, IsEntry, IsWellFormed}
 use Rattle.variant_table.proofs.BeginningLemmas.{entries_are_at}
 use Rattle.variant_list.specs.declared.part.Part.{Part}
 use Rattle.variant_list.specs.Parts.{replacements_in}
+use Rattle.variant_list.specs.Segmentations.{inside_of}
 use Rattle.variant_list.specs.inner.LabelSets.{SomeGives}
 use Rattle.variant_list.specs.inner.Layouts.{UseSpells}
 use Rattle.variant_list.specs.Uses.{Use, IsUse, AreUses, UsesSpell, spelled_from_each, spelled_by, use_of, uses_of_entry, uses_at, uses_from, uses_of}
 use Rattle.variant_list.proofs.ListMembers.{Contains-head, Contains-one, Contains-map, Contains-flat_map}
 use Rattle.variant_list.proofs.SpellingLemmas.{source_is_sequence}
 use Rattle.variant_list.proofs.UsesLemmas.{nothing_spelled, UsesSpell-here, uses_at-IsUseOf, length-uses_from}
+use Rattle.variant_list.proofs.InsideLemmas.{Contains-inside, inside-few}
 use Rattle.variant_list.proofs.PartLemmas.{replacement-of_part, replacements_in-few}
 use Rattle.variant_list.proofs.UseCounts.{length-of_flat_map}
 
@@ -77,13 +79,15 @@ module _ (part : Part) (table : List Entry) (label : List ℕ) (formed : IsWellF
 
   few_uses : (place : ℕ) → length (uses_at part table label place) ≤ 136
   few_uses place =
-      let here : List Entry = entries_at table label place in
-      let at : AreEntriesAt table label place here = entries_are_at table label place formed in
+      let all : List Entry = entries_at table label place in
+      let here : List Entry = inside_of all in
+      let at : AreEntriesAt table label place all = entries_are_at table label place formed in
       let of_entry : (e : Entry) → IsEntry e → length (uses_of_entry part e) ≤ 17 = λ (e : Entry) is.
       omega (arith, length-map (replacements_in part e) (use_of e), replacements_in-few part e, length-map e.variants (λ (v : Variant). v.sequence), is.few) in
-      let each : (k : ℕ) (d : Entry) → k < length here → length (uses_of_entry part (get_or here k d)) ≤ 17 =
-      λ (k : ℕ) (d : Entry) l. of_entry (get_or here k d) (All-contains IsEntry table (get_or here k d) formed.entries ((at.members (get_or here k d)).0 (Contains-get_or here k d l)).0) in
-      omega (arith, sum_by-le (λ (e : Entry). length (uses_of_entry part e)) 17 here each, length-of_flat_map (uses_of_entry part) (λ (e : Entry). length (uses_of_entry part e)) (λ (e : Entry). refl) here, at.few)
+      let each : (k : ℕ) (d : Entry) → k < length here → length (uses_of_entry part (get_or here k d)) ≤ 17 = λ (k : ℕ) (d : Entry) l.
+      (let e : Entry = get_or here k d in
+      of_entry e (All-contains IsEntry table e formed.entries ((at.members e).0 ((Contains-inside all e).0 (Contains-get_or here k d l)).0).0)) in
+      omega (arith, sum_by-le (λ (e : Entry). length (uses_of_entry part e)) 17 here each, length-of_flat_map (uses_of_entry part) (λ (e : Entry). length (uses_of_entry part e)) (λ (e : Entry). refl) here, inside-few all, at.few)
 
   AreUses-from : (place n : ℕ) → place + n ≡ length label → AreUses (uses_from part table label place n)
   AreUses-from place zero whole = tt

@@ -1,6 +1,6 @@
 -- The uses of a part of a table, taken one after the other.
-use Rattle.std.proofs.Common.{◌≡◌, ℕ, ◌+◌, Bool, true, false, map, List, [], ◌∷◌, ◌++◌, take, refl, sym, ap, ◌∙◌, subst, arith, append-nil, append_assoc}
-use Rattle.std.specs.Prelude.{slice_get, Some, filter, if◌then◌else◌}
+use Rattle.std.proofs.Common.{◌≡◌, ℕ, ◌+◌, Bool, true, false, map, List, [], ◌∷◌, ◌++◌, length, take, refl, sym, ap, ◌∙◌, subst, arith, append-nil, append_assoc}
+use Rattle.std.specs.Prelude.{slice_get, Some, not, filter, if◌then◌else◌}
 use Rattle.std.specs.List.{Contains, flat_map}
 use Rattle.std.proofs.lemmas.Grind.{flat_map-append}
 use Rattle.std.proofs.lemmas.List.{take_more, map-append}
@@ -9,9 +9,11 @@ use Rattle.variant_table.specs.Entries.{Entry, Variant, replacements, sequences_
 use Rattle.variant_list.specs.declared.part.Part.{Part}
 use Rattle.variant_list.specs.inner.Layouts.{Draft, IsSound, IsLaid, HasTaken}
 use Rattle.variant_list.specs.inner.NetPlans.{IsNetOf}
+use Rattle.variant_list.specs.Segmentations.{inside_of}
 use Rattle.variant_list.specs.Parts.{marked, part_has}
 use Rattle.variant_list.specs.Uses.{Use, use_of, uses_of_entry}
 use Rattle.variant_list.proofs.ListMembers.{Contains-head}
+use Rattle.variant_list.proofs.InsideLemmas.{inside-one, outside-one}
 use Rattle.variant_list.proofs.PartLemmas.{mapped-at, mapped-same}
 use Rattle.variant_list.proofs.PlainListerSteps.{got}
 use Rattle.variant_list.proofs.DraftLemmas.{HasTaken-none, HasTaken-more, IsLaid-reads}
@@ -23,25 +25,42 @@ take-next xs i x e = let g = got xs i x e in take_more xs i x g.0 ∙ ap (λ y. 
 pub record HasEntries (part : Part) (all left : List Entry) (old new : Draft) : Type 0 where
   pub done : List Entry
   pub split : all ≡ done ++ left
-  pub taken : HasTaken old (flat_map (uses_of_entry part) done) new
+  pub taken : HasTaken old (flat_map (uses_of_entry part) (inside_of done)) new
 
 pub HasEntries-none : (part : Part) (all : List Entry) (old : Draft) → IsSound old → HasEntries part all all old old
 HasEntries-none part all old sound = record { done = []; split = refl; taken = HasTaken-none old sound }
 
-pub HasEntries-more : (part : Part) (all left : List Entry) (e : Entry) (rest : List Entry) (old mid new : Draft) → HasEntries part all left old mid → left ≡ e ∷ rest → HasTaken mid (uses_of_entry part e) new → HasEntries part all rest old new
-HasEntries-more part all left e rest old mid new h next taken = record {
+-- the entries that were taken, and one more
+more_taken : (part : Part) (done : List Entry) (e : Entry) → flat_map (uses_of_entry part) (inside_of (done ++ e ∷ [])) ≡ flat_map (uses_of_entry part) (inside_of done) ++ flat_map (uses_of_entry part) (inside_of (e ∷ []))
+more_taken part done e =
+    ap (flat_map (uses_of_entry part)) (filter-append (λ (x : Entry). not x.outside) done (e ∷ [])) ∙ flat_map-append (uses_of_entry part) (inside_of done) (inside_of (e ∷ []))
+
+pub HasEntries-more : (part : Part) (all left : List Entry) (e : Entry) (rest : List Entry) (old mid new : Draft) → HasEntries part all left old mid → left ≡ e ∷ rest → e.outside ≡ false → HasTaken mid (uses_of_entry part e) new → HasEntries part all rest old new
+HasEntries-more part all left e rest old mid new h next inside taken = record {
   done = h.done ++ e ∷ [];
   split = h.split ∙ ap (λ xs. h.done ++ xs) next ∙ sym (append_assoc h.done (e ∷ []) rest);
   taken = subst (λ us. HasTaken old us new)
-      (ap (λ us. flat_map (uses_of_entry part) h.done ++ us) (sym (append-nil (uses_of_entry part e))) ∙ sym (flat_map-append (uses_of_entry part) h.done (e ∷ [])))
-      (HasTaken-more old mid new (flat_map (uses_of_entry part) h.done) (uses_of_entry part e) h.taken taken);
+      (sym (more_taken part h.done e ∙ ap (λ es. flat_map (uses_of_entry part) (inside_of h.done) ++ flat_map (uses_of_entry part) es) (inside-one e inside)
+      ∙ ap (λ us. flat_map (uses_of_entry part) (inside_of h.done) ++ us) (append-nil (uses_of_entry part e))))
+      (HasTaken-more old mid new (flat_map (uses_of_entry part) (inside_of h.done)) (uses_of_entry part e) h.taken taken);
+}
+
+-- an outside entry is left out
+pub HasEntries-skip : (part : Part) (all left : List Entry) (e : Entry) (rest : List Entry) (old new : Draft) → HasEntries part all left old new → left ≡ e ∷ rest → e.outside ≡ true → HasEntries part all rest old new
+HasEntries-skip part all left e rest old new h next outside = record {
+  done = h.done ++ e ∷ [];
+  split = h.split ∙ ap (λ xs. h.done ++ xs) next ∙ sym (append_assoc h.done (e ∷ []) rest);
+  taken = subst (λ us. HasTaken old us new)
+      (sym (more_taken part h.done e ∙ ap (λ es. flat_map (uses_of_entry part) (inside_of h.done) ++ flat_map (uses_of_entry part) es) (outside-one e outside)
+      ∙ append-nil (flat_map (uses_of_entry part) (inside_of h.done))))
+      h.taken;
 }
 
 pub HasEntries-next : (part : Part) (all left : List Entry) (e : Entry) (rest : List Entry) (old new : Draft) → HasEntries part all left old new → left ≡ e ∷ rest → Contains all e
 HasEntries-next part all left e rest old new h next = subst (λ xs. Contains xs e) (sym (h.split ∙ ap (λ xs. h.done ++ xs) next)) (Contains-append_right h.done (e ∷ rest) e (Contains-head e rest))
 
-pub HasEntries-all : (part : Part) (all left : List Entry) (old new : Draft) → HasEntries part all left old new → left ≡ [] → HasTaken old (flat_map (uses_of_entry part) all) new
-HasEntries-all part all left old new h over = subst (λ es. HasTaken old (flat_map (uses_of_entry part) es) new) (sym (h.split ∙ ap (λ xs. h.done ++ xs) over ∙ append-nil h.done)) h.taken
+pub HasEntries-all : (part : Part) (all left : List Entry) (old new : Draft) → HasEntries part all left old new → left ≡ [] → HasTaken old (flat_map (uses_of_entry part) (inside_of all)) new
+HasEntries-all part all left old new h over = subst (λ es. HasTaken old (flat_map (uses_of_entry part) (inside_of es)) new) (sym (h.split ∙ ap (λ xs. h.done ++ xs) over ∙ append-nil h.done)) h.taken
 
 -- the uses of the first replacements of an entry that the part has
 abbrev pub uses_upto : Part → Entry → ℕ → List Use

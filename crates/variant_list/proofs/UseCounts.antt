@@ -7,6 +7,7 @@ use Rattle.variant_table.specs.Entries.{Entry, replacements}
 use Rattle.variant_table.specs.Places.{entries_at}
 use Rattle.variant_list.specs.declared.part.Part.TheVariants.{Whole}
 use Rattle.variant_list.specs.Parts.{replacements_in}
+use Rattle.variant_list.specs.Segmentations.{inside_of}
 use Rattle.variant_list.specs.Nets.{point_count, edges_of, edge_count, replacements_of, replacement_count}
 use Rattle.variant_list.specs.Uses.{Use, points_in, use_edges, use_count, use_of, uses_of_entry, uses_at, uses_from, uses_of}
 use Rattle.variant_list.proofs.ChainLemmas.{drop-point}
@@ -43,9 +44,9 @@ use_edges-from table label place (suc n) whole =
     let front = drop-point label place (omega (arith, whole)) in
     let next : suc place ≡ place + 1 = omega arith in
     sum_by-cons points_in (uses_at Whole table label place) (uses_from Whole table label (suc place) n)
-    ∙ ap (λ k. k + use_edges (uses_from Whole table label (suc place) n)) (points_in-entries (entries_at table label place))
-    ∙ ap (λ k. edges_of (entries_at table label place) + k) (use_edges-from table label (suc place) n (omega (arith, whole)) ∙ ap (λ p. edge_count table (drop p label)) next)
-    ∙ sym (ap (edge_count table) front ∙ ap (λ t. edges_of (entries_at table t 0) + edge_count table (drop (place + 1) label)) (sym front))
+    ∙ ap (λ k. k + use_edges (uses_from Whole table label (suc place) n)) (points_in-entries (inside_of (entries_at table label place)))
+    ∙ ap (λ k. edges_of (inside_of (entries_at table label place)) + k) (use_edges-from table label (suc place) n (omega (arith, whole)) ∙ ap (λ p. edge_count table (drop p label)) next)
+    ∙ sym (ap (edge_count table) front ∙ ap (λ t. edges_of (inside_of (entries_at table t 0)) + edge_count table (drop (place + 1) label)) (sym front))
 
 use_count-from : (table : List Entry) (label : List ℕ) (place n : ℕ) → place + n ≡ length label → use_count (uses_from Whole table label place n) ≡ replacement_count table (drop place label)
 use_count-from table label place zero whole = sym (ap (replacement_count table) (drop_all place label (omega (arith, whole))))
@@ -53,9 +54,9 @@ use_count-from table label place (suc n) whole =
     let front = drop-point label place (omega (arith, whole)) in
     let next : suc place ≡ place + 1 = omega arith in
     sum_by-cons {X = List Use} length (uses_at Whole table label place) (uses_from Whole table label (suc place) n)
-    ∙ ap (λ k. k + use_count (uses_from Whole table label (suc place) n)) (length-entries (entries_at table label place))
-    ∙ ap (λ k. replacements_of (entries_at table label place) + k) (use_count-from table label (suc place) n (omega (arith, whole)) ∙ ap (λ p. replacement_count table (drop p label)) next)
-    ∙ sym (ap (replacement_count table) front ∙ ap (λ t. replacements_of (entries_at table t 0) + replacement_count table (drop (place + 1) label)) (sym front))
+    ∙ ap (λ k. k + use_count (uses_from Whole table label (suc place) n)) (length-entries (inside_of (entries_at table label place)))
+    ∙ ap (λ k. replacements_of (inside_of (entries_at table label place)) + k) (use_count-from table label (suc place) n (omega (arith, whole)) ∙ ap (λ p. replacement_count table (drop p label)) next)
+    ∙ sym (ap (replacement_count table) front ∙ ap (λ t. replacements_of (inside_of (entries_at table t 0)) + replacement_count table (drop (place + 1) label)) (sym front))
 
 pub use_edges-label : (table : List Entry) (label : List ℕ) → use_edges (uses_of Whole table label) ≡ edge_count table label
 use_edges-label table label = use_edges-from table label 0 (length label) (omega arith)

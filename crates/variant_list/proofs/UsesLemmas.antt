@@ -1,18 +1,19 @@
 -- What uses spell, and that the uses of a label under a part of a table spell what its segmentations spell.
-use Rattle.std.proofs.Common.{◌≡◌, ℕ, zero, suc, ◌+◌, ◌-◌, ◌≤◌, List, [], ◌∷◌, ◌++◌, length, drop, refl, sym, ap, ◌∙◌, subst, ◌↔◌, arith, length-append}
+use Rattle.std.proofs.Common.{◌≡◌, ℕ, false, zero, suc, ◌+◌, ◌-◌, ◌≤◌, List, [], ◌∷◌, ◌++◌, length, drop, refl, sym, ap, ◌∙◌, subst, ◌↔◌, arith, length-append}
 use Rattle.std.specs.List.{Contains, flat_map}
 use Rattle.std.proofs.lemmas.List.{drop-drop, drop_at, drop_all, length-drop}
 use Rattle.variant_table.specs.Entries.{Entry}
 use Rattle.variant_table.specs.Places.{BeginsAt, entries_at}
 use Rattle.variant_table.specs.WellFormed.{IsWellFormed}
 use Rattle.variant_table.proofs.BeginningLemmas.{entries_are_at}
-use Rattle.variant_list.specs.Segmentations.{IsSegmentation}
+use Rattle.variant_list.specs.Segmentations.{IsSegmentation, inside_of}
 use Rattle.variant_list.specs.declared.part.Part.{Part}
 use Rattle.variant_list.specs.Parts.{replacements_in, JoinsReplacementsIn, PartSpells}
 use Rattle.variant_list.specs.inner.LabelSets.{SomeGives}
 use Rattle.variant_list.specs.inner.Layouts.{UseSpells}
 use Rattle.variant_list.specs.Uses.{Use, IsCut, points_of, UsesSpell, use_of, uses_of_entry, uses_at, uses_from, uses_of}
 use Rattle.variant_list.proofs.ListMembers.{Contains-map, Contains-flat_map}
+use Rattle.variant_list.proofs.InsideLemmas.{Contains-inside}
 use Rattle.variant_list.proofs.PartLemmas.{PartSpells-nothing, PartSpells-piece}
 use Rattle.variant_list.proofs.SpellingLemmas.{source_is_sequence}
 
@@ -50,18 +51,20 @@ UsesSpell-here here later fits v = (
 pub record IsUseOf (part : Part) (table : List Entry) (label : List ℕ) (place : ℕ) (u : Use) : Type 0 where
   pub entry : Entry
   pub at : Contains (entries_at table label place) entry
+  pub inside : entry.outside ≡ false
   pub replaces : Contains (replacements_in part entry) u.points
   pub covers : u.covers ≡ length entry.source
 
 pub uses_at-IsUseOf : (part : Part) (table : List Entry) (label : List ℕ) (place : ℕ) (u : Use) → Contains (uses_at part table label place) u ↔ IsUseOf part table label place u
 uses_at-IsUseOf part table label place u = (
-  λ c. let g = (Contains-flat_map (uses_of_entry part) (entries_at table label place) u).0 c in
+  λ c. let g = (Contains-flat_map (uses_of_entry part) (inside_of (entries_at table label place)) u).0 c in
       let e : Entry = g.0 in
+      let here = (Contains-inside (entries_at table label place) e).0 g.1 in
       let h = (Contains-map (use_of e) (replacements_in part e) u).0 g.2 in
-      record { entry = e; at = g.1; replaces = subst (Contains (replacements_in part e)) (sym (ap (λ (x : Use). x.points) h.2)) h.1; covers = ap (λ (x : Use). x.covers) h.2 },
+      record { entry = e; at = here.0; inside = here.1; replaces = subst (Contains (replacements_in part e)) (sym (ap (λ (x : Use). x.points) h.2)) h.1; covers = ap (λ (x : Use). x.covers) h.2 },
   λ i. let e : Entry = i.entry in
       let same : u ≡ use_of e u.points = ap (λ n. use_with n u.points) i.covers in
-      (Contains-flat_map (uses_of_entry part) (entries_at table label place) u).1 (e, i.at, (Contains-map (use_of e) (replacements_in part e) u).1 (u.points, i.replaces, same)),
+      (Contains-flat_map (uses_of_entry part) (inside_of (entries_at table label place)) u).1 (e, (Contains-inside (entries_at table label place) e).1 (i.at, i.inside), (Contains-map (use_of e) (replacements_in part e) u).1 (u.points, i.replaces, same)),
 )
   where
     use_with : ℕ → List ℕ → Use
@@ -103,9 +106,9 @@ module _ (part : Part) (table : List Entry) (label : List ℕ) (formed : IsWellF
       let behind : drop (place + k) label ≡ rest = sym (drop-drop k place label) ∙ ap (drop k) (sym cuts.joined) ∙ drop_at e.source rest k refl in
       let taken_up : Use = record { covers = k; points = joins.0 } in
       let there : Contains (entries_at table label place) e = ((entries_are_at table label place formed).members e).1 (cuts.of_table.0, (rest, sym cuts.joined)) in
-      let here : Contains (uses_at part table label place) taken_up = (uses_at-IsUseOf part table label place taken_up).1 (record { entry = e; at = there; replaces = joins.2; covers = refl }) in
+      let here : Contains (uses_at part table label place) taken_up = (uses_at-IsUseOf part table label place taken_up).1 (record { entry = e; at = there; inside = cuts.inside.0; replaces = joins.2; covers = refl }) in
       let later : UsesSpell (uses_from part table label (place + k) (suc n - k)) joins.1 =
-      cut-segmentation segmentation (place + k) (suc n - k) joins.1 (omega (arith, whole, total)) (record { of_table = cuts.of_table.1; joined = sym behind }) joins.3 in
+      cut-segmentation segmentation (place + k) (suc n - k) joins.1 (omega (arith, whole, total)) (record { of_table = cuts.of_table.1; inside = cuts.inside.1; joined = sym behind }) joins.3 in
       let dropped : drop k (uses_from part table label place (suc n)) ≡ uses_from part table label (place + k) (suc n - k) = drop-uses_from part table label k (suc n) place (omega (arith, total)) in (
         taken_up ∷ later.0,
         (here, omega (arith, total, length-uses_from part table label n (suc place)), subst (λ us. IsCut us later.0) (sym dropped) later.1),
@@ -126,7 +129,7 @@ module _ (part : Part) (table : List Entry) (label : List ℕ) (formed : IsWellF
       let behind : drop (place + k) label ≡ begins.1.0 = sym (drop-drop k place label) ∙ ap (drop k) begins.1.1 ∙ drop_at is.entry.source begins.1.0 k (sym is.covers) in
       let later : PartSpells part table (drop (place + k) label) (points_of cut) = segmentation-cut cut (place + k) (suc n - k) (omega (arith, whole, within)) (subst (λ us. IsCut us cut) dropped cuts.2) in
       subst (λ l. PartSpells part table l (u.points ++ points_of cut)) (sym begins.1.1)
-      (PartSpells-piece part table is.entry begins.1.0 u.points (points_of cut) begins.0 is.replaces (subst (λ l. PartSpells part table l (points_of cut)) behind later))
+      (PartSpells-piece part table is.entry begins.1.0 u.points (points_of cut) begins.0 is.inside is.replaces (subst (λ l. PartSpells part table l (points_of cut)) behind later))
 
   -- from each place on, the uses spell what the rest of the label spells
   pub UsesSpell-from : (place n : ℕ) (v : List ℕ) → place + n ≡ length label → UsesSpell (uses_from part table label place n) v ↔ PartSpells part table (drop place label) v

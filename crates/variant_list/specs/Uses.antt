@@ -5,6 +5,7 @@ use Rattle.variant_table.specs.Entries.{Entry}
 use Rattle.variant_table.specs.Places.{entries_at}
 use Rattle.variant_list.specs.declared.part.Part.{Part}
 use Rattle.variant_list.specs.Parts.{replacements_in}
+use Rattle.variant_list.specs.Segmentations.{inside_of}
 
 -- these code points may stand in the place of so many code points of a label
 pub record Use : Type 0 where
@@ -68,9 +69,9 @@ use_of e r = record { covers = length e.source; points = r }
 abbrev pub uses_of_entry : Part → Entry → List Use
 uses_of_entry part e = map (use_of e) (replacements_in part e)
 
--- those at a place of the label
+-- those at a place of the label: of the entries there that are not outside
 abbrev pub uses_at : Part → List Entry → List ℕ → ℕ → List Use
-uses_at part table label place = flat_map (uses_of_entry part) (entries_at table label place)
+uses_at part table label place = flat_map (uses_of_entry part) (inside_of (entries_at table label place))
 
 -- those at so many places, from this one on
 abbrev pub uses_from : Part → List Entry → List ℕ → ℕ → ℕ → List (List Use)

@@ -49,7 +49,10 @@ fn add_uses_at(
     ensures { OnOk result (HasTaken draft.old (uses_at part table.now.entries label.now place) draft.new) }
 {
     for entry in table.entries_at(label, place) {
-        add_uses_of(draft, part, &entry)?;
+        // A label that is asked about has no outside source.
+        if !entry.is_outside() {
+            add_uses_of(draft, part, &entry)?;
+        }
     }
     Ok(())
 }

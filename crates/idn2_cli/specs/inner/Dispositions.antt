@@ -2,8 +2,9 @@
 use Rattle.std.specs.Prelude.{ℕ, true, List, Option, Some, None, ◌≡◌, ◌≢◌, ◌↔◌, Contains}
 use Rattle.variant_table.specs.declared.version.Version.TheVariants.{One}
 use Rattle.variant_table.specs.Entries.{Entry, TableValue, unblocked}
+use Rattle.variant_list.specs.declared.part.Part.{Part}
+use Rattle.variant_list.specs.declared.part.Part.TheVariants.{Unblocked}
 use Rattle.variant_list.specs.Positions.{Built}
-use Rattle.variant_list.specs.Segmentations.{HasSegmentation}
 use Rattle.variant_list.specs.Spelling.{Spells}
 use Rattle.idn2_options.specs.Settings.{Settings}
 use Rattle.answer_json.specs.declared.block.Disposition.{Disposition}
@@ -16,11 +17,11 @@ use Rattle.idn2_cli.specs.declared.modes.dispositions.Dispositions.TheVariants.{
 abbrev pub block_by : (List ℕ → Option Disposition) → Settings → List (List ℕ) → List Said
 block_by field o labels = block_to field (stop_of o labels) (variants_after o labels)
 
--- what tells the dispositions is that of the table: it has no blocked variants, or this is the table without them
-abbrev pub AreOfTable : TableValue → Dispositions TableValue → Type 0
+-- what tells the dispositions is that of the table: it has no blocked variants, or this is its part without them
+abbrev pub AreOfTable : TableValue → Dispositions Part → Type 0
 AreOfTable table Unstated = table.version ≡ One
 AreOfTable table AllAllocatable = (table.version ≢ One) × (unblocked table.entries ≡ table.entries)
-AreOfTable table (BySpelling other) = (table.version ≢ One) × (other.entries ≡ unblocked table.entries)
+AreOfTable table (BySpelling part) = (table.version ≢ One) × (part ≡ Unblocked)
 
 -- the same of a label: the net spells what the label spells under the table without its blocked variants
 abbrev pub AreOfLabel : TableValue → List ℕ → Dispositions Built → Type 0
@@ -28,11 +29,6 @@ AreOfLabel table label Unstated = table.version ≡ One
 AreOfLabel table label AllAllocatable = (table.version ≢ One) × (unblocked table.entries ≡ table.entries)
 AreOfLabel table label (BySpelling net) =
     (table.version ≢ One) × ((v : List ℕ) → Contains net.spelled v ↔ Spells (unblocked table.entries) label v)
-
--- the label can be cut into sources of the table that tells, if there is one
-abbrev pub CanBeCut : Dispositions TableValue → List ℕ → Type 0
-CanBeCut (BySpelling table) label = HasSegmentation table.entries label
-CanBeCut other label = Unit {0}
 
 -- the disposition of a variant that is told
 abbrev pub field_by : Dispositions Built → List ℕ → Option Disposition

@@ -1,17 +1,17 @@
 //! The dispositions of variants: which may be allocated, and which are blocked (RFC 7940 section 7.3).
 
 ghost use Rattle.std.specs.Prelude.{◌≡◌, ◌≤◌, length, IfOk, Some};
-ghost use Rattle.variant_table.specs.Entries.{TableValue};
+ghost use Rattle.variant_list.specs.Segmentations.{HasSegmentation};
 ghost use Rattle.idn2_cli.specs.Answers.{allocation};
-ghost use Rattle.idn2_cli.specs.inner.Dispositions.{AreOfTable, AreOfLabel, CanBeCut, field_by};
+ghost use Rattle.idn2_cli.specs.inner.Dispositions.{AreOfTable, AreOfLabel, field_by};
 
 use answer_json::Disposition;
 use std::alloc::{AllocError, Global};
-use variant_list::{Net, NetFault, SpellingTest};
+use variant_list::{Net, NetFault, Part, SpellingTest};
 use variant_table::Table;
 
-/// What tells the dispositions of variants, where need be by a table without its blocked variants, or by
-/// the test of what a label spells under such a table.
+/// What tells the dispositions of variants, where need be by the part of a table that is not blocked, or by the test of
+/// what a label spells under it.
 #[derive(Drop)]
 pub(crate) enum Dispositions<T> {
     /// None is told: the table is of version 1.
@@ -22,38 +22,41 @@ pub(crate) enum Dispositions<T> {
     BySpelling(T),
 }
 
-impl Dispositions<Table> {
+impl Dispositions<Part> {
     /// What tells the dispositions of a table's variants.
-    pub fn of_table(alloc: Global, table: &Table) -> Result<Self, AllocError>
-        ensures { IfOk result (AreOfTable table.now) }
+    pub fn of_table(table: &Table) -> Self
+        ensures { AreOfTable table.now result }
     {
         if table.version() == 1 {
-            return Ok(Dispositions::Unstated);
+            return Dispositions::Unstated;
         }
         if !table.has_blocked() {
-            return Ok(Dispositions::AllAllocatable);
+            return Dispositions::AllAllocatable;
         }
-        Ok(Dispositions::BySpelling(table.unblocked(alloc)?))
+        Dispositions::BySpelling(Part::Unblocked)
     }
 
-    /// What tells those of a label's variants. It takes the memory for all of them.
+    /// What tells those of the variants of a label that can be cut into sources of the table. It takes the memory for
+    /// all of them.
     pub fn of_label(
         &self,
         alloc: Global,
+        table: &Table,
         label: &[u32],
     ) -> Result<Dispositions<SpellingTest>, AllocError>
         requires some { 1 ≤ length label.now }
         requires short { length label.now ≤ 63 }
-        requires cut { CanBeCut self.now label.now }
-        ensures label { (table : TableValue) → AreOfTable table self.now → IfOk result (AreOfLabel table label.now) }
+        requires table { AreOfTable table.now self.now }
+        requires cut { HasSegmentation table.now.entries label.now }
+        ensures label { IfOk result (AreOfLabel table.now label.now) }
     {
         match self {
             Dispositions::Unstated => Ok(Dispositions::Unstated),
             Dispositions::AllAllocatable => Ok(Dispositions::AllAllocatable),
-            Dispositions::BySpelling(table) => match Net::build(alloc, table, label) {
+            Dispositions::BySpelling(part) => match Net::of_part(alloc, table, *part, label) {
                 Ok(net) => Ok(Dispositions::BySpelling(SpellingTest::new(alloc, net)?)),
                 Err(NetFault::Memory) => Err(AllocError),
-                // Blocked variants are left out, and no source.
+                // No source is blocked, so the label spells itself.
                 Err(NetFault::NotInTable) => unreachable!(),
             },
         }

@@ -32,7 +32,7 @@ use idn_text::{MAX_LINE_LEN, Refusal, Sink};
 use idn2_options::Options;
 use registered_labels::RegisteredLabels;
 use std::alloc::Global;
-use variant_list::{Net, NetFault, SpellingTest};
+use variant_list::{Net, NetFault, Part, SpellingTest};
 use variant_table::Table;
 
 /// The listing of variants by a table (RFC 7940 section 8). The options say after which text it
@@ -40,7 +40,7 @@ use variant_table::Table;
 #[derive(Drop)]
 pub(crate) struct Variants<'t, 'r, 'b> {
     pub table: &'t Table,
-    pub dispositions: &'t Dispositions<Table>,
+    pub dispositions: &'t Dispositions<Part>,
     pub options: &'t Options,
     pub registered: Option<&'r RegisteredLabels<'b>>,
     /// How it explains what it refuses.
@@ -141,7 +141,7 @@ fn list<W: Sink, E: Sink>(
 {
     match Net::build(alloc, mode.table, label) {
         Ok(net) => {
-            let mut dispositions = mode.dispositions.of_label(alloc, label)?;
+            let mut dispositions = mode.dispositions.of_label(alloc, mode.table, label)?;
             write_lines(alloc, mode, asked, &net, &mut dispositions, console)?;
             Ok(false)
         }

@@ -174,7 +174,7 @@ fn serve_variants<R: Source, W: Sink, E: Sink>(
         Ok(table) => table,
         Err(fault) => return refuse_table(options.form, fault, console),
     };
-    let dispositions = Dispositions::of_table(alloc, &table)?;
+    let dispositions = Dispositions::of_table(&table);
     let mode = Variants {
         table: &table,
         dispositions: &dispositions,

@@ -1,5 +1,5 @@
 -- What sets of labels hold, and what a step of the plain lister adds to them.
-use Rattle.std.specs.Prelude.{◌≡◌, ℕ, ◌-◌, ◌<◌, ◌⊎◌, ◌↔◌, List, ◌++◌, length, drop, Contains, slice_index_or, Vec}
+use Rattle.std.specs.Prelude.{◌≡◌, ℕ, false, ◌-◌, ◌<◌, ◌⊎◌, ◌↔◌, List, ◌++◌, length, drop, Contains, slice_index_or, Vec}
 use Rattle.std.specs.declared.alloc.Global.{Global}
 use Rattle.std.specs.BTreeSet.{BTreeSet}
 use Rattle.variant_table.specs.Entries.{Entry, replacements}
@@ -29,7 +29,12 @@ SomeGives {X} gives xs q = (x : X) × Contains xs x × gives x q
 abbrev pub JoinsEnding : List (List ℕ) → List ℕ → List ℕ → Type 0
 JoinsEnding endings beginning = SomeGives (λ ending q. q ≡ beginning ++ ending) endings
 
--- q is a replacement of the entry, whose source is cut off the rest, and then something that what is left spells
+-- q is a replacement of the entry, which is not outside, and then one of the endings
+abbrev pub EntryGives : List (List ℕ) → Entry → List ℕ → Type 0
+EntryGives endings e q = (e.outside ≡ false) × SomeGives (JoinsEnding endings) (replacements e) q
+
+-- q is a replacement of the entry, which is not outside and whose source is cut off the rest, and then something that what is left
+-- spells
 abbrev pub BeginsWith : List Entry → List ℕ → Entry → List ℕ → Type 0
 BeginsWith table rest e q =
-    (later : List ℕ) × (w : List ℕ) × (rest ≡ e.source ++ later) × Spells table later w × SomeGives (λ r q. q ≡ r ++ w) (replacements e) q
+    (later : List ℕ) × (w : List ℕ) × (rest ≡ e.source ++ later) × Spells table later w × SomeGives (λ r q. q ≡ r ++ w) (replacements e) q × (e.outside ≡ false)

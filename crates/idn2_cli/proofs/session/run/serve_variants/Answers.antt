@@ -20,11 +20,6 @@ returns-in-Err g c =
     refused_lines (keeping (option_copied c.args.registered) c.args.options.now) Variants (lists_by_table (keeping (option_copied c.args.registered) c.args.options.now) c.requires.mode) c.args.text.now _ c.in-Err.fault _ _ c.refuse_table.result c.requires.unread (subst (λ n. IsToldOf n c.args.text.now c.in-Err.fault) (ap (λ (v : Settings). v.notation) c.options.view_is) c.in-Err.ensures.fault)
     (in_form c.args.text.now c.in-Err.fault _ _ _ _ c.refuse_table.result (ap (λ (v : Settings). v.form) c.options.view_is) c.refuse_table.ensures.told) c.refuse_table.ensures.status
 
-pub returns-in_err-dispositions : goal.returns-in_err-dispositions
-returns-in_err-dispositions g c =
-    let p = err_from_is_err_and c.from_residual.result c.from_residual.ensures.1 in
-    unread_stopped (keeping (option_copied c.args.registered) c.args.options.now) Variants (lists_by_table (keeping (option_copied c.args.registered) c.args.options.now) c.requires.mode) c.args.text.now _ _ c.from_residual.result p.0 c.requires.unread p.1 p.2
-
 pub returns : goal.returns
 returns g c =
     let o : Settings = keeping (option_copied c.args.registered) c.args.options.now in
