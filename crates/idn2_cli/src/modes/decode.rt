@@ -8,18 +8,15 @@ ghost use Rattle.idn_label.specs.Memory.{DecodesWithoutMemory};
 ghost use Rattle.idna.specs.Labels.{labels_of};
 ghost use Rattle.idn2_cli.specs.Answers.{one_answer};
 ghost use Rattle.idn2_cli.specs.Said.{Decoded};
-ghost use Rattle.idn2_cli.specs.inner.Explaining.{explained_by};
 ghost use Rattle.idn_label.specs.Steps.{in_utf8};
 ghost use Rattle.idn2_cli.specs.inner.LineAnswers.{with_feed};
 ghost use Rattle.idn2_cli.specs.Memory.{DecodesLineWithoutMemory};
 
-use crate::modes::answering::{Answering, Kind, reply};
+use crate::modes::answering::{Answering, Kind, refused, reply};
 use crate::modes::code_points::{ByPoints, PointAnswering};
 use crate::session::asked::Asked;
 use crate::session::buffers::{Buffers, MAX_ANSWER_LEN};
-use crate::session::cause::Explaining;
 use crate::session::console::Console;
-use crate::session::refusing::{refuse, refuse_points};
 use crate::session::stop::Stop;
 use idn_label::{DecodedLabel, decode_ascii, decode_name};
 use idn_text::{MAX_LINE_LEN, Refusal, Sink};
@@ -27,21 +24,12 @@ use std::alloc::{AllocError, Global};
 
 /// Decoding (RFC 5891 section 5.3).
 #[derive(Clone, Copy)]
-pub(crate) struct Decode<'t> {
-    /// How it explains what it refuses.
-    pub explaining: Explaining<'t>,
-}
+pub(crate) struct Decode;
 
-impl<'t> Answering for Decode<'t> {
+impl Answering for Decode {
     ghost answer_of = { λ _ name. one_answer Decoded (in_utf8 (decode_answer name)) };
 
-    ghost explains = { λ mode. explained_by mode.explaining };
-
     ghost needs_none = { λ _ name. DecodesLineWithoutMemory name };
-
-    fn explaining(&self) -> &Explaining<'_> {
-        &self.explaining
-    }
 
     fn answer<W: Sink, E: Sink>(
         &self,
@@ -49,10 +37,10 @@ impl<'t> Answering for Decode<'t> {
         asked: &Asked<'_>,
         buffers: &mut Buffers,
         console: &mut Console<'_, '_, W, E>,
-    ) -> Result<bool, Stop> {
+    ) -> Result<Option<Refusal>, Stop> {
         let text = asked.text;
         if text.is_empty() {
-            return refuse(alloc, asked, Refusal::Empty, &self.explaining, console);
+            return Ok(Some(Refusal::Empty));
         }
         // A line past ASCII is answered by its code points.
         if !text.is_ascii() {
@@ -60,7 +48,7 @@ impl<'t> Answering for Decode<'t> {
         }
         match fill_line(alloc, text, &mut buffers.u_label, &mut buffers.answer) {
             Ok(len) => reply(asked, Kind::Decoded, &buffers.answer[..len], console),
-            Err(refusal) => refuse(alloc, asked, refusal, &self.explaining, console),
+            Err(refusal) => refused(refusal),
         }
     }
 }
@@ -86,14 +74,8 @@ fn fill_line(
     Ok(len + 1)
 }
 
-impl<'t> PointAnswering for Decode<'t> {
+impl PointAnswering for Decode {
     ghost answer_of = { λ _ name. one_answer Decoded (in_utf8 (decode_answer name)) };
-
-    ghost explains = { λ mode. explained_by mode.explaining };
-
-    fn explaining(&self) -> &Explaining<'_> {
-        &self.explaining
-    }
 
     fn answer_points<W: Sink, E: Sink>(
         &self,
@@ -101,12 +83,10 @@ impl<'t> PointAnswering for Decode<'t> {
         asked: &Asked<'_>,
         points: &[u32],
         console: &mut Console<'_, '_, W, E>,
-    ) -> Result<bool, Stop> {
+    ) -> Result<Option<Refusal>, Stop> {
         match line_of(alloc, points) {
             Ok(line) => reply(asked, Kind::Decoded, line.as_bytes(), console),
-            Err(refusal) => {
-                refuse_points(alloc, asked, points, refusal, &self.explaining, console)
-            }
+            Err(refusal) => refused(refusal),
         }
     }
 }
