@@ -1,18 +1,19 @@
 //! Modes that answer a line by its code points.
 
-ghost use Rattle.std.specs.Prelude.{◌≡◌, ◌≢◌, ◌≤◌, ℕ, Bool, false, List, length, chars, IfOk, Err};
+ghost use Rattle.std.specs.Prelude.{◌≡◌, ◌≢◌, ◌≤◌, ℕ, Bool, false, List, length, chars, IfOk};
 ghost use Rattle.idn_text.specs.Points.{AreScalarValues};
 ghost use Rattle.idn2_cli.specs.Answers.{LineAnswer};
 ghost use Rattle.idn2_cli.specs.inner.Asked.{asked_line};
 ghost use Rattle.idn2_cli.specs.inner.Emitting.{Emits, StopsForMemory};
 ghost use Rattle.idn2_cli.specs.inner.LineAnswers.{KeepsIfRefused, refusal_in, reply_pieces};
+ghost use Rattle.idn2_cli.specs.inner.Outcomes.{result_of};
+ghost use Rattle.idn2_cli.specs.declared.modes.answering.Outcome.TheVariants as outcome;
 ghost use Rattle.idn2_cli.specs.declared.session.stop.Stop.TheVariants as stop;
 
-use crate::modes::answering::Answering;
+use crate::modes::answering::{Answering, Outcome};
 use crate::session::asked::Asked;
 use crate::session::buffers::Buffers;
 use crate::session::console::Console;
-use crate::session::stop::Stop;
 use idn_text::{MAX_LINE_LEN, Refusal, Sink, decode_points};
 use std::alloc::Global;
 
@@ -33,25 +34,24 @@ pub(crate) trait PointAnswering {
     // The code points of lines of which the answer, once begun, goes on without memory.
     ghost goes_on: { Self → List ℕ → Type 0 } = { λ _ _. Unit {0} };
 
-    /// Writes the answer to a line that spells these code points. Or gives back why the line is refused, and then nothing
-    /// is written.
+    /// Writes the answer to a line that spells these code points, or gives back why the line is refused.
     fn answer_points<W: Sink, E: Sink>(
         &self,
         alloc: Global,
         asked: &Asked<'_>,
         points: &[u32],
         console: &mut Console<'_, '_, W, E>,
-    ) -> Result<Option<Refusal>, Stop>
+    ) -> Outcome
         requires ready { is_ready self.now }
         requires few { length asked.now.text.now ≤ MAX_LINE_LEN }
         requires few_points { length points.now ≤ MAX_LINE_LEN }
         requires scalar_values { AreScalarValues points.now }
         ensures written { Emits console.old console.new
-            (reply_pieces asked.now.form (asked_line asked.now) (answer_of self.now points.now)) result }
-        ensures refused { IfOk result (λ refusal. refusal ≡ refusal_in (answer_of self.now points.now)) }
-        ensures kept { KeepsIfRefused console.old console.new result }
-        ensures no_memory { needs_none self.now points.now → result ≢ Err stop.Memory }
-        ensures begun { StopsForMemory (goes_on self.now points.now) console.old console.new result };
+            (reply_pieces asked.now.form (asked_line asked.now) (answer_of self.now points.now)) (result_of result) }
+        ensures refused { IfOk (result_of result) (λ refusal. refusal ≡ refusal_in (answer_of self.now points.now)) }
+        ensures kept { KeepsIfRefused console.old console.new (result_of result) }
+        ensures no_memory { needs_none self.now points.now → result ≢ outcome.Stopped stop.Memory }
+        ensures begun { StopsForMemory (goes_on self.now points.now) console.old console.new (result_of result) };
 }
 
 /// A mode that is handed them, as one that is handed bytes.
@@ -77,10 +77,10 @@ impl<'m, M: PointAnswering> Answering for ByPoints<'m, M> {
         asked: &Asked<'_>,
         buffers: &mut Buffers,
         console: &mut Console<'_, '_, W, E>,
-    ) -> Result<Option<Refusal>, Stop> {
+    ) -> Outcome {
         match decode_points(asked.text, &mut buffers.points) {
-            Err(_) => Ok(Some(Refusal::NotUtf8)),
-            Ok(()) if asked.text.is_empty() => Ok(Some(Refusal::Empty)),
+            Err(_) => Outcome::Refused(Refusal::NotUtf8),
+            Ok(()) if asked.text.is_empty() => Outcome::Refused(Refusal::Empty),
             Ok(()) => {
                 let points = buffers.points.as_slice();
                 self.mode.answer_points(alloc, asked, points, console)

@@ -12,12 +12,11 @@ ghost use Rattle.idn_label.specs.Steps.{in_utf8};
 ghost use Rattle.idn2_cli.specs.inner.LineAnswers.{with_feed};
 ghost use Rattle.idn2_cli.specs.Memory.{DecodesLineWithoutMemory};
 
-use crate::modes::answering::{Answering, Kind, refused, reply};
+use crate::modes::answering::{Answering, Kind, Outcome, answered, refused, reply};
 use crate::modes::code_points::{ByPoints, PointAnswering};
 use crate::session::asked::Asked;
 use crate::session::buffers::{Buffers, MAX_ANSWER_LEN};
 use crate::session::console::Console;
-use crate::session::stop::Stop;
 use idn_label::{DecodedLabel, decode_ascii, decode_name};
 use idn_text::{MAX_LINE_LEN, Refusal, Sink};
 use std::alloc::{AllocError, Global};
@@ -37,17 +36,20 @@ impl Answering for Decode {
         asked: &Asked<'_>,
         buffers: &mut Buffers,
         console: &mut Console<'_, '_, W, E>,
-    ) -> Result<Option<Refusal>, Stop> {
+    ) -> Outcome {
         let text = asked.text;
         if text.is_empty() {
-            return Ok(Some(Refusal::Empty));
+            return Outcome::Refused(Refusal::Empty);
         }
         // A line past ASCII is answered by its code points.
         if !text.is_ascii() {
             return ByPoints { mode: self }.answer(alloc, asked, buffers, console);
         }
         match fill_line(alloc, text, &mut buffers.u_label, &mut buffers.answer) {
-            Ok(len) => reply(asked, Kind::Decoded, &buffers.answer[..len], console),
+            Ok(len) => {
+                let line = &buffers.answer[..len];
+                answered(reply(asked, Kind::Decoded, line, console))
+            }
             Err(refusal) => refused(refusal),
         }
     }
@@ -83,9 +85,9 @@ impl PointAnswering for Decode {
         asked: &Asked<'_>,
         points: &[u32],
         console: &mut Console<'_, '_, W, E>,
-    ) -> Result<Option<Refusal>, Stop> {
+    ) -> Outcome {
         match line_of(alloc, points) {
-            Ok(line) => reply(asked, Kind::Decoded, line.as_bytes(), console),
+            Ok(line) => answered(reply(asked, Kind::Decoded, line.as_bytes(), console)),
             Err(refusal) => refused(refusal),
         }
     }

@@ -13,9 +13,11 @@ ghost use Rattle.idn2_cli.specs.Transcript.{Output};
 ghost use Rattle.idn2_cli.specs.inner.Asked.{asked_line};
 ghost use Rattle.idn2_cli.specs.inner.Emitting.{Emits};
 ghost use Rattle.idn2_cli.specs.inner.LineAnswers.{KeepsIfRefused, refusal_in, reply_pieces};
+ghost use Rattle.idn2_cli.specs.inner.Outcomes.{result_of};
+ghost use Rattle.idn2_cli.specs.declared.modes.answering.Outcome.TheVariants as outcome;
 ghost use Rattle.idn2_cli.specs.declared.session.stop.Stop.TheVariants as stop;
 
-use crate::modes::answering::refused;
+use crate::modes::answering::{Outcome, answered, refused};
 use crate::modes::code_points::PointAnswering;
 use crate::modes::kept_line::KeptLine;
 use crate::session::asked::Asked;
@@ -52,7 +54,7 @@ impl<'t> PointAnswering for Jumps<'t> {
         asked: &Asked<'_>,
         points: &[u32],
         console: &mut Console<'_, '_, W, E>,
-    ) -> Result<Option<Refusal>, Stop> {
+    ) -> Outcome {
         match test_label(alloc, label_of_request(points)) {
             Ok(_) => answer_least(alloc, self.table, asked, points, console),
             Err(refusal) => refused(refusal),
@@ -67,25 +69,22 @@ fn answer_least<W: Sink, E: Sink>(
     asked: &Asked<'_>,
     points: &[u32],
     console: &mut Console<'_, '_, W, E>,
-) -> Result<Option<Refusal>, Stop>
+) -> Outcome
     requires table { IsWellFormed table.now.entries }
     requires few { length asked.now.text.now ≤ MAX_LINE_LEN }
     requires scalar_values { AreScalarValues points.now }
     requires registrable { IsRegistrable (requested_label points.now) }
     ensures written { Emits console.old console.new
-        (reply_pieces asked.now.form (asked_line asked.now) (least_answer table.now (requested_label points.now) (requested_text points.now))) result }
-    ensures refused { IfOk result (λ refusal. refusal ≡ refusal_in (least_answer table.now (requested_label points.now) (requested_text points.now))) }
-    ensures kept { KeepsIfRefused console.old console.new result }
-    ensures begun { result ≡ Err stop.Memory → console.new ≡ console.old }
+        (reply_pieces asked.now.form (asked_line asked.now) (least_answer table.now (requested_label points.now) (requested_text points.now))) (result_of result) }
+    ensures refused { IfOk (result_of result) (λ refusal. refusal ≡ refusal_in (least_answer table.now (requested_label points.now) (requested_text points.now))) }
+    ensures kept { KeepsIfRefused console.old console.new (result_of result) }
+    ensures begun { result ≡ outcome.Stopped stop.Memory → console.new ≡ console.old }
 {
     let (label, text) = parts_of(points);
     match Net::build(alloc, table, label) {
-        Ok(net) => {
-            write_least(alloc, asked, &net, text, console)?;
-            Ok(None)
-        }
-        Err(NetFault::NotInTable) => Ok(Some(Refusal::NotInTable)),
-        Err(NetFault::Memory) => Err(Stop::Memory),
+        Ok(net) => answered(write_least(alloc, asked, &net, text, console)),
+        Err(NetFault::NotInTable) => Outcome::Refused(Refusal::NotInTable),
+        Err(NetFault::Memory) => Outcome::Stopped(Stop::Memory),
     }
 }
 

@@ -8,11 +8,10 @@ ghost use Rattle.idn2_cli.specs.Answers.{one_answer};
 ghost use Rattle.idn2_cli.specs.Said.{LookedUp};
 ghost use Rattle.idn2_cli.specs.inner.LineAnswers.{with_feed, query_answer};
 
-use crate::modes::answering::{Answering, Kind, refused, reply};
+use crate::modes::answering::{Answering, Kind, Outcome, answered, refused, reply};
 use crate::session::asked::Asked;
 use crate::session::buffers::Buffers;
 use crate::session::console::Console;
-use crate::session::stop::Stop;
 use idn_label::{LookupBuffers, lookup_utf8};
 use idn_text::{Refusal, Sink};
 use std::alloc::Global;
@@ -35,7 +34,7 @@ impl Answering for Lookup {
         asked: &Asked<'_>,
         buffers: &mut Buffers,
         console: &mut Console<'_, '_, W, E>,
-    ) -> Result<Option<Refusal>, Stop> {
+    ) -> Outcome {
         match fill_line(
             alloc,
             asked.text,
@@ -43,7 +42,10 @@ impl Answering for Lookup {
             &mut buffers.lookup,
             &mut buffers.query,
         ) {
-            Ok(len) => reply(asked, Kind::LookedUp, &buffers.query[..len], console),
+            Ok(len) => {
+                let line = &buffers.query[..len];
+                answered(reply(asked, Kind::LookedUp, line, console))
+            }
             Err(refusal) => refused(refusal),
         }
     }

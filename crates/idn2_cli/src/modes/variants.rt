@@ -16,8 +16,9 @@ ghost use Rattle.idn2_cli.specs.Transcript.{outputs};
 ghost use Rattle.idn2_cli.specs.inner.Asked.{asked_line};
 ghost use Rattle.idn2_cli.specs.inner.Emitting.{Emits, StopsForMemory};
 ghost use Rattle.idn2_cli.specs.inner.LineAnswers.{KeepsIfRefused, refusal_in, reply_pieces};
+ghost use Rattle.idn2_cli.specs.inner.Outcomes.{result_of};
 
-use crate::modes::answering::refused;
+use crate::modes::answering::{Outcome, answered, refused};
 use crate::modes::block::write_block;
 use crate::modes::code_points::PointAnswering;
 use crate::modes::collisions::write_collisions;
@@ -61,7 +62,7 @@ impl<'t, 'r, 'b> PointAnswering for Variants<'t, 'r, 'b> {
         asked: &Asked<'_>,
         points: &[u32],
         console: &mut Console<'_, '_, W, E>,
-    ) -> Result<Option<Refusal>, Stop> {
+    ) -> Outcome {
         match test_label(alloc, points) {
             Ok(_) => list(alloc, self, asked, points, console),
             Err(refusal) => refused(refusal),
@@ -110,7 +111,7 @@ fn list<W: Sink, E: Sink>(
     asked: &Asked<'_>,
     label: &[u32],
     console: &mut Console<'_, '_, W, E>,
-) -> Result<Option<Refusal>, Stop>
+) -> Outcome
     requires limits { IsWithinLimits mode.now.options.now }
     requires table { IsWellFormed mode.now.table.now.entries }
     requires dispositions { AreOfTable mode.now.table.now mode.now.dispositions.now }
@@ -119,21 +120,22 @@ fn list<W: Sink, E: Sink>(
     requires registrable { IsRegistrable label.now }
     ensures written { Emits console.old console.new
         (reply_pieces asked.now.form (asked_line asked.now)
-        (listing_answer (keeping (option_copied mode.now.registered) mode.now.options.now) mode.now.table.now label.now)) result }
-    ensures refused { IfOk result
+        (listing_answer (keeping (option_copied mode.now.registered) mode.now.options.now) mode.now.table.now label.now)) (result_of result) }
+    ensures refused { IfOk (result_of result)
         (λ refusal. refusal ≡ refusal_in (listing_answer (keeping (option_copied mode.now.registered) mode.now.options.now) mode.now.table.now label.now)) }
-    ensures kept { KeepsIfRefused console.old console.new result }
+    ensures kept { KeepsIfRefused console.old console.new (result_of result) }
     ensures begun { StopsForMemory
         (All NeedsNoMemory (tested_after (keeping (option_copied mode.now.registered) mode.now.options.now) (spelled mode.now.table.now.entries label.now)))
-        console.old console.new result }
+        console.old console.new (result_of result) }
 {
     match Net::build(alloc, mode.table, label) {
-        Ok(net) => {
-            let mut dispositions = mode.dispositions.of_label(alloc, label)?;
-            write_lines(alloc, mode, asked, &net, &mut dispositions, console)?;
-            Ok(None)
-        }
-        Err(NetFault::NotInTable) => Ok(Some(Refusal::NotInTable)),
-        Err(NetFault::Memory) => Err(Stop::Memory),
+        Ok(net) => match mode.dispositions.of_label(alloc, label) {
+            Ok(mut dispositions) => {
+                answered(write_lines(alloc, mode, asked, &net, &mut dispositions, console))
+            }
+            Err(_) => Outcome::Stopped(Stop::Memory),
+        },
+        Err(NetFault::NotInTable) => Outcome::Refused(Refusal::NotInTable),
+        Err(NetFault::Memory) => Outcome::Stopped(Stop::Memory),
     }
 }

@@ -6,13 +6,15 @@ ghost use Rattle.idn_text.specs.Reading.{IsUnread, line_at};
 ghost use Rattle.idn2_cli.specs.inner.Emitting.{Emits, StopsForMemory};
 ghost use Rattle.idn2_cli.specs.inner.Explaining.{explained_by};
 ghost use Rattle.idn2_cli.specs.inner.LineAnswers.{KeepsIfRefused, refusal_in, reply_pieces};
+ghost use Rattle.idn2_cli.specs.inner.Outcomes.{result_of};
+ghost use Rattle.idn2_cli.specs.declared.modes.answering.Outcome.TheVariants as outcome;
 ghost use Rattle.idn2_cli.specs.Answers.{line_answer};
 ghost use Rattle.idn2_cli.specs.Transcript.{line_pieces};
 ghost use Rattle.idn2_cli.specs.Ends.{Does, lines_job};
 ghost use Rattle.idn2_cli.specs.Memory.{BodyNeedsNone, NeedsNone};
 ghost use Rattle.idn2_cli.specs.declared.session.stop.Stop.TheVariants as stop;
 
-use crate::modes::answering::Answering;
+use crate::modes::answering::{Answering, Outcome};
 use crate::session::asked::Asked;
 use crate::session::buffers::Buffers;
 use crate::session::cause::Explaining;
@@ -40,8 +42,9 @@ pub(crate) fn serve_lines<M: Answering, R: Source, W: Sink, E: Sink>(
     let mut buffers = Buffers::new();
     let mut has_refused = false;
     'lines: while input.advance()? {
-        let is_refused = serve_line(alloc, form, explaining, mode, input, &mut buffers, console)?;
-        has_refused = has_refused || is_refused;
+        if serve_line(alloc, form, explaining, mode, input, &mut buffers, console)? {
+            has_refused = true;
+        }
     }
     Ok(if has_refused {
         Status::Refused
@@ -68,16 +71,17 @@ fn serve_line<M: Answering, R: Source, W: Sink, E: Sink>(
     ensures no_memory { BodyNeedsNone (NeedsNone (explained_by explaining.now) (M.answer_of mode.now) (M.needs_none mode.now)) (line_at input.now).body → result ≢ Err stop.Memory }
     ensures begun { StopsForMemory (BodyNeedsNone (M.goes_on mode.now) (line_at input.now).body) console.old console.new result }
 {
-    match answer_line(alloc, form, mode, input, buffers, console)? {
-        None => Ok(false),
-        Some(refusal) => {
+    match answer_line(alloc, form, mode, input, buffers, console) {
+        Outcome::Answered => Ok(false),
+        Outcome::Refused(refusal) => {
             refuse(alloc, form, explaining, input, refusal, console)?;
             Ok(true)
         }
+        Outcome::Stopped(why) => Err(why),
     }
 }
 
-/// Answers the line that the input went on to. Or gives back why it is refused, and then nothing is written.
+/// Answers the line that the input went on to, or gives back why it is refused.
 #[inline(always)]
 fn answer_line<M: Answering, R: Source, W: Sink, E: Sink>(
     alloc: Global,
@@ -86,14 +90,14 @@ fn answer_line<M: Answering, R: Source, W: Sink, E: Sink>(
     input: &Lines<R>,
     buffers: &mut Buffers,
     console: &mut Console<'_, '_, W, E>,
-) -> Result<Option<Refusal>, Stop>
+) -> Outcome
     requires { M.is_ready mode.now }
     ensures written { Emits console.old console.new
-        (reply_pieces form (line_at input.now) (line_answer (M.answer_of mode.now) (line_at input.now).body)) result }
-    ensures refused { IfOk result (λ refusal. refusal ≡ refusal_in (line_answer (M.answer_of mode.now) (line_at input.now).body)) }
-    ensures kept { KeepsIfRefused console.old console.new result }
-    ensures no_memory { BodyNeedsNone (M.needs_none mode.now) (line_at input.now).body → result ≢ Err stop.Memory }
-    ensures begun { StopsForMemory (BodyNeedsNone (M.goes_on mode.now) (line_at input.now).body) console.old console.new result }
+        (reply_pieces form (line_at input.now) (line_answer (M.answer_of mode.now) (line_at input.now).body)) (result_of result) }
+    ensures refused { IfOk (result_of result) (λ refusal. refusal ≡ refusal_in (line_answer (M.answer_of mode.now) (line_at input.now).body)) }
+    ensures kept { KeepsIfRefused console.old console.new (result_of result) }
+    ensures no_memory { BodyNeedsNone (M.needs_none mode.now) (line_at input.now).body → result ≢ outcome.Stopped stop.Memory }
+    ensures begun { StopsForMemory (BodyNeedsNone (M.goes_on mode.now) (line_at input.now).body) console.old console.new (result_of result) }
 {
     let number = input.number();
     match input.text() {
@@ -101,6 +105,6 @@ fn answer_line<M: Answering, R: Source, W: Sink, E: Sink>(
             let asked = Asked { form, number, text };
             mode.answer(alloc, &asked, buffers, console)
         }
-        None => Ok(Some(Refusal::LineTooLong)),
+        None => Outcome::Refused(Refusal::LineTooLong),
     }
 }

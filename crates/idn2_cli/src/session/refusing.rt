@@ -72,6 +72,7 @@ fn explain<W: Sink, E: Sink>(
 }
 
 /// Tells that a line of this number is refused, with its cause, if there is one. It takes no memory.
+#[inline(always)]
 fn tell<W: Sink, E: Sink>(
     form: Form,
     number: u64,
@@ -92,6 +93,7 @@ fn tell<W: Sink, E: Sink>(
 }
 
 /// Writes the message of a refused line, with its cause, if there is one.
+#[inline(always)]
 fn tell_message<W: Sink, E: Sink>(
     number: u64,
     refusal: Refusal,

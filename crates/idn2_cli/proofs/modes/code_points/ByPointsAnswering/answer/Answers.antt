@@ -1,6 +1,7 @@
 use Rattle.std.proofs.Common.{◌∙◌, ℕ, List, ap, refl, sym, subst}
 use Rattle.idn_text.proofs.Utf8Lemmas.{points_from_utf8}
 use Rattle.idn2_cli.specs.inner.Emitting.{StopsForMemory}
+use Rattle.idn2_cli.specs.inner.Outcomes.{result_of}
 use Rattle.idn2_cli.proofs.TextAnswers.{text_answer-not_utf8, text_answer-empty, text_answer-points}
 use Rattle.idn2_cli.proofs.WrittenPieces.{writes_nothing}
 use Rattle.idn2_cli.proofs.modes.code_points.ByPointsAnswering.answer.Goals as goal
@@ -41,4 +42,4 @@ returns-in-Ok-2-clause-no_memory g c =
 pub returns-in-Ok-2-clause-begun : goal.returns-in-Ok-2-clause-begun
 returns-in-Ok-2-clause-begun g c =
     let points = points_from_utf8 _ _ c.in-Ok-2.ensures.decoded ∙ sym c.as_slice-points.ensures.value in
-    subst (λ (ps : List ℕ). StopsForMemory (g.M.PointAnswering.goes_on c.args.self.now.mode.now ps) c.args.console.now c.answer_points.new.console c.answer_points.result) (sym points) c.answer_points.ensures.begun
+    subst (λ (ps : List ℕ). StopsForMemory (g.M.PointAnswering.goes_on c.args.self.now.mode.now ps) c.args.console.now c.answer_points.new.console (result_of c.answer_points.result)) (sym points) c.answer_points.ensures.begun

@@ -4,7 +4,7 @@ use Rattle.idn2_cli.specs.Answers.{one_answer}
 use Rattle.idn2_cli.specs.Said.{Decoded}
 use Rattle.idn_label.specs.Steps.{in_utf8}
 use Rattle.idn2_cli.proofs.TextAnswers.{text_answer-none, text_answer-ascii, answered-filled, emits_answer, one_answer-answered, one_answer-refused}
-use Rattle.idn2_cli.proofs.RefusedLines.{kept_as_it_was, kept_if_answered, replies_refusal, refused_is, refused_without}
+use Rattle.idn2_cli.proofs.RefusedLines.{answered_none, emits_answered, kept_as_it_was, kept_if_answered, replies_refusal, refused_is, refused_without}
 use Rattle.idn2_cli.proofs.WrittenPieces.{writes_nothing}
 use Rattle.idn2_cli.proofs.modes.decode.DecodeAnswering.answer.Goals as goal
 
@@ -28,7 +28,7 @@ returns-in-Ok-clause-written g c =
     let some = sym c.is_empty.ensures ∙ c.if-is_empty.false in
     let ascii : IsAscii text = search rules in
     rw (text_answer-ascii (λ name. one_answer Decoded (in_utf8 (decode_answer name))) text ascii some)
-    (emits_answer _ _ _ _ Decoded answer _ c.reply.result c.in-Ok.ensures.answer c.reply.ensures.written)
+    (emits_answered _ _ _ c.reply.result c.answered.result c.answered.ensures (emits_answer _ _ _ _ Decoded answer _ c.reply.result c.in-Ok.ensures.answer c.reply.ensures.written))
 
 pub returns-in-Ok-clause-refused : goal.returns-in-Ok-clause-refused
 returns-in-Ok-clause-refused g c =
@@ -36,10 +36,10 @@ returns-in-Ok-clause-refused g c =
     let answer = in_utf8 (decode_answer text) in
     let some = sym c.is_empty.ensures ∙ c.if-is_empty.false in
     let ascii : IsAscii text = search rules in
-    rw (text_answer-ascii (λ name. one_answer Decoded (in_utf8 (decode_answer name))) text ascii some, one_answer-answered Decoded answer _ c.in-Ok.ensures.answer) c.reply.ensures.answered
+    rw (text_answer-ascii (λ name. one_answer Decoded (in_utf8 (decode_answer name))) text ascii some, one_answer-answered Decoded answer _ c.in-Ok.ensures.answer) (answered_none c.reply.result c.answered.result c.answered.ensures)
 
 pub returns-in-Ok-clause-kept : goal.returns-in-Ok-clause-kept
-returns-in-Ok-clause-kept g c = kept_if_answered _ _ c.reply.result c.reply.ensures.answered
+returns-in-Ok-clause-kept g c = kept_if_answered _ _ c.reply.result c.answered.result c.answered.ensures
 
 pub returns-in-Err-clause-written : goal.returns-in-Err-clause-written
 returns-in-Err-clause-written g c =
