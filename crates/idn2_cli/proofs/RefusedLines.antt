@@ -13,9 +13,9 @@ use Rattle.idn2_cli.specs.Explained.{Explained, SeeksNoCause, Unexplained, body_
 use Rattle.idn2_cli.specs.Memory.{BodyNeedsNone, NeedsNone}
 use Rattle.idn2_cli.specs.inner.Emitting.{Emits, StopsWithin, StopsForMemory}
 use Rattle.idn2_cli.specs.inner.LineAnswers.{KeepsIfRefused, refusal_in, reply_pieces}
-use Rattle.idn2_cli.specs.inner.Outcomes.{answered_as, result_of}
-use Rattle.idn2_cli.specs.declared.modes.answering.Outcome.{Outcome}
-use Rattle.idn2_cli.specs.declared.modes.answering.Outcome.TheVariants as outcome
+use Rattle.idn2_cli.specs.inner.ServedLines.{answered_as, result_of}
+use Rattle.idn2_cli.specs.declared.modes.answering.Served.{Served}
+use Rattle.idn2_cli.specs.declared.modes.answering.Served.TheVariants as served
 use Rattle.idn2_cli.specs.declared.session.stop.Stop.{Stop}
 use Rattle.idn2_cli.specs.declared.session.stop.Stop.TheVariants as stop
 use Rattle.idn2_cli.proofs.WrittenPieces.{cut_before, stops_first, writes_nothing}
@@ -27,47 +27,47 @@ is_memory other = inr (λ e. cc)
 -- ---- a mode gives a refusal back
 
 -- the answer is this refusal, unless memory was refused, and nothing is written
-pub replies_refusal : (old : Held) (form : Form) (line : Numbered) (refusal : Refusal) (answer : LineAnswer) (o : Outcome) → (refusal ≢ Memory → answer ≡ Err refusal)
-    → (refusal ≢ Memory → o ≡ outcome.Refused refusal) → (refusal ≡ Memory → o ≡ outcome.Stopped stop.Memory) → Emits old old (reply_pieces form line answer) (result_of o)
+pub replies_refusal : (old : Held) (form : Form) (line : Numbered) (refusal : Refusal) (answer : LineAnswer) (o : Served) → (refusal ≢ Memory → answer ≡ Err refusal)
+    → (refusal ≢ Memory → o ≡ served.Refused refusal) → (refusal ≡ Memory → o ≡ served.Stopped stop.Memory) → Emits old old (reply_pieces form line answer) (result_of o)
 replies_refusal old form line refusal answer o is refused memory = elim (is_memory refusal) [
-  | inl e ↦ subst (λ (p : Outcome). Emits old old (reply_pieces form line answer) (result_of p)) (sym (memory e)) (stops_first old (reply_pieces form line answer))
+  | inl e ↦ subst (λ (p : Served). Emits old old (reply_pieces form line answer) (result_of p)) (sym (memory e)) (stops_first old (reply_pieces form line answer))
   | inr other ↦
       subst (λ (a : LineAnswer). Emits old old (reply_pieces form line a) (result_of o)) (sym (is other))
-      (subst (λ (p : Outcome). Emits old old [] (result_of p)) (sym (refused other)) (writes_nothing old))
+      (subst (λ (p : Served). Emits old old [] (result_of p)) (sym (refused other)) (writes_nothing old))
 ]
 
-pub refused_is : (refusal : Refusal) (answer : LineAnswer) (o : Outcome) → (refusal ≢ Memory → answer ≡ Err refusal)
-    → (refusal ≢ Memory → o ≡ outcome.Refused refusal) → (refusal ≡ Memory → o ≡ outcome.Stopped stop.Memory) → IfOk (result_of o) (λ given. given ≡ refusal_in answer)
+pub refused_is : (refusal : Refusal) (answer : LineAnswer) (o : Served) → (refusal ≢ Memory → answer ≡ Err refusal)
+    → (refusal ≢ Memory → o ≡ served.Refused refusal) → (refusal ≡ Memory → o ≡ served.Stopped stop.Memory) → IfOk (result_of o) (λ given. given ≡ refusal_in answer)
 refused_is refusal answer o is refused memory = elim (is_memory refusal) [
-  | inl e ↦ subst (λ (p : Outcome). IfOk (result_of p) (λ given. given ≡ refusal_in answer)) (sym (memory e)) tt
-  | inr other ↦ subst (λ (p : Outcome). IfOk (result_of p) (λ given. given ≡ refusal_in answer)) (sym (refused other)) (sym (ap refusal_in (is other)))
+  | inl e ↦ subst (λ (p : Served). IfOk (result_of p) (λ given. given ≡ refusal_in answer)) (sym (memory e)) tt
+  | inr other ↦ subst (λ (p : Served). IfOk (result_of p) (λ given. given ≡ refusal_in answer)) (sym (refused other)) (sym (ap refusal_in (is other)))
 ]
 
 -- such a refusal is not stopped by memory
-pub refused_without : (refusal : Refusal) (o : Outcome) → refusal ≢ Memory → (refusal ≢ Memory → o ≡ outcome.Refused refusal) → o ≢ outcome.Stopped stop.Memory
-refused_without refusal o other refused = λ e. let clash : outcome.Refused refusal ≡ outcome.Stopped stop.Memory = sym (refused other) ∙ e in cc
+pub refused_without : (refusal : Refusal) (o : Served) → refusal ≢ Memory → (refusal ≢ Memory → o ≡ served.Refused refusal) → o ≢ served.Stopped stop.Memory
+refused_without refusal o other refused = λ e. let clash : served.Refused refusal ≡ served.Stopped stop.Memory = sym (refused other) ∙ e in cc
 
-pub kept_as_it_was : (old : Held) (o : Outcome) → KeepsIfRefused old old (result_of o)
-kept_as_it_was old outcome.Answered = tt
-kept_as_it_was old (outcome.Refused refusal) = refl
-kept_as_it_was old (outcome.Stopped why) = tt
+pub kept_as_it_was : (old : Held) (o : Served) → KeepsIfRefused old old (result_of o)
+kept_as_it_was old served.Answered = tt
+kept_as_it_was old (served.Refused refusal) = refl
+kept_as_it_was old (served.Stopped why) = tt
 
 -- ---- or it writes an answer
 
-pub emits_answered : (old new : Held) (pieces : List Piece) (r : Result (Unit {0}) Stop) (o : Outcome) → result_of o ≡ answered_as r → Emits old new pieces r → Emits old new pieces (result_of o)
+pub emits_answered : (old new : Held) (pieces : List Piece) (r : Result (Unit {0}) Stop) (o : Served) → result_of o ≡ answered_as r → Emits old new pieces r → Emits old new pieces (result_of o)
 emits_answered old new pieces (Ok done) o e emits = subst (λ (s : Result (Option Refusal) Stop). Emits old new pieces s) (sym e) emits
 emits_answered old new pieces (Err why) o e emits = subst (λ (s : Result (Option Refusal) Stop). Emits old new pieces s) (sym e) emits
 
-pub answered_none : (r : Result (Unit {0}) Stop) (o : Outcome) → result_of o ≡ answered_as r → IfOk (result_of o) (λ given. given ≡ None)
+pub answered_none : (r : Result (Unit {0}) Stop) (o : Served) → result_of o ≡ answered_as r → IfOk (result_of o) (λ given. given ≡ None)
 answered_none (Ok done) o e = subst (λ (s : Result (Option Refusal) Stop). IfOk s (λ given. given ≡ None)) (sym e) refl
 answered_none (Err why) o e = subst (λ (s : Result (Option Refusal) Stop). IfOk s (λ given. given ≡ None)) (sym e) tt
 
-pub kept_if_answered : (old new : Held) (r : Result (Unit {0}) Stop) (o : Outcome) → result_of o ≡ answered_as r → KeepsIfRefused old new (result_of o)
+pub kept_if_answered : (old new : Held) (r : Result (Unit {0}) Stop) (o : Served) → result_of o ≡ answered_as r → KeepsIfRefused old new (result_of o)
 kept_if_answered old new (Ok done) o e = subst (λ (s : Result (Option Refusal) Stop). KeepsIfRefused old new s) (sym e) tt
 kept_if_answered old new (Err why) o e = subst (λ (s : Result (Option Refusal) Stop). KeepsIfRefused old new s) (sym e) tt
 
 -- memory stops it where memory stopped the writing
-pub answered_memory : (r : Result (Unit {0}) Stop) (o : Outcome) → result_of o ≡ answered_as r → result_of o ≡ Err stop.Memory → r ≡ Err stop.Memory
+pub answered_memory : (r : Result (Unit {0}) Stop) (o : Served) → result_of o ≡ answered_as r → result_of o ≡ Err stop.Memory → r ≡ Err stop.Memory
 answered_memory (Ok done) o e memory = absurd (let clash : Ok None ≡ Err stop.Memory = sym e ∙ memory in cc)
 answered_memory (Err why) o e memory =
     let told : answered_as (Err why) ≡ Err stop.Memory = sym e ∙ memory in

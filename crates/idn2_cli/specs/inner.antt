@@ -8,4 +8,4 @@ pub mod KeptLines
 pub mod Explaining
 pub mod Asked
 pub mod Objects
-pub mod Outcomes
+pub mod ServedLines

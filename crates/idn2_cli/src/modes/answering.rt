@@ -8,10 +8,10 @@ ghost use Rattle.idn2_cli.specs.Said.{said_object, said_text};
 ghost use Rattle.idn2_cli.specs.Transcript.{Output};
 ghost use Rattle.idn2_cli.specs.inner.Asked.{asked_line};
 ghost use Rattle.idn2_cli.specs.inner.LineAnswers.{KeepsIfRefused, longest, refusal_in, reply_pieces, said_by};
-ghost use Rattle.idn2_cli.specs.inner.Outcomes.{answered_as, result_of};
+ghost use Rattle.idn2_cli.specs.inner.ServedLines.{answered_as, result_of};
 ghost use Rattle.idn2_cli.specs.inner.Objects.{HasSpace, object_told};
 ghost use Rattle.idn2_cli.specs.inner.Emitting.{Emits, StopsForMemory};
-ghost use Rattle.idn2_cli.specs.declared.modes.answering.Outcome.TheVariants as outcome;
+ghost use Rattle.idn2_cli.specs.declared.modes.answering.Served.TheVariants as served;
 ghost use Rattle.idn2_cli.specs.declared.session.stop.Stop.TheVariants as stop;
 
 use crate::session::asked::Asked;
@@ -26,7 +26,7 @@ use std::alloc::Global;
 
 /// What became of a line. Two bytes are enough for it, so it is handed back in registers.
 #[derive(Clone, Copy)]
-pub(crate) enum Outcome {
+pub(crate) enum Served {
     /// It was answered.
     Answered,
     /// The run stops.
@@ -59,36 +59,36 @@ pub(crate) trait Answering {
         asked: &Asked<'_>,
         buffers: &mut Buffers,
         console: &mut Console<'_, '_, W, E>,
-    ) -> Outcome
+    ) -> Served
         requires ready { is_ready self.now }
         requires few { length asked.now.text.now ≤ MAX_LINE_LEN }
         ensures written { Emits console.old console.new
             (reply_pieces asked.now.form (asked_line asked.now) (text_answer (answer_of self.now) asked.now.text.now)) (result_of result) }
         ensures refused { IfOk (result_of result) (λ refusal. refusal ≡ refusal_in (text_answer (answer_of self.now) asked.now.text.now)) }
         ensures kept { KeepsIfRefused console.old console.new (result_of result) }
-        ensures no_memory { needs_none self.now asked.now.text.now → result ≢ outcome.Stopped stop.Memory }
+        ensures no_memory { needs_none self.now asked.now.text.now → result ≢ served.Stopped stop.Memory }
         ensures begun { StopsForMemory (goes_on self.now asked.now.text.now) console.old console.new (result_of result) };
 }
 
 /// That a line is refused. Refused memory is no refusal of the line: the run stops.
 #[inline(always)]
-pub(crate) fn refused(refusal: Refusal) -> Outcome
-    ensures refused { refusal ≢ Refusal.Memory → result ≡ outcome.Refused refusal }
-    ensures memory { refusal ≡ Refusal.Memory → result ≡ outcome.Stopped stop.Memory }
+pub(crate) fn refused(refusal: Refusal) -> Served
+    ensures refused { refusal ≢ Refusal.Memory → result ≡ served.Refused refusal }
+    ensures memory { refusal ≡ Refusal.Memory → result ≡ served.Stopped stop.Memory }
 {
     match refusal {
-        Refusal::Memory => Outcome::Stopped(Stop::Memory),
-        _ => Outcome::Refused(refusal),
+        Refusal::Memory => Served::Stopped(Stop::Memory),
+        _ => Served::Refused(refusal),
     }
 }
 
 /// That a line was answered, where its answer was written.
 #[inline(always)]
-pub(crate) fn answered(written: Result<(), Stop>) -> Outcome
+pub(crate) fn answered(written: Result<(), Stop>) -> Served
     ensures { result_of result ≡ answered_as written }
 {
     match written {
-        Ok(()) => Outcome::Answered,
+        Ok(()) => Served::Answered,
         Err(why) => stopped(why),
     }
 }
@@ -97,10 +97,10 @@ pub(crate) fn answered(written: Result<(), Stop>) -> Outcome
 // Most answers are written.
 #[cold]
 #[inline(never)]
-fn stopped(why: Stop) -> Outcome
-    ensures { result ≡ outcome.Stopped why }
+fn stopped(why: Stop) -> Served
+    ensures { result ≡ served.Stopped why }
 {
-    Outcome::Stopped(why)
+    Served::Stopped(why)
 }
 
 /// What one text says of a name.

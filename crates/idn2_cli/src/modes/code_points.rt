@@ -6,11 +6,11 @@ ghost use Rattle.idn2_cli.specs.Answers.{LineAnswer};
 ghost use Rattle.idn2_cli.specs.inner.Asked.{asked_line};
 ghost use Rattle.idn2_cli.specs.inner.Emitting.{Emits, StopsForMemory};
 ghost use Rattle.idn2_cli.specs.inner.LineAnswers.{KeepsIfRefused, refusal_in, reply_pieces};
-ghost use Rattle.idn2_cli.specs.inner.Outcomes.{result_of};
-ghost use Rattle.idn2_cli.specs.declared.modes.answering.Outcome.TheVariants as outcome;
+ghost use Rattle.idn2_cli.specs.inner.ServedLines.{result_of};
+ghost use Rattle.idn2_cli.specs.declared.modes.answering.Served.TheVariants as served;
 ghost use Rattle.idn2_cli.specs.declared.session.stop.Stop.TheVariants as stop;
 
-use crate::modes::answering::{Answering, Outcome};
+use crate::modes::answering::{Answering, Served};
 use crate::session::asked::Asked;
 use crate::session::buffers::Buffers;
 use crate::session::console::Console;
@@ -41,7 +41,7 @@ pub(crate) trait PointAnswering {
         asked: &Asked<'_>,
         points: &[u32],
         console: &mut Console<'_, '_, W, E>,
-    ) -> Outcome
+    ) -> Served
         requires ready { is_ready self.now }
         requires few { length asked.now.text.now ≤ MAX_LINE_LEN }
         requires few_points { length points.now ≤ MAX_LINE_LEN }
@@ -50,7 +50,7 @@ pub(crate) trait PointAnswering {
             (reply_pieces asked.now.form (asked_line asked.now) (answer_of self.now points.now)) (result_of result) }
         ensures refused { IfOk (result_of result) (λ refusal. refusal ≡ refusal_in (answer_of self.now points.now)) }
         ensures kept { KeepsIfRefused console.old console.new (result_of result) }
-        ensures no_memory { needs_none self.now points.now → result ≢ outcome.Stopped stop.Memory }
+        ensures no_memory { needs_none self.now points.now → result ≢ served.Stopped stop.Memory }
         ensures begun { StopsForMemory (goes_on self.now points.now) console.old console.new (result_of result) };
 }
 
@@ -77,10 +77,10 @@ impl<'m, M: PointAnswering> Answering for ByPoints<'m, M> {
         asked: &Asked<'_>,
         buffers: &mut Buffers,
         console: &mut Console<'_, '_, W, E>,
-    ) -> Outcome {
+    ) -> Served {
         match decode_points(asked.text, &mut buffers.points) {
-            Err(_) => Outcome::Refused(Refusal::NotUtf8),
-            Ok(()) if asked.text.is_empty() => Outcome::Refused(Refusal::Empty),
+            Err(_) => Served::Refused(Refusal::NotUtf8),
+            Ok(()) if asked.text.is_empty() => Served::Refused(Refusal::Empty),
             Ok(()) => {
                 let points = buffers.points.as_slice();
                 self.mode.answer_points(alloc, asked, points, console)

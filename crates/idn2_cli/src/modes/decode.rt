@@ -12,7 +12,7 @@ ghost use Rattle.idn_label.specs.Steps.{in_utf8};
 ghost use Rattle.idn2_cli.specs.inner.LineAnswers.{with_feed};
 ghost use Rattle.idn2_cli.specs.Memory.{DecodesLineWithoutMemory};
 
-use crate::modes::answering::{Answering, Kind, Outcome, answered, refused, reply};
+use crate::modes::answering::{Answering, Kind, Served, answered, refused, reply};
 use crate::modes::code_points::{ByPoints, PointAnswering};
 use crate::session::asked::Asked;
 use crate::session::buffers::{Buffers, MAX_ANSWER_LEN};
@@ -30,16 +30,18 @@ impl Answering for Decode {
 
     ghost needs_none = { λ _ name. DecodesLineWithoutMemory name };
 
+    // It is called once for each line.
+    #[inline(always)]
     fn answer<W: Sink, E: Sink>(
         &self,
         alloc: Global,
         asked: &Asked<'_>,
         buffers: &mut Buffers,
         console: &mut Console<'_, '_, W, E>,
-    ) -> Outcome {
+    ) -> Served {
         let text = asked.text;
         if text.is_empty() {
-            return Outcome::Refused(Refusal::Empty);
+            return Served::Refused(Refusal::Empty);
         }
         // A line past ASCII is answered by its code points.
         if !text.is_ascii() {
@@ -57,6 +59,8 @@ impl Answering for Decode {
 
 /// Writes into `line` a name in ASCII with U-labels in place of its A-labels and a line feed, and returns the length of
 /// that. Where the name is refused, what is left says nothing. `u_label` is room for what an A-label stands for.
+// It is called once for each line.
+#[inline(always)]
 fn fill_line(
     alloc: Global,
     name: &[u8],
@@ -85,7 +89,7 @@ impl PointAnswering for Decode {
         asked: &Asked<'_>,
         points: &[u32],
         console: &mut Console<'_, '_, W, E>,
-    ) -> Outcome {
+    ) -> Served {
         match line_of(alloc, points) {
             Ok(line) => answered(reply(asked, Kind::Decoded, line.as_bytes(), console)),
             Err(refusal) => refused(refusal),

@@ -13,11 +13,11 @@ ghost use Rattle.idn2_cli.specs.Transcript.{Output};
 ghost use Rattle.idn2_cli.specs.inner.Asked.{asked_line};
 ghost use Rattle.idn2_cli.specs.inner.Emitting.{Emits};
 ghost use Rattle.idn2_cli.specs.inner.LineAnswers.{KeepsIfRefused, refusal_in, reply_pieces};
-ghost use Rattle.idn2_cli.specs.inner.Outcomes.{result_of};
-ghost use Rattle.idn2_cli.specs.declared.modes.answering.Outcome.TheVariants as outcome;
+ghost use Rattle.idn2_cli.specs.inner.ServedLines.{result_of};
+ghost use Rattle.idn2_cli.specs.declared.modes.answering.Served.TheVariants as served;
 ghost use Rattle.idn2_cli.specs.declared.session.stop.Stop.TheVariants as stop;
 
-use crate::modes::answering::{Outcome, answered, refused};
+use crate::modes::answering::{Served, answered, refused};
 use crate::modes::code_points::PointAnswering;
 use crate::modes::kept_line::KeptLine;
 use crate::session::asked::Asked;
@@ -54,7 +54,7 @@ impl<'t> PointAnswering for Jumps<'t> {
         asked: &Asked<'_>,
         points: &[u32],
         console: &mut Console<'_, '_, W, E>,
-    ) -> Outcome {
+    ) -> Served {
         match test_label(alloc, label_of_request(points)) {
             Ok(_) => answer_least(alloc, self.table, asked, points, console),
             Err(refusal) => refused(refusal),
@@ -69,7 +69,7 @@ fn answer_least<W: Sink, E: Sink>(
     asked: &Asked<'_>,
     points: &[u32],
     console: &mut Console<'_, '_, W, E>,
-) -> Outcome
+) -> Served
     requires table { IsWellFormed table.now.entries }
     requires few { length asked.now.text.now ≤ MAX_LINE_LEN }
     requires scalar_values { AreScalarValues points.now }
@@ -78,13 +78,13 @@ fn answer_least<W: Sink, E: Sink>(
         (reply_pieces asked.now.form (asked_line asked.now) (least_answer table.now (requested_label points.now) (requested_text points.now))) (result_of result) }
     ensures refused { IfOk (result_of result) (λ refusal. refusal ≡ refusal_in (least_answer table.now (requested_label points.now) (requested_text points.now))) }
     ensures kept { KeepsIfRefused console.old console.new (result_of result) }
-    ensures begun { result ≡ outcome.Stopped stop.Memory → console.new ≡ console.old }
+    ensures begun { result ≡ served.Stopped stop.Memory → console.new ≡ console.old }
 {
     let (label, text) = parts_of(points);
     match Net::build(alloc, table, label) {
         Ok(net) => answered(write_least(alloc, asked, &net, text, console)),
-        Err(NetFault::NotInTable) => Outcome::Refused(Refusal::NotInTable),
-        Err(NetFault::Memory) => Outcome::Stopped(Stop::Memory),
+        Err(NetFault::NotInTable) => Served::Refused(Refusal::NotInTable),
+        Err(NetFault::Memory) => Served::Stopped(Stop::Memory),
     }
 }
 

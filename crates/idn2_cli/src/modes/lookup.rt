@@ -8,7 +8,7 @@ ghost use Rattle.idn2_cli.specs.Answers.{one_answer};
 ghost use Rattle.idn2_cli.specs.Said.{LookedUp};
 ghost use Rattle.idn2_cli.specs.inner.LineAnswers.{with_feed, query_answer};
 
-use crate::modes::answering::{Answering, Kind, Outcome, answered, refused, reply};
+use crate::modes::answering::{Answering, Kind, Served, answered, refused, reply};
 use crate::session::asked::Asked;
 use crate::session::buffers::Buffers;
 use crate::session::console::Console;
@@ -34,7 +34,7 @@ impl Answering for Lookup {
         asked: &Asked<'_>,
         buffers: &mut Buffers,
         console: &mut Console<'_, '_, W, E>,
-    ) -> Outcome {
+    ) -> Served {
         match fill_line(
             alloc,
             asked.text,

@@ -16,9 +16,9 @@ ghost use Rattle.idn2_cli.specs.Transcript.{outputs};
 ghost use Rattle.idn2_cli.specs.inner.Asked.{asked_line};
 ghost use Rattle.idn2_cli.specs.inner.Emitting.{Emits, StopsForMemory};
 ghost use Rattle.idn2_cli.specs.inner.LineAnswers.{KeepsIfRefused, refusal_in, reply_pieces};
-ghost use Rattle.idn2_cli.specs.inner.Outcomes.{result_of};
+ghost use Rattle.idn2_cli.specs.inner.ServedLines.{result_of};
 
-use crate::modes::answering::{Outcome, answered, refused};
+use crate::modes::answering::{Served, answered, refused};
 use crate::modes::block::write_block;
 use crate::modes::code_points::PointAnswering;
 use crate::modes::collisions::write_collisions;
@@ -62,7 +62,7 @@ impl<'t, 'r, 'b> PointAnswering for Variants<'t, 'r, 'b> {
         asked: &Asked<'_>,
         points: &[u32],
         console: &mut Console<'_, '_, W, E>,
-    ) -> Outcome {
+    ) -> Served {
         match test_label(alloc, points) {
             Ok(_) => list(alloc, self, asked, points, console),
             Err(refusal) => refused(refusal),
@@ -111,7 +111,7 @@ fn list<W: Sink, E: Sink>(
     asked: &Asked<'_>,
     label: &[u32],
     console: &mut Console<'_, '_, W, E>,
-) -> Outcome
+) -> Served
     requires limits { IsWithinLimits mode.now.options.now }
     requires table { IsWellFormed mode.now.table.now.entries }
     requires dispositions { AreOfTable mode.now.table.now mode.now.dispositions.now }
@@ -133,9 +133,9 @@ fn list<W: Sink, E: Sink>(
             Ok(mut dispositions) => {
                 answered(write_lines(alloc, mode, asked, &net, &mut dispositions, console))
             }
-            Err(_) => Outcome::Stopped(Stop::Memory),
+            Err(_) => Served::Stopped(Stop::Memory),
         },
-        Err(NetFault::NotInTable) => Outcome::Refused(Refusal::NotInTable),
-        Err(NetFault::Memory) => Outcome::Stopped(Stop::Memory),
+        Err(NetFault::NotInTable) => Served::Refused(Refusal::NotInTable),
+        Err(NetFault::Memory) => Served::Stopped(Stop::Memory),
     }
 }

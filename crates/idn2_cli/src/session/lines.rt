@@ -6,15 +6,15 @@ ghost use Rattle.idn_text.specs.Reading.{IsUnread, line_at};
 ghost use Rattle.idn2_cli.specs.inner.Emitting.{Emits, StopsForMemory};
 ghost use Rattle.idn2_cli.specs.inner.Explaining.{explained_by};
 ghost use Rattle.idn2_cli.specs.inner.LineAnswers.{KeepsIfRefused, refusal_in, reply_pieces};
-ghost use Rattle.idn2_cli.specs.inner.Outcomes.{result_of};
-ghost use Rattle.idn2_cli.specs.declared.modes.answering.Outcome.TheVariants as outcome;
+ghost use Rattle.idn2_cli.specs.inner.ServedLines.{result_of};
+ghost use Rattle.idn2_cli.specs.declared.modes.answering.Served.TheVariants as served;
 ghost use Rattle.idn2_cli.specs.Answers.{line_answer};
 ghost use Rattle.idn2_cli.specs.Transcript.{line_pieces};
 ghost use Rattle.idn2_cli.specs.Ends.{Does, lines_job};
 ghost use Rattle.idn2_cli.specs.Memory.{BodyNeedsNone, NeedsNone};
 ghost use Rattle.idn2_cli.specs.declared.session.stop.Stop.TheVariants as stop;
 
-use crate::modes::answering::{Answering, Outcome};
+use crate::modes::answering::{Answering, Served};
 use crate::session::asked::Asked;
 use crate::session::buffers::Buffers;
 use crate::session::cause::Explaining;
@@ -72,12 +72,12 @@ fn serve_line<M: Answering, R: Source, W: Sink, E: Sink>(
     ensures begun { StopsForMemory (BodyNeedsNone (M.goes_on mode.now) (line_at input.now).body) console.old console.new result }
 {
     match answer_line(alloc, form, mode, input, buffers, console) {
-        Outcome::Answered => Ok(false),
-        Outcome::Refused(refusal) => {
+        Served::Answered => Ok(false),
+        Served::Refused(refusal) => {
             refuse(alloc, form, explaining, input, refusal, console)?;
             Ok(true)
         }
-        Outcome::Stopped(why) => Err(why),
+        Served::Stopped(why) => Err(why),
     }
 }
 
@@ -90,13 +90,13 @@ fn answer_line<M: Answering, R: Source, W: Sink, E: Sink>(
     input: &Lines<R>,
     buffers: &mut Buffers,
     console: &mut Console<'_, '_, W, E>,
-) -> Outcome
+) -> Served
     requires { M.is_ready mode.now }
     ensures written { Emits console.old console.new
         (reply_pieces form (line_at input.now) (line_answer (M.answer_of mode.now) (line_at input.now).body)) (result_of result) }
     ensures refused { IfOk (result_of result) (λ refusal. refusal ≡ refusal_in (line_answer (M.answer_of mode.now) (line_at input.now).body)) }
     ensures kept { KeepsIfRefused console.old console.new (result_of result) }
-    ensures no_memory { BodyNeedsNone (M.needs_none mode.now) (line_at input.now).body → result ≢ outcome.Stopped stop.Memory }
+    ensures no_memory { BodyNeedsNone (M.needs_none mode.now) (line_at input.now).body → result ≢ served.Stopped stop.Memory }
     ensures begun { StopsForMemory (BodyNeedsNone (M.goes_on mode.now) (line_at input.now).body) console.old console.new (result_of result) }
 {
     let number = input.number();
@@ -105,6 +105,6 @@ fn answer_line<M: Answering, R: Source, W: Sink, E: Sink>(
             let asked = Asked { form, number, text };
             mode.answer(alloc, &asked, buffers, console)
         }
-        None => Outcome::Refused(Refusal::LineTooLong),
+        None => Served::Refused(Refusal::LineTooLong),
     }
 }

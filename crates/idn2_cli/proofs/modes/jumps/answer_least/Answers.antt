@@ -3,7 +3,7 @@ use Rattle.idn_label.proofs.RequirementLemmas.{MeetsRequirements-registrable}
 use Rattle.variant_list.specs.Spelled.{spelled}
 use Rattle.variant_list.proofs.FromLemmas.{among_from-in_order}
 use Rattle.idn2_cli.specs.Answers.{requested_label}
-use Rattle.idn2_cli.specs.inner.Outcomes.{result_of}
+use Rattle.idn2_cli.specs.inner.ServedLines.{result_of}
 use Rattle.idn2_cli.proofs.RefusedLines.{answered_memory, answered_none, emits_answered, kept_if_answered}
 use Rattle.idn2_cli.proofs.WrittenPieces.{stops_first, writes_nothing}
 use Rattle.idn2_cli.proofs.SegmentedLabels.{some-length, segmented_answer, unsegmented_answer}

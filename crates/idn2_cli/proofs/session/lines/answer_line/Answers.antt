@@ -1,7 +1,7 @@
 use Rattle.std.proofs.Common.{ℕ, List, Option, sym, subst}
 use Rattle.idn2_cli.specs.Memory.{BodyNeedsNone}
 use Rattle.idn2_cli.specs.inner.Emitting.{StopsForMemory}
-use Rattle.idn2_cli.specs.inner.Outcomes.{result_of}
+use Rattle.idn2_cli.specs.inner.ServedLines.{result_of}
 use Rattle.idn2_cli.proofs.session.lines.answer_line.Goals as goal
 
 pub returns-in-Some-clause-begun : goal.returns-in-Some-clause-begun
