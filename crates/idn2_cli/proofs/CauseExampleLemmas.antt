@@ -1,7 +1,7 @@
 -- The examples of causes, computed.
 use Rattle.std.proofs.Common.{refl}
 use Rattle.std.specs.Fmt.{digits}
-use Rattle.variant_table.specs.Canonical.{point_text}
+use Rattle.ruleset_text.specs.Canonical.{point_text}
 use Rattle.idn2_cli.specs.CauseExamples.{ExamplesOfCauses}
 use Rattle.idn2_cli.specs.CauseTexts.{cause_text, a_label_text, byte_text}
 

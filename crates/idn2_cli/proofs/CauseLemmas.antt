@@ -21,15 +21,19 @@ use Rattle.idn2_cli.specs.declared.session.cause.Explaining.TheVariants as by
 use Rattle.idn2_cli.specs.declared.session.cause.LineCause.{LineCause}
 use Rattle.idn2_cli.specs.declared.session.cause.LineCause.TheVariants.{Byte}
 
--- without the option a message ends as ever
-pub unexplained_body : (body : Option (List ℕ)) (refusal : Refusal) → tail_text refusal (body_cause Unexplained body refusal) ≡ []
+-- without the option no cause is told
+pub unexplained-none : (body : Option (List ℕ)) (refusal : Refusal) → body_cause Unexplained body refusal ≡ None
 unfolding points_cause
-unexplained_body None refusal = refl
-unexplained_body (Some bytes) refusal = by_utf8 (is_utf8 bytes)
+unexplained-none None refusal = refl
+unexplained-none (Some bytes) refusal = by_utf8 (is_utf8 bytes)
   where
-    by_utf8 : (utf8 : Bool) → tail_text refusal (cond utf8 None None) ≡ []
+    by_utf8 : (utf8 : Bool) → (let told : Option LineCause = cond utf8 None None in told) ≡ None
     by_utf8 true = refl
     by_utf8 false = refl
+
+-- and a message ends as ever
+pub unexplained_body : (body : Option (List ℕ)) (refusal : Refusal) → tail_text refusal (body_cause Unexplained body refusal) ≡ []
+unexplained_body body refusal = ap (tail_text refusal) (unexplained-none body refusal)
 
 pub bad_byte-at : (bytes : List ℕ) (place : ℕ) → IsValidUpTo bytes place → bad_byte bytes ≡ Byte place (slice_index bytes place)
 bad_byte-at bytes place valid = ap (λ n. Byte n (slice_index bytes n)) (utf8_valid_len-IsValidUpTo bytes place valid)
@@ -56,16 +60,8 @@ text_cause-not_utf8 explained bytes refusal other =
 pub text_cause-none : (explained : Explained) (bytes : List ℕ) (refusal : Refusal) → ((points : List ℕ) → IsUtf8Of bytes points → ⊥) → text_cause explained bytes refusal ≡ unless_unexplained explained (bad_byte bytes)
 text_cause-none explained bytes refusal none = text_cause-not_utf8 explained bytes refusal (is_not_utf8 bytes none (is_utf8 bytes) refl)
 
-unexplained_text : (bytes : List ℕ) (refusal : Refusal) → text_cause Unexplained bytes refusal ≡ None
-unfolding points_cause
-unexplained_text bytes refusal = by_utf8 (is_utf8 bytes)
-  where
-    by_utf8 : (utf8 : Bool) → (let told : Option LineCause = cond utf8 None None in told) ≡ None
-    by_utf8 true = refl
-    by_utf8 false = refl
-
-pub text_cause-nothing : (explaining : Explaining) (bytes : List ℕ) (refusal : Refusal) → explaining ≡ by.Nothing → text_cause (explained_by explaining) bytes refusal ≡ None
-text_cause-nothing explaining bytes refusal is = ap (λ (e : Explaining). text_cause (explained_by e) bytes refusal) is ∙ unexplained_text bytes refusal
+pub body_cause-nothing : (explaining : Explaining) (body : Option (List ℕ)) (refusal : Refusal) → explaining ≡ by.Nothing → body_cause (explained_by explaining) body refusal ≡ None
+body_cause-nothing explaining body refusal is = ap (λ (e : Explaining). body_cause (explained_by e) body refusal) is ∙ unexplained-none body refusal
 
 -- only what explains nothing tells no cause
 pub unexplained-nothing : (explaining : Explaining) → explained_by explaining ≡ Unexplained → explaining ≡ by.Nothing
@@ -76,4 +72,4 @@ unexplained-nothing (by.Query std3) is = cc
 unexplained-nothing (by.Sources table) is = cc
 unexplained-nothing (by.Request table) is = cc
 
-pub ruleset causes_of_text = (text_cause-points, text_cause-none, text_cause-nothing)
+pub ruleset causes_of_text = (text_cause-points, text_cause-none)

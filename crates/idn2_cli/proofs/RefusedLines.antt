@@ -1,5 +1,5 @@
 -- The answer to a line that a call refused.
-use Rattle.std.proofs.Common.{◌≡◌, ◌≢◌, ◌⊎◌, inl, inr, ℕ, Bool, true, List, [], ◌∷◌, Result, Ok, Err, Option, Some, IfOk, IfErr, refl, sym, ap, subst, ◌∙◌}
+use Rattle.std.proofs.Common.{◌≡◌, ◌≢◌, ◌⊎◌, inl, inr, ℕ, Bool, true, false, List, [], ◌∷◌, Result, Ok, Err, Option, Some, None, IfOk, IfErr, MatchOption, refl, sym, ap, subst, ◌∙◌}
 use Rattle.std.specs.Result.{is_err}
 use Rattle.idn_text.specs.declared.refusal.Refusal.{Refusal}
 use Rattle.idn_text.specs.declared.refusal.Refusal.TheVariants.{Memory}
@@ -7,67 +7,119 @@ use Rattle.idn_text.specs.Lines.{Numbered}
 use Rattle.idn2_options.specs.declared.command_line.form.Form.{Form}
 use Rattle.idn2_cli.specs.Transcript.{Piece, Refuses, piece_in, pieces_for}
 use Rattle.idn2_cli.specs.declared.session.cause.LineCause.{LineCause}
-use Rattle.idn2_cli.specs.Ends.{Held}
-use Rattle.idn2_cli.specs.Answers.{LineAnswer}
-use Rattle.idn2_cli.specs.Explained.{Explained, SeeksNoCause, Unexplained}
-use Rattle.idn2_cli.specs.inner.Emitting.{Emits, StopsWithin}
+use Rattle.idn2_cli.specs.Ends.{Held, Writes}
+use Rattle.idn2_cli.specs.Answers.{LineAnswer, line_answer}
+use Rattle.idn2_cli.specs.Explained.{Explained, SeeksNoCause, Unexplained, body_cause}
+use Rattle.idn2_cli.specs.Memory.{BodyNeedsNone, NeedsNone}
+use Rattle.idn2_cli.specs.inner.Emitting.{Emits, StopsWithin, StopsForMemory}
+use Rattle.idn2_cli.specs.inner.LineAnswers.{KeepsIfRefused, refusal_in, reply_pieces}
+use Rattle.idn2_cli.specs.inner.ServedLines.{answered_as, result_of}
+use Rattle.idn2_cli.specs.declared.modes.answering.Served.{Served}
+use Rattle.idn2_cli.specs.declared.modes.answering.Served.TheVariants as served
 use Rattle.idn2_cli.specs.declared.session.stop.Stop.{Stop}
 use Rattle.idn2_cli.specs.declared.session.stop.Stop.TheVariants as stop
-use Rattle.idn2_cli.proofs.WrittenPieces.{stops_first}
+use Rattle.idn2_cli.proofs.WrittenPieces.{cut_before, stops_first, writes_nothing}
 
 is_memory : (refusal : Refusal) → (refusal ≡ Memory) ⊎ (refusal ≢ Memory)
 is_memory Memory = inl refl
 is_memory other = inr (λ e. cc)
 
--- where memory was refused before anything was written, nothing is written of any pieces
-none_of : {A : Type 0} (old new : Held) (r : Result A Stop) (pieces : List Piece) → r ≡ Err stop.Memory → new ≡ old → Emits old new pieces r
-none_of {A} old new r pieces e same =
-    subst (λ (s : Result A Stop). Emits old new pieces s) (sym e) (subst (λ (h : Held). StopsWithin stop.Memory old h pieces) (sym same) (stops_first old pieces))
+-- ---- a mode gives a refusal back
 
--- the answer is this refusal, unless memory was refused
-pub emits_refusal : {A : Type 0} (old new : Held) (form : Form) (how : Explained) (line : Numbered) (refusal : Refusal) (answer : LineAnswer) (r : Result A Stop) → (refusal ≢ Memory → answer ≡ Err refusal)
-    → (refusal ≢ Memory → Emits old new (pieces_for form how line (Err refusal)) r) → (refusal ≡ Memory → r ≡ Err stop.Memory) → (r ≡ Err stop.Memory → new ≡ old)
-    → Emits old new (pieces_for form how line answer) r
-emits_refusal old new form how line refusal answer r is told memory begun = elim (is_memory refusal) [
-  | inl e ↦ none_of old new r (pieces_for form how line answer) (memory e) (begun (memory e))
-  | inr other ↦ subst (λ (a : LineAnswer). Emits old new (pieces_for form how line a) r) (sym (is other)) (told other)
+-- the answer is this refusal, unless memory was refused, and nothing is written
+pub replies_refusal : (old : Held) (form : Form) (line : Numbered) (refusal : Refusal) (answer : LineAnswer) (o : Served) → (refusal ≢ Memory → answer ≡ Err refusal)
+    → (refusal ≢ Memory → o ≡ served.Refused refusal) → (refusal ≡ Memory → o ≡ served.Stopped stop.Memory) → Emits old old (reply_pieces form line answer) (result_of o)
+replies_refusal old form line refusal answer o is refused memory = elim (is_memory refusal) [
+  | inl e ↦ subst (λ (p : Served). Emits old old (reply_pieces form line answer) (result_of p)) (sym (memory e)) (stops_first old (reply_pieces form line answer))
+  | inr other ↦
+      subst (λ (a : LineAnswer). Emits old old (reply_pieces form line a) (result_of o)) (sym (is other))
+      (subst (λ (p : Served). Emits old old [] (result_of p)) (sym (refused other)) (writes_nothing old))
 ]
 
-pub refused_is : (refusal : Refusal) (answer : LineAnswer) (r : Result Bool Stop) → (refusal ≢ Memory → answer ≡ Err refusal)
-    → (refusal ≡ Memory → r ≡ Err stop.Memory) → IfOk r (λ refused. refused ≡ true) → IfOk r (λ refused. refused ≡ is_err answer)
-refused_is refusal answer (Err why) is memory refused = tt
-refused_is refusal answer (Ok b) is memory refused = elim (is_memory refusal) [
-  | inl e ↦ absurd (let clash : Ok b ≡ Err stop.Memory = memory e in cc)
-  | inr other ↦ refused ∙ sym (ap is_err (is other))
+pub refused_is : (refusal : Refusal) (answer : LineAnswer) (o : Served) → (refusal ≢ Memory → answer ≡ Err refusal)
+    → (refusal ≢ Memory → o ≡ served.Refused refusal) → (refusal ≡ Memory → o ≡ served.Stopped stop.Memory) → IfOk (result_of o) (λ given. given ≡ refusal_in answer)
+refused_is refusal answer o is refused memory = elim (is_memory refusal) [
+  | inl e ↦ subst (λ (p : Served). IfOk (result_of p) (λ given. given ≡ refusal_in answer)) (sym (memory e)) tt
+  | inr other ↦ subst (λ (p : Served). IfOk (result_of p) (λ given. given ≡ refusal_in answer)) (sym (refused other)) (sym (ap refusal_in (is other)))
 ]
+
+-- such a refusal is not stopped by memory
+pub refused_without : (refusal : Refusal) (o : Served) → refusal ≢ Memory → (refusal ≢ Memory → o ≡ served.Refused refusal) → o ≢ served.Stopped stop.Memory
+refused_without refusal o other refused = λ e. let clash : served.Refused refusal ≡ served.Stopped stop.Memory = sym (refused other) ∙ e in cc
+
+pub kept_as_it_was : (old : Held) (o : Served) → KeepsIfRefused old old (result_of o)
+kept_as_it_was old served.Answered = tt
+kept_as_it_was old (served.Refused refusal) = refl
+kept_as_it_was old (served.Stopped why) = tt
+
+-- ---- or it writes an answer
+
+pub emits_answered : (old new : Held) (pieces : List Piece) (r : Result (Unit {0}) Stop) (o : Served) → result_of o ≡ answered_as r → Emits old new pieces r → Emits old new pieces (result_of o)
+emits_answered old new pieces (Ok done) o e emits = subst (λ (s : Result (Option Refusal) Stop). Emits old new pieces s) (sym e) emits
+emits_answered old new pieces (Err why) o e emits = subst (λ (s : Result (Option Refusal) Stop). Emits old new pieces s) (sym e) emits
+
+pub answered_none : (r : Result (Unit {0}) Stop) (o : Served) → result_of o ≡ answered_as r → IfOk (result_of o) (λ given. given ≡ None)
+answered_none (Ok done) o e = subst (λ (s : Result (Option Refusal) Stop). IfOk s (λ given. given ≡ None)) (sym e) refl
+answered_none (Err why) o e = subst (λ (s : Result (Option Refusal) Stop). IfOk s (λ given. given ≡ None)) (sym e) tt
+
+pub kept_if_answered : (old new : Held) (r : Result (Unit {0}) Stop) (o : Served) → result_of o ≡ answered_as r → KeepsIfRefused old new (result_of o)
+kept_if_answered old new (Ok done) o e = subst (λ (s : Result (Option Refusal) Stop). KeepsIfRefused old new s) (sym e) tt
+kept_if_answered old new (Err why) o e = subst (λ (s : Result (Option Refusal) Stop). KeepsIfRefused old new s) (sym e) tt
+
+-- memory stops it where memory stopped the writing
+pub answered_memory : (r : Result (Unit {0}) Stop) (o : Served) → result_of o ≡ answered_as r → result_of o ≡ Err stop.Memory → r ≡ Err stop.Memory
+answered_memory (Ok done) o e memory = absurd (let clash : Ok None ≡ Err stop.Memory = sym e ∙ memory in cc)
+answered_memory (Err why) o e memory =
+    let told : answered_as (Err why) ≡ Err stop.Memory = sym e ∙ memory in
+    let same : why ≡ stop.Memory = cc in ap Err same
+
+-- ---- and its line is told
+
+pub is_refused : (answer : LineAnswer) (refusal : Refusal) → Some refusal ≡ refusal_in answer → answer ≡ Err refusal
+is_refused (Ok said) refusal given = absurd (let clash : Some refusal ≡ None = given in cc)
+is_refused (Err other) refusal given = let same : refusal ≡ other = cc in ap Err (sym same)
+
+pub is_answered : (answer : LineAnswer) → None ≡ refusal_in answer → is_err answer ≡ false
+is_answered (Ok said) given = refl
+is_answered (Err other) given = absurd (let clash : None ≡ Some other = given in cc)
+
+-- a line that is answered has the pieces of its answer
+pub answered_pieces : (old new : Held) (form : Form) (how : Explained) (line : Numbered) (answer : LineAnswer) → None ≡ refusal_in answer → Writes old new (reply_pieces form line answer)
+    → Writes old new (pieces_for form how line answer)
+answered_pieces old new form how line (Ok said) given writes = writes
+answered_pieces old new form how line (Err other) given writes = absurd (let clash : None ≡ Some other = given in cc)
+
+-- a stop before a refusal was given back
+pub stopped_pieces : (why : Stop) (old new : Held) (form : Form) (how : Explained) (line : Numbered) (answer : LineAnswer) → StopsWithin why old new (reply_pieces form line answer)
+    → StopsWithin why old new (pieces_for form how line answer)
+stopped_pieces why old new form how line (Ok said) at = at
+stopped_pieces why old new form how line (Err refusal) at = (at.0, at.1, cut_before why [] (pieces_for form how line (Err refusal)) at.0 at.2)
+
+-- a line that needs no memory is answered without
+pub answered_without : (how : Explained) (answer : List ℕ → LineAnswer) (needs_none : List ℕ → Type 0) (body : Option (List ℕ)) → BodyNeedsNone (NeedsNone how answer needs_none) body → BodyNeedsNone needs_none body
+answered_without how answer needs_none None none = tt
+answered_without how answer needs_none (Some line) none = none.answered
 
 -- a line that is refused seeks no cause only if causes are not told
-pub unexplained : (how : Explained) (answer : LineAnswer) (refusal : Refusal) → answer ≡ Err refusal → SeeksNoCause how answer → how ≡ Unexplained
+unexplained : (how : Explained) (answer : LineAnswer) (refusal : Refusal) → answer ≡ Err refusal → SeeksNoCause how answer → how ≡ Unexplained
 unexplained how (Ok lines) refusal is seeks = let clash : Ok lines ≡ Err refusal = is in cc
 unexplained Unexplained (Err other) refusal is seeks = refl
 unexplained _ (Err other) refusal is seeks = absurd seeks
-
--- such a refusal is not stopped by memory
-pub refused_without : (how : Explained) (answer : LineAnswer) (refusal : Refusal) (r : Result Bool Stop) → refusal ≢ Memory → (refusal ≢ Memory → answer ≡ Err refusal)
-    → (how ≡ Unexplained → refusal ≢ Memory → IfErr r (λ why. why ≢ stop.Memory)) → SeeksNoCause how answer → r ≢ Err stop.Memory
-refused_without how answer refusal (Ok b) other is why seeks = λ e. let clash : Ok b ≡ Err stop.Memory = e in cc
-refused_without how answer refusal (Err reason) other is why seeks = λ e.
-    let told : reason ≡ stop.Memory = cc in why (unexplained how answer refusal (is other) seeks) other told
-
--- the same, how in another way that is the same
-pub emits_explained : {A : Type 0} (old new : Held) (form : Form) (first second : Explained) (line : Numbered) (answer : LineAnswer) (r : Result A Stop) → first ≡ second
-    → Emits old new (pieces_for form first line answer) r → Emits old new (pieces_for form second line answer) r
-emits_explained old new form first second line answer r same emits =
-    subst (λ (e : Explained). Emits old new (pieces_for form e line answer) r) same emits
-
--- the cause of the code points of a line is that of its bytes
-pub emits_cause : {A : Type 0} (old new : Held) (form : Form) (number : ℕ) (bytes : List ℕ) (refusal : Refusal) (first second : Option LineCause) (r : Result A Stop) → first ≡ second
-    → Emits old new (piece_in form (Refuses (record { number = number; body = Some bytes }) refusal first) ∷ []) r
-    → Emits old new (piece_in form (Refuses (record { number = number; body = Some bytes }) refusal second) ∷ []) r
-emits_cause old new form number bytes refusal first second r same emits =
-    subst (λ (cause : Option LineCause). Emits old new (piece_in form (Refuses (record { number = number; body = Some bytes }) refusal cause) ∷ []) r) same emits
 
 -- a call that memory never stops
 pub never_memory : {A : Type 0} (r : Result A Stop) → IfErr r (λ why. why ≢ stop.Memory) → r ≡ Err stop.Memory → ⊥
 never_memory (Ok x) other e = let clash : Ok x ≡ Err stop.Memory = e in cc
 never_memory (Err why) other e = let same : why ≡ stop.Memory = cc in other same
+
+-- and its refusal is told without
+pub told_without : {A : Type 0} (how : Explained) (answer : List ℕ → LineAnswer) (needs_none : List ℕ → Type 0) (body : Option (List ℕ)) (refusal : Refusal) (r : Result A Stop) → line_answer answer body ≡ Err refusal
+    → (how ≡ Unexplained → IfErr r (λ why. why ≢ stop.Memory)) → (body ≡ None → IfErr r (λ why. why ≢ stop.Memory)) → BodyNeedsNone (NeedsNone how answer needs_none) body → r ≡ Err stop.Memory → ⊥
+told_without how answer needs_none None refusal r is untold long none e = never_memory r (long refl) e
+told_without how answer needs_none (Some line) refusal r is untold long none e =
+    never_memory r (untold (unexplained how (line_answer answer (Some line)) refusal is none.causeless)) e
+
+-- the cause is another text of the same
+pub emits_cause : {A : Type 0} (old new : Held) (form : Form) (line : Numbered) (refusal : Refusal) (first second : Option LineCause) (r : Result A Stop) → first ≡ second
+    → Emits old new (piece_in form (Refuses line refusal first) ∷ []) r → Emits old new (piece_in form (Refuses line refusal second) ∷ []) r
+emits_cause old new form line refusal first second r same emits =
+    subst (λ (cause : Option LineCause). Emits old new (piece_in form (Refuses line refusal cause) ∷ []) r) same emits

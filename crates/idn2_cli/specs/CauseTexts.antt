@@ -15,7 +15,7 @@ use Rattle.idn_cause.specs.declared.a_label.ALabelCause.TheVariants.{NoCode, Not
 use Rattle.idn_cause.specs.declared.name.NameCause.{NameCause}
 use Rattle.idn_cause.specs.declared.query.LengthCause.{LengthCause}
 use Rattle.idn_cause.specs.declared.query.LengthCause.TheVariants.{LabelOctets, NameOctets}
-use Rattle.variant_table.specs.Canonical.{hex_digit, point_text}
+use Rattle.ruleset_text.specs.Canonical.{hex_digit, point_text}
 use Rattle.idn2_cli.specs.declared.session.cause.LineCause.{LineCause}
 use Rattle.idn2_cli.specs.declared.session.cause.LineCause.TheVariants.{Byte, LongLine, OfLabel, OfALabel, OfName, OfQuery}
 

@@ -5,7 +5,7 @@ use Rattle.std.specs.Fmt.{decimal}
 use Rattle.idn_text.specs.Lines.{Numbered}
 use Rattle.idn_text.specs.Points.{utf8_of}
 use Rattle.idn_label.specs.ALabel.{a_label_of}
-use Rattle.variant_table.specs.Canonical.{sequence_text}
+use Rattle.ruleset_text.specs.EntryText.{sequence_text}
 use Rattle.answer_json.specs.Answers.{Answer, line_of}
 use Rattle.answer_json.specs.Inputs.{Told, told_of}
 use Rattle.answer_json.specs.Objects.{looked_up, registered, decoded, variant, trailer, least, gap, checked, disposition_text}

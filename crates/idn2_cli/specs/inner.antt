@@ -8,3 +8,4 @@ pub mod KeptLines
 pub mod Explaining
 pub mod Asked
 pub mod Objects
+pub mod ServedLines

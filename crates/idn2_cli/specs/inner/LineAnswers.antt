@@ -1,9 +1,15 @@
 -- What the modes answer to a line, and when a listing has as many variants as it may.
-use Rattle.std.specs.Prelude.{ℕ, ◌==◌, Bool, false, List, [], ◌∷◌, ◌++◌, length, Option, Some, None, if◌then◌else◌, Result, Ok, Err}
+use Rattle.std.specs.Prelude.{◌≡◌, ℕ, ◌==◌, Bool, false, List, [], ◌∷◌, ◌++◌, length, Option, Some, None, if◌then◌else◌, Result, Ok, Err}
 use Rattle.idn_text.specs.declared.refusal.Refusal.{Refusal}
 use Rattle.idn_text.specs.declared.refusal.Refusal.TheVariants.{Empty}
+use Rattle.idn_text.specs.Lines.{Numbered}
 use Rattle.idn_label.specs.Lookup.{utf8_answer}
-use Rattle.idn2_cli.specs.Said.{Said, LookedUp, Decoded}
+use Rattle.idn2_options.specs.declared.command_line.form.Form.{Form}
+use Rattle.idn2_cli.specs.Answers.{LineAnswer}
+use Rattle.idn2_cli.specs.Said.{Said, LookedUp, Decoded, said_text}
+use Rattle.idn2_cli.specs.Transcript.{Piece, outputs}
+use Rattle.idn2_cli.specs.Ends.{Held}
+use Rattle.idn2_cli.specs.declared.session.stop.Stop.{Stop}
 use Rattle.idn2_cli.specs.declared.modes.answering.Kind.{Kind}
 use Rattle.idn2_cli.specs.declared.modes.answering.Kind.TheVariants as kind
 
@@ -31,3 +37,20 @@ said_by kind.Decoded text = Decoded text
 abbrev pub longest : Kind → ℕ
 longest kind.LookedUp = 255
 longest kind.Decoded = 4097
+
+-- ---- what a mode does with a line
+
+-- what is written of an answer: of a refusal nothing, since it is given back
+abbrev pub reply_pieces : Form → Numbered → LineAnswer → List Piece
+reply_pieces form line (Ok said) = outputs (said_text form line) said
+reply_pieces form line (Err refusal) = []
+
+-- why a line is refused, if it is
+abbrev pub refusal_in : LineAnswer → Option Refusal
+refusal_in (Ok said) = None
+refusal_in (Err refusal) = Some refusal
+
+-- where a refusal is given back, nothing was written
+abbrev pub KeepsIfRefused : Held → Held → Result (Option Refusal) Stop → Type 0
+KeepsIfRefused old new (Ok (Some refusal)) = new ≡ old
+KeepsIfRefused old new result = Unit {0}

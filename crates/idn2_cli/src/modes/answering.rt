@@ -1,39 +1,44 @@
 //! What a mode does with one line.
 
-ghost use Rattle.std.specs.Prelude.{◌≡◌, ◌≢◌, ◌≤◌, ℕ, Bool, List, [], ◌∷◌, ◌++◌, length, IfOk, IfErr, Err, Some, false};
-ghost use Rattle.std.specs.Result.{is_err};
+ghost use Rattle.std.specs.Prelude.{◌≡◌, ◌≢◌, ◌≤◌, ℕ, Bool, List, [], ◌∷◌, ◌++◌, length, IfOk, IfErr, Some, false};
 ghost use Rattle.idn2_cli.specs.Answers.{LineAnswer, text_answer};
-ghost use Rattle.idn2_cli.specs.Explained.{Explained};
-ghost use Rattle.idn2_cli.specs.Memory.{NeedsNone};
 ghost use Rattle.answer_json.specs.Answers.{line_of};
 ghost use Rattle.answer_json.specs.Inputs.{told_of};
 ghost use Rattle.idn2_cli.specs.Said.{said_object, said_text};
-ghost use Rattle.idn2_cli.specs.Transcript.{Output, pieces_for};
+ghost use Rattle.idn2_cli.specs.Transcript.{Output};
 ghost use Rattle.idn2_cli.specs.inner.Asked.{asked_line};
-ghost use Rattle.idn2_cli.specs.inner.LineAnswers.{longest, said_by};
+ghost use Rattle.idn2_cli.specs.inner.LineAnswers.{KeepsIfRefused, longest, refusal_in, reply_pieces, said_by};
+ghost use Rattle.idn2_cli.specs.inner.ServedLines.{answered_as, result_of};
 ghost use Rattle.idn2_cli.specs.inner.Objects.{HasSpace, object_told};
 ghost use Rattle.idn2_cli.specs.inner.Emitting.{Emits, StopsForMemory};
-ghost use Rattle.idn2_cli.specs.inner.Explaining.{explained_by};
+ghost use Rattle.idn2_cli.specs.declared.modes.answering.Served.TheVariants as served;
 ghost use Rattle.idn2_cli.specs.declared.session.stop.Stop.TheVariants as stop;
 
 use crate::session::asked::Asked;
 use crate::session::buffers::Buffers;
-use crate::session::cause::Explaining;
 use crate::session::console::Console;
 use crate::session::object::Object;
 use crate::session::stop::Stop;
 use answer_json::Input;
-use idn_text::{MAX_LINE_LEN, Sink};
+use idn_text::{MAX_LINE_LEN, Refusal, Sink};
 use idn2_options::Form;
 use std::alloc::Global;
+
+/// What became of a line. Two bytes are enough for it, so it is handed back in registers.
+#[derive(Clone, Copy)]
+pub(crate) enum Served {
+    /// It was answered.
+    Answered,
+    /// The run stops.
+    Stopped(Stop),
+    /// It is refused, and nothing was written.
+    Refused(Refusal),
+}
 
 /// A mode that answers each line by itself.
 pub(crate) trait Answering {
     // The answer to the code points of a line.
     ghost answer_of: { Self → List ℕ → LineAnswer };
-
-    // How it explains what it refuses.
-    ghost explains: { Self → Explained };
 
     // What the mode needs to answer.
     ghost is_ready: { Self → Type 0 } = { λ _. Unit {0} };
@@ -41,31 +46,61 @@ pub(crate) trait Answering {
     // Whether it answers by a table.
     ghost reads_table: { Self → Bool } = { λ _. false };
 
-    // The bytes of lines that it answers without memory, if it seeks no cause.
+    // The bytes of lines that it answers without memory.
     ghost needs_none: { Self → List ℕ → Type 0 } = { λ _ _. ⊥ };
 
     // The bytes of lines of which the answer, once begun, goes on without memory.
     ghost goes_on: { Self → List ℕ → Type 0 } = { λ _ _. Unit {0} };
 
-    /// How it explains what it refuses.
-    fn explaining(&self) -> &Explaining<'_>
-        ensures { explained_by result.now ≡ explains self.now };
-
-    /// Writes the answer to the bytes of a line, and returns whether it is a refusal.
+    /// Writes the answer to the bytes of a line, or gives back why the line is refused.
     fn answer<W: Sink, E: Sink>(
         &self,
         alloc: Global,
         asked: &Asked<'_>,
         buffers: &mut Buffers,
         console: &mut Console<'_, '_, W, E>,
-    ) -> Result<bool, Stop>
+    ) -> Served
         requires ready { is_ready self.now }
         requires few { length asked.now.text.now ≤ MAX_LINE_LEN }
         ensures written { Emits console.old console.new
-            (pieces_for asked.now.form (explains self.now) (asked_line asked.now) (text_answer (answer_of self.now) asked.now.text.now)) result }
-        ensures refused { IfOk result (λ refused. refused ≡ is_err (text_answer (answer_of self.now) asked.now.text.now)) }
-        ensures no_memory { NeedsNone (explains self.now) (answer_of self.now) (needs_none self.now) asked.now.text.now → result ≢ Err stop.Memory }
-        ensures begun { StopsForMemory (goes_on self.now asked.now.text.now) console.old console.new result };
+            (reply_pieces asked.now.form (asked_line asked.now) (text_answer (answer_of self.now) asked.now.text.now)) (result_of result) }
+        ensures refused { IfOk (result_of result) (λ refusal. refusal ≡ refusal_in (text_answer (answer_of self.now) asked.now.text.now)) }
+        ensures kept { KeepsIfRefused console.old console.new (result_of result) }
+        ensures no_memory { needs_none self.now asked.now.text.now → result ≢ served.Stopped stop.Memory }
+        ensures begun { StopsForMemory (goes_on self.now asked.now.text.now) console.old console.new (result_of result) };
+}
+
+/// That a line is refused. Refused memory is no refusal of the line: the run stops.
+#[inline(always)]
+pub(crate) fn refused(refusal: Refusal) -> Served
+    ensures refused { refusal ≢ Refusal.Memory → result ≡ served.Refused refusal }
+    ensures memory { refusal ≡ Refusal.Memory → result ≡ served.Stopped stop.Memory }
+{
+    match refusal {
+        Refusal::Memory => Served::Stopped(Stop::Memory),
+        _ => Served::Refused(refusal),
+    }
+}
+
+/// That a line was answered, where its answer was written.
+#[inline(always)]
+pub(crate) fn answered(written: Result<(), Stop>) -> Served
+    ensures { result_of result ≡ answered_as written }
+{
+    match written {
+        Ok(()) => Served::Answered,
+        Err(why) => stopped(why),
+    }
+}
+
+/// That the run stops.
+// Most answers are written.
+#[cold]
+#[inline(never)]
+fn stopped(why: Stop) -> Served
+    ensures { result ≡ served.Stopped why }
+{
+    Served::Stopped(why)
 }
 
 /// What one text says of a name.
@@ -84,20 +119,18 @@ pub(crate) fn reply<W: Sink, E: Sink>(
     kind: Kind,
     line: &[u8],
     console: &mut Console<'_, '_, W, E>,
-) -> Result<bool, Stop>
+) -> Result<(), Stop>
     requires few { length asked.now.text.now ≤ MAX_LINE_LEN }
     requires filled { 1 ≤ length line.now }
     requires short { length line.now ≤ longest kind }
     ensures written { (text : List ℕ) → line.now ≡ text ++ 10 ∷ [] →
         Emits console.old console.new (Output (said_text asked.now.form (asked_line asked.now) (said_by kind text)) ∷ []) result }
     ensures why { IfErr result (λ why. why ≡ stop.Output) }
-    ensures refused { IfOk result (λ refused. refused ≡ false) }
 {
     match asked.form {
-        Form::Plain => console.output(line)?,
-        Form::Json => write_object_of(asked, kind, line, console)?,
+        Form::Plain => console.output(line),
+        Form::Json => write_object_of(*asked, kind, line, console),
     }
-    Ok(false)
 }
 
 /// Writes the object of such an answer.
@@ -105,28 +138,28 @@ pub(crate) fn reply<W: Sink, E: Sink>(
 /// It stands apart: a line that is answered by a text makes no room for an object.
 #[inline(never)]
 fn write_object_of<W: Sink, E: Sink>(
-    asked: &Asked<'_>,
+    asked: Asked<'_>,
     kind: Kind,
     line: &[u8],
     console: &mut Console<'_, '_, W, E>,
 ) -> Result<(), Stop>
-    requires few { length asked.now.text.now ≤ MAX_LINE_LEN }
+    requires few { length asked.text.now ≤ MAX_LINE_LEN }
     requires filled { 1 ≤ length line.now }
     requires short { length line.now ≤ longest kind }
     ensures written { (text : List ℕ) → line.now ≡ text ++ 10 ∷ [] →
-        Emits console.old console.new (Output (line_of (said_object asked.now.number (told_of (Some asked.now.text.now)) (said_by kind text))) ∷ []) result }
+        Emits console.old console.new (Output (line_of (said_object asked.entry.number (told_of (Some asked.entry.text.now)) (said_by kind text))) ∷ []) result }
     ensures why { IfErr result (λ why. why ≡ stop.Output) }
 {
     console.object(&object_of(asked, kind, line))
 }
 
 /// The object of such an answer.
-fn object_of<'a>(asked: &Asked<'a>, kind: Kind, line: &'a [u8]) -> Object<'a>
-    requires few { length asked.now.text.now ≤ MAX_LINE_LEN }
+fn object_of<'a>(asked: Asked<'a>, kind: Kind, line: &'a [u8]) -> Object<'a>
+    requires few { length asked.text.now ≤ MAX_LINE_LEN }
     requires filled { 1 ≤ length line.now }
     requires short { length line.now ≤ longest kind }
     ensures told { (text : List ℕ) → line.now ≡ text ++ 10 ∷ [] →
-        object_told result ≡ said_object asked.now.number (told_of (Some asked.now.text.now)) (said_by kind text) }
+        object_told result ≡ said_object asked.entry.number (told_of (Some asked.entry.text.now)) (said_by kind text) }
     ensures space { HasSpace result }
 {
     let text = &line[..line.len() - 1];

@@ -1,23 +1,19 @@
 //! Modes that answer a line by its code points.
 
-ghost use Rattle.std.specs.Prelude.{◌≡◌, ◌≢◌, ◌≤◌, ℕ, Bool, false, List, length, chars, IfOk, Err};
-ghost use Rattle.std.specs.Result.{is_err};
-ghost use Rattle.idn_text.specs.Points.{IsUtf8Of};
+ghost use Rattle.std.specs.Prelude.{◌≡◌, ◌≢◌, ◌≤◌, ℕ, Bool, false, List, length, chars, IfOk};
+ghost use Rattle.idn_text.specs.Points.{AreScalarValues};
 ghost use Rattle.idn2_cli.specs.Answers.{LineAnswer};
-ghost use Rattle.idn2_cli.specs.Explained.{Explained, SeeksNoCause};
-ghost use Rattle.idn2_cli.specs.Transcript.{pieces_for};
 ghost use Rattle.idn2_cli.specs.inner.Asked.{asked_line};
 ghost use Rattle.idn2_cli.specs.inner.Emitting.{Emits, StopsForMemory};
-ghost use Rattle.idn2_cli.specs.inner.Explaining.{explained_by};
+ghost use Rattle.idn2_cli.specs.inner.LineAnswers.{KeepsIfRefused, refusal_in, reply_pieces};
+ghost use Rattle.idn2_cli.specs.inner.ServedLines.{result_of};
+ghost use Rattle.idn2_cli.specs.declared.modes.answering.Served.TheVariants as served;
 ghost use Rattle.idn2_cli.specs.declared.session.stop.Stop.TheVariants as stop;
 
-use crate::modes::answering::Answering;
+use crate::modes::answering::{Answering, Served};
 use crate::session::asked::Asked;
 use crate::session::buffers::Buffers;
-use crate::session::cause::Explaining;
 use crate::session::console::Console;
-use crate::session::refusing::refuse;
-use crate::session::stop::Stop;
 use idn_text::{MAX_LINE_LEN, Refusal, Sink, decode_points};
 use std::alloc::Global;
 
@@ -26,42 +22,36 @@ pub(crate) trait PointAnswering {
     // The answer to the code points of a line.
     ghost answer_of: { Self → List ℕ → LineAnswer };
 
-    // How it explains what it refuses.
-    ghost explains: { Self → Explained };
-
     // What the mode needs to answer.
     ghost is_ready: { Self → Type 0 } = { λ _. Unit {0} };
 
     // Whether it answers by a table.
     ghost reads_table: { Self → Bool } = { λ _. false };
 
-    // The code points of lines that it answers without memory, if it seeks no cause.
+    // The code points of lines that it answers without memory.
     ghost needs_none: { Self → List ℕ → Type 0 } = { λ _ _. ⊥ };
 
     // The code points of lines of which the answer, once begun, goes on without memory.
     ghost goes_on: { Self → List ℕ → Type 0 } = { λ _ _. Unit {0} };
 
-    /// How it explains what it refuses.
-    fn explaining(&self) -> &Explaining<'_>
-        ensures { explained_by result.now ≡ explains self.now };
-
-    /// Writes the answer to a line that spells these code points, and returns whether it is a refusal.
+    /// Writes the answer to a line that spells these code points, or gives back why the line is refused.
     fn answer_points<W: Sink, E: Sink>(
         &self,
         alloc: Global,
         asked: &Asked<'_>,
         points: &[u32],
         console: &mut Console<'_, '_, W, E>,
-    ) -> Result<bool, Stop>
+    ) -> Served
         requires ready { is_ready self.now }
         requires few { length asked.now.text.now ≤ MAX_LINE_LEN }
         requires few_points { length points.now ≤ MAX_LINE_LEN }
-        requires spelled { IsUtf8Of asked.now.text.now points.now }
+        requires scalar_values { AreScalarValues points.now }
         ensures written { Emits console.old console.new
-            (pieces_for asked.now.form (explains self.now) (asked_line asked.now) (answer_of self.now points.now)) result }
-        ensures refused { IfOk result (λ refused. refused ≡ is_err (answer_of self.now points.now)) }
-        ensures no_memory { SeeksNoCause (explains self.now) (answer_of self.now points.now) → needs_none self.now points.now → result ≢ Err stop.Memory }
-        ensures begun { StopsForMemory (goes_on self.now points.now) console.old console.new result };
+            (reply_pieces asked.now.form (asked_line asked.now) (answer_of self.now points.now)) (result_of result) }
+        ensures refused { IfOk (result_of result) (λ refusal. refusal ≡ refusal_in (answer_of self.now points.now)) }
+        ensures kept { KeepsIfRefused console.old console.new (result_of result) }
+        ensures no_memory { needs_none self.now points.now → result ≢ served.Stopped stop.Memory }
+        ensures begun { StopsForMemory (goes_on self.now points.now) console.old console.new (result_of result) };
 }
 
 /// A mode that is handed them, as one that is handed bytes.
@@ -73,8 +63,6 @@ pub(crate) struct ByPoints<'m, M: PointAnswering> {
 impl<'m, M: PointAnswering> Answering for ByPoints<'m, M> {
     ghost answer_of = { λ by. M.answer_of by.mode.now };
 
-    ghost explains = { λ by. M.explains by.mode.now };
-
     ghost is_ready = { λ by. M.is_ready by.mode.now };
 
     ghost reads_table = { λ by. M.reads_table by.mode.now };
@@ -83,25 +71,19 @@ impl<'m, M: PointAnswering> Answering for ByPoints<'m, M> {
 
     ghost goes_on = { λ by line. M.goes_on by.mode.now (chars line) };
 
-    fn explaining(&self) -> &Explaining<'_> {
-        self.mode.explaining()
-    }
-
     fn answer<W: Sink, E: Sink>(
         &self,
         alloc: Global,
         asked: &Asked<'_>,
         buffers: &mut Buffers,
         console: &mut Console<'_, '_, W, E>,
-    ) -> Result<bool, Stop> {
+    ) -> Served {
         match decode_points(asked.text, &mut buffers.points) {
-            Err(_) => refuse(alloc, asked, Refusal::NotUtf8, self.explaining(), console),
-            Ok(()) if asked.text.is_empty() => {
-                refuse(alloc, asked, Refusal::Empty, self.explaining(), console)
-            }
+            Err(_) => Served::Refused(Refusal::NotUtf8),
+            Ok(()) if asked.text.is_empty() => Served::Refused(Refusal::Empty),
             Ok(()) => {
-                self.mode
-                    .answer_points(alloc, asked, buffers.points.as_slice(), console)
+                let points = buffers.points.as_slice();
+                self.mode.answer_points(alloc, asked, points, console)
             }
         }
     }

@@ -8,65 +8,59 @@ ghost use Rattle.idn_label.specs.Memory.{DecodesWithoutMemory};
 ghost use Rattle.idna.specs.Labels.{labels_of};
 ghost use Rattle.idn2_cli.specs.Answers.{one_answer};
 ghost use Rattle.idn2_cli.specs.Said.{Decoded};
-ghost use Rattle.idn2_cli.specs.inner.Explaining.{explained_by};
 ghost use Rattle.idn_label.specs.Steps.{in_utf8};
 ghost use Rattle.idn2_cli.specs.inner.LineAnswers.{with_feed};
 ghost use Rattle.idn2_cli.specs.Memory.{DecodesLineWithoutMemory};
 
-use crate::modes::answering::{Answering, Kind, reply};
+use crate::modes::answering::{Answering, Kind, Served, answered, refused, reply};
 use crate::modes::code_points::{ByPoints, PointAnswering};
 use crate::session::asked::Asked;
 use crate::session::buffers::{Buffers, MAX_ANSWER_LEN};
-use crate::session::cause::Explaining;
 use crate::session::console::Console;
-use crate::session::refusing::{refuse, refuse_points};
-use crate::session::stop::Stop;
 use idn_label::{DecodedLabel, decode_ascii, decode_name};
 use idn_text::{MAX_LINE_LEN, Refusal, Sink};
 use std::alloc::{AllocError, Global};
 
 /// Decoding (RFC 5891 section 5.3).
 #[derive(Clone, Copy)]
-pub(crate) struct Decode<'t> {
-    /// How it explains what it refuses.
-    pub explaining: Explaining<'t>,
-}
+pub(crate) struct Decode;
 
-impl<'t> Answering for Decode<'t> {
+impl Answering for Decode {
     ghost answer_of = { λ _ name. one_answer Decoded (in_utf8 (decode_answer name)) };
-
-    ghost explains = { λ mode. explained_by mode.explaining };
 
     ghost needs_none = { λ _ name. DecodesLineWithoutMemory name };
 
-    fn explaining(&self) -> &Explaining<'_> {
-        &self.explaining
-    }
-
+    // It is called once for each line.
+    #[inline(always)]
     fn answer<W: Sink, E: Sink>(
         &self,
         alloc: Global,
         asked: &Asked<'_>,
         buffers: &mut Buffers,
         console: &mut Console<'_, '_, W, E>,
-    ) -> Result<bool, Stop> {
+    ) -> Served {
         let text = asked.text;
         if text.is_empty() {
-            return refuse(alloc, asked, Refusal::Empty, &self.explaining, console);
+            return Served::Refused(Refusal::Empty);
         }
         // A line past ASCII is answered by its code points.
         if !text.is_ascii() {
             return ByPoints { mode: self }.answer(alloc, asked, buffers, console);
         }
         match fill_line(alloc, text, &mut buffers.u_label, &mut buffers.answer) {
-            Ok(len) => reply(asked, Kind::Decoded, &buffers.answer[..len], console),
-            Err(refusal) => refuse(alloc, asked, refusal, &self.explaining, console),
+            Ok(len) => {
+                let line = &buffers.answer[..len];
+                answered(reply(asked, Kind::Decoded, line, console))
+            }
+            Err(refusal) => refused(refusal),
         }
     }
 }
 
 /// Writes into `line` a name in ASCII with U-labels in place of its A-labels and a line feed, and returns the length of
 /// that. Where the name is refused, what is left says nothing. `u_label` is room for what an A-label stands for.
+// It is called once for each line.
+#[inline(always)]
 fn fill_line(
     alloc: Global,
     name: &[u8],
@@ -86,14 +80,8 @@ fn fill_line(
     Ok(len + 1)
 }
 
-impl<'t> PointAnswering for Decode<'t> {
+impl PointAnswering for Decode {
     ghost answer_of = { λ _ name. one_answer Decoded (in_utf8 (decode_answer name)) };
-
-    ghost explains = { λ mode. explained_by mode.explaining };
-
-    fn explaining(&self) -> &Explaining<'_> {
-        &self.explaining
-    }
 
     fn answer_points<W: Sink, E: Sink>(
         &self,
@@ -101,12 +89,10 @@ impl<'t> PointAnswering for Decode<'t> {
         asked: &Asked<'_>,
         points: &[u32],
         console: &mut Console<'_, '_, W, E>,
-    ) -> Result<bool, Stop> {
+    ) -> Served {
         match line_of(alloc, points) {
-            Ok(line) => reply(asked, Kind::Decoded, line.as_bytes(), console),
-            Err(refusal) => {
-                refuse_points(alloc, asked, points, refusal, &self.explaining, console)
-            }
+            Ok(line) => answered(reply(asked, Kind::Decoded, line.as_bytes(), console)),
+            Err(refusal) => refused(refusal),
         }
     }
 }

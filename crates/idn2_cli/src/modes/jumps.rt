@@ -2,27 +2,27 @@
 //! them are variants of a label.
 
 ghost use Rattle.std.specs.Prelude.{◌≡◌, ◌≤◌, ◌∷◌, [], true, length, slice_get, All, IfOk, IfErr, Err, None, Some};
-ghost use Rattle.std.specs.Result.{is_err};
-ghost use Rattle.idn_text.specs.Points.{AreScalarValues, IsUtf8Of};
+ghost use Rattle.idn_text.specs.Points.{AreScalarValues};
 ghost use Rattle.idn_label.specs.FirstFault.{IsRegistrable};
 ghost use Rattle.variant_table.specs.WellFormed.{IsWellFormed};
 ghost use Rattle.variant_list.specs.Jumps.{candidates_among_from};
 ghost use Rattle.idn2_cli.specs.Answers.{jump_answer, least_answer, requested_label, requested_text};
-ghost use Rattle.idn2_cli.specs.inner.Explaining.{explained_by};
 ghost use Rattle.idn2_cli.specs.Memory.{IsRefusedWithoutMemory};
 ghost use Rattle.idn2_cli.specs.Said.{Least, said_text};
-ghost use Rattle.idn2_cli.specs.Transcript.{Output, pieces_for};
+ghost use Rattle.idn2_cli.specs.Transcript.{Output};
 ghost use Rattle.idn2_cli.specs.inner.Asked.{asked_line};
 ghost use Rattle.idn2_cli.specs.inner.Emitting.{Emits};
+ghost use Rattle.idn2_cli.specs.inner.LineAnswers.{KeepsIfRefused, refusal_in, reply_pieces};
+ghost use Rattle.idn2_cli.specs.inner.ServedLines.{result_of};
+ghost use Rattle.idn2_cli.specs.declared.modes.answering.Served.TheVariants as served;
 ghost use Rattle.idn2_cli.specs.declared.session.stop.Stop.TheVariants as stop;
 
+use crate::modes::answering::{Served, answered, refused};
 use crate::modes::code_points::PointAnswering;
 use crate::modes::kept_line::KeptLine;
 use crate::session::asked::Asked;
-use crate::session::cause::Explaining;
 use crate::session::console::Console;
 use crate::session::object::Object;
-use crate::session::refusing::refuse_points;
 use crate::session::request::{label_of_request, parts_of};
 use crate::session::stop::Stop;
 use answer_json::Input;
@@ -37,14 +37,10 @@ use variant_table::Table;
 #[derive(Drop)]
 pub(crate) struct Jumps<'t> {
     pub table: &'t Table,
-    /// How it explains what it refuses.
-    pub explaining: Explaining<'t>,
 }
 
 impl<'t> PointAnswering for Jumps<'t> {
     ghost answer_of = { λ mode line. jump_answer mode.table.now line };
-
-    ghost explains = { λ mode. explained_by mode.explaining };
 
     ghost is_ready = { λ mode. IsWellFormed mode.table.now.entries };
 
@@ -52,22 +48,16 @@ impl<'t> PointAnswering for Jumps<'t> {
 
     ghost needs_none = { λ _ line. IsRefusedWithoutMemory (requested_label line) };
 
-    fn explaining(&self) -> &Explaining<'_> {
-        &self.explaining
-    }
-
     fn answer_points<W: Sink, E: Sink>(
         &self,
         alloc: Global,
         asked: &Asked<'_>,
         points: &[u32],
         console: &mut Console<'_, '_, W, E>,
-    ) -> Result<bool, Stop> {
+    ) -> Served {
         match test_label(alloc, label_of_request(points)) {
-            Ok(_) => answer_least(alloc, self, asked, points, console),
-            Err(refusal) => {
-                refuse_points(alloc, asked, points, refusal, &self.explaining, console)
-            }
+            Ok(_) => answer_least(alloc, self.table, asked, points, console),
+            Err(refusal) => refused(refusal),
         }
     }
 }
@@ -75,39 +65,26 @@ impl<'t> PointAnswering for Jumps<'t> {
 /// Answers the least label from a text on that a label spells, which may be registered.
 fn answer_least<W: Sink, E: Sink>(
     alloc: Global,
-    mode: &Jumps<'_>,
+    table: &Table,
     asked: &Asked<'_>,
     points: &[u32],
     console: &mut Console<'_, '_, W, E>,
-) -> Result<bool, Stop>
-    requires table { IsWellFormed mode.now.table.now.entries }
+) -> Served
+    requires table { IsWellFormed table.now.entries }
     requires few { length asked.now.text.now ≤ MAX_LINE_LEN }
-    requires few_points { length points.now ≤ MAX_LINE_LEN }
-    requires spelled { IsUtf8Of asked.now.text.now points.now }
+    requires scalar_values { AreScalarValues points.now }
     requires registrable { IsRegistrable (requested_label points.now) }
     ensures written { Emits console.old console.new
-        (pieces_for asked.now.form (explained_by mode.now.explaining) (asked_line asked.now)
-        (least_answer mode.now.table.now (requested_label points.now) (requested_text points.now))) result }
-    ensures refused { IfOk result (λ refused. refused ≡ is_err (least_answer mode.now.table.now (requested_label points.now) (requested_text points.now))) }
-    ensures begun { result ≡ Err stop.Memory → console.new ≡ console.old }
+        (reply_pieces asked.now.form (asked_line asked.now) (least_answer table.now (requested_label points.now) (requested_text points.now))) (result_of result) }
+    ensures refused { IfOk (result_of result) (λ refusal. refusal ≡ refusal_in (least_answer table.now (requested_label points.now) (requested_text points.now))) }
+    ensures kept { KeepsIfRefused console.old console.new (result_of result) }
+    ensures begun { result ≡ served.Stopped stop.Memory → console.new ≡ console.old }
 {
     let (label, text) = parts_of(points);
-    match Net::build(alloc, mode.table, label) {
-        Ok(net) => {
-            write_least(alloc, asked, &net, text, console)?;
-            Ok(false)
-        }
-        Err(NetFault::NotInTable) => {
-            refuse_points(
-                alloc,
-                asked,
-                points,
-                Refusal::NotInTable,
-                &mode.explaining,
-                console,
-            )
-        }
-        Err(NetFault::Memory) => Err(Stop::Memory),
+    match Net::build(alloc, table, label) {
+        Ok(net) => answered(write_least(alloc, asked, &net, text, console)),
+        Err(NetFault::NotInTable) => Served::Refused(Refusal::NotInTable),
+        Err(NetFault::Memory) => Served::Stopped(Stop::Memory),
     }
 }
 

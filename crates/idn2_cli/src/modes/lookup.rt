@@ -6,39 +6,27 @@ ghost use Rattle.idn_label.specs.Lookup.{lookup_answer};
 ghost use Rattle.idn_label.specs.Memory.{LooksUpWithoutMemory};
 ghost use Rattle.idn2_cli.specs.Answers.{one_answer};
 ghost use Rattle.idn2_cli.specs.Said.{LookedUp};
-ghost use Rattle.idn2_cli.specs.inner.Explaining.{explained_by};
 ghost use Rattle.idn2_cli.specs.inner.LineAnswers.{with_feed, query_answer};
 
-use crate::modes::answering::{Answering, Kind, reply};
+use crate::modes::answering::{Answering, Kind, Served, answered, refused, reply};
 use crate::session::asked::Asked;
 use crate::session::buffers::Buffers;
-use crate::session::cause::Explaining;
 use crate::session::console::Console;
-use crate::session::refusing::refuse;
-use crate::session::stop::Stop;
 use idn_label::{LookupBuffers, lookup_utf8};
 use idn_text::{Refusal, Sink};
 use std::alloc::Global;
 
 /// Lookup (UTS 46 section 4.2).
 #[derive(Clone, Copy)]
-pub(crate) struct Lookup<'t> {
+pub(crate) struct Lookup {
     /// Whether ASCII code points other than letters, digits and hyphens are refused.
     pub std3: bool,
-    /// How it explains what it refuses.
-    pub explaining: Explaining<'t>,
 }
 
-impl<'t> Answering for Lookup<'t> {
+impl Answering for Lookup {
     ghost answer_of = { λ mode name. one_answer LookedUp (lookup_answer name mode.std3) };
 
-    ghost explains = { λ mode. explained_by mode.explaining };
-
     ghost needs_none = { λ mode name. LooksUpWithoutMemory mode.std3 name };
-
-    fn explaining(&self) -> &Explaining<'_> {
-        &self.explaining
-    }
 
     fn answer<W: Sink, E: Sink>(
         &self,
@@ -46,7 +34,7 @@ impl<'t> Answering for Lookup<'t> {
         asked: &Asked<'_>,
         buffers: &mut Buffers,
         console: &mut Console<'_, '_, W, E>,
-    ) -> Result<bool, Stop> {
+    ) -> Served {
         match fill_line(
             alloc,
             asked.text,
@@ -54,8 +42,11 @@ impl<'t> Answering for Lookup<'t> {
             &mut buffers.lookup,
             &mut buffers.query,
         ) {
-            Ok(len) => reply(asked, Kind::LookedUp, &buffers.query[..len], console),
-            Err(refusal) => refuse(alloc, asked, refusal, &self.explaining, console),
+            Ok(len) => {
+                let line = &buffers.query[..len];
+                answered(reply(asked, Kind::LookedUp, line, console))
+            }
+            Err(refusal) => refused(refusal),
         }
     }
 }

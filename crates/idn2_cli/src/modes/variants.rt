@@ -1,8 +1,7 @@
 //! The variants of a label under a table, all of them or those that are registered.
 
 ghost use Rattle.std.specs.Prelude.{◌≡◌, ◌≤◌, true, All, IfOk, length};
-ghost use Rattle.std.specs.Result.{is_err};
-ghost use Rattle.idn_text.specs.Points.{AreScalarValues, IsUtf8Of};
+ghost use Rattle.idn_text.specs.Points.{AreScalarValues};
 ghost use Rattle.idn_label.specs.FirstFault.{IsRegistrable};
 ghost use Rattle.idn_label.specs.Memory.{NeedsNoMemory};
 ghost use Rattle.variant_table.specs.WellFormed.{IsWellFormed};
@@ -11,21 +10,21 @@ ghost use Rattle.std.specs.Option.{option_copied};
 ghost use Rattle.idn2_options.specs.Settings.{IsWithinLimits, keeping};
 ghost use Rattle.idn2_cli.specs.Answers.{variants_answer, listing_answer, tested_after};
 ghost use Rattle.idn2_cli.specs.inner.Dispositions.{AreOfTable, block_by, field_by};
-ghost use Rattle.idn2_cli.specs.inner.Explaining.{explained_by};
 ghost use Rattle.idn2_cli.specs.Memory.{IsRefusedWithoutMemory};
 ghost use Rattle.idn2_cli.specs.Said.{said_text};
-ghost use Rattle.idn2_cli.specs.Transcript.{outputs, pieces_for};
+ghost use Rattle.idn2_cli.specs.Transcript.{outputs};
 ghost use Rattle.idn2_cli.specs.inner.Asked.{asked_line};
 ghost use Rattle.idn2_cli.specs.inner.Emitting.{Emits, StopsForMemory};
+ghost use Rattle.idn2_cli.specs.inner.LineAnswers.{KeepsIfRefused, refusal_in, reply_pieces};
+ghost use Rattle.idn2_cli.specs.inner.ServedLines.{result_of};
 
+use crate::modes::answering::{Served, answered, refused};
 use crate::modes::block::write_block;
 use crate::modes::code_points::PointAnswering;
 use crate::modes::collisions::write_collisions;
 use crate::modes::dispositions::Dispositions;
 use crate::session::asked::Asked;
-use crate::session::cause::Explaining;
 use crate::session::console::Console;
-use crate::session::refusing::refuse_points;
 use crate::session::stop::Stop;
 use idn_label::test_label;
 use idn_text::{MAX_LINE_LEN, Refusal, Sink};
@@ -43,14 +42,10 @@ pub(crate) struct Variants<'t, 'r, 'b> {
     pub dispositions: &'t Dispositions<Part>,
     pub options: &'t Options,
     pub registered: Option<&'r RegisteredLabels<'b>>,
-    /// How it explains what it refuses.
-    pub explaining: Explaining<'t>,
 }
 
 impl<'t, 'r, 'b> PointAnswering for Variants<'t, 'r, 'b> {
     ghost answer_of = { λ mode label. variants_answer (keeping (option_copied mode.registered) mode.options.now) mode.table.now label };
-
-    ghost explains = { λ mode. explained_by mode.explaining };
 
     ghost is_ready = { λ mode. IsWithinLimits mode.options.now × IsWellFormed mode.table.now.entries
         × AreOfTable mode.table.now mode.dispositions.now };
@@ -61,22 +56,16 @@ impl<'t, 'r, 'b> PointAnswering for Variants<'t, 'r, 'b> {
 
     ghost goes_on = { λ mode label. All NeedsNoMemory (tested_after (keeping (option_copied mode.registered) mode.options.now) (spelled mode.table.now.entries label)) };
 
-    fn explaining(&self) -> &Explaining<'_> {
-        &self.explaining
-    }
-
     fn answer_points<W: Sink, E: Sink>(
         &self,
         alloc: Global,
         asked: &Asked<'_>,
         points: &[u32],
         console: &mut Console<'_, '_, W, E>,
-    ) -> Result<bool, Stop> {
+    ) -> Served {
         match test_label(alloc, points) {
             Ok(_) => list(alloc, self, asked, points, console),
-            Err(refusal) => {
-                refuse_points(alloc, asked, points, refusal, &self.explaining, console)
-            }
+            Err(refusal) => refused(refusal),
         }
     }
 }
@@ -122,39 +111,31 @@ fn list<W: Sink, E: Sink>(
     asked: &Asked<'_>,
     label: &[u32],
     console: &mut Console<'_, '_, W, E>,
-) -> Result<bool, Stop>
+) -> Served
     requires limits { IsWithinLimits mode.now.options.now }
     requires table { IsWellFormed mode.now.table.now.entries }
     requires dispositions { AreOfTable mode.now.table.now mode.now.dispositions.now }
     requires few { length asked.now.text.now ≤ MAX_LINE_LEN }
-    requires few_points { length label.now ≤ MAX_LINE_LEN }
-    requires spelled { IsUtf8Of asked.now.text.now label.now }
+    requires scalar_values { AreScalarValues label.now }
     requires registrable { IsRegistrable label.now }
     ensures written { Emits console.old console.new
-        (pieces_for asked.now.form (explained_by mode.now.explaining) (asked_line asked.now)
-        (listing_answer (keeping (option_copied mode.now.registered) mode.now.options.now) mode.now.table.now label.now)) result }
-    ensures refused { IfOk result
-        (λ refused. refused ≡ is_err (listing_answer (keeping (option_copied mode.now.registered) mode.now.options.now) mode.now.table.now label.now)) }
+        (reply_pieces asked.now.form (asked_line asked.now)
+        (listing_answer (keeping (option_copied mode.now.registered) mode.now.options.now) mode.now.table.now label.now)) (result_of result) }
+    ensures refused { IfOk (result_of result)
+        (λ refusal. refusal ≡ refusal_in (listing_answer (keeping (option_copied mode.now.registered) mode.now.options.now) mode.now.table.now label.now)) }
+    ensures kept { KeepsIfRefused console.old console.new (result_of result) }
     ensures begun { StopsForMemory
         (All NeedsNoMemory (tested_after (keeping (option_copied mode.now.registered) mode.now.options.now) (spelled mode.now.table.now.entries label.now)))
-        console.old console.new result }
+        console.old console.new (result_of result) }
 {
     match Net::build(alloc, mode.table, label) {
-        Ok(net) => {
-            let mut dispositions = mode.dispositions.of_label(alloc, mode.table, label)?;
-            write_lines(alloc, mode, asked, &net, &mut dispositions, console)?;
-            Ok(false)
-        }
-        Err(NetFault::NotInTable) => {
-            refuse_points(
-                alloc,
-                asked,
-                label,
-                Refusal::NotInTable,
-                &mode.explaining,
-                console,
-            )
-        }
-        Err(NetFault::Memory) => Err(Stop::Memory),
+        Ok(net) => match mode.dispositions.of_label(alloc, mode.table, label) {
+            Ok(mut dispositions) => {
+                answered(write_lines(alloc, mode, asked, &net, &mut dispositions, console))
+            }
+            Err(_) => Served::Stopped(Stop::Memory),
+        },
+        Err(NetFault::NotInTable) => Served::Refused(Refusal::NotInTable),
+        Err(NetFault::Memory) => Served::Stopped(Stop::Memory),
     }
 }

@@ -1,10 +1,11 @@
 //! The cause that is told of a refused line. It is looked for only once the line is refused, and only if causes are wanted.
-ghost use Rattle.std.specs.Prelude.{◌≡◌, ◌≤◌, ℕ, List, IfOk, length, option_map, slice_index};
+ghost use Rattle.std.specs.Prelude.{◌≡◌, ◌≤◌, ℕ, List, IfOk, None, length, option_map, slice_index};
+ghost use Rattle.std.specs.Option.{option_copied};
 ghost use Rattle.std.specs.Result.{IsOk};
 ghost use Rattle.idn_text.specs.Points.{AreScalarValues, IsUtf8Of, utf8_of};
+ghost use Rattle.answer_json.specs.Details.{given_len};
 ghost use Rattle.idn_cause.specs.NameCauses.{name_cause, query_cause};
-ghost use Rattle.idn2_cli.specs.Explained as explained;
-ghost use Rattle.idn2_cli.specs.Explained.{bad_byte, if_wanted, outside_cause, points_cause, registered_cause, table_cause, text_cause, unless_unexplained};
+ghost use Rattle.idn2_cli.specs.Explained.{bad_byte, body_cause, if_wanted, outside_cause, points_cause, registered_cause, table_cause, text_cause, unless_unexplained};
 ghost use Rattle.idn2_cli.specs.inner.Explaining.{explained_by};
 
 use crate::session::request::label_of_request;
@@ -62,9 +63,27 @@ impl<'t> Explaining<'t> {
     }
 }
 
-/// The cause of the refusal of these bytes, if causes are wanted and one is told.
+/// The cause of the refusal of a line, if causes are wanted and one is told. Of a line that is too long there is no text,
+/// and its cause takes no memory.
+pub(crate) fn cause_of_body(
+    alloc: Global,
+    text: Option<&[u8]>,
+    refusal: Refusal,
+    explaining: &Explaining<'_>,
+) -> Result<Option<LineCause>, AllocError>
+    requires short { given_len (option_copied text) ≤ MAX_LINE_LEN }
+    ensures cause { IfOk result (λ cause. cause ≡ body_cause (explained_by explaining.now) (option_copied text.entry) refusal) }
+    ensures long { option_copied text.entry ≡ None → IsOk result }
+{
+    match text {
+        Some(text) => cause_of_text(alloc, text, refusal, explaining),
+        None => Ok(cause_unless_unexplained(explaining, LineCause::LongLine)),
+    }
+}
+
+/// The cause of the refusal of these bytes.
 #[tactic(auto, using(crate::proofs::CauseLemmas::causes_of_text))]
-pub(crate) fn cause_of_text(
+fn cause_of_text(
     alloc: Global,
     text: &[u8],
     refusal: Refusal,
@@ -72,7 +91,6 @@ pub(crate) fn cause_of_text(
 ) -> Result<Option<LineCause>, AllocError>
     requires short { length text.now ≤ MAX_LINE_LEN }
     ensures cause { IfOk result (λ cause. cause ≡ text_cause (explained_by explaining.now) text.now refusal) }
-    ensures unexplained { explained_by explaining.now ≡ explained.Unexplained → IsOk result }
 {
     let mut points = ArrayVec::new();
     match decode_points(text, &mut points) {
@@ -82,10 +100,7 @@ pub(crate) fn cause_of_text(
 }
 
 /// A cause, if causes are wanted.
-pub(crate) fn cause_unless_unexplained(
-    explaining: &Explaining<'_>,
-    cause: LineCause,
-) -> Option<LineCause>
+fn cause_unless_unexplained(explaining: &Explaining<'_>, cause: LineCause) -> Option<LineCause>
     ensures { result ≡ unless_unexplained (explained_by explaining.now) cause }
 {
     match explaining {
@@ -108,9 +123,9 @@ fn bad_byte(text: &[u8]) -> LineCause
     }
 }
 
-/// The cause of the refusal of these code points, if causes are wanted and one is told.
+/// The cause of the refusal of these code points.
 #[tactic(auto, unfolding(crate::specs::Explained::points_cause))]
-pub(crate) fn cause_of_points(
+fn cause_of_points(
     alloc: Global,
     points: &[u32],
     refusal: Refusal,
@@ -119,7 +134,6 @@ pub(crate) fn cause_of_points(
     requires short { length points.now ≤ MAX_LINE_LEN }
     requires scalar_values { AreScalarValues points.now }
     ensures cause { IfOk result (λ cause. cause ≡ points_cause (explained_by explaining.now) points.now refusal) }
-    ensures unexplained { explained_by explaining.now ≡ explained.Unexplained → IsOk result }
 {
     match explaining {
         Explaining::Nothing => Ok(None),

@@ -1,7 +1,7 @@
 //! Causes as messages tell them. Places and labels are counted from 1 here.
 ghost use Rattle.std.specs.Prelude.{◌≡◌, ◌≤◌, ◌<◌, ◌+◌, [], ◌∷◌, ◌++◌, codes, decimal, length};
 ghost use Rattle.arrayvec.specs.ArrayVec.{array_vec_len};
-ghost use Rattle.variant_table.specs.Canonical.{four_digits, hex_digit, point_text};
+ghost use Rattle.ruleset_text.specs.Canonical.{four_digits, hex_digit, point_text};
 ghost use Rattle.idn2_cli.specs.CauseTexts.{a_label_text, appendix_text, barring_text, bidi_text, byte_text, cause_text, code_point_text, context_text, form_text, hyphen_text, length_text, line_cause_text, name_text, place_text, separator_text};
 
 use crate::session::buffers::append;

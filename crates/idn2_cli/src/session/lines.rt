@@ -4,20 +4,25 @@ ghost use Rattle.std.specs.Prelude.{◌≡◌, ◌≢◌, IfOk, Err};
 ghost use Rattle.std.specs.Result.{is_err};
 ghost use Rattle.idn_text.specs.Reading.{IsUnread, line_at};
 ghost use Rattle.idn2_cli.specs.inner.Emitting.{Emits, StopsForMemory};
+ghost use Rattle.idn2_cli.specs.inner.Explaining.{explained_by};
+ghost use Rattle.idn2_cli.specs.inner.LineAnswers.{KeepsIfRefused, refusal_in, reply_pieces};
+ghost use Rattle.idn2_cli.specs.inner.ServedLines.{result_of};
+ghost use Rattle.idn2_cli.specs.declared.modes.answering.Served.TheVariants as served;
 ghost use Rattle.idn2_cli.specs.Answers.{line_answer};
 ghost use Rattle.idn2_cli.specs.Transcript.{line_pieces};
 ghost use Rattle.idn2_cli.specs.Ends.{Does, lines_job};
 ghost use Rattle.idn2_cli.specs.Memory.{BodyNeedsNone, NeedsNone};
 ghost use Rattle.idn2_cli.specs.declared.session.stop.Stop.TheVariants as stop;
 
-use crate::modes::answering::Answering;
+use crate::modes::answering::{Answering, Served};
 use crate::session::asked::Asked;
 use crate::session::buffers::Buffers;
+use crate::session::cause::Explaining;
 use crate::session::console::Console;
-use crate::session::refusing::refuse_long_line;
+use crate::session::refusing::refuse;
 use crate::session::status::Status;
 use crate::session::stop::Stop;
-use idn_text::{Lines, Sink, Source};
+use idn_text::{Lines, Refusal, Sink, Source};
 use idn2_options::Form;
 use std::alloc::Global;
 
@@ -25,19 +30,21 @@ use std::alloc::Global;
 pub(crate) fn serve_lines<M: Answering, R: Source, W: Sink, E: Sink>(
     alloc: Global,
     form: Form,
+    explaining: &Explaining<'_>,
     mode: &M,
     input: &mut Lines<R>,
     console: &mut Console<'_, '_, W, E>,
 ) -> Result<Status, Stop>
     requires ready { M.is_ready mode.now }
     requires unread { IsUnread input.old }
-    ensures { Does (lines_job form (M.explains mode.now) (M.answer_of mode.now) (M.reads_table mode.now) (M.needs_none mode.now) (M.goes_on mode.now)) input.old input.new console.old console.new result }
+    ensures { Does (lines_job form (explained_by explaining.now) (M.answer_of mode.now) (M.reads_table mode.now) (M.needs_none mode.now) (M.goes_on mode.now)) input.old input.new console.old console.new result }
 {
     let mut buffers = Buffers::new();
     let mut has_refused = false;
     'lines: while input.advance()? {
-        let is_refused = serve_line(alloc, form, mode, input, &mut buffers, console)?;
-        has_refused = has_refused || is_refused;
+        if serve_line(alloc, form, explaining, mode, input, &mut buffers, console)? {
+            has_refused = true;
+        }
     }
     Ok(if has_refused {
         Status::Refused
@@ -46,11 +53,12 @@ pub(crate) fn serve_lines<M: Answering, R: Source, W: Sink, E: Sink>(
     })
 }
 
-/// Answers the line that the input went on to, and returns whether it was refused.
+/// Answers the line that the input went on to, or reports why it is refused, and returns whether it was.
 #[inline(always)]
 fn serve_line<M: Answering, R: Source, W: Sink, E: Sink>(
     alloc: Global,
     form: Form,
+    explaining: &Explaining<'_>,
     mode: &M,
     input: &Lines<R>,
     buffers: &mut Buffers,
@@ -58,10 +66,38 @@ fn serve_line<M: Answering, R: Source, W: Sink, E: Sink>(
 ) -> Result<bool, Stop>
     requires { M.is_ready mode.now }
     ensures written { Emits console.old console.new
-        (line_pieces form (M.explains mode.now) (M.answer_of mode.now) (line_at input.now)) result }
+        (line_pieces form (explained_by explaining.now) (M.answer_of mode.now) (line_at input.now)) result }
     ensures refused { IfOk result (λ refused. refused ≡ is_err (line_answer (M.answer_of mode.now) (line_at input.now).body)) }
-    ensures no_memory { BodyNeedsNone (NeedsNone (M.explains mode.now) (M.answer_of mode.now) (M.needs_none mode.now)) (line_at input.now).body → result ≢ Err stop.Memory }
+    ensures no_memory { BodyNeedsNone (NeedsNone (explained_by explaining.now) (M.answer_of mode.now) (M.needs_none mode.now)) (line_at input.now).body → result ≢ Err stop.Memory }
     ensures begun { StopsForMemory (BodyNeedsNone (M.goes_on mode.now) (line_at input.now).body) console.old console.new result }
+{
+    match answer_line(alloc, form, mode, input, buffers, console) {
+        Served::Answered => Ok(false),
+        Served::Refused(refusal) => {
+            refuse(alloc, form, explaining, input, refusal, console)?;
+            Ok(true)
+        }
+        Served::Stopped(why) => Err(why),
+    }
+}
+
+/// Answers the line that the input went on to, or gives back why it is refused.
+#[inline(always)]
+fn answer_line<M: Answering, R: Source, W: Sink, E: Sink>(
+    alloc: Global,
+    form: Form,
+    mode: &M,
+    input: &Lines<R>,
+    buffers: &mut Buffers,
+    console: &mut Console<'_, '_, W, E>,
+) -> Served
+    requires { M.is_ready mode.now }
+    ensures written { Emits console.old console.new
+        (reply_pieces form (line_at input.now) (line_answer (M.answer_of mode.now) (line_at input.now).body)) (result_of result) }
+    ensures refused { IfOk (result_of result) (λ refusal. refusal ≡ refusal_in (line_answer (M.answer_of mode.now) (line_at input.now).body)) }
+    ensures kept { KeepsIfRefused console.old console.new (result_of result) }
+    ensures no_memory { BodyNeedsNone (M.needs_none mode.now) (line_at input.now).body → result ≢ served.Stopped stop.Memory }
+    ensures begun { StopsForMemory (BodyNeedsNone (M.goes_on mode.now) (line_at input.now).body) console.old console.new (result_of result) }
 {
     let number = input.number();
     match input.text() {
@@ -69,6 +105,6 @@ fn serve_line<M: Answering, R: Source, W: Sink, E: Sink>(
             let asked = Asked { form, number, text };
             mode.answer(alloc, &asked, buffers, console)
         }
-        None => refuse_long_line(form, number, mode.explaining(), console),
+        None => Served::Refused(Refusal::LineTooLong),
     }
 }

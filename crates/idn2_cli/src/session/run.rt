@@ -131,23 +131,17 @@ fn serve_mode<R: Source, W: Sink, E: Sink>(
 {
     match options.mode {
         Mode::Lookup => {
-            let mode = Lookup {
-                std3: options.std3,
-                explaining: Explaining::Query(options.std3).if_wanted(options.tells_causes()),
-            };
-            serve_lines(alloc, options.form, &mode, input, console)
+            let explaining = Explaining::Query(options.std3).if_wanted(options.tells_causes());
+            let mode = Lookup { std3: options.std3 };
+            serve_lines(alloc, options.form, &explaining, &mode, input, console)
         }
         Mode::Register => {
-            let mode = Register {
-                explaining: Explaining::Label.if_wanted(options.tells_causes()),
-            };
-            serve_lines(alloc, options.form, &mode, input, console)
+            let explaining = Explaining::Label.if_wanted(options.tells_causes());
+            serve_lines(alloc, options.form, &explaining, &Register, input, console)
         }
         Mode::Decode => {
-            let mode = Decode {
-                explaining: Explaining::Name.if_wanted(options.tells_causes()),
-            };
-            serve_lines(alloc, options.form, &mode, input, console)
+            let explaining = Explaining::Name.if_wanted(options.tells_causes());
+            serve_lines(alloc, options.form, &explaining, &Decode, input, console)
         }
         Mode::Variants => serve_variants(alloc, options, table, registered, input, console),
         Mode::Jump => serve_jumps(alloc, options, table, input, console),
@@ -180,15 +174,10 @@ fn serve_variants<R: Source, W: Sink, E: Sink>(
         dispositions: &dispositions,
         options,
         registered,
-        explaining: Explaining::Sources(&table).if_wanted(options.tells_causes()),
     };
-    serve_lines(
-        alloc,
-        options.form,
-        &ByPoints { mode: &mode },
-        input,
-        console,
-    )
+    let explaining = Explaining::Sources(&table).if_wanted(options.tells_causes());
+    let by_points = ByPoints { mode: &mode };
+    serve_lines(alloc, options.form, &explaining, &by_points, input, console)
 }
 
 /// Answers the request of each line by the table that a text spells, or reports the fault of the text.
@@ -208,17 +197,10 @@ fn serve_jumps<R: Source, W: Sink, E: Sink>(
         Ok(table) => table,
         Err(fault) => return refuse_table(options.form, fault, console),
     };
-    let mode = Jumps {
-        table: &table,
-        explaining: Explaining::Request(&table).if_wanted(options.tells_causes()),
-    };
-    serve_lines(
-        alloc,
-        options.form,
-        &ByPoints { mode: &mode },
-        input,
-        console,
-    )
+    let mode = Jumps { table: &table };
+    let explaining = Explaining::Request(&table).if_wanted(options.tells_causes());
+    let by_points = ByPoints { mode: &mode };
+    serve_lines(alloc, options.form, &explaining, &by_points, input, console)
 }
 
 /// Checks the table that a text spells, or reports the fault of the text.

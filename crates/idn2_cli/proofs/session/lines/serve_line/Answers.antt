@@ -1,8 +1,8 @@
-use Rattle.std.proofs.Common.{ℕ, List, Option, sym, subst}
-use Rattle.idn2_cli.specs.Memory.{BodyNeedsNone}
-use Rattle.idn2_cli.specs.inner.Emitting.{StopsForMemory}
+use Rattle.idn_text.specs.Reading.{line_at}
+use Rattle.idn2_cli.specs.Answers.{line_answer}
+use Rattle.idn2_cli.proofs.RefusedLines.{stopped_pieces}
 use Rattle.idn2_cli.proofs.session.lines.serve_line.Goals as goal
 
-pub returns-in-Some-clause-begun : goal.returns-in-Some-clause-begun
-returns-in-Some-clause-begun g c =
-    subst (λ (body : Option (List ℕ)). StopsForMemory (BodyNeedsNone (g.M.Answering.goes_on c.args.mode.now) body) c.args.console.now c.answer.new.console c.answer.result) (sym c.in-Some.ensures.body) c.answer.ensures.begun
+pub returns-in-Stopped-clause-written : goal.returns-in-Stopped-clause-written
+returns-in-Stopped-clause-written g c =
+    stopped_pieces c.in-Stopped.why _ _ c.args.form _ (line_at c.args.input.now) (line_answer (g.M.Answering.answer_of c.args.mode.now) (line_at c.args.input.now).body) c.in-Stopped.ensures.written

@@ -4,11 +4,9 @@ use Rattle.idn2_cli.proofs.WrittenPieces.{emits_as}
 use Rattle.idn2_cli.proofs.session.refusing.tell_message.Goals as goal
 
 pub returns-in-Some-clause-told : goal.returns-in-Some-clause-told
-returns-in-Some-clause-told g c =
-    rw c.in-Some.is
-    (emits_as _ _ Message _ _ c.write_message.result (c.as_slice.ensures.value ∙ c.explained_message-message.ensures) c.write_message.ensures.told)
+returns-in-Some-clause-told g c = rw c.in-Some.is c.tell_explained.ensures.told
 
 pub returns-in-None-clause-told : goal.returns-in-None-clause-told
 returns-in-None-clause-told g c =
     rw c.in-None.is
-    (emits_as _ _ Message _ _ c.write_message-in-None.result (c.as_bytes.ensures.value ∙ c.as_str.ensures.value ∙ c.line_message-message.ensures) c.write_message-in-None.ensures.told)
+    (emits_as _ _ Message _ _ c.message.result (c.as_bytes.ensures.value ∙ c.as_str.ensures.value ∙ c.line_message-message.ensures) c.message.ensures.written)

@@ -1,7 +1,7 @@
 use Rattle.std.proofs.Common.{rules, tests, ◌==◌}
 use Rattle.std.proofs.lemmas.Iterator.{YieldsList-from_slice}
 use Rattle.std.proofs.lemmas.Iterator.Search.{position_from_yields_List}
-use Rattle.variant_table.proofs.TokenLemmas.{unwrap_place}
+use Rattle.ruleset_text.proofs.LexemeLemmas.{unwrap_place}
 use Rattle.idn2_cli.proofs.session.request.label_len.Goals as goal
 
 pub returns-clause-place : goal.returns-clause-place

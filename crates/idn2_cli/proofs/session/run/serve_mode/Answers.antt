@@ -28,7 +28,7 @@ returns-in-Lookup g c =
     let by : Bool → List ℕ → LineAnswer = λ b name. one_answer LookedUp (lookup_answer name b) in
     let job : Form → Explained → Bool → Job = λ f e b. lines_job f e (by b) false (LooksUpWithoutMemory b) (λ line. Unit {0}) in
     as_mode o Lookup c.args.table.now (Ok no_table) _ _ _ _ _ c.serve_lines.result mode refl
-    (ap (λ f. job f (explained_by c.if_wanted.result) c.options.inside.std3) form ∙ ap (λ e. job o.form e c.options.inside.std3) c.if_wanted.ensures
+    (ap (λ f. job f (explained_by c.if_wanted-explaining.result) c.options.inside.std3) form ∙ ap (λ e. job o.form e c.options.inside.std3) c.if_wanted-explaining.ensures
     ∙ ap (λ b. job o.form (if_wanted c.tells_causes.result (ByQuery b)) b) std3 ∙ ap (λ x. job o.form (if_wanted x (ByQuery o.std3)) o.std3) c.tells_causes.ensures)
     c.serve_lines.ensures
 
@@ -39,9 +39,9 @@ returns-in-Register g c =
     let form = ap (λ (v : Settings). v.form) c.options.view_is in
     let by : List ℕ → LineAnswer = λ label. one_answer (Registered (u_label_of label)) (register_answer label) in
     as_mode o Register c.args.table.now (Ok no_table) _ _ _ _ _ c.serve_lines-in-Register.result mode refl
-    (ap (λ f. lines_job f (explained_by c.if_wanted-in-Register.result) by false (λ line. RegistersWithoutMemory (chars line)) (λ line. Unit {0})) form
+    (ap (λ f. lines_job f (explained_by c.if_wanted-explaining-in-Register.result) by false (λ line. RegistersWithoutMemory (chars line)) (λ line. Unit {0})) form
     ∙ ap (λ e. lines_job o.form e by false (λ line. RegistersWithoutMemory (chars line)) (λ line. Unit {0}))
-    (c.if_wanted-in-Register.ensures ∙ ap (λ x. if_wanted x ByLabel) c.tells_causes-in-Register.ensures))
+    (c.if_wanted-explaining-in-Register.ensures ∙ ap (λ x. if_wanted x ByLabel) c.tells_causes-in-Register.ensures))
     c.serve_lines-in-Register.ensures
 
 pub returns-in-Decode : goal.returns-in-Decode
@@ -51,9 +51,9 @@ returns-in-Decode g c =
     let form = ap (λ (v : Settings). v.form) c.options.view_is in
     let by : List ℕ → LineAnswer = λ name. one_answer Decoded (in_utf8 (decode_answer name)) in
     as_mode o Decode c.args.table.now (Ok no_table) _ _ _ _ _ c.serve_lines-in-Decode.result mode refl
-    (ap (λ f. lines_job f (explained_by c.if_wanted-in-Decode.result) by false DecodesLineWithoutMemory (λ line. Unit {0})) form
+    (ap (λ f. lines_job f (explained_by c.if_wanted-explaining-in-Decode.result) by false DecodesLineWithoutMemory (λ line. Unit {0})) form
     ∙ ap (λ e. lines_job o.form e by false DecodesLineWithoutMemory (λ line. Unit {0}))
-    (c.if_wanted-in-Decode.ensures ∙ ap (λ x. if_wanted x ByName) c.tells_causes-in-Decode.ensures))
+    (c.if_wanted-explaining-in-Decode.ensures ∙ ap (λ x. if_wanted x ByName) c.tells_causes-in-Decode.ensures))
     c.serve_lines-in-Decode.ensures
 
 pub returns-in-CheckTable : goal.returns-in-CheckTable
