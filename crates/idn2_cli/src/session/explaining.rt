@@ -327,7 +327,7 @@ fn push_number<I: Integer>(text: &mut ExplainedMessage, number: I)
 }
 
 /// Appends a code point, as Unicode writes it.
-#[tactic(auto, unfolding(variant_table::specs::Canonical::point_text))]
+#[tactic(auto, unfolding(ruleset_text::specs::Canonical::point_text))]
 fn push_code_point(text: &mut ExplainedMessage, point: u32)
     requires { array_vec_len text.old ≤ 400 }
     ensures items { text.new.items ≡ text.old.items ++ code_point_text point }
