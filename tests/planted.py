@@ -26,8 +26,9 @@ from edits import replacements, text_of
 from program import ROOT
 
 CRATES = os.path.join(ROOT, "crates")
-# How many edits are planted at once, at most: where one of them doesn't compile, all are tried again one by one.
-MOST = 16
+# How many edits are planted at once, at most, 16 if MOST doesn't say: where one of them doesn't compile, all are tried again
+# one by one.
+MOST = int(os.environ.get("MOST", "16"))
 
 # The type of an impl: after `for` if it is one of a trait.
 IMPL = re.compile(r"^impl\b(?:<.*?> )?(?:.* for )?&?\s*(\w+)")
