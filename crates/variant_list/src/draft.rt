@@ -46,6 +46,7 @@ impl NetDraft {
 
     /// Adds a use of the place that is being laid out: these points may stand in the place of so many code points of
     /// the label, from there on.
+    #[inline]
     pub(crate) fn add_use(&mut self, covers: usize, points: &[u32]) -> Result<(), AllocError>
         requires sound { IsSound self.old }
         requires some { 1 ≤ covers }
