@@ -1,10 +1,11 @@
 //! Reading the form of an entry or of a range, lexeme by lexeme.
-ghost use Rattle.std.specs.Prelude.{◌≡◌, IfOk, MatchOption, slice_index};
+ghost use Rattle.std.specs.Prelude.{◌≡◌, true, IfOk, OnOk, MatchOption, slice_index};
 ghost use Rattle.std.specs.Option.{option_map};
 ghost use Rattle.ruleset_text.specs.Entries as entries;
 ghost use Rattle.ruleset_text.specs.EntryForms as forms;
 ghost use Rattle.ruleset_text.specs.EntryWords.{IsEntryLine, point_of};
 ghost use Rattle.ruleset_text.specs.inner.EntrySteps as steps;
+ghost use Rattle.ruleset_text.specs.inner.EntryTaken.{taken_as};
 
 use crate::entry_form::{Condition, ConditionKind, EntryForm, Mapped};
 use crate::lexemes::next_lexeme;
@@ -12,6 +13,7 @@ use crate::names::{Name, is_name, is_one_of};
 use crate::tokens::without_prefix;
 use idn_text::hex_point;
 use std::alloc::{AllocError, Global};
+use std::mem::replace;
 
 /// What a lexeme is in the line of an entry, where it is no code point and no name.
 #[derive(Clone, Copy, Debug, PartialEq, Eq)]
@@ -70,16 +72,15 @@ struct EntryState {
 pub fn read_entry(alloc: Global, text: &[u8]) -> Result<Option<EntryForm>, AllocError>
     ensures { IfOk result (λ found. MatchOption found ((form : entries.EntryForm) → IsEntryLine form text.now → ⊥) (λ read. IsEntryLine (forms.entry_form read) text.now)) }
 {
-    let mut state = start(alloc);
+    let mut state = EntryState::new(alloc);
     let mut rest = text;
     while let Some((lexeme, others)) = next_lexeme(rest) {
-        let Some(next) = step(alloc, state, lexeme)? else {
+        if !state.step(alloc, lexeme)? {
             return Ok(None);
-        };
-        state = next;
+        }
         rest = others;
     }
-    ended(state)
+    state.ended()
 }
 
 fn nothing(alloc: Global) -> Mapped
@@ -93,137 +94,205 @@ fn nothing(alloc: Global) -> Mapped
     }
 }
 
-fn start(alloc: Global) -> EntryState
-    ensures { steps.state result ≡ steps.start }
-{
-    EntryState {
-        done: Vec::new(alloc),
-        current: nothing(alloc),
-        last: None,
-        phase: Phase::Begin,
+/// Each step answers whether its lexeme, or the word that it is, may stand there. If it may not, or memory was refused,
+/// the state is of no use any more.
+impl EntryState {
+    /// Nothing was read.
+    fn new(alloc: Global) -> Self
+        ensures { steps.state result ≡ steps.start }
+    {
+        EntryState {
+            done: Vec::new(alloc),
+            current: nothing(alloc),
+            last: None,
+            phase: Phase::Begin,
+        }
     }
-}
 
-/// The state with a lexeme more, or none if it may not stand there.
-fn step(alloc: Global, state: EntryState, lexeme: &[u8]) -> Result<Option<EntryState>, AllocError>
-    ensures { IfOk result (λ found. steps.step (steps.state state) lexeme.now ≡ option_map steps.state found) }
-{
-    let phase = state.phase;
-    match phase {
-        Phase::Begin => begin(state, lexeme),
-        Phase::Mark => with_point(state, lexeme),
-        Phase::Point => after_point(alloc, state, lexeme),
-        Phase::Hyphen => with_point(state, lexeme),
-        Phase::Range => Ok(with_last(state, lexeme)),
-        Phase::Last => after_points(alloc, state, word_of(lexeme)),
-        Phase::As => with_tag(alloc, state, lexeme),
-        Phase::Tag => after_tag(alloc, state, word_of(lexeme)),
-        Phase::When => with_rule(alloc, state, ConditionKind::When, lexeme),
-        Phase::Unless => with_rule(alloc, state, ConditionKind::Unless, lexeme),
-        Phase::Rule => after_rule(alloc, state, word_of(lexeme)),
+    fn step(&mut self, alloc: Global, lexeme: &[u8]) -> Result<bool, AllocError>
+        ensures { IfOk result (λ taken. steps.step (steps.state self.old) lexeme.now ≡ taken_as taken (steps.state self.new)) }
+    {
+        match self.phase {
+            Phase::Begin => self.begin(lexeme),
+            Phase::Mark => self.take_point(lexeme),
+            Phase::Point => self.after_point(alloc, lexeme),
+            Phase::Hyphen => self.take_point(lexeme),
+            Phase::Range => Ok(self.take_last(lexeme)),
+            Phase::Last => self.after_points(alloc, word_of(lexeme)),
+            Phase::As => self.take_tag(alloc, lexeme),
+            Phase::Tag => self.after_tag(alloc, word_of(lexeme)),
+            Phase::When => self.take_rule(alloc, ConditionKind::When, lexeme),
+            Phase::Unless => self.take_rule(alloc, ConditionKind::Unless, lexeme),
+            Phase::Rule => self.after_rule(alloc, word_of(lexeme)),
+        }
     }
-}
 
-/// The state in another phase.
-fn with_phase(state: EntryState, phase: Phase) -> EntryState
-    ensures { steps.state result ≡ steps.with_phase (steps.state state) phase }
-{
-    EntryState {
-        done: state.done,
-        current: state.current,
-        last: state.last,
-        phase,
+    /// Goes on to another phase.
+    fn go_on(&mut self, phase: Phase) -> bool
+        ensures taken { result ≡ true }
+        ensures state { steps.state self.new ≡ steps.with_phase (steps.state self.old) phase }
+    {
+        self.phase = phase;
+        true
     }
-}
 
-fn begin(state: EntryState, lexeme: &[u8]) -> Result<Option<EntryState>, AllocError>
-    ensures { IfOk result (λ found. steps.begin (steps.state state) lexeme.now ≡ option_map steps.state found) }
-{
-    match word_of(lexeme) {
-        EntryWord::Mark => Ok(Some(marked(state))),
-        _ => with_point(state, lexeme),
+    fn begin(&mut self, lexeme: &[u8]) -> Result<bool, AllocError>
+        ensures { IfOk result (λ taken. steps.begin (steps.state self.old) lexeme.now ≡ taken_as taken (steps.state self.new)) }
+    {
+        match word_of(lexeme) {
+            EntryWord::Mark => {
+                self.current.marked = true;
+                self.phase = Phase::Mark;
+                Ok(true)
+            }
+            _ => self.take_point(lexeme),
+        }
     }
-}
 
-fn marked(state: EntryState) -> EntryState
-    ensures { steps.state result ≡ steps.marked (steps.state state) }
-{
-    let EntryState {
-        done,
-        current,
-        last,
-        phase: _,
-    } = state;
-    let mut current = current;
-    current.marked = true;
-    EntryState {
-        done,
-        current,
-        last,
-        phase: Phase::Mark,
+    fn take_point(&mut self, lexeme: &[u8]) -> Result<bool, AllocError>
+        ensures { IfOk result (λ taken. steps.at_point (steps.state self.old) (point_of lexeme.now) ≡ taken_as taken (steps.state self.new)) }
+    {
+        let Some(point) = hex_point(without_prefix(lexeme)) else {
+            return Ok(false);
+        };
+        self.current.points.push(point)?;
+        self.phase = Phase::Point;
+        Ok(true)
     }
-}
 
-fn with_point(state: EntryState, lexeme: &[u8]) -> Result<Option<EntryState>, AllocError>
-    ensures { IfOk result (λ found. steps.at_point (steps.state state) (point_of lexeme.now) ≡ option_map steps.state found) }
-{
-    let Some(point) = hex_point(without_prefix(lexeme)) else {
-        return Ok(None);
-    };
-    let EntryState {
-        done,
-        current,
-        last,
-        phase: _,
-    } = state;
-    let mut current = current;
-    current.points.push(point)?;
-    Ok(Some(EntryState {
-        done,
-        current,
-        last,
-        phase: Phase::Point,
-    }))
-}
-
-fn after_point(
-    alloc: Global,
-    state: EntryState,
-    lexeme: &[u8],
-) -> Result<Option<EntryState>, AllocError>
-    ensures { IfOk result (λ found. steps.after_point (steps.state state) (steps.word_of lexeme.now) ≡ option_map steps.state found) }
-{
-    match word_of(lexeme) {
-        EntryWord::Hyphen => Ok(Some(with_phase(state, Phase::Hyphen))),
-        EntryWord::Range => Ok(if may_be_range(&state) {
-            Some(with_phase(state, Phase::Range))
-        } else {
-            None
-        }),
-        word => after_points(alloc, state, word),
+    fn after_point(&mut self, alloc: Global, lexeme: &[u8]) -> Result<bool, AllocError>
+        ensures { IfOk result (λ taken. steps.after_point (steps.state self.old) (steps.word_of lexeme.now) ≡ taken_as taken (steps.state self.new)) }
+    {
+        match word_of(lexeme) {
+            EntryWord::Hyphen => Ok(self.go_on(Phase::Hyphen)),
+            EntryWord::Range => Ok(self.may_be_range() && self.go_on(Phase::Range)),
+            word => self.after_points(alloc, word),
+        }
     }
-}
 
-/// Whether all that was read is one code point.
-fn may_be_range(state: &EntryState) -> bool
-    ensures { result ≡ steps.may_be_range (steps.state state.now) }
-{
-    state.done.is_empty() && state.current.points.len() == 1
-}
-
-fn with_last(state: EntryState, lexeme: &[u8]) -> Option<EntryState>
-    ensures { steps.at_last (steps.state state) (point_of lexeme.now) ≡ option_map steps.state result }
-{
-    let last = hex_point(without_prefix(lexeme))?;
-    if first_point(&state.current.points) > last {
-        return None;
+    /// Whether all that was read is one code point.
+    fn may_be_range(&self) -> bool
+        ensures { result ≡ steps.may_be_range (steps.state self.now) }
+    {
+        self.done.is_empty() && self.current.points.len() == 1
     }
-    Some(EntryState {
-        done: state.done,
-        current: state.current,
-        last: Some(last),
-        phase: Phase::Last,
-    })
+
+    /// Takes the last code point of a range, if it isn't less than the first.
+    fn take_last(&mut self, lexeme: &[u8]) -> bool
+        ensures { steps.at_last (steps.state self.old) (point_of lexeme.now) ≡ taken_as result (steps.state self.new) }
+    {
+        let Some(last) = hex_point(without_prefix(lexeme)) else {
+            return false;
+        };
+        if first_point(&self.current.points) > last {
+            return false;
+        }
+        self.last = Some(last);
+        self.phase = Phase::Last;
+        true
+    }
+
+    fn after_points(&mut self, alloc: Global, word: EntryWord) -> Result<bool, AllocError>
+        ensures { IfOk result (λ taken. steps.after_points (steps.state self.old) word ≡ taken_as taken (steps.state self.new)) }
+    {
+        match word {
+            EntryWord::As => Ok(!self.current.marked && self.go_on(Phase::As)),
+            word => self.after_tags(alloc, word),
+        }
+    }
+
+    /// Takes the name of a tag, if there is none like it yet.
+    fn take_tag(&mut self, alloc: Global, lexeme: &[u8]) -> Result<bool, AllocError>
+        ensures { IfOk result (λ taken. steps.at_tag (steps.state self.old) lexeme.now ≡ taken_as taken (steps.state self.new)) }
+    {
+        if !is_name(lexeme) || is_one_of(&self.current.tags, lexeme) {
+            return Ok(false);
+        }
+        self.current.tags.push(Name::copied(alloc, lexeme)?)?;
+        self.phase = Phase::Tag;
+        Ok(true)
+    }
+
+    fn after_tag(&mut self, alloc: Global, word: EntryWord) -> Result<bool, AllocError>
+        ensures { IfOk result (λ taken. steps.after_tag (steps.state self.old) word ≡ taken_as taken (steps.state self.new)) }
+    {
+        match word {
+            EntryWord::Comma => Ok(self.go_on(Phase::As)),
+            word => self.after_tags(alloc, word),
+        }
+    }
+
+    fn after_tags(&mut self, alloc: Global, word: EntryWord) -> Result<bool, AllocError>
+        ensures { IfOk result (λ taken. steps.after_tags (steps.state self.old) word ≡ taken_as taken (steps.state self.new)) }
+    {
+        match word {
+            EntryWord::When => Ok(self.go_on(Phase::When)),
+            EntryWord::Unless => Ok(self.go_on(Phase::Unless)),
+            word => self.after_rule(alloc, word),
+        }
+    }
+
+    /// Takes the name of the rule of a condition.
+    fn take_rule(
+        &mut self,
+        alloc: Global,
+        kind: ConditionKind,
+        lexeme: &[u8],
+    ) -> Result<bool, AllocError>
+        ensures { IfOk result (λ taken. steps.at_rule (steps.state self.old) kind lexeme.now ≡ taken_as taken (steps.state self.new)) }
+    {
+        if !is_name(lexeme) {
+            return Ok(false);
+        }
+        let rule = Name::copied(alloc, lexeme)?;
+        self.current.condition = Some(Condition { kind, rule });
+        self.phase = Phase::Rule;
+        Ok(true)
+    }
+
+    /// Takes a separator: `|` after the source, `:` after a variant, nothing after a range.
+    fn after_rule(&mut self, alloc: Global, word: EntryWord) -> Result<bool, AllocError>
+        ensures { IfOk result (λ taken. steps.after_rule (steps.state self.old) word ≡ taken_as taken (steps.state self.new)) }
+    {
+        let may_stand = match word {
+            EntryWord::Bar => self.done.is_empty(),
+            EntryWord::Colon => !self.done.is_empty(),
+            _ => false,
+        };
+        if self.last.is_some() || !may_stand {
+            return Ok(false);
+        }
+        self.complete(alloc)?;
+        Ok(true)
+    }
+
+    /// Completes the source or the variant that was read, and begins a further variant.
+    fn complete(&mut self, alloc: Global) -> Result<(), AllocError>
+        ensures { OnOk result (steps.state self.new ≡ steps.with_done (steps.state self.old)) }
+    {
+        let mapped = replace(&mut self.current, nothing(alloc));
+        self.done.push(mapped)?;
+        self.phase = Phase::Begin;
+        Ok(())
+    }
+
+    /// The form, if nothing is left open.
+    fn ended(self) -> Result<Option<EntryForm>, AllocError>
+        ensures { IfOk result (λ found. steps.ended (steps.state self) ≡ option_map forms.entry_form found) }
+    {
+        if !is_complete(self.phase) {
+            return Ok(None);
+        }
+        let EntryState {
+            done,
+            current,
+            last,
+            phase: _,
+        } = self;
+        let mut mapped = done;
+        mapped.push(current)?;
+        Ok(Some(EntryForm { mapped, last }))
+    }
 }
 
 /// The first code point, or 0 if there is none.
@@ -231,172 +300,6 @@ fn first_point(points: &[u32]) -> u32
     ensures { result ≡ slice_index points.now 0 }
 {
     if points.is_empty() { 0 } else { points[0] }
-}
-
-fn after_points(
-    alloc: Global,
-    state: EntryState,
-    word: EntryWord,
-) -> Result<Option<EntryState>, AllocError>
-    ensures { IfOk result (λ found. steps.after_points (steps.state state) word ≡ option_map steps.state found) }
-{
-    match word {
-        EntryWord::As => Ok(if state.current.marked {
-            None
-        } else {
-            Some(with_phase(state, Phase::As))
-        }),
-        word => after_tags(alloc, state, word),
-    }
-}
-
-fn with_tag(
-    alloc: Global,
-    state: EntryState,
-    lexeme: &[u8],
-) -> Result<Option<EntryState>, AllocError>
-    ensures { IfOk result (λ found. steps.at_tag (steps.state state) lexeme.now ≡ option_map steps.state found) }
-{
-    if !is_name(lexeme) || is_one_of(&state.current.tags, lexeme) {
-        return Ok(None);
-    }
-    let EntryState {
-        done,
-        current,
-        last,
-        phase: _,
-    } = state;
-    let mut current = current;
-    current.tags.push(Name::copied(alloc, lexeme)?)?;
-    Ok(Some(EntryState {
-        done,
-        current,
-        last,
-        phase: Phase::Tag,
-    }))
-}
-
-fn after_tag(
-    alloc: Global,
-    state: EntryState,
-    word: EntryWord,
-) -> Result<Option<EntryState>, AllocError>
-    ensures { IfOk result (λ found. steps.after_tag (steps.state state) word ≡ option_map steps.state found) }
-{
-    match word {
-        EntryWord::Comma => Ok(Some(with_phase(state, Phase::As))),
-        word => after_tags(alloc, state, word),
-    }
-}
-
-fn after_tags(
-    alloc: Global,
-    state: EntryState,
-    word: EntryWord,
-) -> Result<Option<EntryState>, AllocError>
-    ensures { IfOk result (λ found. steps.after_tags (steps.state state) word ≡ option_map steps.state found) }
-{
-    match word {
-        EntryWord::When => Ok(Some(with_phase(state, Phase::When))),
-        EntryWord::Unless => Ok(Some(with_phase(state, Phase::Unless))),
-        word => after_rule(alloc, state, word),
-    }
-}
-
-fn with_rule(
-    alloc: Global,
-    state: EntryState,
-    kind: ConditionKind,
-    lexeme: &[u8],
-) -> Result<Option<EntryState>, AllocError>
-    ensures { IfOk result (λ found. steps.at_rule (steps.state state) kind lexeme.now ≡ option_map steps.state found) }
-{
-    if !is_name(lexeme) {
-        return Ok(None);
-    }
-    let rule = Name::copied(alloc, lexeme)?;
-    let EntryState {
-        done,
-        current,
-        last,
-        phase: _,
-    } = state;
-    let mut current = current;
-    current.condition = Some(Condition { kind, rule });
-    Ok(Some(EntryState {
-        done,
-        current,
-        last,
-        phase: Phase::Rule,
-    }))
-}
-
-/// The state after a separator, or none if it is none: `|` after the source, `:` after a variant, nothing after a range.
-fn after_rule(
-    alloc: Global,
-    state: EntryState,
-    word: EntryWord,
-) -> Result<Option<EntryState>, AllocError>
-    ensures { IfOk result (λ found. steps.after_rule (steps.state state) word ≡ option_map steps.state found) }
-{
-    if state.last.is_some() {
-        return Ok(None);
-    }
-    match word {
-        EntryWord::Bar => {
-            if state.done.is_empty() {
-                Ok(Some(with_done(alloc, state)?))
-            } else {
-                Ok(None)
-            }
-        }
-        EntryWord::Colon => {
-            if state.done.is_empty() {
-                Ok(None)
-            } else {
-                Ok(Some(with_done(alloc, state)?))
-            }
-        }
-        _ => Ok(None),
-    }
-}
-
-/// The state at the beginning of a further variant.
-fn with_done(alloc: Global, state: EntryState) -> Result<EntryState, AllocError>
-    ensures { IfOk result (λ next. steps.state next ≡ steps.with_done (steps.state state)) }
-{
-    let EntryState {
-        done,
-        current,
-        last,
-        phase: _,
-    } = state;
-    let mut done = done;
-    done.push(current)?;
-    Ok(EntryState {
-        done,
-        current: nothing(alloc),
-        last,
-        phase: Phase::Begin,
-    })
-}
-
-/// The form, if nothing is left open.
-fn ended(state: EntryState) -> Result<Option<EntryForm>, AllocError>
-    ensures { IfOk result (λ found. steps.ended (steps.state state) ≡ option_map forms.entry_form found) }
-{
-    if !is_complete(state.phase) {
-        return Ok(None);
-    }
-    let EntryState {
-        done,
-        current,
-        last,
-        phase: _,
-    } = state;
-    let mut mapped = done;
-    mapped.push(current)?;
-    Ok(Some(EntryForm { mapped, last }))
 }
 
 fn is_complete(phase: Phase) -> bool

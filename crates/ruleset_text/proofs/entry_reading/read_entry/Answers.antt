@@ -4,22 +4,23 @@ use Rattle.std.specs.Option.{option_map}
 use Rattle.ruleset_text.specs.Entries.{EntryForm}
 use Rattle.ruleset_text.specs.EntryForms.{entry_form}
 use Rattle.ruleset_text.specs.inner.EntrySteps.{state, step}
+use Rattle.ruleset_text.specs.inner.EntryTaken.{taken_as}
 use Rattle.ruleset_text.specs.Lexemes.{lexemes}
 use Rattle.ruleset_text.proofs.EntryExactLemmas.{read_found, all_found}
 use Rattle.ruleset_text.proofs.EntryLemmas.{Reads, start_reads, next_reads, none_reads, end_reads}
 use Rattle.ruleset_text.proofs.entry_reading.read_entry.Goals as goal
 
 pub loop-lexeme-init : goal.loop-lexeme-init
-loop-lexeme-init c = let text = c.args.text.now in subst (λ s. Reads text s text) (sym c.start-state.ensures) (start_reads text)
+loop-lexeme-init c = let text = c.args.text.now in subst (λ s. Reads text s text) (sym c.new-state.ensures) (start_reads text)
 
-pub returns-in_default-2 : goal.returns-in_default-2
-returns-in_default-2 c =
+pub returns-then-not-branch : goal.returns-then-not-branch
+returns-then-not-branch c =
     let text = c.args.text.now in
     let rest = c.loop-lexeme.rest.now in
     let lexeme = c.in-Some.lexeme.now in
     let others = c.in-Some.others.now in
     let first : lexemes rest ≡ lexeme ∷ lexemes others = search rules in
-    let none : step (state c.loop-lexeme.state) lexeme ≡ None = c.in_ok-next.ensures {u = tt} ∙ ap (option_map state) c.in_default-2.is in
+    let none : step (state c.loop-lexeme.state) lexeme ≡ None = c.in_ok-step.ensures {u = tt} ∙ ap (λ b. taken_as b (state c.step.new.self)) c.if-not-branch.true in
     read_found text None (none_reads text others (next_reads text rest lexeme others (state c.loop-lexeme.state) None first none c.loop-lexeme.invariant))
 
 pub loop-lexeme-preserved : goal.loop-lexeme-preserved
@@ -29,8 +30,8 @@ loop-lexeme-preserved c =
     let lexeme = c.in-Some.lexeme.now in
     let others = c.in-Some.others.now in
     let first : lexemes rest ≡ lexeme ∷ lexemes others = search rules in
-    let some : step (state c.loop-lexeme.state) lexeme ≡ Some (state c.in-Some-2.next) = c.in_ok-next.ensures {u = tt} ∙ ap (option_map state) c.in-Some-2.is in
-    next_reads text rest lexeme others (state c.loop-lexeme.state) (Some (state c.in-Some-2.next)) first some c.loop-lexeme.invariant
+    let some : step (state c.loop-lexeme.state) lexeme ≡ Some (state c.step.new.self) = c.in_ok-step.ensures {u = tt} ∙ ap (λ b. taken_as b (state c.step.new.self)) c.if-not-branch.false in
+    next_reads text rest lexeme others (state c.loop-lexeme.state) (Some (state c.step.new.self)) first some c.loop-lexeme.invariant
 
 pub returns : goal.returns
 returns c =
