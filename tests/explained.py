@@ -113,6 +113,26 @@ MORE_ROWS = [
 ]
 
 
+# Files of registered labels: the number of the wrong line, its message, and the cause after it. Out of order a label is told by
+# the first code point at which it differs from the line before, or by where it ends.
+REGISTERED_ROWS = [
+    ("haus\nb-\n", 2, "13 hyphen out of place", "place 2, the last"),
+    ("Haus\n", 1, "10 disallowed code point", "U+0048 at place 1: RFC 5892 2.2 Unstable"),
+    ("haus\nx\u00B7y\n", 2, "16 code point out of context", "U+00B7 at place 2: RFC 5892 A.3"),
+    ("xn--fa-hia\n", 1, "13 hyphen out of place", "place 3, with place 4"),
+    ("a" * 64, 1, "18 label too long", "64 code points"),
+    (b"haus\nab\xffc\r\n", 2, "1 not UTF-8", "byte 0xFF at byte 3"),
+    ("a" * 1025 + "\nb\n", 1, "2 line too long", "more than 1024 bytes"),
+    ("haus\n\nmaus\n", 2, "3 empty", None),
+    ("haus\nharald\n", 2, "4 out of order", "U+0072 at place 3"),
+    ("haus\nmaus\nlaus\n", 3, "4 out of order", "U+006C at place 1"),
+    ("straße\nstrasse\n", 2, "4 out of order", "U+0073 at place 5"),
+    ("haus\r\nhaus\r\n", 2, "4 out of order", "ends at place 5"),
+    ("hausboot\nhaus", 2, "4 out of order", "ends at place 5"),
+    ("\U00010300\n\uAC00\n", 2, "4 out of order", "U+AC00 at place 1"),
+]
+
+
 def words_of(folder, words):
     if "SOURCES" not in words:
         return words
@@ -164,6 +184,16 @@ def answers_the_same_with_the_option(folder):
         assert (plain.stdout, plain.returncode) == (explained.stdout, explained.returncode), words
 
 
+def tells_the_cause_of_a_wrong_registered_line(folder):
+    """Without the option the message ends in front of its cause, as that of a line does."""
+    for text, number, message, cause in REGISTERED_ROWS:
+        text = text if isinstance(text, bytes) else text.encode()
+        words = GERMAN + ["--among", table_file(folder, text, "registered.txt")]
+        before = f"idn2: registered line {number}: {message}"
+        expect(words, b"haus\n", b"", f"{before}\n".encode(), 2)
+        expect(words + ["--explain"], b"haus\n", b"", (before + (f": {cause}" if cause else "") + "\n").encode(), 2)
+
+
 def tells_a_cause_in_one_line_of_160_bytes(folder):
     """A message is ASCII, one line, at most 160 bytes."""
     last = "\U0010FFFF"
@@ -194,6 +224,7 @@ TESTS = [
     tells_the_causes_of_more_rows,
     tells_each_line_its_own_cause,
     answers_the_same_with_the_option,
+    tells_the_cause_of_a_wrong_registered_line,
     tells_a_cause_in_one_line_of_160_bytes,
     is_refused_twice,
     changes_nothing_else,

@@ -160,10 +160,18 @@ def tells_the_fault_of_a_table(folder):
 
 
 def tells_the_fault_of_the_registered_labels(folder):
-    registered = table_file(folder, "haus\nb-\n".encode(), "registered.txt")
-    fault = text_of([{"registered_line": 2, "refusal": {"number": 13, "text": "hyphen out of place"}}])
-    objects_of(fault)
-    expect(GERMAN + ["--among", registered, "--json"], b"haus\n", fault, b"", 2)
+    out_of_order = {"number": 4, "text": "out of order"}
+    for text, refusal in [
+        (b"haus\nb-\n", {"number": 13, "text": "hyphen out of place", "code_point": "U+002D", "place": 2}),
+        (b"haus\nab\xffc\n", {"number": 1, "text": "not UTF-8", "byte": 3}),
+        (b"haus\nharald\n", {**out_of_order, "code_point": "U+0072", "place": 3}),
+        (b"haus\nhaus\n", {**out_of_order, "place": 5}),
+        (b"haus\n\n", {"number": 3, "text": "empty"}),
+    ]:
+        registered = table_file(folder, text, "registered.txt")
+        fault = text_of([{"registered_line": 2, "refusal": refusal}])
+        objects_of(fault)
+        expect(GERMAN + ["--among", registered, "--json"], b"haus\n", fault, b"", 2)
 
 
 def lists_registered_labels(folder):

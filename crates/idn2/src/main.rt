@@ -48,7 +48,8 @@ fn serve(rt: &HostRuntime) -> Result<Status, Refusal>
         Ok(registered) => registered,
         Err(fault) => {
             let (mut out, mut err) = (Device::new(rt.stdout()), Device::new(rt.stderr()));
-            return Ok(report_registered(options.form, &fault, &mut out, &mut err));
+            let text = file.as_deref().unwrap_or(b"");
+            return Ok(report_registered(rt.alloc(), &options, text, &fault, &mut out, &mut err));
         }
     };
     let output = Output::new(standard_output(rt)?);

@@ -1,9 +1,9 @@
 -- Blocks: the least of several stops, and one line more.
-use Rattle.std.proofs.Common.{◌≡◌, ◌<◌, ◌≤◌, ◌+◌, ◌-◌, ◌==◌, ◌⊎◌, inl, inr, ℕ, zero, suc, List, [], ◌∷◌, ◌++◌, Bool, true, false, Option, Some, None, IfSome, Ordering, map, length, take, drop, refl, sym, ap, subst, ◌∙◌, if◌then◌else◌, arith}
+use Rattle.std.proofs.Common.{◌≡◌, ◌+◌, ◌==◌, ◌⊎◌, inl, inr, ℕ, zero, suc, List, [], ◌∷◌, ◌++◌, Bool, true, false, Option, Some, None, IfSome, Ordering, map, length, refl, sym, ap, subst, ◌∙◌, if◌then◌else◌, arith}
 use Rattle.std.specs.declared.cmp.Ordering.TheVariants.{Less, Equal, Greater}
 use Rattle.std.specs.Ordering.{is_le, MatchOrdering}
 use Rattle.std.specs.List.{AllByRecursion, filter, slice_get}
-use Rattle.variant_list.specs.Labels.{IsBelow, IsRising, label_cmp}
+use Rattle.variant_list.specs.Labels.{IsBelow, label_cmp}
 use Rattle.variant_list.specs.Jumps.{IsFrom}
 use Rattle.variant_list.proofs.OrderLemmas.{below_itself, below_both, ranked_labels}
 use Rattle.idn2_cli.specs.Said.{Said, BlockEnd}

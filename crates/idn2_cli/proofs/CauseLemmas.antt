@@ -71,5 +71,6 @@ unexplained-nothing by.Name is = cc
 unexplained-nothing (by.Query std3) is = cc
 unexplained-nothing (by.Sources table) is = cc
 unexplained-nothing (by.Request table) is = cc
+unexplained-nothing by.Test is = cc
 
 pub ruleset causes_of_text = (text_cause-points, text_cause-none)

@@ -29,7 +29,7 @@ use Rattle.variant_list.proofs.NetLabels.{among-in_order}
 use Rattle.variant_list.proofs.RisingLists.{Contains-filter}
 use Rattle.idn2_cli.specs.Answers.{block, block_to, is_among, is_registrable, kept_to, lesser_label, nth, nth_if_given, unless_kept, is_allocatable, allocation, disposition_in, disposition, IsFieldOf, IsAllocation, IsDisposition, stop_of, up_to, variants_after}
 use Rattle.answer_json.specs.declared.block.Disposition.{Disposition}
-use Rattle.answer_json.specs.declared.block.Disposition.TheVariants.{Allocatable, Blocked}
+use Rattle.answer_json.specs.declared.block.Disposition.TheVariants.{Allocatable}
 use Rattle.idn2_cli.specs.Said.{Said, Listed, BlockEnd}
 use Rattle.idn2_cli.specs.inner.Dispositions.{AreOfLabel, block_by, field_by}
 use Rattle.idn2_cli.specs.Transcript.{outputs}

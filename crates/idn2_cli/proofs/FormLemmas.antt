@@ -1,11 +1,10 @@
 -- What a run says is the same in both forms.
-use Rattle.std.proofs.Common.{◌≡◌, ◌∙◌, ℕ, List, [], ◌∷◌, ◌++◌, Bool, true, false, Option, Ok, Err, map, refl, sym, ap, ap₂, subst}
+use Rattle.std.proofs.Common.{◌≡◌, ◌∙◌, ℕ, List, [], ◌∷◌, ◌++◌, Bool, true, false, Ok, Err, map, refl, sym, ap}
 use Rattle.std.specs.Prelude.{◌||◌}
-use Rattle.std.specs.List.{flat_map}
 use Rattle.std.proofs.lemmas.List.{map-append}
 use Rattle.idn_text.specs.Lines.{Numbered}
 use Rattle.variant_table.specs.Entries.{TableValue}
-use Rattle.idn2_options.specs.Settings.{Settings, tells_causes}
+use Rattle.idn2_options.specs.Settings.{Settings}
 use Rattle.idn2_options.specs.declared.command_line.form.Form.{Form}
 use Rattle.idn2_options.specs.declared.command_line.form.Form.TheVariants.{Plain, Json}
 use Rattle.idn2_options.specs.declared.command_line.mode.Mode.{Mode}
@@ -13,8 +12,7 @@ use Rattle.idn2_options.specs.declared.command_line.mode.Mode.TheVariants.{Looku
 use Rattle.idn2_cli.specs.Answers.{LineAnswer, line_answer, mode_answer}
 use Rattle.idn2_cli.specs.Explained.{Explained, explained_by_mode, explained_in, if_wanted}
 use Rattle.idn2_cli.specs.Said.{Said, Finding, said_text, finding_text}
-use Rattle.idn2_cli.specs.Transcript.{Piece, Statement, Says, Refuses, Finds, Faults, TableGiven, answer_statements, check_findings, check_pieces, check_statements, lines_pieces, lines_statements, line_pieces, messages_of, mode_pieces, mode_statements, mode_status, outputs, piece_in, pieces_for, statements, status_of, transcript}
-use Rattle.idn2_cli.proofs.WrittenPieces.{messages_of-append}
+use Rattle.idn2_cli.specs.Transcript.{Statement, Says, Refuses, Finds, Faults, TableGiven, answer_statements, check_findings, check_pieces, check_statements, lines_pieces, lines_statements, line_pieces, messages_of, mode_pieces, mode_statements, mode_status, outputs, piece_in, pieces_for, statements, status_of, transcript}
 
 -- ---- each statement is written in the form
 

@@ -52,3 +52,5 @@ pub mod CauseExampleLemmas
 pub mod FormLemmas
 -- What a line that is registered stands for.
 pub mod RegisteredLines
+-- The lines of registered labels, and their code points.
+mod WrongLineLemmas

@@ -1,5 +1,5 @@
 -- The listing of a label's variants, and the labels in it.
-use Rattle.std.proofs.Common.{◌≡◌, ◌≤◌, ◌+◌, ◌-◌, ℕ, zero, suc, List, [], ◌∷◌, ◌++◌, ◌&&◌, ◌||◌, cond, Bool, true, false, IsTrue, Option, Some, None, IfSome, All, Contains, map, length, take, drop, refl, sym, ap, subst, ◌∙◌, arith, take-append-drop, length-take}
+use Rattle.std.proofs.Common.{◌≡◌, ◌≤◌, ◌+◌, ◌-◌, ℕ, zero, suc, List, [], ◌∷◌, ◌++◌, ◌&&◌, ◌||◌, cond, Bool, true, false, IsTrue, Option, Some, None, IfSome, All, Contains, map, length, take, drop, refl, sym, ap, ◌∙◌, arith, take-append-drop, length-take}
 use Rattle.std.specs.Option.{is_none}
 use Rattle.std.specs.List.{AllByRecursion, filter, slice_get}
 use Rattle.std.proofs.lemmas.List.Elements.{All-contains, All-from_recursion, recursion_from_All}

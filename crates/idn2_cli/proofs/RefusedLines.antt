@@ -1,5 +1,5 @@
 -- The answer to a line that a call refused.
-use Rattle.std.proofs.Common.{◌≡◌, ◌≢◌, ◌⊎◌, inl, inr, ℕ, Bool, true, false, List, [], ◌∷◌, Result, Ok, Err, Option, Some, None, IfOk, IfErr, MatchOption, refl, sym, ap, subst, ◌∙◌}
+use Rattle.std.proofs.Common.{◌≡◌, ◌≢◌, ◌⊎◌, inl, inr, ℕ, false, List, [], ◌∷◌, Result, Ok, Err, Option, Some, None, IfOk, IfErr, refl, sym, ap, subst, ◌∙◌}
 use Rattle.std.specs.Result.{is_err}
 use Rattle.idn_text.specs.declared.refusal.Refusal.{Refusal}
 use Rattle.idn_text.specs.declared.refusal.Refusal.TheVariants.{Memory}
@@ -9,9 +9,9 @@ use Rattle.idn2_cli.specs.Transcript.{Piece, Refuses, piece_in, pieces_for}
 use Rattle.idn2_cli.specs.declared.session.cause.LineCause.{LineCause}
 use Rattle.idn2_cli.specs.Ends.{Held, Writes}
 use Rattle.idn2_cli.specs.Answers.{LineAnswer, line_answer}
-use Rattle.idn2_cli.specs.Explained.{Explained, SeeksNoCause, Unexplained, body_cause}
+use Rattle.idn2_cli.specs.Explained.{Explained, SeeksNoCause, Unexplained}
 use Rattle.idn2_cli.specs.Memory.{BodyNeedsNone, NeedsNone}
-use Rattle.idn2_cli.specs.inner.Emitting.{Emits, StopsWithin, StopsForMemory}
+use Rattle.idn2_cli.specs.inner.Emitting.{Emits, StopsWithin}
 use Rattle.idn2_cli.specs.inner.LineAnswers.{KeepsIfRefused, refusal_in, reply_pieces}
 use Rattle.idn2_cli.specs.inner.ServedLines.{answered_as, result_of}
 use Rattle.idn2_cli.specs.declared.modes.answering.Served.{Served}

@@ -1,9 +1,9 @@
 -- What a line that is registered stands for.
-use Rattle.std.proofs.Common.{◌≡◌, ◌≢◌, ℕ, ◌≤◌, ◌+◌, ◌*◌, List, Bool, true, false, chars, length, Option, Some, None, Result, Ok, Err, refl, sym, ap, subst, ◌∙◌, inl, inr, arith, cond}
+use Rattle.std.proofs.Common.{◌≡◌, ◌≢◌, ℕ, ◌≤◌, List, Bool, true, false, chars, length, Option, Some, None, Ok, Err, refl, ap, subst, ◌∙◌, inl, inr, arith, cond}
 use Rattle.std.specs.Result.{IsOk}
 use Rattle.std.specs.Str.{is_utf8}
 use Rattle.idna.specs.Validity.{has_ace_prefix}
-use Rattle.idn_text.specs.Points.{IsUtf8Of, AreScalarValues, utf8_of}
+use Rattle.idn_text.specs.Points.{IsUtf8Of, utf8_of}
 use Rattle.idn_text.specs.declared.refusal.Refusal.{Refusal}
 use Rattle.idn_text.specs.declared.refusal.Refusal.TheVariants.{Memory, NotUtf8}
 use Rattle.idn_text.proofs.Utf8Lemmas.{IsUtf8-from_points, points_from_utf8, length-utf8_of-le}
@@ -13,7 +13,7 @@ use Rattle.idn_label.specs.Answers.{Answer, unless_fault}
 use Rattle.idn_label.specs.ALabel.{a_label_of}
 use Rattle.idn_label.specs.FirstFault.{first_fault, IsRegistrable}
 use Rattle.idn_label.specs.Register.{register_answer, register_utf8_answer, tested_answer, u_label_answer}
-use Rattle.idn_label.proofs.AnswerLemmas.{register_answer-other, u_label_answer-from}
+use Rattle.idn_label.proofs.AnswerLemmas.{register_answer-other}
 use Rattle.idn_label.proofs.RequirementLemmas.{MeetsRequirements-registrable}
 use Rattle.idn2_cli.specs.Answers.{label_or, u_label_of}
 use Rattle.idn2_cli.proofs.TextAnswers.{utf8-of_chars}

@@ -15,7 +15,7 @@ use Rattle.idn_cause.specs.declared.query.LengthCause.TheVariants.{LabelOctets, 
 use Rattle.answer_json.specs.Details.{Details, no_details}
 use Rattle.idn2_cli.specs.CauseTexts.{appendix_text, bidi_text}
 use Rattle.idn2_cli.specs.declared.session.cause.LineCause.{LineCause}
-use Rattle.idn2_cli.specs.declared.session.cause.LineCause.TheVariants.{Byte, LongLine, OfLabel, OfALabel, OfName, OfQuery}
+use Rattle.idn2_cli.specs.declared.session.cause.LineCause.TheVariants.{Byte, LongLine, OfLabel, OfALabel, OfName, OfQuery, Ends}
 
 -- a code point and its place
 abbrev pub placed : ℕ → ℕ → Details
@@ -83,6 +83,7 @@ line_details refusal (OfLabel cause) = cause_details refusal cause
 line_details refusal (OfALabel cause) = a_label_details refusal cause
 line_details refusal (OfName cause) = record (a_label_details refusal cause.cause) { label = Some (cause.label + 1) }
 line_details refusal (OfQuery cause) = length_details cause
+line_details refusal (Ends place) = record no_details { place = Some (place + 1) }
 
 -- the same, if there is a cause
 abbrev pub told_details : Refusal → Option LineCause → Details

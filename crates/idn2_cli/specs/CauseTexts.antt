@@ -17,7 +17,7 @@ use Rattle.idn_cause.specs.declared.query.LengthCause.{LengthCause}
 use Rattle.idn_cause.specs.declared.query.LengthCause.TheVariants.{LabelOctets, NameOctets}
 use Rattle.ruleset_text.specs.Canonical.{hex_digit, point_text}
 use Rattle.idn2_cli.specs.declared.session.cause.LineCause.{LineCause}
-use Rattle.idn2_cli.specs.declared.session.cause.LineCause.TheVariants.{Byte, LongLine, OfLabel, OfALabel, OfName, OfQuery}
+use Rattle.idn2_cli.specs.declared.session.cause.LineCause.TheVariants.{Byte, LongLine, OfLabel, OfALabel, OfName, OfQuery, Ends}
 
 -- a code point, as Unicode writes it
 abbrev pub code_point_text : ℕ → List ℕ
@@ -128,6 +128,7 @@ line_cause_text refusal (OfLabel cause) = cause_text refusal cause
 line_cause_text refusal (OfALabel cause) = a_label_text refusal cause
 line_cause_text refusal (OfName cause) = name_text refusal cause
 line_cause_text refusal (OfQuery cause) = length_text cause
+line_cause_text refusal (Ends place) = codes "ends at place " ++ decimal (place + 1)
 
 -- what a message goes on with: a colon, a blank and the cause, if there is one
 abbrev pub tail_text : Refusal → Option LineCause → List ℕ

@@ -1,5 +1,5 @@
 -- How a run goes: to its end, or to a stop and a last message.
-use Rattle.std.specs.Prelude.{◌≡◌, ℕ, List, ◌⊎◌, ◌++◌, codes, ◌≢◌, ◌<◌, [], ◌∷◌, length, take, true, Result, MatchResult, Bool, false, IsTrue, Ok, Err}
+use Rattle.std.specs.Prelude.{◌≡◌, ℕ, List, ◌⊎◌, ◌++◌, codes, ◌≢◌, ◌<◌, [], ◌∷◌, length, take, true, Option, Result, MatchResult, Bool, false, IsTrue, Ok, Err}
 use Rattle.std.specs.Io.KnownBytes.{Appends}
 use Rattle.idn_text.specs.Writers.{Writer, Fails, TakesWhole, TakesPart}
 use Rattle.idn2_cli.specs.Transcript.{Piece, output_of, messages_of, Output, Message, told, lines_pieces, has_refused, registered_message, registered_object, status_if, transcript, status_of, TableGiven}
@@ -13,10 +13,13 @@ use Rattle.idn2_cli.specs.declared.session.stop.Stop.{Stop}
 use Rattle.idn_text.specs.Lines.{Numbered}
 use Rattle.idn_text.specs.Reading.{Reading, HasRead, HasStopped}
 use Rattle.idn_text.specs.declared.lines.State.TheVariants.{Ended, Stopped}
-use Rattle.idn2_options.specs.Settings.{Settings}
+use Rattle.idn2_options.specs.Settings.{Settings, tells_causes}
 use Rattle.idn2_options.specs.declared.command_line.form.Form.{Form}
 use Rattle.idn2_options.specs.declared.command_line.form.Form.TheVariants.{Plain, Json}
 use Rattle.idn2_cli.specs.Answers.{LineAnswer}
+use Rattle.idn2_cli.specs.CauseTexts.{tail_text}
+use Rattle.idn2_cli.specs.WrongLines.{told_of_wrong_line}
+use Rattle.idn2_cli.specs.declared.session.cause.LineCause.{LineCause}
 use Rattle.idn2_cli.specs.Explained.{Explained}
 use Rattle.idn2_cli.specs.Memory.{NeedsNone, ServesWithoutMemory, GoesOnWithoutMemory, BodyNeedsNone, reads_table}
 use Rattle.idn2_options.specs.declared.command_line.mode.Mode.{Mode}
@@ -199,16 +202,28 @@ TakesText text old new = TakesWhole old new text ⊎ LosesText text old new
 abbrev pub TellsWrong : List ℕ → Writer → Writer → Status → Type 0
 TellsWrong text old new status = (TakesWhole old new text × (status ≡ Unusable)) ⊎ (LosesText text old new × (status ≡ Faulty))
 
--- what a file leads to that is not read as registered labels: for a line that is wrong, as for a table's, a message or an object of
--- the output; where the output fails, as in a run, the last message says so; for want of memory as ever
-abbrev pub TellsUnread : Form → RegisterFault → (old new : Held) → Status → Type 0
-TellsUnread Plain (registers.Refused line refusal) old new status =
-    (new ≡ record old { messages = new.messages }) × TellsWrong (registered_message line refusal) old.messages new.messages status
-TellsUnread Json (registers.Refused line refusal) old new status =
-    ((new ≡ record old { output = new.output }) × TakesWhole old.output new.output (registered_object line refusal) × (status ≡ Unusable))
-    ⊎ (LosesText (registered_object line refusal) old.output new.output × TakesText (closing_message WriteFault) old.messages new.messages × (status ≡ Faulty))
-TellsUnread form registers.Memory old new status =
+-- a wrong line of the registered labels is told as one of a table is, by a message or an object of the output, with its cause, if
+-- one is told; where the output fails, as in a run, the last message says so
+abbrev pub TellsWrongLine : Form → ℕ → Refusal → Option LineCause → (old new : Held) → Status → Type 0
+TellsWrongLine Plain line refusal cause old new status =
+    (new ≡ record old { messages = new.messages }) × TellsWrong (registered_message line refusal (tail_text refusal cause)) old.messages new.messages status
+TellsWrongLine Json line refusal cause old new status =
+    ((new ≡ record old { output = new.output }) × TakesWhole old.output new.output (registered_object line refusal cause) × (status ≡ Unusable))
+    ⊎ (LosesText (registered_object line refusal cause) old.output new.output × TakesText (closing_message WriteFault) old.messages new.messages
+    × (status ≡ Faulty))
+
+-- that memory ran out is told as ever
+abbrev pub TellsMemory : (old new : Held) → Status → Type 0
+TellsMemory old new status =
     (new ≡ record old { messages = new.messages }) × TakesText (closing_message Memory) old.messages new.messages × (status ≡ closing_status Memory)
+
+-- what a file leads to that is not read as registered labels: its wrong line is told, where causes are wanted with its cause, unless
+-- memory runs out for that
+abbrev pub TellsUnread : Settings → List ℕ → RegisterFault → (old new : Held) → Status → Type 0
+TellsUnread o text (registers.Refused line refusal) old new status =
+    TellsWrongLine o.form line refusal (told_of_wrong_line (tells_causes o) text line refusal) old new status
+    ⊎ ((tells_causes o ≡ true) × TellsMemory old new status)
+TellsUnread o text registers.Memory old new status = TellsMemory old new status
 
 -- the refusal that is reported where a run stops
 abbrev pub refusal_of : Stop → Refusal

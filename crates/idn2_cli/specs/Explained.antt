@@ -22,7 +22,7 @@ use Rattle.idn2_cli.specs.declared.session.cause.LineCause.{LineCause}
 use Rattle.idn2_cli.specs.declared.session.cause.LineCause.TheVariants.{Byte, LongLine, OfLabel, OfALabel, OfName, OfQuery}
 
 -- of what the cause is told: of nothing, of a label, of a name that is decoded, of one that is looked up, of a label by the sources
--- of a table, or of the label of a request by them
+-- of a table, of the label of a request by them, or of a label that is tested as it stands
 pub data Explained : Type 0 where
   Unexplained : Explained
   ByLabel : Explained
@@ -30,6 +30,7 @@ pub data Explained : Type 0 where
   ByQuery : (std3 : Bool) → Explained
   ByTable : (entries : List Entry) → Explained
   ByRequest : (entries : List Entry) → Explained
+  ByTest : Explained
 
 -- how a mode explains
 abbrev pub explained_by_mode : Mode → Settings → TableValue → Explained
@@ -72,6 +73,7 @@ points_cause ByName points refusal = option_map OfName (name_cause points refusa
 points_cause (ByQuery std3) points refusal = option_map OfQuery (query_cause (utf8_of points) std3 refusal)
 points_cause (ByTable entries) points refusal = option_map OfLabel (table_cause entries points refusal)
 points_cause (ByRequest entries) points refusal = option_map OfLabel (table_cause entries (requested_label points) refusal)
+points_cause ByTest points refusal = option_map OfLabel (cause_of points refusal)
 
 -- the first byte that no UTF-8 goes on with (RFC 3629, section 3)
 abbrev pub bad_byte : List ℕ → LineCause

@@ -95,19 +95,22 @@ told refusal = decimal (refusal_number refusal) ++ (codes " " ++ (refusal_text r
 abbrev pub line_message : ℕ → Refusal → List ℕ
 line_message number refusal = codes "idn2: line " ++ (decimal number ++ (codes ": " ++ told refusal))
 
--- the same, with what it goes on with before the line feed
+-- the message of a line, after the words that say whose line it is, with what it goes on with before the line feed
+abbrev pub message_with : List ℕ → ℕ → Refusal → List ℕ → List ℕ
+message_with before number refusal tail =
+    before ++ (decimal number ++ (codes ": " ++ (decimal (refusal_number refusal) ++ (codes " " ++ (refusal_text refusal ++ (tail ++ codes "\n"))))))
+
+-- of a refused line
 abbrev pub refused_message : ℕ → Refusal → List ℕ → List ℕ
-refused_message number refusal tail =
-    codes "idn2: line "
-    ++ (decimal number ++ (codes ": " ++ (decimal (refusal_number refusal) ++ (codes " " ++ (refusal_text refusal ++ (tail ++ codes "\n"))))))
+refused_message number refusal tail = message_with (codes "idn2: line ") number refusal tail
 
 -- the message of a table that has a fault
 abbrev pub table_message : ℕ → Refusal → List ℕ
 table_message number refusal = codes "idn2: table line " ++ (decimal number ++ (codes ": " ++ told refusal))
 
 -- the message of a file that is not read as registered labels
-abbrev pub registered_message : ℕ → Refusal → List ℕ
-registered_message number refusal = codes "idn2: registered line " ++ (decimal number ++ (codes ": " ++ told refusal))
+abbrev pub registered_message : ℕ → Refusal → List ℕ → List ℕ
+registered_message number refusal tail = message_with (codes "idn2: registered line ") number refusal tail
 
 -- ---- what a run says
 
@@ -128,8 +131,8 @@ abbrev pub table_object : ℕ → Refusal → List ℕ
 table_object line refusal = line_of (table_fault line refusal no_details)
 
 -- the object of a file that is not read as registered labels
-abbrev pub registered_object : ℕ → Refusal → List ℕ
-registered_object line refusal = line_of (registered_fault line refusal no_details)
+abbrev pub registered_object : ℕ → Refusal → Option LineCause → List ℕ
+registered_object line refusal cause = line_of (registered_fault line refusal (told_details refusal cause))
 
 -- a statement as it is written: answers and what is found go to the output in either form; a refusal is a message, or an object of
 -- the output

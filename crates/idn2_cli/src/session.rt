@@ -16,3 +16,4 @@ pub(crate) mod run;
 pub(crate) mod status;
 pub(crate) mod stop;
 pub(crate) mod table;
+pub(crate) mod wrong_line;

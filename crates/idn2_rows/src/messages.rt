@@ -1,10 +1,10 @@
 //! The last message of a run that ends early, its status, and the texts of the errors.
 ghost use Rattle.idn2_cli.specs.Ends.{IsFault};
 
-use crate::row::shown;
+use crate::row::{options_of, shown};
 use idn_text::hostile::StopWriter;
 use idn_text::{Device, ReadFault, Refusal, WriteFault};
-use idn2_cli::{Form, report, report_registered};
+use idn2_cli::{report, report_registered};
 use registered_labels::RegisterFault;
 use std::alloc::Global;
 use std::process::Abort;
@@ -72,52 +72,102 @@ fn last_messages_cut(rt: HostRuntime) -> Result<(), Fail> {
     reports(&rt, rt.alloc(), &Refusal::WriteFault, 0, "", 3)
 }
 
-/// Tells of a file of registered labels, and asserts what was written and the status.
-fn tells_of_file(
-    rt: &impl Abort,
-    alloc: Global,
-    fault: &RegisterFault,
-    message: &str,
+/// A file that is not read as registered labels: the words of the run, the text, its fault, and what is written.
+#[derive(Drop)]
+struct Unread<'a> {
+    words: &'a [&'a str],
+    text: &'a [u8],
+    fault: RegisterFault,
+    output: &'a str,
+    message: &'a str,
     status: u8,
-) -> Result<(), Fail> {
-    let mut room = vec![in alloc; 0u8; 64]?;
+}
+
+/// Tells of such a file, and asserts what was written and the status.
+fn tells_of_file(rt: &impl Abort, alloc: Global, unread: &Unread<'_>) -> Result<(), Fail> {
+    let options = options_of(alloc, unread.words)?;
+    let mut room = vec![in alloc; 0u8; 128]?;
     let mut messages = Device::new(StopWriter::new(&mut room, 4096));
-    let mut answers = vec![in alloc; 0u8; 64]?;
+    let mut answers = vec![in alloc; 0u8; 128]?;
     let mut output = Device::new(StopWriter::new(&mut answers, 4096));
-    let code = report_registered(Form::Plain, fault, &mut output, &mut messages).code();
-    let taken = messages.inner().taken();
-    let text = shown(alloc, room.get(..taken).unwrap_or(b""))?;
-    assert_eq!(rt; (text.as_str(), code), (message, status), "{fault:?}");
+    let status = report_registered(
+        alloc,
+        &options,
+        unread.text,
+        &unread.fault,
+        &mut output,
+        &mut messages,
+    );
+    let (told, answered) = (messages.inner().taken(), output.inner().taken());
+    let message = shown(alloc, room.get(..told).unwrap_or(b""))?;
+    let object = shown(alloc, answers.get(..answered).unwrap_or(b""))?;
+    assert_eq!(rt;
+        (object.as_str(), message.as_str(), status.code()),
+        (unread.output, unread.message, unread.status),
+        "{:?}",
+        unread.fault
+    );
     Ok(())
+}
+
+/// The fault of a line.
+fn refused(line: u64, refusal: Refusal) -> RegisterFault {
+    RegisterFault::Refused { line, refusal }
 }
 
 #[test]
 fn faults_of_registered_labels(rt: HostRuntime) -> Result<(), Fail> {
-    let out_of_order = RegisterFault::Refused {
-        line: 2,
-        refusal: Refusal::OutOfOrder,
-    };
-    let message = "idn2: registered line 2: 4 out of order\n";
-    tells_of_file(&rt, rt.alloc(), &out_of_order, message, 2)?;
-    let too_long = RegisterFault::Refused {
-        line: 4_294_967_296,
-        refusal: Refusal::FileTooLong,
-    };
-    let message = "idn2: registered line 4294967296: 5 file too long\n";
-    tells_of_file(&rt, rt.alloc(), &too_long, message, 2)?;
-    let message = "idn2: 70 out of memory\n";
-    tells_of_file(&rt, rt.alloc(), &RegisterFault::Memory, message, 4)
-}
-
-#[test]
-fn texts_of_errors(rt: HostRuntime) -> Result<(), Fail> {
-    let read = format!(in rt.alloc(); "{}", ReadFault)?;
-    let write = format!(in rt.alloc(); "{}", WriteFault { taken: 3 })?;
-    let texts = (read.as_str(), write.as_str());
-    assert_eq!(rt; texts, ("read fault", "write fault"));
-    assert_eq!(rt;
-        texts,
-        (Refusal::ReadFault.text(), Refusal::WriteFault.text())
-    );
+    for unread in [
+        Unread {
+            words: &["-r"],
+            text: b"b\na\n",
+            fault: refused(2, Refusal::OutOfOrder),
+            output: "",
+            message: "idn2: registered line 2: 4 out of order\n",
+            status: 2,
+        },
+        Unread {
+            words: &["-r", "--explain"],
+            text: b"",
+            fault: refused(4_294_967_296, Refusal::FileTooLong),
+            output: "",
+            message: "idn2: registered line 4294967296: 5 file too long\n",
+            status: 2,
+        },
+        Unread {
+            words: &["-r", "--json"],
+            text: b"",
+            fault: RegisterFault::Memory,
+            output: "",
+            message: "idn2: 70 out of memory\n",
+            status: 4,
+        },
+        Unread {
+            words: &["-r", "--explain"],
+            text: b"hausboot\r\nharald\n",
+            fault: refused(2, Refusal::OutOfOrder),
+            output: "",
+            message: "idn2: registered line 2: 4 out of order: U+0072 at place 3\n",
+            status: 2,
+        },
+        Unread {
+            words: &["-r", "--explain"],
+            text: b"hausboot\nhaus",
+            fault: refused(2, Refusal::OutOfOrder),
+            output: "",
+            message: "idn2: registered line 2: 4 out of order: ends at place 5\n",
+            status: 2,
+        },
+        Unread {
+            words: &["-r", "--json"],
+            text: b"a\na-\n",
+            fault: refused(2, Refusal::Hyphen),
+            output: "{\"registered_line\":2,\"refusal\":{\"number\":13,\"text\":\"hyphen out of place\",\"code_point\":\"U+002D\",\"place\":2}}\n",
+            message: "",
+            status: 2,
+        },
+    ] {
+        tells_of_file(&rt, rt.alloc(), &unread)?;
+    }
     Ok(())
 }

@@ -1,5 +1,5 @@
 -- How a mode explains, as the definitions have it.
-use Rattle.idn2_cli.specs.Explained.{Explained, Unexplained, ByLabel, ByName, ByQuery, ByTable, ByRequest}
+use Rattle.idn2_cli.specs.Explained.{Explained, Unexplained, ByLabel, ByName, ByQuery, ByTable, ByRequest, ByTest}
 use Rattle.idn2_cli.specs.declared.session.cause.Explaining.{Explaining}
 use Rattle.idn2_cli.specs.declared.session.cause.Explaining.TheVariants as by
 
@@ -10,3 +10,4 @@ explained_by by.Name = ByName
 explained_by (by.Query std3) = ByQuery std3
 explained_by (by.Sources table) = ByTable table.now.entries
 explained_by (by.Request table) = ByRequest table.now.entries
+explained_by by.Test = ByTest

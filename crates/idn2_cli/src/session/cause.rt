@@ -35,6 +35,8 @@ pub(crate) enum Explaining<'t> {
     Sources(&'t Table),
     /// By the label of a request, and how far they reach in it.
     Request(&'t Table),
+    /// By a label, as it stands.
+    Test,
 }
 
 /// Why a line is refused. Places and labels are counted from 0.
@@ -52,6 +54,8 @@ pub(crate) enum LineCause {
     OfName(NameCause),
     /// A length that the DNS does not allow.
     OfQuery(LengthCause),
+    /// Where a label ends before it differs from the one before it.
+    Ends(usize),
 }
 
 impl<'t> Explaining<'t> {
@@ -144,6 +148,7 @@ fn cause_of_points(
         Explaining::Request(table) => {
             cause_by_table(alloc, label_of_request(points), refusal, table)
         }
+        Explaining::Test => Ok(of_label(cause_of(alloc, points, refusal)?)),
     }
 }
 

@@ -49,6 +49,11 @@ fn details_of_line<'a>(refusal: &Refusal, cause: &'a LineCause) -> RefusalMember
             members
         }
         LineCause::OfQuery(cause) => details_of_length(cause),
+        LineCause::Ends(place) => {
+            let mut members = RefusalMembers::NONE;
+            members.place = Some(counted(*place));
+            members
+        }
     }
 }
 

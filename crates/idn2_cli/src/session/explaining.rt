@@ -28,6 +28,7 @@ pub(crate) fn push_line_cause(text: &mut ExplainedMessage, refusal: &Refusal, ca
         LineCause::OfALabel(cause) => push_a_label_cause(text, refusal, cause),
         LineCause::OfName(cause) => push_name_cause(text, refusal, cause),
         LineCause::OfQuery(cause) => push_length_cause(text, cause),
+        LineCause::Ends(place) => push_end(text, *place),
     }
 }
 
@@ -39,6 +40,16 @@ fn push_byte_at(text: &mut ExplainedMessage, place: usize, byte: u8)
 {
     push_byte(text, byte);
     append(text, b" at byte ");
+    push_counted(text, place);
+}
+
+/// Appends the place at which a label ends.
+fn push_end(text: &mut ExplainedMessage, place: usize)
+    requires { array_vec_len text.old ≤ 256 }
+    ensures items { text.new.items ≡ text.old.items ++ (codes "ends at place " ++ decimal (place + 1)) }
+    ensures short { array_vec_len text.new ≤ array_vec_len text.old + 64 }
+{
+    append(text, b"ends at place ");
     push_counted(text, place);
 }
 

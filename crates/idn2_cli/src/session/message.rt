@@ -1,8 +1,8 @@
 //! The messages of refusals.
 
-ghost use Rattle.std.specs.Prelude.{◌≡◌, ◌≤◌, ◌++◌, length, codes, decimal, Some};
+ghost use Rattle.std.specs.Prelude.{◌≡◌, ◌≤◌, ◌++◌, [], length, codes, decimal, Some};
 ghost use Rattle.idn2_cli.specs.CauseTexts.{tail_text};
-ghost use Rattle.idn2_cli.specs.Transcript.{told, line_message, refused_message, registered_message, table_message};
+ghost use Rattle.idn2_cli.specs.Transcript.{told, line_message, message_with, table_message};
 
 use crate::session::buffers::append;
 use crate::session::cause::LineCause;
@@ -21,17 +21,19 @@ pub fn line_message(number: u64, refusal: &Refusal) -> Message
     message("idn2: line ", number, refusal)
 }
 
-/// The same with a cause.
+/// The message of a line with the cause of its refusal, after the words that say whose line it is.
 pub(crate) fn explained_message(
+    before: &[u8],
     number: u64,
     refusal: &Refusal,
     cause: &LineCause,
 ) -> ExplainedMessage
-    ensures { result.items ≡ refused_message number refusal.now (tail_text refusal.now (Some cause.now)) }
+    requires { length before.now ≤ 22 }
+    ensures { result.items ≡ message_with before.now number refusal.now (tail_text refusal.now (Some cause.now)) }
 {
     let mut message = ExplainedMessage::new();
     let mut digits = Buffer::new();
-    append(&mut message, b"idn2: line ");
+    append(&mut message, before);
     append(&mut message, digits.format(number).as_bytes());
     append(&mut message, b": ");
     append(&mut message, digits.format(refusal.number()).as_bytes());
@@ -52,7 +54,7 @@ pub fn table_message(number: u64, refusal: &Refusal) -> Message
 
 /// The message of a line of registered labels.
 pub fn registered_message(number: u64, refusal: &Refusal) -> Message
-    ensures { result.bytes ≡ registered_message number refusal.now }
+    ensures { result.bytes ≡ message_with (codes "idn2: registered line ") number refusal.now [] }
 {
     message("idn2: registered line ", number, refusal)
 }

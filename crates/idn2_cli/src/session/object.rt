@@ -35,7 +35,7 @@ pub(crate) enum Object<'a> {
     /// Why a line of a table is refused.
     TableFault(u64, Refusal),
     /// Why a line of the registered labels is refused.
-    RegisteredFault(u64, Refusal),
+    RegisteredFault(u64, Refusal, RefusalMembers<'a>),
 }
 
 /// Writes an object and a line feed in place of what was in `out`.
@@ -64,8 +64,8 @@ pub(crate) fn write_object(out: &mut ObjectLine, object: &Object<'_>)
         Object::TableFault(line, refusal) => {
             write_table_fault(out, *line, *refusal, &RefusalMembers::NONE)
         }
-        Object::RegisteredFault(line, refusal) => {
-            write_registered_fault(out, *line, *refusal, &RefusalMembers::NONE)
+        Object::RegisteredFault(line, refusal, members) => {
+            write_registered_fault(out, *line, *refusal, members)
         }
     }
 }

@@ -123,7 +123,7 @@ fn tell_explained<W: Sink, E: Sink>(
     ensures told { Emits console.old console.new (Message (refused_message number refusal (tail_text refusal (Some cause.now))) ∷ []) result }
     ensures why { IfErr result (λ why. why ≡ stop.Messages) }
 {
-    let message = explained_message(number, &refusal, cause);
+    let message = explained_message(b"idn2: line ", number, &refusal, cause);
     console.message(message.as_slice())
 }
 

@@ -1,16 +1,22 @@
 //! What ends the program outside a line.
 ghost use Rattle.std.specs.Prelude.{◌≡◌};
+ghost use Rattle.std.specs.Option.{option_copied};
 ghost use Rattle.answer_json.specs.Answers.{line_of};
-ghost use Rattle.idn2_cli.specs.Ends.{IsFault, TakesText, TellsUnread, TellsWrong, closing_message, closing_status, held};
+ghost use Rattle.idn2_cli.specs.CauseTexts.{tail_text};
+ghost use Rattle.idn2_cli.specs.Ends.{IsFault, TakesText, TellsUnread, TellsWrong, TellsWrongLine, closing_message, closing_status, held};
 ghost use Rattle.idn2_cli.specs.Transcript.{registered_message};
 
-use crate::session::message::registered_message;
+use crate::session::cause::LineCause;
+use crate::session::details::details_of_refusal;
+use crate::session::message::{explained_message, registered_message};
 use crate::session::object::{Object, write_object};
 use crate::session::status::Status;
+use crate::session::wrong_line::cause_if_wanted;
 use answer_json::ObjectLine;
 use idn_text::{Refusal, Sink, write_text};
-use idn2_options::Form;
+use idn2_options::{Form, Options};
 use registered_labels::RegisterFault;
+use std::alloc::Global;
 
 /// Writes the message of `Usage`, `ReadFault`, `WriteFault` or `Memory`, and answers its status.
 /// The status is the same where the writer fails, and then a proper prefix of the message stands.
@@ -32,25 +38,57 @@ fn tell<E: Sink>(text: &[u8], err: &mut E)
     let _ = write_text(err, text);
 }
 
-/// Writes why a file is not read as registered labels, and answers the status. A wrong line is told by a message, or by an
-/// object of the output. Where the writer fails, a proper prefix of that stands, and the status is that of a fault. It
-/// takes no memory.
+/// Writes why a file of this text is not read as registered labels, and answers the status. A wrong line is told by a
+/// message, or by an object of the output, with its cause, if causes are wanted. Where the writer fails, a proper prefix of
+/// that stands, and the status is that of a fault. A cause alone may take memory.
 pub fn report_registered<W: Sink, E: Sink>(
-    form: Form,
+    alloc: Global,
+    options: &Options,
+    text: &[u8],
     fault: &RegisterFault,
     out: &mut W,
     err: &mut E,
 ) -> Status
-    ensures { TellsUnread form fault.now (held (W.state out.old) (E.state err.old)) (held (W.state out.new) (E.state err.new)) result }
+    ensures { TellsUnread options.now text.now fault.now (held (W.state out.old) (E.state err.old)) (held (W.state out.new) (E.state err.new)) result }
 {
-    match (fault, form) {
-        (RegisterFault::Memory, _) => report(&Refusal::Memory, err),
-        (RegisterFault::Refused { line, refusal }, Form::Plain) => {
-            report_wrong_line(*line, refusal, err)
+    match fault {
+        RegisterFault::Memory => report(&Refusal::Memory, err),
+        RegisterFault::Refused { line, refusal } => {
+            match cause_if_wanted(alloc, options.tells_causes(), text, *line, *refusal) {
+                Ok(cause) => tell_wrong_line(
+                    options.form,
+                    *line,
+                    refusal,
+                    cause.as_ref(),
+                    out,
+                    err,
+                ),
+                Err(_) => report(&Refusal::Memory, err),
+            }
         }
-        (RegisterFault::Refused { line, refusal }, Form::Json) => {
+    }
+}
+
+/// Tells of a wrong line of the registered labels, with its cause, if there is one, and answers the status.
+fn tell_wrong_line<W: Sink, E: Sink>(
+    form: Form,
+    line: u64,
+    refusal: &Refusal,
+    cause: Option<&LineCause>,
+    out: &mut W,
+    err: &mut E,
+) -> Status
+    ensures { TellsWrongLine form line refusal.now (option_copied cause.entry) (held (W.state out.old) (E.state err.old)) (held (W.state out.new) (E.state err.new)) result }
+{
+    match form {
+        Form::Plain => report_wrong_line(line, refusal, cause, err),
+        Form::Json => {
             let mut object = ObjectLine::new();
-            write_object(&mut object, &Object::RegisteredFault(*line, *refusal));
+            let members = details_of_refusal(refusal, cause);
+            write_object(
+                &mut object,
+                &Object::RegisteredFault(line, *refusal, members),
+            );
             match write_text(out, object.as_slice()) {
                 Ok(()) => Status::Unusable,
                 Err(_fault) => report(&Refusal::WriteFault, err),
@@ -60,11 +98,28 @@ pub fn report_registered<W: Sink, E: Sink>(
 }
 
 /// Writes the message of a wrong line of the registered labels, and answers the status.
-fn report_wrong_line<E: Sink>(line: u64, refusal: &Refusal, err: &mut E) -> Status
-    ensures { TellsWrong (registered_message line refusal.now) (E.state err.old) (E.state err.new) result }
+fn report_wrong_line<E: Sink>(
+    line: u64,
+    refusal: &Refusal,
+    cause: Option<&LineCause>,
+    err: &mut E,
+) -> Status
+    ensures { TellsWrong (registered_message line refusal.now (tail_text refusal.now (option_copied cause.entry))) (E.state err.old) (E.state err.new) result }
 {
-    let message = registered_message(line, refusal);
-    match write_text(err, message.as_str().as_bytes()) {
+    match cause {
+        Some(cause) => {
+            let message = explained_message(b"idn2: registered line ", line, refusal, cause);
+            tell_wrong(message.as_slice(), err)
+        }
+        None => tell_wrong(registered_message(line, refusal).as_str().as_bytes(), err),
+    }
+}
+
+/// Writes such a message, and answers the status.
+fn tell_wrong<E: Sink>(message: &[u8], err: &mut E) -> Status
+    ensures { TellsWrong message.now (E.state err.old) (E.state err.new) result }
+{
+    match write_text(err, message) {
         Ok(()) => Status::Unusable,
         Err(_fault) => Status::Faulty,
     }

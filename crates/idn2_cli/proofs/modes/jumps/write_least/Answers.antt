@@ -1,4 +1,4 @@
-use Rattle.std.proofs.Common.{[], ◌∷◌, ◌≡◌, ◌∙◌, ℕ, List, Option, Some, None, ap, subst, sym}
+use Rattle.std.proofs.Common.{[], ◌∷◌, ◌≡◌, ℕ, List, Option, ap, subst}
 use Rattle.std.specs.Prelude.{Contains}
 use Rattle.std.proofs.lemmas.Result.{err_from_is_err_and}
 use Rattle.variant_list.specs.Positions.{Built, Position}

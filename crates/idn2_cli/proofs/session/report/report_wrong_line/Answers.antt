@@ -1,8 +1,13 @@
-use Rattle.std.proofs.Common.{◌∙◌, List, inr, refl, subst, ℕ}
-use Rattle.idn_text.specs.Writers.{TakesPart}
+use Rattle.std.proofs.Common.{◌∙◌, ℕ, List, subst}
+use Rattle.idn2_cli.specs.Ends.{TellsWrong}
 use Rattle.idn2_cli.proofs.session.report.report_wrong_line.Goals as goal
 
-pub returns-in-Err : goal.returns-in-Err
-returns-in-Err g c =
-    let text = c.as_bytes.ensures.value ∙ c.as_str.ensures.value ∙ c.registered_message-message.ensures in
-    inr ((c.in-Err._fault.taken, subst (λ (t : List ℕ). TakesPart (g.E.Sink.state c.args.err.now) (g.E.Sink.state c.write_text.new.writer) t c.in-Err._fault.taken) text c.in-Err.ensures.part), refl)
+pub returns-in-Some : goal.returns-in-Some
+returns-in-Some g c =
+    rw c.in-Some.is
+    (subst (λ (t : List ℕ). TellsWrong t (g.E.Sink.state c.args.err.now) (g.E.Sink.state c.tell_wrong.new.err) c.tell_wrong.result) (c.as_slice.ensures.value ∙ c.explained_message-message.ensures) c.tell_wrong.ensures)
+
+pub returns-in-None : goal.returns-in-None
+returns-in-None g c =
+    rw c.in-None.is
+    (subst (λ (t : List ℕ). TellsWrong t (g.E.Sink.state c.args.err.now) (g.E.Sink.state c.tell_wrong-in-None.new.err) c.tell_wrong-in-None.result) (c.as_bytes.ensures.value ∙ c.as_str.ensures.value ∙ c.registered_message.ensures) c.tell_wrong-in-None.ensures)

@@ -1,4 +1,4 @@
-use Rattle.std.proofs.Common.{◌∙◌, ℕ, List, ap, refl, sym, subst}
+use Rattle.std.proofs.Common.{◌∙◌, ℕ, List, refl, sym, subst}
 use Rattle.idn_text.proofs.Utf8Lemmas.{points_from_utf8}
 use Rattle.idn2_cli.specs.inner.Emitting.{StopsForMemory}
 use Rattle.idn2_cli.specs.inner.ServedLines.{result_of}

@@ -1,7 +1,7 @@
 use Rattle.idn_label.specs.Decode.{decode_answer}
 use Rattle.idn_label.specs.Steps.{in_utf8}
 use Rattle.idn2_cli.specs.Said.{Decoded}
-use Rattle.idn2_cli.proofs.TextAnswers.{answered-filled, emits_answer, one_answer-answered, one_answer-refused}
+use Rattle.idn2_cli.proofs.TextAnswers.{emits_answer, one_answer-answered, one_answer-refused}
 use Rattle.idn2_cli.proofs.RefusedLines.{answered_none, emits_answered, kept_as_it_was, kept_if_answered, refused_is, replies_refusal}
 use Rattle.idn2_cli.proofs.modes.decode.DecodePointAnswering.answer_points.Goals as goal
 

@@ -1,0 +1,50 @@
+-- The lines of registered labels, and their code points; and texts that are joined one after another.
+use Rattle.std.proofs.Common.{◌≡◌, ◌<◌, ◌≤◌, ◌++◌, ℕ, Bool, true, false, List, [], chars, length, Option, Some, None, Result, Ok, Err, OnOk, OnErr, slice_get, refl, sym, ap, ◌∙◌, append_assoc, arith, if◌then◌else◌}
+use Rattle.std.specs.Str.{is_utf8}
+use Rattle.std.specs.Str.Lines.{strip_carriage_return}
+use Rattle.std.proofs.lemmas.Bool.Decides.{nat_tests}
+use Rattle.std.proofs.lemmas.Str.{is_utf8-from_IsUtf8}
+use Rattle.idn_text.specs.Lines.{body_of, is_long_line}
+use Rattle.idn_text.specs.Points.{IsUtf8Of}
+use Rattle.idn_text.proofs.Utf8Lemmas.{IsUtf8-from_points, points_from_utf8}
+use Rattle.idn_cause.specs.Causes.{shared}
+use Rattle.idn2_cli.specs.WrongLines.{differs_at, order_cause, points_in}
+use Rattle.idn2_cli.proofs.TextAnswers.{is_not_utf8}
+
+pub body-long : (line : List ℕ) → 1024 < length line → body_of line ≡ None
+body-long line more =
+    let long : is_long_line line ≡ true = grind (arith, nat_tests) in
+    ap (λ (b : Bool). let r : Option (List ℕ) = if b then None else Some (strip_carriage_return line) in r) long
+
+pub body-short : (line : List ℕ) → length line ≤ 1024 → body_of line ≡ Some (strip_carriage_return line)
+body-short line few =
+    let short : is_long_line line ≡ false = grind (arith, nat_tests) in
+    ap (λ (b : Bool). let r : Option (List ℕ) = if b then None else Some (strip_carriage_return line) in r) short
+
+-- what is decoded of bytes, which is nothing of those that are no UTF-8
+pub points_read : {A E : Type 0} (bytes points : List ℕ) (r : Result A E) → OnOk r (IsUtf8Of bytes points) → OnErr r ((list : List ℕ) → IsUtf8Of bytes list → ⊥) → OnErr r (points ≡ [])
+    → points ≡ points_in (Some bytes)
+points_read bytes points (Ok done) is none emptied =
+    sym (points_from_utf8 bytes points is)
+    ∙ sym (ap (λ (b : Bool). let r : List ℕ = if b then chars bytes else [] in r) (is_utf8-from_IsUtf8 bytes (IsUtf8-from_points bytes points is)))
+points_read bytes points (Err fault) is none emptied =
+    emptied ∙ sym (ap (λ (b : Bool). let r : List ℕ = if b then chars bytes else [] in r) (is_not_utf8 bytes none (is_utf8 bytes) refl))
+
+-- a text that was appended piece by piece
+pub appended : (a b c d e f g h n : List ℕ) → (((((((a ++ b) ++ c) ++ d) ++ e) ++ f) ++ g) ++ h) ++ n ≡ a ++ (b ++ (c ++ (d ++ (e ++ (f ++ ((g ++ h) ++ n))))))
+appended a b c d e f g h n =
+    let two = a ++ b in
+    let three = two ++ c in
+    let four = three ++ d in
+    let five = four ++ e in
+    let six = five ++ f in
+    let r = (g ++ h) ++ n in
+    ap (λ (l : List ℕ). l ++ n) (append_assoc six g h) ∙ append_assoc six (g ++ h) n ∙ append_assoc five f r ∙ append_assoc four e (f ++ r)
+    ∙ append_assoc three d (e ++ (f ++ r)) ∙ append_assoc two c (d ++ (e ++ (f ++ r))) ∙ append_assoc a b (c ++ (d ++ (e ++ (f ++ r))))
+
+-- where a label differs from the one before it, read from rooms that hold them
+pub order_told : (before label b l again : List ℕ) (place : ℕ) (found : Option ℕ) → b ≡ before → l ≡ label → again ≡ label → place ≡ shared l b → found ≡ slice_get again place
+    → differs_at place found ≡ order_cause before label
+order_told before label b l again place found is_before is_label is_again at got =
+    let where_ : place ≡ shared label before = at ∙ ap (λ (x : List ℕ). shared x b) is_label ∙ ap (shared label) is_before in
+    ap (differs_at place) (got ∙ ap (λ (x : List ℕ). slice_get x place) is_again) ∙ ap (λ (n : ℕ). differs_at n (slice_get label n)) where_
