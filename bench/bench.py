@@ -18,6 +18,8 @@ table compares:
                           bench/listing_peer.cpp, a program over libidn2 that makes all spellings of a label by an index
                           of the table, puts them in order, and tests and encodes each
     start                 `idn2 -l` of both with an empty input
+    objects               ours alone: each of the modes before with `--json` and without, side by side in one run. Wanted are
+                          objects at least half as fast as lines
     memory                the peak of resident memory: of `idn2 -l -N` on few and on all mixed names; and of a listing
                           of ten and of a million of the 2^62 variants of a label, where the peer can do neither
 
@@ -44,6 +46,8 @@ OURS = HERE.parent / "crates/idn2/out/idn2"
 # Lines that callgrind is given of each input, since it takes fifty times as long. The input of the listing has
 # fewer, up to half a million variants.
 LINES_COUNTED = 2_000
+# How fast objects are wanted, of the speed of lines.
+OBJECTS_WANTED = 0.5
 
 
 @dataclasses.dataclass
@@ -127,6 +131,17 @@ def ours_and_theirs(ours, theirs):
     return f"{1000 * ours:,.2f}", f"{1000 * theirs[0]:,.2f}", f"{theirs[0] / ours:.1f}"
 
 
+def show_objects(options, rows):
+    print("\nmilliseconds of processor: lines, and objects (--json)")
+    cells("", "lines", "objects", "ratio", "wanted")
+    for source, row in rows.items():
+        if source != "nothing":
+            program, *words = row.ours.command
+            plain, objects = in_turn([row.ours, Run(program, ["--json", *words], row.ours.source)], options.rounds)
+            ratio = plain.processor / objects.processor
+            cells(row.name, f"{1000 * plain.processor:,.2f}", f"{1000 * objects.processor:,.2f}", f"{ratio:.2f}", f"{OBJECTS_WANTED}")
+
+
 def show_memory(options, files, counts):
     gnu_time = found("time")
     if not gnu_time:
@@ -193,6 +208,7 @@ def measure(options, folder):
     rows = rows_of(options, files, listing_peer)
     compare_answers(rows)
     show_times(options, rows, counts)
+    show_objects(options, rows)
     show_memory(options, files, counts)
     if options.instructions:
         show_instructions(rows, counts)

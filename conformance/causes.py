@@ -10,7 +10,7 @@ from registration import (BAD_A_LABEL, BIDI, CONTEXT_J, CONTEXT_O, HYPHEN, IS_DI
 from rules import stands_between_joining
 from unicode_data import DISALLOWED, EXCEPTIONS, IGNORABLE_BLOCKS, LEFT_OUT, OLD_HANGUL_JAMO, UNASSIGNED, is_in
 
-NOT_UTF8, LINE_TOO_LONG, NOT_IN_TABLE = 1, 2, 40
+NOT_UTF8, LINE_TOO_LONG, OUT_OF_ORDER, NOT_IN_TABLE = 1, 2, 4, 40
 APPENDICES = {0x200C: 1, 0x200D: 2, 0xB7: 3, 0x375: 4, 0x5F3: 5, 0x5F4: 6, 0x30FB: 7}
 NEUTRAL = {"EN", "ES", "CS", "ET", "ON", "BN", "NSM"}
 
@@ -42,6 +42,14 @@ class Causes:
             return self.of_name(text, refusal)
         label = text.partition("\t")[0] if mode == "jump" else text
         return self.outside(label, sources) if refusal == NOT_IN_TABLE else self.of_label(label, refusal)
+
+    def of_registered(self, bodies, number, refusal):
+        """The cause of the refusal of a line of registered labels, by the bodies of all up to it."""
+        if refusal != OUT_OF_ORDER:
+            return self.of_body("variants", bodies[number - 1], refusal)
+        before, label = (body.decode() for body in bodies[number - 2:number])
+        place = first(range(len(label)), lambda place: before[place:place + 1] != label[place])
+        return f"ends at place {len(label) + 1}" if place is None else at(place, ord(label[place]))
 
     @staticmethod
     def of_bytes(body):

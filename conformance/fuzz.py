@@ -3,7 +3,8 @@
 
 It draws words, tables, labels, registered labels, names and bytes from a seed, which it prints, until the given number of
 seconds is over. Each run's output, messages and status must be those of second_run.py, byte for byte, in half of the runs
-with the causes that causes.py tells. Names for lookup are compared with libidn2's answers, whose known kinds of difference
+with the causes that causes.py tells. Those are run once more with `--json`: each line must be what Python's json prints of
+the object that it reads there, and the objects must say the same (objects.py). Names for lookup are compared with libidn2's answers, whose known kinds of difference
 are in kinds.py. Status 1 where anything differs.
 """
 
@@ -26,7 +27,8 @@ import names
 from libidn2 import LibIdn2
 from registration import Registration
 from rules import UnicodeProperties
-from second_run import Run, Unknown
+from objects import Wrong, as_explained, without_what_objects_leave_out
+from second_run import Bad, Options, Run, Show, Unknown, bodies
 from unicode_data import Classes, version
 
 SHOWN = 400
@@ -92,14 +94,36 @@ class Fuzz:
             wanted = self.second.answer(words, given, files)
         except Unknown:
             return Unknown
-        done = subprocess.run([self.program, *words], input=given, capture_output=True, cwd=self.folder,
-                              preexec_fn=lambda: resource.setrlimit(resource.RLIMIT_AS, (MEMORY, MEMORY)))
-        found = done.stdout, done.stderr, done.returncode
+        found = self.run(words, given)
         if found == wanted or (wanted[0] is None and found[0] and found[1:] == wanted[1:]):
-            return None
+            if "--explain" not in words:
+                return None
+            wanted = wanted[0], wanted[1] and without_what_objects_leave_out(wanted[1]), wanted[2]
+            words = ["--json", *words]
+            found = self.run_for_objects(words, given)
+            if found == wanted or wanted[0] is None:
+                return None
         shown = "".join(f"{name} {text[:SHOWN]!r}, " for name, text in files.items())
         return (f"words {words}, {shown}input {given[:SHOWN]!r}\n"
                 f"  answered {cut(found)}\n  expected {cut(wanted)}")
+
+    def run(self, words, given):
+        done = subprocess.run([self.program, *words], input=given, capture_output=True, cwd=self.folder,
+                              preexec_fn=lambda: resource.setrlimit(resource.RLIMIT_AS, (MEMORY, MEMORY)))
+        return done.stdout, done.stderr, done.returncode
+
+    def run_for_objects(self, words, given):
+        """What a run that answers by objects says, in the words of one that explains."""
+        output, ending, status = self.run(words, given)
+        try:
+            strings = Options([word for word in words if word != "--json"]).strings
+            given = "".join(string + "\n" for string in strings).encode() if strings else given
+            answers, messages = as_explained(output, list(bodies(given)))
+        except (Bad, Show):
+            answers, messages = output, b""
+        except (Wrong, ValueError, LookupError) as fault:
+            return repr(fault).encode(), output, status
+        return answers, messages + ending, status
 
     def register(self):
         return self.compare(["-r"], self.lines(lambda: self.chance.choice(

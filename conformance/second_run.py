@@ -155,7 +155,9 @@ class Run:
             return self.check(options.mode, files[options.given[options.mode]])
         try:
             registered, table = self.read_files(options, files)
-        except (RegisteredFault, TableFault) as fault:
+        except RegisteredFault as fault:
+            return b"", f"{fault}{self.tail_of_registered(options, files, *fault.args)}\n".encode(), 2
+        except TableFault as fault:
             return b"", f"{fault}\n".encode(), 2
         output, messages = [], []
         for number, body in enumerate(bodies(given), 1):
@@ -170,8 +172,15 @@ class Run:
         if "explain" not in options.given:
             return ""
         mode = "jump" if "jump" in options.given else options.mode
-        sources = table[0].entries if table else ()
+        sources = table[0].inside if table else ()
         cause = self.causes.of_body(mode, body, refusal, sources)
+        return "" if cause is None else f": {cause}"
+
+    def tail_of_registered(self, options, files, number, refusal):
+        """The same of a wrong line of the registered labels."""
+        if "explain" not in options.given:
+            return ""
+        cause = self.causes.of_registered(list(bodies(files[options.given["--among"]])), number, refusal)
         return "" if cause is None else f": {cause}"
 
     def read_files(self, options, files):

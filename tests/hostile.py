@@ -125,6 +125,33 @@ CASES = [
     Case(["-l", "--explain"], b"", [("ü..b\n", "", "idn2: line 1: 21 name or label length: label 2: 0 octets\n")], 1),
     Case(["--variants", "table", "--explain"], DOUBLED,
          [("aab\n", "", "idn2: line 1: 40 not made of table entries: U+0062 at place 3\n"), ("aa\n", BLOCK, "")], 1),
+    Case([*AMONG, "--explain"], SHARP_S, [("", "", "idn2: registered line 2: 4 out of order: U+0061 at place 1\n")], 2, b"b\na\nc\n"),
+    Case([*AMONG, "--explain"], SHARP_S, [("", "", "idn2: registered line 1: 10 disallowed code point: U+0046 at place 1: "
+                                           "RFC 5892 2.2 Unstable\n")], 2, "Faß\n".encode()),
+    # Objects, refusals with their causes among them.
+    Case(["-r", "--json"], b"",
+         [("faß\n", '{"line":1,"input":"faß","ulabel":"faß","alabel":"xn--fa-hia"}\n', ""),
+          ("Faß\n", '{"line":2,"input":"Faß","refusal":{"number":10,"text":"disallowed code point","code_point":"U+0046",'
+           '"place":1,"rule":"RFC 5892 2.2"}}\n', ""),
+          ("xn--fa-hia\n", '{"line":3,"input":"xn--fa-hia","ulabel":"faß","alabel":"xn--fa-hia"}\n', ""),
+          ("xn--a-\n", '{"line":4,"input":"xn--a-","refusal":{"number":19,"text":"not an A-label","alabel":"a"}}\n', "")], 1),
+    Case(["-d", "--json"], b"", [("xn--fiqs8s\n", '{"line":1,"input":"xn--fiqs8s","unicode":"中国"}\n', ""),
+                                 ("中.XN--FA-HIA\n", '{"line":2,"input":"中.XN--FA-HIA","unicode":"中.faß"}\n', "")], 0),
+    Case(["-l", "--json"], b"", [("Faß.de\n", '{"line":1,"input":"Faß.de","ascii":"xn--fa-hia.de"}\n', ""),
+                                 ("\n", '{"line":2,"input":"","refusal":{"number":3,"text":"empty"}}\n', "")], 1),
+    Case(["--variants", "table", "--json"], SHARP_S,
+         [("sss\n", '{"line":1,"ulabel":"sss","alabel":"sss"}\n{"line":1,"ulabel":"sß","alabel":"xn--s-qfa"}\n'
+           '{"line":1,"ulabel":"ßs","alabel":"xn--s-pfa"}\n{"line":1,"input":"sss","count":3,"complete":true}\n', ""),
+          ("sx\n", '{"line":2,"input":"sx","refusal":{"number":40,"text":"not made of table entries","code_point":"U+0078",'
+           '"place":2}}\n', "")], 1),
+    Case([*AMONG, "--json"], SHARP_S, [("", '{"registered_line":2,"refusal":{"number":4,"text":"out of order",'
+                                        '"code_point":"U+0061","place":1}}\n', "")], 2, b"b\na\nc\n"),
+    Case([*JUMP, "--json"], SHARP_S, [("sss\tsssa\n", '{"line":1,"input":"sss\\tsssa","ulabel":"sß"}\n', ""),
+                                      ("sss\tßt\n", '{"line":2,"input":"sss\\tßt","ulabel":null}\n', "")], 0),
+    Case(["--check-table", "table", "--json"], DOUBLED,
+         [("", '{"source":"0061-0061","missing":"0061"}\n{"entries":1,"gaps":1}\n', "")], 1),
+    Case(["--variants", "table", "--json"], b"0061|\n",
+         [("", '{"table_line":1,"refusal":{"number":30,"text":"table syntax"}}\n', "")], 2),
     Case(JUMP, SHARP_S, [("sss\tsssa\n", "sß\n", ""), ("\tsss\n", "", "idn2: line 2: 3 empty\n"), ("sss\tt\n", "ßs\n", ""),
                          ("sss\tßt\n", "#end\n", ""), ("x\ta\n", "", "idn2: line 5: 40 not made of table entries\n")], 1),
 ]

@@ -1,0 +1,123 @@
+"""Objects of `--json` put back into the words of a run with `--explain`, from docs/JSON.md alone."""
+
+import json
+import re
+
+from registration import a_label
+
+# The names of the subsections of RFC 5892, section 2, which messages have and objects don't.
+NAMES = {"2.2": "Unstable", "2.3": "IgnorableProperties", "2.4": "IgnorableBlocks", "2.6": "Exceptions", "2.9": "OldHangulJamo",
+         "2.10": "Unassigned"}
+
+
+class Wrong(Exception):
+    """The line is no object as docs/JSON.md has it."""
+
+
+def rule_of(rule):
+    section = rule.removeprefix("RFC 5892 ")
+    if section in NAMES:
+        return f"{rule} {NAMES[section]}"
+    return {"profile": "outside the profile", "RFC 5892 2.1": "not RFC 5892 2.1 LetterDigits"}.get(
+        rule, rule.replace(" condition", ", condition"))
+
+
+def placed(refusal):
+    """A code point and its place, and what follows them."""
+    text = f"{refusal['code_point']} at place {refusal['place']}"
+    number = refusal["number"]
+    if number == 12:
+        return f"{text}: NFC " + (f"has {refusal['nfc']}" if "nfc" in refusal else "ends")
+    if number == 19:
+        return f"{text}: not ASCII"
+    if "bidi_class" in refusal:
+        text += f" is {refusal['bidi_class']}"
+    return f"{text}: {rule_of(refusal['rule'])}" if "rule" in refusal else text
+
+
+def cause_of(refusal):
+    """The cause in the words of a message, without what an object leaves out; None where no cause is told."""
+    number = refusal["number"]
+    if number in (3, 5, 20):
+        return None
+    if number == 2:
+        return "more than 1024 bytes"
+    if number == 13:
+        return f"place {refusal['place']}"
+    if "code_point" in refusal:
+        return placed(refusal)
+    if number == 4:
+        return f"ends at place {refusal['place']}"
+    if number == 1:
+        return f"at byte {refusal['byte']}"
+    if number == 18:
+        return f"{refusal['code_points']} code points" if "code_points" in refusal else f"A-label of {refusal['octets']} octets"
+    if number == 21:
+        return f"{refusal['octets']} octets" if "label" in refusal else f"name of {refusal['octets']} octets"
+    if "alabel" in refusal:
+        return f"the A-label is {refusal['alabel']}"
+    return f"not {refusal['rule']} Punycode" if "rule" in refusal else "nothing behind xn--"
+
+
+def message_of(each):
+    refusal = each["refusal"]
+    head = next(f"{words} {each[name]}" for name, words in (
+        ("line", "line"), ("table_line", "table line"), ("registered_line", "registered line")) if name in each)
+    message = f"idn2: {head}: {refusal['number']} {refusal['text']}"
+    cause = None if "table_line" in each else cause_of(refusal)
+    if cause is None:
+        return message
+    label = f"label {refusal['label']}" if "label" in refusal else ""
+    separator = ", " if label and "decoded" in refusal else ": " if label else ""
+    return f"{message}: {label}{separator}{'decoded: ' if 'decoded' in refusal else ''}{cause}"
+
+
+def answer_of(each):
+    """The line of text that says the same."""
+    if "count" in each:
+        return f"#end {each['count']}" if each["complete"] else f"#stop {each['count']} {each['after']}"
+    if "missing" in each:
+        return f"missing {each['source']}|{each['missing']}"
+    if "gaps" in each:
+        return f"#table {each['entries']} {each['gaps']}"
+    if "alabel" in each:
+        if a_label(each["ulabel"]) != each["alabel"]:
+            raise Wrong(each)
+        if "input" in each:
+            return each["alabel"]
+        return "\t".join([each["ulabel"], each["alabel"], *([each["disposition"]] if "disposition" in each else [])])
+    return next("#end" if each[name] is None else each[name] for name in ("unicode", "ulabel", "ascii") if name in each)
+
+
+def input_of(each):
+    """The line that an object was read from, as far as it tells that."""
+    if "input_hex" in each:
+        return bytes.fromhex(each["input_hex"])
+    return each["input"].encode() if each.get("input") is not None else None
+
+
+def parsed(line):
+    each = json.loads(line)
+    if json.dumps(each, ensure_ascii=False, separators=(",", ":")).encode() != line:
+        raise Wrong(line)
+    return each
+
+
+def as_explained(output, lines):
+    """What a run with `--explain` writes to its output and its messages, where objects are these and the input has these lines."""
+    answers, messages = [], []
+    for line in output.splitlines(keepends=True):
+        if not line.endswith(b"\n"):
+            raise Wrong(line)
+        each = parsed(line[:-1])
+        read = input_of(each)
+        if read is not None and read != lines[each["line"] - 1]:
+            raise Wrong((each, lines[each["line"] - 1]))
+        (messages if "refusal" in each else answers).append(message_of(each) if "refusal" in each else answer_of(each))
+    return tuple("".join(text + "\n" for text in texts).encode() for texts in (answers, messages))
+
+
+def without_what_objects_leave_out(messages):
+    """Messages without which hyphen it is, and without the byte that no UTF-8 goes on with."""
+    messages = re.sub(rb"(?m)(place \d+), (?:the first|the last|with place 4)$", rb"\1", messages)
+    return re.sub(rb"byte 0x[0-9A-F]{2} (at byte )", rb"\1", messages)
