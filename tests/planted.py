@@ -35,8 +35,8 @@ IMPL = re.compile(r"^impl\b(?:<.*?> )?(?:.* for )?&?\s*(\w+)")
 HEAD = re.compile(r"^( *)(?:pub(?:\(\w+\))? )?(?:final )?(?:const )?(?:unsafe )?fn (\w+)")
 GOAL = re.compile(r"^(?:note: )?(?:\./)?(src/\S+?):(\d+):\d+: (?:error: )?(.*)")
 PROOF = re.compile(r"^(?:\./)?(proofs/\S+?)(?:/\w+)?\.antt:\d+:\d+: error: (.*)")
-# of a field that is gone the line names the record alone
-NAMED = re.compile(r"record `[^`]*`(?:$| \(nearest: )|has no field|is not in scope|has no `|was not admitted|were not checked")
+# of a field that is gone the line names the record alone, and of a loop that goes by another name the module
+NAMED = re.compile(r"record `[^`]*`(?:$| \(nearest: )|`goal\.[^`]*`: module|has no field|is not in scope|has no `|was not admitted|were not checked")
 UNREADABLE = re.compile(r"\berror\[[\w-]+\]")
 
 # Its replacements, and the bodies that it edits; none where it edits anything else.
