@@ -18,6 +18,10 @@ use Rattle.idn_label.proofs.RequirementLemmas.{MeetsRequirements-registrable}
 use Rattle.idn2_cli.specs.Answers.{label_or, u_label_of}
 use Rattle.idn2_cli.proofs.TextAnswers.{utf8-of_chars}
 
+-- a label that has an answer is registered
+pub is_registered : (bytes a_label : List ℕ) → register_utf8_answer bytes ≡ Ok a_label → IsOk (register_utf8_answer bytes)
+is_registered bytes a_label e = rw e refl
+
 -- what is registered is UTF-8
 pub registered-utf8 : (bytes : List ℕ) → IsOk (register_utf8_answer bytes) → IsUtf8Of bytes (chars bytes)
 unfolding register_utf8_answer
