@@ -1,13 +1,13 @@
 -- The disposition of a variant: which variants the table without its blocked variants spells.
 use Rattle.std.proofs.Common.{◌≡◌, ◌≢◌, ◌⊎◌, inl, inr, ℕ, Bool, true, false, ◌||◌, ◌&&◌, ◌↔◌, IsTrue, List, [], ◌∷◌, ◌++◌, Option, Some, None, map, length, refl, sym, ap, subst, ◌∙◌, if◌then◌else◌}
-use Rattle.std.specs.Prelude.{bytes_eq, not}
+use Rattle.std.specs.Prelude.{bytes_eq}
 use Rattle.std.specs.Ordering.{is_le}
-use Rattle.std.specs.List.{AllByRecursion, All, Contains, filter, flat_map, list_any}
+use Rattle.std.specs.List.{AllByRecursion, All, Contains, filter, list_any}
 use Rattle.std.proofs.lemmas.Slice.Eq.{bytes_eq-Decides}
 use Rattle.idn_class.specs.Hopeless.{hopeless}
 use Rattle.variant_table.specs.declared.version.Version.{Version}
 use Rattle.variant_table.specs.declared.version.Version.TheVariants.{One, Two, Three}
-use Rattle.variant_table.specs.Entries.{Variant, Entry, TableValue, has_blocked, replacements, sequences_in, unblocked, unblocked_entry}
+use Rattle.variant_table.specs.Entries.{Entry, TableValue, has_blocked, unblocked}
 use Rattle.variant_table.specs.WellFormed.{IsEntry, IsWellFormed}
 use Rattle.variant_table.proofs.UnblockedLemmas.{unblocked_none, well_formed_kept}
 use Rattle.variant_list.specs.Labels.{label_cmp}

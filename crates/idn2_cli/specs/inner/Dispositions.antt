@@ -1,7 +1,7 @@
 -- The dispositions of a listing's variants, and what tells them.
 use Rattle.std.specs.Prelude.{ℕ, true, List, Option, Some, None, ◌≡◌, ◌≢◌, ◌↔◌, Contains}
 use Rattle.variant_table.specs.declared.version.Version.TheVariants.{One}
-use Rattle.variant_table.specs.Entries.{Entry, TableValue, unblocked}
+use Rattle.variant_table.specs.Entries.{TableValue, unblocked}
 use Rattle.variant_list.specs.declared.part.Part.{Part}
 use Rattle.variant_list.specs.declared.part.Part.TheVariants.{Unblocked}
 use Rattle.variant_list.specs.Positions.{Built}

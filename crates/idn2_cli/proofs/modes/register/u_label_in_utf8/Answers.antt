@@ -1,4 +1,4 @@
-use Rattle.std.proofs.Common.{◌≡◌, ◌≤◌, ◌∙◌, ℕ, List, Err, ap, length, subst, sym}
+use Rattle.std.proofs.Common.{◌≤◌, ◌∙◌, ℕ, List, Err, ap, length, subst, sym}
 use Rattle.idn_label.proofs.AnswerLemmas.{u_label_answer-from}
 use Rattle.idn_text.specs.Points.{AreScalarValues, utf8_of}
 use Rattle.idn2_cli.proofs.DecodedLemmas.{registrable-scalar}

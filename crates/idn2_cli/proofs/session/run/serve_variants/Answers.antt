@@ -10,9 +10,8 @@ use Rattle.idn2_cli.specs.Explained.{ByTable, if_wanted}
 use Rattle.idn2_cli.specs.Memory.{IsRefusedWithoutMemory}
 use Rattle.idn2_cli.specs.inner.Explaining.{explained_by}
 use Rattle.idn2_cli.specs.Ends.{lines_job}
-use Rattle.std.proofs.lemmas.Result.{err_from_is_err_and}
 use Rattle.idn2_options.specs.declared.command_line.mode.Mode.TheVariants.{Variants}
-use Rattle.idn2_cli.proofs.RunEnds.{as_mode, in_form, lists_by_table, refused_lines, unread_stopped}
+use Rattle.idn2_cli.proofs.RunEnds.{as_mode, in_form, lists_by_table, refused_lines}
 use Rattle.idn2_cli.proofs.session.run.serve_variants.Goals as goal
 
 pub returns-in-Err : goal.returns-in-Err
