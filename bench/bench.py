@@ -31,7 +31,6 @@ To be installed (Debian's names), each left out with a word where it is missing:
 libidn2-dev for the peer, time for the memory, valgrind for the instructions.
 """
 
-import argparse
 import dataclasses
 import itertools
 import pathlib
@@ -39,10 +38,9 @@ import subprocess
 import sys
 
 from inputs import SEED, TABLE, write_inputs
-from runs import Failed, Run, found, in_turn, measured, version
+from runs import Failed, Run, found, in_turn, measured, version, words_of
 
 HERE = pathlib.Path(__file__).resolve().parent
-OURS = HERE.parent / "crates/idn2/out/idn2"
 # Lines that callgrind is given of each input, since it takes fifty times as long. The input of the listing has
 # fewer, up to half a million variants.
 LINES_COUNTED = 2_000
@@ -180,18 +178,13 @@ def show_instructions(rows, counts):
         cells(row.name, *[f"{figure:,.0f}" for figure in figures], ratio)
 
 
-def read_options():
-    words = argparse.ArgumentParser(description="Times our idn2 beside libidn2's.")
-    words.add_argument("--ours", default=OURS, type=pathlib.Path, help="our program")
-    words.add_argument("--theirs", default=found("idn2"), help="libidn2's program")
-    words.add_argument("--lines", default=100_000, type=int, help="lines of each input, but of ASCII ten times as many")
-    words.add_argument("--rounds", default=9, type=int, help="rounds of which the least times are taken")
-    words.add_argument("--starts", default=101, type=int, help="rounds of a start")
-    words.add_argument("--instructions", action="store_true", help="count instructions too, by callgrind")
-    options = words.parse_args()
-    if not options.ours.exists():
-        raise Failed(f"{options.ours} is not there: run make first, or name our program by --ours")
-    return options
+def words():
+    taken = words_of("Times our idn2 beside libidn2's.", rounds=9)
+    taken.add_argument("--theirs", default=found("idn2"), help="libidn2's program")
+    taken.add_argument("--lines", default=100_000, type=int, help="lines of each input, but of ASCII ten times as many")
+    taken.add_argument("--starts", default=101, type=int, help="rounds of a start")
+    taken.add_argument("--instructions", action="store_true", help="count instructions too, by callgrind")
+    return taken
 
 
 def measure(options, folder):
@@ -215,4 +208,4 @@ def measure(options, folder):
 
 
 if __name__ == "__main__":
-    sys.exit(measured(read_options, measure))
+    sys.exit(measured(words(), measure))

@@ -25,7 +25,6 @@ To be installed (Debian's names), each left out with a word where it is missing:
 work, valgrind for the instructions.
 """
 
-import argparse
 import bisect
 import pathlib
 import random
@@ -34,9 +33,9 @@ import sys
 import time
 
 import registered
-from bench import HERE, OURS
+from bench import HERE
 from inputs import SEED, TABLE, write
-from runs import ENVIRONMENT, Failed, Run, found, in_turn, measured, version
+from runs import ENVIRONMENT, Failed, Run, found, in_turn, measured, version, words_of
 
 # How often the load may take what sort takes, and how many bytes it may hold of a label beside the file.
 LOAD_WANTED, BYTES_WANTED = 2, 8
@@ -247,16 +246,11 @@ def show_instructions(options, files, between):
     cells("a jump between each two variants", f"{COUNTED:,}", f"{jumps / len(kept.labels):,.0f}", "-", "-")
 
 
-def read_options():
-    words = argparse.ArgumentParser(description="Times the look for registered labels among variants.")
-    words.add_argument("--ours", default=OURS, type=pathlib.Path, help="our program")
-    words.add_argument("--labels", default=1_000_000, type=int, help="registered labels of each file")
-    words.add_argument("--rounds", default=3, type=int, help="rounds of which the least times are taken")
-    words.add_argument("--instructions", action="store_true", help="count instructions too, by callgrind")
-    options = words.parse_args()
-    if not options.ours.exists():
-        raise Failed(f"{options.ours} is not there: run make first, or name our program by --ours")
-    return options
+def words():
+    taken = words_of("Times the look for registered labels among variants.", rounds=3)
+    taken.add_argument("--labels", default=1_000_000, type=int, help="registered labels of each file")
+    taken.add_argument("--instructions", action="store_true", help="count instructions too, by callgrind")
+    return taken
 
 
 def measure(options, folder):
@@ -279,4 +273,4 @@ def measure(options, folder):
 
 
 if __name__ == "__main__":
-    sys.exit(measured(read_options, measure))
+    sys.exit(measured(words(), measure))

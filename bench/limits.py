@@ -14,15 +14,12 @@ least of some rounds, in microseconds of processor time, less a run that stops a
 The table of the last two is made here.
 """
 
-import argparse
-import pathlib
 import sys
 
 from inputs import TABLE, write
 from registered import GERMAN
-from runs import Failed, Run, in_turn, measured, version
+from runs import Failed, Run, in_turn, measured, version, words_of
 
-OURS = pathlib.Path(__file__).resolve().parent.parent / "crates/idn2/out/idn2"
 HEBREW = [chr(0x05D0 + number) for number in range(16)]
 # Letters at the start of the slow label, each with all of HEBREW for variants, and the letters after these.
 TURNING, SLOW = 3, 59
@@ -82,15 +79,5 @@ def measure(options, folder):
     print(f"{'a jump, slowest':<22}{'--jump':<10}{jump_microseconds(options, folder, slow, 100):>12,.2f}")
 
 
-def read_options():
-    words = argparse.ArgumentParser(description="Times what a line costs by each limit of a listing.")
-    words.add_argument("--ours", default=OURS, type=pathlib.Path, help="our program")
-    words.add_argument("--rounds", default=5, type=int, help="rounds of which the least times are taken")
-    options = words.parse_args()
-    if not options.ours.exists():
-        raise Failed(f"{options.ours} is not there: run make first, or name our program by --ours")
-    return options
-
-
 if __name__ == "__main__":
-    sys.exit(measured(read_options, measure))
+    sys.exit(measured(words_of("Times what a line costs by each limit of a listing.", rounds=5), measure))

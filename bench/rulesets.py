@@ -11,14 +11,11 @@ some rounds. The rulesets are made here: as many entries as those of the root zo
     the largest   entries as long as they may be, in falling order, up to 8 MiB
 """
 
-import argparse
-import pathlib
 import sys
 
 from inputs import write
-from runs import Failed, Run, found, in_turn, measured, version
+from runs import Run, found, in_turn, measured, version, words_of
 
-OURS = pathlib.Path(__file__).resolve().parent.parent / "crates/idn2/out/idn2"
 FIRST_LINE = "%version 3"
 HAN, SYLLABLES = 0x4E00, "AC00..D7A3"
 # Code points enough for as many entries as there may be.
@@ -76,15 +73,5 @@ def measure(options, folder):
         print(f"{name:<14}{len(lines) - 1:>10,}{size:>12,}{1000 * (with_it.processor - without.processor):>10.1f}{memory:>10.1f}")
 
 
-def read_options():
-    words = argparse.ArgumentParser(description="Times how long a ruleset takes to be read, and what memory it takes.")
-    words.add_argument("--ours", default=OURS, type=pathlib.Path, help="our program")
-    words.add_argument("--rounds", default=5, type=int, help="rounds of which the least times are taken")
-    options = words.parse_args()
-    if not options.ours.exists():
-        raise Failed(f"{options.ours} is not there: run make first, or name our program by --ours")
-    return options
-
-
 if __name__ == "__main__":
-    sys.exit(measured(read_options, measure))
+    sys.exit(measured(words_of("Times how long a ruleset takes to be read, and what memory it takes.", rounds=5), measure))

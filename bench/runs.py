@@ -1,5 +1,6 @@
 """Runs of programs: what they write, how long they take, and what memory they hold at most."""
 
+import argparse
 import dataclasses
 import os
 import pathlib
@@ -9,6 +10,7 @@ import subprocess
 import tempfile
 import time
 
+OURS = pathlib.Path(__file__).resolve().parent.parent / "crates/idn2/out/idn2"
 ENVIRONMENT = {"LC_ALL": "C.UTF-8", "PATH": "/usr/bin:/bin"}
 # A listing that holds all labels in memory is to fail, and not to take that of the machine.
 MEMORY_LIMIT_KIB = 1 << 20
@@ -104,10 +106,21 @@ def version(program):
     return done.stdout.split("\n")[0]
 
 
-def measured(read_options, measure):
-    """Measures by the options in a folder of its own, and gives what the process is to end with: why it failed, if it did."""
+def words_of(purpose, rounds):
+    """The words that each measurement takes."""
+    words = argparse.ArgumentParser(description=purpose)
+    words.add_argument("--ours", default=OURS, type=pathlib.Path, help="our program")
+    words.add_argument("--rounds", default=rounds, type=int, help="rounds of which the least times are taken")
+    return words
+
+
+def measured(words, measure):
+    """Measures by these words in a folder of its own, and gives what the process is to end with: why it failed, if it did."""
+    options = words.parse_args()
     try:
+        if not options.ours.exists():
+            raise Failed(f"{options.ours} is not there: run make first, or name our program by --ours")
         with tempfile.TemporaryDirectory() as folder:
-            measure(read_options(), pathlib.Path(folder))
+            measure(options, pathlib.Path(folder))
     except Failed as failure:
         return str(failure)
