@@ -1,6 +1,8 @@
 -- What lines define has no fault.
-use Rattle.std.proofs.Common.{◌≡◌, ℕ, Bool, true, false, not, cond, List, [], ◌∷◌, length, Option, Some, None, Result, Ok, Err, refl, subst}
+use Rattle.std.proofs.Common.{◌≡◌, ℕ, Bool, true, false, not, cond, List, [], ◌∷◌, ◌+◌, ◌<◌, ◌≤◌, length, length-append, Option, Some, None, Result, Ok, Err, refl, sym, ap, subst, ◌∙◌, arith}
 use Rattle.std.specs.Option.{option_map}
+use Rattle.label_patterns.specs.Patterns.{Pattern}
+use Rattle.ruleset_text.specs.declared.definition.DemandKind.{DemandKind}
 use Rattle.ruleset_text.specs.declared.definition.DemandKind.TheVariants as demand
 use Rattle.ruleset_text.specs.declared.fault.DefinitionFault.{DefinitionFault}
 use Rattle.ruleset_text.specs.declared.fault.DefinitionFault.TheVariants.{Limit, NoSuchName, BadClass, SameName}
@@ -9,12 +11,13 @@ use Rattle.ruleset_text.specs.declared.keyword.Keyword.TheVariants as keyword
 use Rattle.ruleset_text.specs.Canonical.{definition_text}
 use Rattle.ruleset_text.specs.Definition as definition
 use Rattle.ruleset_text.specs.Definition.{Definition, tag_in, set_in, rule_in, contexts_in, demand_in, definition_of}
-use Rattle.ruleset_text.specs.Definitions.{Definitions, is_line_over_limit, is_one_too_many, is_over_limit, has_known_sets, has_bad_class, has_same_name, added, with_definition, defined}
+use Rattle.ruleset_text.specs.Definitions.{Definitions, canonical_size, is_line_over_limit, is_one_too_many, is_over_limit, has_known_sets, has_bad_class, has_same_name, added, with_definition, defined}
 use Rattle.ruleset_text.specs.inner.DefinitionSteps.{HasForm}
 use Rattle.ruleset_text.specs.Names.{is_name}
 use Rattle.ruleset_text.specs.SetNames.{names_on}
 use Rattle.ruleset_text.specs.Spans.{spans_in}
 use Rattle.ruleset_text.specs.WellFormed.{AreDefinitions}
+use Rattle.ruleset_text.proofs.AddedLemmas.{canonical_size-added}
 use Rattle.ruleset_text.proofs.DefineLemmas.{may_be_added}
 use Rattle.ruleset_text.proofs.FormLemmas.{contexts_formed, demand_formed}
 use Rattle.ruleset_text.proofs.HexLemmas.{or_parts}
@@ -88,15 +91,113 @@ with_none limit d names (Some x) e h =
     let same : added d x ≡ e = let ok = new.1 in cc in
     (x, refl, limits.0, no_not (has_known_sets (length d.sets) x) known.0, classes.0, new.0, same)
 
--- what a line adds to definitions without a fault leaves them without one
-pub defined_without_fault : (limit : ℕ) (d e : Definitions) (k : Keyword) (words : List (List ℕ)) → AreDefinitions d → defined limit d k words ≡ Ok e → AreDefinitions e
-defined_without_fault limit d e k words are h =
+-- what a line makes of definitions without a fault: they have none, nothing is lost, and there is room for them
+pub record Grown (limit : ℕ) (d e : Definitions) : Type 0 where
+  pub without_fault : AreDefinitions e
+  pub longer : canonical_size d ≤ canonical_size e
+  pub room : canonical_size e ≤ limit
+
+pub defined_grows : (limit : ℕ) (d e : Definitions) (k : Keyword) (words : List (List ℕ)) → AreDefinitions d → defined limit d k words ≡ Ok e → Grown limit d e
+defined_grows limit d e k words are h =
     let names = names_on d.set_names words in
     let more = names_on-more d.set_names words in
     let o = definition_of names k words in
     let found = with_none limit d names o e h in
     let x = found.0 in
     let over = or_parts (is_line_over_limit limit d (length (definition_text names x))) (is_one_too_many d x) found.2 in
-    let added = may_be_added limit d names more.0 o x (length (definition_text names x)) more.1 are (form names k words x found.1)
+    let may = may_be_added limit d names more.0 o x (length (definition_text names x)) more.1 are (form names k words x found.1)
     (record { read = found.1; size = refl; line = over.0; count = over.1 }) found.3 found.4 found.5 in
-    subst AreDefinitions found.6 added.without_fault
+    let size : canonical_size e ≡ canonical_size d + (length (definition_text d.set_names x) + 1) = ap canonical_size (sym found.6) ∙ canonical_size-added d x are in
+    record {
+      without_fault = subst AreDefinitions found.6 may.without_fault;
+      longer = omega (arith, size);
+      room = omega (arith, size, may.size, may.room);
+    }
+
+-- ---- demands come by their keywords alone
+
+abbrev IsNoDemand : Definition → Type 0
+IsNoDemand (definition.Tag name) = Unit {0}
+IsNoDemand (definition.Set name spans) = Unit {0}
+IsNoDemand (definition.Rule name contexts) = Unit {0}
+IsNoDemand (definition.Demand kind p) = ⊥
+
+tag_is_none : (words : List (List ℕ)) (x : Definition) → tag_in words ≡ Some x → IsNoDemand x
+tag_is_none [] x e = absurd (cc)
+tag_is_none (name ∷ []) x e =
+    let parts = if_true (is_name name) (Some (definition.Tag name)) x e in
+    let same : definition.Tag name ≡ x = let some = parts.1 in cc in
+    subst IsNoDemand same tt
+tag_is_none (name ∷ word ∷ words) x e = absurd (cc)
+
+set_is_none : (words : List (List ℕ)) (x : Definition) → set_in words ≡ Some x → IsNoDemand x
+set_is_none [] x e = absurd (cc)
+set_is_none (name ∷ words) x e =
+    let read = mapped (definition.Set name) (spans_in words) x (if_true (is_name name) (option_map (definition.Set name) (spans_in words)) x e).1 in
+    subst IsNoDemand read.2 tt
+
+rule_is_none : (names words : List (List ℕ)) (x : Definition) → rule_in names words ≡ Some x → IsNoDemand x
+rule_is_none names [] x e = absurd (cc)
+rule_is_none names (name ∷ words) x e =
+    let read = mapped (definition.Rule name) (contexts_in names words) x (if_true (is_name name) (option_map (definition.Rule name) (contexts_in names words)) x e).1 in
+    subst IsNoDemand read.2 tt
+
+-- neither '%never' nor '%always'
+abbrev pub NamesNoDemand : Keyword → Type 0
+NamesNoDemand keyword.Tag = Unit {0}
+NamesNoDemand keyword.Set = Unit {0}
+NamesNoDemand keyword.Rule = Unit {0}
+NamesNoDemand keyword.Never = ⊥
+NamesNoDemand keyword.Always = ⊥
+
+is_none : (names : List (List ℕ)) (k : Keyword) (words : List (List ℕ)) (x : Definition) → NamesNoDemand k → definition_of names k words ≡ Some x → IsNoDemand x
+is_none names keyword.Tag words x k e = tag_is_none words x e
+is_none names keyword.Set words x k e = set_is_none words x e
+is_none names keyword.Rule words x k e = rule_is_none names words x e
+is_none names keyword.Never words x k e = absurd k
+is_none names keyword.Always words x k e = absurd k
+
+demands_of_added : (d : Definitions) (x : Definition) → IsNoDemand x → (added d x).demands ≡ d.demands
+demands_of_added d (definition.Tag name) n = refl
+demands_of_added d (definition.Set name spans) n = refl
+demands_of_added d (definition.Rule name contexts) n = refl
+demands_of_added d (definition.Demand kind p) n = absurd n
+
+pub demands_stay : (limit : ℕ) (d e : Definitions) (k : Keyword) (words : List (List ℕ)) → NamesNoDemand k → defined limit d k words ≡ Ok e → e.demands ≡ d.demands
+demands_stay limit d e k words n h =
+    let names = names_on d.set_names words in
+    let found = with_none limit d names (definition_of names k words) e h in
+    ap (λ f. f.demands) (sym found.6) ∙ demands_of_added d found.0 (is_none names k words found.0 n found.1)
+
+-- ---- a demand stays
+
+more_demands : (d : Definitions) (x : Definition) → length d.demands ≤ length (added d x).demands
+more_demands d (definition.Tag name) = omega arith
+more_demands d (definition.Set name spans) = omega arith
+more_demands d (definition.Rule name contexts) = omega arith
+more_demands d (definition.Demand kind p) = omega (arith, length-append d.demands (record { kind = kind; pattern = p } ∷ []))
+
+pub demands_grow : (limit : ℕ) (d e : Definitions) (k : Keyword) (words : List (List ℕ)) → defined limit d k words ≡ Ok e → length d.demands ≤ length e.demands
+demands_grow limit d e k words h =
+    let names = names_on d.set_names words in
+    let found = with_none limit d names (definition_of names k words) e h in
+    omega (arith, more_demands d found.0, ap (λ f. length f.demands) found.6)
+
+-- where there is none, none was defined
+some_demand : (limit : ℕ) (d e : Definitions) (kind : DemandKind) (p : Pattern) → added d (definition.Demand kind p) ≡ e → 0 < length e.demands
+some_demand limit d e kind p is = omega (arith, ap (λ f. length f.demands) is, length-append d.demands (record { kind = kind; pattern = p } ∷ []))
+
+pub without_demands : (limit : ℕ) (d e : Definitions) (k : Keyword) (words : List (List ℕ)) → defined limit d k words ≡ Ok e → length e.demands ≡ 0 → NamesNoDemand k
+without_demands limit d e keyword.Tag words h none = tt
+without_demands limit d e keyword.Set words h none = tt
+without_demands limit d e keyword.Rule words h none = tt
+without_demands limit d e keyword.Never words h none =
+    let names = names_on d.set_names words in
+    let found = with_none limit d names (definition_of names keyword.Never words) e h in
+    let read = mapped (definition.Demand demand.Never) (demand_in names words) found.0 found.1 in
+    omega (arith, none, some_demand limit d e demand.Never read.0 (ap (added d) read.2 ∙ found.6))
+without_demands limit d e keyword.Always words h none =
+    let names = names_on d.set_names words in
+    let found = with_none limit d names (definition_of names keyword.Always words) e h in
+    let read = mapped (definition.Demand demand.Always) (demand_in names words) found.0 found.1 in
+    omega (arith, none, some_demand limit d e demand.Always read.0 (ap (added d) read.2 ∙ found.6))

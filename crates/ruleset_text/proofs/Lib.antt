@@ -11,13 +11,13 @@ mod TextLemmas
 mod BackLemmas
 mod SpanTextLemmas
 mod KnownSetLemmas
-mod AddedLemmas
+pub mod AddedLemmas
 mod FormLemmas
 mod DefineLemmas
 mod SpanBackLemmas
 mod LineBackLemmas
-mod DefinitionsBackLemmas
-mod DefinedLemmas
+pub mod DefinitionsBackLemmas
+pub mod DefinedLemmas
 mod KnownPatternLemmas
 mod EntryLemmas
 mod EntryStateLemmas
@@ -25,3 +25,5 @@ mod EntryReadLemmas
 mod EntrySpelledLemmas
 pub mod EntryExactLemmas
 pub mod EntryBackLemmas
+pub mod DefinitionsTextLemmas
+pub mod LineBytes

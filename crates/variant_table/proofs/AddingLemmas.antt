@@ -9,6 +9,7 @@ use Rattle.variant_table.specs.declared.fault.TableFault.{TableFault}
 use Rattle.variant_table.specs.declared.fault.TableFault.TheVariants as tables
 use Rattle.variant_table.specs.declared.version.Version.{Version}
 use Rattle.variant_table.specs.declared.version.Version.TheVariants.{One, Two, Three}
+use Rattle.ruleset_text.specs.Definitions.{Definitions, definitions_text}
 use Rattle.variant_table.specs.Faults.{LineFault, Limit, BadClass, SameSource}
 use Rattle.variant_table.specs.Canonical.{canonical_line, canonical_text, head_text, table_text}
 use Rattle.variant_table.specs.Conditions.{is_too_large, is_text_too_long, is_over_limit, has_bad_class, has_source_in}
@@ -29,6 +30,8 @@ fails_then number (tables.Syntax line) r f h = (h.0, ap (λ x. x >>= f) h.1)
 fails_then number (tables.BadClass line) r f h = (h.0, ap (λ x. x >>= f) h.1)
 fails_then number (tables.SameVariant line) r f h = (h.0, ap (λ x. x >>= f) h.1)
 fails_then number (tables.SameSource line) r f h = (h.0, ap (λ x. x >>= f) h.1)
+fails_then number (tables.NoSuchName line) r f h = (h.0, ap (λ x. x >>= f) h.1)
+fails_then number (tables.SameName line) r f h = (h.0, ap (λ x. x >>= f) h.1)
 
 -- ---- the bytes that are counted
 
@@ -37,65 +40,67 @@ counted-append One a b = refl
 counted-append Two a b = length-append a b
 counted-append Three a b = length-append a b
 
-counted-more : (v : Version) (t es : List Entry) → counted v (table_text v (t ++ es)) ≡ counted v (table_text v t) + counted v (canonical_text es)
-counted-more v t es =
+counted-more : (v : Version) (d : Definitions) (t es : List Entry) → counted v (table_text v d (t ++ es)) ≡ counted v (table_text v d t) + counted v (canonical_text es)
+counted-more v d t es =
     let cut : canonical_text (t ++ es) ≡ canonical_text t ++ canonical_text es = flat_map-append (λ e. canonical_line e ++ 10 ∷ []) t es in
     omega (
       arith,
-      counted-append v (head_text v) (canonical_text (t ++ es)),
+      counted-append v (head_text v) (definitions_text d ++ canonical_text (t ++ es)),
+      counted-append v (definitions_text d) (canonical_text (t ++ es)),
       ap (counted v) cut,
       counted-append v (canonical_text t) (canonical_text es),
-      counted-append v (head_text v) (canonical_text t),
+      counted-append v (head_text v) (definitions_text d ++ canonical_text t),
+      counted-append v (definitions_text d) (canonical_text t),
     )
 
-too_long-counted : (v : Version) (t : List Entry) (n : ℕ) → n ≡ counted v (table_text v t) → is_text_too_long v t ≡ nat_lt (text_limit v) n
-too_long-counted One t n e = sym (ap (nat_lt 1048576) e)
-too_long-counted Two t n e = sym (ap (nat_lt 1048576) e)
-too_long-counted Three t n e = sym (ap (nat_lt 8388608) e)
+too_long-counted : (v : Version) (d : Definitions) (t : List Entry) (n : ℕ) → n ≡ counted v (table_text v d t) → is_text_too_long v d t ≡ nat_lt (text_limit v) n
+too_long-counted One d t n e = sym (ap (nat_lt 1048576) e)
+too_long-counted Two d t n e = sym (ap (nat_lt 1048576) e)
+too_long-counted Three d t n e = sym (ap (nat_lt 8388608) e)
 
 -- so many bytes of canonical text with the entries
-module _ (v : Version) (t es : List Entry) (written more : ℕ) (so_far : IsCounted v written t) (added : more ≡ counted v (canonical_text es)) where
-  all_counted : written + more ≡ counted v (table_text v (t ++ es))
-  all_counted = omega (arith, so_far.count, added, counted-more v t es)
+module _ (v : Version) (d : Definitions) (t es : List Entry) (written more : ℕ) (so_far : IsCounted v d written t) (added : more ≡ counted v (canonical_text es)) where
+  all_counted : written + more ≡ counted v (table_text v d (t ++ es))
+  all_counted = omega (arith, so_far.count, added, counted-more v d t es)
 
-  pub counted_with : written + more ≤ text_limit v → IsCounted v (written + more) (t ++ es)
+  pub counted_with : written + more ≤ text_limit v → IsCounted v d (written + more) (t ++ es)
   counted_with l = record { count = all_counted; within = l }
 
   -- the limits, where no entry is too large
-  over_limit-is : list_any is_too_large es ≡ false → length t + length es ≤ entry_limit v → is_over_limit v t es ≡ nat_lt (text_limit v) (written + more)
+  over_limit-is : list_any is_too_large es ≡ false → length t + length es ≤ entry_limit v → is_over_limit v d t es ≡ nat_lt (text_limit v) (written + more)
   over_limit-is small few =
-      ap (λ b. (b || list_any is_too_large es) || is_text_too_long v (t ++ es)) (le-ltb (entry_limit v) (length t + length es) few)
-      ∙ ap (λ b. b || is_text_too_long v (t ++ es)) small ∙ too_long-counted v (t ++ es) (written + more) all_counted
+      ap (λ b. (b || list_any is_too_large es) || is_text_too_long v d (t ++ es)) (le-ltb (entry_limit v) (length t + length es) few)
+      ∙ ap (λ b. b || is_text_too_long v d (t ++ es)) small ∙ too_long-counted v d (t ++ es) (written + more) all_counted
 
 -- ---- the entries of a range
 
-module _ (v : Version) (t : List Entry) (o : Bool) (first count : ℕ) where
-  range_by : (over b : Bool) → is_over_limit v t (points_from o first count) ≡ over → list_any has_bad_class (points_from o first count) ≡ b
-      → with_entries v t (points_from o first count) ≡ cond over (Err Limit) (cond b (Err BadClass) (with_new_sources t (points_from o first count)))
+module _ (v : Version) (d : Definitions) (t : List Entry) (o : Bool) (first count : ℕ) where
+  range_by : (over b : Bool) → is_over_limit v d t (points_from o first count) ≡ over → list_any has_bad_class (points_from o first count) ≡ b
+      → with_entries v d t (points_from o first count) ≡ cond over (Err Limit) (cond b (Err BadClass) (with_new_sources t (points_from o first count)))
   range_by over b e f =
-      with_entries-by v t (points_from o first count) over b false (list_any (has_source_in t) (points_from o first count)) e f (range_single o first count) refl
+      with_entries-by v d t (points_from o first count) over b false (list_any (has_source_in t) (points_from o first count)) e f (range_single o first count) refl
       ∙ ap (λ r. cond over (Err Limit) (cond b (Err BadClass) r)) (sym (with_range o t first count))
 
-  pub range_too_many : entry_limit v < length t + count → with_entries v t (points_from o first count) ≡ Err Limit
+  pub range_too_many : entry_limit v < length t + count → with_entries v d t (points_from o first count) ≡ Err Limit
   range_too_many l =
-      range_by true _ (ap (λ b. (b || list_any is_too_large (points_from o first count)) || is_text_too_long v (t ++ points_from o first count))
+      range_by true _ (ap (λ b. (b || list_any is_too_large (points_from o first count)) || is_text_too_long v d (t ++ points_from o first count))
       (lt-ltb (entry_limit v) (length t + length (points_from o first count)) (omega (arith, l, length-map-range_with_len (point_entry o) first count)))) refl
 
-module _ (v : Version) (t : List Entry) (o : Bool) (first count written more : ℕ) (so_far : IsCounted v written t) (added : more ≡ counted v (canonical_text (points_from o first count))) (few : length t + count ≤ entry_limit v) where
-  range_limit-is : is_over_limit v t (points_from o first count) ≡ nat_lt (text_limit v) (written + more)
-  range_limit-is = over_limit-is v t (points_from o first count) written more so_far added (range_small o first count) (omega (arith, few, length-map-range_with_len (point_entry o) first count))
+module _ (v : Version) (d : Definitions) (t : List Entry) (o : Bool) (first count written more : ℕ) (so_far : IsCounted v d written t) (added : more ≡ counted v (canonical_text (points_from o first count))) (few : length t + count ≤ entry_limit v) where
+  range_limit-is : is_over_limit v d t (points_from o first count) ≡ nat_lt (text_limit v) (written + more)
+  range_limit-is = over_limit-is v d t (points_from o first count) written more so_far added (range_small o first count) (omega (arith, few, length-map-range_with_len (point_entry o) first count))
 
-  pub range_too_long : text_limit v < written + more → with_entries v t (points_from o first count) ≡ Err Limit
-  range_too_long l = range_by v t o first count true _ (range_limit-is ∙ lt-ltb (text_limit v) (written + more) l) refl
+  pub range_too_long : text_limit v < written + more → with_entries v d t (points_from o first count) ≡ Err Limit
+  range_too_long l = range_by v d t o first count true _ (range_limit-is ∙ lt-ltb (text_limit v) (written + more) l) refl
 
-  pub range_bad : written + more ≤ text_limit v → list_any has_bad_class (points_from o first count) ≡ true → with_entries v t (points_from o first count) ≡ Err BadClass
-  range_bad l b = range_by v t o first count false true (range_limit-is ∙ le-ltb (text_limit v) (written + more) l) b
+  pub range_bad : written + more ≤ text_limit v → list_any has_bad_class (points_from o first count) ≡ true → with_entries v d t (points_from o first count) ≡ Err BadClass
+  range_bad l b = range_by v d t o first count false true (range_limit-is ∙ le-ltb (text_limit v) (written + more) l) b
 
-  pub range_good : written + more ≤ text_limit v → list_any has_bad_class (points_from o first count) ≡ false → with_entries v t (points_from o first count) ≡ with_new_sources t (points_from o first count)
-  range_good l b = range_by v t o first count false false (range_limit-is ∙ le-ltb (text_limit v) (written + more) l) b
+  pub range_good : written + more ≤ text_limit v → list_any has_bad_class (points_from o first count) ≡ false → with_entries v d t (points_from o first count) ≡ with_new_sources t (points_from o first count)
+  range_good l b = range_by v d t o first count false false (range_limit-is ∙ le-ltb (text_limit v) (written + more) l) b
 
-  pub range_added : written + more ≤ text_limit v → (t' : List Entry) → with_new_sources t (points_from o first count) ≡ Ok t' → IsCounted v (written + more) t'
-  range_added l t' e = subst (IsCounted v (written + more)) (sym (new_table (list_any (has_source_in t) (points_from o first count)) t' (sym (with_range o t first count) ∙ e))) (counted_with v t (points_from o first count) written more so_far added l)
+  pub range_added : written + more ≤ text_limit v → (t' : List Entry) → with_new_sources t (points_from o first count) ≡ Ok t' → IsCounted v d (written + more) t'
+  range_added l t' e = subst (IsCounted v d (written + more)) (sym (new_table (list_any (has_source_in t) (points_from o first count)) t' (sym (with_range o t first count) ∙ e))) (counted_with v d t (points_from o first count) written more so_far added l)
     where
       new_table : (b : Bool) (t' : List Entry) → cond b (Err SameSource) (Ok (t ++ points_from o first count)) ≡ Ok t' → t' ≡ t ++ points_from o first count
       new_table true t' h = absurd cc

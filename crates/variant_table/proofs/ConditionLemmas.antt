@@ -25,6 +25,7 @@ use Rattle.variant_table.specs.Limits.{entry_limit}
 use Rattle.variant_table.specs.Ranges.{point_entry, range_size}
 use Rattle.variant_table.specs.Conditions.{is_too_large, is_text_too_long, is_over_limit, has_bad_point, has_bad_class, repeats, has_repeat, has_source_in}
 use Rattle.variant_table.specs.Reading.{with_entries}
+use Rattle.ruleset_text.specs.Definitions.{Definitions}
 use Rattle.variant_table.proofs.ExampleLemmas.{with_entries-by}
 use Rattle.ruleset_text.specs.Entries.{Mapped}
 use Rattle.ruleset_text.specs.EntryText.{IsSequence, IsMapped, IsForm}
@@ -283,26 +284,26 @@ new_spelled v t line es h k = subst (AreNewSources t) (sym h.3) (new_form t h.0.
 
 -- ---- a line without a fault
 
-pub record Sound (v : Version) (t t' es : List Entry) : Type 0 where
+pub record Sound (v : Version) (d : Definitions) (t t' es : List Entry) : Type 0 where
   pub is : t' ≡ t ++ es
   pub sound : AllByRecursion IsEntry es
   pub of_version : AllByRecursion (IsOfVersion v) es
   pub new : AreNewSources t es
   pub few : length t + length es ≤ entry_limit v
-  pub fits : is_text_too_long v (t ++ es) ≡ false
+  pub fits : is_text_too_long v d (t ++ es) ≡ false
 
-sound_by : (v : Version) (t t' es : List Entry) → AllByRecursion HasNoEmptySequence es → AllByRecursion (IsOfVersion v) es → (list_any (has_source_in t) es ≡ false → AreNewSources t es)
-    → with_entries v t es ≡ Ok t' → Sound v t t' es
-sound_by v t t' es filled of new e = by_cases _ _ _ _ refl refl refl refl (sym (with_entries-by v t es _ _ _ _ refl refl refl refl) ∙ e)
+sound_by : (v : Version) (d : Definitions) (t t' es : List Entry) → AllByRecursion HasNoEmptySequence es → AllByRecursion (IsOfVersion v) es → (list_any (has_source_in t) es ≡ false → AreNewSources t es)
+    → with_entries v d t es ≡ Ok t' → Sound v d t t' es
+sound_by v d t t' es filled of new e = by_cases _ _ _ _ refl refl refl refl (sym (with_entries-by v d t es _ _ _ _ refl refl refl refl) ∙ e)
   where
-    by_cases : (o b r s : Bool) → is_over_limit v t es ≡ o → list_any has_bad_class es ≡ b → list_any has_repeat es ≡ r → list_any (has_source_in t) es ≡ s
-        → cond o (Err Limit) (cond b (Err BadClass) (cond r (Err SameVariant) (cond s (Err SameSource) (Ok (t ++ es))))) ≡ Ok t' → Sound v t t' es
+    by_cases : (o b r s : Bool) → is_over_limit v d t es ≡ o → list_any has_bad_class es ≡ b → list_any has_repeat es ≡ r → list_any (has_source_in t) es ≡ s
+        → cond o (Err Limit) (cond b (Err BadClass) (cond r (Err SameVariant) (cond s (Err SameSource) (Ok (t ++ es))))) ≡ Ok t' → Sound v d t t' es
     by_cases true b r s f g i j k = absurd cc
     by_cases false true r s f g i j k = absurd cc
     by_cases false false true s f g i j k = absurd cc
     by_cases false false false true f g i j k = absurd cc
     by_cases false false false false f g i j k =
-        let p = or_parts (nat_lt (entry_limit v) (length t + length es) || list_any is_too_large es) (is_text_too_long v (t ++ es)) f in
+        let p = or_parts (nat_lt (entry_limit v) (length t + length es) || list_any is_too_large es) (is_text_too_long v d (t ++ es)) f in
         let q = or_parts (nat_lt (entry_limit v) (length t + length es)) (list_any is_too_large es) p.0 in
         record {
           is = cc;
@@ -313,5 +314,5 @@ sound_by v t t' es filled of new e = by_cases _ _ _ _ refl refl refl refl (sym (
           fits = p.1;
         }
 
-pub sound_spelled : (v : Version) (t t' : List Entry) (line : List ℕ) (es : List Entry) → SpellsEntries v line es → with_entries v t es ≡ Ok t' → Sound v t t' es
-sound_spelled v t t' line es h e = sound_by v t t' es (filled_spelled v line es h) (version_spelled v line es h) (new_spelled v t line es h) e
+pub sound_spelled : (v : Version) (d : Definitions) (t t' : List Entry) (line : List ℕ) (es : List Entry) → SpellsEntries v line es → with_entries v d t es ≡ Ok t' → Sound v d t t' es
+sound_spelled v d t t' line es h e = sound_by v d t t' es (filled_spelled v line es h) (version_spelled v line es h) (new_spelled v t line es h) e

@@ -12,12 +12,13 @@ use Rattle.variant_table.specs.Ranges.{point_entry, range_entries, point_variant
 use Rattle.variant_table.specs.Conditions.{is_over_limit, has_bad_class, has_bad_point, has_repeat, has_source_in}
 use Rattle.variant_table.specs.Reading.{with_entries}
 use Rattle.ruleset_text.specs.Canonical.{point_text}
+use Rattle.ruleset_text.specs.Definitions.{Definitions, nothing_defined}
 
 -- entries by their tests
-pub with_entries-by : (v : Version) (t es : List Entry) (o b r s : Bool) → is_over_limit v t es ≡ o → list_any has_bad_class es ≡ b → list_any has_repeat es ≡ r → list_any (has_source_in t) es ≡ s
-    → with_entries v t es ≡ cond o (Err Limit) (cond b (Err BadClass) (cond r (Err SameVariant) (cond s (Err SameSource) (Ok (t ++ es)))))
+pub with_entries-by : (v : Version) (d : Definitions) (t es : List Entry) (o b r s : Bool) → is_over_limit v d t es ≡ o → list_any has_bad_class es ≡ b → list_any has_repeat es ≡ r → list_any (has_source_in t) es ≡ s
+    → with_entries v d t es ≡ cond o (Err Limit) (cond b (Err BadClass) (cond r (Err SameVariant) (cond s (Err SameSource) (Ok (t ++ es)))))
 unfolding with_entries
-with_entries-by v t es o b r s f g h i =
+with_entries-by v d t es o b r s f g h i =
     ap (λ x. cond x (Err Limit) (cond (list_any has_bad_class es) (Err BadClass) (cond (list_any has_repeat es) (Err SameVariant) (cond (list_any (has_source_in t) es) (Err SameSource) (Ok (t ++ es)))))) f
     ∙ ap (λ x. cond o (Err Limit) (cond x (Err BadClass) (cond (list_any has_repeat es) (Err SameVariant) (cond (list_any (has_source_in t) es) (Err SameSource) (Ok (t ++ es)))))) g
     ∙ ap (λ x. cond o (Err Limit) (cond b (Err BadClass) (cond x (Err SameVariant) (cond (list_any (has_source_in t) es) (Err SameSource) (Ok (t ++ es)))))) h
@@ -65,18 +66,18 @@ bad-5A : has_bad_point (0x5A ∷ []) ≡ true
 unfolding in_table
 bad-5A = disallowed 0x5A (class_of-in_table 0x5A Disallowed refl)
 
-pub with_entries-capital : with_entries One [] (point_entry false 0x41 ∷ []) ≡ Err BadClass
+pub with_entries-capital : with_entries One nothing_defined [] (point_entry false 0x41 ∷ []) ≡ Err BadClass
 unfolding point_text
-with_entries-capital = with_entries-by One [] (point_entry false 0x41 ∷ []) false true false false refl (rw bad-41) refl refl
+with_entries-capital = with_entries-by One nothing_defined [] (point_entry false 0x41 ∷ []) false true false false refl (rw bad-41) refl refl
 
-pub with_entries-own_variant : with_entries One [] (letter (point_variant false 0x61 ∷ []) ∷ []) ≡ Err SameVariant
-with_entries-own_variant = with_entries-by One [] (letter (point_variant false 0x61 ∷ []) ∷ []) false false true false refl (rw good-61) refl refl
+pub with_entries-own_variant : with_entries One nothing_defined [] (letter (point_variant false 0x61 ∷ []) ∷ []) ≡ Err SameVariant
+with_entries-own_variant = with_entries-by One nothing_defined [] (letter (point_variant false 0x61 ∷ []) ∷ []) false false true false refl (rw good-61) refl refl
 
-pub with_entries-letter : with_entries One [] (letter [] ∷ []) ≡ Ok (letter [] ∷ [])
-with_entries-letter = with_entries-by One [] (letter [] ∷ []) false false false false refl (rw good-61) refl refl
+pub with_entries-letter : with_entries One nothing_defined [] (letter [] ∷ []) ≡ Ok (letter [] ∷ [])
+with_entries-letter = with_entries-by One nothing_defined [] (letter [] ∷ []) false false false false refl (rw good-61) refl refl
 
-pub with_entries-letter_again : with_entries One (letter [] ∷ []) (letter [] ∷ []) ≡ Err SameSource
-with_entries-letter_again = with_entries-by One (letter [] ∷ []) (letter [] ∷ []) false false false true refl (rw good-61) refl refl
+pub with_entries-letter_again : with_entries One nothing_defined (letter [] ∷ []) (letter [] ∷ []) ≡ Err SameSource
+with_entries-letter_again = with_entries-by One nothing_defined (letter [] ∷ []) (letter [] ∷ []) false false false true refl (rw good-61) refl refl
 
 -- ---- version 2
 
@@ -90,26 +91,26 @@ last_letter = record { source = 0x78 ∷ []; outside = false; variants = point_v
 good-three : list_any has_bad_class three ≡ false
 good-three = rw good-61 (rw good-62 (rw good-63 refl))
 
-pub with_entries-range : with_entries Two [] three ≡ Ok three
+pub with_entries-range : with_entries Two nothing_defined [] three ≡ Ok three
 unfolding point_text
-with_entries-range = with_entries-by Two [] three false false false false refl good-three refl refl
+with_entries-range = with_entries-by Two nothing_defined [] three false false false false refl good-three refl refl
 
-pub with_entries-blocked : with_entries Two three (last_letter ∷ []) ≡ Ok (three ++ last_letter ∷ [])
+pub with_entries-blocked : with_entries Two nothing_defined three (last_letter ∷ []) ≡ Ok (three ++ last_letter ∷ [])
 unfolding point_text
-with_entries-blocked = with_entries-by Two three (last_letter ∷ []) false false false false refl (rw good-78 (rw good-79 (rw good-7A refl))) refl refl
+with_entries-blocked = with_entries-by Two nothing_defined three (last_letter ∷ []) false false false false refl (rw good-78 (rw good-79 (rw good-7A refl))) refl refl
 
-pub with_entries-marked_twice : with_entries Two [] (letter (point_variant false 0x62 ∷ point_variant true 0x62 ∷ []) ∷ []) ≡ Err SameVariant
+pub with_entries-marked_twice : with_entries Two nothing_defined [] (letter (point_variant false 0x62 ∷ point_variant true 0x62 ∷ []) ∷ []) ≡ Err SameVariant
 unfolding point_text
-with_entries-marked_twice = with_entries-by Two [] (letter (point_variant false 0x62 ∷ point_variant true 0x62 ∷ []) ∷ []) false false true false refl (rw good-61 (rw good-62 refl)) refl refl
+with_entries-marked_twice = with_entries-by Two nothing_defined [] (letter (point_variant false 0x62 ∷ point_variant true 0x62 ∷ []) ∷ []) false false true false refl (rw good-61 (rw good-62 refl)) refl refl
 
-pub with_entries-from_capital : with_entries Two [] (range_entries false 0x5A 0x61) ≡ Err BadClass
+pub with_entries-from_capital : with_entries Two nothing_defined [] (range_entries false 0x5A 0x61) ≡ Err BadClass
 unfolding point_text
-with_entries-from_capital = with_entries-by Two [] (range_entries false 0x5A 0x61) false true false false refl (rw bad-5A) refl refl
+with_entries-from_capital = with_entries-by Two nothing_defined [] (range_entries false 0x5A 0x61) false true false false refl (rw bad-5A) refl refl
 
-pub with_entries-b : with_entries Two [] (point_entry false 0x62 ∷ []) ≡ Ok (point_entry false 0x62 ∷ [])
+pub with_entries-b : with_entries Two nothing_defined [] (point_entry false 0x62 ∷ []) ≡ Ok (point_entry false 0x62 ∷ [])
 unfolding point_text
-with_entries-b = with_entries-by Two [] (point_entry false 0x62 ∷ []) false false false false refl (rw good-62) refl refl
+with_entries-b = with_entries-by Two nothing_defined [] (point_entry false 0x62 ∷ []) false false false false refl (rw good-62) refl refl
 
-pub with_entries-b_again : with_entries Two (point_entry false 0x62 ∷ []) three ≡ Err SameSource
+pub with_entries-b_again : with_entries Two nothing_defined (point_entry false 0x62 ∷ []) three ≡ Err SameSource
 unfolding point_text
-with_entries-b_again = with_entries-by Two (point_entry false 0x62 ∷ []) three false false false true refl good-three refl refl
+with_entries-b_again = with_entries-by Two nothing_defined (point_entry false 0x62 ∷ []) three false false false true refl good-three refl refl

@@ -1,137 +1,99 @@
 -- Lines without a fault are read as what they spell, and other lines up to the first faulty one.
-use Rattle.std.proofs.Common.{◌≡◌, ◌⊎◌, inl, inr, ℕ, suc, Option, Some, None, ◌+◌, ◌≤◌, Bool, true, false, ◌||◌, cond, List, [], ◌∷◌, ◌++◌, length, Result, Ok, Err, refl, sym, ap, subst, ◌∙◌, arith, append_assoc, length-append}
+use Rattle.std.proofs.Common.{◌≡◌, ◌⊎◌, inl, inr, ℕ, suc, Option, Some, None, ◌+◌, ◌-◌, ◌≤◌, Bool, true, false, ◌||◌, cond, List, [], ◌∷◌, ◌++◌, length, Result, Ok, Err, refl, sym, ap, subst, ◌∙◌, arith, append_assoc, length-append}
 use Rattle.std.specs.Prelude.{nat_lt, bytes_eq}
-use Rattle.std.specs.List.{AllByRecursion, list_any}
+use Rattle.std.specs.List.{All, AllByRecursion, list_any}
 use Rattle.std.specs.Str.Lines.{strip_carriage_return}
-use Rattle.std.proofs.lemmas.Bool.{ltb-false, le-ltb, or_parts, or_from}
+use Rattle.std.proofs.lemmas.Bool.{ltb-false, le-ltb, or_parts, or_from, false_from_ne_true}
 use Rattle.std.proofs.lemmas.List.{append-nil}
 use Rattle.std.proofs.lemmas.List.Concat.{flat_map-append}
 use Rattle.std.proofs.lemmas.List.Elements.{All-from_recursion, recursion_from_All}
 use Rattle.std.proofs.lemmas.Slice.Eq.{bytes_eq-Decides}
 use Rattle.idn_text.specs.Lines.{raw_lines}
+use Rattle.ruleset_text.specs.declared.fault.DefinitionFault.{DefinitionFault}
+use Rattle.ruleset_text.specs.declared.keyword.Keyword.{Keyword}
+use Rattle.ruleset_text.specs.declared.keyword.Keyword.TheVariants as keyword
+use Rattle.ruleset_text.specs.Definition.{keyword_of}
+use Rattle.ruleset_text.specs.Definitions.{Definitions, canonical_size, defined, definitions_text, nothing_defined}
+use Rattle.ruleset_text.specs.Lexemes.{lexemes}
+use Rattle.ruleset_text.specs.WellFormed.{AreDefinitions}
+use Rattle.ruleset_text.proofs.AddedLemmas.{nothing_counted}
+use Rattle.ruleset_text.proofs.DefinedLemmas.{Grown, defined_grows, NamesNoDemand, demands_stay}
+use Rattle.ruleset_text.proofs.DefinitionsTextLemmas.{length-definitions_text}
 use Rattle.variant_table.specs.Faults.{LineFault, Limit, Syntax}
 use Rattle.variant_table.specs.declared.version.Notation.{Notation}
 use Rattle.variant_table.specs.declared.version.Notation.TheVariants.{Table, Ruleset}
 use Rattle.variant_table.specs.declared.version.Version.{Version}
 use Rattle.variant_table.specs.declared.version.Version.TheVariants.{One, Two, Three}
-use Rattle.variant_table.specs.Entries.{Entry, IsOfVersion, TableValue}
+use Rattle.variant_table.specs.DefinitionLines.{if_read, with_behind, keyword_in, room_for_definitions, Defines}
+use Rattle.variant_table.specs.Entries.{Entry, IsOfVersion, TableValue, empty_table}
 use Rattle.variant_table.specs.Canonical.{canonical_line, canonical_text, head_text, table_text, version_line}
 use Rattle.variant_table.specs.Limits.{line_limit, text_limit, entry_limit}
 use Rattle.variant_table.specs.Versions.{version_of, head_of, body_of, size_of, is_version_line}
-use Rattle.variant_table.specs.WellFormed.{IsEntry, IsWellFormed, IsTable}
+use Rattle.variant_table.specs.WellFormed.{AreOfVersion, IsEntry, IsWellFormed, IsTable}
 use Rattle.variant_table.specs.Conditions.{is_too_long, is_too_large, is_text_too_long, has_bad_class, has_repeat, has_source_in}
-use Rattle.variant_table.specs.Texts.{LineSpells, LinesSpell, AreLinesOf, IsTextOf}
-use Rattle.variant_table.specs.Reading.{◌>>=◌, in_line, with_entries, with_line, with_raw_line, with_lines, table_from, table_in, table_of_lines, table_of_text}
-use Rattle.variant_table.proofs.FormLemmas.{skipped, of_entries, formless, form_of, with_line-skipped, with_line-entries, with_line-formless, LineSpells-skipped, none, some, spelling_of}
+use Rattle.variant_table.specs.Forms.{SpellsEntries}
+use Rattle.variant_table.specs.Texts.{LineSpells, LineAdds, LinesSpell, AreLinesOf, IsTextOf}
+use Rattle.variant_table.specs.Reading.{◌>>=◌, is_skipped, in_line, defining, with_definition, with_entries, with_entries_of, with_line, with_raw_line, with_lines, table_in, table_of_lines, table_of_text}
+use Rattle.variant_table.proofs.FormLemmas.{skipped, defines, of_entries, formless, form_of, with_line-skipped, with_line-defines, with_line-entries, with_line-formless, skipped-no_definition, LineSpells-skipped, none, some, spelling_of}
 use Rattle.variant_table.proofs.ConditionLemmas.{small_from_entry, good_from_entry, single_from_entry, AreNewSources, distinct_sources, new_sources, no_sources, sound_spelled}
 use Rattle.variant_table.proofs.ExampleLemmas.{with_entries-by}
 use Rattle.variant_table.proofs.LimitLemmas.{text_limit-least, text_limit-most, entry_limit-most}
-use Rattle.variant_table.proofs.SizeLemmas.{length-stripped, canonical_text_long, size_of-cons}
-
-abbrev pub Whole : Type 0
-Whole = Result (List Entry) (ℕ × LineFault)
+use Rattle.variant_table.proofs.SizeLemmas.{length-stripped, adds_version, canonical_text_long, length-one, size_of-cons}
 
 abbrev pub WholeTable : Type 0
 WholeTable = Result TableValue (ℕ × LineFault)
 
 -- ---- the canonical text is within the limit
 
-length-text : (v : Version) (a b : List Entry) → length (table_text v (a ++ b)) ≡ length (table_text v a) + length (canonical_text b)
-length-text v a b =
+length-text : (v : Version) (d : Definitions) (t : List Entry) → length (table_text v d t) ≡ length (head_text v) + canonical_size d + length (canonical_text t)
+length-text v d t =
+    omega (arith, length-append (head_text v) (definitions_text d ++ canonical_text t), length-append (definitions_text d) (canonical_text t), length-definitions_text d)
+
+length-more : (v : Version) (d : Definitions) (a b : List Entry) → length (table_text v d (a ++ b)) ≡ length (table_text v d a) + length (canonical_text b)
+length-more v d a b =
     let cut : canonical_text (a ++ b) ≡ canonical_text a ++ canonical_text b = flat_map-append (λ e. canonical_line e ++ 10 ∷ []) a b in
-    omega (arith, length-append (head_text v) (canonical_text (a ++ b)), length-append (head_text v) (canonical_text a), ap length cut, length-append (canonical_text a) (canonical_text b))
+    omega (arith, length-text v d (a ++ b), length-text v d a, ap length cut, length-append (canonical_text a) (canonical_text b))
 
--- what is within the limit is so without the last entries
-fits_front : (v : Version) (a b : List Entry) → is_text_too_long v (a ++ b) ≡ false → is_text_too_long v a ≡ false
-fits_front One a b h = refl
-fits_front Two a b h = le-ltb 1048576 (length (table_text Two a)) (omega (arith, ltb-false 1048576 (length (table_text Two (a ++ b))) h, length-text Two a b))
-fits_front Three a b h = le-ltb 8388608 (length (table_text Three a)) (omega (arith, ltb-false 8388608 (length (table_text Three (a ++ b))) h, length-text Three a b))
+-- a text is within the limit if it is no longer than one that is
+fits_shorter : (v : Version) (c d : Definitions) (a b : List Entry) → length (table_text v c a) ≤ length (table_text v d b) → is_text_too_long v d b ≡ false → is_text_too_long v c a ≡ false
+fits_shorter One c d a b l h = refl
+fits_shorter Two c d a b l h = le-ltb 1048576 (length (table_text Two c a)) (omega (arith, l, ltb-false 1048576 (length (table_text Two d b)) h))
+fits_shorter Three c d a b l h = le-ltb 8388608 (length (table_text Three c a)) (omega (arith, l, ltb-false 8388608 (length (table_text Three d b)) h))
 
-fits_within : (v : Version) (es : List Entry) → length (table_text v es) ≤ text_limit v → is_text_too_long v es ≡ false
-fits_within One es l = refl
-fits_within Two es l = le-ltb 1048576 (length (table_text Two es)) l
-fits_within Three es l = le-ltb 8388608 (length (table_text Three es)) l
+fits_within : (v : Version) (d : Definitions) (es : List Entry) → length (table_text v d es) ≤ text_limit v → is_text_too_long v d es ≡ false
+fits_within One d es l = refl
+fits_within Two d es l = le-ltb 1048576 (length (table_text Two d es)) l
+fits_within Three d es l = le-ltb 8388608 (length (table_text Three d es)) l
 
-fits_none : (v : Version) → is_text_too_long v [] ≡ false
+fits_none : (v : Version) → is_text_too_long v nothing_defined [] ≡ false
 fits_none One = refl
 fits_none Two = refl
 fits_none Three = refl
 
-pub fits_table : (table : TableValue) → IsTable table → is_text_too_long table.version table.entries ≡ false
-fits_table table h = fits_within table.version table.entries h.short
+pub fits_table : (table : TableValue) → IsTable table → is_text_too_long table.version table.definitions table.entries ≡ false
+fits_table table h = fits_within table.version table.definitions table.entries h.short
 
--- ---- one line, without a fault
+-- ---- entries behind one another
 
--- a faultless line, what it spells, and what it adds to the table
-pub record Added (v : Version) (bytes : ℕ) (t : List Entry) (line : List ℕ) (entries : List Entry) : Type 0 where
-  pub spelled : LineSpells v (strip_carriage_return line) entries
-  pub short : length line ≤ line_limit v
-  pub within : bytes + length line + 1 ≤ text_limit v
-  pub sound : AllByRecursion IsEntry entries
-  pub of_version : AllByRecursion (IsOfVersion v) entries
-  pub new : AreNewSources t entries
-  pub few : length t ≤ entry_limit v → length t + length entries ≤ entry_limit v
-  pub fits : is_text_too_long v t ≡ false → is_text_too_long v (t ++ entries) ≡ false
+new-append : (t a b : List Entry) → AreNewSources t (a ++ b) → AreNewSources t a × AreNewSources (t ++ a) b
+new-append t [] b h = (tt, subst (λ x. AreNewSources x b) (sym (append-nil t)) h)
+new-append t (e ∷ a) b h =
+    let r = new-append (t ++ e ∷ []) a b h.1 in
+    ((h.0, r.0), subst (λ x. AreNewSources x b) (append_assoc t (e ∷ []) a) r.1)
 
-ok_is : (a b : List Entry) (r : Result (List Entry) LineFault) → r ≡ Ok a → r ≡ Ok b → a ≡ b
-ok_is a b r e f = cc
+new-join : (t a b : List Entry) → AreNewSources t a → AreNewSources (t ++ a) b → AreNewSources t (a ++ b)
+new-join t [] b h k = subst (λ x. AreNewSources x b) (append-nil t) k
+new-join t (e ∷ a) b h k = (h.0, new-join (t ++ e ∷ []) a b h.1 (subst (λ x. AreNewSources x b) (sym (append_assoc t (e ∷ []) a)) k))
 
-pub no_ok : {X : Type 0} (f : LineFault) (b : List Entry) (r : Result (List Entry) LineFault) → r ≡ Err f → r ≡ Ok b → X
-no_ok f b r e g = absurd cc
+all-append : (P : Entry → Type 0) (a b : List Entry) → AllByRecursion P (a ++ b) → AllByRecursion P a × AllByRecursion P b
+all-append P [] b h = (tt, h)
+all-append P (e ∷ a) b h = let r = all-append P a b h.1 in ((h.0, r.0), r.1)
 
-pub raw_line : (v : Version) (bytes : ℕ) (t : List Entry) (line : List ℕ) → is_too_long v bytes line ≡ false → with_raw_line v bytes t line ≡ with_line v t (strip_carriage_return line)
-unfolding with_raw_line
-raw_line v bytes t line h = ap (λ b. cond b (Err Limit) (with_line v t (strip_carriage_return line))) h
+all-join : (P : Entry → Type 0) (a b : List Entry) → AllByRecursion P a → AllByRecursion P b → AllByRecursion P (a ++ b)
+all-join P [] b h k = k
+all-join P (e ∷ a) b h k = (h.0, all-join P a b h.1 k)
 
-pub raw_line-long : (v : Version) (bytes : ℕ) (t : List Entry) (line : List ℕ) → is_too_long v bytes line ≡ true → with_raw_line v bytes t line ≡ Err Limit
-unfolding with_raw_line
-raw_line-long v bytes t line h = ap (λ b. cond b (Err Limit) (with_line v t (strip_carriage_return line))) h
-
-line_step : (v : Version) (bytes : ℕ) (t t' : List Entry) (line : List ℕ) → length line ≤ line_limit v → bytes + length line + 1 ≤ text_limit v → with_line v t (strip_carriage_return line) ≡ Ok t'
-    → (entries : List Entry) × Added v bytes t line entries × (t' ≡ t ++ entries)
-line_step v bytes t t' line l m e = elim (form_of v (strip_carriage_return line)) [
-  | skipped s ↦ (
-    [],
-    record {
-      spelled = LineSpells-skipped v (strip_carriage_return line) s;
-      short = l;
-      within = m;
-      sound = tt;
-      of_version = tt;
-      new = tt;
-      few = λ k. omega (arith, k);
-      fits = λ k. ap (is_text_too_long v) (append-nil t) ∙ k;
-    },
-    ok_is t' t (with_line v t (strip_carriage_return line)) e (with_line-skipped v t (strip_carriage_return line) s) ∙ sym (append-nil t),
-  )
-  | of_entries es h ↦
-      let r = sound_spelled v t t' (strip_carriage_return line) es h (sym (with_line-entries v t (strip_carriage_return line) es h) ∙ e) in (
-        es,
-        record {
-          spelled = inr (inr h);
-          short = l;
-          within = m;
-          sound = r.sound;
-          of_version = r.of_version;
-          new = r.new;
-          few = λ k. r.few;
-          fits = λ k. r.fits;
-        },
-        r.is,
-      )
-  | formless s never ↦ no_ok Syntax t' (with_line v t (strip_carriage_return line)) (with_line-formless v t (strip_carriage_return line) s never) e
-]
-
-pub raw_line_step : (v : Version) (bytes : ℕ) (t t' : List Entry) (line : List ℕ) → with_raw_line v bytes t line ≡ Ok t' → (entries : List Entry) × Added v bytes t line entries × (t' ≡ t ++ entries)
-raw_line_step v bytes t t' line e = by_cases (is_too_long v bytes line) refl
-  where
-    by_cases : (b : Bool) → is_too_long v bytes line ≡ b → (entries : List Entry) × Added v bytes t line entries × (t' ≡ t ++ entries)
-    by_cases true h = no_ok Limit t' (with_raw_line v bytes t line) (raw_line-long v bytes t line h) e
-    by_cases false h =
-        let p = or_parts (nat_lt (line_limit v) (length line)) (nat_lt (text_limit v) (bytes + length line + 1)) h in
-        line_step v bytes t t' line (ltb-false (line_limit v) (length line) p.0) (ltb-false (text_limit v) (bytes + length line + 1) p.1) (sym (raw_line v bytes t line h) ∙ e)
-
--- ---- the other way
+-- ---- entries without a fault
 
 all_small : (es : List Entry) → AllByRecursion IsEntry es → list_any is_too_large es ≡ false
 all_small [] h = refl
@@ -158,174 +120,365 @@ new_any t u (e ∷ es) h =
     or_from (has_source_in t e) (list_any (has_source_in t) es) (source_front t u e h.0)
     (new_any t (u ++ e ∷ []) es (subst (λ x. AreNewSources x es) (append_assoc t u (e ∷ [])) h.1))
 
-entries_added : (v : Version) (t es : List Entry) → AllByRecursion IsEntry es → AreNewSources t es → length t + length es ≤ entry_limit v → is_text_too_long v (t ++ es) ≡ false → with_entries v t es ≡ Ok (t ++ es)
-entries_added v t es sound new few fits =
-    with_entries-by v t es false false false false
-    (or_from (nat_lt (entry_limit v) (length t + length es) || list_any is_too_large es) (is_text_too_long v (t ++ es))
+entries_added : (v : Version) (d : Definitions) (t es : List Entry) → AllByRecursion IsEntry es → AreNewSources t es → length t + length es ≤ entry_limit v → is_text_too_long v d (t ++ es) ≡ false
+    → with_entries v d t es ≡ Ok (t ++ es)
+entries_added v d t es sound new few fits =
+    with_entries-by v d t es false false false false
+    (or_from (nat_lt (entry_limit v) (length t + length es) || list_any is_too_large es) (is_text_too_long v d (t ++ es))
     (or_from (nat_lt (entry_limit v) (length t + length es)) (list_any is_too_large es) (le-ltb (entry_limit v) (length t + length es) few) (all_small es sound)) fits)
     (all_good es sound) (all_single es sound) (new_any t [] es (subst (λ x. AreNewSources x es) (sym (append-nil t)) new))
 
-pub raw_line_added : (v : Version) (bytes : ℕ) (t : List Entry) (line : List ℕ) (entries : List Entry) → LineSpells v (strip_carriage_return line) entries → length line ≤ line_limit v → bytes + length line + 1 ≤ text_limit v
-    → AllByRecursion IsEntry entries → AreNewSources t entries → length t + length entries ≤ entry_limit v → is_text_too_long v (t ++ entries) ≡ false → with_raw_line v bytes t line ≡ Ok (t ++ entries)
-raw_line_added v bytes t line entries s l m sound new few fits =
-    let body : List ℕ = strip_carriage_return line in
-    raw_line v bytes t line (or_from (nat_lt (line_limit v) (length line)) (nat_lt (text_limit v) (bytes + length line + 1)) (le-ltb (line_limit v) (length line) l) (le-ltb (text_limit v) (bytes + length line + 1) m))
-    ∙ elim (spelling_of v body entries s) [
-      | none k is ↦ with_line-skipped v t body k ∙ ap (λ x. Ok x) (sym (append-nil t)) ∙ ap (λ es. Ok (t ++ es)) (sym is)
-      | some h ↦ with_line-entries v t body entries h ∙ entries_added v t entries sound new few fits
-    ]
+-- ---- the table so far
+
+-- its entries have no fault, and there is room for them
+pub record HasSoundEntries (t : TableValue) : Type 0 where
+  pub sound : AllByRecursion IsEntry t.entries
+  pub new : AreNewSources [] t.entries
+  pub few : length t.entries ≤ entry_limit t.version
+  pub fits : is_text_too_long t.version t.definitions t.entries ≡ false
+
+pub record IsSound (t : TableValue) : Type 0 where
+  pub without_fault : AreDefinitions t.definitions
+  pub defined : AreOfVersion t.version t.definitions
+  pub of_version : AllByRecursion (IsOfVersion t.version) t.entries
+  pub entries : HasSoundEntries t
+
+nothing_of : (v : Version) → AreOfVersion v nothing_defined
+nothing_of One = refl
+nothing_of Two = refl
+nothing_of Three = refl
+
+pub empty_sound : (v : Version) → IsSound (empty_table v)
+empty_sound v = record {
+  without_fault = nothing_counted.without_fault;
+  defined = nothing_of v;
+  of_version = tt;
+  entries = record { sound = tt; new = tt; few = omega arith; fits = fits_none v };
+}
+
+-- ---- definitions
+
+-- only a ruleset has them, and no demand is read
+record IsRead (v : Version) (keyword : Keyword) : Type 0 where
+  ruleset : v ≡ Three
+  no_demand : NamesNoDemand keyword
+
+kept : (o : Option Keyword) (words behind : List (List ℕ)) (k : Keyword) → with_behind words (if_read o) ≡ Some (k, behind) → NamesNoDemand k
+kept None words behind k e = absurd cc
+kept (Some keyword.Tag) words behind k e = subst NamesNoDemand (let same : keyword.Tag ≡ k = cc in same) tt
+kept (Some keyword.Set) words behind k e = subst NamesNoDemand (let same : keyword.Set ≡ k = cc in same) tt
+kept (Some keyword.Rule) words behind k e = subst NamesNoDemand (let same : keyword.Rule ≡ k = cc in same) tt
+kept (Some keyword.Never) words behind k e = absurd cc
+kept (Some keyword.Always) words behind k e = absurd cc
+
+is_read : (v : Version) (words behind : List (List ℕ)) (k : Keyword) → keyword_in v words ≡ Some (k, behind) → IsRead v k
+is_read One words behind k e = absurd cc
+is_read Two words behind k e = absurd cc
+is_read Three [] behind k e = absurd cc
+is_read Three (word ∷ words) behind k e = record { ruleset = refl; no_demand = kept (keyword_of word) words behind k e }
+
+of_ruleset : (v : Version) (d e : Definitions) → v ≡ Three → e.demands ≡ d.demands → AreOfVersion v d → AreOfVersion v e
+of_ruleset One d e is same h = absurd cc
+of_ruleset Two d e is same h = absurd cc
+of_ruleset Three d e is same h = same ∙ h
+
+-- a text with what a line defines
+fits_defined : (v : Version) (d e : Definitions) (es : List Entry) → v ≡ Three → is_text_too_long v d es ≡ false → Grown (text_limit v - length (head_text v ++ canonical_text es)) d e → is_text_too_long v e es ≡ false
+fits_defined One d e es is fits g = absurd cc
+fits_defined Two d e es is fits g = absurd cc
+fits_defined Three d e es is fits g =
+    le-ltb 8388608 (length (table_text Three e es))
+    (omega (arith, ltb-false 8388608 (length (table_text Three d es)) fits, length-text Three d es, length-text Three e es, g.room, length-append (head_text Three) (canonical_text es)))
+
+defined_sound : (t : TableValue) (k : Keyword) (words behind : List (List ℕ)) (d : Definitions) → IsSound t → keyword_in t.version words ≡ Some (k, behind)
+    → defined (room_for_definitions t) t.definitions k behind ≡ Ok d → IsSound (record t { definitions = d })
+defined_sound t k words behind d h n e =
+    let read = is_read t.version words behind k n in
+    let g : Grown (room_for_definitions t) t.definitions d = defined_grows (room_for_definitions t) t.definitions d k behind h.without_fault e in
+    record {
+      without_fault = g.without_fault;
+      defined = of_ruleset t.version t.definitions d read.ruleset (demands_stay (room_for_definitions t) t.definitions d k behind read.no_demand e) h.defined;
+      of_version = h.of_version;
+      entries = record {
+        sound = h.entries.sound;
+        new = h.entries.new;
+        few = h.entries.few;
+        fits = fits_defined t.version t.definitions d t.entries read.ruleset h.entries.fits g;
+      };
+    }
+
+-- ---- one line, without a fault
+
+-- a faultless line, and the table that it leads to
+pub record Added (bytes : ℕ) (t : TableValue) (line : List ℕ) (u : TableValue) : Type 0 where
+  pub spelled : LineAdds t (strip_carriage_return line) u
+  pub short : length line ≤ line_limit t.version
+  pub within : bytes + length line + 1 ≤ text_limit t.version
+  pub version : u.version ≡ t.version
+  pub sound : IsSound u
+
+ok_is : (a b : TableValue) (r : Result TableValue LineFault) → r ≡ Ok a → r ≡ Ok b → a ≡ b
+ok_is a b r e f = cc
+
+pub no_ok : {X : Type 0} (f : LineFault) (b : TableValue) (r : Result TableValue LineFault) → r ≡ Err f → r ≡ Ok b → X
+no_ok f b r e g = absurd cc
+
+pub raw_line : (bytes : ℕ) (t : TableValue) (line : List ℕ) → is_too_long t.version bytes line ≡ false → with_raw_line bytes t line ≡ with_line t (strip_carriage_return line)
+unfolding with_raw_line
+raw_line bytes t line h = ap (λ b. cond b (Err Limit) (with_line t (strip_carriage_return line))) h
+
+pub raw_line-long : (bytes : ℕ) (t : TableValue) (line : List ℕ) → is_too_long t.version bytes line ≡ true → with_raw_line bytes t line ≡ Err Limit
+unfolding with_raw_line
+raw_line-long bytes t line h = ap (λ b. cond b (Err Limit) (with_line t (strip_carriage_return line))) h
+
+definition_is : (t : TableValue) (k : Keyword) (behind : List (List ℕ)) → with_definition t k behind ≡ defining t (defined (room_for_definitions t) t.definitions k behind)
+unfolding with_definition
+definition_is t k behind = refl
+
+ok_defined : (t u : TableValue) (r : Result Definitions DefinitionFault) → defining t r ≡ Ok u → (d : Definitions) × (r ≡ Ok d) × (u ≡ record t { definitions = d })
+ok_defined t u (Ok d) e = (d, refl, cc)
+ok_defined t u (Err f) e = absurd cc
+
+ok_entries : (t u : TableValue) (r : Result (List Entry) LineFault) → (r >>= λ all. Ok (record t { entries = all })) ≡ Ok u → (all : List Entry) × (r ≡ Ok all) × (u ≡ record t { entries = all })
+ok_entries t u (Ok all) e = (all, refl, cc)
+ok_entries t u (Err f) e = absurd cc
+
+module _ (bytes : ℕ) (t u : TableValue) (line : List ℕ) (h : IsSound t) (l : length line ≤ line_limit t.version) (m : bytes + length line + 1 ≤ text_limit t.version) where
+  added_nothing : is_skipped (strip_carriage_return line) ≡ true → u ≡ t → Added bytes t line u
+  added_nothing s is = record {
+    spelled = inl ([], LineSpells-skipped t.version (strip_carriage_return line) s, is ∙ ap (λ es. record t { entries = es }) (sym (append-nil t.entries)));
+    short = l;
+    within = m;
+    version = ap (λ x. x.version) is;
+    sound = subst IsSound (sym is) h;
+  }
+
+  added_definition : (k : Keyword) (behind : List (List ℕ)) → keyword_in t.version (lexemes (strip_carriage_return line)) ≡ Some (k, behind) → with_definition t k behind ≡ Ok u → Added bytes t line u
+  added_definition k behind n e =
+      let d = ok_defined t u (defined (room_for_definitions t) t.definitions k behind) (sym (definition_is t k behind) ∙ e) in
+      record {
+        spelled = inr (d.0, (k, behind, n, d.1), d.2);
+        short = l;
+        within = m;
+        version = ap (λ x. x.version) d.2;
+        sound = subst IsSound (sym d.2) (defined_sound t k (lexemes (strip_carriage_return line)) behind d.0 h n d.1);
+      }
+
+  added_entries : (es : List Entry) → SpellsEntries t.version (strip_carriage_return line) es → with_entries_of t es ≡ Ok u → Added bytes t line u
+  added_entries es s e =
+      let all = ok_entries t u (with_entries t.version t.definitions t.entries es) e in
+      let r = sound_spelled t.version t.definitions t.entries all.0 (strip_carriage_return line) es s all.1 in
+      let is : u ≡ record t { entries = t.entries ++ es } = all.2 ∙ ap (λ x. record t { entries = x }) r.is in
+      record {
+        spelled = inl (es, inr (inr s), is);
+        short = l;
+        within = m;
+        version = ap (λ x. x.version) is;
+        sound = subst IsSound (sym is) (record {
+          without_fault = h.without_fault;
+          defined = h.defined;
+          of_version = all-join (IsOfVersion t.version) t.entries es h.of_version r.of_version;
+          entries = record {
+            sound = all-join IsEntry t.entries es h.entries.sound r.sound;
+            new = new-join [] t.entries es h.entries.new r.new;
+            few = omega (arith, length-append t.entries es, r.few);
+            fits = r.fits;
+          };
+        });
+      }
+
+  line_step : with_line t (strip_carriage_return line) ≡ Ok u → Added bytes t line u
+  line_step e = elim (form_of t.version (strip_carriage_return line)) [
+    | skipped s ↦ added_nothing s (ok_is u t (with_line t (strip_carriage_return line)) e (with_line-skipped t (strip_carriage_return line) s))
+    | defines k behind s n ↦ added_definition k behind n (sym (with_line-defines t (strip_carriage_return line) k behind s n) ∙ e)
+    | of_entries es s ↦ added_entries es s (sym (with_line-entries t (strip_carriage_return line) es s) ∙ e)
+    | formless s n never ↦ no_ok Syntax u (with_line t (strip_carriage_return line)) (with_line-formless t (strip_carriage_return line) s n never) e
+  ]
+
+pub raw_line_step : (bytes : ℕ) (t u : TableValue) (line : List ℕ) → IsSound t → with_raw_line bytes t line ≡ Ok u → Added bytes t line u
+raw_line_step bytes t u line h e = by_cases (is_too_long t.version bytes line) refl
+  where
+    by_cases : (b : Bool) → is_too_long t.version bytes line ≡ b → Added bytes t line u
+    by_cases true long = no_ok Limit u (with_raw_line bytes t line) (raw_line-long bytes t line long) e
+    by_cases false short =
+        let p = or_parts (nat_lt (line_limit t.version) (length line)) (nat_lt (text_limit t.version) (bytes + length line + 1)) short in
+        line_step bytes t u line h (ltb-false (line_limit t.version) (length line) p.0) (ltb-false (text_limit t.version) (bytes + length line + 1) p.1) (sym (raw_line bytes t line short) ∙ e)
+
+-- ---- the other way
+
+no_keyword : (k : Keyword) (behind : List (List ℕ)) → (let o : Option (Keyword × List (List ℕ)) = None in o) ≡ Some (k, behind) → ⊥
+no_keyword k behind e = cc
+
+read_entries : (t : TableValue) (line : List ℕ) (es : List Entry) → LineSpells t.version line es → HasSoundEntries (record t { entries = t.entries ++ es }) → with_line t line ≡ Ok (record t { entries = t.entries ++ es })
+read_entries t line es s h = elim (spelling_of t.version line es s) [
+  | none k is ↦ with_line-skipped t line k ∙ ap (λ x. Ok (record t { entries = x })) (sym (append-nil t.entries)) ∙ ap (λ x. Ok (record t { entries = t.entries ++ x })) (sym is)
+  | some k ↦
+      let new = new-append [] t.entries es h.new in
+      with_line-entries t line es k
+      ∙ ap (λ r. r >>= λ all. Ok (record t { entries = all }))
+      (entries_added t.version t.definitions t.entries es (all-append IsEntry t.entries es h.sound).1 new.1 (omega (arith, h.few, length-append t.entries es)) h.fits)
+]
+
+read_definition : (t : TableValue) (line : List ℕ) (d : Definitions) → Defines t line d → with_line t line ≡ Ok (record t { definitions = d })
+read_definition t line d (k, behind, n, e) =
+    let not_skipped : is_skipped line ≡ false = false_from_ne_true (is_skipped line) (λ s. no_keyword k behind (sym (skipped-no_definition t.version line s) ∙ n)) in
+    with_line-defines t line k behind not_skipped n ∙ definition_is t k behind ∙ ap (defining t) e
+
+read_added : (t u : TableValue) (line : List ℕ) → LineAdds t line u → HasSoundEntries u → with_line t line ≡ Ok u
+read_added t u line (inl (es, s, is)) h = read_entries t line es s (subst HasSoundEntries is h) ∙ ap (λ x. Ok x) (sym is)
+read_added t u line (inr (d, s, is)) h = read_definition t line d s ∙ ap (λ x. Ok x) (sym is)
+
+pub raw_line_added : (bytes : ℕ) (t u : TableValue) (line : List ℕ) → LineAdds t (strip_carriage_return line) u → length line ≤ line_limit t.version → bytes + length line + 1 ≤ text_limit t.version
+    → HasSoundEntries u → with_raw_line bytes t line ≡ Ok u
+raw_line_added bytes t u line s l m h =
+    raw_line bytes t line (or_from (nat_lt (line_limit t.version) (length line)) (nat_lt (text_limit t.version) (bytes + length line + 1)) (le-ltb (line_limit t.version) (length line) l) (le-ltb (text_limit t.version) (bytes + length line + 1) m))
+    ∙ read_added t u (strip_carriage_return line) s h
+
+-- ---- what stands before a line of a table without a fault has none
+
+adds_definitions : (t u : TableValue) (line : List ℕ) → LineAdds t line u → AreDefinitions t.definitions → AreDefinitions u.definitions
+adds_definitions t u line (inl (es, s, is)) h = subst (λ x. AreDefinitions x.definitions) (sym is) h
+adds_definitions t u line (inr (d, (k, behind, n, e), is)) h =
+    subst (λ x. AreDefinitions x.definitions) (sym is) (defined_grows (room_for_definitions t) t.definitions d k behind h e).without_fault
+
+without_entries : (t : TableValue) (es : List Entry) → HasSoundEntries (record t { entries = t.entries ++ es }) → HasSoundEntries t
+without_entries t es h = record {
+  sound = (all-append IsEntry t.entries es h.sound).0;
+  new = (new-append [] t.entries es h.new).0;
+  few = omega (arith, h.few, length-append t.entries es);
+  fits = fits_shorter t.version t.definitions t.definitions t.entries (t.entries ++ es) (omega (arith, length-more t.version t.definitions t.entries es)) h.fits;
+}
+
+without_definition : (t : TableValue) (d : Definitions) → canonical_size t.definitions ≤ canonical_size d → HasSoundEntries (record t { definitions = d }) → HasSoundEntries t
+without_definition t d l h = record {
+  sound = h.sound;
+  new = h.new;
+  few = h.few;
+  fits = fits_shorter t.version t.definitions d t.entries t.entries (omega (arith, l, length-text t.version t.definitions t.entries, length-text t.version d t.entries)) h.fits;
+}
+
+sound_before : (t u : TableValue) (line : List ℕ) → LineAdds t line u → AreDefinitions t.definitions → HasSoundEntries u → HasSoundEntries t
+sound_before t u line (inl (es, s, is)) a h = without_entries t es (subst HasSoundEntries is h)
+sound_before t u line (inr (d, (k, behind, n, e), is)) a h =
+    without_definition t d (defined_grows (room_for_definitions t) t.definitions d k behind a e).longer (subst HasSoundEntries is h)
+
+sound_at : (t u : TableValue) (lines : List (List ℕ)) → LinesSpell t lines u → AreDefinitions t.definitions → HasSoundEntries u → HasSoundEntries t
+sound_at t u [] s a h = subst HasSoundEntries s h
+sound_at t u (line ∷ lines) (m, adds, rest) a h =
+    sound_before t m (strip_carriage_return line) adds a (sound_at m u lines rest (adds_definitions t m (strip_carriage_return line) adds a) h)
 
 -- ---- lines without a fault
 
-new-append : (t a b : List Entry) → AreNewSources t (a ++ b) → AreNewSources t a × AreNewSources (t ++ a) b
-new-append t [] b h = (tt, subst (λ x. AreNewSources x b) (sym (append-nil t)) h)
-new-append t (e ∷ a) b h =
-    let r = new-append (t ++ e ∷ []) a b h.1 in
-    ((h.0, r.0), subst (λ x. AreNewSources x b) (append_assoc t (e ∷ []) a) r.1)
-
-new-join : (t a b : List Entry) → AreNewSources t a → AreNewSources (t ++ a) b → AreNewSources t (a ++ b)
-new-join t [] b h k = subst (λ x. AreNewSources x b) (append-nil t) k
-new-join t (e ∷ a) b h k = (h.0, new-join (t ++ e ∷ []) a b h.1 (subst (λ x. AreNewSources x b) (sym (append_assoc t (e ∷ []) a)) k))
-
-all-append : (P : Entry → Type 0) (a b : List Entry) → AllByRecursion P (a ++ b) → AllByRecursion P a × AllByRecursion P b
-all-append P [] b h = (tt, h)
-all-append P (e ∷ a) b h = let r = all-append P a b h.1 in ((h.0, r.0), r.1)
-
-all-join : (P : Entry → Type 0) (a b : List Entry) → AllByRecursion P a → AllByRecursion P b → AllByRecursion P (a ++ b)
-all-join P [] b h k = k
-all-join P (e ∷ a) b h k = (h.0, all-join P a b h.1 k)
-
-pub step_of : (v : Version) (n bytes : ℕ) (t : List Entry) (line : List ℕ) (lines : List (List ℕ)) (r : Result (List Entry) LineFault) → with_raw_line v bytes t line ≡ r
-    → with_lines v n bytes t (line ∷ lines) ≡ (in_line n r >>= λ x. with_lines v (n + 1) (bytes + length line + 1) x lines)
+pub step_of : (n bytes : ℕ) (t : TableValue) (line : List ℕ) (lines : List (List ℕ)) (r : Result TableValue LineFault) → with_raw_line bytes t line ≡ r
+    → with_lines n bytes t (line ∷ lines) ≡ (in_line n r >>= λ x. with_lines (n + 1) (bytes + length line + 1) x lines)
 unfolding with_lines
-step_of v n bytes t line lines r e = ap (λ x. in_line n x >>= λ x. with_lines v (n + 1) (bytes + length line + 1) x lines) e
+step_of n bytes t line lines r e = ap (λ x. in_line n x >>= λ x. with_lines (n + 1) (bytes + length line + 1) x lines) e
 
-no_lines : (v : Version) (n bytes : ℕ) (t : List Entry) → with_lines v n bytes t [] ≡ Ok t
+no_lines : (n bytes : ℕ) (t : TableValue) → with_lines n bytes t [] ≡ Ok t
 unfolding with_lines
-no_lines v n bytes t = refl
+no_lines n bytes t = refl
 
 -- reading faultless lines, with others behind them
-pub lines_on : (v : Version) (n bytes : ℕ) (t : List Entry) (lines behind : List (List ℕ)) (entries : List Entry) → LinesSpell v lines entries → AllByRecursion (λ line. length line ≤ line_limit v) lines → bytes + size_of lines ≤ text_limit v
-    → AllByRecursion IsEntry entries → AreNewSources t entries → length t + length entries ≤ entry_limit v → is_text_too_long v (t ++ entries) ≡ false
-    → with_lines v n bytes t (lines ++ behind) ≡ with_lines v (n + length lines) (bytes + size_of lines) (t ++ entries) behind
-lines_on v n bytes t [] behind entries s short size sound new few fits =
-    ap (λ x. with_lines v x bytes t behind) (let z : n ≡ n + 0 = omega arith in z) ∙ ap (λ x. with_lines v (n + 0) x t behind) (let z : bytes ≡ bytes + 0 = omega arith in z)
-    ∙ ap (λ x. with_lines v (n + 0) (bytes + 0) x behind) (sym (append-nil t) ∙ ap (λ es. t ++ es) (sym s))
-lines_on v n bytes t (line ∷ lines) behind entries s short size sound new few fits =
-    let a : List Entry = s.0 in
-    let b : List Entry = s.1 in
-    let sounds = all-append IsEntry a b (subst (AllByRecursion IsEntry) s.4 sound) in
-    let news = new-append t a b (subst (AreNewSources t) s.4 new) in
-    let count : length entries ≡ length a + length b = ap length s.4 ∙ length-append a b in
-    let more : length (t ++ a) ≡ length t + length a = length-append t a in
-    let all : (t ++ a) ++ b ≡ t ++ entries = append_assoc t a b ∙ ap (λ es. t ++ es) (sym s.4) in
-    let later : is_text_too_long v ((t ++ a) ++ b) ≡ false = ap (is_text_too_long v) all ∙ fits in
-    step_of v n bytes t line (lines ++ behind) (Ok (t ++ a)) (raw_line_added v bytes t line a s.2 short.0 (omega (arith, size, size_of-cons line lines)) sounds.0 news.0 (omega (arith, few, count)) (fits_front v (t ++ a) b later))
-    ∙ lines_on v (n + 1) (bytes + length line + 1) (t ++ a) lines behind b s.3 short.1 (omega (arith, size, size_of-cons line lines)) sounds.1 news.1 (omega (arith, few, count, more)) later
-    ∙ ap (λ x. with_lines v x (bytes + length line + 1 + size_of lines) ((t ++ a) ++ b) behind) (let z : n + 1 + length lines ≡ n + suc (length lines) = omega arith in z)
-    ∙ ap (λ x. with_lines v (n + suc (length lines)) x ((t ++ a) ++ b) behind) (let z : bytes + length line + 1 + size_of lines ≡ bytes + size_of (line ∷ lines) = omega (arith, size_of-cons line lines) in z)
-    ∙ ap (λ x. with_lines v (n + suc (length lines)) (bytes + size_of (line ∷ lines)) x behind) all
+pub lines_on : (v : Version) (n bytes : ℕ) (t u : TableValue) (lines behind : List (List ℕ)) → t.version ≡ v → LinesSpell t lines u → AllByRecursion (λ line. length line ≤ line_limit v) lines
+    → bytes + size_of lines ≤ text_limit v → AreDefinitions t.definitions → HasSoundEntries u → with_lines n bytes t (lines ++ behind) ≡ with_lines (n + length lines) (bytes + size_of lines) u behind
+lines_on v n bytes t u [] behind is s short size a h =
+    ap (λ x. with_lines n bytes x behind) (sym s)
+    ∙ ap (λ x. with_lines x bytes u behind) (let z : n ≡ n + 0 = omega arith in z)
+    ∙ ap (λ x. with_lines (n + 0) x u behind) (let z : bytes ≡ bytes + 0 = omega arith in z)
+lines_on v n bytes t u (line ∷ lines) behind is (m, adds, rest) short size a h =
+    let more : AreDefinitions m.definitions = adds_definitions t m (strip_carriage_return line) adds a in
+    let sum : size_of (line ∷ lines) ≡ length line + 1 + size_of lines = size_of-cons line lines in
+    step_of n bytes t line (lines ++ behind) (Ok m)
+    (raw_line_added bytes t m line adds (subst (λ w. length line ≤ line_limit w) (sym is) short.0) (subst (λ w. bytes + length line + 1 ≤ text_limit w) (sym is) (omega (arith, size, sum))) (sound_at m u lines rest more h))
+    ∙ lines_on v (n + 1) (bytes + length line + 1) m u lines behind (adds_version t m (strip_carriage_return line) adds ∙ is) rest short.1 (omega (arith, size, sum)) more h
+    ∙ ap (λ x. with_lines x (bytes + length line + 1 + size_of lines) u behind) (let z : n + 1 + length lines ≡ n + suc (length lines) = omega arith in z)
+    ∙ ap (λ x. with_lines (n + suc (length lines)) x u behind) (let z : bytes + length line + 1 + size_of lines ≡ bytes + size_of (line ∷ lines) = omega (arith, sum) in z)
 
--- what faultless lines are, and add to the table
-pub record AddedLines (v : Version) (bytes : ℕ) (t : List Entry) (lines : List (List ℕ)) (entries : List Entry) : Type 0 where
-  pub spelled : LinesSpell v lines entries
-  pub short : AllByRecursion (λ line. length line ≤ line_limit v) lines
-  pub within : bytes ≤ text_limit v → bytes + size_of lines ≤ text_limit v
-  pub sound : AllByRecursion IsEntry entries
-  pub of_version : AllByRecursion (IsOfVersion v) entries
-  pub new : AreNewSources t entries
-  pub few : length t ≤ entry_limit v → length t + length entries ≤ entry_limit v
-  pub fits : is_text_too_long v t ≡ false → is_text_too_long v (t ++ entries) ≡ false
+-- what faultless lines are, and the table that they lead to
+pub record AddedLines (bytes : ℕ) (t : TableValue) (lines : List (List ℕ)) (u : TableValue) : Type 0 where
+  pub spelled : LinesSpell t lines u
+  pub short : AllByRecursion (λ line. length line ≤ line_limit t.version) lines
+  pub within : bytes ≤ text_limit t.version → bytes + size_of lines ≤ text_limit t.version
+  pub version : u.version ≡ t.version
+  pub sound : IsSound u
 
-added_none : (v : Version) (bytes : ℕ) (t : List Entry) → AddedLines v bytes t [] []
-added_none v bytes t = record {
-  spelled = refl;
-  short = tt;
-  within = λ h. omega (arith, h);
-  sound = tt;
-  of_version = tt;
-  new = tt;
-  few = λ h. omega (arith, h);
-  fits = λ h. ap (is_text_too_long v) (append-nil t) ∙ h;
-}
+added_none : (bytes : ℕ) (t : TableValue) → IsSound t → AddedLines bytes t [] t
+added_none bytes t h = record { spelled = refl; short = tt; within = λ l. omega (arith, l); version = refl; sound = h }
 
-added_more : (v : Version) (bytes : ℕ) (t : List Entry) (line : List ℕ) (lines : List (List ℕ)) (a b : List Entry) → Added v bytes t line a → AddedLines v (bytes + length line + 1) (t ++ a) lines b
-    → AddedLines v bytes t (line ∷ lines) (a ++ b)
-added_more v bytes t line lines a b h k = record {
-  spelled = (a, b, h.spelled, k.spelled, refl);
-  short = (h.short, k.short);
-  within = λ l. (let m : bytes + length line + 1 + size_of lines ≤ text_limit v = k.within (omega (arith, h.within)) in omega (arith, m, size_of-cons line lines));
-  sound = all-join IsEntry a b h.sound k.sound;
-  of_version = all-join (IsOfVersion v) a b h.of_version k.of_version;
-  new = new-join t a b h.new k.new;
-  few = λ l. (let m : length (t ++ a) + length b ≤ entry_limit v = k.few (omega (arith, h.few l, length-append t a)) in omega (arith, m, length-append t a, length-append a b));
-  fits = λ l. ap (is_text_too_long v) (sym (append_assoc t a b)) ∙ k.fits (h.fits l);
+added_more : (bytes : ℕ) (t m u : TableValue) (line : List ℕ) (lines : List (List ℕ)) → Added bytes t line m → AddedLines (bytes + length line + 1) m lines u → AddedLines bytes t (line ∷ lines) u
+added_more bytes t m u line lines h k = record {
+  spelled = (m, h.spelled, k.spelled);
+  short = (h.short, subst (λ w. AllByRecursion (λ line. length line ≤ line_limit w) lines) h.version k.short);
+  within = λ l. (let inside : bytes + length line + 1 + size_of lines ≤ text_limit t.version = subst (λ w. bytes + length line + 1 + size_of lines ≤ text_limit w) h.version
+      (k.within (subst (λ w. bytes + length line + 1 ≤ text_limit w) (sym h.version) h.within)) in
+      omega (arith, inside, size_of-cons line lines));
+  version = k.version ∙ h.version;
+  sound = k.sound;
 }
 
 -- ---- the outcome of lines
 
-pub record Done (v : Version) (bytes : ℕ) (t : List Entry) (lines : List (List ℕ)) (r : Whole) : Type 0 where
-  pub entries : List Entry
-  pub added : AddedLines v bytes t lines entries
-  pub is : r ≡ Ok (t ++ entries)
+pub record Done (bytes : ℕ) (t : TableValue) (lines : List (List ℕ)) (r : WholeTable) : Type 0 where
+  pub table : TableValue
+  pub added : AddedLines bytes t lines table
+  pub is : r ≡ Ok table
 
 -- the first faulty line, with those before it
-pub record Faulted (v : Version) (n bytes : ℕ) (t : List Entry) (lines : List (List ℕ)) (r : Whole) : Type 0 where
+pub record Faulted (n bytes : ℕ) (t : TableValue) (lines : List (List ℕ)) (r : WholeTable) : Type 0 where
   pub before : List (List ℕ)
   pub line : List ℕ
   pub behind : List (List ℕ)
-  pub entries : List Entry
+  pub table : TableValue
   pub kind : LineFault
   pub cut : lines ≡ before ++ line ∷ behind
-  pub added : AddedLines v bytes t before entries
-  pub faulty : with_raw_line v (bytes + size_of before) (t ++ entries) line ≡ Err kind
+  pub added : AddedLines bytes t before table
+  pub faulty : with_raw_line (bytes + size_of before) table line ≡ Err kind
   pub is : r ≡ Err (n + length before, kind)
 
-outcome_step : (v : Version) (n bytes : ℕ) (t t' : List Entry) (line : List ℕ) (lines : List (List ℕ)) (a : List Entry) → with_raw_line v bytes t line ≡ Ok t' → Added v bytes t line a → t' ≡ t ++ a
-    → Done v (bytes + length line + 1) (t ++ a) lines (with_lines v (n + 1) (bytes + length line + 1) (t ++ a) lines) ⊎ Faulted v (n + 1) (bytes + length line + 1) (t ++ a) lines (with_lines v (n + 1) (bytes + length line + 1) (t ++ a) lines)
-    → Done v bytes t (line ∷ lines) (with_lines v n bytes t (line ∷ lines)) ⊎ Faulted v n bytes t (line ∷ lines) (with_lines v n bytes t (line ∷ lines))
-outcome_step v n bytes t t' line lines a e h same (inl d) = inl (record {
-  entries = a ++ d.entries;
-  added = added_more v bytes t line lines a d.entries h d.added;
-  is = step_of v n bytes t line lines (Ok t') e ∙ ap (λ x. with_lines v (n + 1) (bytes + length line + 1) x lines) same ∙ d.is ∙ ap (λ x. Ok x) (append_assoc t a d.entries);
+outcome_step : (n bytes : ℕ) (t m : TableValue) (line : List ℕ) (lines : List (List ℕ)) → with_raw_line bytes t line ≡ Ok m → Added bytes t line m
+    → Done (bytes + length line + 1) m lines (with_lines (n + 1) (bytes + length line + 1) m lines) ⊎ Faulted (n + 1) (bytes + length line + 1) m lines (with_lines (n + 1) (bytes + length line + 1) m lines)
+    → Done bytes t (line ∷ lines) (with_lines n bytes t (line ∷ lines)) ⊎ Faulted n bytes t (line ∷ lines) (with_lines n bytes t (line ∷ lines))
+outcome_step n bytes t m line lines e h (inl d) = inl (record {
+  table = d.table;
+  added = added_more bytes t m d.table line lines h d.added;
+  is = step_of n bytes t line lines (Ok m) e ∙ d.is;
 })
-outcome_step v n bytes t t' line lines a e h same (inr f) = inr (record {
+outcome_step n bytes t m line lines e h (inr f) = inr (record {
   before = line ∷ f.before;
   line = f.line;
   behind = f.behind;
-  entries = a ++ f.entries;
+  table = f.table;
   kind = f.kind;
   cut = ap (λ ls. line ∷ ls) f.cut;
-  added = added_more v bytes t line f.before a f.entries h f.added;
-  faulty = ap (λ x. with_raw_line v x (t ++ (a ++ f.entries)) f.line) (let z : bytes + size_of (line ∷ f.before) ≡ bytes + length line + 1 + size_of f.before = omega (arith, size_of-cons line f.before) in z)
-      ∙ ap (λ x. with_raw_line v (bytes + length line + 1 + size_of f.before) x f.line) (sym (append_assoc t a f.entries)) ∙ f.faulty;
-  is = step_of v n bytes t line lines (Ok t') e ∙ ap (λ x. with_lines v (n + 1) (bytes + length line + 1) x lines) same ∙ f.is ∙ ap (λ k. Err (k, f.kind)) (let z : n + 1 + length f.before ≡ n + suc (length f.before) = omega arith in z);
+  added = added_more bytes t m f.table line f.before h f.added;
+  faulty = ap (λ x. with_raw_line x f.table f.line) (let z : bytes + size_of (line ∷ f.before) ≡ bytes + length line + 1 + size_of f.before = omega (arith, size_of-cons line f.before) in z) ∙ f.faulty;
+  is = step_of n bytes t line lines (Ok m) e ∙ f.is ∙ ap (λ k. Err (k, f.kind)) (let z : n + 1 + length f.before ≡ n + suc (length f.before) = omega arith in z);
 })
 
-outcome_fault : (v : Version) (n bytes : ℕ) (t : List Entry) (line : List ℕ) (lines : List (List ℕ)) (kind : LineFault) → with_raw_line v bytes t line ≡ Err kind → Faulted v n bytes t (line ∷ lines) (with_lines v n bytes t (line ∷ lines))
-outcome_fault v n bytes t line lines kind e = record {
+outcome_fault : (n bytes : ℕ) (t : TableValue) (line : List ℕ) (lines : List (List ℕ)) (kind : LineFault) → IsSound t → with_raw_line bytes t line ≡ Err kind → Faulted n bytes t (line ∷ lines) (with_lines n bytes t (line ∷ lines))
+outcome_fault n bytes t line lines kind h e = record {
   before = [];
   line = line;
   behind = lines;
-  entries = [];
+  table = t;
   kind = kind;
   cut = refl;
-  added = added_none v bytes t;
-  faulty = ap (λ x. with_raw_line v x (t ++ []) line) (let z : bytes + 0 ≡ bytes = omega arith in z) ∙ ap (λ x. with_raw_line v bytes x line) (append-nil t) ∙ e;
-  is = step_of v n bytes t line lines (Err kind) e ∙ ap (λ k. Err (k, kind)) (let z : n ≡ n + 0 = omega arith in z);
+  added = added_none bytes t h;
+  faulty = ap (λ x. with_raw_line x t line) (let z : bytes + 0 ≡ bytes = omega arith in z) ∙ e;
+  is = step_of n bytes t line lines (Err kind) e ∙ ap (λ k. Err (k, kind)) (let z : n ≡ n + 0 = omega arith in z);
 }
 
-outcome_at : (v : Version) (n bytes : ℕ) (t : List Entry) (line : List ℕ) (lines : List (List ℕ)) (r : Result (List Entry) LineFault) → with_raw_line v bytes t line ≡ r
-    → ((m b : ℕ) (x : List Entry) → Done v b x lines (with_lines v m b x lines) ⊎ Faulted v m b x lines (with_lines v m b x lines))
-    → Done v bytes t (line ∷ lines) (with_lines v n bytes t (line ∷ lines)) ⊎ Faulted v n bytes t (line ∷ lines) (with_lines v n bytes t (line ∷ lines))
-outcome_at v n bytes t line lines (Err kind) e rest = inr (outcome_fault v n bytes t line lines kind e)
-outcome_at v n bytes t line lines (Ok t') e rest =
-    let s = raw_line_step v bytes t t' line e in
-    outcome_step v n bytes t t' line lines s.0 e s.1 s.2 (rest (n + 1) (bytes + length line + 1) (t ++ s.0))
+outcome_at : (n bytes : ℕ) (t : TableValue) (line : List ℕ) (lines : List (List ℕ)) (r : Result TableValue LineFault) → IsSound t → with_raw_line bytes t line ≡ r
+    → ((m b : ℕ) (x : TableValue) → IsSound x → Done b x lines (with_lines m b x lines) ⊎ Faulted m b x lines (with_lines m b x lines))
+    → Done bytes t (line ∷ lines) (with_lines n bytes t (line ∷ lines)) ⊎ Faulted n bytes t (line ∷ lines) (with_lines n bytes t (line ∷ lines))
+outcome_at n bytes t line lines (Err kind) h e rest = inr (outcome_fault n bytes t line lines kind h e)
+outcome_at n bytes t line lines (Ok m) h e rest =
+    let s = raw_line_step bytes t m line h e in
+    outcome_step n bytes t m line lines e s (rest (n + 1) (bytes + length line + 1) m s.sound)
 
-pub outcome : (v : Version) (lines : List (List ℕ)) (n bytes : ℕ) (t : List Entry) → Done v bytes t lines (with_lines v n bytes t lines) ⊎ Faulted v n bytes t lines (with_lines v n bytes t lines)
-outcome v [] n bytes t = inl (record { entries = []; added = added_none v bytes t; is = no_lines v n bytes t ∙ ap (λ x. Ok x) (sym (append-nil t)) })
-outcome v (line ∷ lines) n bytes t = outcome_at v n bytes t line lines (with_raw_line v bytes t line) refl (λ m b x. outcome v lines m b x)
+pub outcome : (lines : List (List ℕ)) (n bytes : ℕ) (t : TableValue) → IsSound t → Done bytes t lines (with_lines n bytes t lines) ⊎ Faulted n bytes t lines (with_lines n bytes t lines)
+outcome [] n bytes t h = inl (record { table = t; added = added_none bytes t h; is = no_lines n bytes t })
+outcome (line ∷ lines) n bytes t h = outcome_at n bytes t line lines (with_raw_line bytes t line) h refl (λ m b x k. outcome lines m b x k)
 
 -- ---- the version line
 
@@ -349,45 +502,61 @@ head_within n v lines = omega (arith, head_small n lines, text_limit-least v)
 
 -- ---- the whole text
 
-short_text : (v : Version) (lines : List (List ℕ)) (entries : List Entry) → LinesSpell v lines entries → size_of lines ≤ text_limit v → is_text_too_long v entries ≡ false → length (table_text v entries) ≤ text_limit v
-short_text One lines entries s size fits = omega (arith, size, canonical_text_long lines entries s)
-short_text Two lines entries s size fits = ltb-false 1048576 (length (table_text Two entries)) fits
-short_text Three lines entries s size fits = ltb-false 8388608 (length (table_text Three entries)) fits
+short_text : (v : Version) (lines : List (List ℕ)) (u : TableValue) → u.version ≡ v → LinesSpell (empty_table v) lines u → size_of lines ≤ text_limit v → IsSound u → length (table_text u.version u.definitions u.entries) ≤ text_limit u.version
+short_text One lines u is s size h =
+    subst (λ w. length (table_text u.version u.definitions u.entries) ≤ text_limit w) (sym is)
+    (omega (arith, size, length-one u is h.defined, canonical_text_long lines (empty_table One) u refl s))
+short_text Two lines u is s size h = within u.version is h.entries.fits
+  where
+    within : (w : Version) → w ≡ Two → is_text_too_long w u.definitions u.entries ≡ false → length (table_text w u.definitions u.entries) ≤ text_limit w
+    within One e f = absurd cc
+    within Two e f = ltb-false 1048576 (length (table_text Two u.definitions u.entries)) f
+    within Three e f = absurd cc
+short_text Three lines u is s size h = within u.version is h.entries.fits
+  where
+    within : (w : Version) → w ≡ Three → is_text_too_long w u.definitions u.entries ≡ false → length (table_text w u.definitions u.entries) ≤ text_limit w
+    within One e f = absurd cc
+    within Two e f = absurd cc
+    within Three e f = ltb-false 8388608 (length (table_text Three u.definitions u.entries)) f
 
-pub well_formed_lines : (v : Version) (head lines : List (List ℕ)) (entries : List Entry) → size_of head ≤ text_limit v → AddedLines v (size_of head) [] lines entries
-    → AreLinesOf head lines (record { version = v; entries = entries })
-well_formed_lines v head lines entries small h =
+pub well_formed_lines : (v : Version) (head lines : List (List ℕ)) (u : TableValue) → size_of head ≤ text_limit v → AddedLines (size_of head) (empty_table v) lines u → AreLinesOf head lines u
+well_formed_lines v head lines u small h =
     let size : size_of head + size_of lines ≤ text_limit v = h.within small in
-    let few : 0 + length entries ≤ entry_limit v = h.few (omega arith) in
-    let short : length (table_text v entries) ≤ text_limit v = short_text v lines entries h.spelled (omega (arith, size)) (h.fits (fits_none v)) in
+    let short : length (table_text u.version u.definitions u.entries) ≤ text_limit u.version = short_text v lines u h.version h.spelled (omega (arith, size)) h.sound in
+    let k = h.sound.entries in
     record {
-      spelled = h.spelled;
-      short = All-from_recursion (λ line. length line ≤ line_limit v) lines h.short;
-      size = size;
+      spelled = subst (λ w. LinesSpell (empty_table w) lines u) (sym h.version) h.spelled;
+      short = subst (λ w. All (λ line. length line ≤ line_limit w) lines) (sym h.version) (All-from_recursion (λ line. length line ≤ line_limit v) lines h.short);
+      size = subst (λ w. size_of head + size_of lines ≤ text_limit w) (sym h.version) size;
       well_formed = record {
+        without_fault = h.sound.without_fault;
+        defined = h.sound.defined;
         well_formed = record {
-          entries = All-from_recursion IsEntry entries h.sound;
-          sources = distinct_sources [] entries no_sources h.new;
-          few = omega (arith, few, entry_limit-most v);
-          short = omega (arith, short, text_limit-most v, length-append (head_text v) (canonical_text entries));
+          entries = All-from_recursion IsEntry u.entries k.sound;
+          sources = distinct_sources [] u.entries no_sources k.new;
+          few = omega (arith, k.few, entry_limit-most u.version);
+          short = omega (arith, short, text_limit-most u.version, length-text u.version u.definitions u.entries);
         };
-        of_version = All-from_recursion (IsOfVersion v) entries h.of_version;
-        few = omega (arith, few);
+        of_version = All-from_recursion (IsOfVersion u.version) u.entries h.sound.of_version;
+        few = k.few;
         short = short;
       };
     }
 
+sound_table : (table : TableValue) → IsTable table → HasSoundEntries table
+sound_table table h = record {
+  sound = recursion_from_All IsEntry table.entries h.well_formed.entries;
+  new = new_sources [] table.entries h.well_formed.sources;
+  few = h.few;
+  fits = fits_table table h;
+}
+
 -- faultless lines are read
 pub lines_read : (n : ℕ) (head lines behind : List (List ℕ)) (table : TableValue) → AreLinesOf head lines table
-    → with_lines table.version n (size_of head) [] (lines ++ behind) ≡ with_lines table.version (n + length lines) (size_of head + size_of lines) table.entries behind
+    → with_lines n (size_of head) (empty_table table.version) (lines ++ behind) ≡ with_lines (n + length lines) (size_of head + size_of lines) table behind
 lines_read n head lines behind table h =
-    let well : IsWellFormed table.entries = h.well_formed.well_formed in
-    lines_on table.version n (size_of head) [] lines behind table.entries h.spelled (recursion_from_All (λ line. length line ≤ line_limit table.version) lines h.short) h.size
-    (recursion_from_All IsEntry table.entries well.entries) (new_sources [] table.entries well.sources) (omega (arith, h.well_formed.few)) (fits_table table h.well_formed)
-
--- what the lines after the version line give
-abbrev pub read_as : Version → List (List ℕ) → List (List ℕ) → WholeTable
-read_as v head body = with_lines v (length head + 1) (size_of head) [] body >>= table_from v
+    lines_on table.version n (size_of head) (empty_table table.version) table lines behind refl h.spelled (recursion_from_All (λ line. length line ≤ line_limit table.version) lines h.short) h.size
+    nothing_counted.without_fault (sound_table table h.well_formed)
 
 pub read_by : (n : Notation) (lines : List (List ℕ)) (o : Option Version) → version_of n lines ≡ o → table_of_lines n lines ≡ table_in o (head_of n lines) (body_of n lines)
 unfolding table_of_lines
@@ -399,9 +568,8 @@ text_read n text table h =
     let body : List (List ℕ) = body_of n (raw_lines text) in
     let k : ℕ = length head + 1 in
     read_by n (raw_lines text) (Some table.version) h.version
-    ∙ ap (λ r. r >>= table_from table.version) (
-    ap (with_lines table.version k (size_of head) []) (sym (append-nil body))
-    ∙ lines_read k head body [] table h.lines ∙ no_lines table.version (k + length body) (size_of head + size_of body) table.entries)
+    ∙ ap (with_lines k (size_of head) (empty_table table.version)) (sym (append-nil body))
+    ∙ lines_read k head body [] table h.lines ∙ no_lines (k + length body) (size_of head + size_of body) table
 
 pub whole_ok : (a b : TableValue) (r : WholeTable) → r ≡ Ok a → r ≡ Ok b → a ≡ b
 whole_ok a b r e f = cc
@@ -418,26 +586,18 @@ whole_err n m f g r e h =
     let p : a ≡ b = cc in
     (ap (λ (x : ℕ × LineFault). x.0) p, ap (λ (x : ℕ × LineFault). x.1) p)
 
--- what reading the lines of the entries gives is what reading the text gives
-pub read_ok : (n : Notation) (lines : List (List ℕ)) (v : Version) (entries : List Entry) → version_of n lines ≡ Some v
-    → with_lines v (length (head_of n lines) + 1) (size_of (head_of n lines)) [] (body_of n lines) ≡ Ok entries → table_of_lines n lines ≡ Ok (record { version = v; entries = entries })
-read_ok n lines v entries is e = read_by n lines (Some v) is ∙ ap (λ r. r >>= table_from v) e
-
-pub read_err : (n : Notation) (lines : List (List ℕ)) (v : Version) (f : ℕ × LineFault) → version_of n lines ≡ Some v
-    → with_lines v (length (head_of n lines) + 1) (size_of (head_of n lines)) [] (body_of n lines) ≡ Err f → table_of_lines n lines ≡ Err f
-read_err n lines v f is e = read_by n lines (Some v) is ∙ ap (λ r. r >>= table_from v) e
-
 read_with : (n : Notation) (text : List ℕ) (table : TableValue) (o : Option Version) → version_of n (raw_lines text) ≡ o → table_of_text n text ≡ Ok table → IsTextOf n text table
 read_with n text table None is e = whole_no table (1, Syntax) (table_of_text n text) e (read_by n (raw_lines text) None is)
 read_with n text table (Some v) is e =
     let head : List (List ℕ) = head_of n (raw_lines text) in
     let body : List (List ℕ) = body_of n (raw_lines text) in
-    elim (outcome v body (length head + 1) (size_of head) []) [
-      | inl d ↦ subst (λ t. IsTextOf n text t) (whole_ok (record { version = v; entries = d.entries }) table (table_of_text n text) (read_ok n (raw_lines text) v d.entries is d.is) e) (record {
-        version = is;
-        lines = well_formed_lines v head body d.entries (head_within n v (raw_lines text)) d.added;
+    let read = read_by n (raw_lines text) (Some v) is in
+    elim (outcome body (length head + 1) (size_of head) (empty_table v) (empty_sound v)) [
+      | inl d ↦ subst (λ t. IsTextOf n text t) (whole_ok d.table table (table_of_text n text) (read ∙ d.is) e) (record {
+        version = is ∙ ap (λ w. Some w) (sym d.added.version);
+        lines = well_formed_lines v head body d.table (head_within n v (raw_lines text)) d.added;
       })
-      | inr f ↦ whole_no table (length head + 1 + length f.before, f.kind) (table_of_text n text) e (read_err n (raw_lines text) v (length head + 1 + length f.before, f.kind) is f.is)
+      | inr f ↦ whole_no table (length head + 1 + length f.before, f.kind) (table_of_text n text) e (read ∙ f.is)
     ]
 
 pub read_text : (n : Notation) (text : List ℕ) (table : TableValue) → table_of_text n text ≡ Ok table → IsTextOf n text table

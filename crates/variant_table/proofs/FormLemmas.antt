@@ -1,9 +1,13 @@
--- The form of a line: skipped, the line of an entry or of a range, or none.
+-- The form of a line: skipped, a definition, the line of an entry or of a range, or none.
+use Rattle.std.specs.Prelude.{◌&&◌, ◌||◌, bytes_eq, codes}
 use Rattle.std.proofs.Common.{◌≡◌, ◌⊎◌, inl, inr, ℕ, Bool, true, false, cond, eqb, List, [], ◌∷◌, ◌++◌, Option, Some, None, Result, Ok, Err, refl, sym, ap, subst, ◌∙◌}
 use Rattle.std.specs.List.{list_all, onto_first}
 use Rattle.std.proofs.lemmas.Bool.{eqb-true, and_parts}
 use Rattle.std.proofs.lemmas.List.{append-nil}
 use Rattle.idn_text.specs.Points.{is_hex_digit, point_of_hex}
+use Rattle.ruleset_text.specs.declared.keyword.Keyword.{Keyword}
+use Rattle.ruleset_text.specs.declared.keyword.Keyword.TheVariants.{Tag, Set, Rule, Never, Always}
+use Rattle.ruleset_text.specs.Definition.{keyword_of}
 use Rattle.ruleset_text.specs.Entries.{Mapped, EntryForm}
 use Rattle.ruleset_text.specs.inner.EntrySteps.{entry_in}
 use Rattle.ruleset_text.specs.EntryText.{IsSequence, IsMapped, IsForm}
@@ -13,10 +17,12 @@ use Rattle.ruleset_text.specs.Tokens.{without_prefix}
 use Rattle.ruleset_text.proofs.EntryExactLemmas.{entry_read, entry_spelled, one_form}
 use Rattle.ruleset_text.proofs.HexLemmas.{hex_facts}
 use Rattle.variant_table.specs.declared.version.Version.{Version}
+use Rattle.variant_table.specs.declared.version.Version.TheVariants.{One, Two, Three}
 use Rattle.variant_table.specs.Faults.{LineFault, Syntax}
-use Rattle.variant_table.specs.Entries.{Entry}
+use Rattle.variant_table.specs.DefinitionLines.{if_read, keyword_in, with_behind}
+use Rattle.variant_table.specs.Entries.{Entry, TableValue}
 use Rattle.variant_table.specs.Forms.{has_form, entries_of, SpellsEntries}
-use Rattle.variant_table.specs.Reading.{◌>>=◌, is_skipped, entries_by, entries_in, with_entries, with_line}
+use Rattle.variant_table.specs.Reading.{◌>>=◌, is_skipped, entries_by, entries_in, with_definition, with_entries_of, with_line, with_words}
 use Rattle.variant_table.specs.Texts.{AreBlanks, IsComment, LineSpells}
 
 -- ---- skipped lines
@@ -43,11 +49,15 @@ comment_skipped line k = ap is_skipped k.3 ∙ skipped_front k.0 (35 ∷ k.1) k.
 
 -- ---- skipped lines by their lexemes
 
+-- no lexeme, or a first one that begins with this byte
+abbrev begins : ℕ → List (List ℕ) → Bool
+begins k [] = true
+begins k ([] ∷ words) = false
+begins k ((c ∷ cs) ∷ words) = eqb c k
+
 -- no lexeme, or a first one that begins with '#'
 abbrev skips : List (List ℕ) → Bool
-skips [] = true
-skips ([] ∷ words) = false
-skips ((c ∷ cs) ∷ words) = eqb c 35
+skips = begins 35
 
 skips_onto : (c : ℕ) (words : List (List ℕ)) → skips (onto_first c words) ≡ eqb c 35
 skips_onto c [] = refl
@@ -63,61 +73,91 @@ skipped_by_words : (line : List ℕ) → is_skipped line ≡ skips (lexemes line
 skipped_by_words [] = refl
 skipped_by_words (c ∷ cs) = skipped_word c cs (is_blank c) (is_joined c cs) (skipped_by_words cs)
 
--- ---- the first word of an entry is no comment
+-- ---- the first word of an entry begins with '!', with 'U' or 'u', or with a digit
 
-hex_no_comment : (digits : List ℕ) (c : ℕ) (words : List (List ℕ)) → point_of_hex digits ≡ Some c → skips (digits ∷ words) ≡ false
-hex_no_comment [] c words e = refl
-hex_no_comment (x ∷ xs) c words e = by_cases (eqb x 35) refl
-  where
-    by_cases : (b : Bool) → eqb x 35 ≡ b → eqb x 35 ≡ false
-    by_cases false f = f
-    by_cases true f =
-        let digit : is_hex_digit x ≡ true = (and_parts (is_hex_digit x) (list_all is_hex_digit xs) (hex_facts (x ∷ xs) c e).digit).0 in
-        let none : is_hex_digit 35 ≡ true = ap is_hex_digit (sym (eqb-true x 35 f)) ∙ digit in
-        absurd cc
+module _ (k : ℕ) (no_digit : is_hex_digit k ≡ false) (no_prefix : (eqb k 85 || eqb k 117) ≡ false) (no_mark : eqb 33 k ≡ false) where
+  other_hex : (digits : List ℕ) (c : ℕ) (words : List (List ℕ)) → point_of_hex digits ≡ Some c → begins k (digits ∷ words) ≡ false
+  other_hex [] c words e = refl
+  other_hex (x ∷ xs) c words e = by_cases (eqb x k) refl
+    where
+      by_cases : (b : Bool) → eqb x k ≡ b → eqb x k ≡ false
+      by_cases false f = f
+      by_cases true f =
+          let digit : is_hex_digit x ≡ true = (and_parts (is_hex_digit x) (list_all is_hex_digit xs) (hex_facts (x ∷ xs) c e).digit).0 in
+          let both : true ≡ false = sym (ap is_hex_digit (sym (eqb-true x k f)) ∙ digit) ∙ no_digit in
+          absurd cc
 
-point_no_comment : (lexeme : List ℕ) (c : ℕ) (words : List (List ℕ)) → point_of lexeme ≡ Some c → skips (lexeme ∷ words) ≡ false
-point_no_comment [] c words e = refl
-point_no_comment (x ∷ []) c words e = hex_no_comment (x ∷ []) c words e
-point_no_comment (x ∷ y ∷ ds) c words e = by_cases (eqb x 35) refl
-  where
-    by_cases : (b : Bool) → eqb x 35 ≡ b → eqb x 35 ≡ false
-    by_cases false f = f
-    by_cases true f =
-        let same : x ≡ 35 = eqb-true x 35 f in
-        let whole : without_prefix (x ∷ y ∷ ds) ≡ x ∷ y ∷ ds = ap (λ n. without_prefix (n ∷ y ∷ ds)) same ∙ ap (λ n. n ∷ y ∷ ds) (sym same) in
-        hex_no_comment (x ∷ y ∷ ds) c words (sym (ap point_of_hex whole) ∙ e)
+  other_point : (lexeme : List ℕ) (c : ℕ) (words : List (List ℕ)) → point_of lexeme ≡ Some c → begins k (lexeme ∷ words) ≡ false
+  other_point [] c words e = refl
+  other_point (x ∷ []) c words e = other_hex (x ∷ []) c words e
+  other_point (x ∷ y ∷ ds) c words e = by_cases (eqb x k) refl
+    where
+      by_cases : (b : Bool) → eqb x k ≡ b → eqb x k ≡ false
+      by_cases false f = f
+      by_cases true f =
+          let same : x ≡ k = eqb-true x k f in
+          let none : (eqb x 85 || eqb x 117) ≡ false = ap (λ n. eqb n 85 || eqb n 117) same ∙ no_prefix in
+          let whole : without_prefix (x ∷ y ∷ ds) ≡ x ∷ y ∷ ds = ap (λ b. cond (b && eqb y 43) ds (x ∷ y ∷ ds)) none in
+          other_hex (x ∷ y ∷ ds) c words (sym (ap point_of_hex whole) ∙ e)
 
-first_no_comment : (marked : Bool) (c : ℕ) (rest : List Word) (words : List (List ℕ)) → AreWords (mark_words marked ++ Point c ∷ rest) words → skips words ≡ false
-first_no_comment true c rest [] h = absurd h
-first_no_comment true c rest (word ∷ words) h = ap (λ w. skips (w ∷ words)) h.0
-first_no_comment false c rest [] h = absurd h
-first_no_comment false c rest (word ∷ words) h = point_no_comment word c words h.0
+  other_first : (marked : Bool) (c : ℕ) (rest : List Word) (words : List (List ℕ)) → AreWords (mark_words marked ++ Point c ∷ rest) words → begins k words ≡ false
+  other_first true c rest [] h = absurd h
+  other_first true c rest (word ∷ words) h = ap (λ w. begins k (w ∷ words)) h.0 ∙ no_mark
+  other_first false c rest [] h = absurd h
+  other_first false c rest (word ∷ words) h = other_point word c words h.0
 
--- words that begin with those of a source
-source_no_comment : (marked : Bool) (points : List ℕ) (after rest : List Word) (words : List (List ℕ)) → IsSequence points
-    → AreWords ((mark_words marked ++ (sequence_words points ++ after)) ++ rest) words → skips words ≡ false
-source_no_comment marked [] after rest words s w = absurd s
-source_no_comment true (c ∷ []) after rest words s w = first_no_comment true c (after ++ rest) words w
-source_no_comment false (c ∷ []) after rest words s w = first_no_comment false c (after ++ rest) words w
-source_no_comment true (c ∷ d ∷ points) after rest words s w = first_no_comment true c (Hyphen ∷ ((sequence_words (d ∷ points) ++ after) ++ rest)) words w
-source_no_comment false (c ∷ d ∷ points) after rest words s w = first_no_comment false c (Hyphen ∷ ((sequence_words (d ∷ points) ++ after) ++ rest)) words w
+  -- words that begin with those of a source
+  other_source : (marked : Bool) (points : List ℕ) (after rest : List Word) (words : List (List ℕ)) → IsSequence points
+      → AreWords ((mark_words marked ++ (sequence_words points ++ after)) ++ rest) words → begins k words ≡ false
+  other_source marked [] after rest words s w = absurd s
+  other_source true (c ∷ []) after rest words s w = other_first true c (after ++ rest) words w
+  other_source false (c ∷ []) after rest words s w = other_first false c (after ++ rest) words w
+  other_source true (c ∷ d ∷ points) after rest words s w = other_first true c (Hyphen ∷ ((sequence_words (d ∷ points) ++ after) ++ rest)) words w
+  other_source false (c ∷ d ∷ points) after rest words s w = other_first false c (Hyphen ∷ ((sequence_words (d ∷ points) ++ after) ++ rest)) words w
 
-source_of : (m : Mapped) (last : Option ℕ) (rest : List Word) (words : List (List ℕ)) → IsMapped m → AreWords (mapped_words m last ++ rest) words → skips words ≡ false
-source_of m last rest words h w = source_no_comment m.marked m.points (last_words last ++ (tags_words m.tags ++ condition_words m.condition)) rest words h.sequence w
+  other_mapped : (m : Mapped) (last : Option ℕ) (rest : List Word) (words : List (List ℕ)) → IsMapped m → AreWords (mapped_words m last ++ rest) words → begins k words ≡ false
+  other_mapped m last rest words h w = other_source m.marked m.points (last_words last ++ (tags_words m.tags ++ condition_words m.condition)) rest words h.sequence w
 
-alone : (m : Mapped) (last : Option ℕ) (words : List (List ℕ)) → IsMapped m → AreWords (mapped_words m last) words → skips words ≡ false
-alone m last words h w = source_of m last [] words h (subst (λ ws. AreWords ws words) (sym (append-nil (mapped_words m last))) w)
+  other_alone : (m : Mapped) (last : Option ℕ) (words : List (List ℕ)) → IsMapped m → AreWords (mapped_words m last) words → begins k words ≡ false
+  other_alone m last words h w = other_mapped m last [] words h (subst (λ ws. AreWords ws words) (sym (append-nil (mapped_words m last))) w)
 
-entry_no_comment : (mapped : List Mapped) (last : Option ℕ) (words : List (List ℕ)) → IsForm mapped last → AreWords (entry_words mapped last) words → skips words ≡ false
-entry_no_comment [] last words h w = absurd h
-entry_no_comment (m ∷ []) None words h w = alone m None words h.0 w
-entry_no_comment (m ∷ n ∷ mapped) None words h w = source_of m None (Bar ∷ variants_words (n ∷ mapped)) words h.0 w
-entry_no_comment (m ∷ []) (Some c) words h w = alone m (Some c) words h.0 w
-entry_no_comment (m ∷ n ∷ mapped) (Some c) words h w = absurd h
+  other_entry : (mapped : List Mapped) (last : Option ℕ) (words : List (List ℕ)) → IsForm mapped last → AreWords (entry_words mapped last) words → begins k words ≡ false
+  other_entry [] last words h w = absurd h
+  other_entry (m ∷ []) None words h w = other_alone m None words h.0 w
+  other_entry (m ∷ n ∷ mapped) None words h w = other_mapped m None (Bar ∷ variants_words (n ∷ mapped)) words h.0 w
+  other_entry (m ∷ []) (Some c) words h w = other_alone m (Some c) words h.0 w
+  other_entry (m ∷ n ∷ mapped) (Some c) words h w = absurd h
 
 pub spells-not_skipped : (v : Version) (line : List ℕ) (es : List Entry) → SpellsEntries v line es → is_skipped line ≡ false
-spells-not_skipped v line es h = skipped_by_words line ∙ entry_no_comment h.0.mapped h.0.last (lexemes line) h.1.0 h.1.1
+spells-not_skipped v line es h = skipped_by_words line ∙ other_entry 35 refl refl refl h.0.mapped h.0.last (lexemes line) h.1.0 h.1.1
+
+-- ---- a definition begins with '%'
+
+no_keyword : (word : List ℕ) (words : List (List ℕ)) → begins 37 (word ∷ words) ≡ false → keyword_of word ≡ None
+no_keyword [] words h = refl
+no_keyword (c ∷ cs) words h =
+    ap (λ b. cond (b && bytes_eq cs (codes "tag")) (Some Tag) (cond (b && bytes_eq cs (codes "set")) (Some Set) (cond (b && bytes_eq cs (codes "rule")) (Some Rule) (cond (b && bytes_eq cs (codes "never")) (Some Never) (cond (b && bytes_eq cs (codes "always")) (Some Always) None))))) h
+
+none_in : (v : Version) (words : List (List ℕ)) → begins 37 words ≡ false → keyword_in v words ≡ None
+none_in One words h = refl
+none_in Two words h = refl
+none_in Three [] h = refl
+none_in Three (word ∷ words) h = ap (λ o. with_behind words (if_read o)) (no_keyword word words h)
+
+-- an entry is no definition
+pub spells-no_definition : (v : Version) (line : List ℕ) (es : List Entry) → SpellsEntries v line es → keyword_in v (lexemes line) ≡ None
+spells-no_definition v line es h = none_in v (lexemes line) (other_entry 37 refl refl refl h.0.mapped h.0.last (lexemes line) h.1.0 h.1.1)
+
+skips_none : (v : Version) (words : List (List ℕ)) → skips words ≡ true → keyword_in v words ≡ None
+skips_none One [] h = refl
+skips_none Two [] h = refl
+skips_none Three [] h = refl
+skips_none v ([] ∷ words) h = absurd cc
+skips_none v ((c ∷ cs) ∷ words) h = none_in v ((c ∷ cs) ∷ words) (ap (λ n. eqb n 37) (eqb-true c 35 h))
+
+-- what is skipped is none, either
+pub skipped-no_definition : (v : Version) (line : List ℕ) → is_skipped line ≡ true → keyword_in v (lexemes line) ≡ None
+skipped-no_definition v line s = skips_none v (lexemes line) (sym (skipped_by_words line) ∙ s)
 
 -- ---- what is spelled is read, and what is read is spelled
 
@@ -139,23 +179,28 @@ by_form v line es (Some form) e is = form_spelled v line es form (has_form v for
 pub read_spells : (v : Version) (line : List ℕ) (es : List Entry) → entries_in v (lexemes line) ≡ Ok es → SpellsEntries v line es
 read_spells v line es e = by_form v line es (entry_in (lexemes line)) refl e
 
--- ---- the three forms
+-- ---- the four forms
 
 pub data Form (v : Version) (line : List ℕ) : Type 0 where
   skipped : is_skipped line ≡ true → Form v line
+  defines : (keyword : Keyword) (behind : List (List ℕ)) → is_skipped line ≡ false → keyword_in v (lexemes line) ≡ Some (keyword, behind) → Form v line
   of_entries : (es : List Entry) → SpellsEntries v line es → Form v line
-  formless : is_skipped line ≡ false → ((es : List Entry) → SpellsEntries v line es → ⊥) → Form v line
+  formless : is_skipped line ≡ false → keyword_in v (lexemes line) ≡ None → ((es : List Entry) → SpellsEntries v line es → ⊥) → Form v line
 
-form_step : (v : Version) (line : List ℕ) (r : Result (List Entry) LineFault) → entries_in v (lexemes line) ≡ r → is_skipped line ≡ false → Form v line
-form_step v line (Ok es) e s = of_entries es (read_spells v line es e)
-form_step v line (Err f) e s = formless s (λ es h. (let a : entries_in v (lexemes line) ≡ Ok es = spells_read v line es h in cc))
+form_step : (v : Version) (line : List ℕ) (r : Result (List Entry) LineFault) → entries_in v (lexemes line) ≡ r → is_skipped line ≡ false → keyword_in v (lexemes line) ≡ None → Form v line
+form_step v line (Ok es) e s n = of_entries es (read_spells v line es e)
+form_step v line (Err f) e s n = formless s n (λ es h. (let a : entries_in v (lexemes line) ≡ Ok es = spells_read v line es h in cc))
+
+form_by : (v : Version) (line : List ℕ) (o : Option (Keyword × List (List ℕ))) → keyword_in v (lexemes line) ≡ o → is_skipped line ≡ false → Form v line
+form_by v line None n s = form_step v line (entries_in v (lexemes line)) refl s n
+form_by v line (Some (keyword, behind)) n s = defines keyword behind s n
 
 pub form_of : (v : Version) (line : List ℕ) → Form v line
 form_of v line = by_cases (is_skipped line) refl
   where
     by_cases : (b : Bool) → is_skipped line ≡ b → Form v line
     by_cases true e = skipped e
-    by_cases false e = form_step v line (entries_in v (lexemes line)) refl e
+    by_cases false e = form_by v line (keyword_in v (lexemes line)) refl e
 
 -- the only fault of lexemes is their syntax
 syntax_form : (m : Bool) (es : List Entry) (f : LineFault) → cond m (Ok es) (Err Syntax) ≡ Err f → f ≡ Syntax
@@ -168,31 +213,44 @@ syntax_by v (Some form) f e = syntax_form (has_form v form) (entries_of form) f 
 
 -- ---- what a line of each form adds
 
-pub with_line-skipped : (v : Version) (t : List Entry) (line : List ℕ) → is_skipped line ≡ true → with_line v t line ≡ Ok t
+pub with_line-skipped : (t : TableValue) (line : List ℕ) → is_skipped line ≡ true → with_line t line ≡ Ok t
 unfolding with_line
-with_line-skipped v t line s = ap (λ b. cond b (Ok t) (entries_in v (lexemes line) >>= with_entries v t)) s
+with_line-skipped t line s = ap (λ b. cond b (Ok t) (with_words t (keyword_in t.version (lexemes line)) (lexemes line))) s
 
-pub with_line-entries : (v : Version) (t : List Entry) (line : List ℕ) (es : List Entry) → SpellsEntries v line es → with_line v t line ≡ with_entries v t es
+with_line-words : (t : TableValue) (line : List ℕ) (o : Option (Keyword × List (List ℕ))) → is_skipped line ≡ false → keyword_in t.version (lexemes line) ≡ o → with_line t line ≡ with_words t o (lexemes line)
 unfolding with_line
-with_line-entries v t line es h =
-    ap (λ b. cond b (Ok t) (entries_in v (lexemes line) >>= with_entries v t)) (spells-not_skipped v line es h)
-    ∙ ap (λ r. r >>= with_entries v t) (spells_read v line es h)
+with_line-words t line o s n =
+    ap (λ b. cond b (Ok t) (with_words t (keyword_in t.version (lexemes line)) (lexemes line))) s ∙ ap (λ o. with_words t o (lexemes line)) n
 
-formless_step : (v : Version) (t : List Entry) (line : List ℕ) (r : Result (List Entry) LineFault) → entries_in v (lexemes line) ≡ r → ((es : List Entry) → SpellsEntries v line es → ⊥) → (r >>= with_entries v t) ≡ Err Syntax
-formless_step v t line (Ok es) e none = absurd (none es (read_spells v line es e))
-formless_step v t line (Err f) e none = ap (λ x. Err x) (syntax_by v (entry_in (lexemes line)) f e)
+pub with_line-defines : (t : TableValue) (line : List ℕ) (keyword : Keyword) (behind : List (List ℕ)) → is_skipped line ≡ false → keyword_in t.version (lexemes line) ≡ Some (keyword, behind)
+    → with_line t line ≡ with_definition t keyword behind
+with_line-defines t line keyword behind s n = with_line-words t line (Some (keyword, behind)) s n
 
-pub with_line-formless : (v : Version) (t : List Entry) (line : List ℕ) → is_skipped line ≡ false → ((es : List Entry) → SpellsEntries v line es → ⊥) → with_line v t line ≡ Err Syntax
-unfolding with_line
-with_line-formless v t line s none =
-    ap (λ b. cond b (Ok t) (entries_in v (lexemes line) >>= with_entries v t)) s ∙ formless_step v t line (entries_in v (lexemes line)) refl none
+pub with_line-plain : (t : TableValue) (line : List ℕ) → is_skipped line ≡ false → keyword_in t.version (lexemes line) ≡ None → with_line t line ≡ (entries_in t.version (lexemes line) >>= with_entries_of t)
+with_line-plain t line s n = with_line-words t line None s n
+
+pub with_line-entries : (t : TableValue) (line : List ℕ) (es : List Entry) → SpellsEntries t.version line es → with_line t line ≡ with_entries_of t es
+with_line-entries t line es h =
+    with_line-plain t line (spells-not_skipped t.version line es h) (spells-no_definition t.version line es h)
+    ∙ ap (λ r. r >>= with_entries_of t) (spells_read t.version line es h)
+
+-- what has no form has a fault of syntax
+pub formless_entries : (v : Version) (line : List ℕ) → ((es : List Entry) → SpellsEntries v line es → ⊥) → entries_in v (lexemes line) ≡ Err Syntax
+formless_entries v line none = by_result (entries_in v (lexemes line)) refl
+  where
+    by_result : (r : Result (List Entry) LineFault) → entries_in v (lexemes line) ≡ r → entries_in v (lexemes line) ≡ Err Syntax
+    by_result (Ok es) e = absurd (none es (read_spells v line es e))
+    by_result (Err f) e = e ∙ ap (λ x. Err x) (syntax_by v (entry_in (lexemes line)) f e)
+
+pub with_line-formless : (t : TableValue) (line : List ℕ) → is_skipped line ≡ false → keyword_in t.version (lexemes line) ≡ None → ((es : List Entry) → SpellsEntries t.version line es → ⊥) → with_line t line ≡ Err Syntax
+with_line-formless t line s n none = with_line-plain t line s n ∙ ap (λ r. r >>= with_entries_of t) (formless_entries t.version line none)
 
 -- a line of a form that the version doesn't have spells nothing
 pub other_version : (v : Version) (line : List ℕ) (form : EntryForm) → IsEntryLine form line → has_form v form ≡ false → (es : List Entry) → SpellsEntries v line es → ⊥
 other_version v line form is lacks es h = let both : true ≡ false = sym h.2 ∙ ap (has_form v) (one_form h.0 form line h.1 is) ∙ lacks in cc
 
-pub with_line-form : (v : Version) (t : List Entry) (line : List ℕ) (form : EntryForm) → IsEntryLine form line → has_form v form ≡ true → with_line v t line ≡ with_entries v t (entries_of form)
-with_line-form v t line form is has = with_line-entries v t line (entries_of form) (form, is, has, refl)
+pub entries_of_form : (v : Version) (line : List ℕ) (form : EntryForm) → IsEntryLine form line → has_form v form ≡ true → entries_in v (lexemes line) ≡ Ok (entries_of form)
+entries_of_form v line form is has = spells_read v line (entries_of form) (form, is, has, refl)
 
 -- ---- the entries of a line
 
@@ -207,6 +265,13 @@ pub spelling_of : (v : Version) (line : List ℕ) (entries : List Entry) → Lin
 spelling_of v line entries (inl a) = none (blank_skipped line a.0) a.1
 spelling_of v line entries (inr (inl k)) = none (comment_skipped line k.0) k.1
 spelling_of v line entries (inr (inr h)) = some h
+
+-- it defines nothing
+pub spelling-none : (v : Version) (line : List ℕ) (entries : List Entry) → LineSpells v line entries → keyword_in v (lexemes line) ≡ None
+spelling-none v line entries s = elim (spelling_of v line entries s) [
+  | none k is ↦ skipped-no_definition v line k
+  | some h ↦ spells-no_definition v line entries h
+]
 
 -- the entries of such a line
 pub spelling-entries : (v : Version) (line : List ℕ) (entries es : List Entry) → SpellsEntries v line es → LineSpells v line entries → entries ≡ es

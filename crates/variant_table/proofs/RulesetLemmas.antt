@@ -1,5 +1,5 @@
 -- Tables of version 2 as rulesets, and that no text is both.
-use Rattle.std.proofs.Common.{◌≡◌, inl, inr, ℕ, ◌+◌, ◌≤◌, Bool, true, false, not, cond, List, [], ◌∷◌, ◌++◌, length, Option, Some, None, Ok, Err, refl, sym, ap, ◌∙◌, arith, length-append}
+use Rattle.std.proofs.Common.{◌≡◌, inl, inr, ℕ, ◌+◌, ◌≤◌, Bool, true, false, not, cond, List, [], ◌∷◌, ◌++◌, length, Option, Some, None, Ok, Err, refl, sym, ap, subst, ◌∙◌, arith, length-append}
 use Rattle.std.specs.Prelude.{bytes_eq}
 use Rattle.std.specs.List.{AllByRecursion, list_all}
 use Rattle.std.specs.Str.Lines.{strip_carriage_return}
@@ -13,15 +13,19 @@ use Rattle.variant_table.specs.declared.version.Version.TheVariants.{One, Two, T
 use Rattle.variant_table.specs.Faults.{LineFault, Limit, Syntax}
 use Rattle.std.proofs.lemmas.Bool.{and_parts}
 use Rattle.ruleset_text.specs.inner.EntrySteps.{entry_in}
-use Rattle.variant_table.specs.Entries.{Entry, TableValue}
+use Rattle.ruleset_text.specs.Definitions.{Definitions, nothing_defined}
+use Rattle.ruleset_text.specs.Lexemes.{lexemes}
+use Rattle.variant_table.specs.DefinitionLines.{keyword_in, Defines}
+use Rattle.variant_table.specs.Entries.{Entry, TableValue, empty_table, table_of}
 use Rattle.variant_table.specs.Forms.{is_plain, begins_marked}
 use Rattle.variant_table.specs.Canonical.{canonical_text, head_text, version_line}
 use Rattle.variant_table.specs.Conditions.{is_too_long}
 use Rattle.variant_table.specs.WellFormed.{IsTable}
-use Rattle.variant_table.specs.Texts.{LineSpells, LinesSpell, IsTextOf}
+use Rattle.variant_table.specs.Texts.{LineSpells, LineAdds, LinesSpell, IsTextOf}
 use Rattle.variant_table.specs.Versions.{version_of, is_version_line}
-use Rattle.variant_table.specs.Reading.{◌>>=◌, in_line, with_line, with_raw_line, with_lines, table_from, table_in, table_of_lines}
+use Rattle.variant_table.specs.Reading.{◌>>=◌, in_line, with_line, with_raw_line, with_lines, table_in, table_of_lines}
 use Rattle.variant_table.proofs.FaultlessLemmas.{read_by, text_read, whole_no}
+use Rattle.variant_table.proofs.SizeLemmas.{adds_version}
 
 -- ---- a table of version 2 is a ruleset once its first line says so
 
@@ -30,29 +34,48 @@ line_three line entries (inl h) = inl h
 line_three line entries (inr (inl h)) = inr (inl h)
 line_three line entries (inr (inr h)) = inr (inr (h.0, h.1, (and_parts (list_all is_plain h.0.mapped) (not (begins_marked h.0.mapped)) h.2).0, h.3))
 
-lines_three : (lines : List (List ℕ)) (entries : List Entry) → LinesSpell Two lines entries → LinesSpell Three lines entries
-lines_three [] entries h = h
-lines_three (line ∷ lines) entries h = (h.0, h.1, line_three (strip_carriage_return line) h.0 h.2, lines_three lines h.1 h.3, h.4)
+-- a table as a ruleset
+abbrev three : TableValue → TableValue
+three t = record t { version = Three }
+
+no_definition : (t : TableValue) (line : List ℕ) (d : Definitions) → t.version ≡ Two → Defines t line d → ⊥
+no_definition t line d is (k, behind, n, e) = by_version t.version is n
+  where
+    by_version : (v : Version) → v ≡ Two → keyword_in v (lexemes line) ≡ Some (k, behind) → ⊥
+    by_version One is n = cc
+    by_version Two is n = cc
+    by_version Three is n = cc
+
+added_three : (t u : TableValue) (line : List ℕ) → t.version ≡ Two → LineAdds t line u → LineAdds (three t) line (three u)
+added_three t u line two (inl (es, s, is)) = inl (es, line_three line es (subst (λ v. LineSpells v line es) two s), ap three is)
+added_three t u line two (inr (d, s, is)) = absurd (no_definition t line d two s)
+
+lines_three : (t u : TableValue) (lines : List (List ℕ)) → t.version ≡ Two → LinesSpell t lines u → LinesSpell (three t) lines (three u)
+lines_three t u [] two s = ap three s
+lines_three t u (line ∷ lines) two (m, adds, rest) =
+    (three m, added_three t m (strip_carriage_return line) two adds, lines_three m u lines (adds_version t m (strip_carriage_return line) adds ∙ two) rest)
 
 shorter : (lines : List (List ℕ)) → AllByRecursion (λ line. length line ≤ 1024) lines → AllByRecursion (λ line. length line ≤ 8192) lines
 shorter [] h = tt
 shorter (line ∷ lines) h = (omega (arith, h.0), shorter lines h.1)
 
-as_ruleset : (entries : List Entry) → IsTable (record { version = Two; entries = entries }) → IsTable (record { version = Three; entries = entries })
+as_ruleset : (entries : List Entry) → IsTable (table_of Two nothing_defined entries) → IsTable (table_of Three nothing_defined entries)
 as_ruleset entries h = record {
+  without_fault = h.without_fault;
+  defined = refl;
   well_formed = h.well_formed;
   of_version = λ k d l. tt;
   few = omega (arith, h.few);
   short = omega (arith, h.short, length-append (head_text Two) (canonical_text entries), length-append (head_text Three) (canonical_text entries));
 }
 
-pub as_three : (lines : List ℕ) (entries : List Entry) → IsTextOf Table (head_text Two ++ lines) (record { version = Two; entries = entries }) → IsTextOf Ruleset (head_text Three ++ lines) (record { version = Three; entries = entries })
+pub as_three : (lines : List ℕ) (entries : List Entry) → IsTextOf Table (head_text Two ++ lines) (table_of Two nothing_defined entries) → IsTextOf Ruleset (head_text Three ++ lines) (table_of Three nothing_defined entries)
 as_three lines entries h =
     let body : List (List ℕ) = raw_lines lines in
     record {
       version = refl;
       lines = record {
-        spelled = lines_three body entries h.lines.spelled;
+        spelled = lines_three (empty_table Two) (table_of Two nothing_defined entries) body refl h.lines.spelled;
         short = All-from_recursion (λ line. length line ≤ 8192) body (shorter body (recursion_from_All (λ line. length line ≤ 1024) body h.lines.short));
         size = omega (arith, h.lines.size);
         well_formed = as_ruleset entries h.lines.well_formed;
@@ -62,18 +85,18 @@ as_three lines entries h =
 -- ---- no text is both
 
 -- the first line of a ruleset spells nothing in a table
-refused_line : with_line One [] (version_line Ruleset) ≡ Err Syntax
+refused_line : with_line (empty_table One) (version_line Ruleset) ≡ Err Syntax
 unfolding point_of_hex entry_in with_line
 refused_line = refl
 
-refused_by : (line : List ℕ) (b : Bool) → is_too_long One 0 line ≡ b → strip_carriage_return line ≡ version_line Ruleset → (kind : LineFault) × (with_raw_line One 0 [] line ≡ Err kind)
+refused_by : (line : List ℕ) (b : Bool) → is_too_long One 0 line ≡ b → strip_carriage_return line ≡ version_line Ruleset → (kind : LineFault) × (with_raw_line 0 (empty_table One) line ≡ Err kind)
 unfolding with_raw_line
-refused_by line true long is = (Limit, ap (λ b. cond b (Err Limit) (with_line One [] (strip_carriage_return line))) long)
-refused_by line false long is = (Syntax, ap (λ b. cond b (Err Limit) (with_line One [] (strip_carriage_return line))) long ∙ ap (with_line One []) is ∙ refused_line)
+refused_by line true long is = (Limit, ap (λ b. cond b (Err Limit) (with_line (empty_table One) (strip_carriage_return line))) long)
+refused_by line false long is = (Syntax, ap (λ b. cond b (Err Limit) (with_line (empty_table One) (strip_carriage_return line))) long ∙ ap (with_line (empty_table One)) is ∙ refused_line)
 
-first_refused : (line : List ℕ) (lines : List (List ℕ)) (kind : LineFault) → with_raw_line One 0 [] line ≡ Err kind → table_in (Some One) [] (line ∷ lines) ≡ Err (1, kind)
+first_refused : (line : List ℕ) (lines : List (List ℕ)) (kind : LineFault) → with_raw_line 0 (empty_table One) line ≡ Err kind → table_in (Some One) [] (line ∷ lines) ≡ Err (1, kind)
 unfolding with_lines
-first_refused line lines kind e = ap (λ r. (in_line 1 r >>= λ t. with_lines One 2 (0 + length line + 1) t lines) >>= table_from One) e
+first_refused line lines kind e = ap (λ r. in_line 1 r >>= λ t. with_lines 2 (0 + length line + 1) t lines) e
 
 refused_as_table : (line : List ℕ) (lines : List (List ℕ)) → strip_carriage_return line ≡ version_line Ruleset → (kind : LineFault) × (table_of_lines Table (line ∷ lines) ≡ Err (1, kind))
 refused_as_table line lines is =

@@ -14,6 +14,7 @@ use Rattle.idn_text.proofs.LawLemmas.{joined-raw_lines}
 use Rattle.idn_text.specs.Points.{is_hex_digit, point_of_hex}
 use Rattle.ruleset_text.specs.declared.entry_form.Condition.{Condition}
 use Rattle.ruleset_text.specs.Canonical.{four_digits, hex_digit, point_text}
+use Rattle.ruleset_text.specs.Definitions.{Definitions}
 use Rattle.ruleset_text.specs.Entries.{Mapped}
 use Rattle.ruleset_text.specs.EntryText.{mark_text, sequence_text, mapped_text, variants_text, entry_text, IsForm}
 use Rattle.ruleset_text.specs.EntryWords.{Word, Point, Name, Mark, Hyphen, Bar, Colon, Comma, Range, As, When, Unless, IsWord, AreWords, point_of, mark_words, sequence_words, mapped_words, variants_words, entry_words}
@@ -22,11 +23,13 @@ use Rattle.ruleset_text.proofs.HexLemmas.{IsHex, hex_facts, length-point_text}
 use Rattle.variant_table.specs.declared.version.Notation.{Notation}
 use Rattle.variant_table.specs.declared.version.Version.{Version}
 use Rattle.variant_table.specs.declared.version.Version.TheVariants.{One, Two, Three}
-use Rattle.variant_table.specs.Entries.{Variant, Entry}
+use Rattle.variant_table.specs.DefinitionLines.{keyword_in, Defines}
+use Rattle.variant_table.specs.Entries.{Variant, Entry, TableValue, empty_table}
 use Rattle.variant_table.specs.Forms.{has_tags, is_plain, is_bare, has_form, variant_of, entry_of, entries_to, SpellsEntries, mapped_of}
 use Rattle.variant_table.specs.Canonical.{canonical_line, canonical_text, table_text}
 use Rattle.variant_table.specs.Versions.{size_of, body_of, is_version_line}
-use Rattle.variant_table.specs.Texts.{LineSpells, LinesSpell}
+use Rattle.variant_table.specs.Texts.{LineSpells, LineAdds, LinesSpell}
+use Rattle.variant_table.specs.WellFormed.{AreOfVersion}
 use Rattle.variant_table.proofs.FormLemmas.{none, some, spelling_of}
 
 -- ---- a point
@@ -233,17 +236,49 @@ line_long line entries s = elim (spelling_of One (strip_carriage_return line) en
 pub size_of-cons : (line : List ℕ) (lines : List (List ℕ)) → size_of (line ∷ lines) ≡ length line + 1 + size_of lines
 size_of-cons line lines = sum_by-cons (λ line. length line + 1) line lines
 
--- in version 1 canonical text is at most as long as the lines that spelled it
-pub canonical_text_long : (lines : List (List ℕ)) (table : List Entry) → LinesSpell One lines table → length (canonical_text table) ≤ size_of lines
-canonical_text_long [] table s = omega (arith, ap (λ t. length (canonical_text t)) s)
-canonical_text_long (line ∷ lines) table s =
-    let cut : canonical_text (s.0 ++ s.1) ≡ canonical_text s.0 ++ canonical_text s.1 = flat_map-append (λ e. canonical_line e ++ 10 ∷ []) s.0 s.1 in
-    omega (arith, ap (λ t. length (canonical_text t)) s.4, ap length cut, length-append (canonical_text s.0) (canonical_text s.1), line_long line s.0 s.2, canonical_text_long lines s.1 s.3, size_of-cons line lines)
+-- in version 1 nothing is defined
+no_definition : (t : TableValue) (line : List ℕ) (d : Definitions) → t.version ≡ One → Defines t line d → ⊥
+no_definition t line d is (k, behind, n, e) = by_version t.version is n
+  where
+    by_version : (v : Version) → v ≡ One → keyword_in v (lexemes line) ≡ Some (k, behind) → ⊥
+    by_version One is n = cc
+    by_version Two is n = cc
+    by_version Three is n = cc
 
-table_text_long : (v : Version) (lines : List (List ℕ)) (table : List Entry) → v ≡ One → LinesSpell v lines table → length (table_text v table) ≤ size_of lines
-table_text_long One lines table e s = canonical_text_long lines table s
-table_text_long Two lines table e s = absurd cc
-table_text_long Three lines table e s = absurd cc
+-- and canonical text is at most as long as the lines that spelled it
+line_longer : (line : List ℕ) (t u : TableValue) → t.version ≡ One → LineAdds t (strip_carriage_return line) u → length (canonical_text u.entries) ≤ length (canonical_text t.entries) + (length line + 1)
+line_longer line t u one (inl (es, s, is)) =
+    let cut : canonical_text (t.entries ++ es) ≡ canonical_text t.entries ++ canonical_text es = flat_map-append (λ e. canonical_line e ++ 10 ∷ []) t.entries es in
+    omega (
+      arith,
+      ap (λ x. length (canonical_text x.entries)) is,
+      ap length cut,
+      length-append (canonical_text t.entries) (canonical_text es),
+      line_long line es (subst (λ v. LineSpells v (strip_carriage_return line) es) one s),
+    )
+line_longer line t u one (inr (d, s, is)) = absurd (no_definition t (strip_carriage_return line) d one s)
+
+pub adds_version : (t u : TableValue) (line : List ℕ) → LineAdds t line u → u.version ≡ t.version
+adds_version t u line (inl (es, s, is)) = ap (λ x. x.version) is
+adds_version t u line (inr (d, s, is)) = ap (λ x. x.version) is
+
+pub canonical_text_long : (lines : List (List ℕ)) (t u : TableValue) → t.version ≡ One → LinesSpell t lines u → length (canonical_text u.entries) ≤ length (canonical_text t.entries) + size_of lines
+canonical_text_long [] t u one s = omega (arith, ap (λ x. length (canonical_text x.entries)) s)
+canonical_text_long (line ∷ lines) t u one (m, adds, rest) =
+    omega (arith, line_longer line t m one adds, canonical_text_long lines m u (adds_version t m (strip_carriage_return line) adds ∙ one) rest, size_of-cons line lines)
+
+-- its canonical text is that of its entries
+pub length-one : (u : TableValue) → u.version ≡ One → AreOfVersion u.version u.definitions → length (table_text u.version u.definitions u.entries) ≡ length (canonical_text u.entries)
+length-one u is of = by_version u.version is of
+  where
+    by_version : (v : Version) → v ≡ One → AreOfVersion v u.definitions → length (table_text v u.definitions u.entries) ≡ length (canonical_text u.entries)
+    by_version One is of = ap (λ d. length (table_text One d u.entries)) of
+    by_version Two is of = absurd cc
+    by_version Three is of = absurd cc
+
+table_text_long : (lines : List (List ℕ)) (u : TableValue) → u.version ≡ One → AreOfVersion u.version u.definitions → LinesSpell (empty_table u.version) lines u → length (table_text u.version u.definitions u.entries) ≤ size_of lines
+table_text_long lines u one of s =
+    omega (arith, length-one u one of, canonical_text_long lines (empty_table u.version) u one s)
 
 body_shorter : (n : Notation) (lines : List (List ℕ)) → size_of (body_of n lines) ≤ size_of lines
 body_shorter n [] = omega arith
@@ -254,8 +289,9 @@ body_shorter n (line ∷ lines) = by_cases (is_version_line n line)
     by_cases false = omega arith
 
 -- in version 1 canonical text is at most as long as the text that was read
-pub never_longer : (n : Notation) (v : Version) (lines : List (List ℕ)) (table : List Entry) → v ≡ One → LinesSpell v (body_of n lines) table → length (table_text v table) ≤ size_of lines
-never_longer n v lines table e s = omega (arith, table_text_long v (body_of n lines) table e s, body_shorter n lines)
+pub never_longer : (n : Notation) (lines : List (List ℕ)) (u : TableValue) → u.version ≡ One → AreOfVersion u.version u.definitions → LinesSpell (empty_table u.version) (body_of n lines) u
+    → length (table_text u.version u.definitions u.entries) ≤ size_of lines
+never_longer n lines u one of s = omega (arith, table_text_long (body_of n lines) u one of s, body_shorter n lines)
 
 -- the lines joined, with a line feed behind each
 length-joined_lines : (lines : List (List ℕ)) → size_of lines ≡ length (joined_lines lines)

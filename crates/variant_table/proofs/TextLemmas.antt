@@ -6,13 +6,13 @@ use Rattle.variant_table.specs.declared.version.Notation.{Notation}
 use Rattle.variant_table.specs.declared.version.Version.{Version}
 use Rattle.variant_table.specs.declared.fault.TableFault.{TableFault}
 use Rattle.variant_table.specs.declared.fault.TableFault.TheVariants.{Memory}
-use Rattle.variant_table.specs.Entries.{TableValue}
+use Rattle.variant_table.specs.Entries.{TableValue, empty_table}
 use Rattle.variant_table.specs.Texts.{IsTextOf, IsFirstFaulty, IsFaultOf, IsToldOf}
 use Rattle.variant_table.specs.Versions.{version_of, head_of, body_of, size_of}
-use Rattle.variant_table.specs.Reading.{◌>>=◌, with_lines, table_from, table_of_text}
+use Rattle.variant_table.specs.Reading.{with_lines, table_of_text}
 use Rattle.variant_table.specs.inner.ReadingSteps.{FailsIn}
-use Rattle.variant_table.proofs.FaultlessLemmas.{WholeTable, fits_table, step_of, outcome, head_within, well_formed_lines, lines_read, read_by, text_read, whole_ok, whole_no, whole_err, read_ok, read_err, read_text}
-use Rattle.variant_table.proofs.FaultLemmas.{line_fault, told}
+use Rattle.variant_table.proofs.FaultlessLemmas.{WholeTable, fits_table, step_of, empty_sound, outcome, head_within, well_formed_lines, lines_read, read_by, text_read, whole_ok, whole_no, whole_err, read_text}
+use Rattle.variant_table.proofs.FaultLemmas.{line_fault_is, told}
 
 -- ---- the fault of a text
 
@@ -21,13 +21,11 @@ first_faulty_read n text number kind f =
     let head : List (List ℕ) = head_of n (raw_lines text) in
     let k : ℕ = length head + 1 in
     let bytes : ℕ = size_of head in
-    let c = f.faulty in
     let read = f.read in
     read_by n (raw_lines text) (Some f.table.version) f.version
-    ∙ ap (λ r. r >>= table_from f.table.version) (
-    ap (with_lines f.table.version k bytes []) f.cut ∙ lines_read k head f.before (f.line ∷ f.behind) f.table read
-    ∙ step_of f.table.version (k + length f.before) (bytes + size_of f.before) f.table.entries f.line f.behind (Err kind)
-    (told (bytes + size_of f.before) f.table f.line read.well_formed.few (fits_table f.table read.well_formed) c.0 c.2 c.3 ∙ ap (λ k. Err k) c.1))
+    ∙ ap (with_lines k bytes (empty_table f.table.version)) f.cut ∙ lines_read k head f.before (f.line ∷ f.behind) f.table read
+    ∙ step_of (k + length f.before) (bytes + size_of f.before) f.table f.line f.behind (Err kind)
+    (told (bytes + size_of f.before) f.table f.line read.well_formed.few (fits_table f.table read.well_formed) kind f.faulty)
     ∙ ap (λ m. Err (m, kind)) (let z : k + length f.before ≡ number = omega (arith, f.numbered) in z)
 
 pub fault_read : (n : Notation) (text : List ℕ) (number : ℕ) (kind : LineFault) → IsFaultOf n text number kind → table_of_text n text ≡ Err (number, kind)
@@ -41,21 +39,21 @@ read_with n text number kind None is e =
 read_with n text number kind (Some v) is e =
     let head : List (List ℕ) = head_of n (raw_lines text) in
     let k : ℕ = length head + 1 in
-    elim (outcome v (body_of n (raw_lines text)) k (size_of head) []) [
-      | inl d ↦ whole_no (record { version = v; entries = d.entries }) (number, kind) (table_of_text n text) (read_ok n (raw_lines text) v d.entries is d.is) e
+    let read = read_by n (raw_lines text) (Some v) is in
+    elim (outcome (body_of n (raw_lines text)) k (size_of head) (empty_table v) (empty_sound v)) [
+      | inl d ↦ whole_no d.table (number, kind) (table_of_text n text) (read ∙ d.is) e
       | inr f ↦
-          let same = whole_err (k + length f.before) number f.kind kind (table_of_text n text) (read_err n (raw_lines text) v (k + length f.before, f.kind) is f.is) e in
-          let table : TableValue = record { version = v; entries = f.entries } in
+          let same = whole_err (k + length f.before) number f.kind kind (table_of_text n text) (read ∙ f.is) e in
           inr (record {
             before = f.before;
             line = f.line;
             behind = f.behind;
-            table = table;
-            version = is;
+            table = f.table;
+            version = is ∙ ap (λ w. Some w) (sym f.added.version);
             cut = f.cut;
             numbered = omega (arith, same.0);
-            read = well_formed_lines v head f.before f.entries (head_within n v (raw_lines text)) f.added;
-            faulty = line_fault (size_of head + size_of f.before) table f.line kind (f.faulty ∙ ap (λ k. Err k) same.1);
+            read = well_formed_lines v head f.before f.table (head_within n v (raw_lines text)) f.added;
+            faulty = line_fault_is (size_of head + size_of f.before) f.table f.line kind (f.faulty ∙ ap (λ k. Err k) same.1);
           })
     ]
 

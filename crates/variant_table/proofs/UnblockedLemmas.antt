@@ -12,7 +12,8 @@ use Rattle.variant_table.specs.declared.version.Version.{Version}
 use Rattle.variant_table.specs.declared.version.Version.TheVariants.{One, Two, Three}
 use Rattle.variant_table.specs.Canonical.{canonical_line, canonical_text, head_text}
 use Rattle.variant_table.specs.Conditions.{repeats, has_source_in}
-use Rattle.variant_table.specs.Entries.{Variant, Entry, IsOfVersion, sequences_in, replacements, unblocked_entry, unblocked, has_blocked, entry_from}
+use Rattle.ruleset_text.specs.Definitions.{Definitions, definitions_text}
+use Rattle.variant_table.specs.Entries.{Variant, Entry, IsOfVersion, table_of, sequences_in, replacements, unblocked_entry, unblocked, has_blocked, entry_from}
 use Rattle.variant_table.specs.inner.Order.{IsOrderOf}
 use Rattle.variant_table.specs.WellFormed.{IsSequence, IsEntry, IsTable}
 use Rattle.variant_table.proofs.ConditionLemmas.{AreNewSources, distinct_from, no_repeats, distinct_sources, new_sources, no_sources}
@@ -205,10 +206,12 @@ text_kept (e ∷ t) =
 
 -- ---- the table
 
-pub table_kept : (version : Version) (t : List Entry) → IsTable (record { version = version; entries = t }) → IsTable (record { version = version; entries = unblocked t })
-table_kept version t h =
+pub table_kept : (version : Version) (d : Definitions) (t : List Entry) → IsTable (table_of version d t) → IsTable (table_of version d (unblocked t))
+table_kept version d t h =
     let well = h.well_formed in
     record {
+      without_fault = h.without_fault;
+      defined = h.defined;
       well_formed = record {
         entries = well_formed_kept t well.entries;
         sources = distinct_sources [] (unblocked t) no_sources (new_kept [] t (new_sources [] t well.sources));
@@ -217,5 +220,13 @@ table_kept version t h =
       };
       of_version = All-from_recursion (IsOfVersion version) (unblocked t) (version_kept version t (recursion_from_All (IsOfVersion version) t h.of_version));
       few = omega (arith, h.few, length-map t unblocked_entry);
-      short = omega (arith, h.short, text_kept t, length-append (head_text version) (canonical_text t), length-append (head_text version) (canonical_text (unblocked t)));
+      short = omega (
+        arith,
+        h.short,
+        text_kept t,
+        length-append (head_text version) (definitions_text d ++ canonical_text t),
+        length-append (definitions_text d) (canonical_text t),
+        length-append (head_text version) (definitions_text d ++ canonical_text (unblocked t)),
+        length-append (definitions_text d) (canonical_text (unblocked t)),
+      );
     }

@@ -1,6 +1,7 @@
--- The canonical text of a table: one entry on each line, with nothing between its words, after the version line that version 2 and 3 have.
+-- The canonical text of a table: after the version line that version 2 and 3 have, one definition on each line, then one entry on each line, with nothing between its words.
 use Rattle.std.specs.Prelude.{ℕ, ◌==◌, None, List, [], ◌∷◌, ◌++◌, map, codes, if◌then◌else◌}
 use Rattle.std.specs.List.{flat_map}
+use Rattle.ruleset_text.specs.Definitions.{Definitions, definitions_text}
 use Rattle.ruleset_text.specs.EntryText.{entry_text}
 use Rattle.variant_table.specs.declared.version.Notation.{Notation}
 use Rattle.variant_table.specs.declared.version.Notation.TheVariants.{Table, Ruleset}
@@ -26,12 +27,12 @@ abbrev pub version_line : Notation → List ℕ
 version_line Table = codes "%version 2"
 version_line Ruleset = codes "%version 3"
 
--- what stands before the entries: in version 1 nothing, in others the version line and its line feed
+-- what a text begins with: in version 1 nothing, in others the version line and its line feed
 abbrev pub head_text : Version → List ℕ
 head_text One = []
 head_text Two = version_line Table ++ 10 ∷ []
 head_text Three = version_line Ruleset ++ 10 ∷ []
 
--- the canonical text of a table of this version
-abbrev pub table_text : Version → List Entry → List ℕ
-table_text version table = head_text version ++ canonical_text table
+-- the canonical text of a table of this version, with these definitions
+abbrev pub table_text : Version → Definitions → List Entry → List ℕ
+table_text version definitions table = head_text version ++ (definitions_text definitions ++ canonical_text table)

@@ -2,6 +2,7 @@
 use Rattle.std.specs.Prelude.{ℕ, ◌+◌, ◌++◌, Bool, false, ◌||◌, not, nat_lt, List, [], ◌∷◌, length, bytes_eq}
 use Rattle.std.specs.List.{list_any}
 use Rattle.idn_class.specs.Class.{class_of}
+use Rattle.ruleset_text.specs.Definitions.{Definitions}
 use Rattle.variant_table.specs.declared.version.Version.{Version}
 use Rattle.variant_table.specs.declared.version.Version.TheVariants.{One, Two, Three}
 use Rattle.variant_table.specs.Entries.{Entry, replacements}
@@ -18,15 +19,15 @@ abbrev pub is_too_large : Entry → Bool
 is_too_large e = nat_lt 16 (length e.variants) || list_any (λ s. nat_lt 8 (length s)) (replacements e)
 
 -- a table whose canonical text is past the limit of a text; in version 1 it is no longer than what was read
-abbrev pub is_text_too_long : Version → List Entry → Bool
-is_text_too_long One entries = false
-is_text_too_long Two entries = nat_lt (text_limit Two) (length (table_text Two entries))
-is_text_too_long Three entries = nat_lt (text_limit Three) (length (table_text Three entries))
+abbrev pub is_text_too_long : Version → Definitions → List Entry → Bool
+is_text_too_long One definitions entries = false
+is_text_too_long Two definitions entries = nat_lt (text_limit Two) (length (table_text Two definitions entries))
+is_text_too_long Three definitions entries = nat_lt (text_limit Three) (length (table_text Three definitions entries))
 
 -- an entry that is too large; or, with those of the table, too many entries or too long a canonical text
-abbrev pub is_over_limit : Version → List Entry → List Entry → Bool
-is_over_limit version table entries =
-    nat_lt (entry_limit version) (length table + length entries) || list_any is_too_large entries || is_text_too_long version (table ++ entries)
+abbrev pub is_over_limit : Version → Definitions → List Entry → List Entry → Bool
+is_over_limit version definitions table entries =
+    nat_lt (entry_limit version) (length table + length entries) || list_any is_too_large entries || is_text_too_long version definitions (table ++ entries)
 
 -- a code point of another class than PVALID, CONTEXTJ and CONTEXTO
 abbrev pub has_bad_point : List ℕ → Bool

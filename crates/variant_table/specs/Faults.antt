@@ -10,6 +10,8 @@ pub data LineFault : Type 0 where
   BadClass : LineFault
   SameVariant : LineFault
   SameSource : LineFault
+  NoSuchName : LineFault
+  SameName : LineFault
 
 -- the fault of a table, by the number of its line and what is told of that line
 abbrev pub table_fault : ℕ → LineFault → TableFault
@@ -18,3 +20,5 @@ table_fault line Syntax = tables.Syntax line
 table_fault line BadClass = tables.BadClass line
 table_fault line SameVariant = tables.SameVariant line
 table_fault line SameSource = tables.SameSource line
+table_fault line NoSuchName = tables.NoSuchName line
+table_fault line SameName = tables.SameName line

@@ -6,6 +6,7 @@ pub mod Limits
 pub mod Ranges
 pub mod Forms
 pub mod Conditions
+pub mod DefinitionLines
 pub mod Texts
 pub mod Places
 pub mod Reading

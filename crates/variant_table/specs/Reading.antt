@@ -3,13 +3,17 @@ use Rattle.std.specs.Prelude.{ℕ, ◌+◌, Bool, true, ◌==◌, Option, Some, 
 use Rattle.std.specs.List.{list_any}
 use Rattle.std.specs.Str.Lines.{strip_carriage_return}
 use Rattle.idn_text.specs.Lines.{raw_lines}
-use Rattle.variant_table.specs.Faults.{LineFault, Limit, Syntax, BadClass, SameVariant, SameSource}
+use Rattle.ruleset_text.specs.declared.fault.DefinitionFault.{DefinitionFault}
+use Rattle.ruleset_text.specs.declared.keyword.Keyword.{Keyword}
+use Rattle.ruleset_text.specs.Definitions.{Definitions, defined}
 use Rattle.ruleset_text.specs.Entries.{EntryForm}
 use Rattle.ruleset_text.specs.inner.EntrySteps.{entry_in}
 use Rattle.ruleset_text.specs.Lexemes.{is_blank, lexemes}
 use Rattle.variant_table.specs.declared.version.Notation.{Notation}
 use Rattle.variant_table.specs.declared.version.Version.{Version}
-use Rattle.variant_table.specs.Entries.{Entry, TableValue}
+use Rattle.variant_table.specs.Entries.{Entry, TableValue, empty_table}
+use Rattle.variant_table.specs.DefinitionLines.{keyword_in, line_fault, room_for_definitions}
+use Rattle.variant_table.specs.Faults.{LineFault, Limit, Syntax, BadClass, SameVariant, SameSource}
 use Rattle.variant_table.specs.Forms.{has_form, entries_of}
 use Rattle.variant_table.specs.Versions.{version_of, head_of, body_of, size_of}
 use Rattle.variant_table.specs.Conditions.{is_too_long, is_over_limit, has_bad_class, has_repeat, has_source_in}
@@ -40,24 +44,39 @@ entries_in version words = entries_by version (entry_in words)
 
 -- ---- the table so far
 
--- the table with the entries of a line
-unfoldable pub with_entries : Version → List Entry → List Entry → Result (List Entry) LineFault
-with_entries version table entries =
-    if is_over_limit version table entries then Err Limit else
+-- the entries of a table with those of a line
+unfoldable pub with_entries : Version → Definitions → List Entry → List Entry → Result (List Entry) LineFault
+with_entries version definitions table entries =
+    if is_over_limit version definitions table entries then Err Limit else
     if list_any has_bad_class entries then Err BadClass else
     if list_any has_repeat entries then Err SameVariant else
     if list_any (has_source_in table) entries then Err SameSource else
     Ok (table ++ entries)
 
+abbrev pub with_entries_of : TableValue → List Entry → Result TableValue LineFault
+with_entries_of t entries = with_entries t.version t.definitions t.entries entries >>= λ all. Ok (record t { entries = all })
+
+-- the table with these definitions, or with their fault
+abbrev pub defining : TableValue → Result Definitions DefinitionFault → Result TableValue LineFault
+defining t (Ok definitions) = Ok (record t { definitions = definitions })
+defining t (Err fault) = Err (line_fault fault)
+
+-- the table with what a keyword and the lexemes behind it define
+unfoldable pub with_definition : TableValue → Keyword → List (List ℕ) → Result TableValue LineFault
+with_definition t keyword words = defining t (defined (room_for_definitions t) t.definitions keyword words)
+
+-- the table with what lexemes say: a definition, if they begin with a keyword, or else entries
+abbrev pub with_words : TableValue → Option (Keyword × List (List ℕ)) → List (List ℕ) → Result TableValue LineFault
+with_words t None words = entries_in t.version words >>= with_entries_of t
+with_words t (Some (keyword, behind)) words = with_definition t keyword behind
+
 -- the table with what a line adds
-unfoldable pub with_line : Version → List Entry → List ℕ → Result (List Entry) LineFault
-with_line version table line =
-    if is_skipped line then Ok table else
-    (entries_in version (lexemes line) >>= with_entries version table)
+unfoldable pub with_line : TableValue → List ℕ → Result TableValue LineFault
+with_line t line = if is_skipped line then Ok t else with_words t (keyword_in t.version (lexemes line)) (lexemes line)
 
 -- the same for a line as it stands in the text, after so many bytes
-unfoldable pub with_raw_line : Version → ℕ → List Entry → List ℕ → Result (List Entry) LineFault
-with_raw_line version bytes table line = if is_too_long version bytes line then Err Limit else with_line version table (strip_carriage_return line)
+unfoldable pub with_raw_line : ℕ → TableValue → List ℕ → Result TableValue LineFault
+with_raw_line bytes t line = if is_too_long t.version bytes line then Err Limit else with_line t (strip_carriage_return line)
 
 -- a fault with the number of its line
 abbrev pub in_line : {A : Type 0} → ℕ → Result A LineFault → Result A (ℕ × LineFault)
@@ -65,19 +84,15 @@ in_line number (Ok x) = Ok x
 in_line number (Err fault) = Err (number, fault)
 
 -- the table with what lines add; the first of them has this number and comes after so many bytes
-unfoldable pub with_lines : Version → ℕ → ℕ → List Entry → List (List ℕ) → Result (List Entry) (ℕ × LineFault)
-with_lines version number bytes table [] = Ok table
-with_lines version number bytes table (line ∷ lines) =
-    in_line number (with_raw_line version bytes table line) >>= λ t. with_lines version (number + 1) (bytes + length line + 1) t lines
-
--- the table of entries that were read
-abbrev pub table_from : Version → List Entry → Result TableValue (ℕ × LineFault)
-table_from version entries = Ok (record { version = version; entries = entries })
+unfoldable pub with_lines : ℕ → ℕ → TableValue → List (List ℕ) → Result TableValue (ℕ × LineFault)
+with_lines number bytes table [] = Ok table
+with_lines number bytes table (line ∷ lines) =
+    in_line number (with_raw_line bytes table line) >>= λ t. with_lines (number + 1) (bytes + length line + 1) t lines
 
 -- the table that lines spell after their version line, if they have a version
 abbrev pub table_in : Option Version → List (List ℕ) → List (List ℕ) → Result TableValue (ℕ × LineFault)
 table_in None head body = Err (1, Syntax)
-table_in (Some version) head body = with_lines version (length head + 1) (size_of head) [] body >>= table_from version
+table_in (Some version) head body = with_lines (length head + 1) (size_of head) (empty_table version) body
 
 -- the table that lines spell, the first of which may be a version line
 unfoldable pub table_of_lines : Notation → List (List ℕ) → Result TableValue (ℕ × LineFault)

@@ -1,5 +1,5 @@
 -- What a text spells: one table, or one first fault.
-use Rattle.std.specs.Prelude.{◌≡◌, ◌⊎◌, ℕ, ◌+◌, ◌≤◌, ◌<◌, Bool, IsTrue, Some, None, List, [], ◌∷◌, ◌++◌, length, All}
+use Rattle.std.specs.Prelude.{◌≡◌, ◌⊎◌, ℕ, ◌+◌, ◌≤◌, ◌<◌, Bool, false, IsTrue, Some, None, List, [], ◌∷◌, ◌++◌, length, All}
 use Rattle.std.specs.List.{AllByRecursion, list_any}
 use Rattle.std.specs.Str.Lines.{strip_carriage_return}
 use Rattle.idn_text.specs.Lines.{raw_lines}
@@ -8,8 +8,10 @@ use Rattle.variant_table.specs.declared.fault.TableFault.{TableFault}
 use Rattle.variant_table.specs.declared.fault.TableFault.TheVariants.{Memory}
 use Rattle.variant_table.specs.declared.version.Notation.{Notation}
 use Rattle.variant_table.specs.declared.version.Version.{Version}
-use Rattle.ruleset_text.specs.Lexemes.{is_blank}
-use Rattle.variant_table.specs.Entries.{Entry, TableValue}
+use Rattle.ruleset_text.specs.Definitions.{Definitions}
+use Rattle.ruleset_text.specs.Lexemes.{is_blank, lexemes}
+use Rattle.variant_table.specs.DefinitionLines.{keyword_in, Defines, DefinesWrong}
+use Rattle.variant_table.specs.Entries.{Entry, TableValue, empty_table}
 use Rattle.variant_table.specs.Limits.{line_limit, text_limit}
 use Rattle.variant_table.specs.Versions.{version_of, head_of, body_of, size_of}
 use Rattle.variant_table.specs.Forms.{SpellsEntries}
@@ -32,16 +34,20 @@ LineSpells version line entries = (AreBlanks line × (entries ≡ [])) ⊎ (IsCo
 
 -- ---- a text without a fault
 
--- the lines spell the entries, in the order of the lines
-abbrev pub LinesSpell : Version → List (List ℕ) → List Entry → Type 0
-LinesSpell version [] table = table ≡ []
-LinesSpell version (line ∷ lines) table =
-    (entries : List Entry) × (others : List Entry)
-    × LineSpells version (strip_carriage_return line) entries × LinesSpell version lines others × (table ≡ entries ++ others)
+-- after lines that spell the table t the line leads to the table u: it spells further entries, or it defines something
+abbrev pub LineAdds : TableValue → List ℕ → TableValue → Type 0
+LineAdds t line u =
+    ((entries : List Entry) × LineSpells t.version line entries × (u ≡ record t { entries = t.entries ++ entries }))
+    ⊎ ((definitions : Definitions) × Defines t line definitions × (u ≡ record t { definitions = definitions }))
+
+-- the lines lead from the table t to this one, in their order
+abbrev pub LinesSpell : TableValue → List (List ℕ) → TableValue → Type 0
+LinesSpell t [] table = table ≡ t
+LinesSpell t (line ∷ lines) table = (u : TableValue) × LineAdds t (strip_carriage_return line) u × LinesSpell u lines table
 
 -- lines without a fault, after a version line or without one, and the table that they spell
 pub record AreLinesOf (head lines : List (List ℕ)) (table : TableValue) : Type 0 where
-  pub spelled : LinesSpell table.version lines table.entries
+  pub spelled : LinesSpell (empty_table table.version) lines table
   pub short : All (λ line. length line ≤ line_limit table.version) lines
   pub size : size_of head + size_of lines ≤ text_limit table.version
   pub well_formed : IsTable table
@@ -53,7 +59,7 @@ pub record IsTextOf (notation : Notation) (text : List ℕ) (table : TableValue)
 
 -- ---- the first fault of a text
 
--- what may be wrong with a line, in the order in which it is told
+-- what may be wrong with a line that defines nothing, in the order in which it is told
 pub data Condition : Type 0 where
   too_long : Condition
   no_form : Condition
@@ -87,17 +93,24 @@ SpellsSuch version line test = (entries : List Entry) × LineSpells version (str
 -- the condition holds for a line; the lines before it have so many bytes and spell the table
 abbrev pub Holds : ℕ → TableValue → List ℕ → Condition → Type 0
 Holds bytes table line too_long = IsTrue (is_too_long table.version bytes line)
-Holds bytes table line no_form = (entries : List Entry) → LineSpells table.version (strip_carriage_return line) entries → ⊥
-Holds bytes table line over_limit = SpellsSuch table.version line (is_over_limit table.version table.entries)
+Holds bytes table line no_form =
+    (keyword_in table.version (lexemes (strip_carriage_return line)) ≡ None) × ((entries : List Entry) → LineSpells table.version (strip_carriage_return line) entries → ⊥)
+Holds bytes table line over_limit = SpellsSuch table.version line (is_over_limit table.version table.definitions table.entries)
 Holds bytes table line bad_class = SpellsSuch table.version line (list_any has_bad_class)
 Holds bytes table line same_variant = SpellsSuch table.version line (list_any has_repeat)
 Holds bytes table line same_source = SpellsSuch table.version line (list_any (has_source_in table.entries))
 
--- the fault of such a line: that of the first condition that holds
-abbrev pub IsLineFault : ℕ → TableValue → List ℕ → LineFault → Type 0
-IsLineFault bytes table line fault =
+-- the fault of the first condition that holds
+abbrev pub IsFirstTold : ℕ → TableValue → List ℕ → LineFault → Type 0
+IsFirstTold bytes table line fault =
     (c : Condition) × (fault_of c ≡ fault) × Holds bytes table line c
     × ((d : Condition) → order_of d < order_of c → Holds bytes table line d → ⊥)
+
+-- the fault of such a line: that of the first condition that holds; or that of its definition, unless it is too long
+abbrev pub IsLineFault : ℕ → TableValue → List ℕ → LineFault → Type 0
+IsLineFault bytes table line fault =
+    IsFirstTold bytes table line fault
+    ⊎ ((is_too_long table.version bytes line ≡ false) × DefinesWrong table (strip_carriage_return line) fault)
 
 -- the first line isn't the version line that each text of the notation has; an empty text has no such line either
 abbrev pub LacksVersion : Notation → List ℕ → Type 0

@@ -1,9 +1,13 @@
 -- Which tables are well-formed.
-use Rattle.std.specs.Prelude.{◌≢◌, ℕ, ◌≤◌, Bool, true, false, IsTrue, List, length, All, AllPairs}
+use Rattle.std.specs.Prelude.{◌≡◌, ◌≢◌, ℕ, ◌≤◌, Bool, true, false, IsTrue, List, [], length, All, AllPairs}
 use Rattle.idn_text.specs.Points.{IsScalarValue}
 use Rattle.idn_class.specs.declared.class.Class.{Class}
 use Rattle.idn_class.specs.declared.class.Class.TheVariants.{Pvalid, Contextj, Contexto}
 use Rattle.idn_class.specs.Class.{class_of}
+use Rattle.ruleset_text.specs.Definitions.{Definitions, nothing_defined}
+use Rattle.ruleset_text.specs.WellFormed.{AreDefinitions}
+use Rattle.variant_table.specs.declared.version.Version.{Version}
+use Rattle.variant_table.specs.declared.version.Version.TheVariants.{One, Two, Three}
 use Rattle.variant_table.specs.Entries.{Entry, replacements, IsOfVersion, TableValue}
 use Rattle.variant_table.specs.Canonical.{canonical_text, table_text}
 use Rattle.variant_table.specs.Limits.{text_limit, entry_limit}
@@ -39,9 +43,17 @@ pub record IsWellFormed (table : List Entry) : Type 0 where
   pub few : length table ≤ 65536
   pub short : length (canonical_text table) ≤ 8388608
 
--- well-formed entries as the version has them, within its limits, the version line counted
+-- versions 1 and 2 define nothing, and version 3 has no demands yet
+abbrev pub AreOfVersion : Version → Definitions → Type 0
+AreOfVersion One definitions = definitions ≡ nothing_defined
+AreOfVersion Two definitions = definitions ≡ nothing_defined
+AreOfVersion Three definitions = definitions.demands ≡ []
+
+-- definitions without a fault and well-formed entries, as the version has them, within its limits, the version line counted
 pub record IsTable (table : TableValue) : Type 0 where
+  pub without_fault : AreDefinitions table.definitions
+  pub defined : AreOfVersion table.version table.definitions
   pub well_formed : IsWellFormed table.entries
   pub of_version : All (IsOfVersion table.version) table.entries
   pub few : length table.entries ≤ entry_limit table.version
-  pub short : length (table_text table.version table.entries) ≤ text_limit table.version
+  pub short : length (table_text table.version table.definitions table.entries) ≤ text_limit table.version

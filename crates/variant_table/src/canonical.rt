@@ -84,7 +84,7 @@ fn push_byte(out: &mut ArrayVec<u8, 64>, byte: u8)
     out.push(byte);
 }
 
-/// Appends what comes before the entries: the version line, or in version 1 nothing.
+/// Appends what a text begins with: the version line, or in version 1 nothing.
 pub fn push_head(out: &mut Vec<u8>, version: Version) -> Result<(), AllocError>
     ensures { OnOk result (out.new.items ≡ out.old.items ++ text.head_text version) }
 {

@@ -9,8 +9,8 @@ use thiserror::Error;
 /// there; or that memory was refused.
 #[derive(Clone, Copy, Debug, PartialEq, Eq, Error)]
 pub enum TableFault {
-    /// A line that is not blank, and spells no comment, no entry and no range of the version; or the first line
-    /// of a text that lacks its version.
+    /// A line that is not blank, and spells no comment, no entry, no range and no definition of the version; or the
+    /// first line of a text that lacks its version.
     #[error("table syntax")]
     Syntax { line: u64 },
     /// A source that an earlier entry has.
@@ -19,12 +19,18 @@ pub enum TableFault {
     /// Two equal variants, or a variant equal to its source.
     #[error("variant given twice")]
     SameVariant { line: u64 },
+    /// A set, a rule or a tag that no earlier line defines.
+    #[error("name not defined")]
+    NoSuchName { line: u64 },
+    /// A tag, a set or a rule with the name of an earlier one.
+    #[error("name given twice")]
+    SameName { line: u64 },
     /// A code point whose class is none of PVALID, CONTEXTJ and CONTEXTO.
     #[error("code point not allowed in a table")]
     BadClass { line: u64 },
     /// A line of more than 1,024 bytes, a text or a canonical text of more than 1,048,576, more than 4,096
     /// entries, in version 3 8,192, 8,388,608 and 65,536; a sequence of more than 8 code points, or more than
-    /// 16 variants.
+    /// 16 variants; or a definition that goes past a limit of its own.
     #[error("table limit")]
     Limit { line: u64 },
     /// Memory was refused.

@@ -3,7 +3,8 @@ ghost use Rattle.std.specs.Prelude.{◌≡◌, ◌↔◌, ◌⊎◌, ◌≤◌, 
 ghost use Rattle.idn_text.specs.Lines.{raw_lines, with_last_feed};
 ghost use Rattle.variant_table.specs.Faults.{LineFault};
 ghost use Rattle.variant_table.specs.Canonical.{canonical_line, head_text, table_text};
-ghost use Rattle.variant_table.specs.Entries.{Entry, TableValue, IsOfVersion, unblocked};
+ghost use Rattle.ruleset_text.specs.Definitions.{nothing_defined};
+ghost use Rattle.variant_table.specs.Entries.{Entry, TableValue, IsOfVersion, table_of, unblocked};
 ghost use Rattle.ruleset_text.specs.Lexemes.{lexemes};
 ghost use Rattle.variant_table.specs.Forms.{SpellsEntries};
 ghost use Rattle.variant_table.specs.Reading.{entries_in, table_of_text};
@@ -59,14 +60,14 @@ pub fn no_text_is_a_table_and_a_ruleset()
 /// A table of version 2 is a ruleset of the same entries once its first line says so.
 pub fn a_table_of_version_2_is_a_ruleset()
     ensures { (lines : List ℕ) (entries : List Entry) →
-        IsTextOf notations.Table (head_text versions.Two ++ lines) (record { version = versions.Two; entries = entries }) →
-        IsTextOf notations.Ruleset (head_text versions.Three ++ lines) (record { version = versions.Three; entries = entries }) }
+        IsTextOf notations.Table (head_text versions.Two ++ lines) (table_of versions.Two nothing_defined entries) →
+        IsTextOf notations.Ruleset (head_text versions.Three ++ lines) (table_of versions.Three nothing_defined entries) }
 {}
 
 /// The canonical text of a well-formed table spells that table, in the notation of its version.
 pub fn canonical_text_is_read_back()
     ensures { (table : TableValue) → IsTable table →
-        IsTextOf (notation_of table.version) (table_text table.version table.entries) table }
+        IsTextOf (notation_of table.version) (table_text table.version table.definitions table.entries) table }
 {}
 
 /// The canonical text of a table of version 1 is at most as long as any text that spells the table, a
@@ -75,7 +76,7 @@ pub fn canonical_text_is_read_back()
 pub fn canonical_text_is_never_longer()
     ensures text { (notation : Notation) (text : List ℕ) (table : TableValue) →
         IsTextOf notation text table → table.version ≡ versions.One →
-        length (table_text table.version table.entries) ≤ size_of (raw_lines text) }
+        length (table_text table.version table.definitions table.entries) ≤ size_of (raw_lines text) }
     ensures line { (e : Entry) → IsEntry e → IsOfVersion versions.One e → length (canonical_line e) ≤ 951 }
     ensures blocked { (e : Entry) → IsEntry e → IsOfVersion versions.Two e → length (canonical_line e) ≤ 967 }
     ensures marked { (e : Entry) → IsEntry e → length (canonical_line e) ≤ 968 }
@@ -90,7 +91,7 @@ pub fn gaps_of_are_the_gaps()
 /// Examples of version 1, which the definitions compute.
 pub fn definitions_compute_the_examples()
     ensures read { entries_in versions.One (lexemes (codes "u+0061 | 0062 : 0063-0064")) ≡ Ok (record { source = 97 ∷ []; outside = false; variants = point_variant false 98 ∷ record { sequence = 99 ∷ 100 ∷ []; blocked = false } ∷ [] } ∷ []) }
-    ensures written { table_text versions.One (record { source = 97 ∷ []; outside = false; variants = point_variant false 98 ∷ record { sequence = 99 ∷ 100 ∷ []; blocked = false } ∷ [] } ∷ []) ≡ codes "0061|0062:0063-0064" ++ 10 ∷ [] }
+    ensures written { table_text versions.One nothing_defined (record { source = 97 ∷ []; outside = false; variants = point_variant false 98 ∷ record { sequence = 99 ∷ 100 ∷ []; blocked = false } ∷ [] } ∷ []) ≡ codes "0061|0062:0063-0064" ++ 10 ∷ [] }
     ensures six { canonical_line (record { source = 0x10FFFF ∷ 0x4E2D ∷ []; outside = false; variants = [] }) ≡ codes "10FFFF-4E2D" }
     ensures syntax { table_of_text notations.Table (codes "0061|") ≡ Err (1, faults.Syntax) }
     ensures range { table_of_text notations.Table (codes "0061..0063") ≡ Err (1, faults.Syntax) }
@@ -112,12 +113,13 @@ pub fn definitions_compute_the_examples()
 pub fn definitions_compute_the_examples_of_version_2()
     ensures table { table_of_text notations.Table (codes "%version 2" ++ 10 ∷ codes "0061..0063" ++ 10 ∷ codes "0078|!0079:007A") ≡ Ok (record {
       version = versions.Two;
+      definitions = nothing_defined;
       entries = point_entry false 0x61 ∷ point_entry false 0x62 ∷ point_entry false 0x63 ∷ record { source = 0x78 ∷ []; outside = false; variants = point_variant true 0x79 ∷ point_variant false 0x7A ∷ [] } ∷ [];
     }) }
-    ensures written { table_text versions.Two (point_entry false 0x61 ∷ point_entry false 0x62 ∷ point_entry false 0x63 ∷ record { source = 0x78 ∷ []; outside = false; variants = point_variant true 0x79 ∷ point_variant false 0x7A ∷ [] } ∷ [])
+    ensures written { table_text versions.Two nothing_defined (point_entry false 0x61 ∷ point_entry false 0x62 ∷ point_entry false 0x63 ∷ record { source = 0x78 ∷ []; outside = false; variants = point_variant true 0x79 ∷ point_variant false 0x7A ∷ [] } ∷ [])
         ≡ codes "%version 2" ++ 10 ∷ codes "0061" ++ 10 ∷ codes "0062" ++ 10 ∷ codes "0063" ++ 10 ∷ codes "0078|!0079:007A" ++ 10 ∷ [] }
     ensures unblocked { unblocked (record { source = 0x78 ∷ []; outside = false; variants = point_variant true 0x79 ∷ point_variant false 0x7A ∷ [] } ∷ []) ≡ record { source = 0x78 ∷ []; outside = false; variants = point_variant false 0x7A ∷ [] } ∷ [] }
-    ensures empty { table_of_text notations.Table (codes "%version 2" ++ 13 ∷ []) ≡ Ok (record { version = versions.Two; entries = [] }) }
+    ensures empty { table_of_text notations.Table (codes "%version 2" ++ 13 ∷ []) ≡ Ok (table_of versions.Two nothing_defined []) }
     ensures falling { table_of_text notations.Table (codes "%version 2" ++ 10 ∷ codes "0063..0061") ≡ Err (2, faults.Syntax) }
     ensures marked_source { table_of_text notations.Table (codes "%version 2" ++ 10 ∷ codes "!0061|0062") ≡ Err (2, faults.Syntax) }
     ensures variant_range { table_of_text notations.Table (codes "%version 2" ++ 10 ∷ codes "0061|0062..0063") ≡ Err (2, faults.Syntax) }
@@ -137,7 +139,7 @@ pub fn definitions_compute_the_examples_of_rulesets()
     ensures version_2 { table_of_text notations.Ruleset (codes "%version 2") ≡ Err (1, faults.Syntax) }
     ensures version_4 { table_of_text notations.Ruleset (codes "%version 4") ≡ Err (1, faults.Syntax) }
     ensures commented { table_of_text notations.Ruleset (codes "# a" ++ 10 ∷ codes "%version 3") ≡ Err (1, faults.Syntax) }
-    ensures alone { table_of_text notations.Ruleset (codes "%version 3") ≡ Ok (record { version = versions.Three; entries = [] }) }
+    ensures alone { table_of_text notations.Ruleset (codes "%version 3") ≡ Ok (table_of versions.Three nothing_defined []) }
     ensures again { table_of_text notations.Ruleset (codes "%version 3" ++ 10 ∷ codes "%version 3") ≡ Err (2, faults.Syntax) }
     ensures falling { table_of_text notations.Ruleset (codes "%version 3" ++ 10 ∷ codes "0063..0061") ≡ Err (2, faults.Syntax) }
     ensures set { table_of_text notations.Ruleset (codes "%version 3" ++ 10 ∷ codes "% set C 0061") ≡ Err (2, faults.Syntax) }
@@ -148,8 +150,8 @@ pub fn definitions_compute_the_examples_of_rulesets()
     ensures two_marks { table_of_text notations.Ruleset (codes "%version 3" ++ 10 ∷ codes "!!0061") ≡ Err (2, faults.Syntax) }
     ensures no_source { table_of_text notations.Ruleset (codes "%version 3" ++ 10 ∷ codes "!|0061") ≡ Err (2, faults.Syntax) }
     ensures limit { table_of_text notations.Ruleset (codes "%version 3" ++ 10 ∷ codes "0041-0041-0041-0041-0041-0041-0041-0041-0041") ≡ Err (2, faults.Limit) }
-    ensures written { table_text versions.Three (point_entry false 0x61 ∷ record { source = 0x78 ∷ []; outside = false; variants = point_variant true 0x79 ∷ [] } ∷ [])
+    ensures written { table_text versions.Three nothing_defined (point_entry false 0x61 ∷ record { source = 0x78 ∷ []; outside = false; variants = point_variant true 0x79 ∷ [] } ∷ [])
         ≡ codes "%version 3" ++ 10 ∷ codes "0061" ++ 10 ∷ codes "0078|!0079" ++ 10 ∷ [] }
-    ensures marked { table_text versions.Three (record { source = 0x61 ∷ 0x62 ∷ []; outside = true; variants = point_variant true 0x63 ∷ [] } ∷ [])
+    ensures marked { table_text versions.Three nothing_defined (record { source = 0x61 ∷ 0x62 ∷ []; outside = true; variants = point_variant true 0x63 ∷ [] } ∷ [])
         ≡ codes "%version 3" ++ 10 ∷ codes "!0061-0062|!0063" ++ 10 ∷ [] }
 {}

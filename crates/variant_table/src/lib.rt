@@ -4,6 +4,7 @@
 
 mod canonical;
 mod checks;
+mod definition_lines;
 mod entries;
 mod entry;
 mod fault;

@@ -1,4 +1,4 @@
-//! Reading the entries of a text, line by line.
+//! Reading the definitions and entries of a text, line by line.
 ghost use Rattle.std.specs.Prelude.{◌≡◌, ◌+◌, ◌<◌, ◌≤◌, ◌^◌, [], ◌∷◌, length, map, OnOk, slice_index};
 ghost use Rattle.std.specs.List.{range_with_len};
 ghost use Rattle.variant_table.specs.inner.Held.{HasNoEmptySequence, IsCounted};
@@ -6,9 +6,14 @@ ghost use Rattle.ruleset_text.specs.EntryForms.{mapped as form_of};
 ghost use Rattle.variant_table.specs.Forms.{entry_of};
 ghost use Rattle.variant_table.specs.Limits.{text_limit};
 ghost use Rattle.variant_table.specs.Ranges.{point_entry, range_entries};
-ghost use Rattle.variant_table.specs.Reading.{with_entries, with_line, with_raw_line, table_of_text, is_skipped as is_skipped_line};
+ghost use Rattle.ruleset_text.specs.Definitions.{nothing_defined};
+ghost use Rattle.ruleset_text.specs.Lexemes.{lexemes};
+ghost use Rattle.variant_table.specs.declared.version.Version.TheVariants.{Three};
+ghost use Rattle.variant_table.specs.Entries.{TableValue, table_of};
+ghost use Rattle.variant_table.specs.Reading.{◌>>=◌, entries_in, with_definition, with_entries, with_line, with_raw_line, table_of_text, is_skipped as is_skipped_line};
 ghost use Rattle.variant_table.specs.inner.ReadingSteps.{Leaves, Reads, with_new_sources};
 
+use crate::definition_lines::{fault_in, keyword_in};
 use crate::checks::{has_bad_class, has_bad_class_in, has_repeat, is_too_large};
 use crate::fault::TableFault;
 use crate::forms::{has_form, take_sequences};
@@ -17,16 +22,20 @@ use crate::rows::Rows;
 use crate::sequences::Sequences;
 use crate::version::{Notation, Version, head_of};
 use idn_text::without_carriage_return;
-use ruleset_text::{Mapped, read_entry, without_blanks};
+use ruleset_text::{Definitions, Keyword, Mapped, read_entry, without_blanks};
 use std::alloc::Global;
 
-/// The version of a text, and the entries that it spells.
+/// What a text spells.
+#[derive(Drop)]
+pub struct Spelled {
+    pub version: Version,
+    pub definitions: Definitions,
+    pub rows: Rows,
+}
+
+/// The version of a text, the definitions and the entries that it spells.
 #[tactic(auto, unfolding(crate::specs::Reading::table_of_lines))]
-pub fn read_rows(
-    alloc: Global,
-    notation: Notation,
-    text: &[u8],
-) -> Result<(Version, Rows), TableFault>
+pub fn read_text(alloc: Global, notation: Notation, text: &[u8]) -> Result<Spelled, TableFault>
     ensures { Reads result (table_of_text notation text.now) }
 {
     let Some(head) = head_of(notation, text) else {
@@ -40,7 +49,11 @@ pub fn read_rows(
         reader.add_raw_line(number, bytes, line)?;
         bytes += line.len() + 1;
     }
-    Ok((reader.version, reader.rows))
+    Ok(Spelled {
+        version: reader.version,
+        definitions: reader.definitions,
+        rows: reader.rows,
+    })
 }
 
 /// What has been read of a text so far.
@@ -50,6 +63,7 @@ struct Reader {
     version: Version,
     /// The sequences of the entry that is being added. Their memory is used again for each line.
     sequences: Sequences,
+    definitions: Definitions,
     rows: Rows,
     /// The bytes of the canonical text so far, where the version limits them.
     written: usize,
@@ -59,13 +73,15 @@ impl Reader {
     /// Nothing yet, of a text of this version.
     fn new(alloc: Global, version: Version) -> Self
         ensures version { result.version ≡ version }
+        ensures definitions { result.definitions ≡ nothing_defined }
         ensures rows { result.rows ≡ [] }
-        ensures counted { IsCounted result.version result.written result.rows }
+        ensures counted { IsCounted result.version result.definitions result.written result.rows }
     {
         Reader {
             alloc,
             version,
             sequences: Sequences::new(alloc),
+            definitions: Definitions::new(alloc),
             rows: Rows::new(alloc),
             written: version.head().len(),
         }
@@ -75,10 +91,10 @@ impl Reader {
     #[tactic(auto, unfolding(crate::specs::Reading::with_raw_line))]
     fn add_raw_line(&mut self, number: u64, bytes: usize, line: &[u8]) -> Result<(), TableFault>
         requires bytes { bytes ≤ text_limit self.old.version }
-        requires counted { IsCounted self.old.version self.old.written self.old.rows }
-        ensures read { Leaves number result self.new.rows (with_raw_line self.old.version bytes self.old.rows line.now) }
+        requires counted { IsCounted self.old.version self.old.definitions self.old.written self.old.rows }
+        ensures read { Leaves number result (table_of self.old.version self.new.definitions self.new.rows) (with_raw_line bytes (table_of self.old.version self.old.definitions self.old.rows) line.now) }
         ensures within { OnOk result (bytes + length line.now + 1 ≤ text_limit self.old.version) }
-        ensures counted { OnOk result (IsCounted self.old.version self.new.written self.new.rows) }
+        ensures counted { OnOk result (IsCounted self.old.version self.new.definitions self.new.written self.new.rows) }
         ensures version { self.new.version ≡ self.old.version }
     {
         let version = self.version;
@@ -91,14 +107,53 @@ impl Reader {
     /// Adds what the line of this number says.
     #[tactic(auto, unfolding(crate::specs::Reading::with_line))]
     fn add_line(&mut self, number: u64, line: &[u8]) -> Result<(), TableFault>
-        requires { IsCounted self.old.version self.old.written self.old.rows }
-        ensures read { Leaves number result self.new.rows (with_line self.old.version self.old.rows line.now) }
-        ensures counted { OnOk result (IsCounted self.old.version self.new.written self.new.rows) }
+        requires { IsCounted self.old.version self.old.definitions self.old.written self.old.rows }
+        ensures read { Leaves number result (table_of self.old.version self.new.definitions self.new.rows) (with_line (table_of self.old.version self.old.definitions self.old.rows) line.now) }
+        ensures counted { OnOk result (IsCounted self.old.version self.new.definitions self.new.written self.new.rows) }
         ensures version { self.new.version ≡ self.old.version }
     {
         if is_skipped(line) {
             return Ok(());
         }
+        if let Some((keyword, behind)) = keyword_in(self.version, line) {
+            return self.add_definition(number, keyword, behind);
+        }
+        self.add_entries(number, line)
+    }
+
+    /// Adds what a keyword and the text behind it define, unless it has a fault.
+    #[tactic(auto, unfolding(crate::specs::Reading::with_definition))]
+    fn add_definition(
+        &mut self,
+        number: u64,
+        keyword: Keyword,
+        behind: &[u8],
+    ) -> Result<(), TableFault>
+        requires ruleset { self.old.version ≡ Three }
+        requires counted { IsCounted self.old.version self.old.definitions self.old.written self.old.rows }
+        ensures read { Leaves number result (table_of self.old.version self.new.definitions self.new.rows) (with_definition (table_of self.old.version self.old.definitions self.old.rows) keyword (lexemes behind.now)) }
+        ensures counted { OnOk result (IsCounted self.old.version self.new.definitions self.new.written self.new.rows) }
+        ensures version { self.new.version ≡ self.old.version }
+    {
+        let others = self.written - self.definitions.canonical_len();
+        let room = self.version.text_limit() - others;
+        match self.definitions.define(self.alloc, room, keyword, behind) {
+            Ok(()) => {
+                self.written = others + self.definitions.canonical_len();
+                Ok(())
+            }
+            Err(fault) => Err(fault_in(number, fault)),
+        }
+    }
+
+    /// Adds the entries that the line of this number spells, if they are without a fault.
+    fn add_entries(&mut self, number: u64, line: &[u8]) -> Result<(), TableFault>
+        requires { IsCounted self.old.version self.old.definitions self.old.written self.old.rows }
+        ensures read { Leaves number result self.new.rows (entries_in self.old.version (lexemes line.now) >>= with_entries self.old.version self.old.definitions self.old.rows) }
+        ensures counted { OnOk result (IsCounted self.old.version self.new.definitions self.new.written self.new.rows) }
+        ensures version { self.new.version ≡ self.old.version }
+        ensures definitions { self.new.definitions ≡ self.old.definitions }
+    {
         let Some(form) = read_entry(self.alloc, line)? else {
             return Err(TableFault::Syntax { line: number });
         };
@@ -116,10 +171,11 @@ impl Reader {
     fn add_entry(&mut self, number: u64, mapped: &[Mapped]) -> Result<(), TableFault>
         requires some { 0 < length mapped.now }
         requires filled { HasNoEmptySequence (entry_of (map form_of mapped.now)) }
-        requires counted { IsCounted self.old.version self.old.written self.old.rows }
-        ensures read { Leaves number result self.new.rows (with_entries self.old.version self.old.rows (entry_of (map form_of mapped.now) ∷ [])) }
-        ensures counted { OnOk result (IsCounted self.old.version self.new.written self.new.rows) }
+        requires counted { IsCounted self.old.version self.old.definitions self.old.written self.old.rows }
+        ensures read { Leaves number result self.new.rows (with_entries self.old.version self.old.definitions self.old.rows (entry_of (map form_of mapped.now) ∷ [])) }
+        ensures counted { OnOk result (IsCounted self.old.version self.new.definitions self.new.written self.new.rows) }
         ensures version { self.new.version ≡ self.old.version }
+        ensures definitions { self.new.definitions ≡ self.old.definitions }
     {
         take_sequences(&mut self.sequences, mapped)?;
         let sequences = &self.sequences;
@@ -146,10 +202,11 @@ impl Reader {
     fn add_range(&mut self, number: u64, source: &Mapped, last: u32) -> Result<(), TableFault>
         requires first { slice_index source.now.points.items 0 ≤ last }
         requires some { 0 < length source.now.points.items }
-        requires counted { IsCounted self.old.version self.old.written self.old.rows }
-        ensures read { Leaves number result self.new.rows (with_entries self.old.version self.old.rows (range_entries source.now.marked (slice_index source.now.points.items 0) last)) }
-        ensures counted { OnOk result (IsCounted self.old.version self.new.written self.new.rows) }
+        requires counted { IsCounted self.old.version self.old.definitions self.old.written self.old.rows }
+        ensures read { Leaves number result self.new.rows (with_entries self.old.version self.old.definitions self.old.rows (range_entries source.now.marked (slice_index source.now.points.items 0) last)) }
+        ensures counted { OnOk result (IsCounted self.old.version self.new.definitions self.new.written self.new.rows) }
         ensures version { self.new.version ≡ self.old.version }
+        ensures definitions { self.new.definitions ≡ self.old.definitions }
     {
         let first = source.points[0];
         self.add_points(number, source.marked, first, (last - first) as usize + 1)
@@ -165,10 +222,11 @@ impl Reader {
         count: usize,
     ) -> Result<(), TableFault>
         requires last { first + count ≤ 2 ^ 32 }
-        requires counted { IsCounted self.old.version self.old.written self.old.rows }
-        ensures read { Leaves number result self.new.rows (with_entries self.old.version self.old.rows (map (point_entry outside) (range_with_len first count))) }
-        ensures counted { OnOk result (IsCounted self.old.version self.new.written self.new.rows) }
+        requires counted { IsCounted self.old.version self.old.definitions self.old.written self.old.rows }
+        ensures read { Leaves number result self.new.rows (with_entries self.old.version self.old.definitions self.old.rows (map (point_entry outside) (range_with_len first count))) }
+        ensures counted { OnOk result (IsCounted self.old.version self.new.definitions self.new.written self.new.rows) }
         ensures version { self.new.version ≡ self.old.version }
+        ensures definitions { self.new.definitions ≡ self.old.definitions }
     {
         let limit = self.version.entry_limit();
         if count > limit || self.rows.len() > limit - count {

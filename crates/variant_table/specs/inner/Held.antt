@@ -1,6 +1,7 @@
 -- How a table lies in memory: sequences are parts of one vector of code points, entries are parts of the sequences.
 use Rattle.std.specs.Prelude.{◌≡◌, ℕ, ◌<◌, ◌≤◌, List, length, map, All}
 use Rattle.std.specs.List.{AllByRecursion, slice_range}
+use Rattle.ruleset_text.specs.Definitions.{Definitions}
 use Rattle.variant_table.specs.declared.sequences.Span.{Span}
 use Rattle.variant_table.specs.declared.sequences.Part.{Part}
 use Rattle.variant_table.specs.Entries.{Variant, Entry, entry_from, replacements}
@@ -52,6 +53,6 @@ counted Two text = length text
 counted Three text = length text
 
 -- so many bytes are counted of the canonical text of a table, and they are within the limit
-pub record IsCounted (version : Version) (written : ℕ) (table : List Entry) : Type 0 where
-  pub count : written ≡ counted version (table_text version table)
+pub record IsCounted (version : Version) (definitions : Definitions) (written : ℕ) (table : List Entry) : Type 0 where
+  pub count : written ≡ counted version (table_text version definitions table)
   pub within : written ≤ text_limit version

@@ -1,12 +1,14 @@
 -- What each step of reading leaves: the table so far, or the fault of its line.
 use Rattle.std.specs.Prelude.{◌≡◌, ◌⊎◌, ℕ, List, [], ◌∷◌, ◌++◌, Result, Ok, Err, if◌then◌else◌}
+use Rattle.ruleset_text.specs.declared.fault.DefinitionFault.{DefinitionFault}
+use Rattle.ruleset_text.specs.declared.fault.DefinitionFault.TheVariants as definitions
 use Rattle.variant_table.specs.declared.fault.TableFault.{TableFault}
 use Rattle.variant_table.specs.declared.fault.TableFault.TheVariants as tables
-use Rattle.variant_table.specs.Faults.{LineFault, Limit, Syntax, BadClass, SameVariant, SameSource, table_fault}
-use Rattle.variant_table.specs.declared.version.Version.{Version}
-use Rattle.variant_table.specs.Entries.{Entry, TableValue}
+use Rattle.variant_table.specs.Faults.{LineFault, Limit, Syntax, BadClass, SameVariant, SameSource, NoSuchName, SameName, table_fault}
+use Rattle.variant_table.specs.declared.reading.Spelled.{Spelled}
+use Rattle.variant_table.specs.Entries.{Entry, TableValue, table_of}
 use Rattle.variant_table.specs.Conditions.{has_source_in}
-use Rattle.variant_table.specs.Reading.{◌>>=◌, table_from}
+use Rattle.variant_table.specs.Reading.{◌>>=◌}
 
 -- a call fails with the fault of the line of this number, unless memory was refused
 abbrev pub Fails : {Y : Type 0} → ℕ → TableFault → Result Y LineFault → Type 0
@@ -16,6 +18,8 @@ Fails number (tables.Syntax line) read = (line ≡ number) × (read ≡ Err Synt
 Fails number (tables.BadClass line) read = (line ≡ number) × (read ≡ Err BadClass)
 Fails number (tables.SameVariant line) read = (line ≡ number) × (read ≡ Err SameVariant)
 Fails number (tables.SameSource line) read = (line ≡ number) × (read ≡ Err SameSource)
+Fails number (tables.NoSuchName line) read = (line ≡ number) × (read ≡ Err NoSuchName)
+Fails number (tables.SameName line) read = (line ≡ number) × (read ≡ Err SameName)
 
 -- if a call succeeds, y is what reading the line of this number gives; if it fails, it is with the fault of that line
 abbrev pub Leaves : {X Y : Type 0} → ℕ → Result X TableFault → Y → Result Y LineFault → Type 0
@@ -36,6 +40,15 @@ abbrev pub FailsIn : {Y : Type 0} → TableFault → Result Y (ℕ × LineFault)
 FailsIn {Y} fault read = (fault ≡ tables.Memory) ⊎ ((line : ℕ) × (kind : LineFault) × (fault ≡ table_fault line kind) × (read ≡ Err (line, kind)))
 
 -- the answer is that of the function, unless memory was refused
-abbrev pub Reads : Result (Version × List Entry) TableFault → Result TableValue (ℕ × LineFault) → Type 0
-Reads (Ok table) read = read ≡ table_from table.0 table.1
+abbrev pub Reads : Result Spelled TableFault → Result TableValue (ℕ × LineFault) → Type 0
+Reads (Ok s) read = read ≡ Ok (table_of s.version s.definitions s.rows)
 Reads (Err fault) read = FailsIn fault read
+
+-- the fault of a table, by the number of its line and the fault of the definition on it
+abbrev pub told_in : ℕ → DefinitionFault → TableFault
+told_in number definitions.Syntax = tables.Syntax number
+told_in number definitions.Limit = tables.Limit number
+told_in number definitions.NoSuchName = tables.NoSuchName number
+told_in number definitions.BadClass = tables.BadClass number
+told_in number definitions.SameName = tables.SameName number
+told_in number definitions.Memory = tables.Memory

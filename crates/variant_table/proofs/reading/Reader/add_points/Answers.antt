@@ -13,33 +13,33 @@ returns-then-count-limit-clause-read c =
       | then-count-limit-via-then-count-limit w ↦ omega (arith, w.if-count-limit.true, c.entry_limit-limit.ensures.limit)
       | then-count-limit-via-else-count-limit+then-len-limit w ↦ omega (arith, w.if-len-limit.true, w.if-count-limit.false, w.len.ensures, c.entry_limit-limit.ensures.limit)
     ] in
-    (refl, range_too_many c.args.self.now.version c.args.self.now.rows c.args.outside c.args.first c.args.count over)
+    (refl, range_too_many c.args.self.now.version c.args.self.now.definitions c.args.self.now.rows c.args.outside c.args.first c.args.count over)
 
 pub returns-then-branch-clause-read : goal.returns-then-branch-clause-read
 returns-then-branch-clause-read c =
     let few : length c.args.self.now.rows + c.args.count ≤ entry_limit c.args.self.now.version = omega (arith, c.entry_limit-limit.ensures.limit, c.if-count-limit.false, c.if-len-limit.false, c.len.ensures) in (
       refl,
-      range_bad c.args.self.now.version c.args.self.now.rows c.args.outside c.args.first c.args.count c.args.self.now.written c.range_len.result c.requires.counted c.range_len.ensures.count few
+      range_bad c.args.self.now.version c.args.self.now.definitions c.args.self.now.rows c.args.outside c.args.first c.args.count c.args.self.now.written c.range_len.result c.requires.counted c.range_len.ensures.count few
           (omega (arith, c.if-written-text_limit.false, c.text_limit.ensures.limit)) (sym (c.in_ok-has_bad_class_in.ensures {u = tt} c.args.outside) ∙ c.if-branch.true),
     )
 
 pub returns-in_err-push_points-clause-read : goal.returns-in_err-push_points-clause-read
 returns-in_err-push_points-clause-read c =
     let few : length c.args.self.now.rows + c.args.count ≤ entry_limit c.args.self.now.version = omega (arith, c.entry_limit-limit.ensures.limit, c.if-count-limit.false, c.if-len-limit.false, c.len.ensures) in
-    let good = range_good c.args.self.now.version c.args.self.now.rows c.args.outside c.args.first c.args.count c.args.self.now.written c.range_len.result c.requires.counted c.range_len.ensures.count few
+    let good = range_good c.args.self.now.version c.args.self.now.definitions c.args.self.now.rows c.args.outside c.args.first c.args.count c.args.self.now.written c.range_len.result c.requires.counted c.range_len.ensures.count few
     (omega (arith, c.if-written-text_limit.false, c.text_limit.ensures.limit)) (sym (c.in_ok-has_bad_class_in.ensures {u = tt} c.args.outside) ∙ c.if-branch.false) in
-    let fails : Fails c.args.number c.in_err-push_points.field-0.0 (with_entries c.args.self.now.version c.args.self.now.rows (points_from c.args.outside c.args.first c.args.count)) =
+    let fails : Fails c.args.number c.in_err-push_points.field-0.0 (with_entries c.args.self.now.version c.args.self.now.definitions c.args.self.now.rows (points_from c.args.outside c.args.first c.args.count)) =
     subst (Fails c.args.number c.in_err-push_points.field-0.0) (sym good) c.in_err-push_points.ensures in
     search rules
 
 pub returns-clause-read : goal.returns-clause-read
 returns-clause-read c =
     let few : length c.args.self.now.rows + c.args.count ≤ entry_limit c.args.self.now.version = omega (arith, c.entry_limit-limit.ensures.limit, c.if-count-limit.false, c.if-len-limit.false, c.len.ensures) in
-    range_good c.args.self.now.version c.args.self.now.rows c.args.outside c.args.first c.args.count c.args.self.now.written c.range_len.result c.requires.counted c.range_len.ensures.count few
+    range_good c.args.self.now.version c.args.self.now.definitions c.args.self.now.rows c.args.outside c.args.first c.args.count c.args.self.now.written c.range_len.result c.requires.counted c.range_len.ensures.count few
     (omega (arith, c.if-written-text_limit.false, c.text_limit.ensures.limit)) (sym (c.in_ok-has_bad_class_in.ensures {u = tt} c.args.outside) ∙ c.if-branch.false) ∙ c.in_ok-push_points.ensures
 
 pub returns-clause-counted : goal.returns-clause-counted
 returns-clause-counted c =
     let few : length c.args.self.now.rows + c.args.count ≤ entry_limit c.args.self.now.version = omega (arith, c.entry_limit-limit.ensures.limit, c.if-count-limit.false, c.if-len-limit.false, c.len.ensures) in
-    range_added c.args.self.now.version c.args.self.now.rows c.args.outside c.args.first c.args.count c.args.self.now.written c.range_len.result c.requires.counted c.range_len.ensures.count few
+    range_added c.args.self.now.version c.args.self.now.definitions c.args.self.now.rows c.args.outside c.args.first c.args.count c.args.self.now.written c.range_len.result c.requires.counted c.range_len.ensures.count few
     (omega (arith, c.if-written-text_limit.false, c.text_limit.ensures.limit)) c.push_points.new.rows c.in_ok-push_points.ensures

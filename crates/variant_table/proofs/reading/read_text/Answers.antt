@@ -3,13 +3,14 @@ use Rattle.idn_text.specs.Lines.{raw_lines}
 use Rattle.variant_table.specs.inner.Held.{IsCounted}
 use Rattle.variant_table.specs.declared.version.Notation.{Notation}
 use Rattle.variant_table.specs.declared.version.Version.{Version}
+use Rattle.variant_table.specs.Entries.{TableValue, table_of}
 use Rattle.variant_table.specs.Limits.{text_limit}
 use Rattle.variant_table.specs.Versions.{version_of, head_of}
-use Rattle.variant_table.specs.Reading.{◌>>=◌, with_lines, table_from, table_of_text}
+use Rattle.variant_table.specs.Reading.{with_lines, table_of_text}
 use Rattle.variant_table.specs.inner.ReadingSteps.{FailsIn}
 use Rattle.variant_table.proofs.FaultlessLemmas.{head_within}
 use Rattle.variant_table.proofs.ReadLemmas.{lines_begin, lines_lack, lines_counted, lines_step, lines_fail, lines_end}
-use Rattle.variant_table.proofs.reading.read_rows.Goals as goal
+use Rattle.variant_table.proofs.reading.read_text.Goals as goal
 
 -- the reader's version is that of the text
 named : (m : Notation) (lines : List (List ℕ)) (head v : Version) → version_of m lines ≡ Some head → v ≡ head → version_of m lines ≡ Some v
@@ -19,8 +20,9 @@ pub loop-line-init : goal.loop-line-init
 loop-line-init c =
     let lines : List (List ℕ) = raw_lines c.args.text.now in
     record {
-      same = lines_begin c.args.notation lines c.new-reader.result.version c.in-Some.head.lines c.in-Some.head.bytes c.new-reader.result.rows _
-          (named c.args.notation lines c.in-Some.head.version c.new-reader.result.version c.in-Some.ensures.version c.new-reader.ensures.version) c.in-Some.ensures.lines c.in-Some.ensures.bytes c.new-reader.ensures.rows (search rules);
+      same = lines_begin c.args.notation lines c.new-reader.result.version c.in-Some.head.lines c.in-Some.head.bytes c.new-reader.result.definitions c.new-reader.result.rows _
+          (named c.args.notation lines c.in-Some.head.version c.new-reader.result.version c.in-Some.ensures.version c.new-reader.ensures.version) c.in-Some.ensures.lines c.in-Some.ensures.bytes
+          c.new-reader.ensures.definitions c.new-reader.ensures.rows (search rules);
       within = omega (arith, c.in-Some.ensures.bytes, head_within c.args.notation c.new-reader.result.version lines);
       counted = omega (arith, c.in-Some.ensures.lines, c.in-Some.ensures.bytes, lines_counted (head_of c.args.notation lines));
       written = c.new-reader.ensures.counted;
@@ -28,24 +30,29 @@ loop-line-init c =
 
 pub returns-in_err-add_raw_line : goal.returns-in_err-add_raw_line
 returns-in_err-add_raw_line c =
+    let t : TableValue = table_of c.loop-line.reader.version c.loop-line.reader.definitions c.loop-line.reader.rows in
     let fails : FailsIn c.in_err-add_raw_line.field-0.0 (table_of_text c.args.notation c.args.text.now) =
-    lines_fail c.loop-line.reader.version (c.loop-line.number + 1) c.loop-line.bytes c.loop-line.reader.rows c.in-Some-line.line.now c.next.new.self c.loop-line.line-iterator (table_of_text c.args.notation c.args.text.now)
+    lines_fail (c.loop-line.number + 1) c.loop-line.bytes t c.in-Some-line.line.now c.next.new.self c.loop-line.line-iterator (table_of_text c.args.notation c.args.text.now)
     c.in-Some-line.ensures.steps c.loop-line.invariant.same c.in_err-add_raw_line.field-0.0 c.in_err-add_raw_line.ensures.read in search rules
 
 pub loop-line-preserved : goal.loop-line-preserved
 loop-line-preserved c =
     let version = c.in_ok-add_raw_line.ensures.version in
+    let t : TableValue = table_of c.loop-line.reader.version c.loop-line.reader.definitions c.loop-line.reader.rows in
+    let u : TableValue = table_of c.loop-line.reader.version c.add_raw_line.new.self.definitions c.add_raw_line.new.self.rows in
     record {
-      same = ap (λ v. with_lines v (c.loop-line.number + 1 + 1) (c.loop-line.bytes + (length c.in-Some-line.line.now + 1)) c.add_raw_line.new.self.rows c.next.new.self >>= table_from v) version
-          ∙ lines_step c.loop-line.reader.version (c.loop-line.number + 1) c.loop-line.bytes c.loop-line.reader.rows c.in-Some-line.line.now c.next.new.self c.loop-line.line-iterator (table_of_text c.args.notation c.args.text.now)
-          c.in-Some-line.ensures.steps c.loop-line.invariant.same c.add_raw_line.new.self.rows c.in_ok-add_raw_line.ensures.read;
+      same = ap (λ v. with_lines (c.loop-line.number + 1 + 1) (c.loop-line.bytes + (length c.in-Some-line.line.now + 1)) (table_of v c.add_raw_line.new.self.definitions c.add_raw_line.new.self.rows) c.next.new.self) version
+          ∙ lines_step (c.loop-line.number + 1) c.loop-line.bytes t c.in-Some-line.line.now c.next.new.self c.loop-line.line-iterator (table_of_text c.args.notation c.args.text.now)
+          c.in-Some-line.ensures.steps c.loop-line.invariant.same u c.in_ok-add_raw_line.ensures.read;
       within = subst (λ v. c.loop-line.bytes + (length c.in-Some-line.line.now + 1) ≤ text_limit v) (sym version) (omega (arith, c.in_ok-add_raw_line.ensures.within));
       counted = omega (arith, c.loop-line.invariant.counted);
-      written = subst (λ v. IsCounted v c.add_raw_line.new.self.written c.add_raw_line.new.self.rows) (sym version) c.in_ok-add_raw_line.ensures.counted;
+      written = subst (λ v. IsCounted v c.add_raw_line.new.self.definitions c.add_raw_line.new.self.written c.add_raw_line.new.self.rows) (sym version) c.in_ok-add_raw_line.ensures.counted;
     }
 
 pub returns : goal.returns
-returns c = lines_end c.loop-line.reader.version (c.loop-line.number + 1) c.loop-line.bytes c.loop-line.reader.rows c.loop-line.line-iterator (table_of_text c.args.notation c.args.text.now) c.in-None.ensures.steps.0 c.loop-line.invariant.same
+returns c =
+    lines_end (c.loop-line.number + 1) c.loop-line.bytes (table_of c.loop-line.reader.version c.loop-line.reader.definitions c.loop-line.reader.rows) c.loop-line.line-iterator
+    (table_of_text c.args.notation c.args.text.now) c.in-None.ensures.steps.0 c.loop-line.invariant.same
 
 pub returns-in_default : goal.returns-in_default
 returns-in_default c = lines_lack c.args.notation (raw_lines c.args.text.now) c.in_default.ensures.version
