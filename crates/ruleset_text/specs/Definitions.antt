@@ -59,10 +59,11 @@ lines_size (line ∷ lines) = length line + 1 + lines_size lines
 unfoldable pub canonical_size : Definitions → ℕ
 canonical_size d = lines_size (canonical_lines d)
 
--- their canonical text: each line with its line feed
+-- lines one after the other, each with its line feed
 abbrev pub lines_text : List (List ℕ) → List ℕ
 lines_text lines = flat_map (λ line. line ++ 10 ∷ []) lines
 
+-- the canonical text of the definitions
 abbrev pub definitions_text : Definitions → List ℕ
 definitions_text d = lines_text (canonical_lines d)
 

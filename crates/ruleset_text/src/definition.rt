@@ -1,5 +1,6 @@
 //! What a line defines.
-ghost use Rattle.std.specs.Prelude.{◌≡◌, ◌++◌, IfOk, OnOk};
+ghost use Rattle.std.specs.Prelude.{◌≡◌, ◌++◌, [], IfOk, OnOk};
+ghost use Rattle.label_patterns.specs.Trees.{pattern};
 ghost use Rattle.ruleset_text.specs.Canonical.{definition_text};
 ghost use Rattle.ruleset_text.specs.Definition as words;
 ghost use Rattle.ruleset_text.specs.Definitions as definitions;
@@ -39,27 +40,57 @@ pub fn push_definition(
     ensures { OnOk result (out.new.items ≡ out.old.items ++ definition_text sets.now (trees.definition definition.now)) }
 {
     match definition {
-        Definition::Tag(name) => {
-            push_bytes(out, b"%tag ")?;
-            push_bytes(out, name.as_slice())
-        }
-        Definition::Set(name, set) => {
-            push_bytes(out, b"%set ")?;
-            push_bytes(out, name.as_slice())?;
-            push_spans(out, set)
-        }
-        Definition::Rule(name, contexts) => {
-            push_bytes(out, b"%rule ")?;
-            push_bytes(out, name.as_slice())?;
-            push_byte(out, b' ')?;
-            push_pattern(out, sets, contexts)
-        }
-        Definition::Demand(kind, pattern) => {
-            push_bytes(out, demand_word(*kind))?;
-            push_byte(out, b' ')?;
-            push_pattern(out, sets, pattern)
-        }
+        Definition::Tag(name) => push_tag(out, name),
+        Definition::Set(name, set) => push_set(out, name, set),
+        Definition::Rule(name, contexts) => push_rule(out, sets, name, contexts),
+        Definition::Demand(kind, pattern) => push_demand(out, sets, *kind, pattern),
     }
+}
+
+/// Appends the canonical line of a tag, without its line feed. It names no set.
+pub fn push_tag(out: &mut Vec<u8>, name: &Name) -> Result<(), AllocError>
+    ensures { OnOk result (out.new.items ≡ out.old.items ++ definition_text [] (words.Tag name.now)) }
+{
+    push_bytes(out, b"%tag ")?;
+    push_bytes(out, name.as_slice())
+}
+
+/// Appends the canonical line of a set, without its line feed. It names no other set.
+pub fn push_set(out: &mut Vec<u8>, name: &Name, set: &PointSet) -> Result<(), AllocError>
+    ensures { OnOk result (out.new.items ≡ out.old.items ++ definition_text [] (words.Set name.now set.now)) }
+{
+    push_bytes(out, b"%set ")?;
+    push_bytes(out, name.as_slice())?;
+    push_spans(out, set)
+}
+
+/// Appends the canonical line of a rule, without its line feed. The sets of its contexts have these names.
+pub fn push_rule(
+    out: &mut Vec<u8>,
+    sets: &[Name],
+    name: &Name,
+    contexts: &PatternTree,
+) -> Result<(), AllocError>
+    ensures { OnOk result (out.new.items ≡ out.old.items ++ definition_text sets.now (words.Rule name.now (pattern contexts.now))) }
+{
+    push_bytes(out, b"%rule ")?;
+    push_bytes(out, name.as_slice())?;
+    push_byte(out, b' ')?;
+    push_pattern(out, sets, contexts)
+}
+
+/// Appends the canonical line of a demand, without its line feed. The sets of its pattern have these names.
+pub fn push_demand(
+    out: &mut Vec<u8>,
+    sets: &[Name],
+    kind: DemandKind,
+    tree: &PatternTree,
+) -> Result<(), AllocError>
+    ensures { OnOk result (out.new.items ≡ out.old.items ++ definition_text sets.now (words.Demand kind (pattern tree.now))) }
+{
+    push_bytes(out, demand_word(kind))?;
+    push_byte(out, b' ')?;
+    push_pattern(out, sets, tree)
 }
 
 /// The keyword of a demand.

@@ -20,7 +20,7 @@ use Rattle.ruleset_text.specs.Lexemes.{lexemes}
 use Rattle.ruleset_text.specs.WellFormed.{AreDefinitions, IsDefinition}
 use Rattle.ruleset_text.proofs.DefinedLemmas.{NamesNoDemand, demands_grow, without_demands}
 use Rattle.ruleset_text.proofs.DefinitionsBackLemmas.{definitions_back}
-use Rattle.ruleset_text.proofs.DefinitionsTextLemmas.{length-definitions_text}
+use Rattle.ruleset_text.proofs.DefinitionsTextLemmas.{definitions_text-length}
 use Rattle.ruleset_text.proofs.LineBytes.{IsInLine, AreInLine, joined, lines_in_line, point_in_line}
 use Rattle.ruleset_text.specs.EntryText.{mark_text, sequence_text, IsSequence, IsMapped, IsForm}
 use Rattle.ruleset_text.specs.EntryWords.{IsEntryLine}
@@ -294,7 +294,7 @@ definitions_spell Two d of are l = subst (λ x. LinesSpell (empty_table Two) (ca
 definitions_spell Three d of are l =
     lines_define nothing_defined d (canonical_lines d) (lines_in_line d are)
     (definitions_back d (8388608 - length (head_text Three ++ [])) are
-    (omega (arith, l, length-append (head_text Three) (definitions_text d ++ []), length-append (definitions_text d) [], length-definitions_text d, length-append (head_text Three) [])))
+    (omega (arith, l, length-append (head_text Three) (definitions_text d ++ []), length-append (definitions_text d) [], definitions_text-length d, length-append (head_text Three) [])))
     (ap length of)
 
 behind_one_another : (t m u : TableValue) (a b : List (List ℕ)) → LinesSpell t a m → LinesSpell m b u → LinesSpell t (a ++ b) u

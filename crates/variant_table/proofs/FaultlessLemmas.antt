@@ -18,7 +18,7 @@ use Rattle.ruleset_text.specs.Lexemes.{lexemes}
 use Rattle.ruleset_text.specs.WellFormed.{AreDefinitions}
 use Rattle.ruleset_text.proofs.AddedLemmas.{nothing_counted}
 use Rattle.ruleset_text.proofs.DefinedLemmas.{Grown, defined_grows, NamesNoDemand, demands_stay}
-use Rattle.ruleset_text.proofs.DefinitionsTextLemmas.{length-definitions_text}
+use Rattle.ruleset_text.proofs.DefinitionsTextLemmas.{definitions_text-length}
 use Rattle.variant_table.specs.Faults.{LineFault, Limit, Syntax}
 use Rattle.variant_table.specs.declared.version.Notation.{Notation}
 use Rattle.variant_table.specs.declared.version.Notation.TheVariants.{Table, Ruleset}
@@ -47,7 +47,7 @@ WholeTable = Result TableValue (ℕ × LineFault)
 
 length-text : (v : Version) (d : Definitions) (t : List Entry) → length (table_text v d t) ≡ length (head_text v) + canonical_size d + length (canonical_text t)
 length-text v d t =
-    omega (arith, length-append (head_text v) (definitions_text d ++ canonical_text t), length-append (definitions_text d) (canonical_text t), length-definitions_text d)
+    omega (arith, length-append (head_text v) (definitions_text d ++ canonical_text t), length-append (definitions_text d) (canonical_text t), definitions_text-length d)
 
 length-more : (v : Version) (d : Definitions) (a b : List Entry) → length (table_text v d (a ++ b)) ≡ length (table_text v d a) + length (canonical_text b)
 length-more v d a b =
