@@ -1,5 +1,5 @@
 //! What the lines of a ruleset define.
-ghost use Rattle.std.specs.Prelude.{◌≡◌, ◌+◌, ◌<◌, ◌^◌, ◌||◌, length, map, OnOk, OnErr};
+ghost use Rattle.std.specs.Prelude.{◌≡◌, ◌+◌, ◌<◌, ◌^◌, ◌||◌, length, map, IfOk, OnOk, OnErr};
 ghost use Rattle.std.specs.List.{AllByRecursion};
 ghost use Rattle.label_patterns.specs.Matches.{HasItsSets};
 ghost use Rattle.label_patterns.specs.Trees.{pattern};
@@ -14,13 +14,14 @@ ghost use Rattle.ruleset_text.specs.Lexemes.{lexemes};
 ghost use Rattle.ruleset_text.specs.Names.{is_one_of as is_among};
 ghost use Rattle.ruleset_text.specs.WellFormed.{AreDefinitions};
 
+use crate::copies::{copied_patterns, copied_sets};
 use crate::definition::{Definition, DemandKind, has_bad_class, has_known_sets};
 use crate::definition_line::{DefinitionLine, read_line};
 use crate::fault::DefinitionFault;
 use crate::keyword::{Keyword, keyword_of};
 use crate::lexemes::next_lexeme;
 use crate::limits::{is_within, without_atoms};
-use crate::names::{Name, is_one_of};
+use crate::names::{Name, copied_names, is_one_of};
 use label_patterns::{PatternTree, PointSet};
 use std::alloc::{AllocError, Global};
 use std::marker::Model;
@@ -99,6 +100,22 @@ impl Definitions {
         }
     }
 
+    /// These definitions as a value of their own. It is an `Err` only where memory was refused.
+    pub fn copied(&self, alloc: Global) -> Result<Self, AllocError>
+        ensures { IfOk result (λ copy. copy ≡ self.now) }
+    {
+        Ok(Definitions {
+            tags: copied_names(alloc, &self.tags)?,
+            set_names: copied_names(alloc, &self.set_names)?,
+            sets: copied_sets(alloc, &self.sets)?,
+            rule_names: copied_names(alloc, &self.rule_names)?,
+            rules: copied_patterns(alloc, &self.rules)?,
+            demands: copied_demands(alloc, &self.demands)?,
+            atoms_left: self.atoms_left,
+            written: self.written,
+        })
+    }
+
     /// The names of the tags.
     pub fn tags(&self) -> &[Name]
         ensures { result.now ≡ self.now.tags }
@@ -151,7 +168,7 @@ impl Definitions {
         self.written
     }
 
-    /// Adds what a line defines, by its keyword and the text behind it. The canonical text of the definitions may have
+    /// Adds what a line defines, by its keyword and the text after it. The canonical text of the definitions may have
     /// `limit` bytes. An `Err` changes nothing.
     pub fn define(
         &mut self,
@@ -332,4 +349,18 @@ impl Definitions {
         self.written += len + 1;
         Ok(())
     }
+}
+
+/// These demands as a list of their own.
+fn copied_demands(alloc: Global, demands: &[Demand]) -> Result<Vec<Demand>, AllocError>
+    ensures { IfOk result (λ copies. map demand copies.items ≡ map demand demands.now) }
+{
+    let mut copies = Vec::new(alloc);
+    for demand in demands {
+        copies.push(Demand {
+            kind: demand.kind,
+            pattern: demand.pattern.copied(alloc)?,
+        })?;
+    }
+    Ok(copies)
 }

@@ -3,6 +3,7 @@
 
 mod canonical;
 mod classes;
+mod copies;
 mod definition;
 mod definition_line;
 mod definition_reading;

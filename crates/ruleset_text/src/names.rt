@@ -38,6 +38,17 @@ impl Name {
     }
 }
 
+/// These names as a list of their own. It is an `Err` only where memory was refused.
+pub fn copied_names(alloc: Global, names: &[Name]) -> Result<Vec<Name>, AllocError>
+    ensures { IfOk result (λ copies. copies.items ≡ names.now) }
+{
+    let mut copies = Vec::new(alloc);
+    for name in names {
+        copies.push(Name::copied(alloc, name.as_slice())?)?;
+    }
+    Ok(copies)
+}
+
 /// Whether bytes are a name: a letter, then letters, digits and `_`, 32 at most.
 pub fn is_name(bytes: &[u8]) -> bool
     ensures { result ≡ is_a_name bytes.now }

@@ -5,10 +5,10 @@ ghost use Rattle.ruleset_text.specs.SetNames as words;
 ghost use Rattle.ruleset_text.specs.SetNames.{names_on};
 
 use crate::lexemes::next_lexeme;
-use crate::names::{Name, is_name, is_one_of};
+use crate::names::{Name, copied_names, is_name, is_one_of};
 use std::alloc::{AllocError, Global};
 
-/// The names, and behind them those of sets that the text names besides; none if it names no others.
+/// The names, and after them those of sets that the text names besides; none if it names no others.
 pub fn with_other_names(
     alloc: Global,
     names: &[Name],
@@ -20,7 +20,7 @@ pub fn with_other_names(
     if others.is_empty() {
         return Ok(None);
     }
-    let mut all = copies(alloc, names)?;
+    let mut all = copied_names(alloc, names)?;
     all.append(&mut others)?;
     Ok(Some(all))
 }
@@ -57,7 +57,7 @@ fn add_other(
     Ok(())
 }
 
-/// What a word names a set by: the name behind `@`.
+/// What a word names a set by: the name after `@`.
 fn set_name(word: &[u8]) -> Option<&[u8]>
     ensures { MatchOption result (words.set_name word.now ≡ None) (λ name. words.set_name word.now ≡ Some name.now) }
 {
@@ -69,14 +69,4 @@ fn set_name(word: &[u8]) -> Option<&[u8]>
     } else {
         None
     }
-}
-
-fn copies(alloc: Global, names: &[Name]) -> Result<Vec<Name>, AllocError>
-    ensures { IfOk result (λ copies. copies.items ≡ names.now) }
-{
-    let mut copies = Vec::new(alloc);
-    for name in names {
-        copies.push(Name::copied(alloc, name.as_slice())?)?;
-    }
-    Ok(copies)
 }

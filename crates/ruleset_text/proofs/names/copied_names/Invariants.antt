@@ -1,5 +1,5 @@
 use Rattle.std.proofs.Common.{◌≡◌, take}
-use Rattle.ruleset_text.proofs.set_names.copies.Given as goal
+use Rattle.ruleset_text.proofs.names.copied_names.Given as goal
 
 -- the names so far
 abbrev pub invariant-loop-name : goal.invariant-loop-name
