@@ -1,5 +1,6 @@
 -- What the lines of a ruleset define so far, and what a further line makes of it.
 use Rattle.std.specs.Prelude.{ℕ, ◌+◌, nat_le, nat_lt, Bool, true, false, ◌||◌, not, Option, Some, None, Result, Ok, Err, List, [], ◌∷◌, ◌++◌, length, map, if◌then◌else◌}
+use Rattle.std.specs.List.{flat_map}
 use Rattle.label_patterns.specs.declared.span.Span.{Span}
 use Rattle.label_patterns.specs.Patterns.{Pattern}
 use Rattle.ruleset_text.specs.declared.definition.DemandKind.{DemandKind}
@@ -57,6 +58,14 @@ lines_size (line ∷ lines) = length line + 1 + lines_size lines
 
 unfoldable pub canonical_size : Definitions → ℕ
 canonical_size d = lines_size (canonical_lines d)
+
+-- lines one after the other, each with its line feed
+abbrev pub lines_text : List (List ℕ) → List ℕ
+lines_text lines = flat_map (λ line. line ++ 10 ∷ []) lines
+
+-- the canonical text of the definitions
+abbrev pub definitions_text : Definitions → List ℕ
+definitions_text d = lines_text (canonical_lines d)
 
 -- the names of tags, sets and rules
 abbrev pub all_names : Definitions → List (List ℕ)

@@ -7,6 +7,7 @@ mod definition;
 mod definition_line;
 mod definition_reading;
 mod definitions;
+mod definitions_text;
 mod entry_form;
 mod entry_laws;
 mod entry_reading;

@@ -1,0 +1,71 @@
+//! The canonical text of definitions.
+ghost use Rattle.std.specs.Prelude.{◌≡◌, ◌++◌, map, OnOk};
+ghost use Rattle.ruleset_text.specs.Canonical.{definition_text};
+ghost use Rattle.ruleset_text.specs.Definition as definition;
+ghost use Rattle.ruleset_text.specs.Definitions.{definitions_text, lines_text, named};
+
+use crate::canonical::push_byte;
+use crate::definition::{push_demand, push_rule, push_set, push_tag};
+use crate::definitions::Definitions;
+use std::alloc::AllocError;
+
+impl Definitions {
+    /// Appends the canonical lines of the definitions, each with its line feed: tags, sets, rules, demands. After an `Err`
+    /// some may have been appended.
+    pub fn push_lines(&self, out: &mut Vec<u8>) -> Result<(), AllocError>
+        ensures { OnOk result (out.new.items ≡ out.old.items ++ definitions_text self.now) }
+    {
+        self.push_tags(out)?;
+        self.push_sets(out)?;
+        self.push_rules(out)?;
+        self.push_demands(out)
+    }
+
+    fn push_tags(&self, out: &mut Vec<u8>) -> Result<(), AllocError>
+        ensures { OnOk result (out.new.items ≡ out.old.items ++ lines_text (map (definition_text self.now.set_names) (map definition.Tag self.now.tags))) }
+    {
+        let tags = self.tags();
+        for tag in tags {
+            push_tag(out, tag)?;
+            push_byte(out, b'\n')?;
+        }
+        Ok(())
+    }
+
+    fn push_sets(&self, out: &mut Vec<u8>) -> Result<(), AllocError>
+        ensures { OnOk result (out.new.items ≡ out.old.items ++ lines_text (map (definition_text self.now.set_names) (named definition.Set self.now.set_names self.now.sets))) }
+    {
+        let names = self.set_names();
+        let sets = self.sets();
+        for number in 0..names.len() {
+            push_set(out, &names[number], &sets[number])?;
+            push_byte(out, b'\n')?;
+        }
+        Ok(())
+    }
+
+    fn push_rules(&self, out: &mut Vec<u8>) -> Result<(), AllocError>
+        ensures { OnOk result (out.new.items ≡ out.old.items ++ lines_text (map (definition_text self.now.set_names) (named definition.Rule self.now.rule_names self.now.rules))) }
+    {
+        let sets = self.set_names();
+        let names = self.rule_names();
+        let rules = self.rules();
+        for number in 0..names.len() {
+            push_rule(out, sets, &names[number], &rules[number])?;
+            push_byte(out, b'\n')?;
+        }
+        Ok(())
+    }
+
+    fn push_demands(&self, out: &mut Vec<u8>) -> Result<(), AllocError>
+        ensures { OnOk result (out.new.items ≡ out.old.items ++ lines_text (map (definition_text self.now.set_names) (map (λ e. definition.Demand e.kind e.pattern) self.now.demands))) }
+    {
+        let sets = self.set_names();
+        let demands = self.demands();
+        for demand in demands {
+            push_demand(out, sets, demand.kind, &demand.pattern)?;
+            push_byte(out, b'\n')?;
+        }
+        Ok(())
+    }
+}
