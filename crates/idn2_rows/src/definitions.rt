@@ -81,3 +81,45 @@ fn fault(rt: &HostRuntime, line: &str) -> Option<DefinitionFault> {
         .define_line(rt.alloc(), LIMIT, line.as_bytes())
         .err()
 }
+
+/// Lines of each kind, in another order than that of the canonical text, and with other blanks.
+const MIXED: [&str; 6] = [
+    "%set Vowels u+0061 0065..0069",
+    "%rule r _ @Vowels/^ _",
+    "%always @Vowels.*",
+    " %tag  t1",
+    "%set B 0064 .. 0066",
+    "%never\t( 0030/0031 )* @B",
+];
+
+/// The canonical text of what they define.
+const CANONICAL: &str = "\
+%tag t1
+%set Vowels 0061 0065..0069
+%set B 0064..0066
+%rule r _ @Vowels / ^ _
+%always @Vowels .*
+%never (0030 / 0031)* @B
+";
+
+#[test]
+fn canonical_text(rt: HostRuntime) {
+    let mut text = Vec::new(rt.alloc());
+    let len = push_canonical(&rt, &mut text);
+    assert_eq!(&rt;
+        (len, text.as_slice()),
+        (Some(CANONICAL.len()), CANONICAL.as_bytes())
+    );
+}
+
+/// Appends the canonical text of what the mixed lines define, and tells its size.
+fn push_canonical(rt: &HostRuntime, text: &mut Vec<u8>) -> Option<usize> {
+    let mut definitions = Definitions::new(rt.alloc());
+    for line in MIXED {
+        definitions
+            .define_line(rt.alloc(), LIMIT, line.as_bytes())
+            .ok()?;
+    }
+    definitions.push_lines(text).ok()?;
+    Some(definitions.canonical_len())
+}
