@@ -88,65 +88,44 @@ fn defined(alloc: Global, lines: &[&str]) -> Result<Definitions, DefinitionFault
     Ok(definitions)
 }
 
-/// Canonical lines, of 95 bytes with their line feeds.
-const COPIED: [&str; 5] = [
-    "%tag t",
-    "%set A 0061 0063..0065",
-    "%rule r ^ @A _ / _ (0062 .)* $",
-    "%never 0061 0061",
-    "%always @A? 0062",
+/// Lines of each kind, in another order than that of the canonical text, and with other blanks.
+const MIXED: [&str; 6] = [
+    "%set Vowels u+0061 0065..0069",
+    "%rule r _ @Vowels/^ _",
+    "%always @Vowels.*",
+    " %tag  t1",
+    "%set B 0064 .. 0066",
+    "%never\t( 0030/0031 )* @B",
 ];
 
-/// What they define: names, sets, contexts and demands.
-const COPIED_TEXT: &str = "\
-t
-A
-r
- 0061 0063..0065
-^ @A _ / _ (0062 .)* $
-Never
-0061 0061
-Always
-@A? 0062
+/// The canonical text of what they define.
+const CANONICAL: &str = "\
+%tag t1
+%set Vowels 0061 0065..0069
+%set B 0064..0066
+%rule r _ @Vowels / ^ _
+%always @Vowels .*
+%never (0030 / 0031)* @B
 ";
 
 #[test]
+fn canonical_text(rt: HostRuntime) -> Result<(), Fail> {
+    let definitions = defined(rt.alloc(), &MIXED)?;
+    assert_eq!(&rt; text_of(rt.alloc(), &definitions)?.as_slice(), CANONICAL.as_bytes());
+    assert_eq!(&rt; definitions.canonical_len(), CANONICAL.len());
+    Ok(())
+}
+
+#[test]
 fn copies_of_definitions(rt: HostRuntime) -> Result<(), Fail> {
-    let copy = defined(rt.alloc(), &COPIED)?.copied(rt.alloc())?;
-    let text = text_of(rt.alloc(), &copy)?;
-    assert_eq!(&rt; text.as_str(), COPIED_TEXT);
-    assert_eq!(&rt; copy.canonical_len(), 95);
+    let copy = defined(rt.alloc(), &MIXED)?.copied(rt.alloc())?;
+    assert_eq!(&rt; text_of(rt.alloc(), &copy)?.as_slice(), CANONICAL.as_bytes());
+    assert_eq!(&rt; copy.canonical_len(), CANONICAL.len());
     Ok(())
 }
 
-/// What definitions have, each thing in a line.
-fn text_of(alloc: Global, definitions: &Definitions) -> Result<String, AllocError> {
-    let names = definitions.set_names();
-    let mut lines = Vec::new(alloc);
-    push_names(&mut lines, definitions.tags())?;
-    push_names(&mut lines, names)?;
-    push_names(&mut lines, definitions.rule_names())?;
-    for set in definitions.sets() {
-        push_spans(&mut lines, set)?;
-        lines.push(b'\n')?;
-    }
-    for contexts in definitions.rules() {
-        push_pattern(&mut lines, names, contexts)?;
-        lines.push(b'\n')?;
-    }
-    for demand in definitions.demands() {
-        let kind = format!(in alloc; "{:?}\n", demand.kind)?;
-        lines.extend_from_slice(kind.as_bytes())?;
-        push_pattern(&mut lines, names, &demand.pattern)?;
-        lines.push(b'\n')?;
-    }
-    String::from_utf8_lossy(alloc, lines.as_slice())
-}
-
-fn push_names(lines: &mut Vec<u8>, names: &[Name]) -> Result<(), AllocError> {
-    for name in names {
-        lines.extend_from_slice(name.as_slice())?;
-        lines.push(b'\n')?;
-    }
-    Ok(())
+fn text_of(alloc: Global, definitions: &Definitions) -> Result<Vec<u8>, AllocError> {
+    let mut text = Vec::new(alloc);
+    definitions.push_lines(&mut text)?;
+    Ok(text)
 }
