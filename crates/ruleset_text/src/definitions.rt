@@ -163,7 +163,8 @@ impl Definitions {
 
     /// How many bytes the canonical lines have, each with its line feed.
     pub fn canonical_len(&self) -> usize
-        ensures { result ≡ canonical_size self.now }
+        ensures size { result ≡ canonical_size self.now }
+        ensures without_fault { AreDefinitions self.now }
     {
         self.written
     }

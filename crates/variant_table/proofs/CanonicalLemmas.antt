@@ -326,7 +326,7 @@ size_of-lines [] = refl
 size_of-lines (line ∷ lines) = omega (arith, size_of-cons line lines, size_of-lines lines, length-append (line ++ 10 ∷ []) (lines_text lines), length-append line (10 ∷ []))
 
 size_of-append : (a b : List (List ℕ)) → size_of (a ++ b) ≡ size_of a + size_of b
-size_of-append [] b = refl
+size_of-append [] b = omega arith
 size_of-append (line ∷ a) b = omega (arith, size_of-cons line (a ++ b), size_of-cons line a, size_of-append a b)
 
 size_of-table : (d : Definitions) (table : List Entry) → size_of (table_lines d table) ≡ length (definitions_text d) + length (canonical_text table)

@@ -142,7 +142,7 @@ module _ (bytes : ℕ) (table : TableValue) (line : List ℕ) where
             | defines keyword behind s n ↦
                 let w = wrong_definition f (defined (room_for_definitions table) table.definitions keyword behind)
                 (sym (definition_err keyword behind) ∙ sym (with_line-defines table (strip_carriage_return line) keyword behind s n) ∙ here) in
-                inr (h, keyword, behind, w.0, n, w.1, w.2)
+                inr (h, (keyword, behind, w.0, n, w.1, w.2))
             | of_entries es i ↦ inl (entries_fault es i h f _ _ _ _ refl refl refl refl
                 (sym (with_entries-by table.version table.definitions table.entries es _ _ _ _ refl refl refl refl)
                 ∙ of_entries_err f (with_entries table.version table.definitions table.entries es) (sym (with_line-entries table (strip_carriage_return line) es i) ∙ here)))

@@ -45,7 +45,7 @@ WholeTable = Result TableValue (ℕ × LineFault)
 
 -- ---- the canonical text is within the limit
 
-length-text : (v : Version) (d : Definitions) (t : List Entry) → length (table_text v d t) ≡ length (head_text v) + canonical_size d + length (canonical_text t)
+pub length-text : (v : Version) (d : Definitions) (t : List Entry) → length (table_text v d t) ≡ length (head_text v) + canonical_size d + length (canonical_text t)
 length-text v d t =
     omega (arith, length-append (head_text v) (definitions_text d ++ canonical_text t), length-append (definitions_text d) (canonical_text t), definitions_text-length d)
 
@@ -159,15 +159,19 @@ empty_sound v = record {
 -- ---- definitions
 
 -- only a ruleset has them, and no demand is read
-record IsRead (v : Version) (keyword : Keyword) : Type 0 where
-  ruleset : v ≡ Three
-  no_demand : NamesNoDemand keyword
+record IsRead (v : Version) (k : Keyword) : Type 0 where
+  of_three : v ≡ Three
+  no_demand : NamesNoDemand k
+
+abbrev keyword_told : Option (Keyword × List (List ℕ)) → Keyword
+keyword_told None = keyword.Tag
+keyword_told (Some told) = told.0
 
 kept : (o : Option Keyword) (words behind : List (List ℕ)) (k : Keyword) → with_behind words (if_read o) ≡ Some (k, behind) → NamesNoDemand k
 kept None words behind k e = absurd cc
-kept (Some keyword.Tag) words behind k e = subst NamesNoDemand (let same : keyword.Tag ≡ k = cc in same) tt
-kept (Some keyword.Set) words behind k e = subst NamesNoDemand (let same : keyword.Set ≡ k = cc in same) tt
-kept (Some keyword.Rule) words behind k e = subst NamesNoDemand (let same : keyword.Rule ≡ k = cc in same) tt
+kept (Some keyword.Tag) words behind k e = subst NamesNoDemand (ap keyword_told e) tt
+kept (Some keyword.Set) words behind k e = subst NamesNoDemand (ap keyword_told e) tt
+kept (Some keyword.Rule) words behind k e = subst NamesNoDemand (ap keyword_told e) tt
 kept (Some keyword.Never) words behind k e = absurd cc
 kept (Some keyword.Always) words behind k e = absurd cc
 
@@ -175,7 +179,7 @@ is_read : (v : Version) (words behind : List (List ℕ)) (k : Keyword) → keywo
 is_read One words behind k e = absurd cc
 is_read Two words behind k e = absurd cc
 is_read Three [] behind k e = absurd cc
-is_read Three (word ∷ words) behind k e = record { ruleset = refl; no_demand = kept (keyword_of word) words behind k e }
+is_read Three (word ∷ words) behind k e = record { of_three = refl; no_demand = kept (keyword_of word) words behind k e }
 
 of_ruleset : (v : Version) (d e : Definitions) → v ≡ Three → e.demands ≡ d.demands → AreOfVersion v d → AreOfVersion v e
 of_ruleset One d e is same h = absurd cc
@@ -197,13 +201,13 @@ defined_sound t k words behind d h n e =
     let g : Grown (room_for_definitions t) t.definitions d = defined_grows (room_for_definitions t) t.definitions d k behind h.without_fault e in
     record {
       without_fault = g.without_fault;
-      defined = of_ruleset t.version t.definitions d read.ruleset (demands_stay (room_for_definitions t) t.definitions d k behind read.no_demand e) h.defined;
+      defined = of_ruleset t.version t.definitions d read.of_three (demands_stay (room_for_definitions t) t.definitions d k behind read.no_demand e) h.defined;
       of_version = h.of_version;
       entries = record {
         sound = h.entries.sound;
         new = h.entries.new;
         few = h.entries.few;
-        fits = fits_defined t.version t.definitions d t.entries read.ruleset h.entries.fits g;
+        fits = fits_defined t.version t.definitions d t.entries read.of_three h.entries.fits g;
       };
     }
 

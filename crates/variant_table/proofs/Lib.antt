@@ -52,3 +52,5 @@ pub mod LengthLemmas
 pub mod UnblockedLemmas
 -- What the entries of a line add.
 pub mod AddingLemmas
+-- What a line that defines something makes of a table.
+pub mod DefiningLemmas

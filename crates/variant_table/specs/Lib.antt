@@ -1,6 +1,7 @@
 pub mod Entries
 pub mod Canonical
 pub mod WellFormed
+pub mod TableCodes
 pub mod Versions
 pub mod Limits
 pub mod Ranges

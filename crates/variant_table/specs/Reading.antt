@@ -53,6 +53,10 @@ with_entries version definitions table entries =
     if list_any (has_source_in table) entries then Err SameSource else
     Ok (table ++ entries)
 
+-- the same with those of a line's lexemes
+abbrev pub with_entry_words : Version → Definitions → List Entry → List (List ℕ) → Result (List Entry) LineFault
+with_entry_words version definitions table words = entries_in version words >>= with_entries version definitions table
+
 abbrev pub with_entries_of : TableValue → List Entry → Result TableValue LineFault
 with_entries_of t entries = with_entries t.version t.definitions t.entries entries >>= λ all. Ok (record t { entries = all })
 

@@ -10,7 +10,7 @@ ghost use Rattle.ruleset_text.specs.Definitions.{nothing_defined};
 ghost use Rattle.ruleset_text.specs.Lexemes.{lexemes};
 ghost use Rattle.variant_table.specs.declared.version.Version.TheVariants.{Three};
 ghost use Rattle.variant_table.specs.Entries.{TableValue, table_of};
-ghost use Rattle.variant_table.specs.Reading.{◌>>=◌, entries_in, with_definition, with_entries, with_line, with_raw_line, table_of_text, is_skipped as is_skipped_line};
+ghost use Rattle.variant_table.specs.Reading.{with_definition, with_entries, with_entry_words, with_line, with_raw_line, table_of_text, is_skipped as is_skipped_line};
 ghost use Rattle.variant_table.specs.inner.ReadingSteps.{Leaves, Reads, with_new_sources};
 
 use crate::definition_lines::{fault_in, keyword_in};
@@ -149,7 +149,7 @@ impl Reader {
     /// Adds the entries that the line of this number spells, if they are without a fault.
     fn add_entries(&mut self, number: u64, line: &[u8]) -> Result<(), TableFault>
         requires { IsCounted self.old.version self.old.definitions self.old.written self.old.rows }
-        ensures read { Leaves number result self.new.rows (entries_in self.old.version (lexemes line.now) >>= with_entries self.old.version self.old.definitions self.old.rows) }
+        ensures read { Leaves number result self.new.rows (with_entry_words self.old.version self.old.definitions self.old.rows (lexemes line.now)) }
         ensures counted { OnOk result (IsCounted self.old.version self.new.definitions self.new.written self.new.rows) }
         ensures version { self.new.version ≡ self.old.version }
         ensures definitions { self.new.definitions ≡ self.old.definitions }

@@ -1,9 +1,11 @@
-use Rattle.std.proofs.Common.{ℕ, List, [], ◌∷◌, Result, Ok, refl, ap, ◌∙◌}
+use Rattle.std.specs.Prelude.{codes}
+use Rattle.std.proofs.Common.{◌+◌, ℕ, List, [], ◌∷◌, Result, Ok, refl, ap, ◌∙◌}
 use Rattle.idn_text.specs.Points.{point_of_hex}
 use Rattle.variant_table.specs.Faults.{LineFault}
 use Rattle.variant_table.specs.declared.version.Version.TheVariants.{One}
-use Rattle.variant_table.specs.Entries.{Entry, TableValue}
-use Rattle.variant_table.specs.Reading.{◌>>=◌, in_line, table_of_lines, table_from, with_lines, with_raw_line, with_line, with_entries}
+use Rattle.ruleset_text.specs.Definitions.{nothing_defined}
+use Rattle.variant_table.specs.Entries.{Entry, TableValue, empty_table, table_of}
+use Rattle.variant_table.specs.Reading.{◌>>=◌, in_line, table_of_lines, with_lines, with_raw_line, with_line, with_entries}
 use Rattle.variant_table.proofs.ExampleLemmas.{letter, with_entries-capital, with_entries-own_variant, with_entries-letter, with_entries-letter_again}
 use Rattle.variant_table.proofs.laws.definitions_compute_the_examples.Goals as goal
 use Rattle.ruleset_text.specs.Canonical.{point_text}
@@ -58,17 +60,21 @@ unfolding point_of_hex point_text entry_in table_of_lines with_lines with_raw_li
 returns-clause-places c = refl
 
 -- what a last line of this number gives
-abbrev read : ℕ → Result (List Entry) LineFault → Result TableValue (ℕ × LineFault)
-read number r = in_line number r >>= (λ t. Ok t) >>= table_from One
+abbrev read : ℕ → TableValue → Result (List Entry) LineFault → Result TableValue (ℕ × LineFault)
+read number t r = in_line number (r >>= λ all. Ok (record t { entries = all })) >>= λ u. Ok u
+
+-- what a line of this number gives, with a last line behind it, which comes after so many bytes
+abbrev then : ℕ → ℕ → List ℕ → Result (List Entry) LineFault → Result TableValue (ℕ × LineFault)
+then number bytes line r = in_line number (r >>= λ all. Ok (table_of One nothing_defined all)) >>= λ t. in_line (number + 1) (with_raw_line bytes t line) >>= λ u. Ok u
 
 pub returns-clause-bad_class : goal.returns-clause-bad_class
 unfolding point_of_hex entry_in table_of_lines with_lines with_raw_line with_line
-returns-clause-bad_class c = ap (read 1) with_entries-capital
+returns-clause-bad_class c = ap (read 1 (empty_table One)) with_entries-capital
 
 pub returns-clause-same_variant : goal.returns-clause-same_variant
 unfolding point_of_hex entry_in table_of_lines with_lines with_raw_line with_line
-returns-clause-same_variant c = ap (read 1) with_entries-own_variant
+returns-clause-same_variant c = ap (read 1 (empty_table One)) with_entries-own_variant
 
 pub returns-clause-same_source : goal.returns-clause-same_source
 unfolding point_of_hex entry_in table_of_lines with_lines with_raw_line with_line
-returns-clause-same_source c = ap (λ r. in_line 1 r >>= (λ t. in_line 2 (with_entries One t (letter [] ∷ [])) >>= λ t. Ok t) >>= table_from One) with_entries-letter ∙ ap (read 2) with_entries-letter_again
+returns-clause-same_source c = ap (then 1 5 (codes "0061")) with_entries-letter ∙ ap (read 2 (table_of One nothing_defined (letter [] ∷ []))) with_entries-letter_again

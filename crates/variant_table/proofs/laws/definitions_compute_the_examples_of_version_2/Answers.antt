@@ -1,9 +1,12 @@
-use Rattle.std.proofs.Common.{ℕ, ◌+◌, List, [], ◌∷◌, Result, Ok, refl, ap, ◌∙◌}
+use Rattle.std.specs.Prelude.{codes}
+use Rattle.std.proofs.Common.{false, ℕ, ◌+◌, List, [], ◌∷◌, Result, Ok, refl, ap, ◌∙◌}
 use Rattle.idn_text.specs.Points.{point_of_hex}
 use Rattle.variant_table.specs.Faults.{LineFault}
 use Rattle.variant_table.specs.declared.version.Version.TheVariants.{Two}
-use Rattle.variant_table.specs.Entries.{Entry, TableValue}
-use Rattle.variant_table.specs.Reading.{◌>>=◌, in_line, table_of_lines, table_from, with_lines, with_raw_line, with_line, with_entries}
+use Rattle.ruleset_text.specs.Definitions.{nothing_defined}
+use Rattle.variant_table.specs.Entries.{Entry, TableValue, empty_table, table_of}
+use Rattle.variant_table.specs.Ranges.{point_entry}
+use Rattle.variant_table.specs.Reading.{◌>>=◌, in_line, table_of_lines, with_lines, with_raw_line, with_line, with_entries}
 use Rattle.variant_table.proofs.ExampleLemmas.{three, last_letter, with_entries-range, with_entries-blocked, with_entries-marked_twice, with_entries-from_capital, with_entries-b, with_entries-b_again}
 use Rattle.variant_table.proofs.laws.definitions_compute_the_examples_of_version_2.Goals as goal
 use Rattle.ruleset_text.specs.Canonical.{point_text}
@@ -50,25 +53,25 @@ unfolding point_of_hex point_text entry_in table_of_lines with_lines with_raw_li
 returns-clause-limit c = refl
 
 -- what a last line of this number gives
-abbrev read : ℕ → Result (List Entry) LineFault → Result TableValue (ℕ × LineFault)
-read number r = in_line number r >>= (λ t. Ok t) >>= table_from Two
+abbrev read : ℕ → TableValue → Result (List Entry) LineFault → Result TableValue (ℕ × LineFault)
+read number t r = in_line number (r >>= λ all. Ok (record t { entries = all })) >>= λ u. Ok u
 
--- what a line of this number gives with one of these entries behind it
-abbrev then : ℕ → List Entry → Result (List Entry) LineFault → Result TableValue (ℕ × LineFault)
-then number es r = in_line number r >>= (λ t. in_line (number + 1) (with_entries Two t es) >>= λ t. Ok t) >>= table_from Two
+-- what a line of this number gives, with a last line behind it, which comes after so many bytes
+abbrev then : ℕ → ℕ → List ℕ → Result (List Entry) LineFault → Result TableValue (ℕ × LineFault)
+then number bytes line r = in_line number (r >>= λ all. Ok (table_of Two nothing_defined all)) >>= λ t. in_line (number + 1) (with_raw_line bytes t line) >>= λ u. Ok u
 
 pub returns-clause-table : goal.returns-clause-table
 unfolding point_of_hex entry_in table_of_lines with_lines with_raw_line with_line
-returns-clause-table c = ap (then 2 (last_letter ∷ [])) with_entries-range ∙ ap (read 3) with_entries-blocked
+returns-clause-table c = ap (then 2 22 (codes "0078|!0079:007A")) with_entries-range ∙ ap (read 3 (table_of Two nothing_defined three)) with_entries-blocked
 
 pub returns-clause-same_variant : goal.returns-clause-same_variant
 unfolding point_of_hex entry_in table_of_lines with_lines with_raw_line with_line
-returns-clause-same_variant c = ap (read 2) with_entries-marked_twice
+returns-clause-same_variant c = ap (read 2 (empty_table Two)) with_entries-marked_twice
 
 pub returns-clause-bad_class : goal.returns-clause-bad_class
 unfolding point_of_hex entry_in table_of_lines with_lines with_raw_line with_line
-returns-clause-bad_class c = ap (read 2) with_entries-from_capital
+returns-clause-bad_class c = ap (read 2 (empty_table Two)) with_entries-from_capital
 
 pub returns-clause-same_source : goal.returns-clause-same_source
 unfolding point_of_hex entry_in table_of_lines with_lines with_raw_line with_line
-returns-clause-same_source c = ap (then 2 three) with_entries-b ∙ ap (read 3) with_entries-b_again
+returns-clause-same_source c = ap (then 2 16 (codes "0061..0063")) with_entries-b ∙ ap (read 3 (table_of Two nothing_defined (point_entry false 0x62 ∷ []))) with_entries-b_again

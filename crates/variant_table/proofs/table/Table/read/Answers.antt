@@ -7,25 +7,25 @@ use Rattle.variant_table.proofs.TextLemmas.{told_of, memory_alone, one_table}
 use Rattle.variant_table.proofs.CanonicalLemmas.{canonical_spelled}
 use Rattle.variant_table.proofs.table.Table.read.Goals as goal
 
-pub returns-in_err-read_text-clause-fault : goal.returns-in_err-read_text-clause-fault
-returns-in_err-read_text-clause-fault c =
-    let told : IsToldOf c.args.notation c.args.text.now c.in_err-read_text.field-0.0 = told_of c.args.notation c.args.text.now c.in_err-read_text.field-0.0 c.in_err-read_text.ensures in search rules
+pub returns-in_err-spelled-clause-fault : goal.returns-in_err-spelled-clause-fault
+returns-in_err-spelled-clause-fault c =
+    let told : IsToldOf c.args.notation c.args.text.now c.in_err-spelled.field-0.0 = told_of c.args.notation c.args.text.now c.in_err-spelled.field-0.0 c.in_err-spelled.ensures in search rules
 
-pub returns-in_err-read_text-clause-canonical : goal.returns-in_err-read_text-clause-canonical
-returns-in_err-read_text-clause-canonical c = λ table h named is.
-    let memory : c.in_err-read_text.field-0.0 ≡ Memory = memory_alone c.args.notation c.args.text.now table c.in_err-read_text.field-0.0 (rw is (rw named (canonical_spelled table h))) c.in_err-read_text.ensures in search rules
+pub returns-in_err-spelled-clause-canonical : goal.returns-in_err-spelled-clause-canonical
+returns-in_err-spelled-clause-canonical c = λ table h named is.
+    let memory : c.in_err-spelled.field-0.0 ≡ Memory = memory_alone c.args.notation c.args.text.now table c.in_err-spelled.field-0.0 (rw is (rw named (canonical_spelled table h))) c.in_err-spelled.ensures in search rules
 
 pub invariant_of-result : goal.invariant_of-result
 invariant_of-result c =
-    let table : TableValue = table_of c.in_ok-read_text.field-0.version c.in_ok-read_text.field-0.definitions c.in_ok-read_text.field-0.rows in
-    (read_text c.args.notation c.args.text.now table c.in_ok-read_text.ensures).lines.well_formed
+    let table : TableValue = table_of c.in_ok-spelled.spelled.version c.in_ok-spelled.spelled.definitions c.in_ok-spelled.spelled.rows in
+    (read_text c.args.notation c.args.text.now table c.in_ok-spelled.ensures).lines.well_formed
 
 pub returns-clause-table : goal.returns-clause-table
 returns-clause-table c =
-    let table : TableValue = table_of c.in_ok-read_text.field-0.version c.in_ok-read_text.field-0.definitions c.in_ok-read_text.field-0.rows in
-    read_text c.args.notation c.args.text.now table c.in_ok-read_text.ensures
+    let table : TableValue = table_of c.in_ok-spelled.spelled.version c.in_ok-spelled.spelled.definitions c.in_ok-spelled.spelled.rows in
+    read_text c.args.notation c.args.text.now table c.in_ok-spelled.ensures
 
 pub returns-clause-canonical : goal.returns-clause-canonical
 returns-clause-canonical c = λ table h named is.
-    let read : TableValue = table_of c.in_ok-read_text.field-0.version c.in_ok-read_text.field-0.definitions c.in_ok-read_text.field-0.rows in
-    one_table c.args.notation c.args.text.now read table (read_text c.args.notation c.args.text.now read c.in_ok-read_text.ensures) (rw is (rw named (canonical_spelled table h)))
+    let read : TableValue = table_of c.in_ok-spelled.spelled.version c.in_ok-spelled.spelled.definitions c.in_ok-spelled.spelled.rows in
+    one_table c.args.notation c.args.text.now read table (read_text c.args.notation c.args.text.now read c.in_ok-spelled.ensures) (rw is (rw named (canonical_spelled table h)))

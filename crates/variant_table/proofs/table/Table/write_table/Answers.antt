@@ -19,4 +19,4 @@ pub loop-number-init : goal.loop-number-init
 loop-number-init c =
     let head : List ℕ = head_text c.self.inside.version in
     let defined : List ℕ = definitions_text c.self.inside.definitions in
-    c.in_ok-push_lines.ensures ∙ ap (λ t. t ++ defined) (c.in_ok-push_head.ensures ∙ ap (λ t. t ++ head) c.new.ensures.items) ∙ ap (λ t. head ++ t) (sym (append-nil defined))
+    c.in_ok-push_lines.ensures ∙ ap (λ t. t ++ defined) (c.in_ok-push_head.ensures ∙ ap (λ t. t ++ head) c.new-text.ensures.items) ∙ ap (λ t. head ++ t) (sym (append-nil defined))
