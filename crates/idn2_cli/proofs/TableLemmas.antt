@@ -32,6 +32,8 @@ told_of-fault line kinds.Syntax = refl
 told_of-fault line kinds.BadClass = refl
 told_of-fault line kinds.SameVariant = refl
 told_of-fault line kinds.SameSource = refl
+told_of-fault line kinds.NoSuchName = refl
+told_of-fault line kinds.SameName = refl
 
 from_some : (a b : ℕ × Refusal) → (let o : Option (ℕ × Refusal) = Some a in o) ≡ Some b → a ≡ b
 from_some a b e = cc

@@ -4,7 +4,8 @@ use Rattle.idn_text.specs.Points.{utf8_of}
 use Rattle.idn_text.specs.Lines.{lines_of}
 use Rattle.idn_text.specs.declared.refusal.Refusal.TheVariants.{Disallowed, Empty, LineTooLong, NotUtf8, Syntax, WriteFault}
 use Rattle.variant_table.specs.declared.version.Version.TheVariants.{One, Two}
-use Rattle.variant_table.specs.Entries.{Variant, Entry, TableValue}
+use Rattle.ruleset_text.specs.Definitions.{nothing_defined}
+use Rattle.variant_table.specs.Entries.{Variant, Entry, TableValue, table_of}
 use Rattle.variant_table.specs.Ranges.{range_entries}
 use Rattle.variant_list.specs.Examples.{allocatable, a_or_two, letter_or_hyphen}
 use Rattle.idn2_options.specs.Settings.{Settings}
@@ -47,7 +48,7 @@ listing limit tries = record (plain_run Variants []) { file = codes "t"; limit =
 
 -- a table of version 1
 abbrev pub version_one : List Entry → TableValue
-version_one entries = record { version = One; entries = entries }
+version_one entries = table_of One nothing_defined entries
 
 -- a variant that is blocked
 abbrev pub blocked : List ℕ → Variant
@@ -59,17 +60,11 @@ entry source variants = record { source = source; outside = false; variants = va
 
 -- the table 0061..0063, 0078|!0079:007A of version 2
 abbrev pub y_or_z : TableValue
-y_or_z = record {
-  version = Two;
-  entries = range_entries false 0x61 0x63 ++ entry (codes "x") (blocked (codes "y") ∷ allocatable (codes "z") ∷ []) ∷ [];
-}
+y_or_z = table_of Two nothing_defined (range_entries false 0x61 0x63 ++ entry (codes "x") (blocked (codes "y") ∷ allocatable (codes "z") ∷ []) ∷ [])
 
 -- the table 0061|!0062, 0061-0061|0062-0062 of version 2
 abbrev pub one_or_both : TableValue
-one_or_both = record {
-  version = Two;
-  entries = entry (codes "a") (blocked (codes "b") ∷ []) ∷ entry (codes "aa") (allocatable (codes "bb") ∷ []) ∷ [];
-}
+one_or_both = table_of Two nothing_defined (entry (codes "a") (blocked (codes "b") ∷ []) ∷ entry (codes "aa") (allocatable (codes "bb") ∷ []) ∷ [])
 
 -- aa spells aa, aaa and aaaa; of the labels that aaa spells, the four that have a hyphen first are not tested, and one step
 -- goes over them; ay is blocked; and

@@ -5,7 +5,7 @@ use Rattle.std.specs.Result.{is_err}
 use Rattle.std.specs.Fmt.{decimal}
 use Rattle.idn_text.specs.declared.refusal.Refusal.{Refusal}
 use Rattle.variant_table.specs.declared.version.Version.TheVariants.{One}
-use Rattle.variant_table.specs.Entries.{Entry, TableValue}
+use Rattle.variant_table.specs.Entries.{Entry, TableValue, empty_table}
 use Rattle.variant_table.specs.declared.version.Notation.{Notation}
 use Rattle.variant_table.specs.Texts.{IsTextOf, IsFaultOf}
 use Rattle.variant_table.specs.Faults.{LineFault}
@@ -59,7 +59,7 @@ TableGiven = Result TableValue (ℕ × Refusal)
 
 -- the table of a mode that names none
 abbrev pub no_table : TableValue
-no_table = record { version = One; entries = [] }
+no_table = empty_table One
 
 -- the fault of a line of a table as a refusal
 abbrev pub table_refusal : LineFault → Refusal
@@ -68,6 +68,8 @@ table_refusal faults.Syntax = refusals.Syntax
 table_refusal faults.BadClass = refusals.BadClass
 table_refusal faults.SameVariant = refusals.SameVariant
 table_refusal faults.SameSource = refusals.SameSource
+table_refusal faults.NoSuchName = refusals.NoSuchName
+table_refusal faults.SameName = refusals.SameName
 
 -- the text has this first fault
 abbrev pub HasFault : Notation → List ℕ → ℕ × Refusal → Type 0

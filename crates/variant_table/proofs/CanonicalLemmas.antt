@@ -9,7 +9,7 @@ use Rattle.std.proofs.lemmas.Slice.Eq.{bytes_eq-Decides}
 use Rattle.std.proofs.lemmas.List.Elements.{All-from_recursion, recursion_from_All, All-weaker}
 use Rattle.idn_text.specs.Lines.{raw_lines, HasNoFeed}
 use Rattle.idn_text.proofs.NumberingLemmas.{raw_lines-then}
-use Rattle.idn_text.specs.Points.{is_hex_digit, is_scalar_value}
+use Rattle.idn_text.specs.Points.{is_hex_digit}
 use Rattle.ruleset_text.specs.declared.fault.DefinitionFault.{DefinitionFault}
 use Rattle.ruleset_text.specs.declared.keyword.Keyword.{Keyword}
 use Rattle.ruleset_text.specs.declared.keyword.Keyword.TheVariants as keyword
@@ -26,7 +26,7 @@ use Rattle.ruleset_text.specs.EntryText.{mark_text, sequence_text, IsSequence, I
 use Rattle.ruleset_text.specs.EntryWords.{IsEntryLine}
 use Rattle.ruleset_text.proofs.EntryBackLemmas.{form_back}
 use Rattle.ruleset_text.proofs.EntryExactLemmas.{entry_spelled}
-use Rattle.ruleset_text.proofs.HexLemmas.{hex_facts, other_than, point_of_hex-text}
+use Rattle.ruleset_text.proofs.HexLemmas.{hex_facts, point_of_hex-text}
 use Rattle.variant_table.specs.declared.version.Version.{Version}
 use Rattle.variant_table.specs.declared.version.Notation.{Notation}
 use Rattle.variant_table.specs.declared.version.Notation.TheVariants.{Table, Ruleset}

@@ -11,8 +11,7 @@ use Rattle.variant_table.specs.declared.version.Version.{Version}
 use Rattle.variant_table.specs.declared.version.Version.TheVariants.{One, Two, Three}
 use Rattle.variant_table.specs.Canonical.{canonical_text, head_text, table_text}
 use Rattle.variant_table.specs.DefinitionLines.{room_for_definitions}
-use Rattle.variant_table.specs.Entries.{Entry, TableValue, table_of}
-use Rattle.variant_table.specs.Faults.{LineFault}
+use Rattle.variant_table.specs.Entries.{Entry, table_of}
 use Rattle.variant_table.specs.Limits.{text_limit}
 use Rattle.variant_table.specs.Reading.{defining, with_definition}
 use Rattle.variant_table.specs.inner.Held.{counted, IsCounted}

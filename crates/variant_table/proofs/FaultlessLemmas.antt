@@ -29,7 +29,7 @@ use Rattle.variant_table.specs.Entries.{Entry, IsOfVersion, TableValue, empty_ta
 use Rattle.variant_table.specs.Canonical.{canonical_line, canonical_text, head_text, table_text, version_line}
 use Rattle.variant_table.specs.Limits.{line_limit, text_limit, entry_limit}
 use Rattle.variant_table.specs.Versions.{version_of, head_of, body_of, size_of, is_version_line}
-use Rattle.variant_table.specs.WellFormed.{AreOfVersion, IsEntry, IsWellFormed, IsTable}
+use Rattle.variant_table.specs.WellFormed.{AreOfVersion, IsEntry, IsTable}
 use Rattle.variant_table.specs.Conditions.{is_too_long, is_too_large, is_text_too_long, has_bad_class, has_repeat, has_source_in}
 use Rattle.variant_table.specs.Forms.{SpellsEntries}
 use Rattle.variant_table.specs.Texts.{LineSpells, LineAdds, LinesSpell, AreLinesOf, IsTextOf}

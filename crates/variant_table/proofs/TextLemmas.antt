@@ -1,5 +1,5 @@
 -- The function that reads gives exactly what the definitions say of a text.
-use Rattle.std.proofs.Common.{◌≡◌, ◌⊎◌, inl, inr, ℕ, ◌+◌, List, [], ◌∷◌, length, Option, Some, None, Ok, Err, refl, sym, ap, ◌∙◌, arith}
+use Rattle.std.proofs.Common.{◌≡◌, ◌⊎◌, inl, inr, ℕ, ◌+◌, List, ◌∷◌, length, Option, Some, None, Ok, Err, refl, sym, ap, ◌∙◌, arith}
 use Rattle.idn_text.specs.Lines.{raw_lines}
 use Rattle.variant_table.specs.Faults.{LineFault, Syntax}
 use Rattle.variant_table.specs.declared.version.Notation.{Notation}

@@ -11,6 +11,7 @@ ghost use Rattle.variant_table.specs.Reading.{entries_in, table_of_text};
 ghost use Rattle.variant_table.specs.Texts.{IsTextOf, IsFaultOf, LineSpells};
 ghost use Rattle.variant_table.specs.declared.version.Version.{Version};
 ghost use Rattle.variant_table.specs.Versions.{notation_of, size_of};
+ghost use Rattle.variant_table.specs.inner.Examples.{two_tags};
 ghost use Rattle.variant_table.specs.Ranges.{point_entry, point_variant};
 ghost use Rattle.variant_table.specs.declared.version.Notation.{Notation};
 ghost use Rattle.variant_table.specs.declared.version.Notation.TheVariants as notations;
@@ -132,7 +133,7 @@ pub fn definitions_compute_the_examples_of_version_2()
     ensures limit { table_of_text notations.Table (codes "%version 2" ++ 10 ∷ codes "4E00..5E00") ≡ Err (2, faults.Limit) }
 {}
 
-/// Examples of rulesets: which first line they have, and what they have of version 2.
+/// Examples of rulesets: which first line they have, what they have of version 2, and what they define.
 pub fn definitions_compute_the_examples_of_rulesets()
     ensures empty { table_of_text notations.Ruleset [] ≡ Err (1, faults.Syntax) }
     ensures unnamed { table_of_text notations.Ruleset (codes "0061") ≡ Err (1, faults.Syntax) }
@@ -142,6 +143,14 @@ pub fn definitions_compute_the_examples_of_rulesets()
     ensures alone { table_of_text notations.Ruleset (codes "%version 3") ≡ Ok (table_of versions.Three nothing_defined []) }
     ensures again { table_of_text notations.Ruleset (codes "%version 3" ++ 10 ∷ codes "%version 3") ≡ Err (2, faults.Syntax) }
     ensures falling { table_of_text notations.Ruleset (codes "%version 3" ++ 10 ∷ codes "0063..0061") ≡ Err (2, faults.Syntax) }
+    ensures defined { table_of_text notations.Ruleset (codes "%version 3" ++ 10 ∷ codes "%tag t" ++ 13 ∷ 10 ∷ codes " %tag" ++ 9 ∷ codes "v ") ≡ Ok (table_of versions.Three two_tags []) }
+    ensures defined_written { table_text versions.Three two_tags (point_entry false 0x61 ∷ []) ≡ codes "%version 3" ++ 10 ∷ codes "%tag t" ++ 10 ∷ codes "%tag v" ++ 10 ∷ codes "0061" ++ 10 ∷ [] }
+    ensures defined_in_version_2 { table_of_text notations.Table (codes "%version 2" ++ 10 ∷ codes "%tag t") ≡ Err (2, faults.Syntax) }
+    ensures same_name { table_of_text notations.Ruleset (codes "%version 3" ++ 10 ∷ codes "%tag t" ++ 10 ∷ codes "%rule t _") ≡ Err (3, faults.SameName) }
+    ensures no_such_name { table_of_text notations.Ruleset (codes "%version 3" ++ 10 ∷ codes "%rule r @A _") ≡ Err (2, faults.NoSuchName) }
+    ensures no_name { table_of_text notations.Ruleset (codes "%version 3" ++ 10 ∷ codes "%tag") ≡ Err (2, faults.Syntax) }
+    ensures stars { table_of_text notations.Ruleset (codes "%version 3" ++ 10 ∷ codes "%rule r ((.*)*)* _") ≡ Err (2, faults.Limit) }
+    ensures demand { table_of_text notations.Ruleset (codes "%version 3" ++ 10 ∷ codes "%never ^ .") ≡ Err (2, faults.Syntax) }
     ensures set { table_of_text notations.Ruleset (codes "%version 3" ++ 10 ∷ codes "% set C 0061") ≡ Err (2, faults.Syntax) }
     ensures later { table_of_text notations.Table (codes "%version 2" ++ 10 ∷ codes "%version 3") ≡ Err (2, faults.Syntax) }
     ensures outside { entries_in versions.Three (lexemes (codes "! 0061|!0062")) ≡ Ok (record { source = 0x61 ∷ []; outside = true; variants = point_variant true 0x62 ∷ [] } ∷ []) }

@@ -12,4 +12,6 @@ told_of (tables.SameSource line) = Some (line, refusals.SameSource)
 told_of (tables.SameVariant line) = Some (line, refusals.SameVariant)
 told_of (tables.BadClass line) = Some (line, refusals.BadClass)
 told_of (tables.Limit line) = Some (line, refusals.Limit)
+told_of (tables.NoSuchName line) = Some (line, refusals.NoSuchName)
+told_of (tables.SameName line) = Some (line, refusals.SameName)
 told_of tables.Memory = None

@@ -62,6 +62,8 @@ fn told_of(fault: TableFault) -> Option<(u64, Refusal)>
         TableFault::SameVariant { line } => Some((line, Refusal::SameVariant)),
         TableFault::BadClass { line } => Some((line, Refusal::BadClass)),
         TableFault::Limit { line } => Some((line, Refusal::Limit)),
+        TableFault::NoSuchName { line } => Some((line, Refusal::NoSuchName)),
+        TableFault::SameName { line } => Some((line, Refusal::SameName)),
         TableFault::Memory => None,
     }
 }

@@ -1,6 +1,13 @@
 use Rattle.std.proofs.Common.{refl}
 use Rattle.idn_text.specs.Points.{point_of_hex}
-use Rattle.variant_table.specs.Reading.{table_of_lines, with_lines, with_raw_line, with_line, with_entries}
+use Rattle.ruleset_text.specs.Definitions.{all_atoms, canonical_size}
+use Rattle.ruleset_text.specs.Definitions.{with_definition as with_definition_of}
+use Rattle.ruleset_text.specs.Names.{number_of}
+use Rattle.ruleset_text.specs.Reading.{pattern_of}
+use Rattle.ruleset_text.specs.SetNames.{names_on}
+use Rattle.ruleset_text.specs.Spans.{spans_in}
+use Rattle.ruleset_text.specs.Tokens.{tokens_in}
+use Rattle.variant_table.specs.Reading.{table_of_lines, with_definition, with_lines, with_raw_line, with_line, with_entries}
 use Rattle.variant_table.proofs.laws.definitions_compute_the_examples_of_rulesets.Goals as goal
 use Rattle.ruleset_text.specs.Canonical.{point_text}
 use Rattle.ruleset_text.specs.inner.EntrySteps.{entry_in}
@@ -76,3 +83,35 @@ returns-clause-no_source c = refl
 pub returns-clause-marked : goal.returns-clause-marked
 unfolding point_of_hex point_text entry_in table_of_lines with_lines with_raw_line with_line with_entries
 returns-clause-marked c = refl
+
+pub returns-clause-defined : goal.returns-clause-defined
+unfolding point_of_hex point_text entry_in table_of_lines with_lines with_raw_line with_line with_entries with_definition with_definition_of canonical_size all_atoms names_on number_of pattern_of spans_in tokens_in
+returns-clause-defined c = refl
+
+pub returns-clause-defined_written : goal.returns-clause-defined_written
+unfolding point_of_hex point_text entry_in table_of_lines with_lines with_raw_line with_line with_entries with_definition with_definition_of canonical_size all_atoms names_on number_of pattern_of spans_in tokens_in
+returns-clause-defined_written c = refl
+
+pub returns-clause-defined_in_version_2 : goal.returns-clause-defined_in_version_2
+unfolding point_of_hex point_text entry_in table_of_lines with_lines with_raw_line with_line with_entries with_definition with_definition_of canonical_size all_atoms names_on number_of pattern_of spans_in tokens_in
+returns-clause-defined_in_version_2 c = refl
+
+pub returns-clause-same_name : goal.returns-clause-same_name
+unfolding point_of_hex point_text entry_in table_of_lines with_lines with_raw_line with_line with_entries with_definition with_definition_of canonical_size all_atoms names_on number_of pattern_of spans_in tokens_in
+returns-clause-same_name c = refl
+
+pub returns-clause-no_such_name : goal.returns-clause-no_such_name
+unfolding point_of_hex point_text entry_in table_of_lines with_lines with_raw_line with_line with_entries with_definition with_definition_of canonical_size all_atoms names_on number_of pattern_of spans_in tokens_in
+returns-clause-no_such_name c = refl
+
+pub returns-clause-no_name : goal.returns-clause-no_name
+unfolding point_of_hex point_text entry_in table_of_lines with_lines with_raw_line with_line with_entries with_definition with_definition_of canonical_size all_atoms names_on number_of pattern_of spans_in tokens_in
+returns-clause-no_name c = refl
+
+pub returns-clause-stars : goal.returns-clause-stars
+unfolding point_of_hex point_text entry_in table_of_lines with_lines with_raw_line with_line with_entries with_definition with_definition_of canonical_size all_atoms names_on number_of pattern_of spans_in tokens_in
+returns-clause-stars c = refl
+
+pub returns-clause-demand : goal.returns-clause-demand
+unfolding point_of_hex point_text entry_in table_of_lines with_lines with_raw_line with_line with_entries with_definition with_definition_of canonical_size all_atoms names_on number_of pattern_of spans_in tokens_in
+returns-clause-demand c = refl

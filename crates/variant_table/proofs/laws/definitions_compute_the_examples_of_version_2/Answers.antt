@@ -7,7 +7,7 @@ use Rattle.ruleset_text.specs.Definitions.{nothing_defined}
 use Rattle.variant_table.specs.Entries.{Entry, TableValue, empty_table, table_of}
 use Rattle.variant_table.specs.Ranges.{point_entry}
 use Rattle.variant_table.specs.Reading.{◌>>=◌, in_line, table_of_lines, with_lines, with_raw_line, with_line, with_entries}
-use Rattle.variant_table.proofs.ExampleLemmas.{three, last_letter, with_entries-range, with_entries-blocked, with_entries-marked_twice, with_entries-from_capital, with_entries-b, with_entries-b_again}
+use Rattle.variant_table.proofs.ExampleLemmas.{three, with_entries-range, with_entries-blocked, with_entries-marked_twice, with_entries-from_capital, with_entries-b, with_entries-b_again}
 use Rattle.variant_table.proofs.laws.definitions_compute_the_examples_of_version_2.Goals as goal
 use Rattle.ruleset_text.specs.Canonical.{point_text}
 use Rattle.ruleset_text.specs.inner.EntrySteps.{entry_in}

@@ -1,4 +1,4 @@
-use Rattle.std.proofs.Common.{rules, ◌≡◌, ◌+◌, ◌-◌, ◌≤◌, refl, subst, sym, arith}
+use Rattle.std.proofs.Common.{rules, ◌+◌, ◌-◌, ◌≤◌, refl, subst, sym, arith}
 use Rattle.ruleset_text.specs.Lexemes.{lexemes}
 use Rattle.variant_table.specs.Entries.{table_of}
 use Rattle.variant_table.specs.Reading.{with_definition}

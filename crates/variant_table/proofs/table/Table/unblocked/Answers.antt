@@ -1,5 +1,5 @@
 use Rattle.std.proofs.Common.{sym, subst}
-use Rattle.variant_table.specs.Entries.{table_of, unblocked}
+use Rattle.variant_table.specs.Entries.{table_of}
 use Rattle.variant_table.specs.WellFormed.{IsTable}
 use Rattle.variant_table.proofs.UnblockedLemmas.{table_kept}
 use Rattle.variant_table.proofs.table.Table.unblocked.Goals as goal
