@@ -4,12 +4,12 @@ ghost use Rattle.std.specs.Prelude.{◌≡◌, ◌≤◌, ◌-◌, IfOk, false, 
 ghost use Rattle.std.specs.Result.{IsOk};
 ghost use Rattle.std.specs.Option.{option_copied};
 ghost use Rattle.answer_json.specs.Details.{given_len};
-ghost use Rattle.idn_cause.specs.Causes.{shared};
 ghost use Rattle.idn2_cli.specs.WrongLines.{body_at, order_cause, points_at, told_of_wrong_line, wrong_line_cause};
 
 use crate::session::cause::{Explaining, LineCause, cause_of_body};
 use arrayvec::ArrayVec;
 use idn_cause::Cause;
+use idn_class::shared_len;
 use idn_text::{MAX_LINE_LEN, Refusal, TextLines, decode_points, without_carriage_return};
 use std::alloc::{AllocError, Global};
 
@@ -55,7 +55,7 @@ fn cause_of_order(text: &[u8], number: u64) -> LineCause
     let mut label = ArrayVec::new();
     read_label(text, number.saturating_sub(1), &mut before);
     read_label(text, number, &mut label);
-    let place = shared(label.as_slice(), before.as_slice());
+    let place = shared_len(label.as_slice(), before.as_slice());
     match point_at(label.as_slice(), place) {
         Some(point) => LineCause::OfLabel(Cause::Point(place, point)),
         None => LineCause::Ends(place),
@@ -95,16 +95,4 @@ fn body_at(text: &[u8], number: u64) -> Option<&[u8]>
     } else {
         Some(without_carriage_return(line))
     }
-}
-
-/// How many code points two labels share at their start.
-#[tactic(auto, using(idn_cause::proofs::CausePlaces::shared_ends))]
-fn shared(a: &[u32], b: &[u32]) -> usize
-    ensures { result ≡ shared a.now b.now }
-{
-    let mut at = 0;
-    while at < a.len() && at < b.len() && a[at] == b[at] {
-        at += 1;
-    }
-    at
 }
