@@ -58,7 +58,7 @@ shared_is (c ∷ a) (d ∷ b) (suc n) same a_few b_few longest =
     let first : c ≡ d = cc in
     let rest : take n a ≡ take n b = cc in
     let more : n ≡ shared a b = shared_is a b n rest (omega (arith, a_few)) (omega (arith, b_few))
-        (λ m low few e. omega (arith, longest (suc m) (omega (arith, low)) (omega (arith, few)) (ap (λ (x : ℕ). x ∷ take m a) first ∙ ap (λ (xs : List ℕ). d ∷ xs) e))) in
+    (λ m low few e. omega (arith, longest (suc m) (omega (arith, low)) (omega (arith, few)) (ap (λ (x : ℕ). x ∷ take m a) first ∙ ap (λ (xs : List ℕ). d ∷ xs) e))) in
     ap suc more ∙ sym (ap (λ (t : Bool). let r : ℕ = if t then suc (shared a b) else 0 in r) (eq-eqb c d first))
 
 -- where a label differs from the one before it, read from rooms that hold them
