@@ -43,8 +43,7 @@ wrong_line_cause text number OutOfOrder = Some (order_cause (points_at text (num
 wrong_line_cause text number FileTooLong = None
 wrong_line_cause text number refusal = body_cause ByTest (body_at text number) refusal
 
--- the cause may take memory: only that of a label that is tested. The order of two labels is told without, and so is that a file or a
--- line is too long
+-- the cause may take memory: not that of the order of two labels, nor that of a file or a line that is too long
 abbrev pub MayTakeMemory : List ℕ → ℕ → Refusal → Type 0
 MayTakeMemory text number OutOfOrder = ⊥
 MayTakeMemory text number FileTooLong = ⊥
