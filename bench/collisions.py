@@ -26,7 +26,6 @@ work, valgrind for the instructions.
 """
 
 import bisect
-import pathlib
 import random
 import subprocess
 import sys

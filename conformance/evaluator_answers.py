@@ -46,14 +46,6 @@ def converted(path):
     return reading.read(done.stdout, lambda point: True)
 
 
-def answer(labels, label):
-    if labels.refusal(label):
-        return None
-    allocatable = labels.allocatable(label)
-    return {variant: "allocatable" if variant in allocatable else "blocked"
-            for variant in labels.spelled(label) if labels.is_valid(variant)}
-
-
 def registrable(labels):
     labels = sorted(labels)
     given = "".join(label + "\n" for label in labels)
@@ -64,7 +56,7 @@ def registrable(labels):
 
 def differences(wanted, labels):
     """The labels that are answered in another way."""
-    found = {label: answer(labels, label) for label in wanted}
+    found = {label: labels.answer(label) for label in wanted}
     every = set(wanted).union(*(answers or () for answers in (*wanted.values(), *found.values())))
     known = registrable(every)
     asked = lambda label, answers: answers and label in known and {

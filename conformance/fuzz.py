@@ -95,13 +95,13 @@ class Fuzz:
         except Unknown:
             return Unknown
         found = self.run(words, given)
-        if found == wanted or (wanted[0] is None and found[0] and found[1:] == wanted[1:]):
+        if is_as_wanted(found, wanted):
             if "--explain" not in words:
                 return None
             wanted = wanted[0], wanted[1] and without_what_objects_leave_out(wanted[1]), wanted[2]
             words = ["--json", *words]
             found = self.run_for_objects(words, given)
-            if found == wanted or wanted[0] is None:
+            if is_as_wanted(found, wanted):
                 return None
         shown = "".join(f"{name} {text[:SHOWN]!r}, " for name, text in files.items())
         return (f"words {words}, {shown}input {given[:SHOWN]!r}\n"
@@ -293,6 +293,12 @@ class Fuzz:
         registered = self.registered([self.sequence("ab") for _ in range(4)])
         given = self.lines(lambda: self.chance.choice(("ab", "ab\tb")))
         return self.compare(words, given, table=table, registered=registered)
+
+
+def is_as_wanted(found, wanted):
+    """Whether a run's output, messages and status are those of the second writing, which of help and of the version knows only
+    that something is shown."""
+    return found == wanted or (wanted[0] is None and bool(found[0]) and found[1:] == wanted[1:])
 
 
 def obeys(name, answer, strict):

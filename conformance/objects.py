@@ -3,7 +3,8 @@
 import json
 import re
 
-from registration import a_label
+from causes import BAD_LENGTH, FILE_TOO_LONG, INVALID, LINE_TOO_LONG, NOT_UTF8, OUT_OF_ORDER
+from registration import BAD_A_LABEL, EMPTY, HYPHEN, LABEL_TOO_LONG, NOT_NFC, a_label
 
 # The names of the subsections of RFC 5892, section 2, which messages have and objects don't.
 NAMES = {"2.2": "Unstable", "2.3": "IgnorableProperties", "2.4": "IgnorableBlocks", "2.6": "Exceptions", "2.9": "OldHangulJamo",
@@ -26,9 +27,9 @@ def placed(refusal):
     """A code point and its place, and what follows them."""
     text = f"{refusal['code_point']} at place {refusal['place']}"
     number = refusal["number"]
-    if number == 12:
+    if number == NOT_NFC:
         return f"{text}: NFC " + (f"has {refusal['nfc']}" if "nfc" in refusal else "ends")
-    if number == 19:
+    if number == BAD_A_LABEL:
         return f"{text}: not ASCII"
     if "bidi_class" in refusal:
         text += f" is {refusal['bidi_class']}"
@@ -38,21 +39,21 @@ def placed(refusal):
 def cause_of(refusal):
     """The cause in the words of a message, without what an object leaves out; None where no cause is told."""
     number = refusal["number"]
-    if number in (3, 5, 20):
+    if number in (EMPTY, FILE_TOO_LONG, INVALID):
         return None
-    if number == 2:
+    if number == LINE_TOO_LONG:
         return "more than 1024 bytes"
-    if number == 13:
+    if number == HYPHEN:
         return f"place {refusal['place']}"
     if "code_point" in refusal:
         return placed(refusal)
-    if number == 4:
+    if number == OUT_OF_ORDER:
         return f"ends at place {refusal['place']}"
-    if number == 1:
+    if number == NOT_UTF8:
         return f"at byte {refusal['byte']}"
-    if number == 18:
+    if number == LABEL_TOO_LONG:
         return f"{refusal['code_points']} code points" if "code_points" in refusal else f"A-label of {refusal['octets']} octets"
-    if number == 21:
+    if number == BAD_LENGTH:
         return f"{refusal['octets']} octets" if "label" in refusal else f"name of {refusal['octets']} octets"
     if "alabel" in refusal:
         return f"the A-label is {refusal['alabel']}"

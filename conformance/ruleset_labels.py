@@ -129,6 +129,14 @@ class RulesetLabels:
         return [lambda each, tag=tag: not each.is_marked and (not each.tags or tag in each.tags)
                 for tag in self.ruleset.tags]
 
+    def answer(self, label):
+        """None of a label that is refused; else its valid variants, with what becomes of them."""
+        if self.refusal(label):
+            return None
+        allocatable = self.allocatable(label)
+        return {variant: "allocatable" if variant in allocatable else "blocked"
+                for variant in self.spelled(label) if self.is_valid(variant)}
+
     # Beginnings of labels that a listing passes over.
 
     def is_lost(self, beginning):

@@ -14,7 +14,7 @@ import sys
 from notation import gaps as pairs
 from notation import reading
 from notation.faults import TableFault
-from notation.lines import first_line, raw_lines, without_return
+from notation.lines import first_line, raw_lines, says_nothing, without_return
 from notation.points import is_scalar_value, spelled
 from unicode_data import Classes
 
@@ -35,7 +35,6 @@ ENTRIES = {
     2: re.compile(ENTRY % (SEQUENCE, BLOCKED + SEQUENCE, BLOCKED + SEQUENCE)),
 }
 RANGE = re.compile(rb"[ \t]*%s[ \t]*\.\.[ \t]*%s[ \t]*" % (POINT, POINT))
-BLANK_OR_COMMENT = re.compile(rb"[ \t]*(#.*)?", re.DOTALL)
 
 
 @dataclasses.dataclass
@@ -81,7 +80,7 @@ def read(text, classes):
         if len(raw) > MOST_LINE_BYTES or end > MOST_TEXT_BYTES:
             raise TableFault(number, 34)
         line = without_return(raw)
-        if BLANK_OR_COMMENT.fullmatch(line) or (number == 1 and version == 2):
+        if says_nothing(line) or (number == 1 and version == 2):
             continue
         more = entries_of(line, version)
         if more is None:

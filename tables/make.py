@@ -18,6 +18,7 @@ import pathlib
 import re
 
 import unicode_data
+from notation.points import spelled
 from unicode_data import MAY_STAND_IN_A_TABLE, Classes
 
 HERE = pathlib.Path(__file__).resolve().parent
@@ -62,10 +63,6 @@ HAN = """\
 # Hong Kong's primary schools (kGradeLevel); the other characters taught there have no variant. Then come the
 # hyphen, the digits and the letters a to z.
 """
-
-
-def spelled(sequence):
-    return "-".join(f"{point:04X}" for point in sequence)
 
 
 class Table:

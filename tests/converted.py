@@ -60,15 +60,6 @@ def labels_under(text):
     return RulesetLabels(reading.read(text.encode(), BY_PROGRAM.may_stand), MOST_SPELLED)
 
 
-def answer(labels, label):
-    """None of a label that is refused; else its valid variants, with what becomes of them."""
-    if labels.refusal(label):
-        return None
-    allocatable = labels.allocatable(label)
-    return {variant: "allocatable" if variant in allocatable else "blocked"
-            for variant in labels.spelled(label) if labels.is_valid(variant)}
-
-
 def wanted(text):
     """The answer that a row has: 'invalid', or variants with a mark before those that are blocked."""
     if text == "invalid":
@@ -88,7 +79,7 @@ def says_each_part(folder):
         assert found == "".join(line + "\n" for line in lines), (name, found)
         labels, plain = labels_under(text), PlainRuleset(path)
         for label, row in answers.items():
-            found = answer(labels, label), plain.variants(label)
+            found = labels.answer(label), plain.variants(label)
             assert found == (wanted(row), wanted(row)), (name, label, row, found)
 
 
@@ -174,7 +165,7 @@ def compared(path, text, chosen, count):
     each = chosen.sample(each, min(len(each), count)) + ["".join(chosen.choices(parts, k=4))]
     for label in each:
         try:
-            found = answer(labels, label)
+            found = labels.answer(label)
         except Unknown:
             continue
         expected = plain.variants(label)

@@ -11,7 +11,7 @@ import os
 import re
 import sys
 
-from explained import MORE_ROWS, ROWS as CAUSES, SOURCES, given_of, words_of
+from explained import DECODE, GERMAN, LOOKUP, MORE_ROWS, REGISTER, ROWS as CAUSES, SOURCES, given_of, words_of
 from program import ROOT, TABLES, expect, run, run_tests, table_file
 
 try:
@@ -19,9 +19,7 @@ try:
 except ImportError:
     jsonschema = None
 
-GERMAN = ["--variants", os.path.join(TABLES, "german.txt")]
 HAN = ["--variants", os.path.join(TABLES, "han.txt")]
-REGISTER, DECODE, LOOKUP = ["-r"], ["-d"], ["-l"]
 
 with open(os.path.join(ROOT, "docs", "answers.schema.json"), encoding="utf-8") as file:
     SCHEMA = json.load(file)

@@ -4,6 +4,8 @@ packed. The sessions that the documents show are run by program.py. The last lin
 status is 0 where nothing failed."""
 
 import ast
+import collections
+import dataclasses
 import functools
 import glob
 import os
@@ -272,6 +274,121 @@ def states_the_bounds_that_are_proved(folder):
         assert statement in folded(text_of(document)) and clause in text_of(file), (document, statement, file, clause)
 
 
+# The tables of docs/PROOFS.md, by their heads: in which column they name what is proved.
+PROVED = {"Call": 0, "Promise": 1, "Law": 1}
+# Public for tests alone.
+FOR_TESTS = "hostile"
+
+
+@dataclasses.dataclass
+class Library:
+    """The public names of a crate: its functions and laws, and the methods of each type. Beside them what may be named, too:
+    methods that a trait has for the type, clauses and definitions."""
+
+    functions: set
+    laws: set
+    methods: dict
+    others: set
+
+    def calls(self):
+        return {(name,) for name in self.functions | self.laws} | {
+            (name, method) for name, methods in self.methods.items() for method in methods}
+
+    def names(self):
+        return {name for call in self.calls() for name in call} | set(self.methods)
+
+
+def sources_of(crate, folder, ending):
+    """The text of each file of a crate in a folder, without comments, by the name of its module."""
+    top = os.path.join(ROOT, "crates", crate, folder)
+    return {os.path.relpath(path, top).removesuffix(ending): re.sub(r"(//|--).*", "", text_of(path))
+            for path in glob.glob(os.path.join(top, "**", "*" + ending), recursive=True)}
+
+
+def names_in(pattern, text):
+    return set(re.findall(pattern, text, re.MULTILINE))
+
+
+@functools.cache
+def libraries():
+    """Each crate that is a library and that others call."""
+    named = (line.split(":")[0].split() for line in text_of("crates.txt").splitlines() if line.split("#")[0].strip())
+    found = {crate: library_of(sources_of(crate, "src", ".rt"), crate) for crate, *_ in named}
+    return {crate: library for crate, library in found.items() if library and library.calls()}
+
+
+def library_of(modules, crate):
+    """What lib.rt names with `pub use` and `pub mod`; None of a program."""
+    if "lib" not in modules:
+        return None
+    passed = {name for module, names in re.findall(r"^pub use (\w+)\b([^;]*);", modules["lib"], re.MULTILINE)
+              for name in re.findall(r"\w+", names) if module in modules}
+    whole = names_in(r"^pub mod (\w+);", modules["lib"]) - {FOR_TESTS}
+    library = Library(set(), set(), {}, set(whole))
+    for module, text in modules.items():
+        functions, types = names_in(r"^pub fn (\w+)", text), names_in(r"^pub (?:struct|enum|trait) (\w+)", text)
+        if module not in whole:
+            functions, types = functions & passed, types & passed
+        (library.laws if "laws" in module else library.functions).update(functions)
+        library.methods.update((name, set()) for name in types)
+    for text in modules.values():
+        take_methods(library, text)
+        library.others |= names_in(r"\bensures (\w+) \{", text)
+    for text in sources_of(crate, "specs", ".antt").values():
+        library.others |= names_in(r"^(?:abbrev |unfoldable )?pub (?:record |data )?(\w+)", text)
+    return library
+
+
+def take_methods(library, text):
+    """The public methods of each type, and all of a trait."""
+    for head, name, body in re.findall(r"^(pub trait|impl\b[^{]*?) (\w+)(?:<[^{]*>|:[^{]*)? \{\n(.*?)^\}", text,
+                                       re.MULTILINE | re.DOTALL):
+        if name in library.methods:
+            library.methods[name] |= names_in(r"^    fn (\w+)" if head == "pub trait" else r"^    pub fn (\w+)", body)
+            library.others |= names_in(r"^    fn (\w+)", body)
+
+
+def proved_cells():
+    """Each cell of docs/PROOFS.md that names calls: the head of its table, and the names as they stand."""
+    column = head = None
+    for line in text_of("docs", "PROOFS.md").splitlines():
+        cells = [cell.strip() for cell in line.strip("|").split(" | ")]
+        if line.startswith("| ") and cells[0] in PROVED:
+            head, column = cells[0], PROVED[cells[0]]
+        elif line.startswith("| ") and column is not None:
+            yield head, re.findall(r"`([\w:]+)`", cells[column])
+        elif not line.startswith("|"):
+            column = None
+
+
+def of_crates(names):
+    """The names of a cell by the crate that each is of: that of the last path before it, or that of its type."""
+    owners = {name: crate for crate, library in libraries().items() for name in library.methods}
+    crate = None
+    for parts in (name.split("::") for name in names):
+        if parts[0] in libraries():
+            crate, parts = parts[0], parts[1:]
+        elif crate is None:
+            crate = owners[parts[0]]
+        yield crate, parts
+
+
+def names_what_is_proved(folder):
+    """docs/PROOFS.md names each public call and each law, and no other; in the table of promises clauses and definitions, too."""
+    named, wrong = collections.defaultdict(set), []
+    for head, names in proved_cells():
+        cell = collections.defaultdict(set)
+        for crate, parts in of_crates(names):
+            cell[crate].update(parts)
+            known = libraries()[crate]
+            allowed = known.laws | {"laws"} if head == "Law" else known.names() | known.others
+            wrong += [(head, crate, part) for part in parts if part not in allowed]
+        for crate, parts in cell.items():
+            named[crate] |= {call for call in libraries()[crate].calls() if parts.issuperset(call)}
+    lacking = {(crate, call) for crate, library in libraries().items() for call in library.calls() - named[crate]}
+    assert sum(map(len, named.values())) > 200 and not wrong and not lacking, (wrong, lacking)
+
+
 def number_in(file, name):
     """The number that a constant of the code has."""
     [written] = re.findall(rf"\bconst {name}: \w+ = (0x[0-9A-F_]+|[0-9_]+);", text_of(file))
@@ -385,6 +502,7 @@ TESTS = [
     installs_under_no_name_of_a_path,
     packs_each_path_that_its_documents_name,
     states_the_bounds_that_are_proved,
+    names_what_is_proved,
     reads_as_much_of_a_file_as_can_matter,
     names_only_paths_that_are_there,
     ends_as_the_readme_shows,

@@ -182,13 +182,18 @@ class PlainRuleset:
         if not self.accepts(label):
             return None
         found = {label: "allocatable"}
+        for variant, chosen in self.replaced(label):
+            disposition = self.disposition(variant, *self.recorded(chosen))
+            if disposition in ALLOWED:
+                found[variant] = "allocatable"
+            elif disposition == "blocked":
+                found.setdefault(variant, "blocked")
+        return found
+
+    def replaced(self, label):
+        """Each way to replace the sources of a label that makes another label: that one, and what was chosen for it."""
         for cut in self.cuts(label):
             for chosen in itertools.product(*(self.mappings(source, label, place) for source, place in cut)):
                 variant = "".join(replacement for replacement, _, _ in chosen)
                 if variant != label and variant and next(self.cuts(variant), None) is not None:
-                    disposition = self.disposition(variant, *self.recorded(chosen))
-                    if disposition in ALLOWED:
-                        found[variant] = "allocatable"
-                    elif disposition == "blocked":
-                        found.setdefault(variant, "blocked")
-        return found
+                    yield variant, chosen

@@ -307,19 +307,26 @@ def accepts_no_more_than_random_rulesets(folder):
     """Random rulesets: each is converted or refused, and no label and no variant is given away."""
     converted = 0
     for seed in SEEDS:
-        one = RandomRuleset(seed)
-        path = ruleset(folder, one.data, one.rules)
-        for options in (["--untyped", "allocatable"], ["--untyped", "allocatable", "--accept-more"]):
-            text, told, status = made(path, *options)
-            assert status in (0, 1) and (status == 0) == bool(text), (seed, told, status)
-            if status == 0:
-                try:
-                    compare(folder, path, text, accepts_more="WARNING" in told)
-                except AssertionError as reason:
-                    raise AssertionError(f"seed {seed}: {reason}: {one.data} {one.rules} {text}") from reason
-                converted += "--accept-more" not in options
-                break
+        converted += is_converted(folder, seed)
     assert converted > len(SEEDS) // 3, converted
+
+
+def is_converted(folder, seed):
+    """Whether a random ruleset is converted without --accept-more. Where one is with it or without, the table is compared."""
+    one = RandomRuleset(seed)
+    path = ruleset(folder, one.data, one.rules)
+    for more in ([], ["--accept-more"]):
+        text, told, status = made(path, "--untyped", "allocatable", *more)
+        assert status in (0, 1) and (status == 0) == bool(text), (seed, told, status)
+        if status == 0:
+            break
+    else:
+        return False
+    try:
+        compare(folder, path, text, accepts_more="WARNING" in told)
+    except AssertionError as reason:
+        raise AssertionError(f"seed {seed}: {reason}: {one.data} {one.rules} {text}") from reason
+    return not more
 
 
 # Gaps.

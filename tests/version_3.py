@@ -53,10 +53,6 @@ class ByProgram:
 BY_PROGRAM = ByProgram()
 
 
-def has_rulesets():
-    return b"--ruleset" in run(["--help"]).stdout
-
-
 def told(answer):
     """An answer, cut where it is long."""
     return tuple(each[:400] if isinstance(each, str) else each for each in answer)

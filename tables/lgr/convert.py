@@ -4,11 +4,12 @@ What only narrows is left out or blocked: no label is given away by it. What wou
 the caller to refuse it. A variant is left out only where no label has it; one that can't be said as it is, is blocked.
 """
 
+from notation.points import spelled
+
 from .dispositions import Dispositions
 from .losses import Loss
 from .patterns import Patterns
 from .program import DISALLOWED, UNASSIGNED
-from .ruleset import spelled
 from .standard import Standard
 from .table import TableEntry, is_cut
 

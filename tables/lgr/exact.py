@@ -4,6 +4,7 @@ What no label can have is left out, and what makes no difference is told. Each c
 there is no such ruleset.
 """
 
+from notation.points import spelled
 from notation.ruleset import Entry, Mapped
 
 from .contexts import Contexts, Holds
@@ -15,7 +16,6 @@ from .limits import check_counts
 from .outcomes import DISPOSITIONS, Outcomes, is_demand
 from .repertoire import Repertoire
 from .rules import Rules
-from .ruleset import spelled
 from .sub_tables import SubTables
 from .tags import Tags
 

@@ -1,7 +1,8 @@
 """Adds the pairs that symmetry and transitivity require and that a table lacks, each blocked."""
 
+from notation.points import spelled
+
 from .losses import Loss
-from .ruleset import spelled
 from .table import TableEntry, is_cut
 
 

@@ -1,8 +1,7 @@
 """The limits of version 3 (docs/NOTATION.md), as far as they are numbers of what is in a ruleset."""
 
+from notation.points import spelled
 from notation.reading import MOST_ENTRIES, MOST_POINTS, MOST_RULES_AND_DEMANDS, MOST_SETS, MOST_TAGS, MOST_VARIANTS
-
-from .ruleset import spelled
 
 
 def check_counts(definitions, entries, losses):

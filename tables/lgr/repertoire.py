@@ -3,11 +3,13 @@ label is refused by its types, so that they are there to be variants only."""
 
 import functools
 
+from notation.points import spelled
+
 from .joinings import Joinings
 from .losses import Loss
 from .outcomes import Kind, Outcome
 from .program import DISALLOWED, UNASSIGNED
-from .ruleset import Fault, spelled
+from .ruleset import Fault
 from .table import is_cut
 
 

@@ -2,7 +2,9 @@
 
 import re
 
-from .ruleset import Entry, Fault, Ruleset, Variant, check_sources, point_of, spelled
+from notation.points import spelled
+
+from .ruleset import Entry, Fault, Ruleset, Variant, check_sources, point_of
 
 
 def read(data):

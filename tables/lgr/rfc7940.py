@@ -3,8 +3,10 @@
 An element or an attribute that the standard has not is a fault: it may be a condition that is misspelt.
 """
 
+from notation.points import spelled
+
 from .dispositions import Action
-from .ruleset import Condition, Entry, Fault, Ruleset, Variant, check_sources, point_of, points_of, spelled
+from .ruleset import Condition, Entry, Fault, Ruleset, Variant, check_sources, point_of, points_of
 from .xml_tree import NAMESPACE, root_of
 
 NOTES = {"comment", "ref"}

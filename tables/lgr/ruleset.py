@@ -3,6 +3,8 @@
 import dataclasses
 import re
 
+from notation.points import spelled
+
 
 class Fault(Exception):
     """Something wrong with the file itself, on a line of it or in all of it."""
@@ -77,10 +79,6 @@ def check_sources(entries):
         first_line[entry.source] = entry.line
     if not entries:
         raise Fault(None, "no entry in it")
-
-
-def spelled(sequence):
-    return "-".join(f"{point:04X}" for point in sequence)
 
 
 def point_of(digits, line):

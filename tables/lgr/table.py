@@ -2,8 +2,9 @@
 
 import dataclasses
 
+from notation.points import spelled
+
 from .losses import Loss
-from .ruleset import spelled
 
 MOST_TEXT_BYTES = 1_048_576
 MOST_ENTRIES = 4096

@@ -2,7 +2,8 @@
 
 import textwrap
 
-from .ruleset import spelled
+from notation.points import spelled
+
 from .table import canonical_line
 
 VERSION_LINES = {1: "", 2: "%version 2\n", 3: "%version 3\n"}

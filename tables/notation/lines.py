@@ -1,6 +1,8 @@
 """The lines of a text."""
 
-BLANKS = b" \t"
+import re
+
+BLANK_OR_COMMENT = re.compile(rb"[ \t]*(#.*)?", re.DOTALL)
 
 
 def raw_lines(text):
@@ -12,6 +14,11 @@ def raw_lines(text):
 def without_return(raw):
     """The line less one CR at its end."""
     return raw[:-1] if raw.endswith(b"\r") else raw
+
+
+def says_nothing(line):
+    """Whether the line is blank or a comment."""
+    return BLANK_OR_COMMENT.fullmatch(line) is not None
 
 
 def first_line(text):

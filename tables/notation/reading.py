@@ -1,11 +1,9 @@
 """The ruleset that a text of version 3 spells, or its first fault."""
 
-import re
-
 from . import canonical, faults
 from .faults import TableFault
 from .forms import RULE, SET, TAG, Definition, DemandLine, RangeLine, form_of
-from .lines import first_line, raw_lines, without_return
+from .lines import first_line, raw_lines, says_nothing, without_return
 from .patterns import NoForm
 from .ruleset import Ruleset
 
@@ -20,8 +18,6 @@ MOST_RULES_AND_DEMANDS = 256
 MOST_ATOMS = 4096
 MOST_GROUPS = 8
 MOST_STARS = 2
-
-BLANK_OR_COMMENT = re.compile(rb"[ \t]*(#.*)?", re.DOTALL)
 
 
 def is_ruleset(text):
@@ -39,7 +35,7 @@ def read(text, may_stand):
         if len(raw) > MOST_LINE_BYTES or end > MOST_TEXT_BYTES:
             raise TableFault(number, faults.LIMIT)
         line = without_return(raw)
-        if number == 1 or BLANK_OR_COMMENT.fullmatch(line):
+        if number == 1 or says_nothing(line):
             continue
         try:
             fault = reader.take(form_of(line))

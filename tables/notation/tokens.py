@@ -6,13 +6,8 @@ A token is its bytes, and by them it is known what it is, since a word has no si
 import re
 
 TOKEN = re.compile(rb"\.+|[-|:!,/()?*^$]|[^-|:!,/()?*^$. \t]+")
-SIGNS = frozenset((b"-", b"|", b":", b"!", b",", b"/", b"(", b")", b"?", b"*", b"^", b"$"))
 TO, ANY = b"..", b"."
 
 
 def tokens_of(line):
     return TOKEN.findall(line)
-
-
-def is_word(token):
-    return token not in SIGNS and not token.startswith(b".")

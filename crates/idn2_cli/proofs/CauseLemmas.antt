@@ -63,14 +63,4 @@ text_cause-none explained bytes refusal none = text_cause-not_utf8 explained byt
 pub body_cause-nothing : (explaining : Explaining) (body : Option (List ℕ)) (refusal : Refusal) → explaining ≡ by.Nothing → body_cause (explained_by explaining) body refusal ≡ None
 body_cause-nothing explaining body refusal is = ap (λ (e : Explaining). body_cause (explained_by e) body refusal) is ∙ unexplained-none body refusal
 
--- only what explains nothing tells no cause
-pub unexplained-nothing : (explaining : Explaining) → explained_by explaining ≡ Unexplained → explaining ≡ by.Nothing
-unexplained-nothing by.Nothing is = refl
-unexplained-nothing by.Label is = cc
-unexplained-nothing by.Name is = cc
-unexplained-nothing (by.Query std3) is = cc
-unexplained-nothing (by.Sources table) is = cc
-unexplained-nothing (by.Request table) is = cc
-unexplained-nothing by.Test is = cc
-
 pub ruleset causes_of_text = (text_cause-points, text_cause-none)

@@ -1,16 +1,14 @@
 -- The answer to a line that a call refused.
-use Rattle.std.proofs.Common.{◌≡◌, ◌≢◌, ◌⊎◌, inl, inr, ℕ, false, List, [], ◌∷◌, Result, Ok, Err, Option, Some, None, IfOk, IfErr, refl, sym, ap, subst, ◌∙◌}
-use Rattle.std.specs.Result.{is_err}
+use Rattle.std.proofs.Common.{◌≡◌, ◌≢◌, ◌⊎◌, inl, inr, List, [], ◌∷◌, Result, Ok, Err, Option, None, IfOk, refl, sym, ap, subst, ◌∙◌}
 use Rattle.idn_text.specs.declared.refusal.Refusal.{Refusal}
 use Rattle.idn_text.specs.declared.refusal.Refusal.TheVariants.{Memory}
 use Rattle.idn_text.specs.Lines.{Numbered}
 use Rattle.idn2_options.specs.declared.command_line.form.Form.{Form}
 use Rattle.idn2_cli.specs.Transcript.{Piece, Refuses, piece_in, pieces_for}
 use Rattle.idn2_cli.specs.declared.session.cause.LineCause.{LineCause}
-use Rattle.idn2_cli.specs.Ends.{Held, Writes}
-use Rattle.idn2_cli.specs.Answers.{LineAnswer, line_answer}
-use Rattle.idn2_cli.specs.Explained.{Explained, SeeksNoCause, Unexplained}
-use Rattle.idn2_cli.specs.Memory.{BodyNeedsNone, NeedsNone}
+use Rattle.idn2_cli.specs.Ends.{Held}
+use Rattle.idn2_cli.specs.Answers.{LineAnswer}
+use Rattle.idn2_cli.specs.Explained.{Explained}
 use Rattle.idn2_cli.specs.inner.Emitting.{Emits, StopsWithin}
 use Rattle.idn2_cli.specs.inner.LineAnswers.{KeepsIfRefused, refusal_in, reply_pieces}
 use Rattle.idn2_cli.specs.inner.ServedLines.{answered_as, result_of}
@@ -75,48 +73,11 @@ answered_memory (Err why) o e memory =
 
 -- ---- and its line is told
 
-pub is_refused : (answer : LineAnswer) (refusal : Refusal) → Some refusal ≡ refusal_in answer → answer ≡ Err refusal
-is_refused (Ok said) refusal given = absurd (let clash : Some refusal ≡ None = given in cc)
-is_refused (Err other) refusal given = let same : refusal ≡ other = cc in ap Err (sym same)
-
-pub is_answered : (answer : LineAnswer) → None ≡ refusal_in answer → is_err answer ≡ false
-is_answered (Ok said) given = refl
-is_answered (Err other) given = absurd (let clash : None ≡ Some other = given in cc)
-
--- a line that is answered has the pieces of its answer
-pub answered_pieces : (old new : Held) (form : Form) (how : Explained) (line : Numbered) (answer : LineAnswer) → None ≡ refusal_in answer → Writes old new (reply_pieces form line answer)
-    → Writes old new (pieces_for form how line answer)
-answered_pieces old new form how line (Ok said) given writes = writes
-answered_pieces old new form how line (Err other) given writes = absurd (let clash : None ≡ Some other = given in cc)
-
 -- a stop before a refusal was given back
 pub stopped_pieces : (why : Stop) (old new : Held) (form : Form) (how : Explained) (line : Numbered) (answer : LineAnswer) → StopsWithin why old new (reply_pieces form line answer)
     → StopsWithin why old new (pieces_for form how line answer)
 stopped_pieces why old new form how line (Ok said) at = at
 stopped_pieces why old new form how line (Err refusal) at = (at.0, at.1, cut_before why [] (pieces_for form how line (Err refusal)) at.0 at.2)
-
--- a line that needs no memory is answered without
-pub answered_without : (how : Explained) (answer : List ℕ → LineAnswer) (needs_none : List ℕ → Type 0) (body : Option (List ℕ)) → BodyNeedsNone (NeedsNone how answer needs_none) body → BodyNeedsNone needs_none body
-answered_without how answer needs_none None none = tt
-answered_without how answer needs_none (Some line) none = none.answered
-
--- a line that is refused seeks no cause only if causes are not told
-unexplained : (how : Explained) (answer : LineAnswer) (refusal : Refusal) → answer ≡ Err refusal → SeeksNoCause how answer → how ≡ Unexplained
-unexplained how (Ok lines) refusal is seeks = let clash : Ok lines ≡ Err refusal = is in cc
-unexplained Unexplained (Err other) refusal is seeks = refl
-unexplained _ (Err other) refusal is seeks = absurd seeks
-
--- a call that memory never stops
-pub never_memory : {A : Type 0} (r : Result A Stop) → IfErr r (λ why. why ≢ stop.Memory) → r ≡ Err stop.Memory → ⊥
-never_memory (Ok x) other e = let clash : Ok x ≡ Err stop.Memory = e in cc
-never_memory (Err why) other e = let same : why ≡ stop.Memory = cc in other same
-
--- and its refusal is told without
-pub told_without : {A : Type 0} (how : Explained) (answer : List ℕ → LineAnswer) (needs_none : List ℕ → Type 0) (body : Option (List ℕ)) (refusal : Refusal) (r : Result A Stop) → line_answer answer body ≡ Err refusal
-    → (how ≡ Unexplained → IfErr r (λ why. why ≢ stop.Memory)) → (body ≡ None → IfErr r (λ why. why ≢ stop.Memory)) → BodyNeedsNone (NeedsNone how answer needs_none) body → r ≡ Err stop.Memory → ⊥
-told_without how answer needs_none None refusal r is untold long none e = never_memory r (long refl) e
-told_without how answer needs_none (Some line) refusal r is untold long none e =
-    never_memory r (untold (unexplained how (line_answer answer (Some line)) refusal is none.causeless)) e
 
 -- the cause is another text of the same
 pub emits_cause : {A : Type 0} (old new : Held) (form : Form) (line : Numbered) (refusal : Refusal) (first second : Option LineCause) (r : Result A Stop) → first ≡ second

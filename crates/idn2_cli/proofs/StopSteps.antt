@@ -89,11 +89,6 @@ place-from p (Some i) above = weaker (slice_get (variants_ahead p) i) (get-above
     weaker None h = tt
     weaker (Some b) h = inr h
 
--- it is no less than the last label
-pub stop-from : (place : Option ℕ) (p : Position) (tries : ℕ) (steps : Option ℕ) → IsAbove p → IfSome (stop_from place p tries steps) (IsFrom p.last)
-stop-from place p tries steps above =
-    lesser_label-either (IsFrom p.last) (get_if_given (variants_ahead p) place) (bound_from p tries steps) (place-from p place above) (bound-from p tries steps above)
-
 -- no try is left, or no step: the last label is the stop
 pub stop-here : (place : Option ℕ) (p : Position) (tries : ℕ) (steps : Option ℕ) → IsAbove p → bound_from p tries steps ≡ Some p.last → stop_from place p tries steps ≡ Some p.last
 stop-here place p tries steps above is =

@@ -18,7 +18,7 @@ use Rattle.idn2_options.specs.declared.command_line.form.Form.{Form}
 use Rattle.idn2_options.specs.declared.command_line.form.Form.TheVariants.{Plain, Json}
 use Rattle.idn2_cli.specs.Answers.{LineAnswer}
 use Rattle.idn2_cli.specs.CauseTexts.{tail_text}
-use Rattle.idn2_cli.specs.WrongLines.{told_of_wrong_line}
+use Rattle.idn2_cli.specs.WrongLines.{MayTakeMemory, told_of_wrong_line}
 use Rattle.idn2_cli.specs.declared.session.cause.LineCause.{LineCause}
 use Rattle.idn2_cli.specs.Explained.{Explained}
 use Rattle.idn2_cli.specs.Memory.{NeedsNone, ServesWithoutMemory, GoesOnWithoutMemory, BodyNeedsNone, reads_table}
@@ -218,11 +218,11 @@ TellsMemory old new status =
     (new ≡ record old { messages = new.messages }) × TakesText (closing_message Memory) old.messages new.messages × (status ≡ closing_status Memory)
 
 -- what a file leads to that is not read as registered labels: its wrong line is told, where causes are wanted with its cause, unless
--- memory runs out for that
+-- memory runs out for a cause that may take some
 abbrev pub TellsUnread : Settings → List ℕ → RegisterFault → (old new : Held) → Status → Type 0
 TellsUnread o text (registers.Refused line refusal) old new status =
     TellsWrongLine o.form line refusal (told_of_wrong_line (tells_causes o) text line refusal) old new status
-    ⊎ ((tells_causes o ≡ true) × TellsMemory old new status)
+    ⊎ ((tells_causes o ≡ true) × MayTakeMemory text line refusal × TellsMemory old new status)
 TellsUnread o text registers.Memory old new status = TellsMemory old new status
 
 -- the refusal that is reported where a run stops

@@ -1,5 +1,5 @@
 -- The cause that is told of a wrong line of the registered labels, where causes are wanted. Places are counted from 0.
-use Rattle.std.specs.Prelude.{ℕ, ◌-◌, Bool, List, [], chars, Option, Some, None, slice_get, if◌then◌else◌}
+use Rattle.std.specs.Prelude.{◌≢◌, ℕ, ◌-◌, Bool, List, [], chars, Option, Some, None, slice_get, if◌then◌else◌}
 use Rattle.std.specs.Str.{is_utf8}
 use Rattle.idn_text.specs.Lines.{raw_lines, body_of}
 use Rattle.idn_text.specs.declared.refusal.Refusal.{Refusal}
@@ -42,6 +42,12 @@ abbrev pub wrong_line_cause : List ℕ → ℕ → Refusal → Option LineCause
 wrong_line_cause text number OutOfOrder = Some (order_cause (points_at text (number - 1)) (points_at text number))
 wrong_line_cause text number FileTooLong = None
 wrong_line_cause text number refusal = body_cause ByTest (body_at text number) refusal
+
+-- the cause may take memory: not that of the order of two labels, nor that of a file or a line that is too long
+abbrev pub MayTakeMemory : List ℕ → ℕ → Refusal → Type 0
+MayTakeMemory text number OutOfOrder = ⊥
+MayTakeMemory text number FileTooLong = ⊥
+MayTakeMemory text number refusal = body_at text number ≢ None
 
 -- the same, if causes are wanted
 abbrev pub told_of_wrong_line : Bool → List ℕ → ℕ → Refusal → Option LineCause

@@ -142,6 +142,16 @@ fn faults_of_registered_labels(rt: HostRuntime) -> Result<(), Fail> {
             message: "idn2: 70 out of memory\n",
             status: 4,
         },
+    ] {
+        tells_of_file(&rt, rt.alloc(), &unread)?;
+    }
+    Ok(())
+}
+
+/// Wrong lines, told with their causes.
+#[test]
+fn causes_of_registered_labels(rt: HostRuntime) -> Result<(), Fail> {
+    for unread in [
         Unread {
             words: &["-r", "--explain"],
             text: b"hausboot\r\nharald\n",
@@ -169,5 +179,12 @@ fn faults_of_registered_labels(rt: HostRuntime) -> Result<(), Fail> {
     ] {
         tells_of_file(&rt, rt.alloc(), &unread)?;
     }
+    Ok(())
+}
+
+#[test]
+fn texts_of_errors(rt: HostRuntime) -> Result<(), Fail> {
+    let text = format!(in rt.alloc(); "{}, {}", ReadFault, WriteFault { taken: 3 })?;
+    assert_eq!(rt; text.as_str(), "read fault, write fault");
     Ok(())
 }

@@ -16,7 +16,7 @@ use Rattle.idn_text.proofs.Utf8Lemmas.{ascii_points}
 use Rattle.idn_label.specs.Answers.{Answer, and_then}
 use Rattle.idn_label.specs.Decode.{decoded_label, with_others, decoded_labels, decode_answer}
 use Rattle.idn_label.specs.Register.{u_label_answer}
-use Rattle.idn_label.specs.Steps.{appended, in_utf8}
+use Rattle.idn_label.specs.Steps.{in_utf8}
 
 -- ---- the first label of a name
 
@@ -48,6 +48,10 @@ decode_answer-last name label last = rw last (join_one (decoded_label label))
 pub decode_answer-err : (name label : List ℕ) (others : List (List ℕ)) (refusal : Refusal) → labels_of name ≡ label ∷ others → decoded_label label ≡ Err refusal → decode_answer name ≡ Err refusal
 unfolding decode_answer decoded_labels
 decode_answer-err name label others refusal parts fault = rw (parts, fault) refl
+
+-- the answer after what there was
+abbrev pub appended : List ℕ → Answer → Answer
+appended before answer = and_then answer (λ more. Ok (before ++ more))
 
 -- a label, a full stop and the others
 abbrev followed : Answer → Answer → Answer

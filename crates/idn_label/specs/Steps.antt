@@ -1,5 +1,5 @@
 -- Parts of the definitions, by which the steps of the tests are said.
-use Rattle.std.specs.Prelude.{ℕ, Bool, ◌||◌, ◌==◌, List, ◌++◌, map, Ok}
+use Rattle.std.specs.Prelude.{ℕ, Bool, ◌||◌, ◌==◌, List, map, Ok}
 use Rattle.std.specs.Char.{is_ascii_lowercase, is_ascii_digit, to_ascii_lowercase}
 use Rattle.idna.specs.Validity.{has_ace_prefix}
 use Rattle.idn_text.specs.Points.{utf8_of}
@@ -8,10 +8,6 @@ use Rattle.idn_label.specs.Answers.{Answer, and_then}
 -- a lower-case ASCII letter, a digit or the hyphen
 abbrev pub is_ldh_point : ℕ → Bool
 is_ldh_point c = is_ascii_lowercase c || is_ascii_digit c || (c == 0x2D)
-
--- the answer after what there was
-abbrev pub appended : List ℕ → Answer → Answer
-appended before answer = and_then answer (λ more. Ok (before ++ more))
 
 -- an answer of code points as their UTF-8 (RFC 3629)
 abbrev pub in_utf8 : Answer → Answer

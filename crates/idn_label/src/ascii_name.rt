@@ -2,9 +2,9 @@
 ghost use Rattle.std.specs.Prelude.{◌≡◌, ◌≢◌, ◌≤◌, ◌+◌, ◌*◌, length, take, Err, IfOk, All, IsAscii};
 ghost use Rattle.idna.specs.Labels.{labels_of};
 ghost use Rattle.idn_label.specs.Answers.{Gives};
-ghost use Rattle.idn_label.specs.Decode.{decoded_label, decode_answer};
+ghost use Rattle.idn_label.specs.Decode.{decode_answer};
 ghost use Rattle.idn_label.specs.Memory.{DecodesWithoutMemory};
-ghost use Rattle.idn_label.specs.Steps.{appended, in_utf8};
+ghost use Rattle.idn_label.specs.Steps.{in_utf8};
 
 use crate::full_stops::label_end;
 use crate::u_label::u_label_in_any_case;

@@ -2,9 +2,8 @@
 ghost use Rattle.std.specs.Prelude.{◌≡◌, ◌<◌, ◌≤◌, ℕ, List, length, Ok};
 ghost use Rattle.idn_label.specs.ALabel.{a_label_of};
 ghost use Rattle.idn_label.specs.Answers.{Gives};
-ghost use Rattle.idn_label.specs.Decode.{decoded_label, decode_answer};
+ghost use Rattle.idn_label.specs.Decode.{decode_answer};
 ghost use Rattle.idn_label.specs.FirstFault.{IsRegistrable};
-ghost use Rattle.idn_label.specs.Steps.{appended};
 
 use crate::full_stops::label_end;
 use crate::u_label::u_label_in_any_case;

@@ -1,5 +1,5 @@
 //! Whether a label is in Normalization Form C (RFC 5891 section 4.2.1).
-ghost use Rattle.std.specs.Prelude.{◌≡◌, ◌≢◌, ◌≤◌, length, Some, None, Err, IfOk, IsOk, IfErr, OnOk};
+ghost use Rattle.std.specs.Prelude.{◌≡◌, ◌≢◌, ◌≤◌, length, IfOk, IsOk};
 ghost use Rattle.ucd_normal.specs.declared.forms.Form.TheVariants.{Nfc};
 ghost use Rattle.ucd_normal.specs.declared.forms.QuickCheck.TheVariants.{Maybe};
 ghost use Rattle.unicode_normalization.specs.Forms.{is_nfc};

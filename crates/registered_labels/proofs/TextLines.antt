@@ -11,9 +11,8 @@ use Rattle.std.proofs.lemmas.List.{append-nil, map-append, same_from_push, take-
 use Rattle.idn_text.specs.Points.{IsUtf8Of, utf8_of}
 use Rattle.idn_text.specs.Lines.{raw_lines, joined_lines, body_of}
 use Rattle.idn_text.specs.declared.refusal.Refusal.{Refusal}
-use Rattle.idn_text.specs.declared.refusal.Refusal.TheVariants.{LineTooLong, NotUtf8}
 use Rattle.idn_text.specs.declared.refusal.Refusal.TheVariants as refusals
-use Rattle.idn_text.proofs.TakingLemmas.{is_long_line-short, is_long_line-long}
+use Rattle.idn_text.proofs.TakingLemmas.{is_long_line-short}
 use Rattle.idn_text.proofs.Utf8Lemmas.{points_from_utf8}
 use Rattle.idn_text.proofs.NumberingLemmas.{raw_lines-then, raw_lines-rest}
 use Rattle.idn_label.specs.FirstFault.{utf8_fault}
@@ -31,9 +30,6 @@ use Rattle.registered_labels.specs.inner.Readings.{IsLineEnd, IsReadAs}
 
 pub body_of-short : (line : List ℕ) → length line ≤ 1024 → body_of line ≡ Some (strip_carriage_return line)
 body_of-short line few = ap (λ b. cond b None (Some (strip_carriage_return line))) (is_long_line-short line few)
-
-pub refused_long : (line : List ℕ) → 1024 < length line → line_refusal (body_of line) ≡ Some LineTooLong
-refused_long line many = ap (λ b. line_refusal (cond b None (Some (strip_carriage_return line)))) (is_long_line-long line many)
 
 pub refused_body : (line body : List ℕ) (refusal : Refusal) → length line ≤ 1024 → body ≡ strip_carriage_return line → utf8_fault body ≡ Some refusal → line_refusal (body_of line) ≡ Some refusal
 refused_body line body refusal few is fault = ap line_refusal (body_of-short line few ∙ ap Some (sym is)) ∙ fault

@@ -1,6 +1,6 @@
 -- The furthest place that sources reach: there is one, and it is the one that is told.
-use Rattle.std.proofs.Common.{◌≡◌, ℕ, zero, suc, ◌<◌, ◌≤◌, ◌==◌, ◌⊎◌, ◌↔◌, Bool, true, false, List, [], length, take, take_all, refl, sym, ap, subst, ◌∙◌, inl, inr, eqb-true, eq-eqb, arith, cond}
-use Rattle.std.proofs.lemmas.Bool.{cases_Bool, cases_lt}
+use Rattle.std.proofs.Common.{◌≡◌, ℕ, zero, suc, ◌<◌, ◌≤◌, ◌==◌, ◌⊎◌, ◌↔◌, Bool, true, false, List, [], length, take, take_all, refl, sym, subst, inl, inr, eqb-true, arith, cond}
+use Rattle.std.proofs.lemmas.Bool.{cases_lt}
 use Rattle.std.proofs.lemmas.List.{nil_from_length}
 use Rattle.variant_table.specs.Entries.{Entry}
 use Rattle.variant_table.specs.WellFormed.{IsWellFormed}

@@ -54,12 +54,9 @@ above-cut net text unread w p = (
   λ above. inr ((cut-IsBelow 63 text w p.short).1 above),
 )
 
--- a text of at most 63 code points that does not reach the end, and a longer one, are no label
+-- a text of at most 63 code points that does not reach the end is no label
 pub unread-short : (net : Plan) (text last : List ℕ) → last ≡ take 63 text → length text ≤ 63 → (Reached net last 0 → ⊥) → IsRead net text → ⊥
 unread-short net text last stands short incomplete r = incomplete (subst (λ l. Reached net l 0) (sym (stands ∙ take_all 63 text short)) (Reached-read net text r))
-
-pub unread-long : (net : Plan) (text : List ℕ) → (length text ≤ 63 → ⊥) → IsRead net text → ⊥
-unread-long net text long r = long r.short
 
 -- ---- the beginning that is kept
 

@@ -1,18 +1,14 @@
 -- The labels that a net spells, as a list.
 use Rattle.std.proofs.Common.{◌≡◌, ℕ, zero, suc, ◌+◌, ◌-◌, ◌*◌, ◌<◌, ◌≤◌, List, [], ◌∷◌, length, take, drop, map, get_or, refl, sym, ap, ◌∙◌, subst, inl, inr, ◌↔◌, arith, length-append, Bool, true, false, ◌&&◌, Option, None}
 use Rattle.std.specs.Prelude.{slice_get, slice_index, Some}
-use Rattle.std.specs.List.{All, Contains, filter, flat_map}
+use Rattle.std.specs.List.{Contains, filter, flat_map}
 use Rattle.std.specs.Option.{is_some}
 use Rattle.std.specs.Ordering.{is_gt}
 use Rattle.std.proofs.lemmas.Bool.{false≢true}
 use Rattle.std.proofs.lemmas.List.{length-drop}
 use Rattle.std.proofs.lemmas.List.Sums.{sum_by-le, sum_by-cons}
 use Rattle.std.proofs.lemmas.List.Elements.{All-contains, Contains-get_or, Contains-append_left, Contains-append_right, Contains-append_cases}
-use Rattle.variant_table.specs.Entries.{Entry}
-use Rattle.variant_table.specs.WellFormed.{IsEntry}
 use Rattle.variant_list.specs.Labels.{label_cmp}
-use Rattle.variant_list.specs.Spelled.{spelled}
-use Rattle.variant_list.specs.Spelling.{Spells}
 use Rattle.variant_list.specs.Nets.{IsLeastLength}
 use Rattle.variant_list.specs.Uses.{Use, IsUse, AreUses, IsCut, points_of, UsesSpell, points_in, use_edges}
 use Rattle.variant_list.specs.Variants.{in_order, variants_among}
@@ -23,7 +19,6 @@ use Rattle.variant_list.proofs.ListMembers.{Contains-head, Contains-none, Contai
 use Rattle.variant_list.proofs.OrderLemmas.{IsListOf-unique}
 use Rattle.variant_list.proofs.VariantLists.{IsRising-in_order, Contains-in_order}
 use Rattle.variant_list.proofs.PlanLemmas.{Contains-at, slice_get-Contains}
-use Rattle.variant_list.proofs.RecursionLemmas.{spelled-Spells}
 use Rattle.variant_list.proofs.SpelledByLemmas.{AreUses-drop}
 
 slice_get-drop : {X : Type 0} (xs : List X) (a i : ℕ) → slice_get (drop a xs) i ≡ slice_get xs (a + i)
@@ -118,14 +113,6 @@ in_order-same xs ys same =
     IsListOf-unique (Contains xs) (in_order xs) (in_order ys)
     (record { rising = IsRising-in_order xs; members = λ v. Contains-in_order xs v })
     (record { rising = IsRising-in_order ys; members = λ v. (λ c. (same v).1 ((Contains-in_order ys v).0 c), λ c. (Contains-in_order ys v).1 ((same v).0 c)) })
-
--- those of a table in the same order are what the label spells
-pub Spells-in_order : (labels : List (List ℕ)) (table : List Entry) (label : List ℕ) → All IsEntry table → in_order labels ≡ in_order (spelled table label) → (v : List ℕ) → Contains labels v ↔ Spells table label v
-Spells-in_order labels table label all same v =
-    let own = Contains-in_order labels v in
-    let listed = Contains-in_order (spelled table label) v in
-    let spells = spelled-Spells table label v all in
-    (λ m. spells.0 (listed.0 (subst (λ vs. Contains vs v) same (own.1 m))), λ s. own.0 (subst (λ vs. Contains vs v) (sym same) (listed.1 (spells.1 s))))
 
 -- and so are the accepted ones after a text
 pub among-in_order : (accepts : List ℕ → Bool) (labels others : List (List ℕ)) (after : List ℕ) → in_order labels ≡ in_order others → variants_among accepts labels after ≡ variants_among accepts others after

@@ -1,14 +1,14 @@
 -- The steps of several searches for hope, one after another: the label visited with the last of them.
-use Rattle.std.proofs.Common.{◌≡◌, ℕ, ◌+◌, ◌-◌, ◌*◌, ◌<◌, ◌≤◌, ◌⊎◌, inl, inr, Bool, true, false, cond, List, [], ◌∷◌, ◌++◌, length, take, drop, Option, Some, None, refl, sym, ap, ◌∙◌, subst, arith, append_assoc, append-nil, length-append}
+use Rattle.std.proofs.Common.{◌≡◌, ℕ, ◌+◌, ◌-◌, ◌*◌, ◌<◌, ◌≤◌, ◌⊎◌, inl, inr, Bool, true, false, List, [], ◌∷◌, ◌++◌, length, take, drop, Option, Some, None, refl, sym, ap, ◌∙◌, subst, arith, append_assoc, append-nil, length-append}
 use Rattle.std.specs.Prelude.{IfSome}
 use Rattle.std.specs.List.{filter}
 use Rattle.std.proofs.Math.Seq.{take-append-add, drop-append_seam}
 use Rattle.std.proofs.lemmas.Bool.Decides.{nat_tests}
 use Rattle.std.proofs.lemmas.List.{take_at}
-use Rattle.variant_list.specs.Positions.{Position, candidates_ahead, tested_ahead}
+use Rattle.variant_list.specs.Positions.{Position, candidates_ahead}
 use Rattle.variant_list.specs.Beginnings.{shortest_hopeless, has_hope, dead_ends}
 use Rattle.variant_list.specs.Steps.{last_of}
-use Rattle.variant_list.specs.Visited.{visited, visited_ahead, has_step, fewer_steps, Takes}
+use Rattle.variant_list.specs.Visited.{visited, visited_ahead, has_step, Takes}
 use Rattle.variant_list.specs.Stepping.{Visits, VisitsAll, Halts}
 use Rattle.variant_list.specs.inner.Skips.{edges_of_net}
 use Rattle.variant_list.specs.inner.Halts.{FindsHopeIn, FindsNoneIn, HaltsIn}

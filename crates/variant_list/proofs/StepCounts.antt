@@ -1,5 +1,5 @@
 -- How many steps a search for hope takes, and where it stands when they are used up.
-use Rattle.std.proofs.Common.{◌≡◌, ℕ, ◌+◌, ◌-◌, ◌*◌, ◌<◌, ◌≤◌, Bool, true, false, List, [], ◌∷◌, ◌++◌, length, take, Option, Some, None, refl, sym, ap, ◌∙◌, subst, arith, append_assoc, append-nil, length-append}
+use Rattle.std.proofs.Common.{◌≡◌, ℕ, ◌+◌, ◌-◌, ◌<◌, ◌≤◌, Bool, true, false, List, [], ◌∷◌, ◌++◌, length, take, Option, Some, None, refl, sym, ap, ◌∙◌, subst, arith, append_assoc, append-nil, length-append}
 use Rattle.std.specs.Prelude.{IfSome}
 use Rattle.std.specs.List.{AllByRecursion, filter}
 use Rattle.std.proofs.lemmas.List.{take_at}
@@ -8,7 +8,7 @@ use Rattle.variant_list.specs.Positions.{Position, candidates_ahead, tested_ahea
 use Rattle.variant_list.specs.Beginnings.{shortest_hopeless, has_hope, shares, dead_ends}
 use Rattle.variant_list.specs.Steps.{last_of}
 use Rattle.variant_list.specs.Visited.{visited, visited_ahead, has_step, fewer_steps, Takes}
-use Rattle.variant_list.specs.inner.Skips.{outside, Searches, edges_of_net}
+use Rattle.variant_list.specs.inner.Skips.{outside, Searches}
 use Rattle.variant_list.specs.inner.Halts.{StandsBehind, FindsHopeIn, FindsNoneIn, HaltsIn}
 use Rattle.variant_list.proofs.ListLemmas.{slice_get-none, filter-none, last_of-push, AllByRecursion-append}
 use Rattle.variant_list.proofs.VisitedLemmas.{visited-dead}

@@ -1,5 +1,5 @@
 -- The uses of a part of a table, taken one after the other.
-use Rattle.std.proofs.Common.{◌≡◌, ℕ, ◌+◌, Bool, true, false, map, List, [], ◌∷◌, ◌++◌, length, take, refl, sym, ap, ◌∙◌, subst, arith, append-nil, append_assoc}
+use Rattle.std.proofs.Common.{◌≡◌, ℕ, ◌+◌, Bool, true, false, map, List, [], ◌∷◌, ◌++◌, take, refl, sym, ap, ◌∙◌, subst, arith, append-nil, append_assoc}
 use Rattle.std.specs.Prelude.{slice_get, Some, not, filter, if◌then◌else◌}
 use Rattle.std.specs.List.{Contains, flat_map}
 use Rattle.std.proofs.lemmas.Grind.{flat_map-append}
@@ -7,7 +7,7 @@ use Rattle.std.proofs.lemmas.List.{take_more, map-append}
 use Rattle.std.proofs.lemmas.List.Elements.{Contains-append_right, filter-append}
 use Rattle.variant_table.specs.Entries.{Entry, Variant, replacements, sequences_in}
 use Rattle.variant_list.specs.declared.part.Part.{Part}
-use Rattle.variant_list.specs.inner.Layouts.{Draft, IsSound, IsLaid, HasTaken}
+use Rattle.variant_list.specs.inner.Layouts.{Draft, IsLaid, HasTaken}
 use Rattle.variant_list.specs.inner.NetPlans.{IsNetOf}
 use Rattle.variant_list.specs.Segmentations.{inside_of}
 use Rattle.variant_list.specs.Parts.{marked, part_has}
@@ -16,7 +16,7 @@ use Rattle.variant_list.proofs.ListMembers.{Contains-head}
 use Rattle.variant_list.proofs.InsideLemmas.{inside-one, outside-one}
 use Rattle.variant_list.proofs.PartLemmas.{mapped-at, mapped-same}
 use Rattle.variant_list.proofs.PlainListerSteps.{got}
-use Rattle.variant_list.proofs.DraftLemmas.{HasTaken-none, HasTaken-more, IsLaid-reads}
+use Rattle.variant_list.proofs.DraftLemmas.{HasTaken-more, IsLaid-reads}
 
 pub take-next : {X : Type 0} (xs : List X) (i : ℕ) (x : X) → slice_get xs i ≡ Some x → take (i + 1) xs ≡ take i xs ++ x ∷ []
 take-next xs i x e = let g = got xs i x e in take_more xs i x g.0 ∙ ap (λ y. take i xs ++ y ∷ []) g.1
@@ -26,9 +26,6 @@ pub record HasEntries (part : Part) (all left : List Entry) (old new : Draft) : 
   pub done : List Entry
   pub split : all ≡ done ++ left
   pub taken : HasTaken old (flat_map (uses_of_entry part) (inside_of done)) new
-
-pub HasEntries-none : (part : Part) (all : List Entry) (old : Draft) → IsSound old → HasEntries part all all old old
-HasEntries-none part all old sound = record { done = []; split = refl; taken = HasTaken-none old sound }
 
 -- the entries that were taken, and one more
 more_taken : (part : Part) (done : List Entry) (e : Entry) → flat_map (uses_of_entry part) (inside_of (done ++ e ∷ [])) ≡ flat_map (uses_of_entry part) (inside_of done) ++ flat_map (uses_of_entry part) (inside_of (e ∷ []))

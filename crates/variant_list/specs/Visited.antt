@@ -1,9 +1,7 @@
 -- The labels that a listing comes to, one for each step of its search, and how many steps are left.
-use Rattle.std.specs.Prelude.{◌≡◌, ℕ, ◌-◌, ◌≤◌, ◌||◌, nat_lt, Bool, true, List, [], ◌∷◌, length, take, drop, Option, Some, None, IfSome, if◌then◌else◌}
-use Rattle.variant_table.specs.Entries.{Entry}
+use Rattle.std.specs.Prelude.{◌≡◌, ℕ, ◌-◌, ◌≤◌, ◌||◌, nat_lt, Bool, true, List, [], ◌∷◌, Option, Some, None, IfSome, if◌then◌else◌}
 use Rattle.variant_list.specs.Beginnings.{shortest_hopeless, has_hope, is_new}
 use Rattle.variant_list.specs.Positions.{Position, candidates_ahead}
-use Rattle.variant_list.specs.Variants.{candidates}
 
 -- the labels of a list that a search comes to: in order, those that have hope, and the dead ends; the others it passes over
 abbrev pub visited : (List ℕ → Bool) → Option (List ℕ) → List (List ℕ) → List (List ℕ)
@@ -13,11 +11,7 @@ visited hopeless before (v ∷ vs) =
     then v ∷ visited hopeless (Some v) vs
     else visited hopeless (Some v) vs
 
--- those among the candidates after the given text
-abbrev pub visited_after : (List ℕ → Bool) → List Entry → List ℕ → List ℕ → List (List ℕ)
-visited_after hopeless table label after = visited hopeless None (candidates table label after)
-
--- those that are still to come
+-- those among the candidates that are still to come
 abbrev pub visited_ahead : (List ℕ → Bool) → Position → List (List ℕ)
 visited_ahead hopeless p = visited hopeless None (candidates_ahead p)
 

@@ -1,5 +1,5 @@
 //! A walk of one label over a net.
-ghost use Rattle.std.specs.Prelude.{◌≡◌, ◌*◌, ◌≤◌, ◌↔◌, length, IsTrue};
+ghost use Rattle.std.specs.Prelude.{◌*◌, ◌≤◌, ◌↔◌, length, IsTrue};
 ghost use Rattle.variant_list.specs.inner.Plans.{Reads, first_place};
 
 use crate::graph::{END, Graph};

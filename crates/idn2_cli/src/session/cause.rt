@@ -1,5 +1,5 @@
 //! The cause that is told of a refused line. It is looked for only once the line is refused, and only if causes are wanted.
-ghost use Rattle.std.specs.Prelude.{◌≡◌, ◌≤◌, ℕ, List, IfOk, None, length, option_map, slice_index};
+ghost use Rattle.std.specs.Prelude.{◌≡◌, ◌≤◌, ℕ, List, IfOk, None, length, option_map};
 ghost use Rattle.std.specs.Option.{option_copied};
 ghost use Rattle.std.specs.Result.{IsOk};
 ghost use Rattle.idn_text.specs.Points.{AreScalarValues, IsUtf8Of, utf8_of};
@@ -13,7 +13,7 @@ use arrayvec::ArrayVec;
 use idn_cause::{
     ALabelCause, Cause, LengthCause, NameCause, a_label_cause, cause_of, name_cause, query_cause,
 };
-use idn_label::{MAX_LABEL_LEN, has_ace_prefix};
+use idn_label::{MAX_LABEL_LEN, code_point_at, has_ace_prefix};
 use idn_text::{MAX_LINE_LEN, Refusal, decode_points, write_points};
 use std::alloc::{AllocError, Global};
 use std::str;
@@ -240,11 +240,4 @@ fn outside_cause(alloc: Global, label: &[u32], table: &Table) -> Result<Option<C
     }
     let place = furthest(alloc, table, label)?;
     Ok(Some(Cause::Point(place, code_point_at(label, place))))
-}
-
-/// The code point at a place, or 0 past the end.
-fn code_point_at(label: &[u32], place: usize) -> u32
-    ensures { result ≡ slice_index label.now place }
-{
-    if place < label.len() { label[place] } else { 0 }
 }

@@ -1,15 +1,15 @@
 //! The cause of a wrong line of the registered labels. It is looked for only once the line is found, and only if causes are
 //! wanted.
-ghost use Rattle.std.specs.Prelude.{◌≡◌, ◌≤◌, ◌-◌, IfOk, false, slice_get};
+ghost use Rattle.std.specs.Prelude.{◌≡◌, ◌≤◌, ◌-◌, IfOk, OnErr, false, slice_get};
 ghost use Rattle.std.specs.Result.{IsOk};
 ghost use Rattle.std.specs.Option.{option_copied};
 ghost use Rattle.answer_json.specs.Details.{given_len};
-ghost use Rattle.idn_cause.specs.Causes.{shared};
-ghost use Rattle.idn2_cli.specs.WrongLines.{body_at, order_cause, points_at, told_of_wrong_line, wrong_line_cause};
+ghost use Rattle.idn2_cli.specs.WrongLines.{MayTakeMemory, body_at, order_cause, points_at, told_of_wrong_line, wrong_line_cause};
 
 use crate::session::cause::{Explaining, LineCause, cause_of_body};
 use arrayvec::ArrayVec;
 use idn_cause::Cause;
+use idn_class::shared_len;
 use idn_text::{MAX_LINE_LEN, Refusal, TextLines, decode_points, without_carriage_return};
 use std::alloc::{AllocError, Global};
 
@@ -23,6 +23,7 @@ pub(crate) fn cause_if_wanted(
 ) -> Result<Option<LineCause>, AllocError>
     ensures cause { IfOk result (λ cause. cause ≡ told_of_wrong_line wanted text.now number refusal) }
     ensures unwanted { wanted ≡ false → IsOk result }
+    ensures memory { OnErr result (MayTakeMemory text.now number refusal) }
 {
     if wanted {
         cause_of_wrong_line(alloc, text, number, refusal)
@@ -31,14 +32,16 @@ pub(crate) fn cause_if_wanted(
     }
 }
 
-/// The cause of the line of this number, if one is told.
+/// The cause of the line of this number, if one is told. It takes no memory for the order of two labels, nor where the file
+/// or the line is too long.
 fn cause_of_wrong_line(
     alloc: Global,
     text: &[u8],
     number: u64,
     refusal: Refusal,
 ) -> Result<Option<LineCause>, AllocError>
-    ensures { IfOk result (λ cause. cause ≡ wrong_line_cause text.now number refusal) }
+    ensures cause { IfOk result (λ cause. cause ≡ wrong_line_cause text.now number refusal) }
+    ensures memory { OnErr result (MayTakeMemory text.now number refusal) }
 {
     match refusal {
         Refusal::OutOfOrder => Ok(Some(cause_of_order(text, number))),
@@ -55,7 +58,7 @@ fn cause_of_order(text: &[u8], number: u64) -> LineCause
     let mut label = ArrayVec::new();
     read_label(text, number.saturating_sub(1), &mut before);
     read_label(text, number, &mut label);
-    let place = shared(label.as_slice(), before.as_slice());
+    let place = shared_len(label.as_slice(), before.as_slice());
     match point_at(label.as_slice(), place) {
         Some(point) => LineCause::OfLabel(Cause::Point(place, point)),
         None => LineCause::Ends(place),
@@ -95,16 +98,4 @@ fn body_at(text: &[u8], number: u64) -> Option<&[u8]>
     } else {
         Some(without_carriage_return(line))
     }
-}
-
-/// How many code points two labels share at their start.
-#[tactic(auto, using(idn_cause::proofs::CausePlaces::shared_ends))]
-fn shared(a: &[u32], b: &[u32]) -> usize
-    ensures { result ≡ shared a.now b.now }
-{
-    let mut at = 0;
-    while at < a.len() && at < b.len() && a[at] == b[at] {
-        at += 1;
-    }
-    at
 }

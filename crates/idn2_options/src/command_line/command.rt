@@ -1,6 +1,6 @@
 //! The words of the command line as `clap` reads them: flags, options with a value, and STRINGS.
 //! No argument has a rule on another, so that `clap`'s definition gives what the words mean.
-ghost use Rattle.std.specs.Prelude.{◌≡◌, IfOk, codes, false, map, string_bytes};
+ghost use Rattle.std.specs.Prelude.{◌≡◌, IfOk, false, map, string_bytes};
 ghost use Rattle.clap.specs.Words.{FailsBy, app_of, fault_of, found_of, matches_of, rows_of, rule_of, with_rule};
 ghost use Rattle.idn2_options.specs.CommandLine.{app, flag_rule, short_flag_rule, value_rule, strings_rule, with_modes, with_tables, with_collisions, with_switches, with_bounds};
 

@@ -1,5 +1,5 @@
 //! Lookup of any name, by all of UTS 46.
-ghost use Rattle.std.specs.Prelude.{◌≡◌, ◌≢◌, Err, IsUtf8};
+ghost use Rattle.std.specs.Prelude.{◌≡◌, ◌≢◌, Err};
 ghost use Rattle.idna.specs.Display.{IsPlain};
 ghost use Rattle.idna.specs.declared.options.Hyphens.TheVariants.{Allow};
 ghost use Rattle.idn_label.specs.Answers.{Gives};

@@ -6,10 +6,9 @@ ghost use Rattle.idna.specs.declared.options.DnsLength.TheVariants.{Ignore};
 ghost use Rattle.idna.specs.Labels.{labels_of, join_labels};
 ghost use Rattle.idna.specs.Uts46.{map_char, to_ascii, verify_dns_length};
 ghost use Rattle.idna.specs.Validity.{begins_with_mark};
-ghost use Rattle.unicode_normalization.specs.Forms.{nfc};
 ghost use Rattle.idn_class.specs.Facts.{contains, AreFactsOf};
 ghost use Rattle.idn_label.specs.ALabel.{a_label_of};
-ghost use Rattle.idn_label.specs.inner.SimpleNames.{AreAppended, Cover, IsTested, PassesInName};
+ghost use Rattle.idn_label.specs.inner.SimpleNames.{AreAppended, Cover, IsTested};
 ghost use Rattle.idn_label.specs.Lookup.{deny_list};
 
 use crate::a_label::{ALabelEncoder, MAX_LABEL_LEN};

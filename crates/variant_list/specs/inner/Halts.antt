@@ -1,5 +1,5 @@
 -- A search for hope of which the steps are counted: words of the cursor's inner steps.
-use Rattle.std.specs.Prelude.{◌≡◌, ◌+◌, ◌*◌, ◌≤◌, ℕ, Bool, true, false, List, length, take, Option, Some, None, Result, Ok, Err}
+use Rattle.std.specs.Prelude.{◌≡◌, ◌+◌, ◌*◌, ◌≤◌, ℕ, Bool, true, false, List, length, take, Option, None, Result, Ok, Err}
 use Rattle.std.specs.declared.alloc.AllocError.{AllocError}
 use Rattle.variant_list.specs.Beginnings.{dead_ends}
 use Rattle.variant_list.specs.Positions.{Position, candidates_ahead, tested_ahead}

@@ -32,9 +32,3 @@ JoinsEnding endings beginning = SomeGives (λ ending q. q ≡ beginning ++ endin
 -- q is a replacement of the entry, which is not outside, and then one of the endings
 abbrev pub EntryGives : List (List ℕ) → Entry → List ℕ → Type 0
 EntryGives endings e q = (e.outside ≡ false) × SomeGives (JoinsEnding endings) (replacements e) q
-
--- q is a replacement of the entry, which is not outside and whose source is cut off the rest, and then something that what is left
--- spells
-abbrev pub BeginsWith : List Entry → List ℕ → Entry → List ℕ → Type 0
-BeginsWith table rest e q =
-    (later : List ℕ) × (w : List ℕ) × (rest ≡ e.source ++ later) × Spells table later w × SomeGives (λ r q. q ≡ r ++ w) (replacements e) q × (e.outside ≡ false)

@@ -12,11 +12,11 @@ use Rattle.idn_label.specs.Decode.{decoded_label, decode_answer}
 use Rattle.idna.specs.Labels.{labels_of}
 use Rattle.idn_label.specs.Memory.{DecodesWithoutMemory}
 use Rattle.idn_label.specs.Register.{u_label_answer}
-use Rattle.idn_label.specs.Steps.{appended, begins_with_prefix, in_utf8}
+use Rattle.idn_label.specs.Steps.{begins_with_prefix, in_utf8}
 use Rattle.idn_text.specs.Points.{utf8_of}
 use Rattle.idn_label.proofs.LabelsByPlace.{label_last, label_before}
 use Rattle.idn_label.proofs.LdhNames.{all_labels}
-use Rattle.idn_label.proofs.DecodeLemmas.{decoded_label-coded, decoded_label-other, decode_answer-last, decode_answer-err, decode_answer-more, turn_more, utf8_of-ascii_text, in_utf8-followed}
+use Rattle.idn_label.proofs.DecodeLemmas.{appended, decoded_label-coded, decoded_label-other, decode_answer-last, decode_answer-err, decode_answer-more, turn_more, utf8_of-ascii_text, in_utf8-followed}
 use Rattle.idn_label.proofs.ascii_name.decode_ascii.Goals as goal
 use Rattle.idn_label.proofs.ascii_name.decode_ascii.Goals.{then-has_ace_prefix_in_any_case+in_ok-u_label_in_any_case, else-has_ace_prefix_in_any_case}
 

@@ -2,7 +2,8 @@ use Rattle.std.proofs.Common.{◌≡◌, ◌≤◌, ◌-◌, ◌*◌, length, ta
 use Rattle.idna.specs.Labels.{labels_of}
 use Rattle.idn_label.specs.Decode.{decode_answer}
 use Rattle.idn_label.specs.Memory.{DecodesWithoutMemory}
-use Rattle.idn_label.specs.Steps.{appended, in_utf8}
+use Rattle.idn_label.specs.Steps.{in_utf8}
+use Rattle.idn_label.proofs.DecodeLemmas.{appended}
 use Rattle.idn_label.proofs.ascii_name.decode_ascii.Given as goal
 
 -- what is left of the name, decoded after the text so far, is the whole name decoded

@@ -1,10 +1,9 @@
 use Rattle.std.proofs.Common.{◌≡◌, ◌+◌, drop, slice_range, Ok, refl, sym, ap, ◌∙◌, arith}
 use Rattle.std.proofs.lemmas.Result.{err_from_is_err_and}
 use Rattle.idn_label.specs.Decode.{decoded_label, decode_answer}
-use Rattle.idn_label.specs.Steps.{appended}
 use Rattle.idn_label.proofs.ALabels.{decode_answer-a_label}
 use Rattle.idn_label.proofs.AnswerLemmas.{Gives-same}
-use Rattle.idn_label.proofs.DecodeLemmas.{decoded_label-coded, decoded_label-other, decode_answer-last, decode_answer-err, decode_answer-more, turn_more}
+use Rattle.idn_label.proofs.DecodeLemmas.{appended, decoded_label-coded, decoded_label-other, decode_answer-last, decode_answer-err, decode_answer-more, turn_more}
 use Rattle.idn_label.proofs.LabelsByPlace.{label_last, label_before}
 use Rattle.idn_label.proofs.decoding.decode_name.Goals as goal
 use Rattle.idn_label.proofs.decoding.decode_name.Goals.{then-has_ace_prefix_in_any_case+in_ok-u_label_in_any_case, else-has_ace_prefix_in_any_case}

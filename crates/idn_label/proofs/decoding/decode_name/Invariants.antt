@@ -1,6 +1,6 @@
 use Rattle.std.proofs.Common.{◌≡◌, ◌≤◌, ◌-◌, drop, length}
 use Rattle.idn_label.specs.Decode.{decode_answer}
-use Rattle.idn_label.specs.Steps.{appended}
+use Rattle.idn_label.proofs.DecodeLemmas.{appended}
 use Rattle.idn_label.proofs.decoding.decode_name.Given as goal
 
 abbrev pub invariant-labels : goal.invariant-labels

@@ -5,11 +5,10 @@ use Rattle.std.proofs.lemmas.List.Elements.{All-contains}
 use Rattle.variant_table.specs.Entries.{Entry}
 use Rattle.variant_table.specs.Places.{AreEntriesAt}
 use Rattle.variant_table.specs.WellFormed.{IsEntry}
-use Rattle.variant_list.specs.declared.part.Part.{Part}
 use Rattle.variant_list.specs.Segmentations.{inside_of}
-use Rattle.variant_list.specs.inner.Layouts.{Draft, HasTaken}
+use Rattle.variant_list.specs.inner.Layouts.{HasTaken}
 use Rattle.variant_list.specs.Uses.{uses_of_entry}
-use Rattle.variant_list.proofs.TakenUses.{HasEntries, HasEntries-more, HasEntries-skip, HasEntries-next, HasEntries-all}
+use Rattle.variant_list.proofs.TakenUses.{HasEntries-more, HasEntries-skip, HasEntries-next, HasEntries-all}
 use Rattle.variant_list.proofs.uses.add_uses_at.Goals as goal
 
 pub add_uses_of-requires-clause-sequences : goal.add_uses_of-requires-clause-sequences

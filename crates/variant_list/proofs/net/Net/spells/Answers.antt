@@ -1,4 +1,4 @@
-use Rattle.std.proofs.Common.{ap, sym, subst, ◌∙◌, ◌↔◌}
+use Rattle.std.proofs.Common.{subst, ◌↔◌}
 use Rattle.std.specs.Prelude.{IsTrue, Contains}
 use Rattle.variant_list.specs.Positions.{Built}
 use Rattle.variant_list.proofs.NetLabels.{Reads-spelled}
