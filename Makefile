@@ -83,9 +83,10 @@ dist:
 	cd $(DIST) && sha256sum $(PACKED).tar.gz > $(PACKED).tar.gz.sha256
 	rm -rf $(DIST)/$(PACKED)
 
-# The gaps of the example tables: none.
+# The gaps of the example tables, and of the ruleset that the program reads: none.
 check-tables: all
 	for table in tables/*.txt; do $(PROGRAM) --check-table $$table || exit 1; done
+	$(PROGRAM) --check-ruleset tables/rulesets/latin.txt
 
 # Times the program against libidn2's, and prints one table of ratios. Then what a million registered labels take, and
 # what one of what a limit bounds takes at worst.

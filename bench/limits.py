@@ -1,7 +1,7 @@
 #!/usr/bin/env python3
 """Times what a line costs by each limit of a listing: python3 bench/limits.py
 
-For who lists under tables of others: `--steps N` takes at most N times what a step takes, and so on. Each figure is the
+For those who list under other people's tables: `--steps N` takes at most N times what a step takes, and so on. Each figure is the
 least of some rounds, in microseconds of processor time, less a run that stops after one step:
 
     a step, Han             labels under tables/han.txt, of which each has a line. A step, its test and its line

@@ -58,7 +58,7 @@ RULESETS = {
 def measure(options, folder):
     print("ours:    " + version(options.ours))
     print(f"least of {options.rounds} rounds, less an empty ruleset\n")
-    print(f"{'':<14}{'entries':>10}{'bytes':>12}{'ms':>10}{'MiB':>10}")
+    print(f"{'':<14}{'lines':>10}{'bytes':>12}{'ms':>10}{'MiB':>10}")
     nothing, gnu_time = write(folder, "nothing", []), found("time")
 
     def run(name, lines):

@@ -2,9 +2,10 @@
 """Checks variant tables from outside the program: python3 tables/check.py FILE..
 
 Written from docs/NOTATION.md alone, with the classes of Unicode's own data (unicode_data.py), so that the program
-can be compared with it. For each table it prints what `idn2 --check-table` prints: the gaps and the last line, or
-the message of the first faulty line. A file whose first line is that of version 3 is checked as a ruleset, by notation/.
-Status 0 if no table has a fault or a gap, else 1.
+can be compared with it. For each table it prints what `idn2 --check-table` prints, after the file's name, all on the
+output: the gaps and the last line, or the message of the first faulty line. A file whose first line is that of version 3
+is checked as a ruleset, by notation/. Status 0 if no table has a fault or a gap, else 1, also where a file or Unicode's
+data is missing.
 """
 
 import dataclasses

@@ -28,8 +28,8 @@ def options_of(words):
                                      allow_abbrev=False)
     parser.add_argument("file", metavar="FILE")
     parser.add_argument("--version", type=int, choices=(1, 2, 3), default=2,
-                        help="of the table's notation; version 1 can't say that a variant is blocked, and idn2 doesn't "
-                             "read version 3 yet [default: 2]")
+                        help="of the table's notation; version 1 can't say that a variant is blocked, and of "
+                             "version 3 idn2 reads the forms that docs/NOTATION.md names [default: 2]")
     parser.add_argument("--untyped", choices=(BLOCKED, ALLOCATABLE),
                         help="what variants without a type are [default: blocked; in version 3 by the actions, for RFC 7940]")
     parser.add_argument("--close-gaps", action="store_true",
