@@ -82,8 +82,8 @@ def second_writing_spells(folder):
         assert again == ruleset, (text, again)
 
 
-# A line that the program doesn't read in a ruleset yet: a definition, a condition, or tags.
-NOT_YET = re.compile(r"[ \t]*(?:%(?:tag|set|rule|never|always)\b.*|[^#]*\b(?:when|unless|as)\b.*)", re.ASCII)
+# A line that the program doesn't read in a ruleset yet: a demand, a condition, or an entry with tags.
+NOT_YET = re.compile(r"[ \t]*(?:%(?:never|always)\b.*|[^#%\s][^#]*\b(?:when|unless|as)\b.*)", re.ASCII)
 
 
 def not_read_yet(text):
