@@ -49,6 +49,8 @@ mod registration;
 #[cfg(test)]
 mod row;
 #[cfg(test)]
+mod ruleset_tables;
+#[cfg(test)]
 mod sizes;
 #[cfg(test)]
 mod spelled;

@@ -174,6 +174,8 @@ fn fault_texts(rt: HostRuntime) -> Result<(), Fail> {
             "code point not allowed in a table",
         ),
         (TableFault::Limit { line: 1 }, "table limit"),
+        (TableFault::NoSuchName { line: 1 }, "name not defined"),
+        (TableFault::SameName { line: 1 }, "name given twice"),
         (TableFault::Memory, "out of memory"),
     ];
     for (fault, want) in texts {
