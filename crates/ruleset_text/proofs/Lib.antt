@@ -25,3 +25,4 @@ mod EntryReadLemmas
 mod EntrySpelledLemmas
 pub mod EntryExactLemmas
 pub mod EntryBackLemmas
+mod PlacedLemmas
