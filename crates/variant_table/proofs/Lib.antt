@@ -52,3 +52,5 @@ pub mod LengthLemmas
 pub mod UnblockedLemmas
 -- What the entries of a line add.
 pub mod AddingLemmas
+-- The first of a list that a test is true of.
+pub mod FindLemmas

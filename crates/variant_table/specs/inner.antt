@@ -2,3 +2,4 @@
 pub mod Held
 pub mod Order
 pub mod ReadingSteps
+pub mod PlaceSteps
