@@ -141,6 +141,10 @@ abbrev pub line_at : List (List ℕ) → Option ℕ → Option (List ℕ)
 line_at lines None = None
 line_at lines (Some number) = slice_get lines (number - 1)
 
+-- that of a fault, as it stands in the text
+abbrev pub faulty_line : List ℕ → TableFault → Option (List ℕ)
+faulty_line text fault = line_at (raw_lines text) (line_number fault)
+
 -- none of a text that lacks its version
 abbrev pub place_in : Option Version → Option (List ℕ) → TableFault → Option FaultPlace
 place_in None line fault = None
@@ -149,4 +153,4 @@ place_in (Some version) (Some line) fault = line_place version fault line
 
 -- where the line of the fault has it, if a place is told
 unfoldable pub fault_place : Notation → List ℕ → TableFault → Option FaultPlace
-fault_place notation text fault = place_in (version_of notation (raw_lines text)) (line_at (raw_lines text) (line_number fault)) fault
+fault_place notation text fault = place_in (version_of notation (raw_lines text)) (faulty_line text fault) fault

@@ -22,7 +22,7 @@ mod version;
 pub use canonical::write_sequence;
 pub use entry::Entry;
 pub use fault::TableFault;
-pub use place::{FaultPlace, fault_place};
+pub use place::{FaultPlace, fault_place, faulty_line};
 pub use places::EntriesAt;
 pub use table::Table;
 pub use version::Notation;

@@ -56,10 +56,17 @@ pub fn fault_place(
     let Some(head) = head_of(notation, text) else {
         return Ok(None);
     };
-    match line_at(text, line_number(fault)) {
+    match faulty_line(text, fault) {
         Some(line) => line_place(alloc, head.version, fault, line),
         None => Ok(None),
     }
+}
+
+/// The line of a fault, as it stands in the text.
+pub fn faulty_line(text: &[u8], fault: TableFault) -> Option<&[u8]>
+    ensures { option_copied result ≡ places.faulty_line text.now fault }
+{
+    line_at(text, line_number(fault))
 }
 
 /// The number of the line of a fault.
