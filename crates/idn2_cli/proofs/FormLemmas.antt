@@ -4,7 +4,7 @@ use Rattle.std.specs.Prelude.{◌||◌}
 use Rattle.std.proofs.lemmas.List.{map-append}
 use Rattle.idn_text.specs.Lines.{Numbered}
 use Rattle.variant_table.specs.Entries.{TableValue}
-use Rattle.idn2_options.specs.Settings.{Settings}
+use Rattle.idn2_options.specs.Settings.{Settings, tells_causes}
 use Rattle.idn2_options.specs.declared.command_line.form.Form.{Form}
 use Rattle.idn2_options.specs.declared.command_line.form.Form.TheVariants.{Plain, Json}
 use Rattle.idn2_options.specs.declared.command_line.mode.Mode.{Mode}
@@ -36,12 +36,12 @@ lines_written form how answer (line ∷ lines) =
     ∙ ap (λ ps. ps ++ map (piece_in form) (lines_statements how answer lines)) (answer_written form how line (line_answer answer line.body))
     ∙ sym (map-append (piece_in form) first (lines_statements how answer lines))
 
-check_written : (form : Form) (given : TableGiven) → check_pieces form given ≡ map (piece_in form) (check_statements given)
-check_written form (Err fault) = refl
-check_written form (Ok table) = outputs-found form (check_findings table.entries)
+check_written : (form : Form) (wanted : Bool) (given : TableGiven) → check_pieces form wanted given ≡ map (piece_in form) (check_statements wanted given)
+check_written form wanted (Err fault) = refl
+check_written form wanted (Ok table) = outputs-found form (check_findings table.entries)
 
 mode_written : (mode : Mode) (o : Settings) (table : TableValue) (lines : List Numbered) → mode_pieces mode o table lines ≡ map (piece_in o.form) (mode_statements mode o table lines)
-mode_written CheckTable o table lines = check_written o.form (Ok table)
+mode_written CheckTable o table lines = check_written o.form (tells_causes o) (Ok table)
 mode_written Lookup o table lines = lines_written o.form (explained_in Lookup o table) (mode_answer Lookup o table) lines
 mode_written Register o table lines = lines_written o.form (explained_in Register o table) (mode_answer Register o table) lines
 mode_written Decode o table lines = lines_written o.form (explained_in Decode o table) (mode_answer Decode o table) lines
@@ -49,7 +49,7 @@ mode_written Variants o table lines = lines_written o.form (explained_in Variant
 mode_written Jump o table lines = lines_written o.form (explained_in Jump o table) (mode_answer Jump o table) lines
 
 pub transcript_written : (o : Settings) (given : TableGiven) (lines : List Numbered) → transcript o given lines ≡ map (piece_in o.form) (statements o given lines)
-transcript_written o (Err fault) lines = check_written o.form (Err fault)
+transcript_written o (Err fault) lines = check_written o.form (tells_causes o) (Err fault)
 transcript_written o (Ok table) lines = mode_written o.mode o table lines
 
 -- ---- what is said is the same
@@ -69,7 +69,7 @@ same_by_mode Jump o table lines = ap (λ b. lines_statements (if_wanted b (expla
 
 pub same_statements : (o : Settings) (given : TableGiven) (lines : List Numbered)
     → statements (record o { form = Json }) given lines ≡ statements (record o { form = Plain; explain = true }) given lines
-same_statements o (Err fault) lines = refl
+same_statements o (Err fault) lines = ap (λ b. check_statements b (Err fault)) (or_true o.explain)
 same_statements o (Ok table) lines = same_by_mode o.mode o table lines
 
 status_by_mode : (mode : Mode) (o : Settings) (table : TableValue) (lines : List Numbered)
@@ -92,7 +92,7 @@ silent_in_json [] = refl
 silent_in_json (Says line what ∷ said) = silent_in_json said
 silent_in_json (Refuses line refusal cause ∷ said) = silent_in_json said
 silent_in_json (Finds finding ∷ said) = silent_in_json said
-silent_in_json (Faults line refusal ∷ said) = silent_in_json said
+silent_in_json (Faults line refusal cause ∷ said) = silent_in_json said
 
 pub json_silent : (o : Settings) (given : TableGiven) (lines : List Numbered) → o.form ≡ Json → messages_of (transcript o given lines) ≡ []
 json_silent o given lines is =

@@ -1,10 +1,10 @@
 -- From the lines of the input, or none, to the end of a run.
-use Rattle.std.proofs.Common.{Option, inl, inr, ◌⊎◌, ◌≡◌, ◌≢◌, ℕ, List, [], true, false, Result, Ok, Err, IfOk, refl, sym, ap, subst, ◌∙◌}
+use Rattle.std.proofs.Common.{Option, Bool, inl, inr, ◌⊎◌, ◌≡◌, ◌≢◌, ℕ, List, [], true, false, Result, Ok, Err, IfOk, refl, sym, ap, subst, ◌∙◌}
 use Rattle.idn_text.specs.Reading.{Reading, IsUnread}
 use Rattle.idn_text.specs.declared.refusal.Refusal.{Refusal}
 use Rattle.idn_text.proofs.ReadingLemmas.{has_read_nothing}
 use Rattle.std.proofs.lemmas.Bool.{false≢true}
-use Rattle.idn2_options.specs.Settings.{Settings, keeping}
+use Rattle.idn2_options.specs.Settings.{Settings, keeping, tells_causes}
 use Rattle.idn2_cli.specs.Memory.{reads_table}
 use Rattle.idn2_cli.specs.Transcript.{TableGiven, IsReadAs, IsTableOf, Piece, check_pieces, check_status}
 use Rattle.idn2_cli.specs.Ends.{Held, TakesText, closing_message, Job, Does, Ends, Closes, mode_job, refusal_of}
@@ -17,8 +17,8 @@ use Rattle.idn2_cli.specs.declared.session.stop.Stop.{Stop}
 use Rattle.idn2_cli.specs.declared.session.stop.Stop.TheVariants as stop
 use Rattle.idn2_cli.proofs.WrittenPieces.{stops_first}
 use Rattle.idn2_cli.proofs.LineSteps.{stands_at}
-use Rattle.idn2_cli.proofs.TableLemmas.{some_table, refused_table}
-use Rattle.std.specs.Prelude.{MatchOption}
+use Rattle.idn2_cli.proofs.TableLemmas.{IsTold, some_table, refused_table}
+use Rattle.idn2_cli.specs.declared.session.cause.LineCause.{LineCause}
 use Rattle.variant_table.specs.declared.version.Notation.{Notation}
 use Rattle.variant_table.specs.Texts.{IsToldOf}
 use Rattle.variant_table.specs.declared.fault.TableFault.{TableFault}
@@ -63,7 +63,7 @@ with_false (Err why) status e = tt
 
 -- the check of a table, whatever its text is
 pub checked : (o : Settings) (text : List ℕ) (given : TableGiven) (start : Reading) (old new : Held) (r : Result Status Stop)
-    → o.mode ≡ CheckTable → IsReadAs o.notation text given → IsUnread start → Emits old new (check_pieces o.form given) r → IfOk r (λ status. status ≡ check_status given)
+    → o.mode ≡ CheckTable → IsReadAs o.notation text given → IsUnread start → Emits old new (check_pieces o.form (tells_causes o) given) r → IfOk r (λ status. status ≡ check_status given)
     → (table : TableGiven) × IsTableOf o.mode o.notation text table × Does (mode_job o table) start start old new r
 checked o text (Ok table) start old new r e read unread writes answered =
     let job = mode_job (record o { mode = CheckTable }) (Ok table) in
@@ -103,27 +103,27 @@ module _ (o : Settings) (mode : Mode) (works : WorksByTable o mode) (text : List
       (subst (λ (s : Result Status Stop). IfOk s (λ status. (job.reads ≡ false) × (status ≡ job.status []))) (sym is) tt) works.by_table)
 
   -- the fault of the table is told
-  faulty : (line : ℕ) (refusal : Refusal) (old new : Held) (r : Result Status Stop)
-      → IsReadAs o.notation text (Err (line, refusal)) → IsUnread start → Emits old new (check_pieces o.form (Err (line, refusal))) r → IfOk r (λ status. status ≡ check_status (Err (line, refusal)))
+  faulty : (told : ℕ × Refusal × Option LineCause) (old new : Held) (r : Result Status Stop)
+      → IsReadAs o.notation text (Err told) → IsUnread start → Emits old new (check_pieces o.form (tells_causes o) (Err told)) r → IfOk r (λ status. status ≡ check_status (Err told))
       → (table : TableGiven) × IsTableOf o.mode o.notation text table × Does (mode_job o table) start start old new r
-  faulty line refusal old new r read unread writes answered =
-      let job = mode_job (record o { mode = mode }) (Err (line, refusal)) in
-      as_mode o mode text (Err (line, refusal)) job start start old new r works.named (works.reads text (Err (line, refusal)) read) refl
+  faulty told old new r read unread writes answered =
+      let job = mode_job (record o { mode = mode }) (Err told) in
+      as_mode o mode text (Err told) job start start old new r works.named (works.reads text (Err told) read) refl
       (does_unread job start old new r unread writes (with_false r _ answered) works.by_table)
 
   -- the table is not read
   pub refused_lines : (fault : TableFault) (old new : Held) (r : Result Status Stop) → IsUnread start → IsToldOf o.notation text fault
-      → MatchOption (told_of fault) ((r ≡ Err stop.Memory) × (new ≡ old)) (λ told. Emits old new (check_pieces o.form (Err told)) r)
+      → IsTold o.form (tells_causes o) o.notation text fault old new r (told_of fault)
       → IfOk r (λ status. status ≡ Unusable)
       → (table : TableGiven) × IsTableOf o.mode o.notation text table × Does (mode_job o table) start start old new r
-  refused_lines fault old new r unread is told answered = by (refused_table o.form o.notation text fault old new r is told)
+  refused_lines fault old new r unread is told answered = by (refused_table o.form (tells_causes o) o.notation text fault old new r is told)
     where
-      by : ((r ≡ Err stop.Memory) × (new ≡ old)) ⊎ ((told : ℕ × Refusal) × IsReadAs o.notation text (Err told) × Emits old new (check_pieces o.form (Err told)) r)
+      by : ((r ≡ Err stop.Memory) × (new ≡ old)) ⊎ ((told : ℕ × Refusal × Option LineCause) × IsReadAs o.notation text (Err told) × Emits old new (check_pieces o.form (tells_causes o) (Err told)) r)
           → (table : TableGiven) × IsTableOf o.mode o.notation text table × Does (mode_job o table) start start old new r
       by (inl memory) =
           subst (λ (h : Held). (table : TableGiven) × IsTableOf o.mode o.notation text table × Does (mode_job o table) start start old h r) (sym memory.1)
           (unread_stopped old r stop.Memory unread memory.0 refl)
-      by (inr t) = faulty t.0.0 t.0.1 old new r t.1 unread t.2 answered
+      by (inr t) = faulty t.0 old new r t.1 unread t.2 answered
 
 -- the same job under another name
 pub does_as : (job other : Job) (start now : Reading) (old new : Held) (r : Result Status Stop) → job ≡ other → Does job start now old new r → Does other start now old new r
@@ -143,29 +143,30 @@ jump_job-kept o labels given is =
     kept (Ok table) = refl
 
 -- a table that is not read, in the check of a table
-pub refused_check : (form : Form) (n : Notation) (text : List ℕ) (fault : TableFault) (old new : Held) (r : Result Status Stop) → IsToldOf n text fault
-    → MatchOption (told_of fault) ((r ≡ Err stop.Memory) × (new ≡ old)) (λ told. Emits old new (check_pieces form (Err told)) r)
+pub refused_check : (form : Form) (wanted : Bool) (n : Notation) (text : List ℕ) (fault : TableFault) (old new : Held) (r : Result Status Stop) → IsToldOf n text fault
+    → IsTold form wanted n text fault old new r (told_of fault)
     → IfOk r (λ status. status ≡ Unusable)
-    → (given : TableGiven) × IsReadAs n text given × Emits old new (check_pieces form given) r × IfOk r (λ status. status ≡ check_status given)
-refused_check form n text fault old new r is told answered = by (refused_table form n text fault old new r is told)
+    → (given : TableGiven) × IsReadAs n text given × Emits old new (check_pieces form wanted given) r × IfOk r (λ status. status ≡ check_status given)
+refused_check form wanted n text fault old new r is told answered = by (refused_table form wanted n text fault old new r is told)
   where
-    by : ((r ≡ Err stop.Memory) × (new ≡ old)) ⊎ ((told : ℕ × Refusal) × IsReadAs n text (Err told) × Emits old new (check_pieces form (Err told)) r)
-        → (given : TableGiven) × IsReadAs n text given × Emits old new (check_pieces form given) r × IfOk r (λ status. status ≡ check_status given)
+    by : ((r ≡ Err stop.Memory) × (new ≡ old)) ⊎ ((told : ℕ × Refusal × Option LineCause) × IsReadAs n text (Err told) × Emits old new (check_pieces form wanted (Err told)) r)
+        → (given : TableGiven) × IsReadAs n text given × Emits old new (check_pieces form wanted given) r × IfOk r (λ status. status ≡ check_status given)
     by (inl memory) =
         let t = some_table n text in (
           t.0,
           t.1,
-          subst (λ (h : Held). Emits old h (check_pieces form t.0) r) (sym memory.1) (emits_memory old (check_pieces form t.0) r stop.Memory memory.0 refl),
+          subst (λ (h : Held). Emits old h (check_pieces form wanted t.0) r) (sym memory.1) (emits_memory old (check_pieces form wanted t.0) r stop.Memory memory.0 refl),
           subst (λ (s : Result Status Stop). IfOk s (λ status. status ≡ check_status t.0)) (sym memory.0) tt,
         )
     by (inr t) = (Err t.0, t.1, t.2, answered)
 
--- the form, read from the options
-pub in_form : (text : List ℕ) (fault : TableFault) (first second : Form) (old new : Held) (r : Result Status Stop) → first ≡ second
-    → MatchOption (told_of fault) ((r ≡ Err stop.Memory) × (new ≡ old)) (λ told. Emits old new (check_pieces first (Err told)) r)
-    → MatchOption (told_of fault) ((r ≡ Err stop.Memory) × (new ≡ old)) (λ told. Emits old new (check_pieces second (Err told)) r)
-in_form text fault first second old new r same told =
-    subst (λ (form : Form). MatchOption (told_of fault) ((r ≡ Err stop.Memory) × (new ≡ old)) (λ told. Emits old new (check_pieces form (Err told)) r)) same told
+-- the form, whether causes are wanted and the notation, read from the options
+pub in_form : (text : List ℕ) (fault : TableFault) (f g : Form) (a b : Bool) (m n : Notation) (old new : Held) (r : Result Status Stop) → f ≡ g → a ≡ b → m ≡ n
+    → IsTold f a m text fault old new r (told_of fault) → IsTold g b n text fault old new r (told_of fault)
+in_form text fault f g a b m n old new r form wanted notation told =
+    subst (λ (x : Notation). IsTold g b x text fault old new r (told_of fault)) notation
+    (subst (λ (x : Bool). IsTold g x m text fault old new r (told_of fault)) wanted
+    (subst (λ (x : Form). IsTold x a m text fault old new r (told_of fault)) form told))
 
 -- ---- the last message
 

@@ -13,9 +13,11 @@ use Rattle.idn_cause.specs.declared.a_label.ALabelCause.TheVariants.{NoCode, Not
 use Rattle.idn_cause.specs.declared.query.LengthCause.{LengthCause}
 use Rattle.idn_cause.specs.declared.query.LengthCause.TheVariants.{LabelOctets, NameOctets}
 use Rattle.answer_json.specs.Details.{Details, no_details}
+use Rattle.variant_table.specs.declared.place.FaultPlace.{FaultPlace}
+use Rattle.variant_table.specs.declared.place.FaultPlace.TheVariants as places
 use Rattle.idn2_cli.specs.CauseTexts.{appendix_text, bidi_text}
 use Rattle.idn2_cli.specs.declared.session.cause.LineCause.{LineCause}
-use Rattle.idn2_cli.specs.declared.session.cause.LineCause.TheVariants.{Byte, LongLine, OfLabel, OfALabel, OfName, OfQuery, Ends}
+use Rattle.idn2_cli.specs.declared.session.cause.LineCause.TheVariants.{Byte, LongLine, OfLabel, OfALabel, OfName, OfQuery, Ends, OfTable}
 
 -- a code point and its place
 abbrev pub placed : ℕ → ℕ → Details
@@ -75,6 +77,25 @@ abbrev pub length_details : LengthCause → Details
 length_details (LabelOctets number octets) = record no_details { label = Some (number + 1); octets = Some octets }
 length_details (NameOctets octets) = record no_details { octets = Some octets }
 
+-- a byte of a line, and a code point that begins there
+abbrev pub at_byte : ℕ → Details
+at_byte place = record no_details { byte = Some (place + 1) }
+
+abbrev pub point_at_byte : ℕ → ℕ → Details
+point_at_byte place c = record (at_byte place) { code_point = Some c }
+
+-- of where a line of a table has its fault
+abbrev pub fault_place_details : FaultPlace → Details
+fault_place_details (places.Lexeme place len) = at_byte place
+fault_place_details (places.End place) = at_byte place
+fault_place_details (places.Point place c) = point_at_byte place c
+fault_place_details (places.InRange place c) = point_at_byte place c
+fault_place_details (places.Variant place) = at_byte place
+fault_place_details (places.Source place) = at_byte place
+fault_place_details (places.Byte place) = at_byte place
+fault_place_details (places.NinthPoint place c) = point_at_byte place c
+fault_place_details (places.SeventeenthVariant place c) = point_at_byte place c
+
 -- of the cause of a line's refusal; in a name the number of the label is told
 abbrev pub line_details : Refusal → LineCause → Details
 line_details refusal (Byte place byte) = record no_details { byte = Some (place + 1) }
@@ -84,6 +105,7 @@ line_details refusal (OfALabel cause) = a_label_details refusal cause
 line_details refusal (OfName cause) = record (a_label_details refusal cause.cause) { label = Some (cause.label + 1) }
 line_details refusal (OfQuery cause) = length_details cause
 line_details refusal (Ends place) = record no_details { place = Some (place + 1) }
+line_details refusal (OfTable place quoted) = fault_place_details place
 
 -- the same, if there is a cause
 abbrev pub told_details : Refusal → Option LineCause → Details

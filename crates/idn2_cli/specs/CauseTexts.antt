@@ -16,8 +16,10 @@ use Rattle.idn_cause.specs.declared.name.NameCause.{NameCause}
 use Rattle.idn_cause.specs.declared.query.LengthCause.{LengthCause}
 use Rattle.idn_cause.specs.declared.query.LengthCause.TheVariants.{LabelOctets, NameOctets}
 use Rattle.ruleset_text.specs.Canonical.{hex_digit, point_text}
+use Rattle.variant_table.specs.declared.place.FaultPlace.{FaultPlace}
+use Rattle.variant_table.specs.declared.place.FaultPlace.TheVariants as places
 use Rattle.idn2_cli.specs.declared.session.cause.LineCause.{LineCause}
-use Rattle.idn2_cli.specs.declared.session.cause.LineCause.TheVariants.{Byte, LongLine, OfLabel, OfALabel, OfName, OfQuery, Ends}
+use Rattle.idn2_cli.specs.declared.session.cause.LineCause.TheVariants.{Byte, LongLine, OfLabel, OfALabel, OfName, OfQuery, Ends, OfTable}
 
 -- a code point, as Unicode writes it
 abbrev pub code_point_text : ℕ → List ℕ
@@ -120,6 +122,27 @@ length_text (NameOctets octets) = codes "name of " ++ (decimal octets ++ codes "
 unfoldable pub byte_text : ℕ → List ℕ
 byte_text byte = codes "byte 0x" ++ hex_digit (byte / 16 % 16) ∷ hex_digit (byte % 16) ∷ []
 
+-- a place of a line in bytes
+abbrev pub at_byte_text : ℕ → List ℕ
+at_byte_text place = codes " at byte " ++ decimal (place + 1)
+
+-- a lexeme between single quotes, where it is quoted
+abbrev pub lexeme_text : List ℕ → List ℕ
+lexeme_text [] = codes "word"
+lexeme_text (c ∷ quoted) = codes "'" ++ ((c ∷ quoted) ++ codes "'")
+
+-- where a line of a table has its fault
+unfoldable pub fault_place_text : FaultPlace → List ℕ → List ℕ
+fault_place_text (places.Lexeme place len) quoted = lexeme_text quoted ++ at_byte_text place
+fault_place_text (places.End place) quoted = codes "the line ends" ++ at_byte_text place
+fault_place_text (places.Point place c) quoted = code_point_text c ++ at_byte_text place
+fault_place_text (places.InRange place c) quoted = code_point_text c ++ (codes " in the range" ++ at_byte_text place)
+fault_place_text (places.Variant place) quoted = codes "variant" ++ at_byte_text place
+fault_place_text (places.Source place) quoted = codes "source" ++ at_byte_text place
+fault_place_text (places.Byte place) quoted = codes "the line goes on" ++ at_byte_text place
+fault_place_text (places.NinthPoint place c) quoted = code_point_text c ++ (at_byte_text place ++ codes ": code point 9")
+fault_place_text (places.SeventeenthVariant place c) quoted = code_point_text c ++ (at_byte_text place ++ codes ": variant 17")
+
 -- the cause of a line's refusal
 abbrev pub line_cause_text : Refusal → LineCause → List ℕ
 line_cause_text refusal (Byte place byte) = byte_text byte ++ (codes " at byte " ++ decimal (place + 1))
@@ -129,6 +152,7 @@ line_cause_text refusal (OfALabel cause) = a_label_text refusal cause
 line_cause_text refusal (OfName cause) = name_text refusal cause
 line_cause_text refusal (OfQuery cause) = length_text cause
 line_cause_text refusal (Ends place) = codes "ends at place " ++ decimal (place + 1)
+line_cause_text refusal (OfTable place quoted) = fault_place_text place quoted.items
 
 -- what a message goes on with: a colon, a blank and the cause, if there is one
 abbrev pub tail_text : Refusal → Option LineCause → List ℕ

@@ -24,7 +24,7 @@ three = (115 ∷ 115 ∷ 115 ∷ []) ∷ (115 ∷ 0xDF ∷ []) ∷ (0xDF ∷ 115
 -- messages, trailers and stops
 pub record ExamplesOfARun : Type 0 where
   pub refused_line : line_message 2 Disallowed ≡ codes "idn2: line 2: 10 disallowed code point\n"
-  pub faulty_table : table_message 1 Syntax ≡ codes "idn2: table line 1: 30 table syntax\n"
+  pub faulty_table : table_message 1 Syntax [] ≡ codes "idn2: table line 1: 30 table syntax\n"
   pub write_fault : closing_message WriteFault ≡ codes "idn2: 61 write fault\n"
   pub checked : table_line 3 2 ≡ codes "#table 3 2"
   pub ended : trailer_line 3 None ≡ codes "#end 3"

@@ -8,21 +8,21 @@ use Rattle.variant_table.specs.declared.version.Version.TheVariants.{One}
 use Rattle.variant_table.specs.Entries.{Entry, TableValue, empty_table}
 use Rattle.variant_table.specs.declared.version.Notation.{Notation}
 use Rattle.variant_table.specs.Texts.{IsTextOf, IsFaultOf}
-use Rattle.variant_table.specs.Faults.{LineFault}
+use Rattle.variant_table.specs.Faults.{LineFault, table_fault as fault_of_line}
 use Rattle.idn2_options.specs.declared.command_line.mode.Mode.{Mode}
 use Rattle.idn2_options.specs.declared.command_line.mode.Mode.TheVariants.{Variants, Jump, CheckTable}
 use Rattle.idn_text.specs.Lines.{Numbered}
 use Rattle.idn_text.specs.Refusals.{refusal_number, refusal_text}
 use Rattle.variant_table.specs.Gaps.{gaps_of, AreGapsOf}
-use Rattle.idn2_options.specs.Settings.{Settings}
+use Rattle.idn2_options.specs.Settings.{Settings, tells_causes}
 use Rattle.idn2_cli.specs.Answers.{LineAnswer, mode_answer, line_answer}
 use Rattle.idn2_cli.specs.CauseTexts.{tail_text}
 use Rattle.idn2_cli.specs.CauseDetails.{told_details}
 use Rattle.idn2_cli.specs.Explained.{Explained, body_cause, explained_in}
+use Rattle.idn2_cli.specs.TableCauses.{fault_cause, told_if}
 use Rattle.idn2_cli.specs.Said.{Said, Finding, Gap, Counted, said_text, finding_text}
 use Rattle.idn2_cli.specs.declared.session.cause.LineCause.{LineCause}
 use Rattle.answer_json.specs.Answers.{line_of}
-use Rattle.answer_json.specs.Details.{no_details}
 use Rattle.answer_json.specs.Inputs.{told_of}
 use Rattle.answer_json.specs.Objects.{refused, table_fault, registered_fault}
 use Rattle.idn2_options.specs.declared.command_line.form.Form.{Form}
@@ -53,9 +53,9 @@ messages_of (Message text ∷ pieces) = text ++ messages_of pieces
 
 -- ---- the table of a run
 
--- a table, or the line of its first fault, from 1, and the fault
+-- a table, or the line of its first fault, from 1, the fault, and its cause, if there is one
 abbrev pub TableGiven : Type 0
-TableGiven = Result TableValue (ℕ × Refusal)
+TableGiven = Result TableValue (ℕ × Refusal × Option LineCause)
 
 -- the table of a mode that names none
 abbrev pub no_table : TableValue
@@ -71,9 +71,11 @@ table_refusal faults.SameSource = refusals.SameSource
 table_refusal faults.NoSuchName = refusals.NoSuchName
 table_refusal faults.SameName = refusals.SameName
 
--- the text has this first fault
-abbrev pub HasFault : Notation → List ℕ → ℕ × Refusal → Type 0
-HasFault notation text fault = (kind : LineFault) × (table_refusal kind ≡ fault.1) × IsFaultOf notation text fault.0 kind
+-- the text has this first fault, and this is its cause
+abbrev pub HasFault : Notation → List ℕ → ℕ × Refusal × Option LineCause → Type 0
+HasFault notation text fault =
+    (kind : LineFault) × (table_refusal kind ≡ fault.1) × IsFaultOf notation text fault.0 kind
+    × (fault.2 ≡ fault_cause notation text (fault_of_line fault.0 kind))
 
 -- the text spells this table, or has this first fault
 abbrev pub IsReadAs : Notation → List ℕ → TableGiven → Type 0
@@ -107,8 +109,8 @@ abbrev pub refused_message : ℕ → Refusal → List ℕ → List ℕ
 refused_message number refusal tail = message_with (codes "idn2: line ") number refusal tail
 
 -- the message of a table that has a fault
-abbrev pub table_message : ℕ → Refusal → List ℕ
-table_message number refusal = codes "idn2: table line " ++ (decimal number ++ (codes ": " ++ told refusal))
+abbrev pub table_message : ℕ → Refusal → List ℕ → List ℕ
+table_message number refusal tail = message_with (codes "idn2: table line ") number refusal tail
 
 -- the message of a file that is not read as registered labels
 abbrev pub registered_message : ℕ → Refusal → List ℕ → List ℕ
@@ -117,20 +119,20 @@ registered_message number refusal tail = message_with (codes "idn2: registered l
 -- ---- what a run says
 
 -- in answer to a line; that a line is refused, and its cause, if one is told; what is found in a table; the fault of a line of a
--- table
+-- table, and its cause, if one is told
 pub data Statement : Type 0 where
   Says : (line : Numbered) (said : Said) → Statement
   Refuses : (line : Numbered) (refusal : Refusal) (cause : Option LineCause) → Statement
   Finds : (finding : Finding) → Statement
-  Faults : (line : ℕ) (refusal : Refusal) → Statement
+  Faults : (line : ℕ) (refusal : Refusal) (cause : Option LineCause) → Statement
 
 -- the object of a refused line, with its line feed
 abbrev pub refused_object : Numbered → Refusal → Option LineCause → List ℕ
 refused_object line refusal cause = line_of (refused line.number (told_of line.body) refusal (told_details refusal cause))
 
 -- the object of a table that has a fault
-abbrev pub table_object : ℕ → Refusal → List ℕ
-table_object line refusal = line_of (table_fault line refusal no_details)
+abbrev pub table_object : ℕ → Refusal → Option LineCause → List ℕ
+table_object line refusal cause = line_of (table_fault line refusal (told_details refusal cause))
 
 -- the object of a file that is not read as registered labels
 abbrev pub registered_object : ℕ → Refusal → Option LineCause → List ℕ
@@ -143,8 +145,8 @@ piece_in form (Says line said) = Output (said_text form line said)
 piece_in form (Finds finding) = Output (finding_text form finding)
 piece_in Plain (Refuses line refusal cause) = Message (refused_message line.number refusal (tail_text refusal cause))
 piece_in Json (Refuses line refusal cause) = Output (refused_object line refusal cause)
-piece_in Plain (Faults line refusal) = Message (table_message line refusal)
-piece_in Json (Faults line refusal) = Output (table_object line refusal)
+piece_in Plain (Faults line refusal cause) = Message (table_message line refusal (tail_text refusal cause))
+piece_in Json (Faults line refusal cause) = Output (table_object line refusal cause)
 
 -- ---- the lines of the input
 
@@ -196,15 +198,15 @@ pub record IsCheck (table : List Entry) (findings : List Finding) : Type 0 where
   pub exactly : AreGapsOf table gaps
   pub found : findings ≡ map Gap gaps ++ Counted (length table) (length gaps) ∷ []
 
--- what is said of a table; of a faulty one its fault
-abbrev pub check_statements : TableGiven → List Statement
-check_statements (Err fault) = Faults fault.0 fault.1 ∷ []
-check_statements (Ok table) = map Finds (check_findings table.entries)
+-- what is said of a table; of a faulty one its fault, with its cause, if causes are wanted
+abbrev pub check_statements : Bool → TableGiven → List Statement
+check_statements wanted (Err fault) = Faults fault.0 fault.1 (told_if wanted fault.2) ∷ []
+check_statements wanted (Ok table) = map Finds (check_findings table.entries)
 
 -- the same as it is written
-abbrev pub check_pieces : Form → TableGiven → List Piece
-check_pieces form (Err fault) = piece_in form (Faults fault.0 fault.1) ∷ []
-check_pieces form (Ok table) = outputs (finding_text form) (check_findings table.entries)
+abbrev pub check_pieces : Form → Bool → TableGiven → List Piece
+check_pieces form wanted (Err fault) = piece_in form (Faults fault.0 fault.1 (told_if wanted fault.2)) ∷ []
+check_pieces form wanted (Ok table) = outputs (finding_text form) (check_findings table.entries)
 
 -- 2 for a faulty table, 1 for one with a gap, else 0
 abbrev pub check_status : TableGiven → Status
@@ -215,12 +217,12 @@ check_status (Ok table) = status_if (not (length (gaps_of table.entries) == 0))
 
 -- what a mode says over these lines; the check of a table reads none
 abbrev pub mode_statements : Mode → Settings → TableValue → List Numbered → List Statement
-mode_statements CheckTable o table lines = check_statements (Ok table)
+mode_statements CheckTable o table lines = check_statements (tells_causes o) (Ok table)
 mode_statements mode o table lines = lines_statements (explained_in mode o table) (mode_answer mode o table) lines
 
 -- its pieces
 abbrev pub mode_pieces : Mode → Settings → TableValue → List Numbered → List Piece
-mode_pieces CheckTable o table lines = check_pieces o.form (Ok table)
+mode_pieces CheckTable o table lines = check_pieces o.form (tells_causes o) (Ok table)
 mode_pieces mode o table lines = lines_pieces o.form (explained_in mode o table) (mode_answer mode o table) lines
 
 -- 1 where a line is refused, else 0
@@ -230,12 +232,12 @@ mode_status mode o table lines = status_if (has_refused (mode_answer mode o tabl
 
 -- what a run says, in order: what its mode says, or the fault of the table
 abbrev pub statements : Settings → TableGiven → List Numbered → List Statement
-statements o (Err fault) lines = check_statements (Err fault)
+statements o (Err fault) lines = check_statements (tells_causes o) (Err fault)
 statements o (Ok table) lines = mode_statements o.mode o table lines
 
 -- the pieces of a run, in order: those of its mode, or the one of a faulty table
 abbrev pub transcript : Settings → TableGiven → List Numbered → List Piece
-transcript o (Err fault) lines = check_pieces o.form (Err fault)
+transcript o (Err fault) lines = check_pieces o.form (tells_causes o) (Err fault)
 transcript o (Ok table) lines = mode_pieces o.mode o table lines
 
 -- the status of a run

@@ -16,4 +16,5 @@ pub(crate) mod run;
 pub(crate) mod status;
 pub(crate) mod stop;
 pub(crate) mod table;
+pub(crate) mod table_cause;
 pub(crate) mod wrong_line;

@@ -27,3 +27,4 @@ pub mod EntryExactLemmas
 pub mod EntryBackLemmas
 pub mod DefinitionsTextLemmas
 pub mod LineBytes
+mod PlacedLemmas

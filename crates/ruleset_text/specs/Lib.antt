@@ -20,4 +20,8 @@ pub mod Entries
 pub mod EntryForms
 pub mod EntryText
 pub mod EntryWords
+pub mod PlacedLexemes
+pub mod EntryParts
+pub mod WrongPlaces
+pub mod LinePoints
 pub mod inner

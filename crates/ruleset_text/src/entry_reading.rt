@@ -61,7 +61,7 @@ enum Phase {
 
 /// What was read of a line: the source and the variants that are complete, and the one that isn't.
 #[derive(Drop)]
-struct EntryState {
+pub(crate) struct EntryState {
     done: Vec<Mapped>,
     current: Mapped,
     last: Option<u32>,
@@ -98,7 +98,7 @@ fn nothing(alloc: Global) -> Mapped
 /// the state is of no use any more.
 impl EntryState {
     /// Nothing was read.
-    fn new(alloc: Global) -> Self
+    pub(crate) fn new(alloc: Global) -> Self
         ensures { steps.state result ≡ steps.start }
     {
         EntryState {
@@ -109,7 +109,7 @@ impl EntryState {
         }
     }
 
-    fn step(&mut self, alloc: Global, lexeme: &[u8]) -> Result<bool, AllocError>
+    pub(crate) fn step(&mut self, alloc: Global, lexeme: &[u8]) -> Result<bool, AllocError>
         ensures { IfOk result (λ taken. steps.step (steps.state self.old) lexeme.now ≡ taken_as taken (steps.state self.new)) }
     {
         match self.phase {
@@ -276,6 +276,13 @@ impl EntryState {
         Ok(())
     }
 
+    /// Whether nothing is left open.
+    pub(crate) fn is_complete(&self) -> bool
+        ensures { result ≡ steps.is_complete self.now.phase }
+    {
+        is_complete(self.phase)
+    }
+
     /// The form, if nothing is left open.
     fn ended(self) -> Result<Option<EntryForm>, AllocError>
         ensures { IfOk result (λ found. steps.ended (steps.state self) ≡ option_map forms.entry_form found) }
@@ -308,7 +315,7 @@ fn is_complete(phase: Phase) -> bool
     matches!(phase, Phase::Point | Phase::Last | Phase::Tag | Phase::Rule)
 }
 
-fn word_of(lexeme: &[u8]) -> EntryWord
+pub(crate) fn word_of(lexeme: &[u8]) -> EntryWord
     ensures { result ≡ steps.word_of lexeme.now }
 {
     match lexeme {

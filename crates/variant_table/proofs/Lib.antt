@@ -54,3 +54,5 @@ pub mod UnblockedLemmas
 pub mod AddingLemmas
 -- What a line that defines something makes of a table.
 pub mod DefiningLemmas
+-- The first of a list that a test is true of.
+pub mod FindLemmas

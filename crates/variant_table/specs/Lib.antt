@@ -12,5 +12,6 @@ pub mod Texts
 pub mod Places
 pub mod Reading
 pub mod Faults
+pub mod FaultPlaces
 pub mod Gaps
 pub mod inner

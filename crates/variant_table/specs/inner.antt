@@ -3,3 +3,4 @@ pub mod Held
 pub mod Order
 pub mod ReadingSteps
 pub mod Examples
+pub mod PlaceSteps

@@ -2,7 +2,7 @@
 use Rattle.std.specs.Prelude.{◌≤◌, length, ⊤}
 use Rattle.std.specs.Option.{option_copied}
 use Rattle.answer_json.specs.Answers.{Answer}
-use Rattle.answer_json.specs.Details.{HasShortTexts, details_of, given_len, no_details}
+use Rattle.answer_json.specs.Details.{HasShortTexts, details_of, given_len}
 use Rattle.answer_json.specs.Inputs.{told, told_len}
 use Rattle.answer_json.specs.Objects.{looked_up, registered, decoded, variant, trailer, least, refused, gap, checked, table_fault, registered_fault}
 use Rattle.idn2_cli.specs.declared.session.object.Object.{Object}
@@ -19,7 +19,7 @@ object_told (object.BlockEnd line input count stop) = trailer line (told input) 
 object_told (object.Refused line input refusal members) = refused line (told input) refusal (details_of members)
 object_told (object.Gap source missing) = gap source.now missing.now
 object_told (object.Checked entries gaps) = checked entries gaps
-object_told (object.TableFault line refusal) = table_fault line refusal no_details
+object_told (object.TableFault line refusal members) = table_fault line refusal (details_of members)
 object_told (object.RegisteredFault line refusal members) = registered_fault line refusal (details_of members)
 
 -- there is space for its texts
@@ -32,5 +32,6 @@ HasSpace (object.Variant line u_label a_label disposition) = (length u_label.now
 HasSpace (object.BlockEnd line input count stop) = (told_len input ≤ 1024) × (given_len (option_copied stop) ≤ 252)
 HasSpace (object.Refused line input refusal members) = (told_len input ≤ 1024) × HasShortTexts (details_of members)
 HasSpace (object.Gap source missing) = (length source.now ≤ 64) × (length missing.now ≤ 64)
+HasSpace (object.TableFault line refusal members) = HasShortTexts (details_of members)
 HasSpace (object.RegisteredFault line refusal members) = HasShortTexts (details_of members)
 HasSpace _ = ⊤

@@ -18,7 +18,7 @@ use idn_text::{MAX_LINE_LEN, Refusal, decode_points, write_points};
 use std::alloc::{AllocError, Global};
 use std::str;
 use variant_list::furthest;
-use variant_table::Table;
+use variant_table::{FaultPlace, Table};
 
 /// How a mode explains what it refuses.
 #[derive(Clone, Copy)]
@@ -39,6 +39,9 @@ pub(crate) enum Explaining<'t> {
     Test,
 }
 
+/// A lexeme that is quoted, for whose bytes there is space; nothing where none is.
+pub(crate) type Quoted = ArrayVec<u8, 32>;
+
 /// Why a line is refused. Places and labels are counted from 0.
 #[derive(Drop)]
 pub(crate) enum LineCause {
@@ -56,6 +59,8 @@ pub(crate) enum LineCause {
     OfQuery(LengthCause),
     /// Where a label ends before it differs from the one before it.
     Ends(usize),
+    /// Where a line of a table has its fault, and the lexeme there, if it is quoted.
+    OfTable(FaultPlace, Quoted),
 }
 
 impl<'t> Explaining<'t> {

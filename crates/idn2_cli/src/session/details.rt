@@ -2,7 +2,8 @@
 ghost use Rattle.std.specs.Prelude.{◌≡◌, ◌≤◌, ◌+◌, ◌++◌, codes, length, option_map};
 ghost use Rattle.std.specs.Option.{option_copied};
 ghost use Rattle.answer_json.specs.Details.{HasShortTexts, details_of, given_len};
-ghost use Rattle.idn2_cli.specs.CauseDetails.{a_label_details, barring_rule, cause_details, condition_rule, context_rule, length_details, line_details, placed, told_details};
+ghost use Rattle.idn2_cli.specs.CauseDetails.{a_label_details, barring_rule, cause_details, condition_rule, context_rule, fault_place_details, length_details, line_details, placed, told_details};
+ghost use Rattle.idn2_cli.specs.CauseDetails.{at_byte as at_byte_of};
 ghost use Rattle.idn2_cli.specs.CauseTexts.{appendix_text, bidi_text};
 
 use crate::session::cause::LineCause;
@@ -11,6 +12,7 @@ use answer_json::RefusalMembers;
 use idn_cause::{ALabelCause, Cause, LengthCause};
 use idn_class::{BarringLine, Condition};
 use idn_text::Refusal;
+use variant_table::FaultPlace;
 
 /// The code point of the hyphen.
 const HYPHEN: u32 = 0x2D;
@@ -54,7 +56,39 @@ fn details_of_line<'a>(refusal: &Refusal, cause: &'a LineCause) -> RefusalMember
             members.place = Some(counted(*place));
             members
         }
+        LineCause::OfTable(place, _) => details_of_place(place),
     }
+}
+
+/// What it says of where a line of a table has its fault.
+fn details_of_place(place: &FaultPlace) -> RefusalMembers<'static>
+    ensures members { details_of result ≡ fault_place_details place.now }
+    ensures short { HasShortTexts (details_of result) }
+{
+    match place {
+        FaultPlace::Lexeme(place, _)
+        | FaultPlace::End(place)
+        | FaultPlace::Variant(place)
+        | FaultPlace::Source(place)
+        | FaultPlace::Byte(place) => at_byte(*place),
+        FaultPlace::Point(place, point)
+        | FaultPlace::InRange(place, point)
+        | FaultPlace::NinthPoint(place, point)
+        | FaultPlace::SeventeenthVariant(place, point) => {
+            let mut members = at_byte(*place);
+            members.code_point = Some(*point);
+            members
+        }
+    }
+}
+
+/// A byte of a line.
+fn at_byte(place: usize) -> RefusalMembers<'static>
+    ensures { details_of result ≡ at_byte_of place }
+{
+    let mut members = RefusalMembers::NONE;
+    members.byte = Some(counted(place));
+    members
 }
 
 /// What it says of the cause of a label's fault.

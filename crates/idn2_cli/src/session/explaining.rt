@@ -2,15 +2,16 @@
 ghost use Rattle.std.specs.Prelude.{◌≡◌, ◌≤◌, ◌<◌, ◌+◌, [], ◌∷◌, ◌++◌, codes, decimal, length};
 ghost use Rattle.arrayvec.specs.ArrayVec.{array_vec_len};
 ghost use Rattle.ruleset_text.specs.Canonical.{four_digits, hex_digit, point_text};
-ghost use Rattle.idn2_cli.specs.CauseTexts.{a_label_text, appendix_text, barring_text, bidi_text, byte_text, cause_text, code_point_text, context_text, form_text, hyphen_text, length_text, line_cause_text, name_text, place_text, separator_text};
+ghost use Rattle.idn2_cli.specs.CauseTexts.{a_label_text, appendix_text, at_byte_text, barring_text, bidi_text, byte_text, cause_text, code_point_text, context_text, fault_place_text, form_text, hyphen_text, length_text, lexeme_text, line_cause_text, name_text, place_text, separator_text};
 
 use crate::session::buffers::append;
-use crate::session::cause::LineCause;
+use crate::session::cause::{LineCause, Quoted};
 use arrayvec::ArrayVec;
 use idn_cause::{ALabelCause, Cause, LengthCause, NameCause};
 use idn_class::{BarringLine, BidiClass};
 use idn_text::Refusal;
 use itoa::{Buffer, Integer};
+use variant_table::FaultPlace;
 
 /// A message with a cause, for whose bytes there is space.
 pub(crate) type ExplainedMessage = ArrayVec<u8, 512>;
@@ -29,7 +30,94 @@ pub(crate) fn push_line_cause(text: &mut ExplainedMessage, refusal: &Refusal, ca
         LineCause::OfName(cause) => push_name_cause(text, refusal, cause),
         LineCause::OfQuery(cause) => push_length_cause(text, cause),
         LineCause::Ends(place) => push_end(text, *place),
+        LineCause::OfTable(place, quoted) => push_fault_place(text, place, quoted),
     }
+}
+
+/// Appends where a line of a table has its fault.
+#[tactic(auto, unfolding(crate::specs::CauseTexts::fault_place_text))]
+fn push_fault_place(text: &mut ExplainedMessage, place: &FaultPlace, quoted: &Quoted)
+    requires { array_vec_len text.old ≤ 128 }
+    ensures items { text.new.items ≡ text.old.items ++ fault_place_text place.now quoted.now.items }
+    ensures short { array_vec_len text.new ≤ array_vec_len text.old + 128 }
+{
+    match place {
+        FaultPlace::Lexeme(place, _) => {
+            push_lexeme(text, quoted);
+            push_at_byte(text, *place);
+        }
+        FaultPlace::End(place) => push_words_at(text, b"the line ends", *place),
+        FaultPlace::Variant(place) => push_words_at(text, b"variant", *place),
+        FaultPlace::Source(place) => push_words_at(text, b"source", *place),
+        FaultPlace::Byte(place) => push_words_at(text, b"the line goes on", *place),
+        FaultPlace::Point(place, point) => push_point_at(text, *point, b"", *place, b""),
+        FaultPlace::InRange(place, point) => {
+            push_point_at(text, *point, b" in the range", *place, b"")
+        }
+        FaultPlace::NinthPoint(place, point) => {
+            push_point_at(text, *point, b"", *place, b": code point 9")
+        }
+        FaultPlace::SeventeenthVariant(place, point) => {
+            push_point_at(text, *point, b"", *place, b": variant 17")
+        }
+    }
+}
+
+/// Appends a lexeme between single quotes, where it is quoted.
+fn push_lexeme(text: &mut ExplainedMessage, quoted: &Quoted)
+    requires { array_vec_len text.old ≤ 128 }
+    ensures items { text.new.items ≡ text.old.items ++ lexeme_text quoted.now.items }
+    ensures short { array_vec_len text.new ≤ array_vec_len text.old + 34 }
+{
+    match quoted.as_slice() {
+        [] => append(text, b"word"),
+        lexeme => {
+            append(text, b"'");
+            append(text, lexeme);
+            append(text, b"'");
+        }
+    }
+}
+
+/// Appends words, and a place of a line in bytes.
+fn push_words_at(text: &mut ExplainedMessage, words: &[u8], place: usize)
+    requires room { array_vec_len text.old ≤ 128 }
+    requires few { length words.now ≤ 16 }
+    ensures items { text.new.items ≡ text.old.items ++ (words.now ++ at_byte_text place) }
+    ensures short { array_vec_len text.new ≤ array_vec_len text.old + 80 }
+{
+    append(text, words);
+    push_at_byte(text, place);
+}
+
+/// Appends a code point and a place of a line in bytes, with words between them and after them.
+fn push_point_at(
+    text: &mut ExplainedMessage,
+    point: u32,
+    between: &[u8],
+    place: usize,
+    after: &[u8],
+)
+    requires room { array_vec_len text.old ≤ 128 }
+    requires between { length between.now ≤ 16 }
+    requires after { length after.now ≤ 16 }
+    ensures items { text.new.items ≡ text.old.items ++ (code_point_text point ++ (between.now ++ (at_byte_text place ++ after.now))) }
+    ensures short { array_vec_len text.new ≤ array_vec_len text.old + 100 }
+{
+    push_code_point(text, point);
+    append(text, between);
+    push_at_byte(text, place);
+    append(text, after);
+}
+
+/// Appends a place of a line in bytes.
+fn push_at_byte(text: &mut ExplainedMessage, place: usize)
+    requires { array_vec_len text.old ≤ 256 }
+    ensures items { text.new.items ≡ text.old.items ++ at_byte_text place }
+    ensures short { array_vec_len text.new ≤ array_vec_len text.old + 50 }
+{
+    append(text, b" at byte ");
+    push_counted(text, place);
 }
 
 /// Appends a byte and its place.

@@ -47,7 +47,7 @@ pub(crate) fn explained_message(
 
 /// The message of a line of a table.
 pub fn table_message(number: u64, refusal: &Refusal) -> Message
-    ensures { result.bytes ≡ table_message number refusal.now }
+    ensures { result.bytes ≡ table_message number refusal.now [] }
 {
     message("idn2: table line ", number, refusal)
 }

@@ -33,7 +33,7 @@ pub(crate) enum Object<'a> {
     /// How many entries and how many gaps a table has.
     Checked(u64, u64),
     /// Why a line of a table is refused.
-    TableFault(u64, Refusal),
+    TableFault(u64, Refusal, RefusalMembers<'a>),
     /// Why a line of the registered labels is refused.
     RegisteredFault(u64, Refusal, RefusalMembers<'a>),
 }
@@ -61,8 +61,8 @@ pub(crate) fn write_object(out: &mut ObjectLine, object: &Object<'_>)
         }
         Object::Gap(source, missing) => write_gap(out, source, missing),
         Object::Checked(entries, gaps) => write_checked(out, *entries, *gaps),
-        Object::TableFault(line, refusal) => {
-            write_table_fault(out, *line, *refusal, &RefusalMembers::NONE)
+        Object::TableFault(line, refusal, members) => {
+            write_table_fault(out, *line, *refusal, members)
         }
         Object::RegisteredFault(line, refusal, members) => {
             write_registered_fault(out, *line, *refusal, members)

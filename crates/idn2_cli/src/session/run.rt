@@ -145,7 +145,14 @@ fn serve_mode<R: Source, W: Sink, E: Sink>(
         }
         Mode::Variants => serve_variants(alloc, options, table, registered, input, console),
         Mode::Jump => serve_jumps(alloc, options, table, input, console),
-        Mode::CheckTable => serve_check(alloc, options.form, options.notation, table, console),
+        Mode::CheckTable => serve_check(
+            alloc,
+            options.form,
+            options.tells_causes(),
+            options.notation,
+            table,
+            console,
+        ),
     }
 }
 
@@ -166,7 +173,18 @@ fn serve_variants<R: Source, W: Sink, E: Sink>(
 {
     let table = match Table::read(alloc, options.notation, text) {
         Ok(table) => table,
-        Err(fault) => return refuse_table(options.form, fault, console),
+        Err(fault) => {
+            let wanted = options.tells_causes();
+            return refuse_table(
+                alloc,
+                options.form,
+                wanted,
+                options.notation,
+                text,
+                fault,
+                console,
+            );
+        }
     };
     let dispositions = Dispositions::of_table(&table);
     let mode = Variants {
@@ -195,7 +213,18 @@ fn serve_jumps<R: Source, W: Sink, E: Sink>(
 {
     let table = match Table::read(alloc, options.notation, text) {
         Ok(table) => table,
-        Err(fault) => return refuse_table(options.form, fault, console),
+        Err(fault) => {
+            let wanted = options.tells_causes();
+            return refuse_table(
+                alloc,
+                options.form,
+                wanted,
+                options.notation,
+                text,
+                fault,
+                console,
+            );
+        }
     };
     let mode = Jumps { table: &table };
     let explaining = Explaining::Request(&table).if_wanted(options.tells_causes());
@@ -207,17 +236,18 @@ fn serve_jumps<R: Source, W: Sink, E: Sink>(
 fn serve_check<W: Sink, E: Sink>(
     alloc: Global,
     form: Form,
+    wanted: bool,
     notation: Notation,
     text: &[u8],
     console: &mut Console<'_, '_, W, E>,
 ) -> Result<Status, Stop>
     ensures { (given : TableGiven) × IsReadAs notation text.now given
-        × Emits console.old console.new (check_pieces form given) result
+        × Emits console.old console.new (check_pieces form wanted given) result
         × IfOk result (λ status. status ≡ check_status given) }
 {
     match Table::read(alloc, notation, text) {
         Ok(table) => check_table(alloc, form, &table, console),
-        Err(fault) => refuse_table(form, fault, console),
+        Err(fault) => refuse_table(alloc, form, wanted, notation, text, fault, console),
     }
 }
 

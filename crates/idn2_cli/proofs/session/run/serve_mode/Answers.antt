@@ -5,7 +5,7 @@ use Rattle.idn_label.specs.Memory.{LooksUpWithoutMemory, RegistersWithoutMemory}
 use Rattle.idn_label.specs.Register.{register_answer}
 use Rattle.idn_label.specs.Steps.{in_utf8}
 use Rattle.std.specs.Option.{option_copied}
-use Rattle.idn2_options.specs.Settings.{Settings, keeping}
+use Rattle.idn2_options.specs.Settings.{Settings, keeping, tells_causes}
 use Rattle.idn2_cli.specs.Answers.{LineAnswer, one_answer, u_label_of}
 use Rattle.idn2_cli.specs.Said.{LookedUp, Registered, Decoded}
 use Rattle.idn2_cli.specs.inner.Emitting.{Emits}
@@ -61,7 +61,8 @@ returns-in-CheckTable g c =
     let mode = sym (ap (λ (v : Settings). v.mode) c.options.view_is) ∙ c.in-CheckTable.is in
     let k = c.serve_check.ensures in
     checked (keeping (option_copied c.args.registered) c.args.options.now) c.args.table.now k.0 _ _ _ c.serve_check.result mode (subst (λ n. IsReadAs n c.args.table.now k.0) (ap (λ (v : Settings). v.notation) c.options.view_is) k.1) c.requires.unread
-    (subst (λ (f : Form). Emits c.args.console.now c.serve_check.new.console (check_pieces f k.0) c.serve_check.result) (ap (λ (v : Settings). v.form) c.options.view_is) k.2) k.3
+    (subst (λ (f : Form). Emits c.args.console.now c.serve_check.new.console (check_pieces f (tells_causes c.args.options.now) k.0) c.serve_check.result) (ap (λ (v : Settings). v.form) c.options.view_is)
+    (subst (λ (b : Bool). Emits c.args.console.now c.serve_check.new.console (check_pieces c.options.inside.form b k.0) c.serve_check.result) c.tells_causes-in-CheckTable.ensures k.2)) k.3
 
 pub returns-in-Jump : goal.returns-in-Jump
 returns-in-Jump g c =

@@ -17,7 +17,7 @@ use Rattle.idn2_cli.proofs.session.run.serve_variants.Goals as goal
 pub returns-in-Err : goal.returns-in-Err
 returns-in-Err g c =
     refused_lines (keeping (option_copied c.args.registered) c.args.options.now) Variants (lists_by_table (keeping (option_copied c.args.registered) c.args.options.now) c.requires.mode) c.args.text.now _ c.in-Err.fault _ _ c.refuse_table.result c.requires.unread (subst (λ n. IsToldOf n c.args.text.now c.in-Err.fault) (ap (λ (v : Settings). v.notation) c.options.view_is) c.in-Err.ensures.fault)
-    (in_form c.args.text.now c.in-Err.fault _ _ _ _ c.refuse_table.result (ap (λ (v : Settings). v.form) c.options.view_is) c.refuse_table.ensures.told) c.refuse_table.ensures.status
+    (in_form c.args.text.now c.in-Err.fault _ _ _ _ _ _ _ _ c.refuse_table.result (ap (λ (v : Settings). v.form) c.options.view_is) c.tells_causes-wanted.ensures (ap (λ (v : Settings). v.notation) c.options.view_is) c.refuse_table.ensures.told) c.refuse_table.ensures.status
 
 pub returns : goal.returns
 returns g c =

@@ -1,0 +1,22 @@
+-- The parts that entries and ranges of a version may have, and the entries and ranges that have no others.
+use Rattle.std.specs.Prelude.{ℕ, Bool, true, false, ◌||◌, ◌&&◌, not, is_some, List, [], ◌∷◌}
+use Rattle.std.specs.List.{list_all}
+use Rattle.ruleset_text.specs.declared.entry_place.EntryParts.{EntryParts}
+use Rattle.ruleset_text.specs.Entries.{Mapped, EntryForm}
+
+abbrev pub has_tags : List (List ℕ) → Bool
+has_tags [] = false
+has_tags (tag ∷ tags) = true
+
+-- neither tags nor a condition, and '!' only where it may stand
+abbrev pub is_within : Bool → Mapped → Bool
+is_within may_be_marked m = not (has_tags m.tags) && not (is_some m.condition) && (may_be_marked || not m.marked)
+
+-- a source and its variants
+abbrev pub are_within : EntryParts → List Mapped → Bool
+are_within parts [] = true
+are_within parts (source ∷ variants) = is_within parts.outside source && list_all (is_within parts.blocked) variants
+
+-- the entry or the range has no other parts
+abbrev pub has_parts : EntryParts → EntryForm → Bool
+has_parts parts form = are_within parts form.mapped && (parts.ranges || not (is_some form.last))

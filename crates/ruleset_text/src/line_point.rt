@@ -1,0 +1,85 @@
+//! The code points that a line of an entry or of a range names, with their places.
+ghost use Rattle.std.specs.Prelude.{◌≡◌, ◌+◌, ◌<◌, ◌≤◌, ◌^◌, ◌∷◌, ◌++◌, List, IfOk, OnOk};
+ghost use Rattle.ruleset_text.specs.LinePoints.{is_separator as is_separator_of, line_points as line_points_of, points_from};
+ghost use Rattle.ruleset_text.specs.PlacedLexemes.{Placed};
+
+use crate::placed::next_placed;
+use crate::tokens::without_prefix;
+use idn_text::hex_point;
+use std::alloc::{AllocError, Global};
+
+/// A code point that a line names. All is counted from 0.
+#[derive(Clone, Copy, Debug, PartialEq, Eq)]
+pub struct LinePoint {
+    /// The first byte of the lexeme that names it.
+    pub place: usize,
+    pub point: u32,
+    /// The number of its sequence in the line. That of the source is 0.
+    pub sequence: usize,
+    /// Its number in the sequence.
+    pub index: usize,
+}
+
+/// The code points of a line, in its order.
+pub fn line_points(alloc: Global, line: &[u8]) -> Result<Vec<LinePoint>, AllocError>
+    ensures { IfOk result (λ points. points.items ≡ line_points_of line.now) }
+{
+    let mut taken = Taken {
+        points: Vec::new(alloc),
+        sequence: 0,
+        index: 0,
+    };
+    let mut before = 0;
+    let mut rest = line;
+    while let Some((place, lexeme, others)) = next_placed(before, rest) {
+        taken.take(place, lexeme)?;
+        before = place + lexeme.len();
+        rest = others;
+    }
+    Ok(taken.points)
+}
+
+/// The code points that were read so far, how many sequences stand before that which is being read, and how many code points
+/// of this one were read.
+#[derive(Drop)]
+struct Taken {
+    points: Vec<LinePoint>,
+    sequence: usize,
+    index: usize,
+}
+
+impl Taken {
+    /// Takes the lexeme at a place.
+    fn take(&mut self, place: usize, lexeme: &[u8]) -> Result<(), AllocError>
+        requires sequence { self.old.sequence < 2 ^ 63 }
+        requires index { self.old.index < 2 ^ 63 }
+        ensures taken { OnOk result ((ws : List Placed) → self.new.points.items ++ points_from self.new.sequence self.new.index ws
+            ≡ self.old.points.items ++ points_from self.old.sequence self.old.index (record { place = place; lexeme = lexeme.now } ∷ ws)) }
+        ensures sequence { self.new.sequence ≤ self.old.sequence + 1 }
+        ensures index { self.new.index ≤ self.old.index + 1 }
+    {
+        if is_separator(lexeme) {
+            self.sequence += 1;
+            self.index = 0;
+            return Ok(());
+        }
+        let Some(point) = hex_point(without_prefix(lexeme)) else {
+            return Ok(());
+        };
+        self.points.push(LinePoint {
+            place,
+            point,
+            sequence: self.sequence,
+            index: self.index,
+        })?;
+        self.index += 1;
+        Ok(())
+    }
+}
+
+/// Whether a lexeme is `|` or `:`, behind which a further sequence begins.
+fn is_separator(lexeme: &[u8]) -> bool
+    ensures { result ≡ is_separator_of lexeme.now }
+{
+    matches!(lexeme, b"|" | b":")
+}
