@@ -44,10 +44,10 @@ pub(crate) fn put_input(out: &mut ObjectLine, input: &Input)
     ensures space { array_vec_len out.new ≤ array_vec_len out.old + 6200 }
 {
     match input {
-        Input::Text(text) => put_text(out, b',', "input", text),
-        Input::Octets(octets) => put_octets(out, "input_hex", octets),
+        Input::Text(text) => put_text(out, ",\"input\":", text),
+        Input::Octets(octets) => put_octets(out, ",\"input_hex\":", octets),
         Input::NotKept => {
-            put_null(out, "input");
+            put_null(out, ",\"input\":");
         }
     }
 }
