@@ -4,6 +4,8 @@ pub mod Members
 pub mod OneLine
 -- Texts of which each byte stands as it is.
 pub mod Plain
+-- The same, window by window.
+pub mod Windows
 -- What the laws of answers need.
 pub mod Written
 -- What is written of UTF-8 is UTF-8.

@@ -1,11 +1,12 @@
 -- Texts of which each byte stands as it is.
-use Rattle.std.proofs.Common.{◌≡◌, ℕ, ◌<◌, ◌/◌, ◌%◌, nat_lt, cond, Bool, true, false, not, ◌&&◌, ◌==◌, nat_le, List, [], ◌∷◌, ◌++◌, refl, sym, ap, ap₂, ◌∙◌, append_assoc, arith}
+use Rattle.std.proofs.Common.{◌≡◌, ℕ, ◌<◌, ◌/◌, ◌%◌, nat_lt, cond, Bool, true, false, not, ◌&&◌, ◌==◌, nat_le, List, [], ◌∷◌, ◌++◌, refl, sym, ap, ap₂, ◌∙◌, append_assoc, arith, slice_index}
 use Rattle.std.proofs.lemmas.List.Folds.{list_all-append}
 use Rattle.std.proofs.lemmas.Bool.{and_parts, and_from}
 use Rattle.std.proofs.lemmas.Bool.Decides.{nat_tests}
 use Rattle.json.specs.Print.{escape, escape_byte, quoted}
 use Rattle.json.proofs.Printed.Strings.{escape_byte_plain}
 use Rattle.answer_json.specs.Hexadecimal.{hex_digit, hex_of, hex_of_byte, leading_digit, four_digits, point_text}
+use Rattle.answer_json.specs.inner.Openings.{IsOpening, name_in}
 use Rattle.answer_json.specs.inner.Texts.{is_plain, is_plain_byte}
 
 plain_byte : (byte : ℕ) → is_plain_byte byte ≡ true → escape_byte byte ≡ byte ∷ []
@@ -20,10 +21,12 @@ escape_plain (byte ∷ text) h =
     let parts = and_parts (is_plain_byte byte) (is_plain text) h in
     ap₂ (λ (a b : List ℕ). a ++ b) (plain_byte byte parts.0) (escape_plain text parts.1)
 
--- a name in its quotes, and a colon, a piece at a time
-pub name_put : (old name : List ℕ) (before : ℕ) → escape name ≡ name
-    → ((((old ++ before ∷ []) ++ 34 ∷ []) ++ name) ++ 34 ∷ []) ++ 58 ∷ [] ≡ old ++ before ∷ (quoted name ++ 58 ∷ [])
-name_put old name before e = simp append_assoc (ap (λ l. old ++ before ∷ 34 ∷ (l ++ 34 ∷ 58 ∷ [])) (sym e))
+-- what a member begins with, as it is written of its name
+pub opening_text : (opening : List ℕ) → IsOpening opening → opening ≡ slice_index opening 0 ∷ (quoted (name_in opening) ++ 58 ∷ [])
+opening_text opening h =
+    let name = name_in opening in
+    h.text ∙ ap (λ l. slice_index opening 0 ∷ 34 ∷ l)
+    (ap (λ l. l ++ 34 ∷ 58 ∷ []) (sym (escape_plain name h.plain)) ∙ sym (append_assoc (escape name) (34 ∷ []) (58 ∷ [])))
 
 -- a text in quotes, a piece at a time
 pub text_put : (old name bytes : List ℕ) (before : ℕ) → escape bytes ≡ bytes

@@ -19,7 +19,7 @@ pub fn write_looked_up(out: &mut ObjectLine, line: u64, input: &Input, ascii: &[
     ensures { out.new.items ≡ line_of (looked_up line (told input.now) ascii.now) }
 {
     begin_line(out, line, input);
-    put_text(out, b',', "ascii", ascii);
+    put_text(out, ",\"ascii\":", ascii);
     end_line(out);
 }
 
@@ -38,8 +38,8 @@ pub fn write_registered(
     ensures { out.new.items ≡ line_of (registered line (told input.now) u_label.now a_label.now) }
 {
     begin_line(out, line, input);
-    put_text(out, b',', "ulabel", u_label);
-    put_text(out, b',', "alabel", a_label);
+    put_text(out, ",\"ulabel\":", u_label);
+    put_text(out, ",\"alabel\":", a_label);
     end_line(out);
 }
 
@@ -50,7 +50,7 @@ pub fn write_decoded(out: &mut ObjectLine, line: u64, input: &Input, unicode: &[
     ensures { out.new.items ≡ line_of (decoded line (told input.now) unicode.now) }
 {
     begin_line(out, line, input);
-    put_text(out, b',', "unicode", unicode);
+    put_text(out, ",\"unicode\":", unicode);
     end_line(out);
 }
 
@@ -74,7 +74,7 @@ fn put_least(out: &mut ObjectLine, label: Option<&[u8]>)
     ensures space { array_vec_len out.new ≤ array_vec_len out.old + 1600 }
 {
     match label {
-        Some(label) => put_text(out, b',', "ulabel", label),
-        None => put_null(out, "ulabel"),
+        Some(label) => put_text(out, ",\"ulabel\":", label),
+        None => put_null(out, ",\"ulabel\":"),
     }
 }

@@ -48,9 +48,9 @@ pub fn write_variant(
     ensures { out.new.items ≡ line_of (variant line u_label.now a_label.now disposition) }
 {
     out.clear();
-    put_number(out, b'{', "line", line);
-    put_text(out, b',', "ulabel", u_label);
-    put_text(out, b',', "alabel", a_label);
+    put_number(out, "{\"line\":", line);
+    put_text(out, ",\"ulabel\":", u_label);
+    put_text(out, ",\"alabel\":", a_label);
     put_disposition(out, disposition);
     end_line(out);
 }
@@ -64,7 +64,7 @@ fn put_disposition(out: &mut ObjectLine, disposition: Option<Disposition>)
     ensures space { array_vec_len out.new ≤ array_vec_len out.old + 100 }
 {
     if let Some(disposition) = disposition {
-        put_text(out, b',', "disposition", disposition.text().as_bytes());
+        put_text(out, ",\"disposition\":", disposition.text().as_bytes());
     }
 }
 
@@ -82,7 +82,7 @@ pub fn write_trailer(
     ensures { out.new.items ≡ line_of (trailer line (told input.now) count (option_copied stop.entry)) }
 {
     begin_line(out, line, input);
-    put_number(out, b',', "count", count);
+    put_number(out, ",\"count\":", count);
     put_end(out, stop);
     end_line(out);
 }
@@ -94,8 +94,8 @@ fn put_end(out: &mut ObjectLine, stop: Option<&[u8]>)
     ensures fields { out.new.items ≡ out.old.items ++ fields_text (end_fields (option_copied stop.entry)) [] }
     ensures space { array_vec_len out.new ≤ array_vec_len out.old + 1600 }
 {
-    put_flag(out, "complete", stop.is_none());
+    put_flag(out, ",\"complete\":", stop.is_none());
     if let Some(label) = stop {
-        put_text(out, b',', "after", label);
+        put_text(out, ",\"after\":", label);
     }
 }

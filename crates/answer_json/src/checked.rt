@@ -14,8 +14,8 @@ pub fn write_gap(out: &mut ObjectLine, source: &[u8], missing: &[u8])
     ensures { out.new.items ≡ line_of (gap source.now missing.now) }
 {
     out.clear();
-    put_text(out, b'{', "source", source);
-    put_text(out, b',', "missing", missing);
+    put_text(out, "{\"source\":", source);
+    put_text(out, ",\"missing\":", missing);
     end_line(out);
 }
 
@@ -25,7 +25,7 @@ pub fn write_checked(out: &mut ObjectLine, entries: u64, gaps: u64)
     ensures { out.new.items ≡ line_of (checked entries gaps) }
 {
     out.clear();
-    put_number(out, b'{', "entries", entries);
-    put_number(out, b',', "gaps", gaps);
+    put_number(out, "{\"entries\":", entries);
+    put_number(out, ",\"gaps\":", gaps);
     end_line(out);
 }

@@ -15,7 +15,7 @@ pub(crate) fn begin_line(out: &mut ObjectLine, line: u64, input: &Input)
     ensures space { array_vec_len out.new ≤ 6240 }
 {
     out.clear();
-    put_number(out, b'{', "line", line);
+    put_number(out, "{\"line\":", line);
     put_input(out, input);
 }
 

@@ -1,11 +1,14 @@
 //! Texts as strings of JSON (RFC 8259, section 7), in a buffer of a fixed size.
-ghost use Rattle.std.specs.Prelude.{◌≡◌, ◌≤◌, ◌+◌, ◌*◌, ◌++◌, length};
+ghost use Rattle.std.specs.Prelude.{◌≡◌, ◌≤◌, ◌<◌, ◌+◌, ◌*◌, ◌++◌, length};
 ghost use Rattle.std.specs.Char.{digit_char};
 ghost use Rattle.arrayvec.specs.ArrayVec.{array_vec_len};
 ghost use Rattle.json.specs.Print.{escape, escape_byte};
 ghost use Rattle.answer_json.specs.inner.Texts.{is_plain, is_plain_byte};
 
 use arrayvec::ArrayVec;
+
+/// How many bytes are looked at at once.
+const WINDOW_LEN: usize = 16;
 
 /// Appends a text, for which there is space, with the shortest escape of each byte that needs one: the quotation mark, the
 /// backslash, and what is below the space.
@@ -23,9 +26,52 @@ pub fn append_escaped<const N: usize>(out: &mut ArrayVec<u8, N>, text: &[u8])
     }
 }
 
-/// Whether each byte of a text stands as it is. To look at all of them takes less time than to end at the first that
-/// doesn't, since the compiler then takes many at once.
+/// Whether each byte of a text stands as it is. Windows of one length are looked at, the last of which may share bytes with the
+/// one before it: all bytes of a window are looked at at once.
 fn is_plain(text: &[u8]) -> bool
+    ensures { result ≡ is_plain text.now }
+{
+    if text.len() < WINDOW_LEN {
+        return is_plain_if_short(text);
+    }
+    let last = text.len() - WINDOW_LEN;
+    let mut at = 0;
+    while at < last {
+        if !each_is_plain(&text[at..at + WINDOW_LEN]) {
+            return false;
+        }
+        at += WINDOW_LEN;
+    }
+    each_is_plain(&text[last..])
+}
+
+/// The same of a text that is shorter than a window.
+fn is_plain_if_short(text: &[u8]) -> bool
+    requires { length text.now < WINDOW_LEN }
+    ensures { result ≡ is_plain text.now }
+{
+    if text.len() >= WINDOW_LEN / 2 {
+        ends_are_plain(text, WINDOW_LEN / 2)
+    } else if text.len() >= WINDOW_LEN / 4 {
+        ends_are_plain(text, WINDOW_LEN / 4)
+    } else {
+        each_is_plain(text)
+    }
+}
+
+/// The same of a text that its first and its last bytes, so many of each, are all of.
+#[inline(always)]
+fn ends_are_plain(text: &[u8], count: usize) -> bool
+    requires shorter { count ≤ length text.now }
+    requires all { length text.now ≤ 2 * count }
+    ensures { result ≡ is_plain text.now }
+{
+    each_is_plain(&text[..count]) & each_is_plain(&text[text.len() - count..])
+}
+
+/// The same, byte by byte. Where the length is known, the compiler takes all bytes at once.
+#[inline(always)]
+fn each_is_plain(text: &[u8]) -> bool
     ensures { result ≡ is_plain text.now }
 {
     let mut plain = true;

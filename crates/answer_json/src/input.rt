@@ -19,8 +19,18 @@ pub enum Input<'a> {
 }
 
 impl<'a> Input<'a> {
-    ghost use Rattle.std.specs.Prelude.{◌≡◌, length, Some};
+    ghost use Rattle.std.specs.Prelude.{◌≡◌, length, IsUtf8, Some};
     ghost use Rattle.answer_json.specs.Inputs.{told, told_len, told_of};
+
+    /// A line that is UTF-8.
+    #[tactic(auto, using(crate::proofs::Told::told_text))]
+    pub fn of_utf8(line: &'a [u8]) -> Self
+        requires { IsUtf8 line.now }
+        ensures told { told result ≡ told_of (Some line.now) }
+        ensures len { told_len result ≡ length line.now }
+    {
+        Input::Text(line)
+    }
 
     /// A line of which the bytes are kept.
     #[tactic(auto, using(crate::proofs::Told::told_text, crate::proofs::Told::told_octets))]
@@ -44,10 +54,10 @@ pub(crate) fn put_input(out: &mut ObjectLine, input: &Input)
     ensures space { array_vec_len out.new ≤ array_vec_len out.old + 6200 }
 {
     match input {
-        Input::Text(text) => put_text(out, b',', "input", text),
-        Input::Octets(octets) => put_octets(out, "input_hex", octets),
+        Input::Text(text) => put_text(out, ",\"input\":", text),
+        Input::Octets(octets) => put_octets(out, ",\"input_hex\":", octets),
         Input::NotKept => {
-            put_null(out, "input");
+            put_null(out, ",\"input\":");
         }
     }
 }

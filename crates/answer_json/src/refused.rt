@@ -10,7 +10,7 @@ ghost use Rattle.answer_json.specs.inner.Texts.{refusal_text};
 use crate::details::{put_lengths, put_rule, put_where};
 use crate::ends::{begin_line, end_line};
 use crate::input::Input;
-use crate::member::{MAX_OBJECT_LEN, ObjectLine, put_name, put_number, put_text};
+use crate::member::{MAX_OBJECT_LEN, ObjectLine, put_number, put_opening, put_text};
 use crate::refusal_members::RefusalMembers;
 use idn_text::Refusal;
 
@@ -42,7 +42,7 @@ pub fn write_table_fault(
     ensures { out.new.items ≡ line_of (table_fault line refusal (details_of members.now)) }
 {
     out.clear();
-    put_number(out, b'{', "table_line", line);
+    put_number(out, "{\"table_line\":", line);
     put_refusal(out, refusal, members);
     end_line(out);
 }
@@ -58,7 +58,7 @@ pub fn write_registered_fault(
     ensures { out.new.items ≡ line_of (registered_fault line refusal (details_of members.now)) }
 {
     out.clear();
-    put_number(out, b'{', "registered_line", line);
+    put_number(out, "{\"registered_line\":", line);
     put_refusal(out, refusal, members);
     end_line(out);
 }
@@ -70,9 +70,9 @@ fn put_refusal(out: &mut ObjectLine, refusal: Refusal, members: &RefusalMembers)
     ensures object { out.new.items ≡ out.old.items ++ refusal_text (Some (refusal_fields refusal (details_of members.now))) [] }
     ensures space { array_vec_len out.new ≤ array_vec_len out.old + 4096 }
 {
-    put_name(out, b',', "refusal");
-    put_number(out, b'{', "number", refusal.number() as u64);
-    put_text(out, b',', "text", refusal.text().as_bytes());
+    put_opening(out, ",\"refusal\":");
+    put_number(out, "{\"number\":", refusal.number() as u64);
+    put_text(out, ",\"text\":", refusal.text().as_bytes());
     put_where(out, members);
     put_rule(out, members);
     put_lengths(out, members);

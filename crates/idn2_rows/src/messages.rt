@@ -176,6 +176,23 @@ fn causes_of_registered_labels(rt: HostRuntime) -> Result<(), Fail> {
             message: "",
             status: 2,
         },
+        // Objects have their causes with `--explain` and without it.
+        Unread {
+            words: &["-r", "--json"],
+            text: b"hausboot\nhaus",
+            fault: refused(2, Refusal::OutOfOrder),
+            output: "{\"registered_line\":2,\"refusal\":{\"number\":4,\"text\":\"out of order\",\"place\":5}}\n",
+            message: "",
+            status: 2,
+        },
+        Unread {
+            words: &["-r", "--json", "--explain"],
+            text: b"hausboot\nhaus",
+            fault: refused(2, Refusal::OutOfOrder),
+            output: "{\"registered_line\":2,\"refusal\":{\"number\":4,\"text\":\"out of order\",\"place\":5}}\n",
+            message: "",
+            status: 2,
+        },
     ] {
         tells_of_file(&rt, rt.alloc(), &unread)?;
     }

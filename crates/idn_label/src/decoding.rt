@@ -1,5 +1,5 @@
 //! Decoding of the A-labels of a name (RFC 5891 section 5.3).
-ghost use Rattle.std.specs.Prelude.{◌≡◌, ◌<◌, ◌≤◌, ℕ, List, length, Ok};
+ghost use Rattle.std.specs.Prelude.{◌≡◌, ◌<◌, ◌≤◌, ℕ, List, length, IfOk, Ok};
 ghost use Rattle.idn_label.specs.ALabel.{a_label_of};
 ghost use Rattle.idn_label.specs.Answers.{Gives};
 ghost use Rattle.idn_label.specs.Decode.{decode_answer};
@@ -19,6 +19,7 @@ use std::alloc::Global;
 pub fn decode_name(alloc: Global, name: &[u32]) -> Result<Vec<u32>, Refusal>
     requires { length name.now ≤ MAX_LINE_LEN }
     ensures answer { Gives (λ decoded. decoded.items) result (decode_answer name.now) }
+    ensures shorter { IfOk result (λ decoded. length decoded.items ≤ length name.now) }
 
     // The A-label of a label that may be registered is decoded to that label.
     ensures back { (registered : List ℕ) → IsRegistrable registered → name.now ≡ a_label_of registered

@@ -16,11 +16,11 @@ object_told (object.Decoded line input unicode) = decoded line (told input) unic
 object_told (object.Least line input label) = least line (told input) (option_copied label)
 object_told (object.Variant line u_label a_label disposition) = variant line u_label.now a_label.now disposition
 object_told (object.BlockEnd line input count stop) = trailer line (told input) count (option_copied stop)
-object_told (object.Refused line input refusal members) = refused line (told input) refusal (details_of members)
+object_told (object.Refused line input refusal members) = refused line (told input) refusal (details_of members.now)
 object_told (object.Gap source missing) = gap source.now missing.now
 object_told (object.Checked entries gaps) = checked entries gaps
-object_told (object.TableFault line refusal members) = table_fault line refusal (details_of members)
-object_told (object.RegisteredFault line refusal members) = registered_fault line refusal (details_of members)
+object_told (object.TableFault line refusal members) = table_fault line refusal (details_of members.now)
+object_told (object.RegisteredFault line refusal members) = registered_fault line refusal (details_of members.now)
 
 -- there is space for its texts
 abbrev pub HasSpace : Object → Type 0
@@ -30,8 +30,8 @@ HasSpace (object.Decoded line input unicode) = (told_len input ≤ 1024) × (len
 HasSpace (object.Least line input label) = (told_len input ≤ 1024) × (given_len (option_copied label) ≤ 252)
 HasSpace (object.Variant line u_label a_label disposition) = (length u_label.now ≤ 252) × (length a_label.now ≤ 63)
 HasSpace (object.BlockEnd line input count stop) = (told_len input ≤ 1024) × (given_len (option_copied stop) ≤ 252)
-HasSpace (object.Refused line input refusal members) = (told_len input ≤ 1024) × HasShortTexts (details_of members)
+HasSpace (object.Refused line input refusal members) = (told_len input ≤ 1024) × HasShortTexts (details_of members.now)
 HasSpace (object.Gap source missing) = (length source.now ≤ 64) × (length missing.now ≤ 64)
-HasSpace (object.TableFault line refusal members) = HasShortTexts (details_of members)
-HasSpace (object.RegisteredFault line refusal members) = HasShortTexts (details_of members)
+HasSpace (object.TableFault line refusal members) = HasShortTexts (details_of members.now)
+HasSpace (object.RegisteredFault line refusal members) = HasShortTexts (details_of members.now)
 HasSpace _ = ⊤

@@ -108,10 +108,6 @@ fn line_of(alloc: Global, name: &[u32]) -> Result<String, Refusal>
     let mut line = String::with_capacity(alloc, 4 * name.len() + 1)?;
     push_points(decoded.as_slice(), &mut line)?;
     line.push('\n')?;
-    // No label is longer decoded than it was, so this is never so.
-    if line.len() > MAX_ANSWER_LEN {
-        return Err(Refusal::Memory);
-    }
     Ok(line)
 }
 

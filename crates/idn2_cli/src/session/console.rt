@@ -53,13 +53,16 @@ impl<'o, 'm, W: Sink, E: Sink> Console<'o, 'm, W, E> {
     }
 
     /// Writes an object to the output. It takes no memory.
+    ///
+    /// Always inline, so that no object is made to be taken apart again.
+    #[inline(always)]
     pub fn object(&mut self, object: &Object<'_>) -> Result<(), Stop>
         requires { HasSpace object.now }
         ensures written { Emits self.old self.new (pieces.Output (line_of (object_told object.now)) ∷ []) result }
         ensures why { IfErr result (λ why. why ≡ stop.Output) }
     {
         write_object(&mut self.room, object);
-        match write_answer(self.output, self.room.as_slice()) {
+        match write_line(self.output, self.room.as_slice()) {
             Ok(()) => Ok(()),
             Err(_fault) => Err(Stop::Output),
         }
@@ -75,6 +78,15 @@ impl<'o, 'm, W: Sink, E: Sink> Console<'o, 'm, W, E> {
             Err(_fault) => Err(Stop::Messages),
         }
     }
+}
+
+/// Writes the line of an object to the output.
+#[inline(never)]
+fn write_line<W: Sink>(output: &mut W, line: &[u8]) -> Result<(), WriteFault>
+    ensures whole { OnOk result (TakesWhole (W.state output.old) (W.state output.new) line.now) }
+    ensures part { IfErr result (λ fault. TakesPart (W.state output.old) (W.state output.new) line.now fault.taken) }
+{
+    write_answer(output, line)
 }
 
 /// Writes a text whole to the output. Texts and objects go through it, so that `write_text` has one caller for the output, and

@@ -27,18 +27,21 @@ pub(crate) enum Object<'a> {
     /// How many variants a block lists, and where it stops if there may be more.
     BlockEnd(u64, Input<'a>, u64, Option<&'a [u8]>),
     /// Why a line is refused.
-    Refused(u64, Input<'a>, Refusal, RefusalMembers<'a>),
+    Refused(u64, Input<'a>, Refusal, &'a RefusalMembers<'a>),
     /// Two sequences that a table lacks as a pair.
     Gap(&'a [u8], &'a [u8]),
     /// How many entries and how many gaps a table has.
     Checked(u64, u64),
     /// Why a line of a table is refused.
-    TableFault(u64, Refusal, RefusalMembers<'a>),
+    TableFault(u64, Refusal, &'a RefusalMembers<'a>),
     /// Why a line of the registered labels is refused.
-    RegisteredFault(u64, Refusal, RefusalMembers<'a>),
+    RegisteredFault(u64, Refusal, &'a RefusalMembers<'a>),
 }
 
 /// Writes an object and a line feed in place of what was in `out`.
+///
+/// Always inline: where it is called, the kind of the object is known.
+#[inline(always)]
 pub(crate) fn write_object(out: &mut ObjectLine, object: &Object<'_>)
     requires { HasSpace object.now }
     ensures { out.new.items ≡ line_of (object_told object.now) }

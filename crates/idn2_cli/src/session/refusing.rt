@@ -142,7 +142,7 @@ fn tell_object<W: Sink, E: Sink>(
     ensures why { IfErr result (λ why. why ≡ stop.Output) }
 {
     let members = details_of_refusal(&refusal, cause);
-    console.object(&Object::Refused(number, input_of(text), refusal, members))
+    console.object(&Object::Refused(number, input_of(text), refusal, &members))
 }
 
 /// A line of input, of which the bytes may not be kept.

@@ -87,7 +87,7 @@ fn tell_wrong_line<W: Sink, E: Sink>(
             let members = details_of_refusal(refusal, cause);
             write_object(
                 &mut object,
-                &Object::RegisteredFault(line, *refusal, members),
+                &Object::RegisteredFault(line, *refusal, &members),
             );
             match write_text(out, object.as_slice()) {
                 Ok(()) => Status::Unusable,

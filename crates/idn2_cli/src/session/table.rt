@@ -60,7 +60,7 @@ fn write_fault<W: Sink, E: Sink>(
         Form::Plain => write_message(line, &refusal, cause, console),
         Form::Json => {
             let members = details_of_refusal(&refusal, cause);
-            console.object(&Object::TableFault(line, refusal, members))
+            console.object(&Object::TableFault(line, refusal, &members))
         }
     }
 }

@@ -13,12 +13,12 @@ returns-clause-object c =
     let old = c.args.out.now.items in
     let number : Field = (codes "number", count (refusal_number c.args.refusal)) in
     let told : Field = (codes "text", text (text_of_refusal c.args.refusal)) in
-    let e : c.put_number.new.out.items ≡ c.put_name.new.out.items ++ 123 ∷ field_text number = cc in
+    let e : c.put_number.new.out.items ≡ c.put_opening.new.out.items ++ 123 ∷ field_text number = cc in
     let f : c.put_text.new.out.items ≡ c.put_number.new.out.items ++ 44 ∷ field_text told = cc in
-    let begun = with_one told (first c.put_name.new.out.items number _ e) f in
+    let begun = with_one told (first c.put_opening.new.out.items number _ e) f in
     let all =
     with_all (length_fields details) (with_all (rule_fields details) (with_all (where_fields details) begun c.put_where.ensures.fields) c.put_rule.ensures.fields)
     c.put_lengths.ensures.fields in
     let object = object_text (refusal_fields c.args.refusal details) [] in
-    c.push.ensures.items ∙ closed all ∙ ap (λ l. l ++ object) c.put_name.ensures.name
+    c.push.ensures.items ∙ closed all ∙ ap (λ l. l ++ object) c.put_opening.ensures.name
     ∙ append_assoc old (44 ∷ (quoted (codes "refusal") ++ 58 ∷ [])) object ∙ ap (λ l. old ++ 44 ∷ l) (append_assoc (quoted (codes "refusal")) (58 ∷ []) object)

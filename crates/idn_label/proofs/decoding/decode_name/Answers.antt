@@ -1,4 +1,5 @@
-use Rattle.std.proofs.Common.{◌≡◌, ◌+◌, drop, slice_range, Ok, refl, sym, ap, ◌∙◌, arith}
+use Rattle.std.proofs.Common.{◌≡◌, ◌≤◌, ◌+◌, ◌-◌, length, drop, slice_range, Ok, refl, sym, ap, ◌∙◌, arith}
+use Rattle.std.proofs.lemmas.Grind.{common_steps}
 use Rattle.std.proofs.lemmas.Result.{err_from_is_err_and}
 use Rattle.idn_label.specs.Decode.{decoded_label, decode_answer}
 use Rattle.idn_label.proofs.ALabels.{decode_answer-a_label}
@@ -54,4 +55,11 @@ labels-preserved c =
           ∙ turn_more c.labels.decoded.items _ _ (decode_answer others) (ap (appended c.labels.decoded.items) is ∙ ap Ok (sym c.in_ok-extend_from_slice.ensures.items))
           ∙ ap (λ front. appended front (decode_answer others)) (sym c.in_ok-push.ensures.items),
       omega (arith, c.label_end-end.ensures.within, c.if-end-name.false),
+      let fits : length c.if-has_ace_prefix_in_any_case.label.now ≤ c.label_end-end.result - c.labels.start =
+          elim c.if-has_ace_prefix_in_any_case.branch [
+            | then-has_ace_prefix_in_any_case+in_ok-u_label_in_any_case w ↦
+                rw (w.label-is, w.as_slice-label.ensures.value) (grind (arith, common_steps, w.in_ok-u_label_in_any_case.ensures.shorter))
+            | else-has_ace_prefix_in_any_case w ↦ rw w.label-is (grind (arith, common_steps))
+          ] in
+          grind (arith, common_steps, fits, c.label_end-end.ensures.order, c.in_ok-push.ensures.items, c.in_ok-extend_from_slice.ensures.items, c.labels.invariant.2),
     )

@@ -5,6 +5,7 @@ use Rattle.idn_label.proofs.decoding.decode_name.Given as goal
 
 abbrev pub invariant-labels : goal.invariant-labels
 invariant-labels l = (decode_answer l.name ≡ appended l.decoded.items (decode_answer (drop l.start l.name))) × (l.start ≤ length l.name)
+    × (length l.decoded.items ≤ l.start)
 
 abbrev pub decreases-labels : goal.decreases-labels
 decreases-labels l = length l.name - l.start

@@ -6,8 +6,8 @@ use Rattle.idn2_cli.proofs.session.console.Console.object.Goals.{in-Ok, in-Err}
 
 pub returns-clause-written : goal.returns-clause-written
 returns-clause-written g c =
-    emits_as _ _ Output _ _ c.match-write_answer.result (c.as_slice.ensures.value ∙ c.write_object.ensures)
-    (rw (← c.self.view_is) (elim c.match-write_answer.branch [
+    emits_as _ _ Output _ _ c.match-write_line.result (c.as_slice.ensures.value ∙ c.write_object.ensures)
+    (rw (← c.self.view_is) (elim c.match-write_line.branch [
       | in-Ok w ↦ rw w.result-is (writes_output _ _ c.as_slice.result.now w.in-Ok.ensures.whole)
       | in-Err w ↦ rw w.result-is (stops_output _ _ c.as_slice.result.now w.in-Err._fault.taken w.in-Err.ensures.part)
     ]))
