@@ -114,6 +114,8 @@ form_place (tables.SameVariant number) (Some form) points = variant_place form p
 form_place (tables.SameSource number) (Some form) points = source_place points
 form_place (tables.Limit number) (Some form) points = limit_place points
 form_place (tables.Syntax number) (Some form) points = None
+form_place (tables.NoSuchName number) (Some form) points = None
+form_place (tables.SameName number) (Some form) points = None
 form_place tables.Memory (Some form) points = None
 
 abbrev pub entry_place : TableFault → List ℕ → Option FaultPlace
@@ -134,6 +136,8 @@ line_number (tables.SameSource line) = Some line
 line_number (tables.SameVariant line) = Some line
 line_number (tables.BadClass line) = Some line
 line_number (tables.Limit line) = Some line
+line_number (tables.NoSuchName line) = Some line
+line_number (tables.SameName line) = Some line
 line_number tables.Memory = None
 
 -- the line of this number

@@ -78,7 +78,9 @@ fn line_number(fault: TableFault) -> Option<u64>
         | TableFault::SameSource { line }
         | TableFault::SameVariant { line }
         | TableFault::BadClass { line }
-        | TableFault::Limit { line } => Some(line),
+        | TableFault::Limit { line }
+        | TableFault::NoSuchName { line }
+        | TableFault::SameName { line } => Some(line),
         TableFault::Memory => None,
     }
 }
