@@ -111,7 +111,10 @@ const CANONICAL: &str = "\
 #[test]
 fn canonical_text(rt: HostRuntime) -> Result<(), Fail> {
     let definitions = defined(rt.alloc(), &MIXED)?;
-    assert_eq!(&rt; text_of(rt.alloc(), &definitions)?.as_slice(), CANONICAL.as_bytes());
+    assert_eq!(&rt;
+        text_of(rt.alloc(), &definitions)?.as_slice(),
+        CANONICAL.as_bytes()
+    );
     assert_eq!(&rt; definitions.canonical_len(), CANONICAL.len());
     Ok(())
 }
@@ -119,7 +122,10 @@ fn canonical_text(rt: HostRuntime) -> Result<(), Fail> {
 #[test]
 fn copies_of_definitions(rt: HostRuntime) -> Result<(), Fail> {
     let copy = defined(rt.alloc(), &MIXED)?.copied(rt.alloc())?;
-    assert_eq!(&rt; text_of(rt.alloc(), &copy)?.as_slice(), CANONICAL.as_bytes());
+    assert_eq!(&rt;
+        text_of(rt.alloc(), &copy)?.as_slice(),
+        CANONICAL.as_bytes()
+    );
     assert_eq!(&rt; copy.canonical_len(), CANONICAL.len());
     Ok(())
 }

@@ -74,7 +74,10 @@ const FAULTY: [(&str, TableFault); 19] = [
     ("%always 0061", TableFault::Syntax { line: 2 }),
     ("%tag t\n0061 as t", TableFault::Syntax { line: 3 }),
     ("%rule r _\n0061 when r", TableFault::Syntax { line: 3 }),
-    ("%rule r @A _\n%set A 0061", TableFault::NoSuchName { line: 2 }),
+    (
+        "%rule r @A _\n%set A 0061",
+        TableFault::NoSuchName { line: 2 },
+    ),
     ("%set A 0061\n%rule A _", TableFault::SameName { line: 3 }),
     ("%tag t\n\n%tag t", TableFault::SameName { line: 4 }),
     ("%set A 0041", TableFault::BadClass { line: 2 }),
@@ -98,7 +101,8 @@ fn faults(rt: HostRuntime) -> Result<(), Fail> {
 /// Eight tags are read, and the ninth is refused.
 #[test]
 fn tags(rt: HostRuntime) -> Result<(), Fail> {
-    let text = b"%version 3\n%tag a\n%tag b\n%tag c\n%tag d\n%tag e\n%tag f\n%tag g\n%tag h\n%tag i";
+    let text =
+        b"%version 3\n%tag a\n%tag b\n%tag c\n%tag d\n%tag e\n%tag f\n%tag g\n%tag h\n%tag i";
     let fault = Table::read(rt.alloc(), Notation::Ruleset, text).err();
     assert_eq!(&rt; fault, Some(TableFault::Limit { line: 10 }));
     let eight = Table::read(rt.alloc(), Notation::Ruleset, &text[..text.len() - 7])?;

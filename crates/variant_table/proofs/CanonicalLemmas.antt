@@ -281,8 +281,7 @@ lines_define d e (line ∷ lines) own h none =
     let first = after_is (with_words limit d (lexemes line)) (λ x. with_lines limit x lines) e h in
     let read = words_read limit d first.0 (lexemes line) first.1 in
     let fewer : length first.0.demands ≡ 0 = omega (arith, none, demands_of_lines limit first.0 e lines first.2) in
-    let begins = read.begins Three refl (without_demands limit d first.0 read.keyword read.behind read.defined fewer) in
-    (
+    let begins = read.begins Three refl (without_demands limit d first.0 read.keyword read.behind read.defined fewer) in (
       table_of Three first.0 [],
       subst (λ l. LineAdds (table_of Three d []) l (table_of Three first.0 [])) (sym (strip_nothing line own.0)) (inr (first.0, (read.keyword, read.behind, begins, read.defined), refl)),
       lines_define first.0 e lines own.1 first.2 none,

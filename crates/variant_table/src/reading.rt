@@ -13,8 +13,8 @@ ghost use Rattle.variant_table.specs.Entries.{TableValue, table_of};
 ghost use Rattle.variant_table.specs.Reading.{with_definition, with_entries, with_entry_words, with_line, with_raw_line, table_of_text, is_skipped as is_skipped_line};
 ghost use Rattle.variant_table.specs.inner.ReadingSteps.{Leaves, Reads, with_new_sources};
 
-use crate::definition_lines::{fault_in, keyword_in};
 use crate::checks::{has_bad_class, has_bad_class_in, has_repeat, is_too_large};
+use crate::definition_lines::{fault_in, keyword_in};
 use crate::fault::TableFault;
 use crate::forms::{has_form, take_sequences};
 use crate::lengths::{entry_len, range_len};

@@ -21,8 +21,7 @@ returns-in_default-clause-read c =
 pub returns-then-not-has_form-clause-read : goal.returns-then-not-has_form-clause-read
 returns-then-not-has_form-clause-read c =
     let read : IsEntryLine (entry_form c.in-Some.form) c.args.line.now = one_spelled c.args.line.now c.in_ok-form.field-0 c.in-Some.form c.in-Some.is (c.in_ok-form.ensures {u = tt}) in
-    let other : has_form c.args.self.now.version (entry_form c.in-Some.form) ≡ false = sym c.has_form.ensures ∙ c.if-not-has_form.true in
-    (
+    let other : has_form c.args.self.now.version (entry_form c.in-Some.form) ≡ false = sym c.has_form.ensures ∙ c.if-not-has_form.true in (
       refl,
       ap (λ r. r >>= with_entries c.args.self.now.version c.args.self.now.definitions c.args.self.now.rows)
           (formless_entries c.args.self.now.version c.args.line.now (other_version c.args.self.now.version c.args.line.now (entry_form c.in-Some.form) read other)),
