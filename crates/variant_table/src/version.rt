@@ -9,7 +9,7 @@ ghost use Rattle.variant_table.specs.Versions.{version_number};
 use idn_text::{TextLines, without_carriage_return};
 
 /// Version 2 adds ranges of code points and blocked variants to version 1. Version 3, that of a ruleset,
-/// adds larger limits and outside sources.
+/// adds larger limits, outside sources and definitions.
 #[derive(Clone, Copy, Debug, PartialEq, Eq)]
 pub enum Version {
     One,
@@ -75,7 +75,7 @@ impl Version {
         }
     }
 
-    /// What a canonical text has before its entries: the version line and its line feed, in version 1 nothing.
+    /// What a canonical text begins with: the version line and its line feed, in version 1 nothing.
     pub fn head(self) -> &'static [u8]
         ensures text { result.now ≡ texts.head_text self }
         ensures short { length result.now ≤ 11 }
@@ -120,14 +120,14 @@ impl Notation {
     }
 }
 
-/// The version of a text, and the lines of its entries.
+/// The version of a text, and the lines after its version line.
 #[derive(Drop)]
 pub struct Head<'a> {
     pub version: Version,
-    /// How many lines come before those of the entries, and how many bytes they have.
+    /// How many lines come before these, and how many bytes they have.
     pub lines: u64,
     pub bytes: usize,
-    /// The lines of the entries.
+    /// The lines of definitions and entries.
     pub body: TextLines<'a>,
 }
 
