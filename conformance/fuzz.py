@@ -55,6 +55,12 @@ RANGES = (0x30, 0x61, 0x62, 0x6B, 0xDF, 0x0430, 0x05D0, 0x0627, 0x0660, 0x06F0, 
 # No line for version 1, which is drawn twice as often as each of the others.
 VERSION_LINES = ((), (), ("%version 2",), ("%version 3",))
 RULESET = b"%version 3"
+# Lines of rulesets that define something; some name what others define, and some have a fault of their own. Demands are not
+# read yet.
+DEFINITIONS = ("%tag t", "%tag simp", "%set A 0061..0063", "%set B u+0061 0065 .. 0069", "%rule r @A _ / _ $", "%rule all _",
+               " %rule\tend _$", "%rule q ^(@B?/0061)*_", "%set t 0061", "%set C 0063..0061", "%rule s @C _", "%rule s 0041 _",
+               "%set C 0041", "%tag", "% tag t", "%Tag t", "%rule s _ _", "%rule s ((0061*)*)* _")
+GOOD_DEFINITIONS = DEFINITIONS[:8]
 FAULTY_LINES = ("0061|", "0041", "0061-0061-0061|0061-0061-0061", "%version 2", "%version 3", "%", "0063..0061", "!0061|0062",
                 "0061..0063|0064", "0061|0062..0063", "0061-0062..0063", "0061...0063", "0061. .0063", "0061..D800",
                 "005A..0061", "D7FF..E000", "4E00..5E00", "4E00..5DFF", "0061|!!0062", "0061|!", "0061|0062:!0062",
@@ -179,11 +185,20 @@ class Fuzz:
             lines.append(("!" if source in outside else "") + spelled(source) + ("|" if variants else "") + marked)
         if is_marked and self.chance.random() < 0.5:
             entries.update(dict.fromkeys(self.range(entries, lines, is_ruleset and self.chance.random() < 0.3), ()))
+        if is_ruleset and self.chance.random() < 0.4:
+            self.define(lines)
         if self.chance.random() < 0.9:
             entries = {source: variants for source, variants in entries.items() if source not in outside}
         if self.chance.random() < 0.05:
             lines.insert(self.chance.randint(0, len(lines)), self.chance.choice((*FAULTY_LINES, lines[-1])))
         return self.chance.choice(("\n", "\n", "\r\n")).join(lines).encode(), entries
+
+    def define(self, lines):
+        """Puts definitions into the lines of a ruleset, now and then one with a fault."""
+        for line in sorted(self.chance.sample(GOOD_DEFINITIONS, self.chance.randint(1, 4)), key=GOOD_DEFINITIONS.index):
+            lines.insert(self.chance.randint(1, len(lines)), line)
+        if self.chance.random() < 0.2:
+            lines.insert(self.chance.randint(1, len(lines)), self.chance.choice(DEFINITIONS))
 
     def range(self, entries, lines, is_outside):
         """Puts a range without any of the sources into the lines, and answers its sources, or none if they are outside."""

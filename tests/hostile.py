@@ -23,6 +23,8 @@ STRASSE = "strasse\tstrasse\nstraße\txn--strae-oqa\n#end 2\n"
 # Of version 2: in the first ß is blocked where ss stands, in the second nothing is blocked.
 BLOCKING = b"%version 2\n0061..0063\n0073-0073|!00DF:0078\n00DF|0073-0073\n"
 ALLOCATING = b"%version 2\n0061..0063\n0073-0073|00DF\n00DF|0073-0073\n"
+# A ruleset that defines a tag, a set and a rule.
+DEFINING = b"%version 3\n%tag t\n%set A 0061..0063 0065\n%rule r ^ (@A / 0062)* _ / _ $\n0061|!0062\n0062\n"
 # A ruleset with two outside sources.
 OUTSIDE = b"%version 3\n0061|!0430\n!0430|!0061\n0062\n!0063|!0062\n"
 
@@ -98,6 +100,11 @@ CASES = [
     Case(["--ruleset", "table"], OUTSIDE, [("ab\n", "ab\tab\tallocatable\nаb\txn--b-7sb\tblocked\n#end 2\n", ""),
                                            ("аb\n", "", "idn2: line 2: 40 not made of table entries\n")], 1),
     Case(["--ruleset", "table"], b"%version 3\n0061 when r\n", [("", "", "idn2: table line 2: 30 table syntax\n")], 2),
+    Case(["--ruleset", "table"], DEFINING, [("ab\n", "ab\tab\tallocatable\nbb\tbb\tblocked\n#end 2\n", "")], 0),
+    Case(["--check-ruleset", "table"], DEFINING, [("", "missing 0062|0061\n#table 2 1\n", "")], 1),
+    Case(["--ruleset", "table"], b"%version 3\n%set A 0061\n%rule r @A @B _\n",
+         [("", "", "idn2: table line 3: 35 name not defined\n")], 2),
+    Case(["--ruleset", "table"], b"%version 3\n%tag t\n%rule t _\n", [("", "", "idn2: table line 3: 36 name given twice\n")], 2),
     Case(["--check-ruleset", "table"], OUTSIDE, [("", "missing 0062|0063\n#table 4 1\n", "")], 1),
     Case(["--check-table", "table"], BLOCKING, [("", "missing 0078|0073-0073\nmissing 00DF|0078\n#table 5 2\n", "")], 1),
     Case(["--check-table", "table"], SHARP_S, [("", "#table 7 0\n", "")], 0),
