@@ -363,7 +363,7 @@ RECIPES = [(command, made[1]) for command in COMMANDS if (made := re.search(r" &
 
 
 def makes_each_file_of_an_output_by_its_status(folder):
-    """The output of a script goes to a new file, which gets its name only after status 0; in the shell, too."""
+    """The output of a script goes to a new file, which gets its name only after status 0."""
     for command in COMMANDS:
         if re.match(r"(sh|python3) \S+ .*[^2]> ", command):
             assert re.search(r" > (\w+)\.new && (.* && )?mv \1\.new \1\.txt$", command), command
