@@ -24,6 +24,7 @@ from program import (LIMIT, PROGRAM, ROOT, TABLES, expect_session, is_registrabl
 with open(os.path.join(ROOT, "docs", "GUIDE.md"), encoding="utf-8") as file:
     GUIDE = file.read()
 SCRIPTS = dict(markdown_files(GUIDE))
+COMMANDS = [command for block in markdown_blocks(GUIDE) for command, _ in sessions_of(block)]
 # The locale, and the shell that is called sh. The sessions of the guide are run with sh in both locales.
 SETTINGS = (("C", "sh"), ("C.UTF-8", "bash"))
 NOT_KNOWN = 75
@@ -31,6 +32,8 @@ GERMAN, HAN = "tables/german.txt", "tables/han.txt"
 # Of this label 131,072 variants are listed, and the scripts stop before that.
 LONG = "国" * 17
 CONTROL_CHARACTERS = [bytes([byte]) for byte in (*range(0x20), 0x7F)]
+# How a script begins that stands for the program: its version it tells as the program does.
+VERSION_ALONE = f"#!/bin/sh\n[ \"$1\" = --version ] && exec {PROGRAM} --version\n"
 INTERPRETERS = {"ask.sh": "bash", **{name: sys.executable for name in SCRIPTS if name.endswith(".py")}}
 # A question for each script that asks the program of one label, or of some. 'mass' and '中國' are taken.
 QUESTIONS = (
@@ -209,6 +212,16 @@ def registers_what_is_accepted(kit):
 
 
 @in_each_setting
+def takes_a_lock_that_cannot_be_made_for_unknown(kit):
+    kit.write("names.txt", "haus\n")
+    os.mkdir(os.path.join(kit.folder, "names.txt.lock"))
+    kit.expect_unknown(["register.sh", GERMAN, GERMAN, "names.txt", "maus"], b"names.txt.lock")
+    assert kit.read("names.txt") == b"haus\n"
+    os.makedirs(os.path.join(kit.folder, "pages", "lock"))
+    kit.expect_unknown(["page.sh", GERMAN, "sss", "2", "pages"], b"pages/lock")
+
+
+@in_each_setting
 def takes_a_label_for_no_option(kit):
     kit.write("registered.txt", "haus\n")
     refused = b"idn2: line 1: 13 hyphen out of place\n"
@@ -341,6 +354,81 @@ def takes_a_full_disk_for_unknown(kit):
     # The page whose name could not be printed is there, and nothing else of either listing is.
     assert sorted(os.path.basename(path) for path in glob.glob(kit.folder + "/*/[0-9]")) == ["1"]
     kit.expect(["page.sh", GERMAN, "sss", "2", "pages"], b"pages/2\n", 0)
+    # A folder that a full disk left without its listing is begun again.
+    kit.expect(["page.sh", GERMAN, "sss", "2", "others"], b"others/1\n", 0)
+
+
+# What makes a file by the output of a script, and the file.
+RECIPES = [(command, made[1]) for command in COMMANDS if (made := re.search(r" && mv (\w+)\.new \1\.txt$", command))]
+
+
+def makes_each_file_of_an_output_by_its_status(folder):
+    """The output of a script goes to a new file, which gets its name only after status 0."""
+    for command in COMMANDS:
+        if re.match(r"(sh|python3) \S+ .*[^2]> ", command):
+            assert re.search(r" > (\w+)\.new && (.* && )?mv \1\.new \1\.txt$", command), command
+    assert len(RECIPES) >= 5, RECIPES
+
+
+@in_each_setting
+def leaves_a_file_as_it_was_where_its_recipe_fails(kit):
+    """What is read is missing; the program or Python fails or is killed; the disk is full. Else it is made."""
+    os.remove(os.path.join(kit.folder, "published.xml"))
+
+    def run_recipe(command, **more):
+        return subprocess.run(["sh", "-c", command], cwd=kit.folder, env=kit.environment, stdin=subprocess.DEVNULL,
+                              capture_output=True, timeout=LIMIT, **more)
+
+    def expect_failure(case, command, name, **more):
+        kit.write(f"{name}.txt", "0061\n")
+        done = run_recipe(command, **more)
+        assert done.returncode != 0 and done.stderr, (command, case, done)
+        assert kit.read(f"{name}.txt") == b"0061\n", (command, case, done)
+
+    for command, name in RECIPES:
+        if "keys.sh" not in command:
+            expect_failure("nothing to read", command, name)
+    for name in ("cyrillic.txt", "alike.txt"):
+        kit.write(name, "0061\n")
+    for name in ("published.xml", "latin.xml"):
+        kit.write(name, SCRIPTS["published.xml"])
+    failing = "echo 0061\necho lost >&2\n"
+    for command, name in RECIPES:
+        # The script that converts takes the program beside it.
+        for program in ["python3"] * ("python3" in command) + ["idn2"] * ("from_lgr" not in command):
+            for text in (f"#!/bin/sh\n{failing}exit 127\n", f"#!/bin/sh\n{failing}kill -9 $$\n"):
+                kit.instead_of(program, text)
+                expect_failure((program, text), command, name)
+            os.remove(os.path.join(kit.bin, program))
+            if program == "idn2":
+                os.symlink(PROGRAM, os.path.join(kit.bin, program))
+        expect_failure("a full disk", command, name, preexec_fn=on_a_full_disk)
+        done = run_recipe(command)
+        assert done.returncode == 0 and kit.read(f"{name}.txt") != b"0061\n", (command, done)
+
+
+@in_each_setting
+def installs_nothing_of_an_archive_with_a_wrong_sum(kit):
+    """The commands of the guide, pasted into a shell, with another place to install to."""
+    [block] = [block for block in markdown_blocks(GUIDE) if block[0].startswith("sha256sum --check")]
+    archive = re.search(r"\S+\.tar\.gz", block[0])[0]
+    packed = archive.removesuffix(".tar.gz")
+    pasted = "\n".join(block).replace("/usr/local/", "installed/")
+    assert pasted.endswith(" installed/"), pasted
+    pasted = pasted.replace(" installed/", f" '{os.path.join(kit.folder, 'installed')}'")
+    make = (f"mkdir -p installed {packed}/bin {packed}/share && echo program > {packed}/bin/idn2 && cd {packed} &&"
+            " sha256sum bin/idn2 > SHA256SUMS && {0} cd .. && tar czf {1} {2} && rm -r {2} && sha256sum {1} > {1}.sha256 && {3}")
+    for inner, outer, is_installed in (("true &&", "true", True), ("echo other > bin/idn2 &&", "true", False),
+                                       ("rm bin/idn2 &&", "true", False), ("rm SHA256SUMS &&", "true", False),
+                                       ("true &&", f"echo >> {archive}", False), ("true &&", f"rm {archive}", False),
+                                       ("true &&", f"rm {archive}.sha256", False)):
+        made = make.format(inner, archive, packed, outer)
+        subprocess.run(["bash", "-ec", made], cwd=kit.folder, env=kit.environment, check=True, timeout=LIMIT)
+        done = subprocess.run(["bash"], input=pasted.encode(), cwd=kit.folder, env=kit.environment, capture_output=True,
+                              timeout=LIMIT)
+        found = os.path.exists(os.path.join(kit.folder, "installed", "bin", "idn2"))
+        assert (found, done.returncode == 0) == (is_installed, is_installed), (inner, outer, done)
+        subprocess.run(f"rm -rf installed {packed} {archive}*", shell=True, cwd=kit.folder, check=True, timeout=LIMIT)
 
 
 @in_each_setting
@@ -349,7 +437,8 @@ def takes_a_lost_program_for_unknown(kit):
     kit.write("registered.txt", "maß\n")
     kit.write("names.txt", "maß\nabc\n")
     kit.write("keys.txt", "xn--fiqs8s\n")
-    part = "#!/bin/sh\ncase $* in *--check-table*) exec {0} \"$@\" ;; esac\n{0} \"$@\" | head -c {1}\n{2}\n"
+    part = ("#!/bin/sh\ncase $* in *--check-table* | --version) exec {0} \"$@\" ;; esac\n"
+            "{0} \"$@\" | head -c {1}\n{2}\n")
     for end in ("kill -9 $$", "exit 3", "exit 4"):
         for count in (0, 7, 30):
             kit.instead_of("idn2", part.format(PROGRAM, count, end))
@@ -523,6 +612,18 @@ def finds_by_postgresql_what_sets_have(folder):
             [block] = [block for block in blocks if any("psql " in command for command, _ in block)]
             for command, lines in block:
                 expect_session(command, lines, kit.folder, kit.environment)
+            query("drop table registered")
+            for text in (b"haus\nxn--fa-hia\n", b"haus\nhaus\n", b"haus\nma\xff\n", None):
+                kit.write("registered.txt", text or b"")
+                if text is None:
+                    os.remove(os.path.join(kit.folder, "registered.txt"))
+                fill = ["psql", "-q", "-f", "fill.sql", "registry"]
+                done = subprocess.run(fill, cwd=kit.folder, env=kit.environment, capture_output=True, timeout=LIMIT)
+                assert done.returncode == 3 and done.stderr, (text, done)
+                done = subprocess.run([python, "collisions.py", GERMAN, "postgresql:///registry"], input=b"haus\n",
+                                      cwd=kit.folder, env=kit.environment, capture_output=True, timeout=LIMIT)
+                assert (done.stdout, done.returncode) == (b"", NOT_KNOWN) and b"does not exist" in done.stderr, (text, done)
+            query("create table registered (label text)")
             chance = random.Random(5890)
             words = ["collisions.py", "table.txt", "postgresql:///registry"]
             for round in range(6):
@@ -590,6 +691,14 @@ def chooses_among_tables(kit):
 
 
 @in_each_setting
+def refuses_a_call_without_a_table(kit):
+    """Of no table at all nothing is said, least of all that no table covers the label."""
+    for script, *words in (["table_of.sh", "haus"], ["table_of.sh"], ["list_all.sh"], ["keys.sh"], ["combine.py"], ["ask.py"],
+                           ["ask.py", GERMAN, HAN]):
+        kit.expect([script, *words], b"", 2, b"usage: ", given=b"haus\n")
+
+
+@in_each_setting
 def tells_what_a_table_changes(kit):
     kit.write("old.txt", "%version 2\n0061\n0062\n0063|0062\n")
     kit.write("new.txt", "%version 2\n0061|0062\n0062\n0063\n")
@@ -653,8 +762,8 @@ def pages_through_a_listing_though_runs_are_killed(kit):
         at = chr(ord("a") + turn % 3)
         kit.instead_of("mv", {"a": "#!/bin/sh\nkill -9 $PPID\n", "b": f"#!/bin/sh\n{move} \"$@\"\nkill -9 $PPID\n",
                               "c": f"#!/bin/sh\nexec {move} \"$@\"\n"}[at])
-        kit.instead_of("idn2", f"#!/bin/sh\n{PROGRAM} \"$@\" | head -n 2\nkill -9 $PPID\n" if at == "c" else
-                       f"#!/bin/sh\nexec {PROGRAM} \"$@\"\n")
+        killing = f"{VERSION_ALONE}{PROGRAM} \"$@\" | head -n 2\nkill -9 $PPID\n"
+        kit.instead_of("idn2", killing if at == "c" else f"#!/bin/sh\nexec {PROGRAM} \"$@\"\n")
         status = kit.run(*PAGED)[2]
         kit.instead_of("mv", f"#!/bin/sh\nexec {move} \"$@\"\n")
         kit.instead_of("idn2", f"#!/bin/sh\nexec {PROGRAM} \"$@\"\n")
@@ -717,15 +826,30 @@ def serves_each_request_before_the_next(kit):
 @in_each_setting
 def tells_that_the_program_has_ended(kit):
     """One answer, and then the end of the program, or of its input alone; or a message that is not of the label."""
-    version = f"#!/bin/sh\n[ \"$1\" = --version ] && exec {PROGRAM} --version\n"
-    first = version + f"head -n 1 | {PROGRAM} \"$@\"\n"
-    closed = version + f"line=$(head -n 1)\nexec < /dev/null\necho \"$line\" | {PROGRAM} \"$@\"\nsleep 1\n"
-    last = version + "read -r line\necho 'idn2: 70 out of memory' >&2\n"
+    first = VERSION_ALONE + f"head -n 1 | {PROGRAM} \"$@\"\n"
+    closed = VERSION_ALONE + f"line=$(head -n 1)\nexec < /dev/null\necho \"$line\" | {PROGRAM} \"$@\"\nsleep 1\n"
+    last = VERSION_ALONE + "read -r line\necho 'idn2: 70 out of memory' >&2\n"
     for program, answers in ((first, 1), (closed, 1), (last, 0)):
         kit.instead_of("idn2", program)
         for words, answer in ((["ask.sh"], b"registrable: haus\n"), (["ask.py", GERMAN], b"haus\n")):
             output, message, status = kit.run(*words, given=b"haus\nmaus\nlaus\n")
             assert (output, status) == (answer * answers, NOT_KNOWN), (words, output, message, status)
+
+
+@in_each_setting
+def tells_that_not_all_requests_were_read(kit):
+    """The input can't be read, or sed is missing, fails, or is killed before the last request."""
+    unread = b"not all requests were read\n"
+    for redirection in ("<&-", "< tables"):
+        done = subprocess.run(["bash", "-c", f"bash ask.sh {redirection}"], cwd=kit.folder, env=kit.environment,
+                              capture_output=True, timeout=LIMIT)
+        assert (done.stdout, done.returncode) == (b"", NOT_KNOWN) and unread in done.stderr, (redirection, done)
+    for begins, answers in (("#!/nowhere\n", 0), ("#!/bin/sh\nexit 4\n", 0), ("#!/bin/sh\nhead -n 1\nexit 4\n", 1),
+                            ("#!/bin/sh\nhead -n 1\nkill -9 $$\n", 1)):
+        kit.instead_of("sed", begins)
+        output, message, status = kit.run("ask.sh", given=b"haus\nmaus\nlaus\n")
+        assert (output, status) == (b"registrable: haus\n" * answers, NOT_KNOWN), (begins, output, status)
+        assert unread in message, (begins, message)
 
 
 def libidn2_program():
@@ -814,22 +938,33 @@ def has_the_options_that_the_guide_says_beside_libidn2(folder):
 
 @in_each_setting
 def fails_with_the_program_of_libidn2(kit):
-    if not is_compared("scripts", LIBIDN2 is not None):
-        return
+    """And with one that refuses each option but that for its version, as libidn2's does of those that it lacks; and without
+    any. A label is never told to be refused or taken."""
     kit.write("registered.txt", "maß\n")
+    kit.write("names.txt", "maß\n")
     kit.write("keys.txt", "xn--fiqs8s\n")
-    kit.instead_of("idn2", f"#!/bin/sh\nexec {LIBIDN2} \"$@\"\n")
-    for words in (*QUESTIONS, ["combine.py", GERMAN], ["ask.sh"], ["ask.py", GERMAN]):
-        output, message, status = kit.run(*words, given=b"mass\n")
-        assert (output, status in (1, NOT_KNOWN)) == (b"", True), (words, output, message, status)
+    programs = ["#!/bin/sh\n[ \"$1\" = --version ] && exec echo 'idn2 (Libidn2) 2.3.3'\nexit 1\n", "#!/nowhere\n"]
+    if is_compared("scripts", LIBIDN2 is not None):
+        programs.append(f"#!/bin/sh\nexec {LIBIDN2} \"$@\"\n")
+    for program in programs:
+        kit.instead_of("idn2", program)
+        for words in (*QUESTIONS, ["ask.sh"], ["ask.py", GERMAN], ["collisions.py", GERMAN, "registered.db"]):
+            output, message, status = kit.run(*words, given=b"mass\n")
+            assert (output, status) == (b"", NOT_KNOWN) and message, (program, words, output, message, status)
+        output, message, status = kit.run("combine.py", GERMAN)
+        assert output == b"" and status != 0 and message, (program, output, message, status)
 
 
 TESTS = [
     has_each_script_in_the_guide,
+    makes_each_file_of_an_output_by_its_status,
+    leaves_a_file_as_it_was_where_its_recipe_fails,
+    installs_nothing_of_an_archive_with_a_wrong_sum,
     accepts_and_refuses_labels,
     finds_registered_labels_in_either_form,
     makes_the_file_whole_or_leaves_it,
     registers_what_is_accepted,
+    takes_a_lock_that_cannot_be_made_for_unknown,
     takes_a_label_for_no_option,
     refuses_each_control_character,
     keeps_runs_at_once_apart,
@@ -846,6 +981,7 @@ TESTS = [
     joins_tables_so_that_nothing_is_missed,
     joins_ranges_and_the_tables_that_come_with_the_program,
     chooses_among_tables,
+    refuses_a_call_without_a_table,
     tells_what_a_table_changes,
     pages_through_a_listing,
     pages_through_a_listing_though_runs_are_killed,
@@ -853,6 +989,7 @@ TESTS = [
     serves_requests,
     serves_each_request_before_the_next,
     tells_that_the_program_has_ended,
+    tells_that_not_all_requests_were_read,
     answers_as_the_guide_says_beside_libidn2,
     has_the_options_that_the_guide_says_beside_libidn2,
     fails_with_the_program_of_libidn2,

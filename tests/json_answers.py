@@ -9,10 +9,13 @@ line is 'N passed, M failed', and the exit status is 0 where nothing failed."""
 import json
 import os
 import re
+import shutil
+import subprocess
 import sys
+import textwrap
 
 from explained import DECODE, GERMAN, LOOKUP, MORE_ROWS, REGISTER, ROWS as CAUSES, SOURCES, given_of, words_of
-from program import ROOT, TABLES, expect, run, run_tests, table_file
+from program import LIMIT, PROGRAM, ROOT, TABLES, expect, run, run_tests, table_file, text_of as text_of_file
 
 try:
     import jsonschema
@@ -282,6 +285,48 @@ def answers_the_longest_lines(folder):
             assert re.fullmatch(rb"[^\x00-\x1f]+\n", done.stdout), (words, line[:10])
 
 
+def run_example(folder, words):
+    """What is shown in docs/JSON.md, with the program as idn2: the output and the status."""
+    for name, path in (("idn2", PROGRAM), ("tables", TABLES)):
+        if not os.path.lexists(os.path.join(folder, name)):
+            os.symlink(path, os.path.join(folder, name))
+    environment = {**os.environ, "PATH": folder + os.pathsep + os.environ["PATH"]}
+    done = subprocess.run(words, cwd=folder, env=environment, capture_output=True, timeout=LIMIT)
+    return done.stdout.decode(), done.returncode
+
+
+def shown_block(first):
+    """The block of docs/JSON.md that begins so, with its blank lines."""
+    blocks = re.findall(r"(?:^(?:    .*)?\n)+", text_of_file("docs", "JSON.md"), re.MULTILINE)
+    [block] = [block for block in (textwrap.dedent(block).strip() + "\n" for block in blocks) if block.startswith(first)]
+    return block
+
+
+def takes_no_part_of_a_listing_for_the_whole(folder):
+    """The co-process of docs/JSON.md, and its pipes where jq is there: a stop, a refusal or a fault is never passed over."""
+    partner = shown_block("import json") + "print(len(variants))\n"
+    for old, new, output, status in (("x", "x", "2\n", 0), ('german.txt"', 'german.txt", "--limit", "1"', "", 1),
+                                     ('"straße"', '"Straße"', "", 1), ("german.txt", "nowhere.txt", "", 1)):
+        assert run_example(folder, [sys.executable, "-c", partner.replace(old, new)]) == (output, status), new
+    if not shutil.which("jq"):
+        print("json_answers: the pipes with jq are not run, since jq is not installed")
+        return
+    pipes = shown_block("set -o pipefail")
+    first, second = re.split(r"\n(?=idn2 --json --variants)", pipes)
+    listing = "set -o pipefail\n" + second
+    for old, new, output, status in (("x", "x", "strasse\nstraße\n", 0), (" straße", " --limit 1 straße", "strasse\n", 5),
+                                     (" straße", " Straße", "", 5), ("german.txt", "nowhere.txt", "", 3),
+                                     (" straße", " --limit 0 straße", "", 2)):
+        assert run_example(folder, ["bash", "-c", listing.replace(old, new, 1)]) == (output, status), new
+    for labels, output, status in (("faß\nhaus\n", "", 0), ("faß\na-\n", "2: hyphen out of place\n", 1), (None, "", 3)):
+        if labels is None:
+            first = first.replace("< labels.txt", "< tables")
+        else:
+            with open(os.path.join(folder, "labels.txt"), "w", encoding="utf-8") as file:
+                file.write(labels)
+        assert run_example(folder, ["bash", "-c", first]) == (output, status), labels
+
+
 TESTS = [
     answers_the_rows,
     checks_a_table,
@@ -293,6 +338,7 @@ TESTS = [
     says_what_it_says_without,
     tells_each_line_as_it_was_read,
     answers_the_longest_lines,
+    takes_no_part_of_a_listing_for_the_whole,
 ]
 
 if __name__ == "__main__":

@@ -100,7 +100,7 @@ def has_the_version_that_the_changes_name(folder):
     with open(os.path.join(ROOT, "docs", "idn2.1"), encoding="utf-8") as file:
         assert f'"idn2 {version}"' in file.read(), version
     with open(os.path.join(ROOT, "docs", "GUIDE.md"), encoding="utf-8") as file:
-        assert f"tar xf idn2-{version}.tar.gz\n" in file.read(), version
+        assert f"tar xf idn2-{version}.tar.gz &&\n" in file.read(), version
 
 
 def needs_only_the_c_library(folder):
