@@ -12,7 +12,7 @@ use Rattle.ucd_table.proofs.TrieCheck.{trie_ok-IsTrie, trie_value-Stepped, trie_
 use Rattle.ucd_table.proofs.Computing.{tables}
 use Rattle.idn_class.specs.declared.class_table.TheConstants.{FACT_INDEX, FACT_WORDS}
 use Rattle.idn_class.specs.declared.facts.Fact.{Fact}
-use Rattle.idn_class.specs.Facts.{is_so, has_fact, place_of, IsSimple}
+use Rattle.idn_class.specs.Facts.{is_so, has_fact, place_of}
 use Rattle.idn_class.proofs.FactLemmas.{full}
 use Rattle.idn_class.proofs.FactSteps.{absent_facts, absent_facts_stepped, absent_facts-bit, so_by_steps-is_so}
 
@@ -54,6 +54,10 @@ has_fact-table c fact =
 unfoldable pub is_simple_in_table : ℕ → Bool
 unfolding trie_value block_value step_value
 is_simple_in_table c = trie_value 8 16 FACT_INDEX FACT_WORDS [] c == 127
+
+-- a code point without a fact: in a label made only of such code points it causes no fault, unless it is a hyphen
+abbrev pub IsSimple : ℕ → Type 0
+IsSimple c = (fact : Fact) → has_fact fact c ≡ false
 
 pub IsSimple-in_table : (c : ℕ) → is_simple_in_table c ≡ true → IsSimple c
 unfolding is_simple_in_table

@@ -3,23 +3,11 @@ use Rattle.std.proofs.Common.{◌≡◌, ℕ, zero, suc, ◌<◌, ◌≤◌, ◌
 use Rattle.std.specs.Option.{is_some}
 use Rattle.std.proofs.lemmas.Bool.{cases_lt, cases_order}
 use Rattle.std.proofs.lemmas.List.{take_all, take_more, take-append-drop}
-use Rattle.idn_class.specs.declared.bidi_class.BidiClass.{BidiClass}
-use Rattle.idn_class.specs.declared.bidi_class.BidiClass.TheVariants.{R, AL, AN}
 use Rattle.idn_class.specs.declared.direction.Direction.{Direction}
-use Rattle.idn_class.specs.declared.direction.Direction.TheVariants.{Ltr}
-use Rattle.idn_class.specs.BidiRule.{is_rtl_class}
 use Rattle.idn_class.specs.Hopeless.{has_hyphens_third_and_fourth, hopeless, IsHopeless, IsShortestHopeless, HasHope}
-use Rattle.idn_class.specs.inner.Directions.{IsShortest, HasNone, breaks_at_first, breaks_behind, begun_by, begun, lengthened}
-use Rattle.idn_class.proofs.HopelessSteps.{Tells, Tells-longer, Tells-itself, breaks_at-last, breaks_after, breaks_at_first-cons, breaks_behind-nil, hyphens-few, hyphens-many, hyphens-short, hopeless-none, hopeless-breaks, hopeless-hyphens, hopeless-more}
+use Rattle.idn_class.specs.inner.Directions.{IsShortest, HasNone, breaks_at_first, breaks_behind, lengthened}
+use Rattle.idn_class.proofs.HopelessSteps.{Tells, Tells-longer, Tells-itself, breaks_at-last, breaks_behind-nil, hyphens-few, hyphens-many, hyphens-short, hopeless-none, hopeless-breaks, hopeless-hyphens, hopeless-more}
 use Rattle.idn_class.proofs.HopelessTests.{hopeless-gives, hopeless-from}
-
--- ---- the first code point
-
-pub begun_by-ltr : (k : BidiClass) → is_rtl_class k ≡ false → begun_by k ≡ Some Ltr
-begun_by-ltr R h = let clash : true ≡ false = h in cc
-begun_by-ltr AL h = let clash : true ≡ false = h in cc
-begun_by-ltr AN h = let clash : true ≡ false = h in cc
-begun_by-ltr _ h = refl
 
 -- ---- one code point more
 
@@ -62,7 +50,7 @@ HasNone-all start rest d h k = elim (cases_lt k (length rest)) [
   | inr whole ↦ ap (breaks_behind start) (take_all k rest whole ∙ sym (take_all (length rest) rest (omega arith))) ∙ h.kept (length rest) (omega arith)
 ]
 
--- ---- the first code point and those behind it
+-- ---- no code point
 
 nothing_breaks : (k : ℕ) → breaks_at_first (take {A = ℕ} k []) ≡ false
 nothing_breaks zero = refl
@@ -70,27 +58,6 @@ nothing_breaks (suc k) = refl
 
 pub HasNone-nil : HasNone breaks_at_first []
 HasNone-nil = nothing_breaks
-
-pub IsShortest-first : (c : ℕ) (rest : List ℕ) → begun c ≡ None → IsShortest breaks_at_first (c ∷ rest) 1
-IsShortest-first c rest is = record {
-  within = omega arith;
-  holds = breaks_at_first-cons c [] ∙ ap (λ o. breaks_after o []) is;
-  first = λ k less. let none : k ≡ 0 = omega arith in ap (λ n. breaks_at_first (take n (c ∷ rest))) none;
-}
-
-behind_first : (c : ℕ) (rest : List ℕ) (d : Direction) → begun c ≡ Some d → (k : ℕ) → breaks_at_first (take (suc k) (c ∷ rest)) ≡ breaks_behind d (take k rest)
-behind_first c rest d is k = breaks_at_first-cons c (take k rest) ∙ ap (λ o. breaks_after o (take k rest)) is
-
-pub HasNone-behind : (c : ℕ) (rest : List ℕ) (d : Direction) → begun c ≡ Some d → HasNone (breaks_behind d) rest → HasNone breaks_at_first (c ∷ rest)
-HasNone-behind c rest d is none zero = refl
-HasNone-behind c rest d is none (suc k) = behind_first c rest d is k ∙ none k
-
-pub IsShortest-behind : (c : ℕ) (rest : List ℕ) (d : Direction) (n : ℕ) → begun c ≡ Some d → IsShortest (breaks_behind d) rest n → IsShortest breaks_at_first (c ∷ rest) (n + 1)
-IsShortest-behind c rest d n is s = record {
-  within = omega (arith, s.within);
-  holds = let more : n + 1 ≡ suc n = omega arith in ap (λ m. breaks_at_first (take m (c ∷ rest))) more ∙ behind_first c rest d is n ∙ s.holds;
-  first = elim [ zero ↦ λ less. refl | suc k ↦ λ less. behind_first c rest d is k ∙ s.first k (omega arith) ];
-}
 
 -- ---- with the hyphens
 

@@ -130,9 +130,6 @@ hopeless-from w (Both_kinds_of_digits arabic extended) =
     let rtl = any_class is_arabic_digit is_rtl_class (λ c h. ap is_rtl_class (class_of_arabic_digit c h)) w (list_any-from_Any is_arabic_digit w arabic) in
     with_bidi w (λ b _. digits_break w en an rtl b)
 
-pub hopeless-IsHopeless : (w : List ℕ) → (hopeless w ≡ true) ↔ IsHopeless w
-hopeless-IsHopeless w = (hopeless-gives w, hopeless-from w)
-
 pub IsHopeless-more : (w z : List ℕ) → IsHopeless w → IsHopeless (w ++ z)
 IsHopeless-more w z h = hopeless-gives (w ++ z) (hopeless-more w z (hopeless-from w h))
 

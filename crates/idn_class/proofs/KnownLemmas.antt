@@ -1,5 +1,5 @@
 -- What is known of a beginning, and of one that is longer by a code point.
-use Rattle.std.proofs.Common.{◌≡◌, ℕ, zero, suc, ◌+◌, ◌<◌, Bool, true, false, ◌||◌, List, [], ◌∷◌, ◌++◌, length, take, get_or, Some, None, refl, sym, ap, ap₂, ◌∙◌, subst, inl, inr, append_assoc, append-nil, length-append, length-take, arith}
+use Rattle.std.proofs.Common.{◌≡◌, ℕ, ◌+◌, ◌<◌, Bool, true, false, ◌||◌, List, [], ◌∷◌, ◌++◌, length, take, get_or, Some, refl, sym, ap, ap₂, ◌∙◌, subst, inl, inr, append_assoc, append-nil, length-append, length-take, arith}
 use Rattle.std.proofs.lemmas.Bool.{cases_lt, cases_order}
 use Rattle.std.proofs.Math.ListN.{get_or-append}
 use Rattle.std.proofs.Math.Seq.{get_or-append_seam}
@@ -9,32 +9,17 @@ use Rattle.idn_class.specs.declared.direction.Direction.{Direction}
 use Rattle.idn_class.specs.declared.facts.Fact.{Fact}
 use Rattle.idn_class.specs.declared.facts.Facts.{Facts}
 use Rattle.idn_class.specs.declared.known.Known.{Known}
-use Rattle.idn_class.specs.inner.Directions.{HasNone, IsShortest, breaks_at_first, breaks_behind, begun, lengthened}
+use Rattle.idn_class.specs.inner.Directions.{HasNone, IsShortest, breaks_at_first, breaks_behind, lengthened}
 use Rattle.idn_class.specs.Facts.{contains, has_fact}
 use Rattle.idn_class.specs.Known.{IsKnown, AreKnown}
-use Rattle.idn_class.proofs.HopelessSteps.{breaks_after, breaks_at_first-cons, breaks_behind-cons, breaks_behind-nil}
-use Rattle.idn_class.proofs.HopelessShortest.{HasNone-nil, HasNone-behind}
+use Rattle.idn_class.proofs.HopelessSteps.{breaks_after, breaks_behind-cons, breaks_behind-nil}
+use Rattle.idn_class.proofs.HopelessShortest.{HasNone-nil}
 
 or_false : (b : Bool) → (b || false) ≡ b
 or_false true = refl
 or_false false = refl
 
--- ---- a first code point
-
-pub breaks-first : (c : ℕ) → begun c ≡ None → breaks_at_first (c ∷ []) ≡ true
-breaks-first c is = breaks_at_first-cons c [] ∙ ap (λ o. breaks_after o []) is
-
-pub IsKnown-first : (c : ℕ) (facts : Facts) (d : Direction) → ((fact : Fact) → contains facts fact ≡ has_fact fact c) → begun c ≡ Some d → IsKnown (c ∷ []) (record { facts = facts; direction = d })
-IsKnown-first c facts d of is = record {
-  facts = λ fact. of fact ∙ sym (or_false (has_fact fact c));
-  direction = λ z. breaks_at_first-cons c z ∙ ap (λ o. breaks_after o z) is;
-  unbroken = HasNone-behind c [] d is (elim [ zero ↦ breaks_behind-nil d | suc k ↦ breaks_behind-nil d ]);
-}
-
 -- ---- one code point more
-
-pub breaks-longer : (w : List ℕ) (known : Known) (c : ℕ) → IsKnown w known → lengthened known.direction c ≡ None → breaks_at_first (w ++ c ∷ []) ≡ true
-breaks-longer w known c h is = h.direction (c ∷ []) ∙ breaks_behind-cons known.direction c [] ∙ ap (λ o. breaks_after o []) is
 
 pub IsKnown-longer : (w : List ℕ) (known : Known) (c : ℕ) (more joined : Facts) (e : Direction) → IsKnown w known
     → ((fact : Fact) → contains more fact ≡ has_fact fact c) → ((fact : Fact) → contains joined fact ≡ (contains known.facts fact || contains more fact))

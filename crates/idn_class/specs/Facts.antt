@@ -93,7 +93,3 @@ contains facts fact = bit_at facts.absent (place_of fact) == 0
 -- the facts that some code point of the label has
 abbrev pub AreFactsOf : Facts → List ℕ → Type 0
 AreFactsOf facts label = (fact : Fact) → contains facts fact ≡ list_any (has_fact fact) label
-
--- a code point without a fact: in a label made only of such code points it causes no fault, unless it is a hyphen
-abbrev pub IsSimple : ℕ → Type 0
-IsSimple c = (fact : Fact) → has_fact fact c ≡ false

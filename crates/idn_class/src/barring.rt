@@ -1,7 +1,6 @@
 //! Which line of RFC 5892, section 3, bars a code point.
 ghost use Rattle.std.specs.Prelude.{◌≡◌, IfOk, [], ◌∷◌};
 ghost use Rattle.std.specs.List.{find};
-ghost use Rattle.unicode.specs.GeneralCategory.{general_category};
 ghost use Rattle.idn_class.specs.Barring.{applies, barring_line, barring_lines, lines_of_properties};
 ghost use Rattle.idn_class.specs.Class.{is_outside_profile, is_disallowed_exception, is_unassigned, has_ignorable_property, is_in_ignorable_block, is_old_hangul_jamo, is_letter_or_digit};
 

@@ -1,4 +1,4 @@
-ghost use Rattle.std.specs.Prelude.{◌≡◌, ◌<◌, ◌≤◌};
+ghost use Rattle.std.specs.Prelude.{◌≡◌, ◌<◌};
 ghost use Rattle.unicode.specs.GeneralCategory.{general_category};
 ghost use Rattle.unicode.specs.Script.{script};
 

@@ -1,4 +1,4 @@
-ghost use Rattle.std.specs.Prelude.{◌≡◌, true, false, IfOk, IsOk, if◌then◌else◌};
+ghost use Rattle.std.specs.Prelude.{◌≡◌, false, IfOk, IsOk, if◌then◌else◌};
 ghost use Rattle.idn_class.specs.Class.{class_of, is_left_open, is_unstable};
 
 use crate::class_table::{CLASS_INDEX, CLASS_WORDS};

@@ -25,7 +25,8 @@ use Rattle.idn_class.specs.Class.{class_of}
 use Rattle.idn_class.specs.declared.facts.Fact.{Fact}
 use Rattle.idn_class.specs.declared.facts.Fact.TheVariants.{MayBeBarred, Contextj as fact_Contextj, Mark as Mark_fact, NotKept}
 use Rattle.idn_class.specs.declared.facts.Facts.{Facts}
-use Rattle.idn_class.specs.Facts.{is_barred_class, is_contextj, is_kept_status, contains, has_fact, AreFactsOf, IsSimple}
+use Rattle.idn_class.specs.Facts.{is_barred_class, is_contextj, is_kept_status, contains, has_fact, AreFactsOf}
+use Rattle.idn_class.proofs.FactTrie.{IsSimple}
 use Rattle.idn_class.proofs.FactLabels.{class_without, contextj_without, mark_without, kept_without, each_lacks}
 use Rattle.idn_class.specs.LeadingMark.{is_mark_category, is_mark}
 use Rattle.idn_label.specs.inner.SimpleNames.{AreAppended, Cover, PassesInName}
