@@ -2,6 +2,8 @@
 
 ghost use Rattle.std.specs.Prelude.{◌≡◌};
 ghost use Rattle.answer_json.specs.Answers.{line_of};
+ghost use Rattle.answer_json.specs.Details.{no_details};
+ghost use Rattle.answer_json.specs.Objects.{table_fault};
 ghost use Rattle.idn2_cli.specs.inner.Objects.{HasSpace, object_told};
 
 use answer_json::{
@@ -64,11 +66,18 @@ pub(crate) fn write_object(out: &mut ObjectLine, object: &Object<'_>)
         }
         Object::Gap(source, missing) => write_gap(out, source, missing),
         Object::Checked(entries, gaps) => write_checked(out, *entries, *gaps),
-        Object::TableFault(line, refusal) => {
-            write_table_fault(out, *line, *refusal, &RefusalMembers::NONE)
-        }
+        Object::TableFault(line, refusal) => write_bare_table_fault(out, *line, *refusal),
         Object::RegisteredFault(line, refusal, members) => {
             write_registered_fault(out, *line, *refusal, members)
         }
     }
+}
+
+/// Writes the object of a line of a table that is refused for no cause that is told, and a line feed. It stands apart: no
+/// other object makes room for the members of a refusal.
+#[inline(never)]
+fn write_bare_table_fault(out: &mut ObjectLine, line: u64, refusal: Refusal)
+    ensures { out.new.items ≡ line_of (table_fault line refusal no_details) }
+{
+    write_table_fault(out, line, refusal, &RefusalMembers::NONE)
 }
