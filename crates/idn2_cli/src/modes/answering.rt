@@ -1,10 +1,10 @@
 //! What a mode does with one line.
 
-ghost use Rattle.std.specs.Prelude.{◌≡◌, ◌≢◌, ◌≤◌, ℕ, Bool, List, [], ◌∷◌, ◌++◌, length, IfOk, IfErr, Some, false};
+ghost use Rattle.std.specs.Prelude.{◌≡◌, ◌≢◌, ◌≤◌, ℕ, Bool, List, [], ◌∷◌, ◌++◌, length, IsUtf8, IfOk, IfErr, Some, false};
 ghost use Rattle.idn2_cli.specs.Answers.{LineAnswer, text_answer};
 ghost use Rattle.answer_json.specs.Answers.{line_of};
 ghost use Rattle.answer_json.specs.Inputs.{told_of};
-ghost use Rattle.idn2_cli.specs.Said.{said_object, said_text};
+ghost use Rattle.idn2_cli.specs.Said.{Decoded, LookedUp, said_object, said_text};
 ghost use Rattle.idn2_cli.specs.Transcript.{Output};
 ghost use Rattle.idn2_cli.specs.inner.Asked.{asked_line};
 ghost use Rattle.idn2_cli.specs.inner.LineAnswers.{KeepsIfRefused, longest, refusal_in, reply_pieces, said_by};
@@ -121,6 +121,7 @@ pub(crate) fn reply<W: Sink, E: Sink>(
     console: &mut Console<'_, '_, W, E>,
 ) -> Result<(), Stop>
     requires few { length asked.now.text.now ≤ MAX_LINE_LEN }
+    requires utf8 { kind ≡ Kind.LookedUp → IsUtf8 asked.now.text.now }
     requires filled { 1 ≤ length line.now }
     requires short { length line.now ≤ longest kind }
     ensures written { (text : List ℕ) → line.now ≡ text ++ 10 ∷ [] →
@@ -144,28 +145,44 @@ fn write_object_of<W: Sink, E: Sink>(
     console: &mut Console<'_, '_, W, E>,
 ) -> Result<(), Stop>
     requires few { length asked.text.now ≤ MAX_LINE_LEN }
+    requires utf8 { kind ≡ Kind.LookedUp → IsUtf8 asked.text.now }
     requires filled { 1 ≤ length line.now }
     requires short { length line.now ≤ longest kind }
     ensures written { (text : List ℕ) → line.now ≡ text ++ 10 ∷ [] →
         Emits console.old console.new (Output (line_of (said_object asked.entry.number (told_of (Some asked.entry.text.now)) (said_by kind text))) ∷ []) result }
     ensures why { IfErr result (λ why. why ≡ stop.Output) }
 {
-    console.object(&object_of(asked, kind, line))
+    match kind {
+        Kind::LookedUp => console.object(&looked_up_of(asked, line)),
+        Kind::Decoded => console.object(&decoded_of(asked, line)),
+    }
 }
 
-/// The object of such an answer.
-fn object_of<'a>(asked: Asked<'a>, kind: Kind, line: &'a [u8]) -> Object<'a>
+/// The object of a name that is looked up.
+#[inline(always)]
+fn looked_up_of<'a>(asked: Asked<'a>, line: &'a [u8]) -> Object<'a>
     requires few { length asked.text.now ≤ MAX_LINE_LEN }
+    requires utf8 { IsUtf8 asked.text.now }
     requires filled { 1 ≤ length line.now }
-    requires short { length line.now ≤ longest kind }
+    requires short { length line.now ≤ 255 }
     ensures told { (text : List ℕ) → line.now ≡ text ++ 10 ∷ [] →
-        object_told result ≡ said_object asked.entry.number (told_of (Some asked.entry.text.now)) (said_by kind text) }
+        object_told result ≡ said_object asked.entry.number (told_of (Some asked.entry.text.now)) (LookedUp text) }
     ensures space { HasSpace result }
 {
     let text = &line[..line.len() - 1];
-    let input = Input::of(asked.text);
-    match kind {
-        Kind::LookedUp => Object::LookedUp(asked.number, input, text),
-        Kind::Decoded => Object::Decoded(asked.number, input, text),
-    }
+    Object::LookedUp(asked.number, Input::of_utf8(asked.text), text)
+}
+
+/// The object of a name that is decoded.
+#[inline(always)]
+fn decoded_of<'a>(asked: Asked<'a>, line: &'a [u8]) -> Object<'a>
+    requires few { length asked.text.now ≤ MAX_LINE_LEN }
+    requires filled { 1 ≤ length line.now }
+    requires short { length line.now ≤ 4097 }
+    ensures told { (text : List ℕ) → line.now ≡ text ++ 10 ∷ [] →
+        object_told result ≡ said_object asked.entry.number (told_of (Some asked.entry.text.now)) (Decoded text) }
+    ensures space { HasSpace result }
+{
+    let text = &line[..line.len() - 1];
+    Object::Decoded(asked.number, Input::of(asked.text), text)
 }

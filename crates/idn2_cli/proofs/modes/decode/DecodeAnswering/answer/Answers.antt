@@ -21,6 +21,9 @@ returns-then-is_empty-clause-refused g c =
 pub reply-requires-clause-filled : goal.reply-requires-clause-filled
 reply-requires-clause-filled g c = answered-filled (in_utf8 (decode_answer c.args.asked.now.text.now)) _ c.in-Ok.ensures.answer
 
+pub reply-requires-clause-utf8 : goal.reply-requires-clause-utf8
+reply-requires-clause-utf8 g c = λ same. cc
+
 pub returns-in-Ok-clause-written : goal.returns-in-Ok-clause-written
 returns-in-Ok-clause-written g c =
     let text = c.args.asked.now.text.now in

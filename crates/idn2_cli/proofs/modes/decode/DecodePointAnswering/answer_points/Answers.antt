@@ -8,6 +8,9 @@ use Rattle.idn2_cli.proofs.modes.decode.DecodePointAnswering.answer_points.Goals
 pub returns-in-Ok-clause-kept : goal.returns-in-Ok-clause-kept
 returns-in-Ok-clause-kept g c = kept_if_answered _ _ c.reply.result c.answered.result c.answered.ensures
 
+pub reply-requires-clause-utf8 : goal.reply-requires-clause-utf8
+reply-requires-clause-utf8 g c = λ same. cc
+
 pub returns-in-Ok-clause-written : goal.returns-in-Ok-clause-written
 returns-in-Ok-clause-written g c =
     emits_answered _ _ _ c.reply.result c.answered.result c.answered.ensures (emits_answer _ _ _ _ Decoded (in_utf8 (decode_answer c.args.points.now)) _ c.reply.result c.in-Ok.ensures.answer (rw c.as_bytes.ensures.value at c.reply.ensures.written))

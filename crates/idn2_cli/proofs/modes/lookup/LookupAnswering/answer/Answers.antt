@@ -1,12 +1,15 @@
 use Rattle.std.proofs.Common.{◌∙◌, ap, Err}
 use Rattle.idn2_cli.specs.Said.{LookedUp}
 use Rattle.idn2_cli.specs.inner.LineAnswers.{query_answer}
-use Rattle.idn2_cli.proofs.TextAnswers.{text_answer-query, answered-filled, emits_answer, one_answer-answered, one_answer-refused}
+use Rattle.idn2_cli.proofs.TextAnswers.{query_answer-utf8, text_answer-query, answered-filled, emits_answer, one_answer-answered, one_answer-refused}
 use Rattle.idn2_cli.proofs.RefusedLines.{answered_none, emits_answered, kept_as_it_was, kept_if_answered, replies_refusal, refused_is, refused_without}
 use Rattle.idn2_cli.proofs.modes.lookup.LookupAnswering.answer.Goals as goal
 
 pub reply-requires-clause-filled : goal.reply-requires-clause-filled
 reply-requires-clause-filled g c = answered-filled (query_answer c.args.asked.now.text.now c.args.self.now.std3) _ c.in-Ok.ensures.answer
+
+pub reply-requires-clause-utf8 : goal.reply-requires-clause-utf8
+reply-requires-clause-utf8 g c = λ same. query_answer-utf8 c.args.self.now.std3 c.args.asked.now.text.now _ c.in-Ok.ensures.answer
 
 pub returns-in-Ok-clause-written : goal.returns-in-Ok-clause-written
 returns-in-Ok-clause-written g c =
