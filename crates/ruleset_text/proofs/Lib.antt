@@ -26,3 +26,5 @@ mod EntrySpelledLemmas
 pub mod EntryExactLemmas
 pub mod EntryBackLemmas
 mod PlacedLemmas
+mod EntryPartLemmas
+pub mod WrongPlaceLemmas
