@@ -54,3 +54,5 @@ pub mod UnblockedLemmas
 pub mod AddingLemmas
 -- The first of a list that a test is true of.
 pub mod FindLemmas
+-- The places that are told are those that are defined.
+pub mod PlaceLawLemmas
