@@ -60,12 +60,19 @@ def cause_of(refusal):
     return f"not {refusal['rule']} Punycode" if "rule" in refusal else "nothing behind xn--"
 
 
+def place_of_table(refusal):
+    """Where a line of a table has its fault, as far as an object tells it."""
+    if "byte" not in refusal:
+        return None
+    return f"{refusal['code_point']} " * ("code_point" in refusal) + f"at byte {refusal['byte']}"
+
+
 def message_of(each):
     refusal = each["refusal"]
     head = next(f"{words} {each[name]}" for name, words in (
         ("line", "line"), ("table_line", "table line"), ("registered_line", "registered line")) if name in each)
     message = f"idn2: {head}: {refusal['number']} {refusal['text']}"
-    cause = None if "table_line" in each else cause_of(refusal)
+    cause = place_of_table(refusal) if "table_line" in each else cause_of(refusal)
     if cause is None:
         return message
     label = f"label {refusal['label']}" if "label" in refusal else ""
@@ -119,6 +126,8 @@ def as_explained(output, lines):
 
 
 def without_what_objects_leave_out(messages):
-    """Messages without which hyphen it is, and without the byte that no UTF-8 goes on with."""
+    """Messages without which hyphen it is, without the byte that no UTF-8 goes on with, and of a table without what stands at the
+    byte, other than a code point."""
     messages = re.sub(rb"(?m)(place \d+), (?:the first|the last|with place 4)$", rb"\1", messages)
+    messages = re.sub(rb"(?m)^(idn2: table line \d+: \d+ [a-z ]+: )(U\+[0-9A-F]+ )?[^\n]*?(at byte \d+)(?:: [a-z 0-9]+)?$", rb"\1\2\3", messages)
     return re.sub(rb"byte 0x[0-9A-F]{2} (at byte )", rb"\1", messages)

@@ -6,8 +6,10 @@ Where it does not know, since a code point is newer than the data here, or since
 """
 
 import functools
+import re
 
 import check
+import table_places
 from causes import Causes
 from notation import reading
 from notation.faults import TableFault
@@ -24,6 +26,7 @@ TEXTS = {
     16: "code point out of context", 17: "Bidi rule broken", 18: "label too long", 19: "not an A-label",
     NOT_MADE_OF_ENTRIES: "not made of table entries", NOT_VALID: "not valid under the table", 50: "usage", 60: "read fault",
 }
+FAULTY_LINE = re.compile(r"idn2: table line (\d+): (\d+) .*")
 FLAGS = {"-l": "lookup", "--lookup": "lookup", "-r": "register", "--register": "register", "-d": "decode",
          "--decode": "decode", "-N": "nontransitional", "--tr46nt": "nontransitional", "--quiet": "quiet", "--explain": "explain",
          "--usestd3asciirules": "std3", "--jump": "jump", "-h": "show", "--help": "show", "-V": "show", "--version": "show"}
@@ -152,13 +155,14 @@ class Run:
         if any(name not in files for name in options.files()):
             return b"", message(60), 3
         if options.mode in CHECKS:
-            return self.check(options.mode, files[options.given[options.mode]])
+            return self.check(options, files[options.given[options.mode]])
         try:
             registered, table = self.read_files(options, files)
         except RegisteredFault as fault:
             return b"", f"{fault}{self.tail_of_registered(options, files, *fault.args)}\n".encode(), 2
         except TableFault as fault:
-            return b"", f"{fault}\n".encode(), 2
+            tail = self.tail_of_table(options, files[options.given[options.mode]], fault.line, fault.number)
+            return b"", f"{fault}{tail}\n".encode(), 2
         output, messages = [], []
         for number, body in enumerate(bodies(given), 1):
             lines, refusal = self.answer_line(options, table, registered, body)
@@ -182,6 +186,14 @@ class Run:
             return ""
         cause = self.causes.of_registered(list(bodies(files[options.given["--among"]])), number, refusal)
         return "" if cause is None else f": {cause}"
+
+    def tail_of_table(self, options, text, number, fault):
+        """The same of a faulty line of a table or a ruleset."""
+        if "explain" not in options.given:
+            return ""
+        of_text = table_places.of_table if options.mode in ("--variants", "--check-table") else table_places.of_ruleset
+        place = of_text(text, number, fault, self.classes.may_stand)
+        return "" if place is None else f": {place}"
 
     def read_files(self, options, files):
         """The registered labels and the table, each None where the options name none. The labels are read first."""
@@ -213,10 +225,12 @@ class Run:
             labels.append(label)
         return set(labels)
 
-    def check(self, mode, text):
-        lines, is_clean = (check.check if mode == "--check-table" else check.check_ruleset)(text, self.classes)
-        printed = "".join(line + "\n" for line in lines).encode()
-        return (b"", printed, 2) if printed.startswith(b"idn2: ") else (printed, b"", 0 if is_clean else 1)
+    def check(self, options, text):
+        lines, is_clean = (check.check if options.mode == "--check-table" else check.check_ruleset)(text, self.classes)
+        fault = FAULTY_LINE.fullmatch(lines[0])
+        if fault:
+            return b"", f"{lines[0]}{self.tail_of_table(options, text, *map(int, fault.groups()))}\n".encode(), 2
+        return "".join(line + "\n" for line in lines).encode(), b"", 0 if is_clean else 1
 
     def answer_line(self, options, table, registered, body):
         """The lines of output and no refusal, or none and the number of the refusal."""

@@ -1,5 +1,5 @@
 #!/usr/bin/env python3
-"""Refusals with their causes: `--explain`, in each mode that reads lines.
+"""Refusals with their causes: `--explain`, in each mode that reads lines, and for a table that has a fault.
 
 Each row is a line, the words of a command and the message of the line, made by hand from the RFCs: RFC 5892 for the class and
 the context of a code point, RFC 5893 for the Bidi rule, RFC 5891 for the others, RFC 3492 and RFC 5890 for what begins with
@@ -133,6 +133,58 @@ REGISTERED_ROWS = [
 ]
 
 
+VERSION_2, VERSION_3 = "%version 2\n", "%version 3\n"
+SYNTAX, TWICE, AGAIN = "30 table syntax", "32 variant given twice", "31 source given twice"
+CLASS, OVER = "33 code point not allowed in a table", "34 table limit"
+NINE = "-".join(f"{point:04X}" for point in range(0x61, 0x6A))
+SEVENTEEN = ":".join(f"{point:04X}" for point in range(0x62, 0x73))
+
+# Tables, or rulesets where they begin as such: the number of the faulty line, its message, and where the fault is in the line. A
+# lexeme that can't stand there is quoted, unless it is longer than 32 bytes or has other bytes than those of ASCII that are seen.
+TABLE_ROWS = [
+    ("0061\n\n0061||0062\n", 3, SYNTAX, "'|' at byte 6"),
+    ("0061|0062:\n", 1, SYNTAX, "the line ends at byte 11"),
+    ("0061 | 0062 -\r\n", 1, SYNTAX, "the line ends at byte 14"),
+    ("0061|00G2\n", 1, SYNTAX, "'00G2' at byte 6"),
+    ("zz\n0061|\n", 1, SYNTAX, "'zz' at byte 1"),
+    ("0061..0063\n", 1, SYNTAX, "'..' at byte 5"),
+    ("0061|!0062\n", 1, SYNTAX, "'!' at byte 6"),
+    ("0061|'\n", 1, SYNTAX, "''' at byte 6"),
+    ("0061 # a letter\n", 1, SYNTAX, "'#' at byte 6"),
+    ("0061|" + "a" * 32 + "\n", 1, SYNTAX, f"'{'a' * 32}' at byte 6"),
+    ("0061|" + "a" * 33 + "\n", 1, SYNTAX, "word at byte 6"),
+    ("0061|straße\n", 1, SYNTAX, "word at byte 6"),
+    (b"0061|0062:\xff\n", 1, SYNTAX, "word at byte 11"),
+    (b"0061|0062\x00\n", 1, SYNTAX, "word at byte 6"),
+    (VERSION_2 + "!0061|0062\n", 2, SYNTAX, "'!' at byte 1"),
+    (VERSION_2 + "0063..0061\n", 2, SYNTAX, "'0061' at byte 7"),
+    (VERSION_2 + "0061..", 2, SYNTAX, "the line ends at byte 7"),
+    (VERSION_2 + "0061|0062 when r\n", 2, SYNTAX, "'when' at byte 11"),
+    (VERSION_2 + "%version 2\n", 2, SYNTAX, "'%version' at byte 1"),
+    (VERSION_3 + "!!0061\n", 2, SYNTAX, "'!' at byte 2"),
+    (VERSION_3 + "0061 as t\n", 2, SYNTAX, "'as' at byte 6"),
+    (VERSION_3 + "%version 3\n", 2, SYNTAX, None),
+    (VERSION_3 + " %set C 0061\n", 2, SYNTAX, None),
+    ("0061\n0041\n", 2, CLASS, "U+0041 at byte 1"),
+    ("0061|0062-U+0640:0041\n", 1, CLASS, "U+0640 at byte 11"),
+    (VERSION_2 + "005A..0061\n", 2, CLASS, "U+005A in the range at byte 1"),
+    (VERSION_2 + "\t0061..0100\n", 2, CLASS, "U+007B in the range at byte 2"),
+    (VERSION_2 + "10FFFE..10FFFF\n", 2, CLASS, "U+10FFFE in the range at byte 1"),
+    ("0061|0061\n", 1, TWICE, "variant at byte 6"),
+    (VERSION_2 + "0061|0062:0063:!0062:0063\n", 2, TWICE, "variant at byte 17"),
+    ("0061\n0062\n  0061|0063\n", 3, AGAIN, "source at byte 3"),
+    (VERSION_2 + "0062\n0061..0063\n", 3, AGAIN, "source at byte 1"),
+    ("0061" + " " * 1021 + "\n", 1, OVER, "the line goes on at byte 1025"),
+    (VERSION_3 + "0061" + " " * 8189 + "\n", 2, OVER, "the line goes on at byte 8193"),
+    (NINE + "\n", 1, OVER, "U+0069 at byte 41: code point 9"),
+    ("0061|" + SEVENTEEN + "\n", 1, OVER, "U+0072 at byte 86: variant 17"),
+    (VERSION_2 + "4E00..5E00\n", 2, OVER, None),
+]
+
+# Texts without the version line that each ruleset begins with.
+RULESETS_WITHOUT_VERSION = ["", "0061\n", "%version 2\n"]
+
+
 def words_of(folder, words):
     if "SOURCES" not in words:
         return words
@@ -194,6 +246,22 @@ def tells_the_cause_of_a_wrong_registered_line(folder):
         expect(words + ["--explain"], b"haus\n", b"", (before + (f": {cause}" if cause else "") + "\n").encode(), 2)
 
 
+def tells_where_a_table_has_its_fault(folder):
+    """Without the option the message ends in front of the place. No line of the input is answered."""
+    for text, number, message, place in TABLE_ROWS:
+        text = text if isinstance(text, bytes) else text.encode()
+        ruleset = text.startswith(VERSION_3.encode())
+        file = table_file(folder, text, "faulty.txt")
+        before = f"idn2: table line {number}: {message}"
+        for option in ("--check-ruleset", "--ruleset") if ruleset else ("--check-table", "--variants"):
+            given = b"a\n" if option in ("--ruleset", "--variants") else b""
+            expect([option, file], given, b"", f"{before}\n".encode(), 2)
+            expect([option, file, "--explain"], given, b"", (before + (f": {place}" if place else "") + "\n").encode(), 2)
+    for text in RULESETS_WITHOUT_VERSION:
+        words = ["--check-ruleset", table_file(folder, text.encode(), "faulty.txt"), "--explain"]
+        expect(words, b"", b"", b"idn2: table line 1: 30 table syntax\n", 2)
+
+
 def tells_a_cause_in_one_line_of_160_bytes(folder):
     """A message is ASCII, one line, at most 160 bytes."""
     last = "\U0010FFFF"
@@ -212,9 +280,9 @@ def is_refused_twice(folder):
 
 
 def changes_nothing_else(folder):
-    """The check of a table, help and the version take the option and answer as ever."""
+    """The check of a table without a fault, help and the version take the option and answer as ever."""
     table = table_file(folder, b"0073-0073|00DF\n00DF\n")
-    for words in (["--check-table", table], ["--help"], ["--version"], ["--check-table", table_file(folder, b"0061\nzz\n", "bad")]):
+    for words in (["--check-table", table], ["--help"], ["--version"]):
         plain, explained = run(words), run(words + ["--explain"])
         assert (plain.stdout, plain.stderr, plain.returncode) == (explained.stdout, explained.stderr, explained.returncode), words
 
@@ -225,6 +293,7 @@ TESTS = [
     tells_each_line_its_own_cause,
     answers_the_same_with_the_option,
     tells_the_cause_of_a_wrong_registered_line,
+    tells_where_a_table_has_its_fault,
     tells_a_cause_in_one_line_of_160_bytes,
     is_refused_twice,
     changes_nothing_else,

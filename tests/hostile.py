@@ -158,7 +158,7 @@ CASES = [
     Case(["--check-table", "table", "--json"], DOUBLED,
          [("", '{"source":"0061-0061","missing":"0061"}\n{"entries":1,"gaps":1}\n', "")], 1),
     Case(["--variants", "table", "--json"], b"0061|\n",
-         [("", '{"table_line":1,"refusal":{"number":30,"text":"table syntax"}}\n', "")], 2),
+         [("", '{"table_line":1,"refusal":{"number":30,"text":"table syntax","byte":6}}\n', "")], 2),
     Case(JUMP, SHARP_S, [("sss\tsssa\n", "sß\n", ""), ("\tsss\n", "", "idn2: line 2: 3 empty\n"), ("sss\tt\n", "ßs\n", ""),
                          ("sss\tßt\n", "#end\n", ""), ("x\ta\n", "", "idn2: line 5: 40 not made of table entries\n")], 1),
 ]

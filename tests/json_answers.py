@@ -153,11 +153,22 @@ def checks_a_table(folder):
 
 
 def tells_the_fault_of_a_table(folder):
-    table = table_file(folder, b"0061\nzz\n")
-    fault = text_of([{"table_line": 2, "refusal": {"number": 30, "text": "table syntax"}}])
-    objects_of(fault)
-    for words in (["--check-table", table], ["--variants", table], ["--variants", table, "--jump"]):
-        expect(words + ["--json"], b"", fault, b"", 2)
+    syntax, barred = {"number": 30, "text": "table syntax"}, {"number": 33, "text": "code point not allowed in a table"}
+    for text, refusal in [
+        (b"0061\nzz\n", {**syntax, "byte": 1}),
+        (b"0061\n0061|\n", {**syntax, "byte": 6}),
+        (b"0062\n0061|0041\n", {**barred, "code_point": "U+0041", "byte": 6}),
+        (b"%version 2\n005A..0061\n", {**barred, "code_point": "U+005A", "byte": 1}),
+        (b"0062\n0061|0061\n", {"number": 32, "text": "variant given twice", "byte": 6}),
+        (b"0061\n 0061\n", {"number": 31, "text": "source given twice", "byte": 2}),
+        (b"%version 2\n4E00..5E00\n", {"number": 34, "text": "table limit"}),
+    ]:
+        table = table_file(folder, text)
+        fault = text_of([{"table_line": 2, "refusal": refusal}])
+        objects_of(fault)
+        for words in (["--check-table", table], ["--variants", table], ["--variants", table, "--jump"]):
+            for more in (["--json"], ["--json", "--explain"]):
+                expect(words + more, b"", fault, b"", 2)
 
 
 def tells_the_fault_of_the_registered_labels(folder):

@@ -28,3 +28,5 @@ pub mod EntryBackLemmas
 pub mod DefinitionsTextLemmas
 pub mod LineBytes
 mod PlacedLemmas
+mod EntryPartLemmas
+pub mod WrongPlaceLemmas

@@ -56,3 +56,5 @@ pub mod AddingLemmas
 pub mod DefiningLemmas
 -- The first of a list that a test is true of.
 pub mod FindLemmas
+-- The places that are told are those that are defined.
+pub mod PlaceLawLemmas

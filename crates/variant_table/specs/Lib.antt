@@ -13,5 +13,7 @@ pub mod Places
 pub mod Reading
 pub mod Faults
 pub mod FaultPlaces
+pub mod ToldPlaces
+pub mod PlaceExamples
 pub mod Gaps
 pub mod inner

@@ -13,6 +13,7 @@ mod gaps;
 pub mod laws;
 mod lengths;
 mod place;
+pub mod place_laws;
 mod places;
 mod reading;
 mod rows;

@@ -2,8 +2,6 @@
 
 ghost use Rattle.std.specs.Prelude.{◌≡◌};
 ghost use Rattle.answer_json.specs.Answers.{line_of};
-ghost use Rattle.answer_json.specs.Details.{no_details};
-ghost use Rattle.answer_json.specs.Objects.{table_fault};
 ghost use Rattle.idn2_cli.specs.inner.Objects.{HasSpace, object_told};
 
 use answer_json::{

@@ -1,0 +1,31 @@
+-- What the places are that are told of a faulty line.
+use Rattle.std.specs.Prelude.{◌≡◌, ℕ, false, List, ◌∷◌, ◌++◌, IsTrue}
+use Rattle.std.specs.List.{AllByRecursion}
+use Rattle.ruleset_text.specs.declared.entry_place.WrongPlace.TheVariants as wrong
+use Rattle.ruleset_text.specs.declared.line_point.LinePoint.{LinePoint}
+use Rattle.ruleset_text.specs.WrongPlaces.{IsWrongPlace}
+use Rattle.variant_table.specs.declared.place.FaultPlace.{FaultPlace}
+use Rattle.variant_table.specs.declared.place.FaultPlace.TheVariants.{Lexeme, End, Point}
+use Rattle.variant_table.specs.declared.version.Version.{Version}
+use Rattle.variant_table.specs.FaultPlaces.{is_bad_point, parts_of}
+
+-- no form of the version goes on with the lexeme; or each goes on, and the line ends
+abbrev pub IsSyntaxPlace : Version → List ℕ → FaultPlace → Type 0
+IsSyntaxPlace version line (Lexeme place len) = IsWrongPlace (parts_of version) line (wrong.Lexeme place len)
+IsSyntaxPlace version line (End place) = IsWrongPlace (parts_of version) line (wrong.End place)
+IsSyntaxPlace version line other = ⊥
+
+-- a code point of the line is bad, and none before it is
+pub record IsFirstBadPoint (points : List LinePoint) (place c : ℕ) : Type 0 where
+  pub before : List LinePoint
+  pub p : LinePoint
+  pub behind : List LinePoint
+  pub cut : points ≡ before ++ p ∷ behind
+  pub good : AllByRecursion (λ q. is_bad_point q.point ≡ false) before
+  pub bad : IsTrue (is_bad_point p.point)
+  pub is_place : p.place ≡ place
+  pub is_point : p.point ≡ c
+
+abbrev pub IsFirstBad : List LinePoint → FaultPlace → Type 0
+IsFirstBad points (Point place c) = IsFirstBadPoint points place c
+IsFirstBad points other = ⊥
