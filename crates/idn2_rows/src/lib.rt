@@ -15,6 +15,8 @@ mod decoded_names;
 #[cfg(test)]
 mod definitions;
 #[cfg(test)]
+mod fault_places;
+#[cfg(test)]
 mod faults;
 #[cfg(test)]
 mod first_faults;

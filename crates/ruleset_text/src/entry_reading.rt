@@ -69,6 +69,8 @@ pub(crate) struct EntryState {
 }
 
 /// The entry or the range that a text spells, or none if it spells none. Tags and rules go by their names.
+// It stands in line where a table is read, whoever else calls it, and so does each step.
+#[inline(always)]
 pub fn read_entry(alloc: Global, text: &[u8]) -> Result<Option<EntryForm>, AllocError>
     ensures { IfOk result (λ found. MatchOption found ((form : entries.EntryForm) → IsEntryLine form text.now → ⊥) (λ read. IsEntryLine (forms.entry_form read) text.now)) }
 {
@@ -109,6 +111,7 @@ impl EntryState {
         }
     }
 
+    #[inline(always)]
     pub(crate) fn step(&mut self, alloc: Global, lexeme: &[u8]) -> Result<bool, AllocError>
         ensures { IfOk result (λ taken. steps.step (steps.state self.old) lexeme.now ≡ taken_as taken (steps.state self.new)) }
     {
