@@ -69,7 +69,7 @@ pub(crate) struct EntryState {
 }
 
 /// The entry or the range that a text spells, or none if it spells none. Tags and rules go by their names.
-// It stands in line where a table is read, whoever else calls it, and so does each step.
+// It stands in line where a table is read, whoever else calls it, and so do each step and the end.
 #[inline(always)]
 pub fn read_entry(alloc: Global, text: &[u8]) -> Result<Option<EntryForm>, AllocError>
     ensures { IfOk result (λ found. MatchOption found ((form : entries.EntryForm) → IsEntryLine form text.now → ⊥) (λ read. IsEntryLine (forms.entry_form read) text.now)) }
@@ -287,6 +287,7 @@ impl EntryState {
     }
 
     /// The form, if nothing is left open.
+    #[inline(always)]
     fn ended(self) -> Result<Option<EntryForm>, AllocError>
         ensures { IfOk result (λ found. steps.ended (steps.state self) ≡ option_map forms.entry_form found) }
     {

@@ -5,7 +5,7 @@ ghost use Rattle.ruleset_text.specs.Lexemes as lexemes;
 ghost use Rattle.ruleset_text.specs.Lexemes.{lexemes as lexemes_of};
 
 /// The first lexeme of a line, and what follows it.
-// Reading an entry calls it for each lexeme, so it stands there in line.
+// Reading an entry calls it for each lexeme, so it stands there in line, with all that it calls.
 #[inline(always)]
 pub fn next_lexeme(line: &[u8]) -> Option<(&[u8], &[u8])>
     ensures is { MatchOption result (lexemes_of line.now ≡ []) (λ found. lexemes_of line.now ≡ found.0.now ∷ lexemes_of found.1.now) }
@@ -32,6 +32,7 @@ pub fn without_blanks(text: &[u8]) -> &[u8]
 }
 
 /// How many bytes the lexeme has with which the text begins.
+#[inline(always)]
 fn lexeme_len(text: &[u8]) -> usize
     requires some { 0 < length text.now }
     requires front { lexemes.is_blank (slice_index text.now 0) ≡ false }
@@ -50,6 +51,7 @@ fn lexeme_len(text: &[u8]) -> usize
 }
 
 /// How many full stops there are at the front.
+#[inline(always)]
 fn stops_len(text: &[u8]) -> usize
     ensures place { result ≡ position_or_len (λ c. not (lexemes.is_full_stop c)) text.now }
     ensures within { result ≤ length text.now }
@@ -60,6 +62,7 @@ fn stops_len(text: &[u8]) -> usize
 }
 
 /// How many bytes there are before a blank, a mark or a full stop.
+#[inline(always)]
 fn word_len(text: &[u8]) -> usize
     ensures place { result ≡ position_or_len lexemes.is_word_end text.now }
     ensures within { result ≤ length text.now }
