@@ -64,7 +64,8 @@ def place_of_table(refusal):
     """Where a line of a table has its fault, as far as an object tells it."""
     if "byte" not in refusal:
         return None
-    return f"{refusal['code_point']} " * ("code_point" in refusal) + f"at byte {refusal['byte']}"
+    point = f"{refusal['code_point']} " if "code_point" in refusal else ""
+    return f"{point}at byte {refusal['byte']}"
 
 
 def message_of(each):
