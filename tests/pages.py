@@ -381,7 +381,8 @@ def names_what_is_proved(folder):
         for crate, parts in of_crates(names):
             cell[crate].update(parts)
             known = libraries()[crate]
-            allowed = known.laws | {"laws"} if head == "Law" else known.names() | known.others
+            modules = {name for name in known.others if name.endswith("laws")}
+            allowed = known.laws | modules if head == "Law" else known.names() | known.others
             wrong += [(head, crate, part) for part in parts if part not in allowed]
         for crate, parts in cell.items():
             named[crate] |= {call for call in libraries()[crate].calls() if parts.issuperset(call)}
