@@ -69,7 +69,10 @@ const RULESETS: [(&str, Option<FaultPlace>); 7] = [
     ("%version 3\n\t%set C 0061", None),
     ("%version 3\n!!0061", Some(FaultPlace::Lexeme(1, 1))),
     ("%version 3\n0061 when r", Some(FaultPlace::Lexeme(5, 4))),
-    ("%version 3\n !0061..007B", Some(FaultPlace::InRange(2, 0x7B))),
+    (
+        "%version 3\n !0061..007B",
+        Some(FaultPlace::InRange(2, 0x7B)),
+    ),
 ];
 
 #[test]
