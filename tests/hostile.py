@@ -135,6 +135,10 @@ CASES = [
     Case([*AMONG, "--explain"], SHARP_S, [("", "", "idn2: registered line 2: 4 out of order: U+0061 at place 1\n")], 2, b"b\na\nc\n"),
     Case([*AMONG, "--explain"], SHARP_S, [("", "", "idn2: registered line 1: 10 disallowed code point: U+0046 at place 1: "
                                            "RFC 5892 2.2 Unstable\n")], 2, "Faß\n".encode()),
+    Case(["--variants", "table", "--explain"], b"0061\n0062|\n",
+         [("", "", "idn2: table line 2: 30 table syntax: the line ends at byte 6\n")], 2),
+    Case(["--check-ruleset", "table", "--explain"], b"%version 3\n%tag t\n0061|0062-0041\n",
+         [("", "", "idn2: table line 3: 33 code point not allowed in a table: U+0041 at byte 11\n")], 2),
     # Objects, refusals with their causes among them.
     Case(["-r", "--json"], b"",
          [("faß\n", '{"line":1,"input":"faß","ulabel":"faß","alabel":"xn--fa-hia"}\n', ""),
