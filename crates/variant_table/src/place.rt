@@ -42,8 +42,8 @@ pub enum FaultPlace {
     SeventeenthVariant(usize, u32),
 }
 
-/// Where the line of a fault of this text has it, if a place is told: none where the table has too many entries, where a text
-/// is too long, in a text that lacks its version, or in a line of version 3 that begins with `%`.
+/// Where the line of a fault of this text has it, if a place is told: none in a text that lacks its version, in a line of version
+/// 3 that begins with `%` and isn't too long, or where the line goes past no limit of its own, as the one entry too many.
 #[tactic(auto, unfolding(crate::specs::FaultPlaces::fault_place))]
 pub fn fault_place(
     alloc: Global,
