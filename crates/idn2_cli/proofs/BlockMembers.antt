@@ -30,7 +30,7 @@ use Rattle.variant_list.proofs.TestedLaws.{tested_are_listed}
 use Rattle.variant_list.proofs.VariantLists.{variants-AreVariants}
 use Rattle.idn2_options.specs.Settings.{Settings}
 use Rattle.idn_label.specs.Answers.{unless_fault}
-use Rattle.idn2_cli.specs.Answers.{is_among, is_registrable, kept_to, unless_kept, variants_after, tested_after, stop_of, disposition, block, listing_answer, variants_answer}
+use Rattle.idn2_cli.specs.Answers.{filter_of, is_among, is_registrable, kept_to, unless_kept, variants_after, tested_after, stop_of, disposition, block, listing_answer, variants_answer}
 use Rattle.idn2_cli.specs.Answers.{IsAhead, IsKept, IsListed, IsTried, IsBlock, IsListing}
 use Rattle.idn2_cli.specs.Transcript.{IsCheck}
 use Rattle.idn2_cli.specs.Transcript.{check_findings}
@@ -98,16 +98,16 @@ whole-IsListOf P (Some labels) vs list = record { rising = tt; members = λ v. (
 
 block-IsBlock : (o : Settings) (table : TableValue) (label : List ℕ) → IsWellFormed table.entries → IsBlock o table label (block o table label)
 block-IsBlock o table label formed = record {
-  listed = variants_after o (spelled table.entries label);
-  exactly = IsListOf-same (λ v. IsVariant is_registrable table.entries label o.after v × IsKept o.registered v) (IsListed o table.entries label) (variants_after o (spelled table.entries label)) (same_listed o table.entries label)
+  listed = variants_after (filter_of table) o (spelled table.entries label);
+  exactly = IsListOf-same (λ v. IsVariant is_registrable table.entries label o.after v × IsKept o.registered v) (IsListed o table.entries label) (variants_after (filter_of table) o (spelled table.entries label)) (same_listed o table.entries label)
       (kept_to-IsListOf (IsVariant is_registrable table.entries label o.after) o.registered (variants is_registrable table.entries label o.after) (variants-AreVariants is_registrable table.entries label o.after formed.entries));
-  tried = tested_after o (spelled table.entries label);
-  exactly_tried = IsListOf-same (λ v. IsTested hopeless table.entries label o.after v × (o.registered ≡ None)) (IsTried o table.entries label) (tested_after o (spelled table.entries label)) (same_tried o table.entries label)
+  tried = tested_after (filter_of table) o (spelled table.entries label);
+  exactly_tried = IsListOf-same (λ v. IsTested hopeless table.entries label o.after v × (o.registered ≡ None)) (IsTried o table.entries label) (tested_after (filter_of table) o (spelled table.entries label)) (same_tried o table.entries label)
       (whole-IsListOf (IsTested hopeless table.entries label o.after) o.registered (tested hopeless table.entries label o.after) (tested_are_listed hopeless table.entries label o.after formed));
   ahead = unless_kept o.registered (candidates table.entries label o.after);
   exactly_ahead = IsListOf-same (λ v. IsVariant fits_label table.entries label o.after v × (o.registered ≡ None)) (IsAhead o table.entries label) (unless_kept o.registered (candidates table.entries label o.after)) (same_ahead o table.entries label)
       (whole-IsListOf (IsVariant fits_label table.entries label o.after) o.registered (candidates table.entries label o.after) (variants-AreVariants fits_label table.entries label o.after formed.entries));
-  stop = stop_of o (spelled table.entries label);
+  stop = stop_of (filter_of table) o (spelled table.entries label);
   stops = refl;
   field = disposition table label;
   disposed = λ v. disposition-IsDisposition table label v formed.entries;

@@ -13,12 +13,12 @@ use Rattle.variant_list.specs.Variants.{variants_among}
 use Rattle.variant_list.proofs.ListedLemmas.{variants-IsListed}
 use Rattle.registered_labels.specs.Registered.{AreRegistered}
 use Rattle.registered_labels.specs.Collisions.{Matching, IsBegun, collisions, collisions_ahead, is_spelled}
-use Rattle.registered_labels.proofs.ListedCollisions.{collisions-exactly, collisions-variants}
+use Rattle.registered_labels.proofs.ListedCollisions.{collisions-exactly}
 use Rattle.idn2_options.specs.Settings.{Settings, IsCount, IsWithinLimits, keeping}
 use Rattle.idn2_cli.specs.Transcript.{Piece, Output, outputs}
 use Rattle.answer_json.specs.declared.block.Disposition.{Disposition}
 use Rattle.idn2_cli.specs.Said.{Said, Listed, BlockEnd}
-use Rattle.idn2_cli.specs.Answers.{is_among, is_registrable, lesser_label, nth, nth_if_given, variants_after, block_to}
+use Rattle.idn2_cli.specs.Answers.{Filter, is_among, lesser_label, nth, nth_if_given, variants_after, block_to}
 use Rattle.idn2_cli.specs.inner.Dispositions.{block_by}
 use Rattle.idn2_cli.specs.Ends.{Held, Writes}
 use Rattle.idn2_cli.specs.inner.Emitting.{Emits, StopsWithin}
@@ -81,32 +81,45 @@ no_try None n (Some m) = refl
 no_try (Some v) n None = refl
 no_try (Some v) n (Some m) = refl
 
-pub kept-collisions : (o : Settings) (spelled labels : List (List ℕ)) → AreRegistered labels → variants_after (keeping (Some labels) o) spelled ≡ collisions spelled labels o.after
-kept-collisions o spelled labels all =
-    let whole = variants_among is_registrable spelled o.after in
-    let are = variants-IsListed is_registrable spelled o.after in
-    IsRising-unique (filter (is_among labels) whole) (collisions spelled labels o.after)
+-- the variants that are registered are the collisions that the filter accepts
+pub kept-collisions : (f : Filter) (o : Settings) (spelled labels : List (List ℕ)) → AreRegistered labels
+    → variants_after f (keeping (Some labels) o) spelled ≡ filter f.accepts (collisions spelled labels o.after)
+kept-collisions f o spelled labels all =
+    let whole = variants_among f.accepts spelled o.after in
+    let are = variants-IsListed f.accepts spelled o.after in
+    let found = collisions-exactly spelled labels o.after all in
+    IsRising-unique (filter (is_among labels) whole) (filter f.accepts (collisions spelled labels o.after))
     (IsRising-filter (is_among labels) whole are.rising)
-    (collisions-exactly spelled labels o.after all).rising
+    (IsRising-filter f.accepts (collisions spelled labels o.after) found.rising)
     (λ v h. let kept = (Contains-filter (is_among labels) whole v).0 h in
-    (collisions-variants spelled labels o.after v all).1 (kept.1, has_variant-is labels v kept.0))
-    (λ v h. let both = (collisions-variants spelled labels o.after v all).0 h in
-    (Contains-filter (is_among labels) whole v).1 (has_variant-from labels v both.1, both.0))
+    let listed = (are.members v).0 kept.1 in
+    let collides = (found.members v).1 (record { registered = has_variant-is labels v kept.0; spelled = listed.spelled; greater = listed.greater }) in
+    (Contains-filter f.accepts (collisions spelled labels o.after) v).1 (listed.accepted, collides))
+    (λ v h. let kept = (Contains-filter f.accepts (collisions spelled labels o.after) v).0 h in
+    let collides = (found.members v).0 kept.1 in
+    let listed = (are.members v).1 (record { accepted = kept.0; spelled = collides.spelled; greater = collides.greater }) in
+    (Contains-filter (is_among labels) whole v).1 (has_variant-from labels v collides.registered, listed))
 
-module _ (text : Said → List ℕ) (field : List ℕ → Option Disposition) where
+-- those that are still to come
+abbrev pub kept_ahead : Filter → Matching → List (List ℕ)
+kept_ahead f s = filter f.accepts (collisions_ahead s)
+
+module _ (f : Filter) (text : Said → List ℕ) (field : List ℕ → Option Disposition) where
   block-from : (o : Settings) (net : Built) (labels : List (List ℕ)) → AreRegistered labels → IfSome o.limit IsCount
-      → block_by field (keeping (Some labels) o) net.spelled ≡ lines_from (line_of field) o.limit 0 (collisions net.spelled labels o.after)
+      → block_by f field (keeping (Some labels) o) net.spelled ≡ lines_from (line_of field) o.limit 0 (filter f.accepts (collisions net.spelled labels o.after))
   block-from o net labels all limits =
-      ap (λ (vs : List (List ℕ)). block_to field (lesser_label (nth_if_given vs o.limit) (lesser_label (nth [] o.tries) (nth_if_given [] o.steps))) vs) (kept-collisions o net.spelled labels all)
-      ∙ ap (λ (stop : Option (List ℕ)). block_to field stop (collisions net.spelled labels o.after)) (no_try (nth_if_given (collisions net.spelled labels o.after) o.limit) o.tries o.steps)
-      ∙ block-lines field (collisions net.spelled labels o.after) o.limit (collisions-exactly net.spelled labels o.after all).rising limits
+      let found : List (List ℕ) = collisions net.spelled labels o.after in
+      let kept : List (List ℕ) = filter f.accepts found in
+      ap (λ (vs : List (List ℕ)). block_to field (lesser_label (nth_if_given vs o.limit) (lesser_label (nth [] o.tries) (nth_if_given [] o.steps))) vs) (kept-collisions f o net.spelled labels all)
+      ∙ ap (λ (stop : Option (List ℕ)). block_to field stop kept) (no_try (nth_if_given kept o.limit) o.tries o.steps)
+      ∙ block-lines field kept o.limit (IsRising-filter f.accepts found (collisions-exactly net.spelled labels o.after all).rising) limits
 
   -- ---- a listing under way
 
-  -- `so_far` is written; what is to come follows from the collisions ahead and the count
+  -- `so_far` is written; what is to come follows from the collisions ahead that are accepted, and from the count
   pub record IsUnderWay (o : Settings) (net : Built) (labels : List (List ℕ)) (old now : Held) (s : Matching) (count total : ℕ) : Type 0 where
     pub so_far : List Piece
-    pub split : outputs text (block_by field (keeping (Some labels) o) net.spelled) ≡ so_far ++ outputs text (lines_from (line_of field) o.limit count (collisions_ahead s))
+    pub split : outputs text (block_by f field (keeping (Some labels) o) net.spelled) ≡ so_far ++ outputs text (lines_from (line_of field) o.limit count (kept_ahead f s))
     pub pieces : Writes old now so_far
     pub few : count + length (collisions_ahead s) ≤ total
     pub registrable : All IsRegistrable (collisions_ahead s)
@@ -125,7 +138,7 @@ module _ (text : Said → List ℕ) (field : List ℕ → Option Disposition) wh
       let ahead : collisions_ahead s ≡ collisions net.spelled labels o.after = begun.ahead ∙ ap (λ (a : List ℕ). collisions net.spelled labels a) same_after in
       let count : length (collisions_ahead s) ≤ length labels = subst (λ (l : List (List ℕ)). length l ≤ length labels) (sym ahead) (filter-few _ labels) in record {
         so_far = [];
-        split = ap (outputs text) (block-from o net labels all limits.limit) ∙ ap (λ (l : List (List ℕ)). outputs text (lines_from (line_of field) o.limit 0 l)) (sym ahead);
+        split = ap (outputs text) (block-from o net labels all limits.limit) ∙ ap (λ (l : List (List ℕ)). outputs text (lines_from (line_of field) o.limit 0 (filter f.accepts l))) (sym ahead);
         pieces = writes_nothing old;
         few = omega (arith, count, same_total);
         registrable = subst (λ (ls : List (List ℕ)). All IsRegistrable (filter (is_spelled s.net.spelled) (drop s.passed ls))) (sym begun.registered)
@@ -134,17 +147,22 @@ module _ (text : Said → List ℕ) (field : List ℕ → Option Disposition) wh
 
   -- no label is left
   pub under_way-ended : {A : Type 0} (o : Settings) (net : Built) (labels : List (List ℕ)) (old now new : Held) (s : Matching) (count total : ℕ) (r : Result A Stop) → IsUnderWay o net labels old now s count total
-      → collisions_ahead s ≡ [] → Emits now new (Output (text (BlockEnd count None)) ∷ []) r → Emits old new (outputs text (block_by field (keeping (Some labels) o) net.spelled)) r
+      → collisions_ahead s ≡ [] → Emits now new (Output (text (BlockEnd count None)) ∷ []) r → Emits old new (outputs text (block_by f field (keeping (Some labels) o) net.spelled)) r
   under_way-ended o net labels old now new s count total r h none emits =
       emits_after old now new _ h.so_far (outputs text (BlockEnd count None ∷ [])) r
-      (h.split ∙ ap (λ (l : List (List ℕ)). h.so_far ++ outputs text (lines_from (line_of field) o.limit count l)) none) h.pieces emits
+      (h.split ∙ ap (λ (l : List (List ℕ)). h.so_far ++ outputs text (lines_from (line_of field) o.limit count (filter f.accepts l))) none) h.pieces emits
 
-  -- the label found is the next line
+  -- the label found is the next one that is accepted
+  next-kept : (s next : Matching) → collisions_ahead s ≡ next.label ∷ collisions_ahead next → f.accepts next.label ≡ true → kept_ahead f s ≡ next.label ∷ kept_ahead f next
+  next-kept s next found accepted =
+      ap (filter f.accepts) found ∙ ap (λ (b : Bool). if b then next.label ∷ kept_ahead f next else kept_ahead f next) accepted
+
+  -- so it is the next line
   next-split : (o : Settings) (net : Built) (labels : List (List ℕ)) (old now : Held) (s next : Matching) (count total : ℕ) → (h : IsUnderWay o net labels old now s count total)
-      → collisions_ahead s ≡ next.label ∷ collisions_ahead next
-      → outputs text (block_by field (keeping (Some labels) o) net.spelled) ≡ h.so_far ++ (Output (text (line_of field next.label)) ∷ outputs text (lines_behind (line_of field) o.limit count next.label (collisions_ahead next)))
-  next-split o net labels old now s next count total h found =
-      h.split ∙ ap (λ (l : List (List ℕ)). h.so_far ++ outputs text (lines_from (line_of field) o.limit count l)) found
+      → collisions_ahead s ≡ next.label ∷ collisions_ahead next → f.accepts next.label ≡ true
+      → outputs text (block_by f field (keeping (Some labels) o) net.spelled) ≡ h.so_far ++ (Output (text (line_of field next.label)) ∷ outputs text (lines_behind (line_of field) o.limit count next.label (kept_ahead f next)))
+  next-split o net labels old now s next count total h found accepted =
+      h.split ∙ ap (λ (l : List (List ℕ)). h.so_far ++ outputs text (lines_from (line_of field) o.limit count l)) (next-kept s next found accepted)
 
   -- it may be registered
   pub under_way-registrable : {o : Settings} {net : Built} {labels : List (List ℕ)} {old now : Held} {count total : ℕ} (s next : Matching) (v : List ℕ) → IsUnderWay o net labels old now s count total
@@ -154,23 +172,23 @@ module _ (text : Said → List ℕ) (field : List ℕ → Option Disposition) wh
 
   -- its line could not be written whole
   pub under_way-broken : {A : Type 0} (o : Settings) (net : Built) (labels : List (List ℕ)) (old now new : Held) (s next : Matching) (count total : ℕ) (v : List ℕ) (r : Result A Stop) (why : Stop) → IsUnderWay o net labels old now s count total
-      → collisions_ahead s ≡ next.label ∷ collisions_ahead next → v ≡ next.label → Emits now new (Output (text (line_of field v)) ∷ []) r → r ≡ Err why
-      → StopsWithin why old new (outputs text (block_by field (keeping (Some labels) o) net.spelled))
-  under_way-broken o net labels old now new s next count total v r why h found is emits stopped =
-      stops_between old now new _ h.so_far (Output (text (line_of field next.label)) ∷ []) _ r why (next-split o net labels old now s next count total h found) h.pieces
+      → collisions_ahead s ≡ next.label ∷ collisions_ahead next → f.accepts next.label ≡ true → v ≡ next.label → Emits now new (Output (text (line_of field v)) ∷ []) r → r ≡ Err why
+      → StopsWithin why old new (outputs text (block_by f field (keeping (Some labels) o) net.spelled))
+  under_way-broken o net labels old now new s next count total v r why h found accepted is emits stopped =
+      stops_between old now new _ h.so_far (Output (text (line_of field next.label)) ∷ []) _ r why (next-split o net labels old now s next count total h found accepted) h.pieces
       (subst (λ (u : List ℕ). Emits now new (Output (text (line_of field u)) ∷ []) r) is emits) stopped
 
   -- its line is written, and is not the last
   pub under_way-found : (o : Settings) (net : Built) (labels : List (List ℕ)) (old now new : Held) (s next : Matching) (count total : ℕ) (v : List ℕ) → IsUnderWay o net labels old now s count total
-      → collisions_ahead s ≡ next.label ∷ collisions_ahead next → v ≡ next.label → Writes now new (Output (text (line_of field v)) ∷ []) → reaches o.limit (count + 1) ≡ false
+      → collisions_ahead s ≡ next.label ∷ collisions_ahead next → f.accepts next.label ≡ true → v ≡ next.label → Writes now new (Output (text (line_of field v)) ∷ []) → reaches o.limit (count + 1) ≡ false
       → IsUnderWay o net labels old new next (count + 1) total
-  under_way-found o net labels old now new s next count total v h found is written going =
+  under_way-found o net labels old now new s next count total v h found accepted is written going =
       let line : List Piece = Output (text (line_of field next.label)) ∷ [] in
       let fewer : length (collisions_ahead s) ≡ suc (length (collisions_ahead next)) = ap (λ (l : List (List ℕ)). length l) found in record {
         so_far = h.so_far ++ line;
-        split = next-split o net labels old now s next count total h found
-            ∙ ap (λ (b : Bool). h.so_far ++ (Output (text (line_of field next.label)) ∷ outputs text (if b then BlockEnd (count + 1) (Some next.label) ∷ [] else lines_from (line_of field) o.limit (count + 1) (collisions_ahead next)))) going
-            ∙ sym (append_assoc h.so_far line (outputs text (lines_from (line_of field) o.limit (count + 1) (collisions_ahead next))));
+        split = next-split o net labels old now s next count total h found accepted
+            ∙ ap (λ (b : Bool). h.so_far ++ (Output (text (line_of field next.label)) ∷ outputs text (if b then BlockEnd (count + 1) (Some next.label) ∷ [] else lines_from (line_of field) o.limit (count + 1) (kept_ahead f next)))) going
+            ∙ sym (append_assoc h.so_far line (outputs text (lines_from (line_of field) o.limit (count + 1) (kept_ahead f next))));
         pieces = writes_join old now new h.so_far line h.pieces (subst (λ (u : List ℕ). Writes now new (Output (text (line_of field u)) ∷ [])) is written);
         few = omega (arith, h.few, fewer);
         registrable = All-tail IsRegistrable next.label (collisions_ahead next) (subst (All IsRegistrable) found h.registrable);
@@ -178,14 +196,14 @@ module _ (text : Said → List ℕ) (field : List ℕ → Option Disposition) wh
 
   -- its line is written, and is the last
   pub under_way-reached : {A : Type 0} (o : Settings) (net : Built) (labels : List (List ℕ)) (old now new last : Held) (s next : Matching) (count total : ℕ) (v stop_at : List ℕ) (r : Result A Stop) → IsUnderWay o net labels old now s count total
-      → collisions_ahead s ≡ next.label ∷ collisions_ahead next → v ≡ next.label → Writes now new (Output (text (line_of field v)) ∷ []) → reaches o.limit (count + 1) ≡ true
-      → stop_at ≡ next.label → Emits new last (Output (text (BlockEnd (count + 1) (Some stop_at))) ∷ []) r → Emits old last (outputs text (block_by field (keeping (Some labels) o) net.spelled)) r
-  under_way-reached o net labels old now new last s next count total v stop_at r h found is written reached at emits =
+      → collisions_ahead s ≡ next.label ∷ collisions_ahead next → f.accepts next.label ≡ true → v ≡ next.label → Writes now new (Output (text (line_of field v)) ∷ []) → reaches o.limit (count + 1) ≡ true
+      → stop_at ≡ next.label → Emits new last (Output (text (BlockEnd (count + 1) (Some stop_at))) ∷ []) r → Emits old last (outputs text (block_by f field (keeping (Some labels) o) net.spelled)) r
+  under_way-reached o net labels old now new last s next count total v stop_at r h found accepted is written reached at emits =
       let line : List Piece = Output (text (line_of field next.label)) ∷ [] in
       let end : List Piece = Output (text (BlockEnd (count + 1) (Some next.label))) ∷ [] in
       emits_after old new last _ (h.so_far ++ line) end r
-      (next-split o net labels old now s next count total h found
-      ∙ ap (λ (b : Bool). h.so_far ++ (Output (text (line_of field next.label)) ∷ outputs text (if b then BlockEnd (count + 1) (Some next.label) ∷ [] else lines_from (line_of field) o.limit (count + 1) (collisions_ahead next)))) reached
+      (next-split o net labels old now s next count total h found accepted
+      ∙ ap (λ (b : Bool). h.so_far ++ (Output (text (line_of field next.label)) ∷ outputs text (if b then BlockEnd (count + 1) (Some next.label) ∷ [] else lines_from (line_of field) o.limit (count + 1) (kept_ahead f next)))) reached
       ∙ sym (append_assoc h.so_far line end))
       (writes_join old now new h.so_far line h.pieces (subst (λ (u : List ℕ). Writes now new (Output (text (line_of field u)) ∷ [])) is written))
       (subst (λ (u : List ℕ). Emits new last (Output (text (BlockEnd (count + 1) (Some u))) ∷ []) r) at emits)

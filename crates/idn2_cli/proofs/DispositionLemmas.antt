@@ -4,7 +4,6 @@ use Rattle.std.specs.Prelude.{bytes_eq}
 use Rattle.std.specs.Ordering.{is_le}
 use Rattle.std.specs.List.{AllByRecursion, All, Contains, filter, list_any}
 use Rattle.std.proofs.lemmas.Slice.Eq.{bytes_eq-Decides}
-use Rattle.idn_class.specs.Hopeless.{hopeless}
 use Rattle.variant_table.specs.declared.version.Version.{Version}
 use Rattle.variant_table.specs.declared.version.Version.TheVariants.{One, Two, Three}
 use Rattle.variant_table.specs.Entries.{Entry, TableValue, has_blocked, unblocked}
@@ -27,7 +26,7 @@ use Rattle.variant_list.specs.Variants.{candidates_among, fits_label, in_order, 
 use Rattle.variant_list.specs.Visited.{visited}
 use Rattle.variant_list.proofs.NetLabels.{among-in_order}
 use Rattle.variant_list.proofs.RisingLists.{Contains-filter}
-use Rattle.idn2_cli.specs.Answers.{block, block_to, is_among, is_registrable, kept_to, lesser_label, nth, nth_if_given, unless_kept, is_allocatable, allocation, disposition_in, disposition, IsFieldOf, IsAllocation, IsDisposition, stop_of, up_to, variants_after}
+use Rattle.idn2_cli.specs.Answers.{Filter, block, block_to, filter_of, is_among, kept_to, lesser_label, nth, nth_if_given, unless_kept, is_allocatable, allocation, disposition_in, disposition, IsFieldOf, IsAllocation, IsDisposition, stop_of, up_to, variants_after}
 use Rattle.answer_json.specs.declared.block.Disposition.{Disposition}
 use Rattle.answer_json.specs.declared.block.Disposition.TheVariants.{Allocatable}
 use Rattle.idn2_cli.specs.Said.{Said, Listed, BlockEnd}
@@ -126,33 +125,34 @@ kept-listed (Some registered) vs v at = ((Contains-filter (is_among registered) 
 
 -- the block by the fields that are told is the block
 told-block : (o : Settings) (table : TableValue) (label : List ℕ) (told : Dispositions Built) → All IsEntry table.entries → AreOfLabel table label told
-    → block_by (field_by told) o (spelled table.entries label) ≡ block_by (disposition table label) o (spelled table.entries label)
+    → block_by (filter_of table) (field_by told) o (spelled table.entries label) ≡ block_by (filter_of table) (disposition table label) o (spelled table.entries label)
 told-block o table label told well is =
-    let vs = variants_after o (spelled table.entries label) in
-    let stop = stop_of o (spelled table.entries label) in
+    let f : Filter = filter_of table in
+    let vs = variants_after f o (spelled table.entries label) in
+    let stop = stop_of f o (spelled table.entries label) in
     let same : AllByRecursion (λ v. Listed (field_by told v) v ≡ Listed (disposition table label v) v) vs =
     all_members (λ v. Listed (field_by told v) v ≡ Listed (disposition table label v) v) vs
-    (λ v at. ap (λ field. Listed field v) (field-is table label v told well is (((variants-IsListed is_registrable (spelled table.entries label) o.after).members v).0 (kept-listed o.registered (variants_among is_registrable (spelled table.entries label) o.after) v at)).spelled)) in
+    (λ v at. ap (λ field. Listed field v) (field-is table label v told well is (((variants-IsListed f.accepts (spelled table.entries label) o.after).members v).0 (kept-listed o.registered (variants_among f.accepts (spelled table.entries label) o.after) v at)).spelled)) in
     ap (λ said. said ++ BlockEnd (length (up_to stop vs)) stop ∷ [])
     (map-same (λ v. Listed (field_by told v) v) (λ v. Listed (disposition table label v) v) (up_to stop vs) (up_to-all _ stop vs same))
 
 -- the block of labels that are the same in order
-block-same : (field : List ℕ → Option Disposition) (o : Settings) (labels others : List (List ℕ)) → in_order labels ≡ in_order others → block_by field o labels ≡ block_by field o others
-block-same field o labels others same =
-    ap (λ (vs : List (List ℕ)). of_lists vs (tested_among hopeless labels o.after) (candidates_among labels o.after)) (among-in_order is_registrable labels others o.after same)
-    ∙ ap (λ (ts : List (List ℕ)). of_lists (variants_among is_registrable others o.after) ts (candidates_among labels o.after)) (among-in_order (λ v. fits_label v && has_hope hopeless v) labels others o.after same)
-    ∙ ap (of_lists (variants_among is_registrable others o.after) (tested_among hopeless others o.after)) (among-in_order fits_label labels others o.after same)
+block-same : (f : Filter) (field : List ℕ → Option Disposition) (o : Settings) (labels others : List (List ℕ)) → in_order labels ≡ in_order others → block_by f field o labels ≡ block_by f field o others
+block-same f field o labels others same =
+    ap (λ (vs : List (List ℕ)). of_lists vs (tested_among f.hopeless labels o.after) (candidates_among labels o.after)) (among-in_order f.accepts labels others o.after same)
+    ∙ ap (λ (ts : List (List ℕ)). of_lists (variants_among f.accepts others o.after) ts (candidates_among labels o.after)) (among-in_order (λ v. fits_label v && has_hope f.hopeless v) labels others o.after same)
+    ∙ ap (of_lists (variants_among f.accepts others o.after) (tested_among f.hopeless others o.after)) (among-in_order fits_label labels others o.after same)
   where
     of_lists : List (List ℕ) → List (List ℕ) → List (List ℕ) → List Said
     of_lists vs ts cs =
         let kept = kept_to o.registered vs in
-        block_to field (lesser_label (nth_if_given kept o.limit) (lesser_label (nth (unless_kept o.registered ts) o.tries) (nth_if_given (visited hopeless None (unless_kept o.registered cs)) o.steps))) kept
+        block_to field (lesser_label (nth_if_given kept o.limit) (lesser_label (nth (unless_kept o.registered ts) o.tries) (nth_if_given (visited f.hopeless None (unless_kept o.registered cs)) o.steps))) kept
 
 -- what is written of a net is the block
 pub written_block : (text : Said → List ℕ) (o : Settings) (table : TableValue) (label : List ℕ) (net : Built) (told : Dispositions Built) → All IsEntry table.entries → in_order net.spelled ≡ in_order (spelled table.entries label) → AreOfLabel table label told
-    → outputs text (block_by (field_by told) o net.spelled) ≡ outputs text (block o table label)
+    → outputs text (block_by (filter_of table) (field_by told) o net.spelled) ≡ outputs text (block o table label)
 written_block text o table label net told well same is =
-    ap (outputs text) (block-same (field_by told) o net.spelled (spelled table.entries label) same ∙ told-block o table label told well is)
+    ap (outputs text) (block-same (filter_of table) (field_by told) o net.spelled (spelled table.entries label) same ∙ told-block o table label told well is)
 
 -- ---- the field that computes is the field
 

@@ -22,7 +22,7 @@ use Rattle.variant_list.specs.Spelled.{spelled}
 use Rattle.variant_list.specs.Variants.{variants, in_order}
 use Rattle.variant_list.specs.Examples.{a_or_two, letter_or_hyphen}
 use Rattle.idn2_options.specs.Settings.{Settings}
-use Rattle.idn2_cli.specs.Answers.{block, block_to, disposition, is_registrable, kept_to, lesser_label, nth, nth_if_given, one_answer, tested_after, u_label_of, visited_in}
+use Rattle.idn2_cli.specs.Answers.{block, block_to, disposition, filter_of, is_registrable, kept_to, lesser_label, nth, nth_if_given, one_answer, tested_after, u_label_of, visited_in}
 use Rattle.idn2_options.specs.declared.command_line.form.Form.TheVariants.{Plain}
 use Rattle.idn2_cli.specs.Said.{Said, Registered, said_line}
 use Rattle.std.specs.Char.{encode_utf8}
@@ -56,11 +56,11 @@ filter-passes after (v ∷ vs) ldh =
 abbrev ldh_block : Settings → TableValue → List ℕ → List Said
 ldh_block o table label =
     let vs = kept_to o.registered (variants passes table.entries label o.after) in
-    block_to (disposition table label) (lesser_label (nth_if_given vs o.limit) (lesser_label (nth (tested_after o (spelled table.entries label)) o.tries) (nth_if_given (visited_in o (spelled table.entries label)) o.steps))) vs
+    block_to (disposition table label) (lesser_label (nth_if_given vs o.limit) (lesser_label (nth (tested_after (filter_of table) o (spelled table.entries label)) o.tries) (nth_if_given (visited_in (filter_of table) o (spelled table.entries label)) o.steps))) vs
 
 block-ldh : (o : Settings) (table : TableValue) (label : List ℕ) → AllLdh (in_order (spelled table.entries label)) → block o table label ≡ ldh_block o table label
 block-ldh o table label ldh =
-    ap (λ (all : List (List ℕ)). let vs = kept_to o.registered all in block_to (disposition table label) (lesser_label (nth_if_given vs o.limit) (lesser_label (nth (tested_after o (spelled table.entries label)) o.tries) (nth_if_given (visited_in o (spelled table.entries label)) o.steps))) vs)
+    ap (λ (all : List (List ℕ)). let vs = kept_to o.registered all in block_to (disposition table label) (lesser_label (nth_if_given vs o.limit) (lesser_label (nth (tested_after (filter_of table) o (spelled table.entries label)) o.tries) (nth_if_given (visited_in (filter_of table) o (spelled table.entries label)) o.steps))) vs)
     (filter-passes o.after (in_order (spelled table.entries label)) ldh)
 
 pub blocks : ExamplesOfBlocks

@@ -6,6 +6,8 @@ pub mod WrittenPieces
 pub mod TextAnswers
 -- Blocks: the least of several stops, and one line more.
 pub mod BlockSteps
+-- What a listing asks of labels, and what is known of it.
+pub mod FilterLemmas
 -- The stop of a listing, as it is seen from where the cursor stands.
 pub mod StopSteps
 -- One line more, and the end of the lines.

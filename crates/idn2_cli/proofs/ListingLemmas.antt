@@ -1,13 +1,8 @@
 -- The listing of a label's variants, and the labels in it.
-use Rattle.std.proofs.Common.{◌≡◌, ◌≤◌, ◌+◌, ◌-◌, ℕ, zero, suc, List, [], ◌∷◌, ◌++◌, ◌&&◌, ◌||◌, cond, Bool, true, false, IsTrue, Option, Some, None, IfSome, All, Contains, map, length, take, drop, refl, sym, ap, ◌∙◌, arith, take-append-drop, length-take}
-use Rattle.std.specs.Option.{is_none}
+use Rattle.std.proofs.Common.{◌≡◌, ◌≤◌, ◌+◌, ◌-◌, ℕ, zero, suc, List, [], ◌∷◌, ◌++◌, ◌&&◌, ◌||◌, cond, Bool, true, false, Option, Some, None, IfSome, All, Contains, map, length, take, drop, refl, sym, ap, ◌∙◌, arith, take-append-drop, length-take}
 use Rattle.std.specs.List.{AllByRecursion, filter, slice_get}
 use Rattle.std.proofs.lemmas.List.Elements.{All-contains, All-from_recursion, recursion_from_All}
 use Rattle.idn_text.specs.Points.{IsScalarValue, AreScalarValues}
-use Rattle.idn_class.specs.Hopeless.{hopeless}
-use Rattle.idn_label.specs.FirstFault.{first_fault}
-use Rattle.idn_label.proofs.HopeLemmas.{none_hopeless}
-use Rattle.idn_label.proofs.RequirementLemmas.{MeetsRequirements-registrable}
 use Rattle.variant_list.specs.Labels.{IsBelow}
 use Rattle.variant_list.specs.Beginnings.{has_hope, is_new, shortest_hopeless}
 use Rattle.variant_list.specs.Tested.{tested_among}
@@ -23,22 +18,11 @@ use Rattle.variant_list.proofs.TestedLaws.{accepted-tested, tested-cut}
 use Rattle.idn2_options.specs.Settings.{Settings, IsBound, IsCount, IsWithinLimits, keeping}
 use Rattle.answer_json.specs.declared.block.Disposition.{Disposition}
 use Rattle.idn2_cli.specs.Said.{Said, Listed, BlockEnd}
-use Rattle.idn2_cli.specs.Answers.{is_registrable, nth, nth_if_given, lesser_label, up_to, block_to}
+use Rattle.idn2_cli.specs.Answers.{Filter, nth, nth_if_given, lesser_label, up_to, block_to}
 use Rattle.idn2_cli.specs.inner.Dispositions.{block_by}
 use Rattle.idn2_cli.proofs.BlockSteps.{get_if_given, limit_from, lines_to}
+use Rattle.idn2_cli.proofs.FilterLemmas.{IsSound, accepted-short}
 use Rattle.idn2_cli.proofs.StopSteps.{IsAbove, from_here, from_here_if, stop_from, variants_ahead}
-
--- ---- labels that may be registered
-
-pub is_registrable-from : (v : List ℕ) → IsTrue (is_registrable v) → first_fault v ≡ None
-is_registrable-from v h = none (first_fault v) h
-  where
-    none : {X : Type 0} (r : Option X) → is_none r ≡ true → r ≡ None
-    none None h = refl
-    none (Some x) h = cc
-
-pub registrable-short : (v : List ℕ) → IsTrue (is_registrable v) → length v ≤ 63
-registrable-short v h = (MeetsRequirements-registrable v (is_registrable-from v h)).points
 
 -- ---- the block
 
@@ -71,37 +55,37 @@ candidates-cut : (labels : List (List ℕ)) (after : List ℕ) → candidates_am
 candidates-cut labels after = variants-cut fits_label fits_label-short labels after
 
 -- the start of a listing: its block are the lines up to the stop that is seen from there
-pub record IsStart (field : List ℕ → Option Disposition) (o : Settings) (p : Position) : Type 0 where
+pub record IsStart (f : Filter) (field : List ℕ → Option Disposition) (o : Settings) (p : Position) : Type 0 where
   pub place : Option ℕ
   pub limit : o.limit ≡ limit_from 0 place
-  pub block : block_by field (keeping None o) p.net.spelled ≡ lines_to (line_by field) 0 (stop_from place p o.tries o.steps) (variants_ahead p)
+  pub block : block_by f field (keeping None o) p.net.spelled ≡ lines_to (line_by field) 0 (stop_from f place p o.tries o.steps) (variants_ahead f p)
 
-pub block-start : (field : List ℕ → Option Disposition) (o : Settings) (net : Built) → IsWithinLimits o → IsStart field o (record { net = net; last = take 63 o.after; edge_tests = 0 })
-block-start field o net limits =
+pub block-start : (f : Filter) → IsSound f → (field : List ℕ → Option Disposition) (o : Settings) (net : Built) → IsWithinLimits o → IsStart f field o (record { net = net; last = take 63 o.after; edge_tests = 0 })
+block-start f sound field o net limits =
     let last : List ℕ = take 63 o.after in
-    let cs : List (List ℕ) = tested_among hopeless net.spelled last in
-    let us : List (List ℕ) = visited hopeless None (candidates_among net.spelled last) in
-    let place = at_place (filter is_registrable cs) o.limit limits.limit in
-    let vs : variants_among is_registrable net.spelled o.after ≡ filter is_registrable cs =
-    accepted-tested is_registrable hopeless registrable-short none_hopeless net.spelled o.after ∙ ap (filter is_registrable) (tested-cut hopeless net.spelled o.after) in
-    let tries : nth (tested_among hopeless net.spelled o.after) o.tries ≡ from_here last cs o.tries =
-    ap (λ (ds : List (List ℕ)). nth ds o.tries) (tested-cut hopeless net.spelled o.after) ∙ nth-here last cs o.tries limits.tries.0 in
-    let steps : nth_if_given (visited hopeless None (candidates_among net.spelled o.after)) o.steps ≡ from_here_if last us o.steps =
-    ap (λ (ds : List (List ℕ)). nth_if_given (visited hopeless None ds) o.steps) (candidates-cut net.spelled o.after) ∙ nth-here_if last us o.steps limits.steps in
+    let cs : List (List ℕ) = tested_among f.hopeless net.spelled last in
+    let us : List (List ℕ) = visited f.hopeless None (candidates_among net.spelled last) in
+    let place = at_place (filter f.accepts cs) o.limit limits.limit in
+    let vs : variants_among f.accepts net.spelled o.after ≡ filter f.accepts cs =
+    accepted-tested f.accepts f.hopeless (accepted-short f sound) sound.for_good net.spelled o.after ∙ ap (filter f.accepts) (tested-cut f.hopeless net.spelled o.after) in
+    let tries : nth (tested_among f.hopeless net.spelled o.after) o.tries ≡ from_here last cs o.tries =
+    ap (λ (ds : List (List ℕ)). nth ds o.tries) (tested-cut f.hopeless net.spelled o.after) ∙ nth-here last cs o.tries limits.tries.0 in
+    let steps : nth_if_given (visited f.hopeless None (candidates_among net.spelled o.after)) o.steps ≡ from_here_if last us o.steps =
+    ap (λ (ds : List (List ℕ)). nth_if_given (visited f.hopeless None ds) o.steps) (candidates-cut net.spelled o.after) ∙ nth-here_if last us o.steps limits.steps in
     record {
       place = place.0;
       limit = place.2;
       block =
-          ap (λ (ds : List (List ℕ)). block_to field (lesser_label (nth_if_given ds o.limit) (lesser_label (nth (tested_among hopeless net.spelled o.after) o.tries) (nth_if_given (visited hopeless None (candidates_among net.spelled o.after)) o.steps))) ds) vs
-          ∙ ap (λ (t : Option (List ℕ)). block_to field (lesser_label (nth_if_given (filter is_registrable cs) o.limit) (lesser_label t (nth_if_given (visited hopeless None (candidates_among net.spelled o.after)) o.steps))) (filter is_registrable cs)) tries
-          ∙ ap (λ (s : Option (List ℕ)). block_to field (lesser_label (nth_if_given (filter is_registrable cs) o.limit) (lesser_label (from_here last cs o.tries) s)) (filter is_registrable cs)) steps
-          ∙ ap (λ (l : Option (List ℕ)). block_to field (lesser_label l (lesser_label (from_here last cs o.tries) (from_here_if last us o.steps))) (filter is_registrable cs)) place.1
-          ∙ lines_to-none field (lesser_label (get_if_given (filter is_registrable cs) place.0) (lesser_label (from_here last cs o.tries) (from_here_if last us o.steps))) (filter is_registrable cs);
+          ap (λ (ds : List (List ℕ)). block_to field (lesser_label (nth_if_given ds o.limit) (lesser_label (nth (tested_among f.hopeless net.spelled o.after) o.tries) (nth_if_given (visited f.hopeless None (candidates_among net.spelled o.after)) o.steps))) ds) vs
+          ∙ ap (λ (t : Option (List ℕ)). block_to field (lesser_label (nth_if_given (filter f.accepts cs) o.limit) (lesser_label t (nth_if_given (visited f.hopeless None (candidates_among net.spelled o.after)) o.steps))) (filter f.accepts cs)) tries
+          ∙ ap (λ (s : Option (List ℕ)). block_to field (lesser_label (nth_if_given (filter f.accepts cs) o.limit) (lesser_label (from_here last cs o.tries) s)) (filter f.accepts cs)) steps
+          ∙ ap (λ (l : Option (List ℕ)). block_to field (lesser_label l (lesser_label (from_here last cs o.tries) (from_here_if last us o.steps))) (filter f.accepts cs)) place.1
+          ∙ lines_to-none field (lesser_label (get_if_given (filter f.accepts cs) place.0) (lesser_label (from_here last cs o.tries) (from_here_if last us o.steps))) (filter f.accepts cs);
     }
 
 -- the test of the labels that a listing tests
-abbrev fits_with_hope : List ℕ → Bool
-fits_with_hope v = fits_label v && has_hope hopeless v
+abbrev fits_with_hope : Filter → List ℕ → Bool
+fits_with_hope f v = fits_label v && has_hope f.hopeless v
 
 -- ---- labels that a listing comes to can be written, and are above the last one
 
@@ -133,31 +117,31 @@ take_all_of P (suc n) [] all = tt
 take_all_of P (suc n) (x ∷ xs) all = (all.0, take_all_of P n xs all.1)
 
 -- what holds of all labels holds of those that are visited
-visited-all : (P : List ℕ → Type 0) (before : Option (List ℕ)) (vs : List (List ℕ)) → AllByRecursion P vs → AllByRecursion P (visited hopeless before vs)
-visited-all P before [] all = tt
-visited-all P before (v ∷ vs) all = by_test (has_hope hopeless v || is_new before v (shortest_hopeless hopeless v)) (visited-all P (Some v) vs all.1)
+visited-all : (f : Filter) (P : List ℕ → Type 0) (before : Option (List ℕ)) (vs : List (List ℕ)) → AllByRecursion P vs → AllByRecursion P (visited f.hopeless before vs)
+visited-all f P before [] all = tt
+visited-all f P before (v ∷ vs) all = by_test (has_hope f.hopeless v || is_new before v (shortest_hopeless f.hopeless v)) (visited-all f P (Some v) vs all.1)
   where
-    by_test : (b : Bool) → AllByRecursion P (visited hopeless (Some v) vs) → AllByRecursion P (cond b (v ∷ visited hopeless (Some v) vs) (visited hopeless (Some v) vs))
+    by_test : (b : Bool) → AllByRecursion P (visited f.hopeless (Some v) vs) → AllByRecursion P (cond b (v ∷ visited f.hopeless (Some v) vs) (visited f.hopeless (Some v) vs))
     by_test true h = (all.0, h)
     by_test false h = h
 
 -- where a cursor comes to can be written, where it was can
-pub visited-writable : (count : ℕ) (p : Position) → All AreScalarValues p.net.spelled → IsWritable p.last → IsWritable (last_of p.last (take count (visited_ahead hopeless p)))
-visited-writable count p scalar writable =
-    last_of-writable p.last (take count (visited_ahead hopeless p)) writable
-    (take_all_of IsWritable count (visited_ahead hopeless p) (visited-all IsWritable None (candidates_ahead p) (candidates-writable p.net.spelled scalar p.last)))
+pub visited-writable : (f : Filter) (count : ℕ) (p : Position) → All AreScalarValues p.net.spelled → IsWritable p.last → IsWritable (last_of p.last (take count (visited_ahead f.hopeless p)))
+visited-writable f count p scalar writable =
+    last_of-writable p.last (take count (visited_ahead f.hopeless p)) writable
+    (take_all_of IsWritable count (visited_ahead f.hopeless p) (visited-all f IsWritable None (candidates_ahead p) (candidates-writable p.net.spelled scalar p.last)))
 
-pub ahead-above : (p : Position) → IsAbove p
-ahead-above p = record {
-  tested = all_members (IsBelow p.last) (tested_ahead hopeless p) (λ v c. (((variants-IsListed fits_with_hope p.net.spelled p.last).members v).0 c).greater);
-  visited = visited-all (IsBelow p.last) None (candidates_ahead p) (all_members (IsBelow p.last) (candidates_ahead p) (λ v c. (((variants-IsListed fits_label p.net.spelled p.last).members v).0 c).greater));
+pub ahead-above : (f : Filter) (p : Position) → IsAbove f p
+ahead-above f p = record {
+  tested = all_members (IsBelow p.last) (tested_ahead f.hopeless p) (λ v c. (((variants-IsListed (fits_with_hope f) p.net.spelled p.last).members v).0 c).greater);
+  visited = visited-all f (IsBelow p.last) None (candidates_ahead p) (all_members (IsBelow p.last) (candidates_ahead p) (λ v c. (((variants-IsListed fits_label p.net.spelled p.last).members v).0 c).greater));
 }
 
 -- what is ahead of it then
-pub moved-ahead : (count : ℕ) (p : Position) → tested_ahead hopeless (moved_over hopeless count p) ≡ drop count (tested_ahead hopeless p)
-moved-ahead count p =
-    let cs = tested_ahead hopeless p in
-    variants-behind fits_with_hope p.net.spelled p.last (take count cs) (drop count cs) (sym (take-append-drop count cs))
+pub moved-ahead : (f : Filter) (count : ℕ) (p : Position) → tested_ahead f.hopeless (moved_over f.hopeless count p) ≡ drop count (tested_ahead f.hopeless p)
+moved-ahead f count p =
+    let cs = tested_ahead f.hopeless p in
+    variants-behind (fits_with_hope f) p.net.spelled p.last (take count cs) (drop count cs) (sym (take-append-drop count cs))
 
 take_scalar : (n : ℕ) (points : List ℕ) → AreScalarValues points → AreScalarValues (take n points)
 take_scalar n points h = All-from_recursion IsScalarValue (take n points) (take_all_of IsScalarValue n points (recursion_from_All IsScalarValue points h))

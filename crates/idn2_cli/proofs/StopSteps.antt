@@ -1,13 +1,12 @@
 -- The stop of a listing, as it is seen from where the cursor stands.
 use Rattle.std.proofs.Common.{◌≡◌, ◌<◌, ◌≤◌, ◌-◌, inl, inr, ℕ, zero, suc, List, [], ◌∷◌, Bool, true, false, Option, Some, None, IfSome, length, take, drop, refl, ap, ◌∙◌, if◌then◌else◌, arith}
 use Rattle.std.specs.List.{AllByRecursion, filter, slice_get}
-use Rattle.idn_class.specs.Hopeless.{hopeless}
 use Rattle.variant_list.specs.Labels.{IsBelow}
 use Rattle.variant_list.specs.Jumps.{IsFrom}
 use Rattle.variant_list.specs.Positions.{Position, tested_ahead}
 use Rattle.variant_list.specs.Steps.{last_of}
 use Rattle.variant_list.specs.Visited.{visited_ahead}
-use Rattle.idn2_cli.specs.Answers.{is_registrable, lesser_label}
+use Rattle.idn2_cli.specs.Answers.{Filter, lesser_label}
 use Rattle.idn2_cli.proofs.BlockSteps.{get_if_given, lesser_label-first, lesser_label-second, lesser_label-either, get-above, filter-above}
 
 -- ---- the label to which so many more steps lead
@@ -59,46 +58,47 @@ from_here-past last vs (suc n) past = beyond vs n (omega (arith, past))
 
 -- ---- the stop
 
--- the variants that are still to come
-abbrev pub variants_ahead : Position → List (List ℕ)
-variants_ahead p = filter is_registrable (tested_ahead hopeless p)
+module _ (f : Filter) where
+  -- the variants that are still to come
+  abbrev pub variants_ahead : Position → List (List ℕ)
+  variants_ahead p = filter f.accepts (tested_ahead f.hopeless p)
 
--- the stop that tries and steps set
-abbrev pub bound_from : Position → ℕ → Option ℕ → Option (List ℕ)
-bound_from p tries steps = lesser_label (from_here p.last (tested_ahead hopeless p) tries) (from_here_if p.last (visited_ahead hopeless p) steps)
+  -- the stop that tries and steps set
+  abbrev pub bound_from : Position → ℕ → Option ℕ → Option (List ℕ)
+  bound_from p tries steps = lesser_label (from_here p.last (tested_ahead f.hopeless p) tries) (from_here_if p.last (visited_ahead f.hopeless p) steps)
 
--- with the variant at a place of those to come, if there is a limit
-abbrev pub stop_from : Option ℕ → Position → ℕ → Option ℕ → Option (List ℕ)
-stop_from place p tries steps = lesser_label (get_if_given (variants_ahead p) place) (bound_from p tries steps)
+  -- with the variant at a place of those to come, if there is a limit
+  abbrev pub stop_from : Option ℕ → Position → ℕ → Option ℕ → Option (List ℕ)
+  stop_from place p tries steps = lesser_label (get_if_given (variants_ahead p) place) (bound_from p tries steps)
 
--- what is ahead of a cursor is above its last label
-pub record IsAbove (p : Position) : Type 0 where
-  pub tested : AllByRecursion (IsBelow p.last) (tested_ahead hopeless p)
-  pub visited : AllByRecursion (IsBelow p.last) (visited_ahead hopeless p)
+  -- what is ahead of a cursor is above its last label
+  pub record IsAbove (p : Position) : Type 0 where
+    pub tested : AllByRecursion (IsBelow p.last) (tested_ahead f.hopeless p)
+    pub visited : AllByRecursion (IsBelow p.last) (visited_ahead f.hopeless p)
 
-pub bound-from : (p : Position) (tries : ℕ) (steps : Option ℕ) → IsAbove p → IfSome (bound_from p tries steps) (IsFrom p.last)
-bound-from p tries steps above =
-    lesser_label-either (IsFrom p.last) (from_here p.last (tested_ahead hopeless p) tries) (from_here_if p.last (visited_ahead hopeless p) steps)
-    (from_here-from p.last (tested_ahead hopeless p) tries above.tested) (from_here_if-from p.last (visited_ahead hopeless p) steps above.visited)
+  pub bound-from : (p : Position) (tries : ℕ) (steps : Option ℕ) → IsAbove p → IfSome (bound_from p tries steps) (IsFrom p.last)
+  bound-from p tries steps above =
+      lesser_label-either (IsFrom p.last) (from_here p.last (tested_ahead f.hopeless p) tries) (from_here_if p.last (visited_ahead f.hopeless p) steps)
+      (from_here-from p.last (tested_ahead f.hopeless p) tries above.tested) (from_here_if-from p.last (visited_ahead f.hopeless p) steps above.visited)
 
-place-from : (p : Position) (place : Option ℕ) → IsAbove p → IfSome (get_if_given (variants_ahead p) place) (IsFrom p.last)
-place-from p None above = tt
-place-from p (Some i) above = weaker (slice_get (variants_ahead p) i) (get-above p.last (variants_ahead p) i (filter-above is_registrable p.last (tested_ahead hopeless p) above.tested))
-  where
-    weaker : (r : Option (List ℕ)) → IfSome r (IsBelow p.last) → IfSome r (IsFrom p.last)
-    weaker None h = tt
-    weaker (Some b) h = inr h
+  place-from : (p : Position) (place : Option ℕ) → IsAbove p → IfSome (get_if_given (variants_ahead p) place) (IsFrom p.last)
+  place-from p None above = tt
+  place-from p (Some i) above = weaker (slice_get (variants_ahead p) i) (get-above p.last (variants_ahead p) i (filter-above f.accepts p.last (tested_ahead f.hopeless p) above.tested))
+    where
+      weaker : (r : Option (List ℕ)) → IfSome r (IsBelow p.last) → IfSome r (IsFrom p.last)
+      weaker None h = tt
+      weaker (Some b) h = inr h
 
--- no try is left, or no step: the last label is the stop
-pub stop-here : (place : Option ℕ) (p : Position) (tries : ℕ) (steps : Option ℕ) → IsAbove p → bound_from p tries steps ≡ Some p.last → stop_from place p tries steps ≡ Some p.last
-stop-here place p tries steps above is =
-    ap (lesser_label (get_if_given (variants_ahead p) place)) is ∙ lesser_label-second p.last (get_if_given (variants_ahead p) place) (place-from p place above)
+  -- no try is left, or no step: the last label is the stop
+  pub stop-here : (place : Option ℕ) (p : Position) (tries : ℕ) (steps : Option ℕ) → IsAbove p → bound_from p tries steps ≡ Some p.last → stop_from place p tries steps ≡ Some p.last
+  stop-here place p tries steps above is =
+      ap (lesser_label (get_if_given (variants_ahead p) place)) is ∙ lesser_label-second p.last (get_if_given (variants_ahead p) place) (place-from p place above)
 
-pub bound-spent : (p : Position) (steps : Option ℕ) → IsAbove p → bound_from p 0 steps ≡ Some p.last
-bound-spent p steps above = lesser_label-first p.last (from_here_if p.last (visited_ahead hopeless p) steps) (from_here_if-from p.last (visited_ahead hopeless p) steps above.visited)
+  pub bound-spent : (p : Position) (steps : Option ℕ) → IsAbove p → bound_from p 0 steps ≡ Some p.last
+  bound-spent p steps above = lesser_label-first p.last (from_here_if p.last (visited_ahead f.hopeless p) steps) (from_here_if-from p.last (visited_ahead f.hopeless p) steps above.visited)
 
-pub bound-halted : (p : Position) (tries : ℕ) → IsAbove p → bound_from p tries (Some 0) ≡ Some p.last
-bound-halted p tries above = lesser_label-second p.last (from_here p.last (tested_ahead hopeless p) tries) (from_here-from p.last (tested_ahead hopeless p) tries above.tested)
+  pub bound-halted : (p : Position) (tries : ℕ) → IsAbove p → bound_from p tries (Some 0) ≡ Some p.last
+  bound-halted p tries above = lesser_label-second p.last (from_here p.last (tested_ahead f.hopeless p) tries) (from_here-from p.last (tested_ahead f.hopeless p) tries above.tested)
 
 -- ---- variants
 

@@ -38,6 +38,19 @@ use Rattle.variant_list.specs.Jumps.{IsCandidate, IsLeastFrom, HasNoneFrom, cand
 abbrev pub is_registrable : List ℕ → Bool
 is_registrable label = is_none (first_fault label)
 
+-- what a listing asks of labels: which it accepts, and which lists are hopeless, so that no label that it accepts begins with one
+pub record Filter : Type 0 where
+  pub accepts : List ℕ → Bool
+  pub hopeless : List ℕ → Bool
+
+-- that they may be registered
+abbrev pub registrable_labels : Filter
+registrable_labels = record { accepts = is_registrable; hopeless = hopeless }
+
+-- what is asked under a table
+abbrev pub filter_of : TableValue → Filter
+filter_of table = registrable_labels
+
 -- whether a label is one of these
 abbrev pub is_among : List (List ℕ) → List ℕ → Bool
 is_among labels v = list_any (bytes_eq v) labels
@@ -47,9 +60,10 @@ abbrev pub kept_to : Option (List (List ℕ)) → List (List ℕ) → List (List
 kept_to None labels = labels
 kept_to (Some registered) labels = filter (is_among registered) labels
 
--- of the labels that a label spells the registrable ones, after the text of the settings, as far as the listing is kept to them
-abbrev pub variants_after : Settings → List (List ℕ) → List (List ℕ)
-variants_after o labels = kept_to o.registered (variants_among is_registrable labels o.after)
+-- of the labels that a label spells those that the filter accepts, after the text of the settings, as far as the listing is kept
+-- to them
+abbrev pub variants_after : Filter → Settings → List (List ℕ) → List (List ℕ)
+variants_after filter o labels = kept_to o.registered (variants_among filter.accepts labels o.after)
 
 -- the n-th of the labels, counted from 1, if there is one
 abbrev pub nth : List (List ℕ) → ℕ → Option (List ℕ)
@@ -73,20 +87,20 @@ unless_kept None labels = labels
 unless_kept (Some registered) labels = []
 
 -- those of at most 63 code points, after the text of the settings, no beginning of which is hopeless
-abbrev pub tested_after : Settings → List (List ℕ) → List (List ℕ)
-tested_after o labels = unless_kept o.registered (tested_among hopeless labels o.after)
+abbrev pub tested_after : Filter → Settings → List (List ℕ) → List (List ℕ)
+tested_after filter o labels = unless_kept o.registered (tested_among filter.hopeless labels o.after)
 
 -- the labels that the steps of a listing come to: of the same labels, hopeless or not, those that are tested, and the first of those
 -- that share a hopeless beginning
-abbrev pub visited_in : Settings → List (List ℕ) → List (List ℕ)
-visited_in o labels = visited hopeless None (unless_kept o.registered (candidates_among labels o.after))
+abbrev pub visited_in : Filter → Settings → List (List ℕ) → List (List ℕ)
+visited_in filter o labels = visited filter.hopeless None (unless_kept o.registered (candidates_among labels o.after))
 
 -- the stop of a listing: the limit-th variant, the tries-th tested label or the label of the last step, the least of those that
 -- exist
-abbrev pub stop_of : Settings → List (List ℕ) → Option (List ℕ)
-stop_of o labels =
-    lesser_label (nth_if_given (variants_after o labels) o.limit)
-    (lesser_label (nth (tested_after o labels) o.tries) (nth_if_given (visited_in o labels) o.steps))
+abbrev pub stop_of : Filter → Settings → List (List ℕ) → Option (List ℕ)
+stop_of filter o labels =
+    lesser_label (nth_if_given (variants_after filter o labels) o.limit)
+    (lesser_label (nth (tested_after filter o labels) o.tries) (nth_if_given (visited_in filter o labels) o.steps))
 
 -- the labels that are not greater than the stop; all of them, if there is no stop
 abbrev pub up_to : Option (List ℕ) → List (List ℕ) → List (List ℕ)
@@ -119,7 +133,8 @@ block_to field stop labels =
 -- the block of a label
 abbrev pub block : Settings → TableValue → List ℕ → List Said
 block o table label =
-    block_to (disposition table label) (stop_of o (spelled table.entries label)) (variants_after o (spelled table.entries label))
+    block_to (disposition table label) (stop_of (filter_of table) o (spelled table.entries label))
+    (variants_after (filter_of table) o (spelled table.entries label))
 
 -- ---- the least label from a text on
 
@@ -247,7 +262,7 @@ pub record IsBlock (o : Settings) (table : TableValue) (label : List ℕ) (said 
   pub ahead : List (List ℕ)
   pub exactly_ahead : IsListOf (IsAhead o table.entries label) ahead
   pub stop : Option (List ℕ)
-  pub stops : stop ≡ lesser_label (nth_if_given listed o.limit) (lesser_label (nth tried o.tries) (nth_if_given (visited hopeless None ahead) o.steps))
+  pub stops : stop ≡ lesser_label (nth_if_given listed o.limit) (lesser_label (nth tried o.tries) (nth_if_given (visited (filter_of table).hopeless None ahead) o.steps))
   pub field : List ℕ → Option Disposition
   pub disposed : (v : List ℕ) → IsDisposition table label v (field v)
   pub exact : said ≡ map (λ v. Listed (field v) v) (up_to stop listed) ++ BlockEnd (length (up_to stop listed)) stop ∷ []

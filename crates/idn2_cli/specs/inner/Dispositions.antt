@@ -9,13 +9,13 @@ use Rattle.variant_list.specs.Spelling.{Spells}
 use Rattle.idn2_options.specs.Settings.{Settings}
 use Rattle.answer_json.specs.declared.block.Disposition.{Disposition}
 use Rattle.idn2_cli.specs.Said.{Said}
-use Rattle.idn2_cli.specs.Answers.{allocation, is_among, block_to, stop_of, variants_after}
+use Rattle.idn2_cli.specs.Answers.{Filter, allocation, is_among, block_to, stop_of, variants_after}
 use Rattle.idn2_cli.specs.declared.modes.dispositions.Dispositions.{Dispositions}
 use Rattle.idn2_cli.specs.declared.modes.dispositions.Dispositions.TheVariants.{Unstated, AllAllocatable, BySpelling}
 
--- the block of a label that spells these, by the dispositions of its variants
-abbrev pub block_by : (List ℕ → Option Disposition) → Settings → List (List ℕ) → List Said
-block_by field o labels = block_to field (stop_of o labels) (variants_after o labels)
+-- the block of a label that spells these, by what is asked of them and by the dispositions of its variants
+abbrev pub block_by : Filter → (List ℕ → Option Disposition) → Settings → List (List ℕ) → List Said
+block_by filter field o labels = block_to field (stop_of filter o labels) (variants_after filter o labels)
 
 -- what tells the dispositions is that of the table: it has no blocked variants, or this is its part without them
 abbrev pub AreOfTable : TableValue → Dispositions Part → Type 0

@@ -2,7 +2,6 @@
 
 ghost use Rattle.std.specs.Prelude.{◌≡◌, ◌≤◌, ◌∷◌, [], ◌++◌, length, codes, decimal, All, None, Some, IfOk, IfErr, IsOk, OnErr};
 ghost use Rattle.idn_text.specs.Points.{AreScalarValues};
-ghost use Rattle.idn_class.specs.Hopeless.{hopeless};
 ghost use Rattle.idn_class.specs.Known.{AreKnown};
 ghost use Rattle.idn_punycode.specs.Kept.{IsTakenApart};
 ghost use Rattle.idn_label.specs.ALabel.{a_label_of};
@@ -15,7 +14,7 @@ ghost use Rattle.variant_list.specs.Tested.{tested_among};
 ghost use Rattle.variant_list.specs.Verdicts.{IsVerdict};
 ghost use Rattle.idn2_options.specs.Settings.{IsWithinLimits, keeping};
 ghost use Rattle.idn2_cli.specs.Transcript.{outputs, Output};
-ghost use Rattle.idn2_cli.specs.Answers.{is_registrable};
+ghost use Rattle.idn2_cli.specs.Answers.{registrable_labels};
 ghost use Rattle.idn2_cli.specs.Said.{BlockEnd, Listed, disposition_field, said_text, variant_line};
 ghost use Rattle.idn2_cli.specs.inner.Asked.{asked_line};
 ghost use Rattle.idn2_cli.specs.inner.Dispositions.{block_by, field_by};
@@ -54,8 +53,8 @@ pub(crate) fn write_block<W: Sink, E: Sink>(
     requires limits { IsWithinLimits options.now }
     requires spelled { All AreScalarValues net.now.spelled }
     ensures written { Emits console.old console.new
-        (outputs (said_text asked.now.form (asked_line asked.now)) (block_by (field_by dispositions.old) (keeping None options.now) net.now.spelled)) result }
-    ensures begun { StopsForMemory (All NeedsNoMemory (tested_among hopeless net.now.spelled options.now.after))
+        (outputs (said_text asked.now.form (asked_line asked.now)) (block_by registrable_labels (field_by dispositions.old) (keeping None options.now) net.now.spelled)) result }
+    ensures begun { StopsForMemory (All NeedsNoMemory (tested_among registrable_labels.hopeless net.now.spelled options.now.after))
         console.old console.new result }
 {
     let mut cursor = Cursor::new(alloc, net, &options.after)?;
@@ -106,9 +105,9 @@ struct Registrable {
 }
 
 impl Judge for Registrable {
-    ghost accepted = { λ _ label. is_registrable label };
+    ghost accepted = { λ _ label. registrable_labels.accepts label };
 
-    ghost lost = { λ _ label. hopeless label };
+    ghost lost = { λ _ label. registrable_labels.hopeless label };
 
     ghost tells = { λ judge label. judge.test.text ≡ a_label_of label };
 
@@ -123,8 +122,8 @@ impl Judge for Registrable {
         requires short { length label.now ≤ 63 }
         requires kept { IsKeptOf (λ v. AreKnown v self.old.beginnings × IsTakenApart v self.old.test × IsBegun v self.old.line) shared label.now }
         ensures kept { AreKnown label.now self.new.beginnings × IsTakenApart label.now self.new.test × IsBegun label.now self.new.line }
-        ensures verdict { IfOk result (IsVerdict is_registrable hopeless (λ v. self.new.test.text ≡ a_label_of v) label.now) }
-        ensures memory { OnErr result (shortest_hopeless hopeless label.now ≡ None) }
+        ensures verdict { IfOk result (IsVerdict registrable_labels.accepts registrable_labels.hopeless (λ v. self.new.test.text ≡ a_label_of v) label.now) }
+        ensures memory { OnErr result (shortest_hopeless registrable_labels.hopeless label.now ≡ None) }
         ensures no_memory { NeedsNoMemory label.now → IsOk result }
     {
         self.beginnings.keep(shared);

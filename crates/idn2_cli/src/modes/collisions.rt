@@ -3,6 +3,7 @@
 ghost use Rattle.std.specs.Prelude.{◌≡◌, ◌≤◌, Some, All, Err, length};
 ghost use Rattle.idn_text.specs.Points.{AreScalarValues};
 ghost use Rattle.idn2_options.specs.Settings.{IsWithinLimits, keeping};
+ghost use Rattle.idn2_cli.specs.Answers.{registrable_labels};
 ghost use Rattle.idn2_cli.specs.Said.{said_text};
 ghost use Rattle.idn2_cli.specs.Transcript.{outputs};
 ghost use Rattle.idn2_cli.specs.inner.Asked.{asked_line};
@@ -38,7 +39,7 @@ pub(crate) fn write_collisions<W: Sink, E: Sink>(
     requires limits { IsWithinLimits options.now }
     requires spelled { All AreScalarValues net.now.spelled }
     ensures written { Emits console.old console.new
-        (outputs (said_text asked.now.form (asked_line asked.now)) (block_by (field_by dispositions.old) (keeping (Some registered.now) options.now) net.now.spelled)) result }
+        (outputs (said_text asked.now.form (asked_line asked.now)) (block_by registrable_labels (field_by dispositions.old) (keeping (Some registered.now) options.now) net.now.spelled)) result }
     ensures begun { result ≡ Err stop.Memory → console.new ≡ console.old }
 {
     // How many there are is more than the count ever is.

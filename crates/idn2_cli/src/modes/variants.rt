@@ -8,7 +8,7 @@ ghost use Rattle.variant_table.specs.WellFormed.{IsWellFormed};
 ghost use Rattle.variant_list.specs.Spelled.{spelled};
 ghost use Rattle.std.specs.Option.{option_copied};
 ghost use Rattle.idn2_options.specs.Settings.{IsWithinLimits, keeping};
-ghost use Rattle.idn2_cli.specs.Answers.{variants_answer, listing_answer, tested_after};
+ghost use Rattle.idn2_cli.specs.Answers.{filter_of, variants_answer, listing_answer, tested_after};
 ghost use Rattle.idn2_cli.specs.inner.Dispositions.{AreOfTable, block_by, field_by};
 ghost use Rattle.idn2_cli.specs.Memory.{IsRefusedWithoutMemory};
 ghost use Rattle.idn2_cli.specs.Said.{said_text};
@@ -54,7 +54,7 @@ impl<'t, 'r, 'b> PointAnswering for Variants<'t, 'r, 'b> {
 
     ghost needs_none = { λ _ label. IsRefusedWithoutMemory label };
 
-    ghost goes_on = { λ mode label. All NeedsNoMemory (tested_after (keeping (option_copied mode.registered) mode.options.now) (spelled mode.table.now.entries label)) };
+    ghost goes_on = { λ mode label. All NeedsNoMemory (tested_after (filter_of mode.table.now) (keeping (option_copied mode.registered) mode.options.now) (spelled mode.table.now.entries label)) };
 
     fn answer_points<W: Sink, E: Sink>(
         &self,
@@ -83,9 +83,9 @@ fn write_lines<W: Sink, E: Sink>(
     requires limits { IsWithinLimits mode.now.options.now }
     requires spelled { All AreScalarValues net.now.spelled }
     ensures written { Emits console.old console.new
-        (outputs (said_text asked.now.form (asked_line asked.now)) (block_by (field_by dispositions.old) (keeping (option_copied mode.now.registered) mode.now.options.now) net.now.spelled)) result }
+        (outputs (said_text asked.now.form (asked_line asked.now)) (block_by (filter_of mode.now.table.now) (field_by dispositions.old) (keeping (option_copied mode.now.registered) mode.now.options.now) net.now.spelled)) result }
     ensures begun { StopsForMemory
-        (All NeedsNoMemory (tested_after (keeping (option_copied mode.now.registered) mode.now.options.now) net.now.spelled))
+        (All NeedsNoMemory (tested_after (filter_of mode.now.table.now) (keeping (option_copied mode.now.registered) mode.now.options.now) net.now.spelled))
         console.old console.new result }
 {
     match mode.registered {
@@ -125,7 +125,7 @@ fn list<W: Sink, E: Sink>(
         (λ refusal. refusal ≡ refusal_in (listing_answer (keeping (option_copied mode.now.registered) mode.now.options.now) mode.now.table.now label.now)) }
     ensures kept { KeepsIfRefused console.old console.new (result_of result) }
     ensures begun { StopsForMemory
-        (All NeedsNoMemory (tested_after (keeping (option_copied mode.now.registered) mode.now.options.now) (spelled mode.now.table.now.entries label.now)))
+        (All NeedsNoMemory (tested_after (filter_of mode.now.table.now) (keeping (option_copied mode.now.registered) mode.now.options.now) (spelled mode.now.table.now.entries label.now)))
         console.old console.new (result_of result) }
 {
     match Net::build(alloc, mode.table, label) {

@@ -12,11 +12,13 @@ use Rattle.variant_list.specs.Positions.{Built}
 use Rattle.idn2_cli.specs.declared.modes.dispositions.Dispositions.{Dispositions}
 use Rattle.idn2_options.specs.Settings.{Settings}
 use Rattle.answer_json.specs.declared.block.Disposition.{Disposition}
+use Rattle.idn2_cli.specs.Answers.{registrable_labels}
 use Rattle.idn2_cli.specs.Said.{Said, Listed, said_text}
 use Rattle.idn2_cli.specs.inner.Asked.{asked_line}
 use Rattle.idn2_cli.specs.inner.Dispositions.{field_by}
 use Rattle.idn2_cli.specs.inner.LineAnswers.{reaches}
 use Rattle.idn2_cli.specs.Transcript.{Output}
+use Rattle.idn2_cli.proofs.FilterLemmas.{registrable_labels-IsSound}
 use Rattle.idn2_cli.proofs.ListingLemmas.{IsWritable}
 use Rattle.idn2_cli.proofs.WrittenPieces.{stops_first, stops_after, emits_as, writes_as}
 use Rattle.idn2_cli.proofs.ListingProgress.{listing-start, found-writable, spent-writable, halted-writable, listing-spent, listing-halted, listing-ended, listing-found, listing-broken, listing-reached, found-from, spent-from, halted-from, ended-from}
@@ -42,7 +44,7 @@ returns-in_err-cursor-clause-written g c =
 pub variants-init : goal.variants-init
 variants-init g c = record {
   same = refl;
-  listing = listing-start (said_text c.args.asked.now.form (asked_line c.args.asked.now)) (field_by c.args.dispositions.now) c.args.options.now c.args.net.now _ c.in_ok-cursor.cursor c.deref.result.now c.options.inside.tries c.options.inside.steps c.requires.limits
+  listing = listing-start registrable_labels (said_text c.args.asked.now.form (asked_line c.args.asked.now)) (field_by c.args.dispositions.now) registrable_labels-IsSound c.args.options.now c.args.net.now _ c.in_ok-cursor.cursor c.deref.result.now c.options.inside.tries c.options.inside.steps c.requires.limits
       (c.deref.ensures.value ∙ ap (λ (o : Settings). o.after) c.options.view_is) (ap (λ (o : Settings). o.tries) c.options.view_is) (ap (λ (o : Settings). o.steps) c.options.view_is) c.in_ok-cursor.ensures;
   known = subst (AreKnown c.in_ok-cursor.cursor.last) (sym c.new-2.ensures) (AreKnown-nil c.in_ok-cursor.cursor.last);
   apart = c.new-3.ensures.apart c.in_ok-cursor.cursor.last;
@@ -54,57 +56,57 @@ variants-init g c = record {
 pub write_stop-requires-clause-scalar_values : goal.write_stop-requires-clause-scalar_values
 write_stop-requires-clause-scalar_values g c =
     (subst IsWritable (sym c.last.ensures.value)
-    (spent-writable (said_text c.args.asked.now.form (asked_line c.args.asked.now)) (field_by c.args.dispositions.now) _ _ _ _ c.variants.cursor c.seek.new.self c.variants.count c.variants.tries c.seek.new.tries c.variants.steps c.seek.new.steps c.requires.spelled c.variants.invariant.listing (spent-from c.variants.cursor c.seek.new.self c.variants.tries c.seek.new.tries c.variants.steps c.seek.new.steps c.seek.result c.in_ok-seek.field-0 c.in_ok-seek.was c.seek.ensures.decided c.seek.ensures.moves c.seek.ensures.steps c.in-Spent.is))).scalar_values
+    (spent-writable registrable_labels (said_text c.args.asked.now.form (asked_line c.args.asked.now)) (field_by c.args.dispositions.now) _ _ _ _ c.variants.cursor c.seek.new.self c.variants.count c.variants.tries c.seek.new.tries c.variants.steps c.seek.new.steps c.requires.spelled c.variants.invariant.listing (spent-from registrable_labels c.variants.cursor c.seek.new.self c.variants.tries c.seek.new.tries c.variants.steps c.seek.new.steps c.seek.result c.in_ok-seek.field-0 c.in_ok-seek.was c.seek.ensures.decided c.seek.ensures.moves c.seek.ensures.steps c.in-Spent.is))).scalar_values
 
 pub write_stop-requires-in-Halted-clause-scalar_values : goal.write_stop-requires-in-Halted-clause-scalar_values
 write_stop-requires-in-Halted-clause-scalar_values g c =
     (subst IsWritable (sym c.last-in-Halted.ensures.value)
-    (halted-writable (said_text c.args.asked.now.form (asked_line c.args.asked.now)) (field_by c.args.dispositions.now) _ _ _ _ c.variants.cursor c.seek.new.self c.variants.count c.variants.tries c.seek.new.tries c.variants.steps c.seek.new.steps c.requires.spelled c.variants.invariant.listing (halted-from c.variants.cursor c.seek.new.self c.variants.tries c.seek.new.tries c.variants.steps c.seek.new.steps c.seek.result c.in_ok-seek.field-0 c.in_ok-seek.was c.seek.ensures.decided c.seek.ensures.moves c.seek.ensures.steps c.in-Halted.is))).scalar_values
+    (halted-writable registrable_labels (said_text c.args.asked.now.form (asked_line c.args.asked.now)) (field_by c.args.dispositions.now) _ _ _ _ c.variants.cursor c.seek.new.self c.variants.count c.variants.tries c.seek.new.tries c.variants.steps c.seek.new.steps c.requires.spelled c.variants.invariant.listing (halted-from registrable_labels c.variants.cursor c.seek.new.self c.variants.tries c.seek.new.tries c.variants.steps c.seek.new.steps c.seek.result c.in_ok-seek.field-0 c.in_ok-seek.was c.seek.ensures.decided c.seek.ensures.moves c.seek.ensures.steps c.in-Halted.is))).scalar_values
 
 pub returns-in-Spent-clause-written : goal.returns-in-Spent-clause-written
 returns-in-Spent-clause-written g c =
-    let spent = spent-from c.variants.cursor c.seek.new.self c.variants.tries c.seek.new.tries c.variants.steps c.seek.new.steps c.seek.result c.in_ok-seek.field-0 c.in_ok-seek.was c.seek.ensures.decided c.seek.ensures.moves c.seek.ensures.steps c.in-Spent.is in
-    listing-spent (said_text c.args.asked.now.form (asked_line c.args.asked.now)) (field_by c.args.dispositions.now) _ _ _ _ _ c.variants.cursor c.seek.new.self c.variants.count c.variants.tries c.seek.new.tries c.variants.steps c.seek.new.steps c.last.result.now c.write_stop.result c.variants.invariant.listing spent c.last.ensures.value c.write_stop.ensures.written
+    let spent = spent-from registrable_labels c.variants.cursor c.seek.new.self c.variants.tries c.seek.new.tries c.variants.steps c.seek.new.steps c.seek.result c.in_ok-seek.field-0 c.in_ok-seek.was c.seek.ensures.decided c.seek.ensures.moves c.seek.ensures.steps c.in-Spent.is in
+    listing-spent registrable_labels (said_text c.args.asked.now.form (asked_line c.args.asked.now)) (field_by c.args.dispositions.now) _ _ _ _ _ c.variants.cursor c.seek.new.self c.variants.count c.variants.tries c.seek.new.tries c.variants.steps c.seek.new.steps c.last.result.now c.write_stop.result c.variants.invariant.listing spent c.last.ensures.value c.write_stop.ensures.written
 
 pub returns-in-Halted-clause-written : goal.returns-in-Halted-clause-written
 returns-in-Halted-clause-written g c =
-    let halted = halted-from c.variants.cursor c.seek.new.self c.variants.tries c.seek.new.tries c.variants.steps c.seek.new.steps c.seek.result c.in_ok-seek.field-0 c.in_ok-seek.was c.seek.ensures.decided c.seek.ensures.moves c.seek.ensures.steps c.in-Halted.is in
-    listing-halted (said_text c.args.asked.now.form (asked_line c.args.asked.now)) (field_by c.args.dispositions.now) _ _ _ _ _ c.variants.cursor c.seek.new.self c.variants.count c.variants.tries c.seek.new.tries c.variants.steps c.seek.new.steps c.last-in-Halted.result.now c.write_stop-in-Halted.result c.variants.invariant.listing halted c.last-in-Halted.ensures.value c.write_stop-in-Halted.ensures.written
+    let halted = halted-from registrable_labels c.variants.cursor c.seek.new.self c.variants.tries c.seek.new.tries c.variants.steps c.seek.new.steps c.seek.result c.in_ok-seek.field-0 c.in_ok-seek.was c.seek.ensures.decided c.seek.ensures.moves c.seek.ensures.steps c.in-Halted.is in
+    listing-halted registrable_labels (said_text c.args.asked.now.form (asked_line c.args.asked.now)) (field_by c.args.dispositions.now) _ _ _ _ _ c.variants.cursor c.seek.new.self c.variants.count c.variants.tries c.seek.new.tries c.variants.steps c.seek.new.steps c.last-in-Halted.result.now c.write_stop-in-Halted.result c.variants.invariant.listing halted c.last-in-Halted.ensures.value c.write_stop-in-Halted.ensures.written
 
 pub returns-in-Ended-clause-written : goal.returns-in-Ended-clause-written
 returns-in-Ended-clause-written g c =
-    let ended = ended-from c.variants.cursor c.seek.new.self c.variants.tries c.seek.new.tries c.variants.steps c.seek.new.steps c.seek.result c.in_ok-seek.field-0 c.in_ok-seek.was c.seek.ensures.decided c.seek.ensures.moves c.seek.ensures.steps c.in-Ended.is in
-    listing-ended (said_text c.args.asked.now.form (asked_line c.args.asked.now)) (field_by c.args.dispositions.now) _ _ _ _ _ c.variants.cursor c.variants.count c.variants.tries c.seek.new.tries c.variants.steps c.write_end.result c.variants.invariant.listing ended c.write_end.ensures.written
+    let ended = ended-from registrable_labels c.variants.cursor c.seek.new.self c.variants.tries c.seek.new.tries c.variants.steps c.seek.new.steps c.seek.result c.in_ok-seek.field-0 c.in_ok-seek.was c.seek.ensures.decided c.seek.ensures.moves c.seek.ensures.steps c.in-Ended.is in
+    listing-ended registrable_labels (said_text c.args.asked.now.form (asked_line c.args.asked.now)) (field_by c.args.dispositions.now) _ _ _ _ _ c.variants.cursor c.variants.count c.variants.tries c.seek.new.tries c.variants.steps c.write_end.result c.variants.invariant.listing ended c.write_end.ensures.written
 
 -- ---- a variant
 
 pub returns-in_err-write_variant-clause-written : goal.returns-in_err-write_variant-clause-written
 returns-in_err-write_variant-clause-written g c =
     let p = err_from_is_err_and c.from_residual-in_err-write_variant.result c.from_residual-in_err-write_variant.ensures.1 in
-    let found = found-from c.variants.cursor c.seek.new.self c.variants.tries c.seek.new.tries c.variants.steps c.seek.new.steps c.seek.result c.in_ok-seek.field-0 c.in_ok-seek.was c.seek.ensures.decided c.seek.ensures.moves c.seek.ensures.steps c.in-Found.is in
-    rw p.1 (listing-broken (said_text c.args.asked.now.form (asked_line c.args.asked.now)) (field_by c.args.dispositions.now) _ _ _ _ _ c.variants.cursor c.seek.new.self c.variants.count c.variants.tries c.seek.new.tries c.variants.steps c.seek.new.steps c.last-variant.result.now c.write_variant.result p.0 c.variants.invariant.listing found c.last-variant.ensures.value
+    let found = found-from registrable_labels c.variants.cursor c.seek.new.self c.variants.tries c.seek.new.tries c.variants.steps c.seek.new.steps c.seek.result c.in_ok-seek.field-0 c.in_ok-seek.was c.seek.ensures.decided c.seek.ensures.moves c.seek.ensures.steps c.in-Found.is in
+    rw p.1 (listing-broken registrable_labels (said_text c.args.asked.now.form (asked_line c.args.asked.now)) (field_by c.args.dispositions.now) _ _ _ _ _ c.variants.cursor c.seek.new.self c.variants.count c.variants.tries c.seek.new.tries c.variants.steps c.seek.new.steps c.last-variant.result.now c.write_variant.result p.0 c.variants.invariant.listing found c.last-variant.ensures.value
     (emits_as _ _ Output _ _ c.write_variant.result (line_is (said_text c.args.asked.now.form (asked_line c.args.asked.now)) c.last-variant.result.now (told c.last-variant.result.now c.of_variant-disposition.ensures.field c.variants.invariant.same)) c.write_variant.ensures.written) (c.in_err-write_variant.was ∙ ap Err (sym p.2)))
 
 pub write_stop-requires-then-is_reached-clause-scalar_values : goal.write_stop-requires-then-is_reached-clause-scalar_values
 write_stop-requires-then-is_reached-clause-scalar_values g c =
     (subst IsWritable (sym c.last-then-is_reached.ensures.value)
-    (found-writable (said_text c.args.asked.now.form (asked_line c.args.asked.now)) (field_by c.args.dispositions.now) _ _ _ _ c.variants.cursor c.seek.new.self c.variants.count c.variants.tries c.seek.new.tries c.variants.steps c.seek.new.steps c.requires.spelled c.variants.invariant.listing (found-from c.variants.cursor c.seek.new.self c.variants.tries c.seek.new.tries c.variants.steps c.seek.new.steps c.seek.result c.in_ok-seek.field-0 c.in_ok-seek.was c.seek.ensures.decided c.seek.ensures.moves c.seek.ensures.steps c.in-Found.is))).scalar_values
+    (found-writable registrable_labels (said_text c.args.asked.now.form (asked_line c.args.asked.now)) (field_by c.args.dispositions.now) _ _ _ _ c.variants.cursor c.seek.new.self c.variants.count c.variants.tries c.seek.new.tries c.variants.steps c.seek.new.steps c.requires.spelled c.variants.invariant.listing (found-from registrable_labels c.variants.cursor c.seek.new.self c.variants.tries c.seek.new.tries c.variants.steps c.seek.new.steps c.seek.result c.in_ok-seek.field-0 c.in_ok-seek.was c.seek.ensures.decided c.seek.ensures.moves c.seek.ensures.steps c.in-Found.is))).scalar_values
 
 pub returns-then-is_reached-clause-written : goal.returns-then-is_reached-clause-written
 returns-then-is_reached-clause-written g c =
-    let found = found-from c.variants.cursor c.seek.new.self c.variants.tries c.seek.new.tries c.variants.steps c.seek.new.steps c.seek.result c.in_ok-seek.field-0 c.in_ok-seek.was c.seek.ensures.decided c.seek.ensures.moves c.seek.ensures.steps c.in-Found.is in
+    let found = found-from registrable_labels c.variants.cursor c.seek.new.self c.variants.tries c.seek.new.tries c.variants.steps c.seek.new.steps c.seek.result c.in_ok-seek.field-0 c.in_ok-seek.was c.seek.ensures.decided c.seek.ensures.moves c.seek.ensures.steps c.in-Found.is in
     let reached = sym (ap (λ (o : Settings). reaches o.limit (c.variants.count + 1)) c.options.view_is) ∙ sym c.is_reached.ensures ∙ c.if-is_reached.true in
-    listing-reached (said_text c.args.asked.now.form (asked_line c.args.asked.now)) (field_by c.args.dispositions.now) _ _ _ _ _ _ c.variants.cursor c.seek.new.self c.variants.count c.variants.tries c.seek.new.tries c.variants.steps c.seek.new.steps c.last-variant.result.now c.last-then-is_reached.result.now c.write_stop-then-is_reached.result c.variants.invariant.listing
+    listing-reached registrable_labels (said_text c.args.asked.now.form (asked_line c.args.asked.now)) (field_by c.args.dispositions.now) _ _ _ _ _ _ c.variants.cursor c.seek.new.self c.variants.count c.variants.tries c.seek.new.tries c.variants.steps c.seek.new.steps c.last-variant.result.now c.last-then-is_reached.result.now c.write_stop-then-is_reached.result c.variants.invariant.listing
     found c.last-variant.ensures.value (writes_as _ _ Output _ _ (line_is (said_text c.args.asked.now.form (asked_line c.args.asked.now)) c.last-variant.result.now (told c.last-variant.result.now c.of_variant-disposition.ensures.field c.variants.invariant.same)) c.in_ok-write_variant.ensures.written) reached c.last-then-is_reached.ensures.value c.write_stop-then-is_reached.ensures.written
 
 pub variants-preserved : goal.variants-preserved
 variants-preserved g c =
-    let found = found-from c.variants.cursor c.seek.new.self c.variants.tries c.seek.new.tries c.variants.steps c.seek.new.steps c.seek.result c.in_ok-seek.field-0 c.in_ok-seek.was c.seek.ensures.decided c.seek.ensures.moves c.seek.ensures.steps c.in-Found.is in
+    let found = found-from registrable_labels c.variants.cursor c.seek.new.self c.variants.tries c.seek.new.tries c.variants.steps c.seek.new.steps c.seek.result c.in_ok-seek.field-0 c.in_ok-seek.was c.seek.ensures.decided c.seek.ensures.moves c.seek.ensures.steps c.in-Found.is in
     let kept = decided-as _ c.seek.result c.in_ok-seek.field-0 outcome.Found c.in_ok-seek.was c.in-Found.is c.seek.ensures.kept in
     let going = sym (ap (λ (o : Settings). reaches o.limit (c.variants.count + 1)) c.options.view_is) ∙ sym c.is_reached.ensures ∙ c.if-is_reached.false in
     record {
       same = c.of_variant-disposition.ensures.same ∙ c.variants.invariant.same;
-      listing = listing-found (said_text c.args.asked.now.form (asked_line c.args.asked.now)) (field_by c.args.dispositions.now) _ _ _ _ _ c.variants.cursor c.seek.new.self c.variants.count c.variants.tries c.seek.new.tries c.variants.steps c.seek.new.steps c.last-variant.result.now c.requires.spelled c.variants.invariant.listing
+      listing = listing-found registrable_labels (said_text c.args.asked.now.form (asked_line c.args.asked.now)) (field_by c.args.dispositions.now) _ _ _ _ _ c.variants.cursor c.seek.new.self c.variants.count c.variants.tries c.seek.new.tries c.variants.steps c.seek.new.steps c.last-variant.result.now c.requires.spelled c.variants.invariant.listing
           found c.last-variant.ensures.value (writes_as _ _ Output _ _ (line_is (said_text c.args.asked.now.form (asked_line c.args.asked.now)) c.last-variant.result.now (told c.last-variant.result.now c.of_variant-disposition.ensures.field c.variants.invariant.same)) c.in_ok-write_variant.ensures.written) going;
       known = kept.0;
       apart = kept.1;
