@@ -13,10 +13,6 @@ import sys
 
 from program import ROOT, run_tests, text_of
 
-# Folders that use each other today, to be removed: a run serves the modes, and these use the buffers, the console and the
-# stop that stand beside it. No other may come.
-FOLDERS_TO_BE_REMOVED = {("idn2_cli", "modes", "session")}
-
 # The drawing of the crates themselves, and the crate of which nothing is drawn: each file of it is a test.
 OF_CRATES = "the crates"
 UNDRAWN = "idn2_rows"
@@ -115,14 +111,14 @@ def goes_up_nowhere(folder):
 
 
 def has_no_circle_of_folders(folder):
-    """No two folders of a crate use each other, but for what is to be removed."""
+    """No two folders of a crate use each other."""
     found = set()
     for crate in crates():
         pairs = {(module.split("/")[0], other.split("/")[0]) for module, others in uses(crate).items() for other in others}
         found |= {(crate, *sorted(pair)) for pair in pairs if pair[0] != pair[1] and pair[::-1] in pairs}
     is_folder = functools.partial(os.path.join, ROOT, "crates")
     circles = {item for item in found if any(os.path.isdir(is_folder(item[0], "src", name)) for name in item[1:])}
-    assert circles == FOLDERS_TO_BE_REMOVED, (circles, FOLDERS_TO_BE_REMOVED)
+    assert not circles, circles
 
 
 def names_no_laws(folder):

@@ -16,10 +16,10 @@ use Rattle.idn2_cli.specs.Explained.{Explained, Unexplained, bad_byte, body_caus
 use Rattle.idn2_cli.specs.CauseTexts.{tail_text}
 use Rattle.idn2_cli.proofs.TextAnswers.{is_not_utf8}
 use Rattle.idn2_cli.specs.inner.Explaining.{explained_by}
-use Rattle.idn2_cli.specs.declared.session.cause.Explaining.{Explaining}
-use Rattle.idn2_cli.specs.declared.session.cause.Explaining.TheVariants as by
-use Rattle.idn2_cli.specs.declared.session.cause.LineCause.{LineCause}
-use Rattle.idn2_cli.specs.declared.session.cause.LineCause.TheVariants.{Byte}
+use Rattle.idn2_cli.specs.declared.refusals.cause.Explaining.{Explaining}
+use Rattle.idn2_cli.specs.declared.refusals.cause.Explaining.TheVariants as by
+use Rattle.idn2_cli.specs.declared.refusals.cause.LineCause.{LineCause}
+use Rattle.idn2_cli.specs.declared.refusals.cause.LineCause.TheVariants.{Byte}
 
 -- without the option no cause is told
 pub unexplained-none : (body : Option (List ℕ)) (refusal : Refusal) → body_cause Unexplained body refusal ≡ None

@@ -23,7 +23,7 @@ use Rattle.idn2_cli.specs.inner.Dispositions.{block_by}
 use Rattle.idn2_cli.specs.Ends.{Held, Writes}
 use Rattle.idn2_cli.specs.inner.Emitting.{Emits, StopsWithin}
 use Rattle.idn2_cli.specs.inner.LineAnswers.{reaches}
-use Rattle.idn2_cli.specs.declared.session.stop.Stop.{Stop}
+use Rattle.idn2_cli.specs.declared.output.stop.Stop.{Stop}
 use Rattle.idn2_cli.proofs.BlockSteps.{lines_to, get_if_given, limit_from, stops_at_variant, stops_later, get-above, reaches-now, reaches-later, limit_from-later, add_none}
 use Rattle.idn2_cli.proofs.ListingLemmas.{lines_to-none}
 use Rattle.idn2_cli.proofs.ListingProgress.{emits_after}

@@ -30,7 +30,7 @@ use Rattle.std.specs.Str.{is_utf8, chars}
 use Rattle.idn_text.specs.Lines.{lines_of}
 use Rattle.idn2_cli.specs.Explained.{Unexplained, points_cause}
 use Rattle.idn2_cli.specs.Transcript.{Output, Message, lines_pieces, has_refused, status_if}
-use Rattle.idn2_cli.specs.declared.session.status.Status.TheVariants.{Refused}
+use Rattle.idn2_cli.specs.declared.output.status.Status.TheVariants.{Refused}
 use Rattle.idn2_cli.specs.Examples.{ExamplesOfBlocks, ExamplesOfTranscripts, listing, three_lines, version_one, y_or_z, one_or_both}
 
 -- ---- labels of lower-case letters, digits and hyphens

@@ -29,14 +29,14 @@ use Rattle.idn2_options.specs.declared.command_line.form.Form.{Form}
 use Rattle.idn2_options.specs.declared.command_line.form.Form.TheVariants.{Plain, Json}
 use Rattle.idn2_cli.specs.Said.{Said, said_text}
 use Rattle.idn2_cli.specs.Transcript.{Piece, Output, Message, Refuses, TableGiven, IsReadAs, IsTableOf, mode_pieces, line_pieces, lines_pieces, outputs, output_of, piece_in, pieces_for, refused_object}
-use Rattle.idn2_cli.specs.declared.session.cause.LineCause.{LineCause}
+use Rattle.idn2_cli.specs.declared.refusals.cause.LineCause.{LineCause}
 use Rattle.idn2_cli.specs.Explained.{Explained, body_cause, explained_in}
 use Rattle.idn2_cli.specs.Ends.{Held, Job, reads_lines, Does, Ends, Stands, Stops, StopsAtLine, StopsUnread, IsCutBy, Closes, closing_status, mode_job, refusal_of}
 use Rattle.idn2_cli.specs.Headline.{printed_of, printed_refusal, IsLineOf, IsPrintedFor, ArePrintedFor, PrintsListings}
-use Rattle.idn2_cli.specs.declared.session.status.Status.{Status}
-use Rattle.idn2_cli.specs.declared.session.status.Status.TheVariants.{Clean, Refused, Faulty, OutOfMemory}
-use Rattle.idn2_cli.specs.declared.session.stop.Stop.{Stop}
-use Rattle.idn2_cli.specs.declared.session.stop.Stop.TheVariants as stop
+use Rattle.idn2_cli.specs.declared.output.status.Status.{Status}
+use Rattle.idn2_cli.specs.declared.output.status.Status.TheVariants.{Clean, Refused, Faulty, OutOfMemory}
+use Rattle.idn2_cli.specs.declared.output.stop.Stop.{Stop}
+use Rattle.idn2_cli.specs.declared.output.stop.Stop.TheVariants as stop
 use Rattle.idn2_cli.proofs.BlockMembers.{variants_answer-IsListing}
 use Rattle.idn2_cli.proofs.TextAnswers.{text_answer-none, text_answer-points, chars-encoded, utf8-of_chars}
 use Rattle.idn2_cli.proofs.WrittenPieces.{output_of-append}

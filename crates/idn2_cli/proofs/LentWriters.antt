@@ -4,9 +4,9 @@ use Rattle.idn_text.specs.Reading.{Reading}
 use Rattle.idn_text.specs.Writers.{Writer}
 use Rattle.idn2_cli.specs.Transcript.{Piece}
 use Rattle.idn2_cli.specs.Ends.{Held, Takes, Writes, held, WritesUntil, Job, Does, Closes, Ends}
-use Rattle.idn2_cli.specs.declared.session.status.Status.{Status}
-use Rattle.idn2_cli.specs.declared.session.stop.Stop.{Stop}
-use Rattle.idn2_cli.specs.declared.session.stop.Stop.TheVariants as stop
+use Rattle.idn2_cli.specs.declared.output.status.Status.{Status}
+use Rattle.idn2_cli.specs.declared.output.stop.Stop.{Stop}
+use Rattle.idn2_cli.specs.declared.output.stop.Stop.TheVariants as stop
 
 -- what two writers hold, and not by which loans
 abbrev without_loans : Held → Held

@@ -5,7 +5,7 @@ use Rattle.idn_text.specs.declared.refusal.Refusal.TheVariants.{Memory}
 use Rattle.idn_text.specs.Lines.{Numbered}
 use Rattle.idn2_options.specs.declared.command_line.form.Form.{Form}
 use Rattle.idn2_cli.specs.Transcript.{Piece, Refuses, piece_in, pieces_for}
-use Rattle.idn2_cli.specs.declared.session.cause.LineCause.{LineCause}
+use Rattle.idn2_cli.specs.declared.refusals.cause.LineCause.{LineCause}
 use Rattle.idn2_cli.specs.Ends.{Held}
 use Rattle.idn2_cli.specs.Answers.{LineAnswer}
 use Rattle.idn2_cli.specs.Explained.{Explained}
@@ -14,8 +14,8 @@ use Rattle.idn2_cli.specs.inner.LineAnswers.{KeepsIfRefused, refusal_in, reply_p
 use Rattle.idn2_cli.specs.inner.ServedLines.{answered_as, result_of}
 use Rattle.idn2_cli.specs.declared.modes.answering.Served.{Served}
 use Rattle.idn2_cli.specs.declared.modes.answering.Served.TheVariants as served
-use Rattle.idn2_cli.specs.declared.session.stop.Stop.{Stop}
-use Rattle.idn2_cli.specs.declared.session.stop.Stop.TheVariants as stop
+use Rattle.idn2_cli.specs.declared.output.stop.Stop.{Stop}
+use Rattle.idn2_cli.specs.declared.output.stop.Stop.TheVariants as stop
 use Rattle.idn2_cli.proofs.WrittenPieces.{cut_before, stops_first, writes_nothing}
 
 is_memory : (refusal : Refusal) → (refusal ≡ Memory) ⊎ (refusal ≢ Memory)

@@ -12,18 +12,18 @@ use Rattle.idn2_cli.specs.inner.Emitting.{Emits}
 use Rattle.idn2_options.specs.declared.command_line.form.Form.{Form}
 use Rattle.idn2_options.specs.declared.command_line.mode.Mode.{Mode}
 use Rattle.idn2_options.specs.declared.command_line.mode.Mode.TheVariants.{Variants, Jump, CheckTable}
-use Rattle.idn2_cli.specs.declared.session.status.Status.{Status}
-use Rattle.idn2_cli.specs.declared.session.stop.Stop.{Stop}
-use Rattle.idn2_cli.specs.declared.session.stop.Stop.TheVariants as stop
+use Rattle.idn2_cli.specs.declared.output.status.Status.{Status}
+use Rattle.idn2_cli.specs.declared.output.stop.Stop.{Stop}
+use Rattle.idn2_cli.specs.declared.output.stop.Stop.TheVariants as stop
 use Rattle.idn2_cli.proofs.WrittenPieces.{stops_first}
 use Rattle.idn2_cli.proofs.LineSteps.{stands_at}
 use Rattle.idn2_cli.proofs.TableLemmas.{IsTold, some_table, refused_table}
-use Rattle.idn2_cli.specs.declared.session.cause.LineCause.{LineCause}
+use Rattle.idn2_cli.specs.declared.refusals.cause.LineCause.{LineCause}
 use Rattle.variant_table.specs.declared.version.Notation.{Notation}
 use Rattle.variant_table.specs.Texts.{IsToldOf}
 use Rattle.variant_table.specs.declared.fault.TableFault.{TableFault}
 use Rattle.idn2_cli.specs.inner.TableFaults.{told_of}
-use Rattle.idn2_cli.specs.declared.session.status.Status.TheVariants.{Unusable}
+use Rattle.idn2_cli.specs.declared.output.status.Status.TheVariants.{Unusable}
 
 -- ---- a mode that answers lines
 

@@ -12,14 +12,14 @@ use Rattle.idn2_cli.specs.Transcript.{TableGiven, IsReadAs, table_refusal, check
 use Rattle.idn2_cli.specs.TableCauses.{fault_cause}
 use Rattle.idn2_cli.specs.inner.TableFaults.{told_of}
 use Rattle.idn2_cli.proofs.WrittenPieces.{stops_first}
-use Rattle.idn2_cli.specs.declared.session.cause.LineCause.{LineCause}
+use Rattle.idn2_cli.specs.declared.refusals.cause.LineCause.{LineCause}
 use Rattle.std.specs.Prelude.{MatchOption}
 use Rattle.idn2_cli.specs.Ends.{Held}
 use Rattle.idn2_cli.specs.inner.Emitting.{Emits}
 use Rattle.idn2_options.specs.declared.command_line.form.Form.{Form}
-use Rattle.idn2_cli.specs.declared.session.status.Status.{Status}
-use Rattle.idn2_cli.specs.declared.session.stop.Stop.{Stop}
-use Rattle.idn2_cli.specs.declared.session.stop.Stop.TheVariants as stop
+use Rattle.idn2_cli.specs.declared.output.status.Status.{Status}
+use Rattle.idn2_cli.specs.declared.output.stop.Stop.{Stop}
+use Rattle.idn2_cli.specs.declared.output.stop.Stop.TheVariants as stop
 
 -- each text is read as some table or some fault
 pub some_table : (n : Notation) (text : List ℕ) → (given : TableGiven) × IsReadAs n text given

@@ -8,8 +8,8 @@ use Rattle.idn_text.specs.Writers.{Writer, Fails, TakesWhole, TakesPart}
 use Rattle.idn2_cli.specs.Transcript.{Piece, Output, Message, output_of, messages_of}
 use Rattle.idn2_cli.specs.Ends.{Held, Takes, Writes, BreaksOff, IsCutBy, WritesUntil}
 use Rattle.idn2_cli.specs.inner.Emitting.{StopsWithin, Emits}
-use Rattle.idn2_cli.specs.declared.session.stop.Stop.{Stop}
-use Rattle.idn2_cli.specs.declared.session.stop.Stop.TheVariants as stop
+use Rattle.idn2_cli.specs.declared.output.stop.Stop.{Stop}
+use Rattle.idn2_cli.specs.declared.output.stop.Stop.TheVariants as stop
 
 pub appends_nothing : (a : Option (List ℕ)) → Appends a a []
 appends_nothing None = tt

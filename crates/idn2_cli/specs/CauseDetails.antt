@@ -16,8 +16,8 @@ use Rattle.answer_json.specs.Details.{Details, no_details}
 use Rattle.variant_table.specs.declared.place.FaultPlace.{FaultPlace}
 use Rattle.variant_table.specs.declared.place.FaultPlace.TheVariants as places
 use Rattle.idn2_cli.specs.CauseTexts.{appendix_text, bidi_text}
-use Rattle.idn2_cli.specs.declared.session.cause.LineCause.{LineCause}
-use Rattle.idn2_cli.specs.declared.session.cause.LineCause.TheVariants.{Byte, LongLine, OfLabel, OfALabel, OfName, OfQuery, Ends, OfTable}
+use Rattle.idn2_cli.specs.declared.refusals.cause.LineCause.{LineCause}
+use Rattle.idn2_cli.specs.declared.refusals.cause.LineCause.TheVariants.{Byte, LongLine, OfLabel, OfALabel, OfName, OfQuery, Ends, OfTable}
 
 -- a code point and its place
 abbrev pub placed : ℕ → ℕ → Details

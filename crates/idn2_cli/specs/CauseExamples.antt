@@ -8,7 +8,7 @@ use Rattle.idn_cause.specs.declared.cause.Cause.TheVariants as causes
 use Rattle.idn_cause.specs.declared.a_label.ALabelCause.TheVariants as a_labels
 use Rattle.idn_cause.specs.declared.query.LengthCause.TheVariants.{LabelOctets, NameOctets}
 use Rattle.idn2_cli.specs.CauseTexts.{tail_text}
-use Rattle.idn2_cli.specs.declared.session.cause.LineCause.TheVariants.{Byte, LongLine, OfLabel, OfALabel, OfName, OfQuery}
+use Rattle.idn2_cli.specs.declared.refusals.cause.LineCause.TheVariants.{Byte, LongLine, OfLabel, OfALabel, OfName, OfQuery}
 
 -- each form of a cause
 pub record ExamplesOfCauses : Type 0 where

@@ -18,8 +18,8 @@ use Rattle.idn_cause.specs.declared.query.LengthCause.TheVariants.{LabelOctets, 
 use Rattle.ruleset_text.specs.Canonical.{hex_digit, point_text}
 use Rattle.variant_table.specs.declared.place.FaultPlace.{FaultPlace}
 use Rattle.variant_table.specs.declared.place.FaultPlace.TheVariants as places
-use Rattle.idn2_cli.specs.declared.session.cause.LineCause.{LineCause}
-use Rattle.idn2_cli.specs.declared.session.cause.LineCause.TheVariants.{Byte, LongLine, OfLabel, OfALabel, OfName, OfQuery, Ends, OfTable}
+use Rattle.idn2_cli.specs.declared.refusals.cause.LineCause.{LineCause}
+use Rattle.idn2_cli.specs.declared.refusals.cause.LineCause.TheVariants.{Byte, LongLine, OfLabel, OfALabel, OfName, OfQuery, Ends, OfTable}
 
 -- a code point, as Unicode writes it
 abbrev pub code_point_text : ℕ → List ℕ

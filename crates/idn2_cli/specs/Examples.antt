@@ -15,7 +15,7 @@ use Rattle.idn2_cli.specs.Ends.{closing_message}
 use Rattle.idn2_cli.specs.Answers.{block, nth, nth_if_given, lesser_label, up_to, LineAnswer, line_answer}
 use Rattle.idn2_cli.specs.Said.{said_line, table_line, trailer_line}
 use Rattle.idn2_options.specs.declared.command_line.mode.Mode.TheVariants.{Register, Variants}
-use Rattle.idn2_cli.specs.declared.session.status.Status.TheVariants.{Refused}
+use Rattle.idn2_cli.specs.declared.output.status.Status.TheVariants.{Refused}
 
 -- sss, sß and ßs
 abbrev pub three : List (List ℕ)

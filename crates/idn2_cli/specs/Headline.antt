@@ -16,10 +16,10 @@ use Rattle.idn2_cli.specs.Explained.{Explained, body_cause, explained_in}
 use Rattle.idn2_options.specs.declared.command_line.mode.Mode.TheVariants.{Variants}
 use Rattle.idn2_cli.specs.Said.{said_text}
 use Rattle.idn2_cli.specs.Transcript.{refused_object}
-use Rattle.idn2_cli.specs.declared.session.cause.LineCause.{LineCause}
+use Rattle.idn2_cli.specs.declared.refusals.cause.LineCause.{LineCause}
 use Rattle.idn2_cli.specs.Answers.{LineAnswer, IsListing}
-use Rattle.idn2_cli.specs.declared.session.status.Status.{Status}
-use Rattle.idn2_cli.specs.declared.session.status.Status.TheVariants.{Clean, Refused}
+use Rattle.idn2_cli.specs.declared.output.status.Status.{Status}
+use Rattle.idn2_cli.specs.declared.output.status.Status.TheVariants.{Clean, Refused}
 
 -- what a refusal puts on the output: nothing, or its object
 abbrev pub printed_refusal : Form → Numbered → Refusal → Option LineCause → List ℕ

@@ -18,7 +18,7 @@ use Rattle.idn2_cli.specs.Answers.{disposition}
 use Rattle.idn2_cli.specs.CauseTexts.{tail_text}
 use Rattle.idn2_cli.specs.Explained.{Unexplained, bad_byte, body_cause, table_cause}
 use Rattle.idn2_cli.specs.Transcript.{TableGiven, line_message, messages_of, piece_in, refused_message, statements, status_of, transcript}
-use Rattle.idn2_cli.specs.declared.session.cause.LineCause.TheVariants.{Byte}
+use Rattle.idn2_cli.specs.declared.refusals.cause.LineCause.TheVariants.{Byte}
 
 -- the disposition of a variant. Version 1 has none; a label may itself be allocated, whatever is blocked; where no variant is
 -- blocked, each of a label's variants may be; and what may be allocated is a variant of the label

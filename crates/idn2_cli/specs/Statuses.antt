@@ -1,7 +1,7 @@
 -- The exit statuses.
 use Rattle.std.specs.Prelude.{ℕ}
-use Rattle.idn2_cli.specs.declared.session.status.Status.{Status}
-use Rattle.idn2_cli.specs.declared.session.status.Status.TheVariants.{Clean, Refused, Unusable, Faulty, OutOfMemory}
+use Rattle.idn2_cli.specs.declared.output.status.Status.{Status}
+use Rattle.idn2_cli.specs.declared.output.status.Status.TheVariants.{Clean, Refused, Unusable, Faulty, OutOfMemory}
 
 -- 0 is success; 1 a refusal or a gap; 2 words or a table; 3 reading or writing; 4 memory
 abbrev pub code_of : Status → ℕ

@@ -7,8 +7,8 @@ use Rattle.variant_table.specs.declared.place.FaultPlace.{FaultPlace}
 use Rattle.variant_table.specs.declared.place.FaultPlace.TheVariants.{Lexeme}
 use Rattle.variant_table.specs.declared.version.Notation.{Notation}
 use Rattle.variant_table.specs.FaultPlaces.{fault_place, faulty_line}
-use Rattle.idn2_cli.specs.declared.session.cause.LineCause.{LineCause}
-use Rattle.idn2_cli.specs.declared.session.cause.LineCause.TheVariants.{OfTable}
+use Rattle.idn2_cli.specs.declared.refusals.cause.LineCause.{LineCause}
+use Rattle.idn2_cli.specs.declared.refusals.cause.LineCause.TheVariants.{OfTable}
 
 -- a byte of ASCII that is seen where it is printed
 abbrev pub is_visible : ℕ → Bool

@@ -21,14 +21,14 @@ use Rattle.idn2_cli.specs.CauseDetails.{told_details}
 use Rattle.idn2_cli.specs.Explained.{Explained, body_cause, explained_in}
 use Rattle.idn2_cli.specs.TableCauses.{fault_cause, told_if}
 use Rattle.idn2_cli.specs.Said.{Said, Finding, Gap, Counted, said_text, finding_text}
-use Rattle.idn2_cli.specs.declared.session.cause.LineCause.{LineCause}
+use Rattle.idn2_cli.specs.declared.refusals.cause.LineCause.{LineCause}
 use Rattle.answer_json.specs.Answers.{line_of}
 use Rattle.answer_json.specs.Inputs.{told_of}
 use Rattle.answer_json.specs.Objects.{refused, table_fault, registered_fault}
 use Rattle.idn2_options.specs.declared.command_line.form.Form.{Form}
 use Rattle.idn2_options.specs.declared.command_line.form.Form.TheVariants.{Plain, Json}
-use Rattle.idn2_cli.specs.declared.session.status.Status.{Status}
-use Rattle.idn2_cli.specs.declared.session.status.Status.TheVariants.{Clean, Refused, Unusable}
+use Rattle.idn2_cli.specs.declared.output.status.Status.{Status}
+use Rattle.idn2_cli.specs.declared.output.status.Status.TheVariants.{Clean, Refused, Unusable}
 use Rattle.idn_text.specs.declared.refusal.Refusal.TheVariants as refusals
 use Rattle.variant_table.specs.Faults as faults
 

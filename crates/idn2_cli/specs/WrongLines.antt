@@ -7,8 +7,8 @@ use Rattle.idn_text.specs.declared.refusal.Refusal.TheVariants.{OutOfOrder, File
 use Rattle.idn_cause.specs.Causes.{shared}
 use Rattle.idn_cause.specs.declared.cause.Cause.TheVariants.{Point}
 use Rattle.idn2_cli.specs.Explained.{ByTest, body_cause}
-use Rattle.idn2_cli.specs.declared.session.cause.LineCause.{LineCause}
-use Rattle.idn2_cli.specs.declared.session.cause.LineCause.TheVariants.{OfLabel, Ends}
+use Rattle.idn2_cli.specs.declared.refusals.cause.LineCause.{LineCause}
+use Rattle.idn2_cli.specs.declared.refusals.cause.LineCause.TheVariants.{OfLabel, Ends}
 
 -- the body of a line, if there is one
 abbrev pub body_if_any : Option (List ℕ) → Option (List ℕ)

@@ -3,9 +3,12 @@
 
 pub mod laws;
 mod modes;
+mod output;
+mod refusals;
+mod request;
 mod session;
 
 pub use idn2_options::{Form, Mode, Notation, Options, Usage, input_text, read_options};
+pub use output::status::Status;
 pub use session::report::{report, report_registered};
 pub use session::run::{run, run_among};
-pub use session::status::Status;

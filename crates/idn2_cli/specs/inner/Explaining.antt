@@ -1,7 +1,7 @@
 -- How a mode explains, as the definitions have it.
 use Rattle.idn2_cli.specs.Explained.{Explained, Unexplained, ByLabel, ByName, ByQuery, ByTable, ByRequest, ByTest}
-use Rattle.idn2_cli.specs.declared.session.cause.Explaining.{Explaining}
-use Rattle.idn2_cli.specs.declared.session.cause.Explaining.TheVariants as by
+use Rattle.idn2_cli.specs.declared.refusals.cause.Explaining.{Explaining}
+use Rattle.idn2_cli.specs.declared.refusals.cause.Explaining.TheVariants as by
 
 abbrev pub explained_by : Explaining → Explained
 explained_by by.Nothing = Unexplained

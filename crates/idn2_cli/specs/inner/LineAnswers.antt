@@ -9,7 +9,7 @@ use Rattle.idn2_cli.specs.Answers.{LineAnswer}
 use Rattle.idn2_cli.specs.Said.{Said, LookedUp, Decoded, said_text}
 use Rattle.idn2_cli.specs.Transcript.{Piece, outputs}
 use Rattle.idn2_cli.specs.Ends.{Held}
-use Rattle.idn2_cli.specs.declared.session.stop.Stop.{Stop}
+use Rattle.idn2_cli.specs.declared.output.stop.Stop.{Stop}
 use Rattle.idn2_cli.specs.declared.modes.answering.Kind.{Kind}
 use Rattle.idn2_cli.specs.declared.modes.answering.Kind.TheVariants as kind
 

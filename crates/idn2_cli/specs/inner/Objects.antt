@@ -5,8 +5,8 @@ use Rattle.answer_json.specs.Answers.{Answer}
 use Rattle.answer_json.specs.Details.{HasShortTexts, details_of, given_len}
 use Rattle.answer_json.specs.Inputs.{told, told_len}
 use Rattle.answer_json.specs.Objects.{looked_up, registered, decoded, variant, trailer, least, refused, gap, checked, table_fault, registered_fault}
-use Rattle.idn2_cli.specs.declared.session.object.Object.{Object}
-use Rattle.idn2_cli.specs.declared.session.object.Object.TheVariants as object
+use Rattle.idn2_cli.specs.declared.output.object.Object.{Object}
+use Rattle.idn2_cli.specs.declared.output.object.Object.TheVariants as object
 
 -- what the object says
 abbrev pub object_told : Object → Answer

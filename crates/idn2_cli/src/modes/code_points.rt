@@ -8,12 +8,12 @@ ghost use Rattle.idn2_cli.specs.inner.Emitting.{Emits, StopsForMemory};
 ghost use Rattle.idn2_cli.specs.inner.LineAnswers.{KeepsIfRefused, refusal_in, reply_pieces};
 ghost use Rattle.idn2_cli.specs.inner.ServedLines.{result_of};
 ghost use Rattle.idn2_cli.specs.declared.modes.answering.Served.TheVariants as served;
-ghost use Rattle.idn2_cli.specs.declared.session.stop.Stop.TheVariants as stop;
+ghost use Rattle.idn2_cli.specs.declared.output.stop.Stop.TheVariants as stop;
 
 use crate::modes::answering::{Answering, Served};
-use crate::session::asked::Asked;
-use crate::session::buffers::Buffers;
-use crate::session::console::Console;
+use crate::output::asked::Asked;
+use crate::output::buffers::Buffers;
+use crate::output::console::Console;
 use idn_text::{MAX_LINE_LEN, Refusal, Sink, decode_points};
 use std::alloc::Global;
 

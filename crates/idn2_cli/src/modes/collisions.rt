@@ -9,14 +9,14 @@ ghost use Rattle.idn2_cli.specs.Transcript.{outputs};
 ghost use Rattle.idn2_cli.specs.inner.Asked.{asked_line};
 ghost use Rattle.idn2_cli.specs.inner.Dispositions.{block_by, field_by};
 ghost use Rattle.idn2_cli.specs.inner.Emitting.{Emits};
-ghost use Rattle.idn2_cli.specs.declared.session.stop.Stop.TheVariants as stop;
+ghost use Rattle.idn2_cli.specs.declared.output.stop.Stop.TheVariants as stop;
 
 use crate::modes::block::{is_reached, write_end, write_stop, write_variant};
 use crate::modes::dispositions::Dispositions;
 use crate::modes::kept_line::KeptLine;
-use crate::session::asked::Asked;
-use crate::session::console::Console;
-use crate::session::stop::Stop;
+use crate::output::asked::Asked;
+use crate::output::console::Console;
+use crate::output::stop::Stop;
 use idn_label::encode_label;
 use idn_text::{MAX_LINE_LEN, Sink};
 use idn2_options::Options;

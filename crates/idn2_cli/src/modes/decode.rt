@@ -14,9 +14,9 @@ ghost use Rattle.idn2_cli.specs.Memory.{DecodesLineWithoutMemory};
 
 use crate::modes::answering::{Answering, Kind, Served, answered, refused, reply};
 use crate::modes::code_points::{ByPoints, PointAnswering};
-use crate::session::asked::Asked;
-use crate::session::buffers::{Buffers, MAX_ANSWER_LEN};
-use crate::session::console::Console;
+use crate::output::asked::Asked;
+use crate::output::buffers::{Buffers, MAX_ANSWER_LEN};
+use crate::output::console::Console;
 use idn_label::{DecodedLabel, decode_ascii, decode_name};
 use idn_text::{MAX_LINE_LEN, Refusal, Sink};
 use std::alloc::{AllocError, Global};

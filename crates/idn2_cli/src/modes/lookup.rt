@@ -9,9 +9,9 @@ ghost use Rattle.idn2_cli.specs.Said.{LookedUp};
 ghost use Rattle.idn2_cli.specs.inner.LineAnswers.{with_feed, query_answer};
 
 use crate::modes::answering::{Answering, Kind, Served, answered, refused, reply};
-use crate::session::asked::Asked;
-use crate::session::buffers::Buffers;
-use crate::session::console::Console;
+use crate::output::asked::Asked;
+use crate::output::buffers::Buffers;
+use crate::output::console::Console;
 use idn_label::{LookupBuffers, lookup_utf8};
 use idn_text::{Refusal, Sink};
 use std::alloc::Global;

@@ -6,12 +6,12 @@ ghost use Rattle.idn2_cli.specs.CauseTexts.{tail_text};
 ghost use Rattle.idn2_cli.specs.Ends.{IsFault, TakesText, TellsUnread, TellsWrong, TellsWrongLine, closing_message, closing_status, held};
 ghost use Rattle.idn2_cli.specs.Transcript.{registered_message};
 
-use crate::session::cause::LineCause;
-use crate::session::details::details_of_refusal;
-use crate::session::message::{explained_message, registered_message};
-use crate::session::object::{Object, write_object};
-use crate::session::status::Status;
-use crate::session::wrong_line::cause_if_wanted;
+use crate::output::object::{Object, write_object};
+use crate::output::status::Status;
+use crate::refusals::cause::LineCause;
+use crate::refusals::details::details_of_refusal;
+use crate::refusals::message::{explained_message, registered_message};
+use crate::refusals::wrong_line::cause_if_wanted;
 use answer_json::ObjectLine;
 use idn_text::{Refusal, Sink, write_text};
 use idn2_options::{Form, Options};

@@ -15,13 +15,13 @@ ghost use Rattle.idn2_options.specs.declared.command_line.mode.Mode.TheVariants 
 
 use crate::modes::code_points::ByPoints;
 use crate::modes::{Decode, Dispositions, Jumps, Lookup, Register, Variants, check_table};
-use crate::session::cause::Explaining;
-use crate::session::console::Console;
+use crate::output::console::Console;
+use crate::output::status::Status;
+use crate::output::stop::Stop;
+use crate::refusals::cause::Explaining;
+use crate::refusals::table::refuse_table;
 use crate::session::lines::serve_lines;
 use crate::session::report::report;
-use crate::session::status::Status;
-use crate::session::stop::Stop;
-use crate::session::table::refuse_table;
 use answer_json::ObjectLine;
 use idn_text::{Lines, Sink, Source};
 use idn2_options::{Form, Mode, Options};

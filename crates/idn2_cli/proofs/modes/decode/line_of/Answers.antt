@@ -1,4 +1,4 @@
-use Rattle.std.proofs.Common.{◌≡◌, ◌≤◌, ℕ, List, [], ◌∷◌, ◌++◌, length, string_bytes, ap, ap₂, ◌∙◌, arith, length-append, subst, sym}
+use Rattle.std.proofs.Common.{◌≡◌, ◌≤◌, ℕ, List, [], ◌∷◌, ◌++◌, length, ap, ap₂, ◌∙◌, arith, length-append, subst, sym}
 use Rattle.idn_text.specs.Points.{AreScalarValues, utf8_of}
 use Rattle.idn_text.proofs.Utf8Lemmas.{length-utf8_of-le}
 use Rattle.idn2_cli.proofs.DecodedLemmas.{decode_answer-scalar}

@@ -1,5 +1,4 @@
-use Rattle.std.proofs.Common.{◌≡◌, true, false, sym, ap, ◌∙◌, chars}
-use Rattle.idna.specs.Validity.{has_ace_prefix}
+use Rattle.std.proofs.Common.{sym, ◌∙◌}
 use Rattle.idn2_cli.proofs.RegisteredLines.{a_label_by_octets, other_by_octets, chars-ascii}
 use Rattle.idn2_cli.proofs.modes.register.is_a_label.Goals as goal
 

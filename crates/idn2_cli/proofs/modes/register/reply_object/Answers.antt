@@ -1,9 +1,9 @@
-use Rattle.std.proofs.Common.{◌≡◌, ◌≤◌, ◌∙◌, ℕ, List, chars, false, true, ap, length, subst, sym, arith}
+use Rattle.std.proofs.Common.{◌≡◌, ◌≤◌, ◌∙◌, ℕ, List, chars, false, ap, length, subst, sym, arith}
 use Rattle.std.specs.Result.{IsOk}
 use Rattle.idna.specs.Validity.{has_ace_prefix}
 use Rattle.idn_label.specs.Memory.{RegistersWithoutMemory}
-use Rattle.idn_label.specs.Register.{register_answer, register_utf8_answer}
-use Rattle.idn_text.specs.Points.{IsUtf8Of, utf8_of}
+use Rattle.idn_label.specs.Register.{register_answer}
+use Rattle.idn_text.specs.Points.{utf8_of}
 use Rattle.idn_text.proofs.Utf8Lemmas.{IsUtf8-from_points}
 use Rattle.idn2_cli.specs.Answers.{u_label_of}
 use Rattle.idn2_cli.proofs.RegisteredLines.{registered-utf8, registered-points, registered-registrable, registrable-octets, stands_for-itself, is_registered}

@@ -1,0 +1,28 @@
+use Rattle.std.proofs.Common.{[], ◌∷◌, decimal}
+use Rattle.idn_text.specs.Refusals.{refusal_number, refusal_text}
+use Rattle.idn2_cli.specs.CauseTexts.{line_cause_text}
+use Rattle.idn2_cli.proofs.WrongLineLemmas.{appended}
+use Rattle.idn2_cli.proofs.refusals.message.explained_message.Goals as goal
+
+pub returns : goal.returns
+returns c =
+    rw (
+      c.append-8.ensures,
+      c.push_line_cause.ensures.items,
+      c.append-7.ensures,
+      c.append-6.ensures,
+      c.append-5.ensures,
+      c.append-4.ensures,
+      c.append-3.ensures,
+      c.append-2.ensures,
+      c.append.ensures,
+      c.new-message.ensures,
+      c.as_bytes.ensures.value,
+      c.format.ensures.text,
+      c.as_bytes-2.ensures.value,
+      c.format-2.ensures.text,
+      c.number.ensures,
+      c.as_bytes-3.ensures.value,
+      c.text.ensures,
+    )
+    (appended c.args.before.now (decimal c.args.number) (58 ∷ 32 ∷ []) (decimal (refusal_number c.args.refusal.now)) (32 ∷ []) (refusal_text c.args.refusal.now) (58 ∷ 32 ∷ []) (line_cause_text c.args.refusal.now c.args.cause.now) (10 ∷ []))
