@@ -256,6 +256,7 @@ def tells_where_a_table_has_its_fault(folder):
         ruleset = text.startswith(VERSION_3.encode())
         file = table_file(folder, text, "faulty.txt")
         before = f"idn2: table line {number}: {message}"
+        assert len(f"{before}: {place}\n") <= 160 and f"{before}: {place}".isascii(), (before, place)
         for option in ("--check-ruleset", "--ruleset") if ruleset else ("--check-table", "--variants"):
             given = b"a\n" if option in ("--ruleset", "--variants") else b""
             expect([option, file], given, b"", f"{before}\n".encode(), 2)
