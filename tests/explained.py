@@ -224,7 +224,7 @@ def tells_the_causes_of_more_rows(folder):
 
 def tells_each_line_its_own_cause(folder):
     """The rows of a mode in one run, with a line between each two that is answered, and their numbers rise."""
-    for words in (REGISTER, DECODE, LOOKUP, GERMAN, SOURCES):
+    for words in (REGISTER, DECODE, LOOKUP, GERMAN, SOURCES, SOURCES + ["--jump"]):
         rows = [row for row in ROWS + MORE_ROWS if row[1] == words and row[2] is not None]
         given = b"o\n" + b"".join(given_of(row[0]) + b"o\n" for row in rows)
         told = "".join(message_of(2 * k + 2, text, cause) for k, (_, _, text, cause) in enumerate(rows))

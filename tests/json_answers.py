@@ -436,6 +436,18 @@ def refusal_with(number, members):
     return {"number": number, "text": "x", **{name: rule if name == "rule" else MEMBERS[name] for name in members}, **point}
 
 
+def tells_which_numbers_have_a_member(folder):
+    """The second column of the table of docs/JSON.md, but for two members that go by what is refused."""
+    rows = dict(re.findall(r"^\| `(\w+)` \| ([^|]*) \|", text_of_file("docs", "JSON.md").split("## What is refused")[1], re.MULTILINE))
+    assert rows.keys() == MEMBERS.keys(), rows
+    rows["place"] = rows["place"].replace("the same, but for 33 and 34", ", ".join(
+        each for each in rows["code_point"].split(", ") if each not in ("33", "34")))
+    for member in MEMBERS.keys() - {"label", "decoded"}:
+        told = {number for first, last in re.findall(r"(\d+)(?: to (\d+))?", rows[member]) for number in range(int(first), int(last or first) + 1)}
+        known = {number for number, shapes in SHAPES.items() if any(member in shape for shape in shapes)}
+        assert told == known, (member, told, known)
+
+
 def told_at(refusal):
     """Objects of what is refused: a line in each way in which it is told, a table, and registered labels."""
     places = [{"line": 1, "input": "x"}, {"line": 1, "input": None}, {"line": 1, "input_hex": "FF"}, {"table_line": 1}, {"registered_line": 1}]
@@ -535,6 +547,7 @@ TESTS = [
     tells_each_line_as_it_was_read,
     answers_the_longest_lines,
     tells_causes_in_another_language,
+    tells_which_numbers_have_a_member,
     describes_refusals_by_their_members,
     describes_no_other_objects,
     takes_no_part_of_a_listing_for_the_whole,
