@@ -18,14 +18,15 @@ table compares:
                           bench/listing_peer.cpp, a program over libidn2 that makes all spellings of a label by an index
                           of the table, puts them in order, and tests and encodes each
     start                 `idn2 -l` of both with an empty input
-    objects               ours alone: each of the modes before with `--json` and without, side by side in one run. Wanted are
+    objects               ours alone: each of the modes before, A-labels that are registered, registered labels and jumps under
+                          tables/han.txt, with `--json`, with `--explain` and without, side by side in one run. Wanted are
                           objects at least half as fast as lines
     memory                the peak of resident memory: of `idn2 -l -N` on few and on all mixed names; and of a listing
                           of ten and of a million of the 2^62 variants of a label, where the peer can do neither
 
 Before anything is timed the answers are compared, and they must be the same. libidn2's idn2 ends at the first line
 that it refuses, so every line is one that both accept. With `--instructions` callgrind counts the instructions a line
-too, less those of the start; of a listing, those of a variant.
+too, less those of the start, also with `--explain` and with `--json`; of a listing, those of a variant.
 
 To be installed (Debian's names), each left out with a word where it is missing: idn2 for the comparison, g++ and
 libidn2-dev for the peer, time for the memory, valgrind for the instructions.
@@ -37,7 +38,8 @@ import pathlib
 import subprocess
 import sys
 
-from inputs import SEED, TABLE, write_inputs
+import registered
+from inputs import SEED, TABLE, write, write_inputs
 from runs import Failed, Run, found, in_turn, measured, version, words_of
 
 HERE = pathlib.Path(__file__).resolve().parent
@@ -46,6 +48,8 @@ HERE = pathlib.Path(__file__).resolve().parent
 LINES_COUNTED = 2_000
 # How fast objects are wanted, of the speed of lines.
 OBJECTS_WANTED = 0.5
+# The options with which each line says more.
+MORE = ("--explain", "--json")
 
 
 @dataclasses.dataclass
@@ -90,6 +94,24 @@ def rows_of(options, files, listing_peer):
     }
 
 
+def rows_of_ours(options, folder, files, lines):
+    """What is compared with nothing but its own objects."""
+    labels = registered.han_labels(lines // 10)
+    kept = write(folder, "registered", labels)
+    requests = write(folder, "requests", [f"{label}\t{text}" for label, text in zip(labels, labels[1:] + labels[:1])])
+    listing = ["--variants", str(TABLE)]
+    return [
+        Row("register, A-labels", Run(options.ours, ["-r"], files["a-labels"]), None, 0),
+        Row("registered labels", Run(options.ours, [*listing, "--among", str(kept)], kept), None, 0),
+        Row("jump", Run(options.ours, [*listing, "--jump"], requests), None, 0),
+    ]
+
+
+def with_option(run, option):
+    program, *words = run.command
+    return Run(program, [option, *words], run.source)
+
+
 def without_trailers(text):
     return "".join(line for line in text.splitlines(keepends=True) if not line.startswith("#"))
 
@@ -130,14 +152,12 @@ def ours_and_theirs(ours, theirs):
 
 
 def show_objects(options, rows):
-    print("\nmilliseconds of processor: lines, and objects (--json)")
-    cells("", "lines", "objects", "ratio", "wanted")
-    for source, row in rows.items():
-        if source != "nothing":
-            program, *words = row.ours.command
-            plain, objects = in_turn([row.ours, Run(program, ["--json", *words], row.ours.source)], options.rounds)
-            ratio = plain.processor / objects.processor
-            cells(row.name, f"{1000 * plain.processor:,.2f}", f"{1000 * objects.processor:,.2f}", f"{ratio:.2f}", f"{OBJECTS_WANTED}")
+    print("\nmilliseconds of processor: lines, lines with --explain, and objects (--json)")
+    cells("", "lines", "explained", "objects", "ratio", "wanted")
+    for row in rows:
+        plain, explained, objects = in_turn([row.ours, *(with_option(row.ours, option) for option in MORE)], options.rounds)
+        ratio = plain.processor / objects.processor
+        cells(row.name, *(f"{1000 * taken.processor:,.2f}" for taken in (plain, explained, objects)), f"{ratio:.2f}", OBJECTS_WANTED)
 
 
 def show_memory(options, files, counts):
@@ -168,14 +188,13 @@ def show_instructions(rows, counts):
         print("\ninstructions: no valgrind here (Debian's package valgrind)")
         return
     print("\ninstructions a line, less those of the start")
-    cells("", "ours", "libidn2", "ratio")
+    cells("", "ours", *MORE, "libidn2", "ratio")
     for source, row in rows.items():
-        if source == "nothing":
-            continue
         counted = counts[source] if source == "sources" else LINES_COUNTED
-        figures = [run.instructions_a_line(LINES_COUNTED, counted) for run in row.runs()]
-        ratio = f"{figures[1] / figures[0]:.1f}" if len(figures) > 1 else "-"
-        cells(row.name, *[f"{figure:,.0f}" for figure in figures], ratio)
+        runs = [row.ours, *(with_option(row.ours, option) for option in MORE), *row.runs()[1:]]
+        ours, *others = (run.instructions_a_line(LINES_COUNTED, counted) for run in runs)
+        ratio = f"{others[-1] / ours:.1f}" if row.theirs else "-"
+        cells(row.name, *[f"{figure:,.0f}" for figure in (ours, *others)], *([] if row.theirs else ["-"]), ratio)
 
 
 def words():
@@ -201,10 +220,12 @@ def measure(options, folder):
     rows = rows_of(options, files, listing_peer)
     compare_answers(rows)
     show_times(options, rows, counts)
-    show_objects(options, rows)
+    answering = {source: row for source, row in rows.items() if source != "nothing"}
+    answering.update((row.name, row) for row in rows_of_ours(options, folder, files, options.lines))
+    show_objects(options, answering.values())
     show_memory(options, files, counts)
     if options.instructions:
-        show_instructions(rows, counts)
+        show_instructions(answering, counts)
 
 
 if __name__ == "__main__":

@@ -134,6 +134,8 @@ def write_inputs(folder, lines):
         chance = random.Random(f"{SEED} {name}")
         text = [maker(chance) for _ in range(count)]
         files[name], counts[name] = write(folder, name, text), count
+        if name == "labels":
+            files["a-labels"] = write(folder, "a-labels", map(a_label, text))
         if name == "mixed":
             files["few"], counts["few"] = write(folder, "few", text[: lines // 100]), lines // 100
     labels, counts["sources"] = labels_with_variants(random.Random(f"{SEED} variants"), lines)

@@ -11,6 +11,8 @@ from rules import stands_between_joining
 from unicode_data import DISALLOWED, EXCEPTIONS, IGNORABLE_BLOCKS, LEFT_OUT, OLD_HANGUL_JAMO, UNASSIGNED, is_in
 
 NOT_UTF8, LINE_TOO_LONG, OUT_OF_ORDER, FILE_TOO_LONG, INVALID, BAD_LENGTH, NOT_IN_TABLE = 1, 2, 4, 5, 20, 21, 40
+# RFC 1035, section 2.3.4, without the last full stop and the lengths of labels.
+MOST_OCTETS_OF_A_NAME = 253
 APPENDICES = {0x200C: 1, 0x200D: 2, 0xB7: 3, 0x375: 4, 0x5F3: 5, 0x5F4: 6, 0x30FB: 7}
 NEUTRAL = {"EN", "ES", "CS", "ET", "ON", "BN", "NSM"}
 
@@ -185,6 +187,16 @@ class Causes:
                 separator = ", " if cause is not None and cause.startswith("decoded: ") else ": "
                 return None if cause is None else f"label {number}{separator}{cause}"
         return None
+
+    @staticmethod
+    def of_length(query):
+        """Of a name as a query has it: its first label of a wrong length, else its own."""
+        labels = query.removesuffix(".").split(".")
+        number = first(range(len(labels)), lambda number: not 1 <= len(labels[number]) <= MOST_OCTETS)
+        if number is not None:
+            return f"label {number + 1}: {len(labels[number])} octets"
+        octets = len(".".join(labels))
+        return f"name of {octets} octets" if octets > MOST_OCTETS_OF_A_NAME else None
 
     @staticmethod
     def outside(label, sources):

@@ -4,8 +4,9 @@
 It draws words, tables, labels, registered labels, names and bytes from a seed, which it prints, until the given number of
 seconds is over. Each run's output, messages and status must be those of second_run.py, byte for byte, in half of the runs
 with the causes that causes.py tells. Those are run once more with `--json`: each line must be what Python's json prints of
-the object that it reads there, and the objects must say the same (objects.py). Names for lookup are compared with libidn2's answers, whose known kinds of difference
-are in kinds.py. Status 1 where anything differs.
+the object that it reads there, and the objects must say the same (objects.py). Names for lookup are compared with
+libidn2's answers, whose known kinds of difference are in kinds.py, and with what is said of them with `--explain` and with
+`--json`, the cause of a wrong length included. Status 1 where anything differs.
 """
 
 import argparse
@@ -24,16 +25,21 @@ from compare import PROGRAM, our_answers
 
 import kinds
 import names
+from causes import BAD_LENGTH, INVALID, Causes
 from libidn2 import LibIdn2
-from registration import Registration
+from registration import EMPTY, LABEL_TOO_LONG, Registration, a_label
 from rules import UnicodeProperties
 from objects import Wrong, as_explained, without_what_objects_leave_out
-from second_run import Bad, Options, Run, Show, Unknown, bodies
+from second_run import LINE_LIMIT, TEXTS, Bad, Options, Run, Show, Unknown, bodies
 from unicode_data import Classes, version
 
 SHOWN = 400
 # The most memory of the program, in bytes: one that takes more answers 70, which is told as a difference.
 MEMORY = 1 << 30
+# The texts of refusals at a lookup.
+LOOKUP_TEXTS = {EMPTY: TEXTS[EMPTY], INVALID: "not a valid name", BAD_LENGTH: "name or label length"}
+# What UTS #46 takes for a full stop.
+FULL_STOPS = "[.\u3002\uff0e\uff61]"
 # What the tables are made of: small alphabets, so that sources, variants and labels meet each other.
 ALPHABETS = ("ab", "sß", "abß-", "a-", "ab\u0301", "qa\u0301", "\u05d0\u05d1a", "\u0627\u0660\u06f0", "中国國", "lа·l",
              "\u0915\u094d\u200d", "\u0627\u200c\u0647a", "àa\u0300", "0a9\u05d0", "\U00020000中\U00020001")
@@ -83,7 +89,7 @@ class Fuzz:
             ("register", self.register), ("decode", self.decode), ("lookup", self.lookup), ("variants", self.variants),
             ("variants", self.variants), ("check of a table", self.check_table), ("words", self.words),
             ("variants among registered labels", self.among), ("variants among registered labels", self.among),
-            ("jump", self.jump)))
+            ("jump", self.jump), ("lengths of names", self.lengths)))
         difference = make()
         if difference is not Unknown:
             self.counts[kind] += 1
@@ -150,8 +156,58 @@ class Fuzz:
             return f"lookup {name!r}: {ours}, {refusal}, and by the rules for ASCII {strict}, {strict_refusal}"
         case = kinds.Case(name, ours, refusal, *self.library.lookup(name))
         if not case.differs() or any(kind.explains(self.facts, case) for kind in kinds.LOOKUP):
-            return None
+            return self.forms(name, ours, refusal)
         return f"lookup {name!r}: {case}"
+
+    def lengths(self):
+        """Names with labels of lengths around the limits, and around that of a name."""
+        letters = self.chance.choice(("a", "A", "ä", "中"))
+        lengths = self.chance.choice(((0, 1, 2, 62, 63, 64, 65), (63, 63, 63, 59, 60, 61, 62), (1, 1, 2)))
+        full_stop = self.chance.choice((".", ".", ".", "\u3002"))
+        labels = [letters * self.chance.choice(lengths) for _ in range(self.chance.choice((1, 2, 3, 4, 4, 5, 8, 85, 126, 127, 128)))]
+        name = full_stop.join(labels) + self.chance.choice(("", "", full_stop, 2 * full_stop))
+        if not name or len(name.encode()) > LINE_LIMIT:
+            return Unknown
+        (ours, refusal), = our_answers(self.program, ["-l"], [name])
+        query = self.query_of(name)
+        wanted = (None, BAD_LENGTH) if Causes.of_length(query) else (query, None)
+        if (ours, refusal) != wanted:
+            return f"lookup {name!r}: {ours}, {refusal}, expected {wanted}"
+        return self.forms(name, ours, refusal)
+
+    def query_of(self, name):
+        """The name as a query has it, where it has nothing but letters and digits of ASCII, hyphens, and labels that may be
+        registered but for their length; else None."""
+        labels = re.split(FULL_STOPS, name)
+        registration = self.second.registration
+        for place, label in enumerate(labels):
+            if re.fullmatch("[A-Za-z0-9-]*", label) and not label.lower().startswith("xn--"):
+                labels[place] = label.lower()
+            elif registration.knows(label) and registration.first_fault(label) in (None, LABEL_TOO_LONG):
+                labels[place] = a_label(label)
+            else:
+                return None
+        return ".".join(labels)
+
+    def forms(self, name, ours, refusal):
+        """With `--explain` and with `--json` the same is said of a name for lookup, and of a wrong length the cause: which one, where
+        the query is known."""
+        given = name.encode() + b"\n"
+        found = self.run(["-l", "--explain"], given)
+        query, messages = self.query_of(name), b""
+        if refusal is not None:
+            head = f"idn2: line 1: {refusal} {LOOKUP_TEXTS[refusal]}"
+            cause = "" if refusal != BAD_LENGTH else ": " + Causes.of_length(query) if query else found[1].decode()[len(head):-1]
+            if refusal == BAD_LENGTH and not re.fullmatch(r": (label [1-9]\d*: (0|\d{2,4}) octets|name of \d{3,4} octets)", cause):
+                return f"lookup {name!r}: {cut(found)}, which has no cause"
+            messages = f"{head}{cause}\n".encode()
+        wanted = b"" if ours is None else ours.encode() + b"\n", messages, 0 if refusal is None else 1
+        as_objects = wanted[0], without_what_objects_leave_out(messages), wanted[2]
+        of_objects = self.run_for_objects(["--json", "-l"], given)
+        for words, said, wanted in ((["-l", "--explain"], found, wanted), (["--json", "-l"], of_objects, as_objects)):
+            if said != wanted:
+                return f"words {words}, input {given!r}\n  answered {cut(said)}\n  expected {cut(wanted)}"
+        return None
 
     def lines(self, text):
         """Some lines, of which a few have a damaged place."""

@@ -224,7 +224,7 @@ def tells_the_causes_of_more_rows(folder):
 
 def tells_each_line_its_own_cause(folder):
     """The rows of a mode in one run, with a line between each two that is answered, and their numbers rise."""
-    for words in (REGISTER, DECODE, LOOKUP, GERMAN, SOURCES):
+    for words in (REGISTER, DECODE, LOOKUP, GERMAN, SOURCES, SOURCES + ["--jump"]):
         rows = [row for row in ROWS + MORE_ROWS if row[1] == words and row[2] is not None]
         given = b"o\n" + b"".join(given_of(row[0]) + b"o\n" for row in rows)
         told = "".join(message_of(2 * k + 2, text, cause) for k, (_, _, text, cause) in enumerate(rows))
@@ -256,6 +256,7 @@ def tells_where_a_table_has_its_fault(folder):
         ruleset = text.startswith(VERSION_3.encode())
         file = table_file(folder, text, "faulty.txt")
         before = f"idn2: table line {number}: {message}"
+        assert len(f"{before}: {place}\n") <= 160 and f"{before}: {place}".isascii(), (before, place)
         for option in ("--check-ruleset", "--ruleset") if ruleset else ("--check-table", "--variants"):
             given = b"a\n" if option in ("--ruleset", "--variants") else b""
             expect([option, file], given, b"", f"{before}\n".encode(), 2)

@@ -35,6 +35,10 @@ CONTROL_CHARACTERS = [bytes([byte]) for byte in (*range(0x20), 0x7F)]
 # How a script begins that stands for the program: its version it tells as the program does.
 VERSION_ALONE = f"#!/bin/sh\n[ \"$1\" = --version ] && exec {PROGRAM} --version\n"
 INTERPRETERS = {"ask.sh": "bash", **{name: sys.executable for name in SCRIPTS if name.endswith(".py")}}
+# The scripts that keep the program running and answer requests, and what they say of the label haus. One of them needs jq.
+SERVERS = [(["ask.py", GERMAN], b"haus\n")]
+if shutil.which("jq"):
+    SERVERS.append((["ask.sh"], b"registrable: haus\n"))
 # A question for each script that asks the program of one label, or of some. 'mass' and '中國' are taken.
 QUESTIONS = (
     ["accept.sh", GERMAN, GERMAN, "registered.txt", "mass"],
@@ -247,8 +251,8 @@ def refuses_each_control_character(kit):
     kit.expect(["table_of.sh", "maß\r", GERMAN], b"", 1, message)
     kit.expect(["page.sh", GERMAN, "maß\r", "9", "pages"], b"", 1, message)
     requests = b"".join(b"ma" + character + b"\n" for character in CONTROL_CHARACTERS if character != b"\n")
-    for script, *words in (["ask.sh"], ["ask.py", GERMAN]):
-        kit.expect([script, *words], b"refused: control character\n" * 32, 0, given=requests)
+    for words, _ in SERVERS:
+        kit.expect(words, b"refused: control character\n" * 32, 0, given=requests)
 
 
 @in_each_setting
@@ -343,8 +347,7 @@ def takes_a_full_disk_for_unknown(kit):
             (["table_of.sh", "haus", GERMAN], b""),
             (["change.sh", GERMAN, "new.txt", "strasse.txt"], b""),
             (["page.sh", GERMAN, "sss", "2", "pages"], b""),
-            (["ask.sh"], b"haus\n"),
-            (["ask.py", GERMAN], b"haus\n"),
+            *((words, b"haus\n") for words, _ in SERVERS),
         ):
             _, message, status = kit.run(*words, given=given, stdout=full)
             assert status == NOT_KNOWN and message, (words, message, status)
@@ -797,10 +800,9 @@ def serves_requests(kit):
     refused = [b"refused: 10 disallowed code point", b"refused: 3 empty", b"refused: 13 hyphen out of place"]
     middle = [b"refused: 1 not UTF-8", b"refused: 2 line too long", b"refused: control character"]
     tested = [b"registrable: xn--ma-hia", *refused, b"registrable: xn--maana-pta", *middle, b"registrable: xn--fa-hia"]
-    kit.expect(["ask.sh"], b"\n".join(tested) + b"\n", 0, given=given)
     listings = [b"mass xn--ma-hia", *refused, b"refused: 40 not made of table entries", *middle, b"fass xn--fa-hia"]
-    kit.expect(["ask.py", GERMAN], b"\n".join(listings) + b"\n", 0, given=given)
-    for words in (["ask.sh"], ["ask.py", GERMAN]):
+    for words, _ in SERVERS:
+        kit.expect(words, b"\n".join(tested if words == ["ask.sh"] else listings) + b"\n", 0, given=given)
         kit.expect(words, b"", 0, given=b"")
     output, _, status = kit.run("ask.py", HAN, given=LONG.encode())
     assert (output.count(b" "), output[-9:], status) == (101, b" and more\n"[-9:], 0), (output[-40:], status)
@@ -808,7 +810,7 @@ def serves_requests(kit):
 
 @in_each_setting
 def serves_each_request_before_the_next(kit):
-    for words in (["ask.sh"], ["ask.py", GERMAN]):
+    for words, _ in SERVERS:
         command = kit.command(*words)
         with subprocess.Popen(command, cwd=kit.folder, env=kit.environment, stdin=subprocess.PIPE,
                               stdout=subprocess.PIPE) as partner:
@@ -825,20 +827,38 @@ def serves_each_request_before_the_next(kit):
 
 @in_each_setting
 def tells_that_the_program_has_ended(kit):
-    """One answer, and then the end of the program, or of its input alone; or a message that is not of the label."""
+    """One answer, and then the end of the program, or of its input alone; a message, or an object, that is not of the label; or a
+    part of an object."""
     first = VERSION_ALONE + f"head -n 1 | {PROGRAM} \"$@\"\n"
     closed = VERSION_ALONE + f"line=$(head -n 1)\nexec < /dev/null\necho \"$line\" | {PROGRAM} \"$@\"\nsleep 1\n"
     last = VERSION_ALONE + "read -r line\necho 'idn2: 70 out of memory' >&2\n"
-    for program, answers in ((first, 1), (closed, 1), (last, 0)):
+    fault = VERSION_ALONE + "read -r line\necho '{\"table_line\":1,\"refusal\":{\"number\":30,\"text\":\"table syntax\"}}'\n"
+    part = VERSION_ALONE + f"head -n 1 | {PROGRAM} \"$@\" | head -c 30\n"
+    for program, answers in ((first, 1), (closed, 1), (last, 0), (fault, 0), (part, 0)):
         kit.instead_of("idn2", program)
-        for words, answer in ((["ask.sh"], b"registrable: haus\n"), (["ask.py", GERMAN], b"haus\n")):
+        for words, answer in SERVERS:
             output, message, status = kit.run(*words, given=b"haus\nmaus\nlaus\n")
             assert (output, status) == (answer * answers, NOT_KNOWN), (words, output, message, status)
 
 
 @in_each_setting
+def tells_that_jq_has_ended(kit):
+    """It is missing, fails at once, or after some answers."""
+    if not shutil.which("jq"):
+        print("guide ask.sh: not run, since jq is not installed")
+        return
+    for text, answers in (("#!/nowhere\n", 0), ("#!/bin/sh\nexit 5\n", 0),
+                          (f"#!/bin/sh\nhead -n 1 | {shutil.which('jq')} \"$@\"\n", 1)):
+        kit.instead_of("jq", text)
+        output, message, status = kit.run("ask.sh", given=b"haus\nmaus\nlaus\n")
+        assert (output, status) == (b"registrable: haus\n" * answers, NOT_KNOWN), (text, output, message, status)
+
+
+@in_each_setting
 def tells_that_not_all_requests_were_read(kit):
     """The input can't be read, or sed is missing, fails, or is killed before the last request."""
+    if not shutil.which("jq"):
+        return
     unread = b"not all requests were read\n"
     for redirection in ("<&-", "< tables"):
         done = subprocess.run(["bash", "-c", f"bash ask.sh {redirection}"], cwd=kit.folder, env=kit.environment,
@@ -989,6 +1009,7 @@ TESTS = [
     serves_requests,
     serves_each_request_before_the_next,
     tells_that_the_program_has_ended,
+    tells_that_jq_has_ended,
     tells_that_not_all_requests_were_read,
     answers_as_the_guide_says_beside_libidn2,
     has_the_options_that_the_guide_says_beside_libidn2,

@@ -163,6 +163,38 @@ CASES = [
          [("", '{"source":"0061-0061","missing":"0061"}\n{"entries":1,"gaps":1}\n', "")], 1),
     Case(["--variants", "table", "--json"], b"0061|\n",
          [("", '{"table_line":1,"refusal":{"number":30,"text":"table syntax","byte":6}}\n', "")], 2),
+    Case(["-d", "--json", "--explain"], b"",
+         [("ü.XN--LS8H\n", '{"line":1,"input":"ü.XN--LS8H","refusal":{"number":10,"text":"disallowed code point","label":2,'
+           '"decoded":true,"code_point":"U+1F4A9","place":1,"rule":"RFC 5892 2.1"}}\n', "")], 1),
+    Case(["-l", "--json"], b"", [("ü..b\n", '{"line":1,"input":"ü..b","refusal":{"number":21,"text":"name or label length","label":2,'
+                                  '"octets":0}}\n', "")], 1),
+    Case(["-r", "--json"], b"",
+         [("a\u0301\n", '{"line":1,"input":"a\u0301","refusal":{"number":12,"text":"not in NFC","code_point":"U+0061","place":1,'
+           '"nfc":"U+00E1"}}\n', ""),
+          ("q\u0301\n", '{"line":2,"input":"q\u0301","ulabel":"q\u0301","alabel":"xn--q-xbb"}\n', ""),
+          ("a" * 62 + "ü\n", '{"line":3,"input":"' + "a" * 62 + 'ü","refusal":{"number":18,"text":"label too long",'
+           '"octets":70}}\n', "")], 1),
+    Case(["--variants", "table", "--limit", "1", "--json"], ALLOCATING,
+         [("ass\n", '{"line":1,"ulabel":"ass","alabel":"ass","disposition":"allocatable"}\n'
+           '{"line":1,"input":"ass","count":1,"complete":false,"after":"ass"}\n', "")], 0),
+    Case(["--ruleset", "table", "--json"], OUTSIDE,
+         [("ab\n", '{"line":1,"ulabel":"ab","alabel":"ab","disposition":"allocatable"}\n'
+           '{"line":1,"ulabel":"аb","alabel":"xn--b-7sb","disposition":"blocked"}\n'
+           '{"line":1,"input":"ab","count":2,"complete":true}\n', ""),
+          ("аb\n", '{"line":2,"input":"аb","refusal":{"number":40,"text":"not made of table entries","code_point":"U+0430",'
+           '"place":1}}\n', "")], 1),
+    Case(["--check-ruleset", "table", "--json"], b"%version 3\n%tag t\n0061|0062-0041\n",
+         [("", '{"table_line":3,"refusal":{"number":33,"text":"code point not allowed in a table","code_point":"U+0041",'
+           '"byte":11}}\n', "")], 2),
+    Case([*AMONG, "--json"], SHARP_S,
+         [("sss\n", '{"line":1,"ulabel":"sss","alabel":"sss"}\n{"line":1,"ulabel":"ßs","alabel":"xn--s-pfa"}\n'
+           '{"line":1,"input":"sss","count":2,"complete":true}\n', ""),
+          ("Sss\n", '{"line":2,"input":"Sss","refusal":{"number":10,"text":"disallowed code point","code_point":"U+0053","place":1,'
+           '"rule":"RFC 5892 2.2"}}\n', "")], 1, "rest\nsss\nß\nßs".encode()),
+    Case([*AMONG, "--json"], SHARP_S, [("", '{"registered_line":1,"refusal":{"number":10,"text":"disallowed code point",'
+                                        '"code_point":"U+0046","place":1,"rule":"RFC 5892 2.2"}}\n', "")], 2, "Faß\n".encode()),
+    Case([*JUMP, "--explain"], SHARP_S, [("sss\tt\n", "ßs\n", ""), ("sx\ta\n", "", "idn2: line 2: 40 not made of table entries: "
+                                                                  "U+0078 at place 2\n")], 1),
     Case(JUMP, SHARP_S, [("sss\tsssa\n", "sß\n", ""), ("\tsss\n", "", "idn2: line 2: 3 empty\n"), ("sss\tt\n", "ßs\n", ""),
                          ("sss\tßt\n", "#end\n", ""), ("x\ta\n", "", "idn2: line 5: 40 not made of table entries\n")], 1),
 ]
@@ -509,7 +541,8 @@ def tells_of_memory_within_any_address_space(folder):
     requests = ("\u4e10" * 9 + "\t" + "\u4e11" * 8 + "\n").encode() * 3
     for words, given in ((["-l"], lines), (["-r"], lines), (["-d"], lines), (["--check-table", table], b""),
                          (listing(table), labels), (listing(blocking), labels), (["--variants", table, "--jump"], requests),
-                         (["--variants", blocking, "--among", registered], labels)):
+                         (["--variants", blocking, "--among", registered], labels), (["-r", "--json"], lines),
+                         (["-d", "--explain"], lines), ([*listing(blocking), "--json"], labels)):
         whole, refused = run(words, given), 0
         assert whole.returncode in (0, 1), whole
         for space in range(2 << 20, 14 << 20, 32 << 10):

@@ -2,19 +2,21 @@
 """Answers as objects: `--json`, in each mode.
 
 Each row is a line, the words of a command and the objects, made by hand from the RFCs and from docs/JSON.md. Each line that is
-written is read by Python's `json`, and held against docs/answers.schema.json: by the package `jsonschema` where it is there,
-and else by a check of the members alone. What a run says with `--json` is compared with what it says with `--explain`. The last
-line is 'N passed, M failed', and the exit status is 0 where nothing failed."""
+written is read by Python's `json`, and held against docs/answers.schema.json: by a plain check here, and where the package
+`jsonschema` is there, by that too, which must say the same. What a run says with `--json` is compared with what it says with
+`--explain`. The last line is 'N passed, M failed', and the exit status is 0 where nothing failed."""
 
 import json
 import os
+import random
 import re
 import shutil
 import subprocess
 import sys
 import textwrap
 
-from explained import DECODE, GERMAN, LOOKUP, MORE_ROWS, REGISTER, ROWS as CAUSES, SOURCES, given_of, words_of
+from explained import (DECODE, GERMAN, LOOKUP, MORE_ROWS, REGISTER, REGISTERED_ROWS, ROWS as CAUSES, SOURCES, TABLE_ROWS,
+                       VERSION_3, given_of, words_of)
 from program import LIMIT, PROGRAM, ROOT, TABLES, expect, run, run_tests, table_file, text_of as text_of_file
 
 try:
@@ -23,6 +25,8 @@ except ImportError:
     jsonschema = None
 
 HAN = ["--variants", os.path.join(TABLES, "han.txt")]
+DIGITS = ["--variants", os.path.join(TABLES, "arabic-digits.txt")]
+LATIN = ["--ruleset", os.path.join(TABLES, "rulesets", "latin.txt")]
 
 with open(os.path.join(ROOT, "docs", "answers.schema.json"), encoding="utf-8") as file:
     SCHEMA = json.load(file)
@@ -31,6 +35,10 @@ VALIDATOR = jsonschema and jsonschema.validators.validator_for(SCHEMA)(SCHEMA)
 
 def refused(line, number, text, **members):
     return {"line": 1, "input": line, "refusal": {"number": number, "text": text, **members}}
+
+
+def not_utf8(octets, byte):
+    return {"line": 1, "input_hex": octets, "refusal": {"number": 1, "text": "not UTF-8", "byte": byte}}
 
 
 def point(code_point, place, rule=None):
@@ -67,7 +75,21 @@ ROWS = [
     ("xn--a_", REGISTER, [refused("xn--a_", 19, "not an A-label", rule="RFC 3492 6.2")], 1),
     ("xn--ls8h", REGISTER, [refused("xn--ls8h", 10, BARRED, decoded=True, **point("U+1F4A9", 1, "RFC 5892 2.1"))], 1),
     ("", REGISTER, [refused("", 3, "empty")], 1),
-    (b"ab\xffc", REGISTER, [{"line": 1, "input_hex": "6162FF63", "refusal": {"number": 1, "text": "not UTF-8", "byte": 3}}], 1),
+    # What JSON or its readers may take for the end of a line or of a text, and what needs no escape.
+    ("a\u2028b", REGISTER, [refused("a\u2028b", 10, BARRED, **point("U+2028", 2, "RFC 5892 2.3"))], 1),
+    ("a\u0085", REGISTER, [refused("a\u0085", 10, BARRED, **point("U+0085", 2, "RFC 5892 2.3"))], 1),
+    ("\uFEFFa", REGISTER, [refused("\uFEFFa", 10, BARRED, **point("U+FEFF", 1, "profile"))], 1),
+    ("\0", REGISTER, [refused("\0", 10, BARRED, **point("U+0000", 1, "RFC 5892 2.1"))], 1),
+    ("a/\x7f", REGISTER, [refused("a/\x7f", 10, BARRED, **point("U+002F", 2, "RFC 5892 2.1"))], 1),
+    ("\x7f.\x1f", DECODE, [{"line": 1, "input": "\x7f.\x1f", "unicode": "\x7f.\x1f"}], 0),
+    # No UTF-8: a byte that never stands in it, an overlong form, a surrogate, five bytes, past U+10FFFF, cut short, interrupted.
+    (b"ab\xffc", REGISTER, [not_utf8("6162FF63", 3)], 1),
+    (b"a\xc0\x80", REGISTER, [not_utf8("61C080", 2)], 1),
+    (b"\xed\xa0\x80", LOOKUP, [not_utf8("EDA080", 1)], 1),
+    (b"\xf8\x88\x80\x80\x80", DECODE, [not_utf8("F888808080", 1)], 1),
+    (b"a\xf4\x90\x80\x80", GERMAN, [not_utf8("61F4908080", 2)], 1),
+    (b"ab\xf0\x9f\x92", REGISTER, [not_utf8("6162F09F92", 3)], 1),
+    (b"a\t\xe2\x28\xa1", GERMAN + ["--jump"], [not_utf8("6109E228A1", 3)], 1),
     ("a" * 1025, REGISTER, [refused(None, 2, "line too long")], 1),
     ("faß\na-\nb", REGISTER,
      [{"line": 1, "input": "faß", "ulabel": "faß", "alabel": "xn--fa-hia"},
@@ -94,6 +116,15 @@ ROWS = [
     ("中國", HAN,
      [{"line": 1, "ulabel": "中国", "alabel": "xn--fiqs8s"}, {"line": 1, "ulabel": "中國", "alabel": "xn--fiqz9s"},
       {"line": 1, "input": "中國", "count": 2, "complete": True}], 0),
+    ("\u0627\u0660", DIGITS,
+     [{"line": 1, "ulabel": "\u0627\u0660", "alabel": "xn--mgb8i", "disposition": "allocatable"},
+      {"line": 1, "ulabel": "\u0627\u06F0", "alabel": "xn--mgb61b", "disposition": "blocked"},
+      {"line": 1, "input": "\u0627\u0660", "count": 2, "complete": True}], 0),
+    ("ac", LATIN + ["--limit", "2"],
+     [{"line": 1, "ulabel": "ac", "alabel": "ac", "disposition": "allocatable"},
+      {"line": 1, "ulabel": "a\u0441", "alabel": "xn--a-7tb", "disposition": "blocked"},
+      {"line": 1, "input": "ac", "count": 2, "complete": False, "after": "a\u0441"}], 0),
+    ("\u0430c", LATIN, [refused("\u0430c", 40, "not made of table entries", **point("U+0430", 1))], 1),
     ("mañana", GERMAN, [refused("mañana", 40, "not made of table entries", **point("U+00F1", 3))], 1),
     ("maus", GERMAN + ["--after", "z"], [{"line": 1, "input": "maus", "count": 0, "complete": True}], 0),
     ("strasse\tstrasz", GERMAN + ["--jump"], [{"line": 1, "input": "strasse\tstrasz", "ulabel": "straße"}], 0),
@@ -107,23 +138,59 @@ def text_of(objects):
     return "".join(json.dumps(each, ensure_ascii=False, separators=(",", ":")) + "\n" for each in objects).encode()
 
 
-def resolved(schema):
-    return SCHEMA["$defs"][schema["$ref"].rsplit("/", 1)[1]] if "$ref" in schema else schema
+TYPES = {"object": dict, "string": str, "integer": int, "null": type(None)}
 
 
-def has_members(each, schema):
-    """Whether the object has the members of the schema, and no other."""
-    return set(schema["required"]) <= set(each) <= set(schema["properties"])
+def is_same(one, value):
+    """In Python 1 and True are equal."""
+    return type(one) is type(value) and one == value
+
+
+# The keywords that the schema has. Each says something of values of its own type alone.
+KEYWORDS = {
+    "$ref": lambda name, value: holds(SCHEMA["$defs"][name.removeprefix("#/$defs/")], value),
+    "oneOf": lambda kinds, value: sum(holds(kind, value) for kind in kinds) == 1,
+    "type": lambda names, value: type(value) in [TYPES[name] for name in ([names] if isinstance(names, str) else names)],
+    "const": is_same,
+    "enum": lambda ones, value: any(is_same(one, value) for one in ones),
+    "minimum": lambda least, value: type(value) is not int or value >= least,
+    "maximum": lambda most, value: type(value) is not int or value <= most,
+    "minLength": lambda least, value: not isinstance(value, str) or len(value) >= least,
+    "maxLength": lambda most, value: not isinstance(value, str) or len(value) <= most,
+    "pattern": lambda pattern, value: not isinstance(value, str) or re.search(pattern, value) is not None,
+    "properties": lambda kinds, value: all(holds(kinds[name], value[name]) for name in kinds.keys() & members_of(value)),
+    "required": lambda names, value: not isinstance(value, dict) or value.keys() >= set(names),
+    "dependentRequired": lambda needs, value: all(members_of(value) >= set(needs[name]) for name in needs.keys() & members_of(value)),
+}
+
+
+def members_of(value):
+    return value.keys() if isinstance(value, dict) else set()
+
+
+def holds(schema, value):
+    """Whether a value is what a schema says."""
+    if isinstance(schema, bool):
+        return schema
+    plain = dict(schema)
+    has_no_others = plain.pop("additionalProperties", True) or members_of(value) <= schema["properties"].keys()
+    return has_no_others and all(KEYWORDS[keyword](said, value) for keyword, said in plain.items())
+
+
+def is_described(each):
+    """Whether the schema describes the object, by the plain check."""
+    return holds({"oneOf": SCHEMA["oneOf"]}, each)
+
+
+def agree(objects):
+    """What is described by the plain check is so by the package, which is much slower."""
+    for each in objects if VALIDATOR else ():
+        assert VALIDATOR.is_valid(each) == is_described(each), each
 
 
 def expect_schema(each):
-    if VALIDATOR is not None:
-        VALIDATOR.validate(each)
-        return
-    kinds = [resolved(kind) for kind in SCHEMA["oneOf"]]
-    assert sum(has_members(each, kind) for kind in kinds) >= 1, each
-    if "refusal" in each:
-        assert has_members(each["refusal"], SCHEMA["$defs"]["refusal"]), each
+    assert is_described(each), each
+    agree([each])
 
 
 def objects_of(output):
@@ -135,8 +202,8 @@ def objects_of(output):
 
 def expect_row(folder, line, words, objects, status):
     words = words_of(folder, words)
-    for more in (["--json"], ["--json", "--explain"]):
-        expect(words + more, given_of(line), text_of(objects), b"", status)
+    for each in (words + ["--json"], words + ["--json", "--explain"], ["--explain", *words, "--json"], ["--json", *words]):
+        expect(each, given_of(line), text_of(objects), b"", status)
     objects_of(text_of(objects))
 
 
@@ -150,6 +217,7 @@ def checks_a_table(folder):
     found = [{"source": "00DF", "missing": "0073-0073"}, {"entries": 2, "gaps": 1}]
     expect(words + ["--json"], b"", text_of(found), b"", 1)
     objects_of(text_of(found))
+    expect(["--check-ruleset", LATIN[1], "--json"], b"", text_of([{"entries": 64, "gaps": 0}]), b"", 0)
 
 
 def tells_the_fault_of_a_table(folder):
@@ -296,6 +364,22 @@ def answers_the_longest_lines(folder):
             assert re.fullmatch(rb"[^\x00-\x1f]+\n", done.stdout), (words, line[:10])
 
 
+def tells_causes_in_another_language(folder):
+    """By the sentences of docs/JSON.md; of a number without one by the text of the refusal."""
+    example = {}
+    exec(shown_block("SENTENCES"), example)
+    for line, words, sentence in (
+        ("Faß", REGISTER, "U+0046 an Stelle 1 ist nicht erlaubt (RFC 5892 2.2)."),
+        ("xn--ls8h", REGISTER, "U+1F4A9 an Stelle 1 ist nicht erlaubt (RFC 5892 2.1)."),
+        ("ab--c", REGISTER, "Der Bindestrich an Stelle 3 ist nicht erlaubt."),
+        ("mañana", GERMAN, "U+00F1 an Stelle 3 steht nicht in der Tabelle."),
+        ("", REGISTER, "empty"),
+        ("a" * 64, REGISTER, "label too long"),
+    ):
+        [each] = objects_of(run(words + ["--json"], given_of(line)).stdout)
+        assert example["sentence"](each["refusal"]) == sentence, (line, each)
+
+
 def run_example(folder, words):
     """What is shown in docs/JSON.md, with the program as idn2: the output and the status."""
     for name, path in (("idn2", PROGRAM), ("tables", TABLES)):
@@ -311,6 +395,119 @@ def shown_block(first):
     blocks = re.findall(r"(?:^(?:    .*)?\n)+", text_of_file("docs", "JSON.md"), re.MULTILINE)
     [block] = [block for block in (textwrap.dedent(block).strip() + "\n" for block in blocks) if block.startswith(first)]
     return block
+
+
+PLACED = {"code_point", "place"}
+# The members of a refusal beside its number and its text, as docs/JSON.md has them.
+OF_LABELS = {10: [PLACED | {"rule"}], 11: [PLACED | {"rule"}], 12: [PLACED, PLACED | {"nfc"}], 13: [PLACED], 14: [PLACED],
+             15: [PLACED | {"rule"}], 16: [PLACED | {"rule"}], 17: [PLACED | {"rule", "bidi_class"}], 18: [{"code_points"}, {"octets"}]}
+OF_A_LABELS = [set(), PLACED, {"rule"}, {"alabel"}]
+SHAPES = {
+    1: [{"byte"}], 2: [set()], 3: [set()], 4: [{"place"}, PLACED], 5: [set()],
+    **{number: [shape | more for shape in shapes for more in (set(), {"decoded"}, {"label", "decoded"})]
+       for number, shapes in OF_LABELS.items()},
+    19: [shape | more for shape in OF_A_LABELS for more in (set(), {"label"})],
+    20: [set()], 21: [{"octets"}, {"label", "octets"}], 30: [set(), {"byte"}], 31: [{"byte"}], 32: [{"byte"}],
+    33: [set(), {"code_point", "byte"}], 34: [set(), {"byte"}, {"code_point", "byte"}], 35: [set()], 36: [set()], 40: [PLACED],
+}
+# A value of each member of a refusal.
+MEMBERS = {"label": 2, "decoded": True, "code_point": "U+200C", "place": 1, "rule": None, "bidi_class": "AL", "nfc": "U+00E1",
+           "code_points": 64, "octets": 64, "alabel": "a", "byte": 1}
+RULES = {10: "RFC 5892 2.2", 11: "RFC 5892 2.10", 15: "RFC 5892 A.1", 16: "RFC 5892 A.3", 17: "RFC 5893 2 condition 1",
+         19: "RFC 3492 6.2"}
+OF_NO_TYPE = (None, True, 1.5, [], {})
+
+
+def written_objects(folder):
+    """The objects of all rows, of lines, tables and registered labels, as the program writes them."""
+    for line, words, *_ in CAUSES + MORE_ROWS + ROWS:
+        yield from objects_of(run(words_of(folder, words) + ["--json"], given_of(line)).stdout)
+    for rows, before in ((TABLE_ROWS, ["--check-table"]), (REGISTERED_ROWS, [*GERMAN, "--among"])):
+        for text, *_ in rows:
+            text = text if isinstance(text, bytes) else text.encode()
+            words = ["--check-ruleset"] if text.startswith(VERSION_3.encode()) else before
+            yield from objects_of(run([*words, table_file(folder, text), "--json"]).stdout)
+    yield from objects_of(run(["--check-table", table_file(folder, b"0073-0073|00DF\n00DF\n"), "--json"]).stdout)
+
+
+def refusal_with(number, members):
+    rule = RULES.get(number, "profile")
+    point = {"code_point": "U+002D"} if number == 13 else {}
+    return {"number": number, "text": "x", **{name: rule if name == "rule" else MEMBERS[name] for name in members}, **point}
+
+
+def tells_which_numbers_have_a_member(folder):
+    """The second column of the table of docs/JSON.md, but for two members that go by what is refused."""
+    rows = dict(re.findall(r"^\| `(\w+)` \| ([^|]*) \|", text_of_file("docs", "JSON.md").split("## What is refused")[1], re.MULTILINE))
+    assert rows.keys() == MEMBERS.keys(), rows
+    rows["place"] = rows["place"].replace("the same, but for 33 and 34", ", ".join(
+        each for each in rows["code_point"].split(", ") if each not in ("33", "34")))
+    for member in MEMBERS.keys() - {"label", "decoded"}:
+        told = {number for first, last in re.findall(r"(\d+)(?: to (\d+))?", rows[member]) for number in range(int(first), int(last or first) + 1)}
+        known = {number for number, shapes in SHAPES.items() if any(member in shape for shape in shapes)}
+        assert told == known, (member, told, known)
+
+
+def told_at(refusal):
+    """Objects of what is refused: a line in each way in which it is told, a table, and registered labels."""
+    places = [{"line": 1, "input": "x"}, {"line": 1, "input": None}, {"line": 1, "input_hex": "FF"}, {"table_line": 1}, {"registered_line": 1}]
+    return [{**place, "refusal": refusal} for place in places]
+
+
+def describes_refusals_by_their_members(folder):
+    """Each number with each set of members that docs/JSON.md gives it, and with one member more or less: only these are
+    described. No other number is."""
+    tried = []
+    for number, shapes in SHAPES.items():
+        known = set(map(frozenset, shapes))
+        for members in {frozenset(shape ^ {name}) for shape in known for name in MEMBERS} | known:
+            refusal = {name: value for name, value in refusal_with(number, members).items() if name in members | {"number", "text"}}
+            tried += told_at(refusal)
+            assert any(map(is_described, told_at(refusal))) == (members in known), refusal
+    for number in set(range(-1, 100)) - SHAPES.keys():
+        for more in ({}, {"byte": 1}, {"code_point": "U+0041", "place": 1}):
+            refusal = {"number": number, "text": "x", **more}
+            tried += told_at(refusal)
+            assert not any(map(is_described, told_at(refusal))), refusal
+    agree(random.Random(8259).sample(tried, 200))
+
+
+# What no schema of a member should let through.
+WRONG = (("line", 0), ("line", 2 ** 32 + 1), ("table_line", 0), ("count", -1), ("input_hex", "ff"), ("input_hex", "F"), ("place", 0),
+         ("byte", 0), ("label", 0), ("octets", -1), ("code_point", "U+00FG"), ("code_point", "u+0041"), ("code_point", "U+110000"),
+         ("alabel", "É"), ("rule", "RFC 5892 2.5"), ("nfc", ""), ("after", ""), ("disposition", "valid"), ("source", "61"))
+
+
+def changed(each):
+    """Objects that differ from this one in one member, also of its refusal: that lack it, with the name; that have another value, of
+    another type mostly; and that have one more."""
+    for name, value in each.items():
+        rest = {other: value for other, value in each.items() if other != name}
+        yield "lacks", name, rest
+        yield from (("has", name, {**rest, name: wrong}) for wrong in OF_NO_TYPE if not is_same(wrong, value))
+        yield from (("has", name, {**rest, name: wrong}) for told, wrong in WRONG if told == name)
+        if name == "refusal":
+            yield from ((how, (value["number"], inner), {**each, name: part}) for how, inner, part in changed(value))
+    yield "has", "other", {**each, "other": 1}
+
+
+def describes_no_other_objects(folder):
+    """Of each object that the program writes: one that has a member of another type, or one member more, is not described, and
+    neither is one that lacks a member, unless there is another object without it."""
+    form = lambda each: (*each, *each.get("refusal", ()), each.get("refusal", {}).get("number"))
+    objects = {form(each): each for each in written_objects(folder)}.values()
+    assert {each["refusal"]["number"] for each in objects if "refusal" in each} == SHAPES.keys() - {5}, len(objects)
+    optional = {(number, name) for number, shapes in SHAPES.items() for shape in shapes for name in shape if shape - {name} in shapes}
+    tried = []
+    for each in objects:
+        for how, name, other in changed(each):
+            tried.append(other)
+            # Without its disposition a variant is one of a table of version 1. Without its A-label the answer of a registration is that
+            # of a jump, which may have null, and without its line that of a listing.
+            may_be = optional | {"disposition", *(("input", "alabel") if {"input", "alabel"} <= each.keys() else ())}
+            allowed = name in may_be if how == "lacks" else (name, other.get("ulabel")) == ("ulabel", None) and "alabel" not in each
+            assert allowed or not is_described(other), (how, name, each, other)
+    agree(random.Random(8259).sample(tried, 200))
 
 
 def takes_no_part_of_a_listing_for_the_whole(folder):
@@ -349,10 +546,14 @@ TESTS = [
     says_what_it_says_without,
     tells_each_line_as_it_was_read,
     answers_the_longest_lines,
+    tells_causes_in_another_language,
+    tells_which_numbers_have_a_member,
+    describes_refusals_by_their_members,
+    describes_no_other_objects,
     takes_no_part_of_a_listing_for_the_whole,
 ]
 
 if __name__ == "__main__":
     if jsonschema is None:
-        print("json_answers: the package jsonschema is not here, so members alone are held against the schema")
+        print("json_answers: the package jsonschema is not here, so objects are held against the schema by the plain check alone")
     sys.exit(run_tests("json_answers", TESTS))

@@ -18,6 +18,7 @@ from program import LIMIT, PROGRAM, ROOT, TABLES, expect, manual_blocks, run, ru
 
 sys.path += [os.path.join(ROOT, "conformance"), os.path.join(ROOT, "tables")]
 
+import explained
 import quoted
 import rules
 from kit_data import Kit
@@ -184,6 +185,59 @@ def has_the_options_of_the_help_in_each_page(folder):
     assert set(re.findall(r"`(--?[A-Za-z][\w-]*)", cells)) == forms, cells
     named = set(re.findall(r"(?<![\w-])--?[A-Za-z][\w-]*", synopsis))
     assert {form for form in forms if form.startswith("--")} - named == SAID_BY_SHORT_FORMS and named <= forms, named
+
+
+# What stands for each word in italics in a form of a cause, and what has no form of its own.
+PLACEHOLDERS = {"n": r"\d+", "k": r"\d+", "XXXX": "[0-9A-F]{4,6}", "FF": "[0-9A-F]{2}", "class": "[A-Z]+", "label": "[a-z0-9-]+",
+                "text": r"\S+"}
+# Normalization Form C never ends where a label goes on.
+NEVER_TOLD = ("12", "NFC ends")
+
+
+def form_of(macro, words):
+    """The pieces of a line of the manual page that are bold or in italics, up to one that is neither."""
+    for font, word in zip(macro * len(words), words):
+        word, is_last, _ = word.strip('"').replace("\\~", " ").replace("\\-", "-").replace("\\(aq", "'").partition("\\fR")
+        if font == "R":
+            return
+        yield font, word
+        if is_last:
+            return
+
+
+def causes_of_the_manual():
+    """The forms of the cause of each number, and for each a pattern of such a cause."""
+    section = re.search(r"^\.SH CAUSES\n(.*?)^\.SH ", text_of("docs", "idn2.1"), re.MULTILINE | re.DOTALL).group(1)
+    for head, item in re.findall(r"^\.T[PQ].*\n\.BR? (.*)\n((?:(?!\.T[PQ]|\.PP).*\n)*)", section, re.MULTILINE):
+        lines = re.findall(r"^\.([BI][BRI]?) (.*)$", item, re.MULTILINE)
+        forms = [list(form_of(macro, re.findall(r'"[^"]*"|\S+', words) if macro[1:] else [words])) for macro, words in lines]
+        placeholders = dict(PLACEHOLDERS)
+        if [("I", "rule")] in forms:
+            # After the word come those that stand for it.
+            place = forms.index([("I", "rule")])
+            placeholders["rule"] = "|".join(re.escape(word) for [(_, word)] in forms[place + 1:])
+            forms = forms[:place]
+        for number in re.findall(r"\d+", head):
+            for form in forms:
+                pattern = "".join(re.escape(word) if font == "B" else f"(?:{placeholders[word]})" for font, word in form)
+                yield number, "".join(word for _, word in form), pattern
+
+
+def lists_each_form_of_a_cause(folder):
+    """Each cause of the rows of explained.py has a form under its number in the manual page, and each form is that of a row. Each
+    line of RFC 5892 that bars a code point stands there, too."""
+    forms, told = list(causes_of_the_manual()), set()
+    for *_, text, cause in explained.ROWS + explained.MORE_ROWS + explained.REGISTERED_ROWS + explained.TABLE_ROWS:
+        if cause is not None:
+            cause = re.sub(r"^(label \d+, )?decoded: |^label \d+: (?!\d+ octets)", "", cause)
+            found = {(number, shown) for number, shown, pattern in forms if number == text.split()[0] and re.fullmatch(pattern, cause)}
+            assert found, (text, cause)
+            told |= found
+    listed = {(number, shown) for number, shown, _ in forms}
+    assert listed - {NEVER_TOLD} == told and len({number for number, _ in listed}) == 20, listed ^ told
+    named = re.findall(r'codes ": ((?:not )?RFC 5892 2\.[^"]*|outside the profile)"', text_of("crates/idn2_cli/specs/CauseTexts.antt"))
+    page = text_of("docs", "idn2.1")
+    assert len(named) == 8 and all(f"B {each}\n" in page or f'BR "{each}" ' in page for each in named), named
 
 
 def names_what_comes_with_the_program(folder):
@@ -497,6 +551,7 @@ TESTS = [
     breaks_no_option_of_the_manual_page,
     shows_help_in_80_columns,
     has_the_options_of_the_help_in_each_page,
+    lists_each_form_of_a_cause,
     names_what_comes_with_the_program,
     answers_alike_in_each_locale,
     installs_under_another_name,

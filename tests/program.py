@@ -482,9 +482,10 @@ def sessions_of(lines):
 def is_run(sessions):
     """Whether all programs are there that some sessions need. Those with a database are run by guide.py."""
     commands = " ".join(command for command, _ in sessions)
-    if "parallel " in commands and not shutil.which("parallel"):
-        print("program: skipped a session with parallel, which is not installed")
-        return False
+    for program, needed in (("parallel", "parallel "), ("jq", "jq "), ("jq", "ask.sh")):
+        if needed in commands and not shutil.which(program):
+            print(f"program: skipped a session with {program}, which is not installed")
+            return False
     return "psql " not in commands
 
 
