@@ -354,6 +354,18 @@ def tells_each_line_as_it_was_read(folder):
                 assert each["input"].encode() == line, each
 
 
+def tells_what_each_a_label_stands_for(folder):
+    """By Python's Punycode: each A-label its own U-label, up to 63 octets, after lines that stand for another one."""
+    lines, objects = [], []
+    for label in ("faß", "\u05D0", "中国", "ü" * 57, "\U00020000" * 56, "maß"):
+        a_label = "xn--" + label.encode("punycode").decode()
+        for line in (a_label, label):
+            lines += [line, "xn--ls8h", "haus", "xn--a-"]
+            objects.append({"line": len(lines) - 3, "input": line, "ulabel": label, "alabel": a_label})
+    told = objects_of(run(REGISTER + ["--json"], b"".join(map(given_of, lines))).stdout)
+    assert [each for each in told if each["line"] % 4 == 1] == objects, told
+
+
 def answers_the_longest_lines(folder):
     """Lines of 1,024 bytes, each of which is escaped by six: the longest objects."""
     for line in ("\x01" * 1024, "\\" * 1024, "ü" * 512, "\U0010FFFF" * 256, ".".join(["a"] * 512)):
@@ -545,6 +557,7 @@ TESTS = [
     tells_the_causes_of_messages,
     says_what_it_says_without,
     tells_each_line_as_it_was_read,
+    tells_what_each_a_label_stands_for,
     answers_the_longest_lines,
     tells_causes_in_another_language,
     tells_which_numbers_have_a_member,

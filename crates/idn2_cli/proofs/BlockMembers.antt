@@ -42,7 +42,7 @@ none_if_none : (fault : Option Refusal) → is_none fault ≡ true → fault ≡
 none_if_none None h = refl
 none_if_none (Some refusal) h = cc
 
-same_listed : (o : Settings) (table : List Entry) (label v : List ℕ) → (IsVariant is_registrable table label o.after v × IsKept o.registered v → IsListed o table label v) × (IsListed o table label v → IsVariant is_registrable table label o.after v × IsKept o.registered v)
+same_listed : (o : Settings) (table : TableValue) (label v : List ℕ) → (IsVariant is_registrable table label o.after v × IsKept o.registered v → IsListed o table label v) × (IsListed o table label v → IsVariant is_registrable table label o.after v × IsKept o.registered v)
 same_listed o table label v = (
   λ i. record { registrable = none_if_none (first_fault v) i.0.accepted; greater = i.0.greater; spelled = i.0.spelled; kept = i.1 },
   λ l. (record { accepted = ap is_none l.registrable; spelled = l.spelled; greater = l.greater }, l.kept),
@@ -79,13 +79,13 @@ hope-rule (c ∷ v) h (suc k) bad = by_length (nat_le (suc k) (length (c ∷ v))
         let long : length (c ∷ v) ≤ suc k = grind (arith, nat_tests) in
         clash (length (c ∷ v)) (omega arith) (omega arith) (subst IsHopeless (all (suc k) long) bad)
 
-same_tried : (o : Settings) (table : List Entry) (label v : List ℕ) → (IsTested hopeless table label o.after v × (o.registered ≡ None) → IsTried o table label v) × (IsTried o table label v → IsTested hopeless table label o.after v × (o.registered ≡ None))
+same_tried : (o : Settings) (table : TableValue) (label v : List ℕ) → (IsTested hopeless table label o.after v × (o.registered ≡ None) → IsTried o table label v) × (IsTried o table label v → IsTested hopeless table label o.after v × (o.registered ≡ None))
 same_tried o table label v = (
   λ t. record { short = t.0.short; hope = hope-rule v t.0.hope; greater = t.0.greater; spelled = t.0.spelled; whole = t.1 },
   λ t. (record { spelled = t.spelled; short = t.short; greater = t.greater; hope = λ k low high. clear (take k v) (t.hope k) }, t.whole),
 )
 
-same_ahead : (o : Settings) (table : List Entry) (label v : List ℕ) → (IsVariant fits_label table label o.after v × (o.registered ≡ None) → IsAhead o table label v) × (IsAhead o table label v → IsVariant fits_label table label o.after v × (o.registered ≡ None))
+same_ahead : (o : Settings) (table : TableValue) (label v : List ℕ) → (IsVariant fits_label table label o.after v × (o.registered ≡ None) → IsAhead o table label v) × (IsAhead o table label v → IsVariant fits_label table label o.after v × (o.registered ≡ None))
 same_ahead o table label v = (
   λ i. record { short = fits_label-short v i.0.accepted; greater = i.0.greater; spelled = i.0.spelled; whole = i.1 },
   λ a. (record { accepted = short-fits_label v a.short; spelled = a.spelled; greater = a.greater }, a.whole),
@@ -98,33 +98,33 @@ whole-IsListOf P (Some labels) vs list = record { rising = tt; members = λ v. (
 
 block-IsBlock : (o : Settings) (table : TableValue) (label : List ℕ) → IsWellFormed table.entries → IsBlock o table label (block o table label)
 block-IsBlock o table label formed = record {
-  listed = variants_after (filter_of table) o (spelled table.entries label);
-  exactly = IsListOf-same (λ v. IsVariant is_registrable table.entries label o.after v × IsKept o.registered v) (IsListed o table.entries label) (variants_after (filter_of table) o (spelled table.entries label)) (same_listed o table.entries label)
-      (kept_to-IsListOf (IsVariant is_registrable table.entries label o.after) o.registered (variants is_registrable table.entries label o.after) (variants-AreVariants is_registrable table.entries label o.after formed.entries));
-  tried = tested_after (filter_of table) o (spelled table.entries label);
-  exactly_tried = IsListOf-same (λ v. IsTested hopeless table.entries label o.after v × (o.registered ≡ None)) (IsTried o table.entries label) (tested_after (filter_of table) o (spelled table.entries label)) (same_tried o table.entries label)
-      (whole-IsListOf (IsTested hopeless table.entries label o.after) o.registered (tested hopeless table.entries label o.after) (tested_are_listed hopeless table.entries label o.after formed));
-  ahead = unless_kept o.registered (candidates table.entries label o.after);
-  exactly_ahead = IsListOf-same (λ v. IsVariant fits_label table.entries label o.after v × (o.registered ≡ None)) (IsAhead o table.entries label) (unless_kept o.registered (candidates table.entries label o.after)) (same_ahead o table.entries label)
-      (whole-IsListOf (IsVariant fits_label table.entries label o.after) o.registered (candidates table.entries label o.after) (variants-AreVariants fits_label table.entries label o.after formed.entries));
-  stop = stop_of (filter_of table) o (spelled table.entries label);
+  listed = variants_after (filter_of table) o (spelled table label);
+  exactly = IsListOf-same (λ v. IsVariant is_registrable table label o.after v × IsKept o.registered v) (IsListed o table label) (variants_after (filter_of table) o (spelled table label)) (same_listed o table label)
+      (kept_to-IsListOf (IsVariant is_registrable table label o.after) o.registered (variants is_registrable table label o.after) (variants-AreVariants is_registrable table label o.after formed));
+  tried = tested_after (filter_of table) o (spelled table label);
+  exactly_tried = IsListOf-same (λ v. IsTested hopeless table label o.after v × (o.registered ≡ None)) (IsTried o table label) (tested_after (filter_of table) o (spelled table label)) (same_tried o table label)
+      (whole-IsListOf (IsTested hopeless table label o.after) o.registered (tested hopeless table label o.after) (tested_are_listed hopeless table label o.after formed));
+  ahead = unless_kept o.registered (candidates table label o.after);
+  exactly_ahead = IsListOf-same (λ v. IsVariant fits_label table label o.after v × (o.registered ≡ None)) (IsAhead o table label) (unless_kept o.registered (candidates table label o.after)) (same_ahead o table label)
+      (whole-IsListOf (IsVariant fits_label table label o.after) o.registered (candidates table label o.after) (variants-AreVariants fits_label table label o.after formed));
+  stop = stop_of (filter_of table) o (spelled table label);
   stops = refl;
   field = disposition table label;
-  disposed = λ v. disposition-IsDisposition table label v formed.entries;
+  disposed = λ v. disposition-IsDisposition table label v formed;
   exact = refl;
 }
 
 listing : (o : Settings) (table : TableValue) (label : List ℕ) → IsWellFormed table.entries → IsListing o table label (listing_answer o table label)
-listing o table label formed = by_cases (segmented_or_not table.entries label formed)
+listing o table label formed = by_cases (segmented_or_not table label formed)
   where
-    by_cases : HasSegmentation table.entries label ⊎ (HasSegmentation table.entries label → ⊥) → IsListing o table label (listing_answer o table label)
-    by_cases (inl has) = subst (IsListing o table label) (sym (segmented_answer table.entries label (block o table label) formed has)) (has, block-IsBlock o table label formed)
-    by_cases (inr none) = subst (IsListing o table label) (sym (unsegmented_answer table.entries label (block o table label) formed none)) (none, refl)
+    by_cases : HasSegmentation table label ⊎ (HasSegmentation table label → ⊥) → IsListing o table label (listing_answer o table label)
+    by_cases (inl has) = subst (IsListing o table label) (sym (segmented_answer table label (block o table label) formed has)) (has, block-IsBlock o table label formed)
+    by_cases (inr none) = subst (IsListing o table label) (sym (unsegmented_answer table label (block o table label) formed none)) (none, refl)
 
 -- the answer to a label that may be registered
 pub variants_answer-IsListing : (o : Settings) (table : TableValue) (label : List ℕ) → IsWellFormed table.entries → IsRegistrable label → IsListing o table label (variants_answer o table label)
 variants_answer-IsListing o table label formed registrable =
     subst (IsListing o table label) (sym (ap (λ (f : Option Refusal). unless_fault f (listing_answer o table label)) registrable)) (listing o table label formed)
 
-pub check_findings-IsCheck : (table : List Entry) → IsWellFormed table → IsCheck table (check_findings table)
-check_findings-IsCheck table formed = record { gaps = gaps_of table; exactly = gaps_of_are_gaps table formed; found = refl }
+pub check_findings-IsCheck : (entries : List Entry) → IsWellFormed entries → IsCheck entries (check_findings entries)
+check_findings-IsCheck entries formed = record { gaps = gaps_of entries; exactly = gaps_of_are_gaps entries formed; found = refl }

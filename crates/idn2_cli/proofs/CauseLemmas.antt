@@ -8,7 +8,7 @@ use Rattle.idn_text.specs.declared.refusal.Refusal.{Refusal}
 use Rattle.idn_text.specs.declared.refusal.Refusal.TheVariants.{NotInTable}
 use Rattle.idn_text.proofs.Utf8Lemmas.{IsUtf8-from_points, points_from_utf8}
 use Rattle.idn_cause.specs.declared.cause.Cause.TheVariants.{Point}
-use Rattle.variant_table.specs.Entries.{Entry}
+use Rattle.variant_table.specs.Entries.{TableValue}
 use Rattle.variant_table.specs.WellFormed.{IsWellFormed}
 use Rattle.variant_list.specs.Furthest.{IsFurthest, furthest}
 use Rattle.variant_list.proofs.FurthestLemmas.{furthest-told}
@@ -38,11 +38,11 @@ unexplained_body body refusal = ap (tail_text refusal) (unexplained-none body re
 pub bad_byte-at : (bytes : List ℕ) (place : ℕ) → IsValidUpTo bytes place → bad_byte bytes ≡ Byte place (slice_index bytes place)
 bad_byte-at bytes place valid = ap (λ n. Byte n (slice_index bytes n)) (utf8_valid_len-IsValidUpTo bytes place valid)
 
-pub outside-told : (entries : List Entry) (label : List ℕ) (place : ℕ) → IsWellFormed entries → length label ≤ 63 → IsFurthest entries label place → table_cause entries label NotInTable ≡ Some (Point place (slice_index label place))
-outside-told entries label place formed short is =
+pub outside-told : (table : TableValue) (label : List ℕ) (place : ℕ) → IsWellFormed table.entries → length label ≤ 63 → IsFurthest table label place → table_cause table label NotInTable ≡ Some (Point place (slice_index label place))
+outside-told table label place formed short is =
     let within : nat_le (length label) 63 ≡ true = grind (arith, nat_tests) in
-    let at : furthest entries label ≡ place = sym ((furthest-told entries label place formed).0 is) in
-    ap (λ b. cond b (Some (Point (furthest entries label) (slice_index label (furthest entries label)))) None) within
+    let at : furthest table label ≡ place = sym ((furthest-told table label place formed).0 is) in
+    ap (λ b. cond b (Some (Point (furthest table label) (slice_index label (furthest table label)))) None) within
     ∙ ap (λ n. Some (Point n (slice_index label n))) at
 
 -- ---- the cause of bytes is that of the code points that they spell

@@ -1,24 +1,26 @@
--- The disposition of a variant: which variants the table without its blocked variants spells.
+-- The disposition of a variant: which variants the part of the table that is not blocked spells.
 use Rattle.std.proofs.Common.{◌≡◌, ◌≢◌, ◌⊎◌, inl, inr, ℕ, Bool, true, false, ◌||◌, ◌&&◌, ◌↔◌, IsTrue, List, [], ◌∷◌, ◌++◌, Option, Some, None, map, length, refl, sym, ap, subst, ◌∙◌, if◌then◌else◌}
 use Rattle.std.specs.Prelude.{bytes_eq}
 use Rattle.std.specs.Ordering.{is_le}
-use Rattle.std.specs.List.{AllByRecursion, All, Contains, filter, list_any}
+use Rattle.std.specs.List.{AllByRecursion, Contains, filter, list_any}
 use Rattle.std.proofs.lemmas.Slice.Eq.{bytes_eq-Decides}
 use Rattle.variant_table.specs.declared.version.Version.{Version}
 use Rattle.variant_table.specs.declared.version.Version.TheVariants.{One, Two, Three}
 use Rattle.variant_table.specs.Entries.{Entry, TableValue, has_blocked, unblocked}
-use Rattle.variant_table.specs.WellFormed.{IsEntry, IsWellFormed}
-use Rattle.variant_table.proofs.UnblockedLemmas.{unblocked_none, well_formed_kept}
+use Rattle.variant_table.specs.WellFormed.{IsWellFormed}
+use Rattle.variant_table.proofs.UnblockedLemmas.{unblocked_none}
 use Rattle.variant_list.specs.Labels.{label_cmp}
 use Rattle.variant_list.specs.Positions.{Built}
 use Rattle.variant_list.specs.Segmentations.{HasSegmentation}
-use Rattle.variant_list.specs.Spelled.{spelled}
+use Rattle.variant_list.specs.Spelled.{part_spelled, spelled}
 use Rattle.variant_list.specs.declared.part.Part.TheVariants.{Unblocked}
-use Rattle.variant_list.specs.Spelling.{Spells}
+use Rattle.variant_list.specs.Laws.{without_blocked}
+use Rattle.variant_list.specs.Spelling.{PartSpells, Spells}
 use Rattle.variant_list.proofs.ListedLemmas.{variants-IsListed}
 use Rattle.variant_list.proofs.ListMembers.{Contains-head, Contains-later, Contains-none, Contains-cases}
-use Rattle.variant_list.proofs.RecursionLemmas.{spelled-Spells}
-use Rattle.variant_list.proofs.PartLemmas.{PartSpells-Unblocked, PartSpells-itself, Spells-of_part}
+use Rattle.variant_list.proofs.PartLemmas.{PartSpells-Unblocked, Spells-of_part, has_source-Unblocked}
+use Rattle.variant_list.proofs.SpelledByLemmas.{part_spelled-PartSpells, spelled-Spells}
+use Rattle.variant_list.proofs.SpellingLemmas.{PartSpells-itself}
 use Rattle.idn2_options.specs.Settings.{Settings}
 use Rattle.variant_list.specs.Beginnings.{has_hope}
 use Rattle.variant_list.specs.Tested.{tested_among}
@@ -54,11 +56,10 @@ found-member v (w ∷ vs) h = by_test (bytes_eq v w) refl h (found-member v vs)
     by_test true e found go = subst (Contains (w ∷ vs)) (sym ((bytes_eq-Decides v w).0 e)) (Contains-head w vs)
     by_test false e found go = Contains-later w vs v (go found)
 
-spells-test : (entries : List Entry) (label v : List ℕ) → All IsEntry entries → (list_any (bytes_eq v) (spelled entries label) ≡ true) ↔ Spells entries label v
-spells-test entries label v well = (
-  λ found. (spelled-Spells entries label v well).0 (found-member v (spelled entries label) found),
-  λ spells. member-found v (spelled entries label) ((spelled-Spells entries label v well).1 spells),
-)
+spells-test : (table : TableValue) (label v : List ℕ) → IsWellFormed table.entries → (is_allocatable table label v ≡ true) ↔ PartSpells Unblocked table label v
+spells-test table label v formed =
+    let same = part_spelled-PartSpells Unblocked table label v formed in
+    (λ found. same.0 (found-member v (part_spelled Unblocked table label) found), λ spells. member-found v (part_spelled Unblocked table label) (same.1 spells))
 
 -- two tests of one fact
 same-test : {P : Type 0} (a b : Bool) → (a ≡ true → P) × (P → a ≡ true) → (b ≡ true → P) × (P → b ≡ true) → a ≡ b
@@ -76,27 +77,31 @@ disposition-marked Three b other = refl
 pub spelled-told : (net : Built) (v : List ℕ) (told : Bool) → IsTrue told ↔ Contains net.spelled v → Some (allocation told) ≡ field_by (BySpelling net) v
 spelled-told net v told h = ap (λ (b : Bool). Some (allocation b)) (same-test told (is_among net.spelled v) h (found-member v net.spelled, member-found v net.spelled))
 
--- ---- the sources stay
--- a label may itself be allocated
-pub spells_itself : (entries : List Entry) (label : List ℕ) → HasSegmentation entries label → Spells (unblocked entries) label label
-spells_itself entries label h = (PartSpells-Unblocked entries label label).0 (PartSpells-itself entries label h)
+-- ---- what is not blocked
 
-pub label-allocatable : (entries : List Entry) (label : List ℕ) → All IsEntry entries → HasSegmentation entries label → is_allocatable entries label label ≡ true
-label-allocatable entries label well h = (spells-test (unblocked entries) label label (well_formed_kept entries well)).1 (spells_itself entries label h)
+-- a label may itself be allocated
+pub spells_itself : (table : TableValue) (label : List ℕ) → HasSegmentation table label → PartSpells Unblocked table label label
+spells_itself table label has = PartSpells-itself Unblocked has_source-Unblocked table has.0 label has.1
+
+-- where no variant is blocked, all that is spelled may be
+all_unblocked : (table : TableValue) (label v : List ℕ) → unblocked table.entries ≡ table.entries → Spells table label v → PartSpells Unblocked table label v
+all_unblocked table label v none spells =
+    let same : without_blocked table ≡ table = ap (λ (entries : List Entry). record table { entries = entries }) none in
+    (PartSpells-Unblocked table label v).1 (subst (λ (t : TableValue). Spells t label v) (sym same) spells)
 
 -- ---- the field that is told is that of the table
 
-field-is : (table : TableValue) (label v : List ℕ) (told : Dispositions Built) → All IsEntry table.entries → AreOfLabel table label told → Contains (spelled table.entries label) v → field_by told v ≡ disposition table label v
-field-is table label v Unstated well is h = ap (λ (n : Version). disposition_in n (is_allocatable table.entries label v)) (sym is)
+field-is : (table : TableValue) (label v : List ℕ) (told : Dispositions Built) → IsWellFormed table.entries → AreOfLabel table label told → Contains (spelled table label) v → field_by told v ≡ disposition table label v
+field-is table label v Unstated well is h = ap (λ (n : Version). disposition_in n (is_allocatable table label v)) (sym is)
 field-is table label v AllAllocatable well is h =
-    ap (λ (b : Bool). Some (allocation b)) (sym (ap (λ (t : List Entry). list_any (bytes_eq v) (spelled t label)) is.1 ∙ member-found v (spelled table.entries label) h))
-    ∙ sym (disposition-marked table.version (is_allocatable table.entries label v) is.0)
+    ap (λ (b : Bool). Some (allocation b)) (sym ((spells-test table label v well).1 (all_unblocked table label v is.1 ((spelled-Spells table label v well).0 h))))
+    ∙ sym (disposition-marked table.version (is_allocatable table label v) is.0)
 field-is table label v (BySpelling net) well is h =
     ap (λ (b : Bool). Some (allocation b))
-    (same-test (is_among net.spelled v) (is_allocatable table.entries label v)
+    (same-test (is_among net.spelled v) (is_allocatable table label v)
     (λ found. (is.1 v).0 (found-member v net.spelled found), λ spells. member-found v net.spelled ((is.1 v).1 spells))
-    (spells-test (unblocked table.entries) label v (well_formed_kept table.entries well)))
-    ∙ sym (disposition-marked table.version (is_allocatable table.entries label v) is.0)
+    (spells-test table label v well))
+    ∙ sym (disposition-marked table.version (is_allocatable table label v) is.0)
 
 map-same : (f g : List ℕ → Said) (vs : List (List ℕ)) → AllByRecursion (λ v. f v ≡ g v) vs → map f vs ≡ map g vs
 map-same f g [] same = refl
@@ -124,15 +129,15 @@ kept-listed None vs v at = at
 kept-listed (Some registered) vs v at = ((Contains-filter (is_among registered) vs v).0 at).1
 
 -- the block by the fields that are told is the block
-told-block : (o : Settings) (table : TableValue) (label : List ℕ) (told : Dispositions Built) → All IsEntry table.entries → AreOfLabel table label told
-    → block_by (filter_of table) (field_by told) o (spelled table.entries label) ≡ block_by (filter_of table) (disposition table label) o (spelled table.entries label)
+told-block : (o : Settings) (table : TableValue) (label : List ℕ) (told : Dispositions Built) → IsWellFormed table.entries → AreOfLabel table label told
+    → block_by (filter_of table) (field_by told) o (spelled table label) ≡ block_by (filter_of table) (disposition table label) o (spelled table label)
 told-block o table label told well is =
     let f : Filter = filter_of table in
-    let vs = variants_after f o (spelled table.entries label) in
-    let stop = stop_of f o (spelled table.entries label) in
+    let vs = variants_after f o (spelled table label) in
+    let stop = stop_of f o (spelled table label) in
     let same : AllByRecursion (λ v. Listed (field_by told v) v ≡ Listed (disposition table label v) v) vs =
     all_members (λ v. Listed (field_by told v) v ≡ Listed (disposition table label v) v) vs
-    (λ v at. ap (λ field. Listed field v) (field-is table label v told well is (((variants-IsListed f.accepts (spelled table.entries label) o.after).members v).0 (kept-listed o.registered (variants_among f.accepts (spelled table.entries label) o.after) v at)).spelled)) in
+    (λ v at. ap (λ field. Listed field v) (field-is table label v told well is (((variants-IsListed f.accepts (spelled table label) o.after).members v).0 (kept-listed o.registered (variants_among f.accepts (spelled table label) o.after) v at)).spelled)) in
     ap (λ said. said ++ BlockEnd (length (up_to stop vs)) stop ∷ [])
     (map-same (λ v. Listed (field_by told v) v) (λ v. Listed (disposition table label v) v) (up_to stop vs) (up_to-all _ stop vs same))
 
@@ -149,44 +154,43 @@ block-same f field o labels others same =
         block_to field (lesser_label (nth_if_given kept o.limit) (lesser_label (nth (unless_kept o.registered ts) o.tries) (nth_if_given (visited f.hopeless None (unless_kept o.registered cs)) o.steps))) kept
 
 -- what is written of a net is the block
-pub written_block : (text : Said → List ℕ) (o : Settings) (table : TableValue) (label : List ℕ) (net : Built) (told : Dispositions Built) → All IsEntry table.entries → in_order net.spelled ≡ in_order (spelled table.entries label) → AreOfLabel table label told
+pub written_block : (text : Said → List ℕ) (o : Settings) (table : TableValue) (label : List ℕ) (net : Built) (told : Dispositions Built) → IsWellFormed table.entries → in_order net.spelled ≡ in_order (spelled table label) → AreOfLabel table label told
     → outputs text (block_by (filter_of table) (field_by told) o net.spelled) ≡ outputs text (block o table label)
 written_block text o table label net told well same is =
-    ap (outputs text) (block-same (filter_of table) (field_by told) o net.spelled (spelled table.entries label) same ∙ told-block o table label told well is)
+    ap (outputs text) (block-same (filter_of table) (field_by told) o net.spelled (spelled table label) same ∙ told-block o table label told well is)
 
 -- ---- the field that computes is the field
 
-pub disposition-IsDisposition : (table : TableValue) (label v : List ℕ) → All IsEntry table.entries → IsDisposition table label v (disposition table label v)
+pub disposition-IsDisposition : (table : TableValue) (label v : List ℕ) → IsWellFormed table.entries → IsDisposition table label v (disposition table label v)
 disposition-IsDisposition table label v well = by_version table.version
   where
-    tests : (is_allocatable table.entries label v ≡ true) ↔ Spells (unblocked table.entries) label v
-    tests = spells-test (unblocked table.entries) label v (well_formed_kept table.entries well)
+    tests : (is_allocatable table label v ≡ true) ↔ PartSpells Unblocked table label v
+    tests = spells-test table label v well
 
-    by_test : (b : Bool) → is_allocatable table.entries label v ≡ b → IsAllocation (Spells (unblocked table.entries) label v) (Some (allocation b))
+    by_test : (b : Bool) → is_allocatable table label v ≡ b → IsAllocation (PartSpells Unblocked table label v) (Some (allocation b))
     by_test true e = inl (tests.0 e, refl)
     by_test false e = inr (λ spells. (let bad : false ≡ true = sym e ∙ tests.1 spells in cc), refl)
 
-    by_version : (n : Version) → IsFieldOf n (Spells (unblocked table.entries) label v) (disposition_in n (is_allocatable table.entries label v))
+    by_version : (n : Version) → IsFieldOf n (PartSpells Unblocked table label v) (disposition_in n (is_allocatable table label v))
     by_version One = refl
-    by_version Two = by_test (is_allocatable table.entries label v) refl
-    by_version Three = by_test (is_allocatable table.entries label v) refl
+    by_version Two = by_test (is_allocatable table label v) refl
+    by_version Three = by_test (is_allocatable table label v) refl
 
 -- ---- laws
 
 pub disposition-one : (table : TableValue) (label v : List ℕ) → table.version ≡ One → disposition table label v ≡ None
-disposition-one table label v is = ap (λ (n : Version). disposition_in n (is_allocatable table.entries label v)) is
+disposition-one table label v is = ap (λ (n : Version). disposition_in n (is_allocatable table label v)) is
 
-allocatable-field : (table : TableValue) (label v : List ℕ) → table.version ≢ One → is_allocatable table.entries label v ≡ true → disposition table label v ≡ Some Allocatable
-allocatable-field table label v is told = disposition-marked table.version (is_allocatable table.entries label v) is ∙ ap (λ (b : Bool). Some (allocation b)) told
+allocatable-field : (table : TableValue) (label v : List ℕ) → table.version ≢ One → is_allocatable table label v ≡ true → disposition table label v ≡ Some Allocatable
+allocatable-field table label v is told = disposition-marked table.version (is_allocatable table label v) is ∙ ap (λ (b : Bool). Some (allocation b)) told
 
-pub disposition-itself : (table : TableValue) (label : List ℕ) → table.version ≢ One → IsWellFormed table.entries → HasSegmentation table.entries label → disposition table label label ≡ Some Allocatable
-disposition-itself table label is formed has = allocatable-field table label label is (label-allocatable table.entries label formed.entries has)
+pub disposition-itself : (table : TableValue) (label : List ℕ) → table.version ≢ One → IsWellFormed table.entries → HasSegmentation table label → disposition table label label ≡ Some Allocatable
+disposition-itself table label is formed has = allocatable-field table label label is ((spells-test table label label formed).1 (spells_itself table label has))
 
-pub disposition-none_blocked : (table : TableValue) (label v : List ℕ) → table.version ≢ One → IsWellFormed table.entries → has_blocked table.entries ≡ false → Spells table.entries label v
+pub disposition-none_blocked : (table : TableValue) (label v : List ℕ) → table.version ≢ One → IsWellFormed table.entries → has_blocked table.entries ≡ false → Spells table label v
     → disposition table label v ≡ Some Allocatable
 disposition-none_blocked table label v is formed none spells =
-    allocatable-field table label v is
-    (ap (λ (t : List Entry). list_any (bytes_eq v) (spelled t label)) (unblocked_none table.entries none) ∙ (spells-test table.entries label v formed.entries).1 spells)
+    allocatable-field table label v is ((spells-test table label v formed).1 (all_unblocked table label v (unblocked_none table.entries none) spells))
 
-pub spelled_still : (entries : List Entry) (label v : List ℕ) → Spells (unblocked entries) label v → Spells entries label v
-spelled_still entries label v s = Spells-of_part Unblocked entries label v ((PartSpells-Unblocked entries label v).1 s)
+pub spelled_still : (table : TableValue) (label v : List ℕ) → PartSpells Unblocked table label v → Spells table label v
+spelled_still = Spells-of_part Unblocked

@@ -31,7 +31,7 @@ use Rattle.idn_text.specs.Lines.{lines_of}
 use Rattle.idn2_cli.specs.Explained.{Unexplained, points_cause}
 use Rattle.idn2_cli.specs.Transcript.{Output, Message, lines_pieces, has_refused, status_if}
 use Rattle.idn2_cli.specs.declared.output.status.Status.TheVariants.{Refused}
-use Rattle.idn2_cli.specs.Examples.{ExamplesOfBlocks, ExamplesOfTranscripts, listing, three_lines, version_one, y_or_z, one_or_both}
+use Rattle.idn2_cli.specs.Examples.{ExamplesOfBlocks, ExamplesOfTranscripts, listing, three_lines, y_or_z, one_or_both}
 
 -- ---- labels of lower-case letters, digits and hyphens
 
@@ -55,21 +55,21 @@ filter-passes after (v ∷ vs) ldh =
 -- the block of a label that spells such labels alone
 abbrev ldh_block : Settings → TableValue → List ℕ → List Said
 ldh_block o table label =
-    let vs = kept_to o.registered (variants passes table.entries label o.after) in
-    block_to (disposition table label) (lesser_label (nth_if_given vs o.limit) (lesser_label (nth (tested_after (filter_of table) o (spelled table.entries label)) o.tries) (nth_if_given (visited_in (filter_of table) o (spelled table.entries label)) o.steps))) vs
+    let vs = kept_to o.registered (variants passes table label o.after) in
+    block_to (disposition table label) (lesser_label (nth_if_given vs o.limit) (lesser_label (nth (tested_after (filter_of table) o (spelled table label)) o.tries) (nth_if_given (visited_in (filter_of table) o (spelled table label)) o.steps))) vs
 
-block-ldh : (o : Settings) (table : TableValue) (label : List ℕ) → AllLdh (in_order (spelled table.entries label)) → block o table label ≡ ldh_block o table label
+block-ldh : (o : Settings) (table : TableValue) (label : List ℕ) → AllLdh (in_order (spelled table label)) → block o table label ≡ ldh_block o table label
 block-ldh o table label ldh =
-    ap (λ (all : List (List ℕ)). let vs = kept_to o.registered all in block_to (disposition table label) (lesser_label (nth_if_given vs o.limit) (lesser_label (nth (tested_after (filter_of table) o (spelled table.entries label)) o.tries) (nth_if_given (visited_in (filter_of table) o (spelled table.entries label)) o.steps))) vs)
-    (filter-passes o.after (in_order (spelled table.entries label)) ldh)
+    ap (λ (all : List (List ℕ)). let vs = kept_to o.registered all in block_to (disposition table label) (lesser_label (nth_if_given vs o.limit) (lesser_label (nth (tested_after (filter_of table) o (spelled table label)) o.tries) (nth_if_given (visited_in (filter_of table) o (spelled table label)) o.steps))) vs)
+    (filter-passes o.after (in_order (spelled table label)) ldh)
 
 pub blocks : ExamplesOfBlocks
 unfolding digits a_label_of idna hopeless rules
 blocks = record {
-  doubled = ap (map said_line) (block-ldh (listing None 1000000) (version_one a_or_two) (codes "aa") (refl, (refl, (refl, tt)))) ∙ refl;
-  limited = ap (map said_line) (block-ldh (listing (Some 2) 1000000) (version_one a_or_two) (codes "aa") (refl, (refl, (refl, tt)))) ∙ refl;
-  spent = ap (map said_line) (block-ldh (listing None 4) (version_one letter_or_hyphen) (codes "aaa") (refl, (refl, (refl, (refl, (refl, (refl, (refl, (refl, tt))))))))) ∙ refl;
-  stepped = ap (map said_line) (block-ldh (record (listing None 1000000) { steps = Some 3 }) (version_one letter_or_hyphen) (codes "aaa") (refl, (refl, (refl, (refl, (refl, (refl, (refl, (refl, tt))))))))) ∙ refl;
+  doubled = ap (map said_line) (block-ldh (listing None 1000000) a_or_two (codes "aa") (refl, (refl, (refl, tt)))) ∙ refl;
+  limited = ap (map said_line) (block-ldh (listing (Some 2) 1000000) a_or_two (codes "aa") (refl, (refl, (refl, tt)))) ∙ refl;
+  spent = ap (map said_line) (block-ldh (listing None 4) letter_or_hyphen (codes "aaa") (refl, (refl, (refl, (refl, (refl, (refl, (refl, (refl, tt))))))))) ∙ refl;
+  stepped = ap (map said_line) (block-ldh (record (listing None 1000000) { steps = Some 3 }) letter_or_hyphen (codes "aaa") (refl, (refl, (refl, (refl, (refl, (refl, (refl, (refl, tt))))))))) ∙ refl;
   y_blocked = ap (map said_line) (block-ldh (listing None 1000000) y_or_z (codes "ax") (refl, (refl, (refl, tt)))) ∙ refl;
   allocatable_by_one_cutting = ap (map said_line) (block-ldh (listing None 1000000) one_or_both (codes "aa") (refl, (refl, (refl, (refl, tt))))) ∙ refl;
 }

@@ -29,24 +29,24 @@ least_is_first P text (v ∷ vs) list =
       least = λ w is up. elim (Contains-cases v vs w ((list.members w).1 (is, up))) [ inl same ↦ inl same | inr later ↦ inr (above_first v vs w list.rising later) ];
     }
 
-least-IsJump : (table : TableValue) (label text : List ℕ) → IsWellFormed table.entries → IsJump table.entries label text (slice_get (candidates_from table.entries label text) 0)
+least-IsJump : (table : TableValue) (label text : List ℕ) → IsWellFormed table.entries → IsJump table label text (slice_get (candidates_from table label text) 0)
 least-IsJump table label text formed =
-    least_is_first (Spells table.entries label) text (candidates_from table.entries label text) (candidates_from-IsListOf table.entries label text formed)
+    least_is_first (Spells table label) text (candidates_from table label text) (candidates_from-IsListOf table label text formed)
 
 -- the answer to a request whose label may be registered
 pub jump_answer-IsJumpAnswer : (table : TableValue) (request : List ℕ) → IsWellFormed table.entries → IsRegistrable (requested_label request) → IsJumpAnswer table request (jump_answer table request)
 jump_answer-IsJumpAnswer table request formed registrable =
     subst (IsJumpAnswer table request) (sym (ap (λ (f : Option Refusal). unless_fault f (least_answer table (requested_label request) (requested_text request))) registrable))
-    (by_cases (segmented_or_not table.entries (requested_label request) formed))
+    (by_cases (segmented_or_not table (requested_label request) formed))
   where
     least : Option (List ℕ)
-    least = slice_get (candidates_from table.entries (requested_label request) (requested_text request)) 0
+    least = slice_get (candidates_from table (requested_label request) (requested_text request)) 0
 
-    by_cases : HasSegmentation table.entries (requested_label request) ⊎ (HasSegmentation table.entries (requested_label request) → ⊥) → IsJumpAnswer table request (least_answer table (requested_label request) (requested_text request))
+    by_cases : HasSegmentation table (requested_label request) ⊎ (HasSegmentation table (requested_label request) → ⊥) → IsJumpAnswer table request (least_answer table (requested_label request) (requested_text request))
     by_cases (inl has) =
-        subst (IsJumpAnswer table request) (sym (segmented_answer table.entries (requested_label request) (Least least ∷ []) formed has))
+        subst (IsJumpAnswer table request) (sym (segmented_answer table (requested_label request) (Least least ∷ []) formed has))
         (has, (least, refl, least-IsJump table (requested_label request) (requested_text request) formed))
-    by_cases (inr none) = subst (IsJumpAnswer table request) (sym (unsegmented_answer table.entries (requested_label request) (Least least ∷ []) formed none)) (none, refl)
+    by_cases (inr none) = subst (IsJumpAnswer table request) (sym (unsegmented_answer table (requested_label request) (Least least ∷ []) formed none)) (none, refl)
 
 -- the first fault of the label is told before that
 pub jump-refused : (table : TableValue) (request : List ℕ) (refusal : Refusal) → first_fault (requested_label request) ≡ Some refusal → jump_answer table request ≡ Err refusal

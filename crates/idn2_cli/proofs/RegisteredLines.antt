@@ -1,21 +1,20 @@
 -- What a line that is registered stands for.
-use Rattle.std.proofs.Common.{◌≡◌, ◌≢◌, ℕ, ◌≤◌, List, Bool, true, false, chars, length, Option, Some, None, Ok, Err, refl, sym, ap, subst, ◌∙◌, inl, inr, arith, cond}
+use Rattle.std.proofs.Common.{◌≡◌, ℕ, ◌≤◌, List, ◌++◌, Bool, true, false, chars, codes, drop, length, Option, Some, None, Ok, Err, refl, sym, ap, subst, ◌∙◌, inl, inr, arith, cond}
 use Rattle.std.specs.Result.{IsOk}
-use Rattle.std.specs.Str.{is_utf8}
-use Rattle.idna.specs.Validity.{has_ace_prefix, is_all_ascii}
+use Rattle.std.specs.Str.{IsAscii, IsUtf8, is_utf8}
+use Rattle.idna.specs.Validity.{has_ace_prefix}
 use Rattle.idn_text.specs.Points.{IsUtf8Of, utf8_of}
 use Rattle.idn_text.specs.declared.refusal.Refusal.{Refusal}
-use Rattle.idn_text.specs.declared.refusal.Refusal.TheVariants.{Memory, NotUtf8}
-use Rattle.idn_text.proofs.Utf8Lemmas.{IsUtf8-from_points, ascii_points, points_from_utf8, length-utf8_of-le}
-use Rattle.std.proofs.lemmas.Str.{is_utf8-from_IsUtf8}
-use Rattle.std.proofs.lemmas.Bool.{cases_Bool}
-use Rattle.idn_label.specs.Answers.{Answer, and_then, unless_fault}
+use Rattle.idn_text.specs.declared.refusal.Refusal.TheVariants.{NotUtf8}
+use Rattle.idn_text.proofs.Utf8Lemmas.{IsUtf8-from_points, points_from_utf8, length-utf8_of-le}
+use Rattle.std.proofs.lemmas.Str.{IsUtf8-from_ascii, chars-IsAscii, chars-append, encodes-IsAscii, encodes-append, encodes-chars, is_utf8-from_IsUtf8}
+use Rattle.std.proofs.lemmas.Bool.{both_ways, cases_Bool}
+use Rattle.idna.proofs.Uts46Lemmas.{ace_parts}
+use Rattle.idn_label.specs.Answers.{Answer, unless_fault}
 use Rattle.idn_label.specs.ALabel.{a_label_of}
 use Rattle.idn_label.specs.FirstFault.{first_fault, IsRegistrable}
 use Rattle.idn_label.specs.Register.{register_answer, register_utf8_answer, tested_answer, u_label_answer}
-use Rattle.idn_label.proofs.ALabels.{answered}
-use Rattle.idn_label.proofs.AnswerLemmas.{register_answer-other, register_answer-prefixed}
-use Rattle.idn_label.proofs.DecodeLemmas.{utf8_of-ascii_text}
+use Rattle.idn_label.proofs.AnswerLemmas.{register_answer-other}
 use Rattle.idn_label.proofs.LdhLemmas.{is_all_ascii-octets}
 use Rattle.idn_label.proofs.RequirementLemmas.{MeetsRequirements-registrable}
 use Rattle.idn2_cli.specs.Answers.{label_or, u_label_of}
@@ -43,26 +42,30 @@ registered-points bytes points is ok =
     let utf8 = is_utf8-from_IsUtf8 bytes (IsUtf8-from_points bytes points is) in
     subst IsOk (ap (λ (b : Bool). let r : Answer = cond b (register_answer (chars bytes)) (Err NotUtf8) in r) utf8 ∙ ap register_answer (points_from_utf8 bytes points is)) ok
 
--- what begins with the prefix and is registered is in ASCII
-registered-ascii : (label : List ℕ) → has_ace_prefix label ≡ true → IsOk (register_answer label) → is_all_ascii label ≡ true
-registered-ascii label prefix ok = by_answer (u_label_answer label) refl (subst IsOk (register_answer-prefixed label prefix) ok)
-  where
-    by_answer : (answer : Answer) → u_label_answer label ≡ answer → IsOk (and_then answer (λ decoded. Ok label)) → is_all_ascii label ≡ true
-    by_answer (Ok decoded) is ok = (answered label decoded is).1
-    by_answer (Err refusal) is ok = cc
+prefixed : (rest : List ℕ) → has_ace_prefix (codes "xn--" ++ rest) ≡ true
+unfolding has_ace_prefix
+prefixed rest = refl
 
--- and so are the bytes of its line
-registered-coded : (bytes : List ℕ) → IsOk (register_utf8_answer bytes) → has_ace_prefix (chars bytes) ≡ true → (chars bytes ≡ bytes) × (is_all_ascii bytes ≡ true)
-registered-coded bytes ok prefix =
-    let points = chars bytes in
-    let is = registered-utf8 bytes ok in
-    let ascii = registered-ascii points prefix (registered-points bytes points is ok) in
-    let same : points ≡ bytes = sym (utf8_of-ascii_text points (is_all_ascii-octets points ascii)) ∙ is.encoded in
-    (same, subst (λ (l : List ℕ). is_all_ascii l ≡ true) same ascii)
+prefix_ascii : IsAscii (codes "xn--")
+prefix_ascii = is_all_ascii-octets (codes "xn--") refl
 
--- bytes in ASCII are their code points
-pub chars-ascii : (bytes : List ℕ) → is_all_ascii bytes ≡ true → chars bytes ≡ bytes
-chars-ascii bytes ascii = points_from_utf8 bytes bytes (ascii_points bytes (is_all_ascii-octets bytes ascii))
+-- the prefix is in ASCII, so that octets begin with it where their code points do
+pub prefix_by_octets : (bytes : List ℕ) → IsUtf8 bytes → has_ace_prefix (chars bytes) ≡ has_ace_prefix bytes
+prefix_by_octets bytes utf8 = elim (cases_Bool (has_ace_prefix bytes)) [
+  | inl has ↦
+      let rest = drop 4 bytes in
+      let points : chars bytes ≡ codes "xn--" ++ chars rest =
+      ap chars (sym (ace_parts bytes has).0) ∙ chars-append (codes "xn--") rest (IsUtf8-from_ascii (codes "xn--") prefix_ascii) ∙ ap (λ (l : List ℕ). l ++ chars rest) (chars-IsAscii (codes "xn--") prefix_ascii) in
+      ap has_ace_prefix points ∙ prefixed (chars rest) ∙ sym has
+  | inr other ↦ elim (cases_Bool (has_ace_prefix (chars bytes))) [
+    | inl has ↦
+        let rest = drop 4 (chars bytes) in
+        let octets : bytes ≡ codes "xn--" ++ utf8_of rest =
+        sym (encodes-chars bytes utf8) ∙ ap utf8_of (sym (ace_parts (chars bytes) has).0) ∙ encodes-append (codes "xn--") rest ∙ ap (λ (l : List ℕ). l ++ utf8_of rest) (encodes-IsAscii (codes "xn--") prefix_ascii) in
+        absurd (both_ways (has_ace_prefix bytes) other (ap has_ace_prefix octets ∙ prefixed (utf8_of rest)))
+    | inr none ↦ none ∙ sym other
+  ]
+]
 
 -- a label that is no A-label may be registered
 pub registered-registrable : (label : List ℕ) → has_ace_prefix label ≡ false → IsOk (register_answer label) → IsRegistrable label
@@ -86,29 +89,3 @@ registrable-octets label registrable =
     let short = (MeetsRequirements-registrable label registrable).points in
     let most = length-utf8_of-le label in
     omega (arith, short, most)
-
--- what is registered is refused by memory alone
-pub registered-not_refused : (label : List ℕ) (refusal : Refusal) → IsOk (register_answer label) → refusal ≢ Memory → (refusal ≢ Memory → register_answer label ≡ Err refusal) → ⊥
-registered-not_refused label refusal ok other is = let clash : IsOk (let a : Answer = Err refusal in a) = subst IsOk (is other) ok in cc
-
--- ---- by the octets of a line that is registered
-
--- without the prefix it is no A-label
-pub other_by_octets : (bytes : List ℕ) → IsOk (register_utf8_answer bytes) → has_ace_prefix bytes ≡ false → has_ace_prefix (chars bytes) ≡ false
-other_by_octets bytes ok other = by_prefix (has_ace_prefix (chars bytes)) refl
-  where
-    by_prefix : (prefixed : Bool) → has_ace_prefix (chars bytes) ≡ prefixed → prefixed ≡ false
-    by_prefix true is = sym is ∙ ap has_ace_prefix (registered-coded bytes ok is).0 ∙ other
-    by_prefix false is = refl
-
--- with the prefix it is one where it is in ASCII
-pub a_label_by_octets : (bytes : List ℕ) → IsOk (register_utf8_answer bytes) → has_ace_prefix bytes ≡ true → is_all_ascii bytes ≡ has_ace_prefix (chars bytes)
-a_label_by_octets bytes ok prefix = by_ascii (is_all_ascii bytes) refl
-  where
-    by_prefix : (prefixed : Bool) → has_ace_prefix (chars bytes) ≡ prefixed → is_all_ascii bytes ≡ false → false ≡ prefixed
-    by_prefix true is other = sym other ∙ (registered-coded bytes ok is).1
-    by_prefix false is other = refl
-
-    by_ascii : (ascii : Bool) → is_all_ascii bytes ≡ ascii → ascii ≡ has_ace_prefix (chars bytes)
-    by_ascii true is = sym (ap has_ace_prefix (chars-ascii bytes is) ∙ prefix)
-    by_ascii false is = by_prefix (has_ace_prefix (chars bytes)) refl is

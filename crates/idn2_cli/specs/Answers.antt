@@ -16,8 +16,9 @@ use Rattle.idn_label.specs.Decode.{decode_answer}
 use Rattle.idn_label.specs.Lookup.{lookup_answer}
 use Rattle.variant_table.specs.declared.version.Version.{Version}
 use Rattle.variant_table.specs.declared.version.Version.TheVariants.{One, Two, Three}
-use Rattle.variant_table.specs.Entries.{Entry, TableValue, unblocked}
-use Rattle.variant_list.specs.Spelled.{spelled}
+use Rattle.variant_table.specs.Entries.{TableValue}
+use Rattle.variant_list.specs.declared.part.Part.TheVariants.{Unblocked}
+use Rattle.variant_list.specs.Spelled.{part_spelled, spelled}
 use Rattle.idn2_options.specs.Settings.{Settings}
 use Rattle.idn2_options.specs.declared.command_line.mode.Mode.{Mode}
 use Rattle.idn2_options.specs.declared.command_line.mode.Mode.TheVariants.{Lookup, Register, Decode, Variants, Jump, CheckTable}
@@ -26,7 +27,7 @@ use Rattle.answer_json.specs.declared.block.Disposition.TheVariants.{Allocatable
 use Rattle.idn2_cli.specs.Said.{Said, LookedUp, Registered, Decoded, Listed, BlockEnd, Least}
 use Rattle.variant_list.specs.Labels.{label_cmp, IsBelow, IsListOf}
 use Rattle.variant_list.specs.Segmentations.{HasSegmentation}
-use Rattle.variant_list.specs.Spelling.{Spells}
+use Rattle.variant_list.specs.Spelling.{PartSpells, Spells}
 use Rattle.variant_list.specs.Tested.{tested_among}
 use Rattle.variant_list.specs.Variants.{candidates_among, variants_among}
 use Rattle.variant_list.specs.Visited.{visited}
@@ -107,9 +108,9 @@ abbrev pub up_to : Option (List ℕ) → List (List ℕ) → List (List ℕ)
 up_to None labels = labels
 up_to (Some b) labels = filter (λ v. is_le (label_cmp v b)) labels
 
--- whether the table without its blocked variants spells v too, and v may so be allocated
-abbrev pub is_allocatable : List Entry → List ℕ → List ℕ → Bool
-is_allocatable entries label v = list_any (bytes_eq v) (spelled (unblocked entries) label)
+-- whether the part of the table that is not blocked spells v too, and v may so be allocated
+abbrev pub is_allocatable : TableValue → List ℕ → List ℕ → Bool
+is_allocatable table label v = is_among (part_spelled Unblocked table label) v
 
 -- the disposition of a variant (RFC 7940, section 7.3)
 abbrev pub allocation : Bool → Disposition
@@ -123,7 +124,7 @@ disposition_in Three allocatable = Some (allocation allocatable)
 
 -- that of each variant of a label
 abbrev pub disposition : TableValue → List ℕ → List ℕ → Option Disposition
-disposition table label v = disposition_in table.version (is_allocatable table.entries label v)
+disposition table label v = disposition_in table.version (is_allocatable table label v)
 
 -- each of these variants up to the stop, with the disposition that it has, and then the end
 abbrev pub block_to : (List ℕ → Option Disposition) → Option (List ℕ) → List (List ℕ) → List Said
@@ -133,8 +134,8 @@ block_to field stop labels =
 -- the block of a label
 abbrev pub block : Settings → TableValue → List ℕ → List Said
 block o table label =
-    block_to (disposition table label) (stop_of (filter_of table) o (spelled table.entries label))
-    (variants_after (filter_of table) o (spelled table.entries label))
+    block_to (disposition table label) (stop_of (filter_of table) o (spelled table label))
+    (variants_after (filter_of table) o (spelled table label))
 
 -- ---- the least label from a text on
 
@@ -166,12 +167,12 @@ abbrev pub u_label_of : List ℕ → List ℕ
 u_label_of label = if has_ace_prefix label then label_or (u_label_answer label) label else label
 
 -- this for a label that can be cut into sources of the table; any other label is refused
-abbrev pub if_segmented : List Entry → List ℕ → List Said → LineAnswer
+abbrev pub if_segmented : TableValue → List ℕ → List Said → LineAnswer
 if_segmented table label said = if length (spelled table label) == 0 then Err NotInTable else Ok said
 
 -- the block of such a label
 abbrev pub listing_answer : Settings → TableValue → List ℕ → LineAnswer
-listing_answer o table label = if_segmented table.entries label (block o table label)
+listing_answer o table label = if_segmented table label (block o table label)
 
 -- the same, where the label may be registered; its first fault is reported before that
 abbrev pub variants_answer : Settings → TableValue → List ℕ → LineAnswer
@@ -180,7 +181,7 @@ variants_answer o table label = unless_fault (first_fault label) (listing_answer
 -- the least label from a text on that such a label spells
 abbrev pub least_answer : TableValue → List ℕ → List ℕ → LineAnswer
 least_answer table label text =
-    if_segmented table.entries label (Least (slice_get (candidates_from table.entries label text) 0) ∷ [])
+    if_segmented table label (Least (slice_get (candidates_from table label text) 0) ∷ [])
 
 -- the same of a request, whose label may be registered; its first fault is reported before that
 abbrev pub jump_answer : TableValue → List ℕ → LineAnswer
@@ -215,7 +216,7 @@ IsKept (Some registered) v = Contains registered v
 
 -- a registrable label, greater than the text of the settings, that arises by cutting the label into sources of the table and
 -- replacing each by itself or one of its variants; and which is registered, if the listing is kept to registered labels
-pub record IsListed (o : Settings) (table : List Entry) (label v : List ℕ) : Type 0 where
+pub record IsListed (o : Settings) (table : TableValue) (label v : List ℕ) : Type 0 where
   pub registrable : IsRegistrable v
   pub greater : IsBelow o.after v
   pub spelled : Spells table label v
@@ -223,7 +224,7 @@ pub record IsListed (o : Settings) (table : List Entry) (label v : List ℕ) : T
 
 -- a label of at most 63 code points that arises so, greater than the text, with no hopeless beginning, where the listing is
 -- whole: one that is kept to registered labels tries none
-pub record IsTried (o : Settings) (table : List Entry) (label v : List ℕ) : Type 0 where
+pub record IsTried (o : Settings) (table : TableValue) (label v : List ℕ) : Type 0 where
   pub short : length v ≤ 63
   pub hope : HasHope v
   pub greater : IsBelow o.after v
@@ -231,7 +232,7 @@ pub record IsTried (o : Settings) (table : List Entry) (label v : List ℕ) : Ty
   pub whole : o.registered ≡ None
 
 -- a label of at most 63 code points that arises so, greater than the text, hopeless or not, where the listing is whole
-pub record IsAhead (o : Settings) (table : List Entry) (label v : List ℕ) : Type 0 where
+pub record IsAhead (o : Settings) (table : TableValue) (label v : List ℕ) : Type 0 where
   pub short : length v ≤ 63
   pub greater : IsBelow o.after v
   pub spelled : Spells table label v
@@ -248,19 +249,19 @@ IsFieldOf Two allocatable field = IsAllocation allocatable field
 IsFieldOf Three allocatable field = IsAllocation allocatable field
 
 -- the disposition of v: none in version 1; in others it says that v may be allocated exactly where the label spells v by the
--- table without its blocked variants
+-- part of the table that is not blocked
 abbrev pub IsDisposition : TableValue → List ℕ → List ℕ → Option Disposition → Type 0
-IsDisposition table label v field = IsFieldOf table.version (Spells (unblocked table.entries) label v) field
+IsDisposition table label v field = IsFieldOf table.version (PartSpells Unblocked table label v) field
 
 -- the stop is the least of the limit-th label that is listed, the tries-th that is tried and the steps-th that is visited, as far as
 -- they exist; up to it each label that is listed is said, with its disposition, and then the end
 pub record IsBlock (o : Settings) (table : TableValue) (label : List ℕ) (said : List Said) : Type 0 where
   pub listed : List (List ℕ)
-  pub exactly : IsListOf (IsListed o table.entries label) listed
+  pub exactly : IsListOf (IsListed o table label) listed
   pub tried : List (List ℕ)
-  pub exactly_tried : IsListOf (IsTried o table.entries label) tried
+  pub exactly_tried : IsListOf (IsTried o table label) tried
   pub ahead : List (List ℕ)
-  pub exactly_ahead : IsListOf (IsAhead o table.entries label) ahead
+  pub exactly_ahead : IsListOf (IsAhead o table label) ahead
   pub stop : Option (List ℕ)
   pub stops : stop ≡ lesser_label (nth_if_given listed o.limit) (lesser_label (nth tried o.tries) (nth_if_given (visited (filter_of table).hopeless None ahead) o.steps))
   pub field : List ℕ → Option Disposition
@@ -269,8 +270,8 @@ pub record IsBlock (o : Settings) (table : TableValue) (label : List ℕ) (said 
 
 -- a label that can be cut into sources of the table is answered by its block, and any other is refused
 abbrev pub IsListing : Settings → TableValue → List ℕ → LineAnswer → Type 0
-IsListing o table label (Ok said) = HasSegmentation table.entries label × IsBlock o table label said
-IsListing o table label (Err refusal) = (¬ HasSegmentation table.entries label) × (refusal ≡ NotInTable)
+IsListing o table label (Ok said) = HasSegmentation table label × IsBlock o table label said
+IsListing o table label (Err refusal) = (¬ HasSegmentation table label) × (refusal ≡ NotInTable)
 
 -- ---- the least label from a text on, by what it has to be
 
@@ -280,12 +281,12 @@ IsLeast P text (Some v) = IsLeastFrom (IsCandidate P) text v
 IsLeast P text None = HasNoneFrom (IsCandidate P) text
 
 -- it is the least label of at most 63 code points that the label spells and that is no less than the text; or there is none
-abbrev pub IsJump : List Entry → List ℕ → List ℕ → Option (List ℕ) → Type 0
+abbrev pub IsJump : TableValue → List ℕ → List ℕ → Option (List ℕ) → Type 0
 IsJump table label text = IsLeast (Spells table label) text
 
 -- a request whose label can be cut into sources of the table is answered by that label, and any other is refused
 abbrev pub IsJumpAnswer : TableValue → List ℕ → LineAnswer → Type 0
 IsJumpAnswer table request (Ok said) =
-    HasSegmentation table.entries (requested_label request)
-    × ((least : Option (List ℕ)) × (said ≡ Least least ∷ []) × IsJump table.entries (requested_label request) (requested_text request) least)
-IsJumpAnswer table request (Err refusal) = (¬ HasSegmentation table.entries (requested_label request)) × (refusal ≡ NotInTable)
+    HasSegmentation table (requested_label request)
+    × ((least : Option (List ℕ)) × (said ≡ Least least ∷ []) × IsJump table (requested_label request) (requested_text request) least)
+IsJumpAnswer table request (Err refusal) = (¬ HasSegmentation table (requested_label request)) × (refusal ≡ NotInTable)

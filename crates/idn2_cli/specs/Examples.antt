@@ -3,11 +3,10 @@ use Rattle.std.specs.Prelude.{◌≡◌, ℕ, List, [], ◌∷◌, ◌++◌, tru
 use Rattle.idn_text.specs.Points.{utf8_of}
 use Rattle.idn_text.specs.Lines.{lines_of}
 use Rattle.idn_text.specs.declared.refusal.Refusal.TheVariants.{Disallowed, Empty, LineTooLong, NotUtf8, Syntax, WriteFault}
-use Rattle.variant_table.specs.declared.version.Version.TheVariants.{One, Two}
-use Rattle.ruleset_text.specs.Definitions.{nothing_defined}
-use Rattle.variant_table.specs.Entries.{Variant, Entry, TableValue, table_of}
+use Rattle.variant_table.specs.declared.version.Version.TheVariants.{Two}
+use Rattle.variant_table.specs.Entries.{Variant, TableValue, empty_table, plain_variant}
 use Rattle.variant_table.specs.Ranges.{range_entries}
-use Rattle.variant_list.specs.Examples.{allocatable, a_or_two, letter_or_hyphen}
+use Rattle.variant_list.specs.Examples.{allocatable, entry, a_or_two, letter_or_hyphen}
 use Rattle.idn2_options.specs.Settings.{Settings}
 use Rattle.idn2_options.specs.Examples.{plain_run}
 use Rattle.idn2_cli.specs.Transcript.{Output, Message, line_message, table_message, transcript, status_of, no_table}
@@ -46,34 +45,26 @@ pub record ExamplesOfLines (answer : List ℕ → LineAnswer) : Type 0 where
 abbrev pub listing : Option ℕ → ℕ → Settings
 listing limit tries = record (plain_run Variants []) { file = codes "t"; limit = limit; tries = tries }
 
--- a table of version 1
-abbrev pub version_one : List Entry → TableValue
-version_one entries = table_of One nothing_defined entries
-
 -- a variant that is blocked
 abbrev pub blocked : List ℕ → Variant
-blocked s = record { sequence = s; blocked = true }
-
--- an entry
-abbrev pub entry : List ℕ → List Variant → Entry
-entry source variants = record { source = source; outside = false; variants = variants }
+blocked s = plain_variant true s
 
 -- the table 0061..0063, 0078|!0079:007A of version 2
 abbrev pub y_or_z : TableValue
-y_or_z = table_of Two nothing_defined (range_entries false 0x61 0x63 ++ entry (codes "x") (blocked (codes "y") ∷ allocatable (codes "z") ∷ []) ∷ [])
+y_or_z = record (empty_table Two) { entries = range_entries false 0x61 0x63 ++ entry (codes "x") (blocked (codes "y") ∷ allocatable (codes "z") ∷ []) ∷ [] }
 
 -- the table 0061|!0062, 0061-0061|0062-0062 of version 2
 abbrev pub one_or_both : TableValue
-one_or_both = table_of Two nothing_defined (entry (codes "a") (blocked (codes "b") ∷ []) ∷ entry (codes "aa") (allocatable (codes "bb") ∷ []) ∷ [])
+one_or_both = record (empty_table Two) { entries = entry (codes "a") (blocked (codes "b") ∷ []) ∷ entry (codes "aa") (allocatable (codes "bb") ∷ []) ∷ [] }
 
 -- aa spells aa, aaa and aaaa; of the labels that aaa spells, the four that have a hyphen first are not tested, and one step
 -- goes over them; ay is blocked; and
 -- bb, which is blocked as two letters, is allocatable as one pair
 pub record ExamplesOfBlocks : Type 0 where
-  pub doubled : map said_line (block (listing None 1000000) (version_one a_or_two) (codes "aa")) ≡ codes "aa\taa" ∷ codes "aaa\taaa" ∷ codes "aaaa\taaaa" ∷ codes "#end 3" ∷ []
-  pub limited : map said_line (block (listing (Some 2) 1000000) (version_one a_or_two) (codes "aa")) ≡ codes "aa\taa" ∷ codes "aaa\taaa" ∷ codes "#stop 2 aaa" ∷ []
-  pub spent : map said_line (block (listing None 4) (version_one letter_or_hyphen) (codes "aaa")) ≡ codes "a-a\ta-a" ∷ codes "aaa\taaa" ∷ codes "#stop 2 aaa" ∷ []
-  pub stepped : map said_line (block (record (listing None 1000000) { steps = Some 3 }) (version_one letter_or_hyphen) (codes "aaa")) ≡ codes "a-a\ta-a" ∷ codes "#stop 1 a-a" ∷ []
+  pub doubled : map said_line (block (listing None 1000000) a_or_two (codes "aa")) ≡ codes "aa\taa" ∷ codes "aaa\taaa" ∷ codes "aaaa\taaaa" ∷ codes "#end 3" ∷ []
+  pub limited : map said_line (block (listing (Some 2) 1000000) a_or_two (codes "aa")) ≡ codes "aa\taa" ∷ codes "aaa\taaa" ∷ codes "#stop 2 aaa" ∷ []
+  pub spent : map said_line (block (listing None 4) letter_or_hyphen (codes "aaa")) ≡ codes "a-a\ta-a" ∷ codes "aaa\taaa" ∷ codes "#stop 2 aaa" ∷ []
+  pub stepped : map said_line (block (record (listing None 1000000) { steps = Some 3 }) letter_or_hyphen (codes "aaa")) ≡ codes "a-a\ta-a" ∷ codes "#stop 1 a-a" ∷ []
   pub y_blocked : map said_line (block (listing None 1000000) y_or_z (codes "ax")) ≡ codes "ax\tax\tallocatable" ∷ codes "ay\tay\tblocked" ∷ codes "az\taz\tallocatable" ∷ codes "#end 3" ∷ []
   pub allocatable_by_one_cutting : map said_line (block (listing None 1000000) one_or_both (codes "aa"))
       ≡ codes "aa\taa\tallocatable" ∷ codes "ab\tab\tblocked" ∷ codes "ba\tba\tblocked" ∷ codes "bb\tbb\tallocatable" ∷ codes "#end 4" ∷ []

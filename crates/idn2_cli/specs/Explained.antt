@@ -12,7 +12,7 @@ use Rattle.idn_cause.specs.declared.cause.Cause.TheVariants.{Point}
 use Rattle.idn_cause.specs.Causes.{cause_of}
 use Rattle.idn_cause.specs.ALabelCauses.{a_label_cause}
 use Rattle.idn_cause.specs.NameCauses.{name_cause, query_cause}
-use Rattle.variant_table.specs.Entries.{Entry, TableValue}
+use Rattle.variant_table.specs.Entries.{TableValue}
 use Rattle.variant_list.specs.Furthest.{furthest}
 use Rattle.idn2_options.specs.Settings.{Settings, tells_causes}
 use Rattle.idn2_options.specs.declared.command_line.mode.Mode.{Mode}
@@ -28,8 +28,8 @@ pub data Explained : Type 0 where
   ByLabel : Explained
   ByName : Explained
   ByQuery : (std3 : Bool) → Explained
-  ByTable : (entries : List Entry) → Explained
-  ByRequest : (entries : List Entry) → Explained
+  ByTable : (table : TableValue) → Explained
+  ByRequest : (table : TableValue) → Explained
   ByTest : Explained
 
 -- how a mode explains
@@ -37,8 +37,8 @@ abbrev pub explained_by_mode : Mode → Settings → TableValue → Explained
 explained_by_mode Lookup o table = ByQuery o.std3
 explained_by_mode Register o table = ByLabel
 explained_by_mode Decode o table = ByName
-explained_by_mode Variants o table = ByTable table.entries
-explained_by_mode Jump o table = ByRequest table.entries
+explained_by_mode Variants o table = ByTable table
+explained_by_mode Jump o table = ByRequest table
 explained_by_mode CheckTable o table = Unexplained
 
 -- the same, if causes are wanted
@@ -56,14 +56,14 @@ registered_cause label refusal =
     if has_ace_prefix label then option_map OfALabel (a_label_cause label refusal) else option_map OfLabel (cause_of label refusal)
 
 -- the code point behind those that sources of the table reach, of a label that is short enough to be registered (RFC 7940, section 8.1)
-abbrev pub outside_cause : List Entry → List ℕ → Option Cause
-outside_cause entries label =
-    if nat_le (length label) 63 then Some (Point (furthest entries label) (slice_index label (furthest entries label))) else None
+abbrev pub outside_cause : TableValue → List ℕ → Option Cause
+outside_cause table label =
+    if nat_le (length label) 63 then Some (Point (furthest table label) (slice_index label (furthest table label))) else None
 
 -- of a label by the sources of a table
-abbrev pub table_cause : List Entry → List ℕ → Refusal → Option Cause
-table_cause entries label NotInTable = outside_cause entries label
-table_cause entries label refusal = cause_of label refusal
+abbrev pub table_cause : TableValue → List ℕ → Refusal → Option Cause
+table_cause table label NotInTable = outside_cause table label
+table_cause table label refusal = cause_of label refusal
 
 -- of the code points of a line
 unfoldable pub points_cause : Explained → List ℕ → Refusal → Option LineCause
@@ -71,8 +71,8 @@ points_cause Unexplained points refusal = None
 points_cause ByLabel points refusal = registered_cause points refusal
 points_cause ByName points refusal = option_map OfName (name_cause points refusal)
 points_cause (ByQuery std3) points refusal = option_map OfQuery (query_cause (utf8_of points) std3 refusal)
-points_cause (ByTable entries) points refusal = option_map OfLabel (table_cause entries points refusal)
-points_cause (ByRequest entries) points refusal = option_map OfLabel (table_cause entries (requested_label points) refusal)
+points_cause (ByTable table) points refusal = option_map OfLabel (table_cause table points refusal)
+points_cause (ByRequest table) points refusal = option_map OfLabel (table_cause table (requested_label points) refusal)
 points_cause ByTest points refusal = option_map OfLabel (cause_of points refusal)
 
 -- the first byte that no UTF-8 goes on with (RFC 3629, section 3)

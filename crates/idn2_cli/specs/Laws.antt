@@ -5,11 +5,12 @@ use Rattle.idn_text.specs.declared.refusal.Refusal.{Refusal}
 use Rattle.idn_text.specs.declared.refusal.Refusal.TheVariants.{NotInTable}
 use Rattle.idn_cause.specs.declared.cause.Cause.TheVariants.{Point}
 use Rattle.variant_table.specs.declared.version.Version.TheVariants.{One}
-use Rattle.variant_table.specs.Entries.{Entry, TableValue, has_blocked, unblocked}
+use Rattle.variant_table.specs.Entries.{TableValue, has_blocked}
 use Rattle.variant_table.specs.WellFormed.{IsWellFormed}
 use Rattle.variant_list.specs.Furthest.{IsFurthest}
 use Rattle.variant_list.specs.Segmentations.{HasSegmentation}
-use Rattle.variant_list.specs.Spelling.{Spells}
+use Rattle.variant_list.specs.declared.part.Part.TheVariants.{Unblocked}
+use Rattle.variant_list.specs.Spelling.{PartSpells, Spells}
 use Rattle.answer_json.specs.declared.block.Disposition.TheVariants.{Allocatable}
 use Rattle.idn_text.specs.Lines.{Numbered}
 use Rattle.idn2_options.specs.Settings.{Settings}
@@ -24,11 +25,11 @@ use Rattle.idn2_cli.specs.declared.refusals.cause.LineCause.TheVariants.{Byte}
 -- blocked, each of a label's variants may be; and what may be allocated is a variant of the label
 pub record DispositionsAreTold : Type 0 where
   pub unstated : (table : TableValue) (label v : List ℕ) → table.version ≡ One → disposition table label v ≡ None
-  pub itself : (table : TableValue) (label : List ℕ) → table.version ≢ One → IsWellFormed table.entries → HasSegmentation table.entries label →
+  pub itself : (table : TableValue) (label : List ℕ) → table.version ≢ One → IsWellFormed table.entries → HasSegmentation table label →
       disposition table label label ≡ Some Allocatable
   pub none_blocked : (table : TableValue) (label v : List ℕ) → table.version ≢ One → IsWellFormed table.entries → has_blocked table.entries ≡ false →
-      Spells table.entries label v → disposition table label v ≡ Some Allocatable
-  pub variants : (entries : List Entry) (label v : List ℕ) → Spells (unblocked entries) label v → Spells entries label v
+      Spells table label v → disposition table label v ≡ Some Allocatable
+  pub variants : (table : TableValue) (label v : List ℕ) → PartSpells Unblocked table label v → Spells table label v
 
 -- what messages go on with. Without the option nothing, so that they are as ever; of bytes that are no UTF-8 the first that no UTF-8
 -- goes on with (RFC 3629, section 3) is told, and of a label that can't be cut into sources the code point behind the furthest place
@@ -37,8 +38,8 @@ pub record CausesAreTold : Type 0 where
   pub unexplained : (body : Option (List ℕ)) (refusal : Refusal) → tail_text refusal (body_cause Unexplained body refusal) ≡ []
   pub plain : (number : ℕ) (refusal : Refusal) → refused_message number refusal [] ≡ line_message number refusal
   pub byte : (bytes : List ℕ) (place : ℕ) → IsValidUpTo bytes place → bad_byte bytes ≡ Byte place (slice_index bytes place)
-  pub outside : (entries : List Entry) (label : List ℕ) (place : ℕ) → IsWellFormed entries → length label ≤ 63 → IsFurthest entries label place →
-      table_cause entries label NotInTable ≡ Some (Point place (slice_index label place))
+  pub outside : (table : TableValue) (label : List ℕ) (place : ℕ) → IsWellFormed table.entries → length label ≤ 63 → IsFurthest table label place →
+      table_cause table label NotInTable ≡ Some (Point place (slice_index label place))
 
 -- a run writes what it says piece by piece, each statement in the form that is asked for. What it says is the same in both forms:
 -- with objects, what it says with `--explain`. So is its status, and with objects nothing goes to the messages

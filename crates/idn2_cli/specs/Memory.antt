@@ -48,7 +48,7 @@ ServesWithoutMemory mode o (Err fault) line = AnswersWithoutMemory mode o line
 -- the bytes of a line of which the listing, once begun, goes on without memory: no label that it may test needs any; what else is
 -- answered does so whatever the line is
 abbrev pub GoesOnWithoutMemory : Mode → Settings → TableGiven → List ℕ → Type 0
-GoesOnWithoutMemory Variants o (Ok table) line = All NeedsNoMemory (tested_after (filter_of table) o (spelled table.entries (chars line)))
+GoesOnWithoutMemory Variants o (Ok table) line = All NeedsNoMemory (tested_after (filter_of table) o (spelled table (chars line)))
 GoesOnWithoutMemory mode o given line = Unit {0}
 
 -- the body of a line; one that is too long is refused without memory

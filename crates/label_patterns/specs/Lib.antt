@@ -4,5 +4,6 @@ pub mod Places
 pub mod Trees
 pub mod Matches
 pub mod Rules
+pub mod Conditions
 pub mod Laws
 pub mod inner

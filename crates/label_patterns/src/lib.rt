@@ -2,6 +2,7 @@
 //! has at most 63 code points, so a set of its places is one word.
 #![tactic(auto)]
 
+mod condition;
 mod contexts;
 mod demands;
 mod ends;
@@ -13,6 +14,7 @@ mod seen_label;
 mod span;
 mod starts;
 
+pub use condition::{Condition, ConditionKind};
 pub use contexts::{holds, places_before, places_behind};
 pub use demands::occurs;
 pub use laws::{before_stays, matches_are_parts, matches_stay};

@@ -1,45 +1,52 @@
 -- Worked examples of the definitions, by computation.
-use Rattle.std.specs.Prelude.{◌≡◌, ℕ, List, [], ◌∷◌, ◌++◌, Some, None, true, false, codes}
+use Rattle.std.specs.Prelude.{◌≡◌, ℕ, List, [], ◌∷◌, ◌++◌, Some, None, true, codes}
 use Rattle.idn_text.specs.declared.refusal.Refusal.TheVariants.{Empty, LineTooLong, NotUtf8}
-use Rattle.variant_table.specs.Entries.{Entry}
-use Rattle.variant_list.specs.Examples.{allocatable}
+use Rattle.variant_table.specs.declared.version.Version.TheVariants.{Two}
+use Rattle.variant_table.specs.Entries.{Entry, TableValue, empty_table, plain_variant}
+use Rattle.variant_list.specs.Examples.{allocatable, entry}
 use Rattle.variant_list.specs.Spelled.{spelled}
 use Rattle.registered_labels.specs.Collisions.{collisions}
 use Rattle.registered_labels.specs.Texts.{line_refusal}
 
 -- a source without variants, and one with a single variant
 abbrev pub plain : List ℕ → Entry
-plain source = record { source = source; outside = false; variants = [] }
+plain source = entry source []
 
 abbrev pub pair : List ℕ → List ℕ → Entry
-pair source variant = record { source = source; outside = false; variants = allocatable variant ∷ [] }
+pair source variant = entry source (allocatable variant ∷ [])
+
+-- a table of version 2
+abbrev pub version_two : List Entry → TableValue
+version_two entries = record (empty_table Two) { entries = entries }
 
 -- ß
 abbrev pub sharp : List ℕ
 sharp = 223 ∷ []
 
 -- the letters of a few words, with ss and ß as variants of each other
-abbrev pub german : List Entry
+abbrev pub german : TableValue
 german =
-    plain (codes "a") ∷ plain (codes "e") ∷ plain (codes "h") ∷ plain (codes "m") ∷ plain (codes "r") ∷ plain (codes "s") ∷ plain (codes "t") ∷ plain (codes "u")
-    ∷ pair (codes "ss") sharp ∷ pair sharp (codes "ss") ∷ []
+    version_two
+    (plain (codes "a") ∷ plain (codes "e") ∷ plain (codes "h") ∷ plain (codes "m") ∷ plain (codes "r") ∷ plain (codes "s") ∷ plain (codes "t") ∷ plain (codes "u")
+    ∷ pair (codes "ss") sharp ∷ pair sharp (codes "ss") ∷ [])
 
 -- o with 0 as a blocked variant, and ss with ß
-abbrev pub alike : List Entry
+abbrev pub alike : TableValue
 alike =
-    plain (codes "0") ∷ record { source = codes "o"; outside = false; variants = record { sequence = codes "0"; blocked = true } ∷ [] } ∷ plain (codes "s") ∷ plain (codes "t")
-    ∷ pair (codes "ss") sharp ∷ []
+    version_two
+    (plain (codes "0") ∷ entry (codes "o") (plain_variant true (codes "0") ∷ []) ∷ plain (codes "s") ∷ plain (codes "t")
+    ∷ pair (codes "ss") sharp ∷ [])
 
 -- two characters for China, of which the second has two forms
-abbrev pub han : List Entry
-han = plain (0x4E2D ∷ []) ∷ pair (0x56FD ∷ []) (0x570B ∷ []) ∷ pair (0x570B ∷ []) (0x56FD ∷ []) ∷ []
+abbrev pub han : TableValue
+han = version_two (plain (0x4E2D ∷ []) ∷ pair (0x56FD ∷ []) (0x570B ∷ []) ∷ pair (0x570B ∷ []) (0x56FD ∷ []) ∷ [])
 
 -- a with b as a variant, and b without a: a gap
-abbrev pub gap : List Entry
-gap = pair (codes "a") (codes "b") ∷ plain (codes "b") ∷ []
+abbrev pub gap : TableValue
+gap = version_two (pair (codes "a") (codes "b") ∷ plain (codes "b") ∷ [])
 
 -- the registered labels after a text that a label spells under a table
-abbrev pub found : List Entry → List ℕ → List (List ℕ) → List ℕ → List (List ℕ)
+abbrev pub found : TableValue → List ℕ → List (List ℕ) → List ℕ → List (List ℕ)
 found table label registered after = collisions (spelled table label) registered after
 
 abbrev pub strasse : List ℕ

@@ -3,9 +3,9 @@ use Rattle.std.proofs.Common.{◌≡◌, ℕ, ◌<◌, Bool, true, false, List, 
 use Rattle.std.specs.Prelude.{IsTrue}
 use Rattle.std.specs.List.{AllByRecursion}
 use Rattle.idn_text.specs.Points.{is_scalar_value, point_of_hex}
-use Rattle.ruleset_text.specs.declared.entry_form.Condition.{Condition}
-use Rattle.ruleset_text.specs.declared.entry_form.ConditionKind.{ConditionKind}
-use Rattle.ruleset_text.specs.declared.entry_form.ConditionKind.TheVariants as condition
+use Rattle.ruleset_text.specs.declared.entry_form.NamedCondition.{NamedCondition}
+use Rattle.label_patterns.specs.declared.condition.ConditionKind.{ConditionKind}
+use Rattle.label_patterns.specs.declared.condition.ConditionKind.TheVariants as condition
 use Rattle.ruleset_text.specs.Canonical.{point_text}
 use Rattle.ruleset_text.specs.Entries.{Mapped}
 use Rattle.ruleset_text.specs.EntryText.{mark_text, sequence_text, last_text, names_text, tags_text, condition_word, condition_text, mapped_text, variants_text, entry_text, IsSequence, MayHaveTags, HasRule, IsMapped, IsForm}
@@ -73,7 +73,7 @@ tags_have : (marked : Bool) (tags : List (List ℕ)) → MayHaveTags marked tags
 tags_have marked [] may others rest e are = are
 tags_have marked (tag ∷ tags) may others rest e are = (refl, names_have tags tag may.1 others rest e are)
 
-condition_has : (condition : Option Condition) → HasRule condition → Has (condition_text condition) (condition_words condition)
+condition_has : (condition : Option NamedCondition) → HasRule condition → Has (condition_text condition) (condition_words condition)
 condition_has None has others rest e are = are
 condition_has (Some c) has others rest e are = by_kind c.kind
   where
@@ -90,7 +90,7 @@ mark_has : (marked : Bool) (others : List Word) (rest : List ℕ) → AreWords o
 mark_has true others rest are = (refl, are)
 mark_has false others rest are = are
 
-condition_begins : (condition : Option Condition) (rest : List ℕ) → begins_in_word rest ≡ false → begins_in_word (condition_text condition ++ rest) ≡ false
+condition_begins : (condition : Option NamedCondition) (rest : List ℕ) → begins_in_word rest ≡ false → begins_in_word (condition_text condition ++ rest) ≡ false
 condition_begins None rest e = e
 condition_begins (Some c) rest e = by_kind c.kind
   where

@@ -3,9 +3,9 @@ use Rattle.std.proofs.Common.{◌≡◌, ℕ, Bool, true, false, not, ◌&&◌, 
 use Rattle.std.specs.Prelude.{is_some, codes}
 use Rattle.std.specs.List.{AllByRecursion, list_all}
 use Rattle.idn_text.specs.Points.{point_of_hex}
-use Rattle.ruleset_text.specs.declared.entry_form.Condition.{Condition}
-use Rattle.ruleset_text.specs.declared.entry_form.ConditionKind.{ConditionKind}
-use Rattle.ruleset_text.specs.declared.entry_form.ConditionKind.TheVariants as condition
+use Rattle.ruleset_text.specs.declared.entry_form.NamedCondition.{NamedCondition}
+use Rattle.label_patterns.specs.declared.condition.ConditionKind.{ConditionKind}
+use Rattle.label_patterns.specs.declared.condition.ConditionKind.TheVariants as condition
 use Rattle.ruleset_text.specs.declared.entry_place.EntryParts.{EntryParts}
 use Rattle.ruleset_text.specs.declared.entry_reading.EntryWord.{EntryWord}
 use Rattle.ruleset_text.specs.declared.entry_reading.EntryWord.TheVariants as word
@@ -170,7 +170,7 @@ module _ (n : Bool) (parts : EntryParts) where
   tags_have [] rest = refl
   tags_have (tag ∷ tags) rest = refl
 
-  condition_have : (o : Option Condition) (rest : List Word) → have false (condition_words o ++ rest) ≡ (not (is_some o) && have false rest)
+  condition_have : (o : Option NamedCondition) (rest : List Word) → have false (condition_words o ++ rest) ≡ (not (is_some o) && have false rest)
   condition_have None rest = refl
   condition_have (Some c) rest = by c.kind
     where

@@ -4,9 +4,9 @@ use Rattle.std.specs.Prelude.{codes}
 use Rattle.std.specs.List.{AllByRecursion}
 use Rattle.std.proofs.lemmas.Bool.{le-leb}
 use Rattle.idn_text.specs.Points.{point_of_hex}
-use Rattle.ruleset_text.specs.declared.entry_form.Condition.{Condition}
-use Rattle.ruleset_text.specs.declared.entry_form.ConditionKind.{ConditionKind}
-use Rattle.ruleset_text.specs.declared.entry_form.ConditionKind.TheVariants as condition
+use Rattle.ruleset_text.specs.declared.entry_form.NamedCondition.{NamedCondition}
+use Rattle.label_patterns.specs.declared.condition.ConditionKind.{ConditionKind}
+use Rattle.label_patterns.specs.declared.condition.ConditionKind.TheVariants as condition
 use Rattle.ruleset_text.specs.declared.entry_reading.EntryWord.{EntryWord}
 use Rattle.ruleset_text.specs.declared.entry_reading.EntryWord.TheVariants as word
 use Rattle.ruleset_text.specs.declared.entry_reading.Phase.{Phase}
@@ -169,7 +169,7 @@ rule_taken condition.Unless s rule name lexeme is =
     let t : State = record s { current = record s.current { condition = Some (record { kind = condition.Unless; rule = rule }) }; phase = phase.Rule } in
     ap (step_by phase.Unless s) is ∙ ap (λ b. cond b (Some t) None) name
 
-condition_goes : (done : List Mapped) (last : Option ℕ) (marked : Bool) (points : List ℕ) (tags : List (List ℕ)) (condition : Option Condition) → HasRule condition
+condition_goes : (done : List Mapped) (last : Option ℕ) (marked : Bool) (points : List ℕ) (tags : List (List ℕ)) (condition : Option NamedCondition) → HasRule condition
     → Goes (at done last marked points tags None) (condition_words condition) (at done last marked points tags condition)
 condition_goes done last marked points tags None has = refl
 condition_goes done last marked points tags (Some c) has =
@@ -193,7 +193,7 @@ mark_takes_point : (marked : Bool) → TakesPoint (phase_after_mark marked)
 mark_takes_point true = tt
 mark_takes_point false = tt
 
-parts_go : (done : List Mapped) (last : Option ℕ) (marked : Bool) (c : ℕ) (points : List ℕ) (tags : List (List ℕ)) (condition : Option Condition)
+parts_go : (done : List Mapped) (last : Option ℕ) (marked : Bool) (c : ℕ) (points : List ℕ) (tags : List (List ℕ)) (condition : Option NamedCondition)
     → MayHaveTags marked tags → HasRule condition → MayEnd done last (c ∷ points)
     → Goes (before done) (mapped_words (part marked (c ∷ points) tags condition) last) (at done last marked (c ∷ points) tags condition)
 parts_go done last marked c points tags condition may has ends =
@@ -226,7 +226,7 @@ last_ends done last m is ends = (after done last m, mapped_goes done last m is e
 bar_read : (m : Mapped) → step (after [] None m) (codes "|") ≡ Some (before (m ∷ []))
 bar_read m = by_parts m.tags m.condition
   where
-    by_parts : (tags : List (List ℕ)) (condition : Option Condition) → step_by (phase_of None tags condition) (after [] None m) (codes "|") ≡ Some (before (m ∷ []))
+    by_parts : (tags : List (List ℕ)) (condition : Option NamedCondition) → step_by (phase_of None tags condition) (after [] None m) (codes "|") ≡ Some (before (m ∷ []))
     by_parts tags (Some c) = refl
     by_parts (tag ∷ tags) None = refl
     by_parts [] None = refl
@@ -234,7 +234,7 @@ bar_read m = by_parts m.tags m.condition
 colon_read : (first : Mapped) (done : List Mapped) (m : Mapped) → step (after (first ∷ done) None m) (codes ":") ≡ Some (before ((first ∷ done) ++ m ∷ []))
 colon_read first done m = by_parts m.tags m.condition
   where
-    by_parts : (tags : List (List ℕ)) (condition : Option Condition) → step_by (phase_of None tags condition) (after (first ∷ done) None m) (codes ":") ≡ Some (before ((first ∷ done) ++ m ∷ []))
+    by_parts : (tags : List (List ℕ)) (condition : Option NamedCondition) → step_by (phase_of None tags condition) (after (first ∷ done) None m) (codes ":") ≡ Some (before ((first ∷ done) ++ m ∷ []))
     by_parts tags (Some c) = refl
     by_parts (tag ∷ tags) None = refl
     by_parts [] None = refl

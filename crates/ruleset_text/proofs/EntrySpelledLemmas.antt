@@ -4,9 +4,9 @@ use Rattle.std.specs.Prelude.{IsTrue, nat_le}
 use Rattle.std.specs.List.{AllByRecursion}
 use Rattle.std.proofs.lemmas.Bool.{eqb-true, leb-true}
 use Rattle.idn_text.specs.Points.{is_scalar_value}
-use Rattle.ruleset_text.specs.declared.entry_form.Condition.{Condition}
-use Rattle.ruleset_text.specs.declared.entry_form.ConditionKind.{ConditionKind}
-use Rattle.ruleset_text.specs.declared.entry_form.ConditionKind.TheVariants as condition
+use Rattle.ruleset_text.specs.declared.entry_form.NamedCondition.{NamedCondition}
+use Rattle.label_patterns.specs.declared.condition.ConditionKind.{ConditionKind}
+use Rattle.label_patterns.specs.declared.condition.ConditionKind.TheVariants as condition
 use Rattle.ruleset_text.specs.declared.entry_reading.EntryWord.{EntryWord}
 use Rattle.ruleset_text.specs.declared.entry_reading.EntryWord.TheVariants as word
 use Rattle.ruleset_text.specs.declared.entry_reading.Phase.TheVariants as phase
@@ -150,7 +150,7 @@ point_next [] marked (c ∷ d ∷ points) known w t word.Range is h =
 point_next (first ∷ done) marked (c ∷ points) known w t word.Range is h = no_state t h
 point_next done marked (c ∷ points) known w t e is h = points_next done None marked (c ∷ points) known w t e is h
 
-end_next : (done : List Mapped) (last : Option ℕ) (marked : Bool) (points : List ℕ) (tags : List (List ℕ)) (condition : Option Condition) (known : IsKnown done last (part marked points tags condition)) (w : List ℕ) (t : State)
+end_next : (done : List Mapped) (last : Option ℕ) (marked : Bool) (points : List ℕ) (tags : List (List ℕ)) (condition : Option NamedCondition) (known : IsKnown done last (part marked points tags condition)) (w : List ℕ) (t : State)
     → step_by (phase_of last tags condition) (at done last marked points tags condition) w ≡ Some t → Next (AtEnd done last (part marked points tags condition) known) w t
 end_next done last marked points tags (Some c) known w t h = rule_next done last (part marked points tags (Some c)) known w t (word_of w) (spelled w) h
 end_next done last marked points (tag ∷ tags) None known w t h = tag_next done last marked points tag tags known w t (word_of w) (spelled w) h
@@ -270,7 +270,7 @@ kind_step condition.Unless s w = refl
 kind_next : (kind : ConditionKind) (done : List Mapped) (last : Option ℕ) (marked : Bool) (points : List ℕ) (tags : List (List ℕ)) (known : IsKnown done last (part marked points tags None)) (w : List ℕ) (t : State)
     → at_rule (state_at (AtKind kind done last marked points tags known)) kind w ≡ Some t → Next (AtKind kind done last marked points tags known) w t
 kind_next kind done last marked points tags known w t h =
-    let c : Condition = record { kind = kind; rule = w } in
+    let c : NamedCondition = record { kind = kind; rule = w } in
     let parts = state_if (is_name w) (after done last (part marked points tags (Some c))) t h in
     let more : IsKnown done last (part marked points tags (Some c)) =
     record { all = known.all; mapped = record { sequence = known.mapped.sequence; tags = known.mapped.tags; condition = parts.0 }; ends = known.ends } in

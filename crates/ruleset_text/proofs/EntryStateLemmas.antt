@@ -3,9 +3,9 @@ use Rattle.std.proofs.Common.{◌≡◌, ℕ, ◌≤◌, Bool, true, false, cond
 use Rattle.std.specs.Prelude.{IsTrue, bytes_eq, codes}
 use Rattle.std.proofs.lemmas.Slice.Eq.{bytes_eq-Decides}
 use Rattle.idn_text.specs.Points.{is_scalar_value}
-use Rattle.ruleset_text.specs.declared.entry_form.Condition.{Condition}
-use Rattle.ruleset_text.specs.declared.entry_form.ConditionKind.{ConditionKind}
-use Rattle.ruleset_text.specs.declared.entry_form.ConditionKind.TheVariants as condition
+use Rattle.ruleset_text.specs.declared.entry_form.NamedCondition.{NamedCondition}
+use Rattle.label_patterns.specs.declared.condition.ConditionKind.{ConditionKind}
+use Rattle.label_patterns.specs.declared.condition.ConditionKind.TheVariants as condition
 use Rattle.ruleset_text.specs.declared.entry_reading.EntryWord.{EntryWord}
 use Rattle.ruleset_text.specs.declared.entry_reading.EntryWord.TheVariants as word
 use Rattle.ruleset_text.specs.declared.entry_reading.Phase.{Phase}
@@ -16,11 +16,11 @@ use Rattle.ruleset_text.specs.inner.EntrySteps.{State, nothing, word_of, is_comp
 -- ---- states
 
 -- the source or variant of these parts
-abbrev pub part : Bool → List ℕ → List (List ℕ) → Option Condition → Mapped
+abbrev pub part : Bool → List ℕ → List (List ℕ) → Option NamedCondition → Mapped
 part marked points tags condition = record { marked = marked; points = points; tags = tags; condition = condition }
 
 -- what is read last of a source or a variant that is complete
-abbrev pub phase_of : Option ℕ → List (List ℕ) → Option Condition → Phase
+abbrev pub phase_of : Option ℕ → List (List ℕ) → Option NamedCondition → Phase
 phase_of last tags (Some c) = phase.Rule
 phase_of last (tag ∷ tags) None = phase.Tag
 phase_of (Some c) [] None = phase.Last
@@ -30,7 +30,7 @@ abbrev pub kind_phase : ConditionKind → Phase
 kind_phase condition.When = phase.When
 kind_phase condition.Unless = phase.Unless
 
-abbrev pub at : List Mapped → Option ℕ → Bool → List ℕ → List (List ℕ) → Option Condition → State
+abbrev pub at : List Mapped → Option ℕ → Bool → List ℕ → List (List ℕ) → Option NamedCondition → State
 at done last marked points tags condition = record { done = done; current = part marked points tags condition; last = last; phase = phase_of last tags condition }
 
 -- before a source or a variant, and after a complete one
@@ -45,7 +45,7 @@ abbrev pub MayEnd : List Mapped → Option ℕ → List ℕ → Type 0
 MayEnd done None points = Unit {0}
 MayEnd done (Some c) points = (done ≡ []) × IsTrue (is_scalar_value c) × ((first : ℕ) × (points ≡ first ∷ []) × (first ≤ c))
 
-complete : (last : Option ℕ) (tags : List (List ℕ)) (condition : Option Condition) → is_complete (phase_of last tags condition) ≡ true
+complete : (last : Option ℕ) (tags : List (List ℕ)) (condition : Option NamedCondition) → is_complete (phase_of last tags condition) ≡ true
 complete last tags (Some c) = refl
 complete last (tag ∷ tags) None = refl
 complete (Some c) [] None = refl

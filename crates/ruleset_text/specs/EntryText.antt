@@ -2,9 +2,9 @@
 use Rattle.std.specs.Prelude.{◌≡◌, ℕ, ◌≤◌, Bool, true, false, Option, Some, None, IsTrue, List, [], ◌∷◌, ◌++◌, codes}
 use Rattle.std.specs.List.{AllByRecursion}
 use Rattle.idn_text.specs.Points.{is_scalar_value}
-use Rattle.ruleset_text.specs.declared.entry_form.Condition.{Condition}
-use Rattle.ruleset_text.specs.declared.entry_form.ConditionKind.{ConditionKind}
-use Rattle.ruleset_text.specs.declared.entry_form.ConditionKind.TheVariants.{When, Unless}
+use Rattle.ruleset_text.specs.declared.entry_form.NamedCondition.{NamedCondition}
+use Rattle.label_patterns.specs.declared.condition.ConditionKind.{ConditionKind}
+use Rattle.label_patterns.specs.declared.condition.ConditionKind.TheVariants.{When, Unless}
 use Rattle.ruleset_text.specs.Canonical.{point_text}
 use Rattle.ruleset_text.specs.Entries.{Mapped}
 use Rattle.ruleset_text.specs.Names.{is_name, AreNames}
@@ -40,7 +40,7 @@ abbrev pub condition_word : ConditionKind → List ℕ
 condition_word When = codes " when "
 condition_word Unless = codes " unless "
 
-abbrev pub condition_text : Option Condition → List ℕ
+abbrev pub condition_text : Option NamedCondition → List ℕ
 condition_text None = []
 condition_text (Some c) = condition_word c.kind ++ c.rule
 
@@ -72,7 +72,7 @@ abbrev pub MayHaveTags : Bool → List (List ℕ) → Type 0
 MayHaveTags marked [] = Unit {0}
 MayHaveTags marked (tag ∷ tags) = (marked ≡ false) × AreNames (tag ∷ tags)
 
-abbrev pub HasRule : Option Condition → Type 0
+abbrev pub HasRule : Option NamedCondition → Type 0
 HasRule None = Unit {0}
 HasRule (Some c) = IsTrue (is_name c.rule)
 

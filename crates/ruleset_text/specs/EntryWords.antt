@@ -1,9 +1,9 @@
 -- The words of an entry or of a range, and the lines that spell it: the grammar of docs/NOTATION.md.
 use Rattle.std.specs.Prelude.{◌≡◌, ℕ, Bool, true, false, Option, Some, None, List, [], ◌∷◌, ◌++◌, codes}
 use Rattle.idn_text.specs.Points.{point_of_hex}
-use Rattle.ruleset_text.specs.declared.entry_form.Condition.{Condition}
-use Rattle.ruleset_text.specs.declared.entry_form.ConditionKind.{ConditionKind}
-use Rattle.ruleset_text.specs.declared.entry_form.ConditionKind.TheVariants as condition
+use Rattle.ruleset_text.specs.declared.entry_form.NamedCondition.{NamedCondition}
+use Rattle.label_patterns.specs.declared.condition.ConditionKind.{ConditionKind}
+use Rattle.label_patterns.specs.declared.condition.ConditionKind.TheVariants as condition
 use Rattle.ruleset_text.specs.Entries.{Mapped, EntryForm}
 use Rattle.ruleset_text.specs.EntryText.{IsForm}
 use Rattle.ruleset_text.specs.Lexemes.{lexemes}
@@ -85,7 +85,7 @@ abbrev pub kind_word : ConditionKind → Word
 kind_word condition.When = When
 kind_word condition.Unless = Unless
 
-abbrev pub condition_words : Option Condition → List Word
+abbrev pub condition_words : Option NamedCondition → List Word
 condition_words None = []
 condition_words (Some c) = kind_word c.kind ∷ Name c.rule ∷ []
 

@@ -1,18 +1,10 @@
 //! What a line of an entry or of a range says.
 use crate::names::Name;
-
-/// Where the rule of a condition has to hold.
-#[derive(Clone, Copy, Debug, PartialEq, Eq)]
-pub enum ConditionKind {
-    /// It holds.
-    When,
-    /// It doesn't hold.
-    Unless,
-}
+use label_patterns::ConditionKind;
 
 /// Where a source or a variant may be used, by the name of a rule.
 #[derive(Drop)]
-pub struct Condition {
+pub struct NamedCondition {
     pub kind: ConditionKind,
     pub rule: Name,
 }
@@ -23,7 +15,7 @@ pub struct Mapped {
     pub marked: bool,
     pub points: Vec<u32>,
     pub tags: Vec<Name>,
-    pub condition: Option<Condition>,
+    pub condition: Option<NamedCondition>,
 }
 
 /// An entry: its source, then its variants. Or a range: a source of one code point, and the last code point.

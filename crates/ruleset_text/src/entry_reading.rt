@@ -7,11 +7,12 @@ ghost use Rattle.ruleset_text.specs.EntryWords.{IsEntryLine, point_of};
 ghost use Rattle.ruleset_text.specs.inner.EntrySteps as steps;
 ghost use Rattle.ruleset_text.specs.inner.EntryTaken.{taken_as};
 
-use crate::entry_form::{Condition, ConditionKind, EntryForm, Mapped};
+use crate::entry_form::{EntryForm, Mapped, NamedCondition};
 use crate::lexemes::next_lexeme;
 use crate::names::{Name, is_name, is_one_of};
 use crate::tokens::without_prefix;
 use idn_text::hex_point;
+use label_patterns::ConditionKind;
 use std::alloc::{AllocError, Global};
 use std::mem::replace;
 
@@ -248,7 +249,7 @@ impl EntryState {
             return Ok(false);
         }
         let rule = Name::copied(alloc, lexeme)?;
-        self.current.condition = Some(Condition { kind, rule });
+        self.current.condition = Some(NamedCondition { kind, rule });
         self.phase = Phase::Rule;
         Ok(true)
     }

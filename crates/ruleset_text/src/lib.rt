@@ -33,7 +33,7 @@ pub use classes::{has_bad_end, has_bad_point};
 pub use definition::{Definition, DemandKind, push_definition};
 pub use definition_reading::{read_contexts, read_definition, read_demand, read_name};
 pub use definitions::{Definitions, Demand};
-pub use entry_form::{Condition, ConditionKind, EntryForm, Mapped};
+pub use entry_form::{EntryForm, Mapped, NamedCondition};
 pub use entry_laws::{
     canonical_entries_are_read_back, reading_an_entry_is_exact, wrong_places_are_told,
 };

@@ -7,7 +7,7 @@ use Rattle.std.specs.Ordering.{is_lt, MatchOrdering}
 use Rattle.std.proofs.lemmas.Bool.{false≢true}
 use Rattle.variant_table.specs.WellFormed.{IsWellFormed}
 use Rattle.variant_list.specs.Labels.{IsBelow, IsListOf, label_cmp}
-use Rattle.variant_table.specs.Entries.{Entry}
+use Rattle.variant_table.specs.Entries.{TableValue}
 use Rattle.variant_list.specs.Spelled.{spelled}
 use Rattle.variant_list.specs.Spelling.{Spells}
 use Rattle.variant_list.specs.Variants.{fits_label, in_order}
@@ -16,7 +16,7 @@ use Rattle.variant_list.proofs.ListedLemmas.{IsListOf-same}
 use Rattle.variant_list.proofs.OrderLemmas.{below_both, ranked_labels}
 use Rattle.variant_list.proofs.RisingLists.{IsRising-filter, Contains-filter}
 use Rattle.variant_list.proofs.VariantLists.{IsRising-in_order, Contains-in_order, both, joined}
-use Rattle.variant_list.proofs.RecursionLemmas.{spelled-Spells}
+use Rattle.variant_list.proofs.SpelledByLemmas.{spelled-Spells}
 use Rattle.variant_list.proofs.ListingLemmas.{fits_label-short}
 use Rattle.variant_list.proofs.CandidateLemmas.{short-fits_label, first_is_least, none_is_empty}
 
@@ -71,10 +71,10 @@ pub among_from-in_order : (labels others : List (List ℕ)) (text : List ℕ) �
 among_from-in_order labels others text same = ap (filter (λ v. fits_label v && not (is_lt (label_cmp v text)))) same
 
 -- the same of what a label spells under a table
-pub candidates_from-IsListOf : (table : List Entry) (label text : List ℕ) → IsWellFormed table → IsListOf (λ v. IsCandidate (Spells table label) v × IsFrom text v) (candidates_from table label text)
+pub candidates_from-IsListOf : (table : TableValue) (label text : List ℕ) → IsWellFormed table.entries → IsListOf (λ v. IsCandidate (Spells table label) v × IsFrom text v) (candidates_from table label text)
 candidates_from-IsListOf table label text formed =
     IsListOf-same (λ v. IsCandidate (Contains (spelled table label)) v × IsFrom text v) (λ v. IsCandidate (Spells table label) v × IsFrom text v) (candidates_from table label text)
-    (λ v. let same = spelled-Spells table label v formed.entries in (
+    (λ v. let same = spelled-Spells table label v formed in (
       λ i. (record { spelled = same.0 i.0.spelled; short = i.0.short }, i.1),
       λ i. (record { spelled = same.1 i.0.spelled; short = i.0.short }, i.1),
     )) (among_from-IsListOf (spelled table label) text)

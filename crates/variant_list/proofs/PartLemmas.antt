@@ -1,27 +1,18 @@
--- What a label spells under a part of a table, and that this is what it spells under the table, or under the table without its
--- blocked variants.
+-- The replacements that a part of a table has, and that its part that is not blocked spells what the table without its blocked
+-- variants spells.
 use Rattle.std.proofs.Common.{◌≡◌, ◌<◌, ◌≤◌, ℕ, zero, suc, Bool, true, false, List, [], ◌∷◌, ◌++◌, length, Some, slice_get, refl, sym, ap, ◌∙◌, subst, inl, inr, ◌↔◌, map, arith}
 use Rattle.std.specs.Prelude.{not, filter, if◌then◌else◌}
 use Rattle.std.specs.Option.{option_map}
 use Rattle.std.specs.List.{Contains, AllByRecursion, flat_map}
 use Rattle.std.proofs.lemmas.List.{length-map}
 use Rattle.std.proofs.lemmas.Option.{slice_get-map}
-use Rattle.variant_table.specs.Entries.{Entry, Variant, replacements, marks, sequences_in, unblocked, unblocked_entry}
+use Rattle.variant_table.specs.Entries.{Entry, TableValue, Variant, replacements, marks, sequences_in, unblocked, unblocked_entry}
 use Rattle.variant_list.specs.declared.part.Part.{Part}
 use Rattle.variant_list.specs.declared.part.Part.TheVariants.{Whole, Unblocked}
-use Rattle.variant_list.specs.Segmentations.{HasSegmentation}
-use Rattle.variant_list.specs.Spelling.{JoinsReplacements, Spells}
-use Rattle.variant_list.specs.Parts.{marked, part_has, replacements_in, JoinsReplacementsIn, PartSpells}
+use Rattle.variant_list.specs.Laws.{without_blocked}
+use Rattle.variant_list.specs.Spelling.{JoinsReplacements, PartSpells, Spells}
+use Rattle.variant_list.specs.Parts.{marked, part_has, replacements_in}
 use Rattle.variant_list.proofs.ListMembers.{Contains-head, Contains-later, Contains-none, Contains-cases, Contains-map}
-
--- ---- piece by piece
-
-pub PartSpells-nothing : (part : Part) (table : List Entry) → PartSpells part table [] []
-PartSpells-nothing part table = ([], record { of_table = tt; inside = tt; joined = refl }, refl)
-
-pub PartSpells-piece : (part : Part) (table : List Entry) (e : Entry) (later r w : List ℕ) → Contains table e → e.outside ≡ false → Contains (replacements_in part e) r → PartSpells part table later w → PartSpells part table (e.source ++ later) (r ++ w)
-PartSpells-piece part table e later r w in_table inside replaces s =
-    (e ∷ s.0, record { of_table = (in_table, s.1.of_table); inside = (inside, s.1.inside); joined = ap (λ z. e.source ++ z) s.1.joined }, (r, w, replaces, s.2, refl))
 
 -- ---- the whole table
 
@@ -32,15 +23,12 @@ all_kept (v ∷ vs) = ap (λ ws. v ∷ ws) (all_kept vs)
 pub replacements_in-Whole : (e : Entry) → replacements_in Whole e ≡ replacements e
 replacements_in-Whole e = ap sequences_in (all_kept (marked e))
 
-joins-Whole : (segmentation : List Entry) (v : List ℕ) → JoinsReplacementsIn Whole segmentation v ↔ JoinsReplacements segmentation v
-joins-Whole [] v = (λ h. h, λ h. h)
-joins-Whole (e ∷ segmentation) v = (
-  λ h. (h.0, h.1, subst (λ rs. Contains rs h.0) (replacements_in-Whole e) h.2, (joins-Whole segmentation h.1).0 h.3, h.4),
-  λ h. (h.0, h.1, subst (λ rs. Contains rs h.0) (sym (replacements_in-Whole e)) h.2, (joins-Whole segmentation h.1).1 h.3, h.4),
-)
+-- the whole table has each source, and so has its part that is not blocked
+pub has_source-Whole : (e : Entry) → Contains (replacements_in Whole e) e.source
+has_source-Whole e = Contains-head e.source (sequences_in (filter (part_has Whole) e.variants))
 
-pub PartSpells-Whole : (table : List Entry) (label v : List ℕ) → PartSpells Whole table label v ↔ Spells table label v
-PartSpells-Whole table label v = (λ s. (s.0, s.1, (joins-Whole s.0 v).0 s.2), λ s. (s.0, s.1, (joins-Whole s.0 v).1 s.2))
+pub has_source-Unblocked : (e : Entry) → Contains (replacements_in Unblocked e) e.source
+has_source-Unblocked e = Contains-head e.source (sequences_in (filter (part_has Unblocked) e.variants))
 
 -- ---- a part has no more
 
@@ -71,11 +59,12 @@ pub replacements_in-few : (part : Part) (e : Entry) → length (replacements_in 
 replacements_in-few part e =
     omega (arith, length-map (filter (part_has part) (marked e)) (λ (v : Variant). v.sequence), kept-few part (marked e), length-map (marked e) (λ (v : Variant). v.sequence))
 
-joins-of_part : (part : Part) (segmentation : List Entry) (v : List ℕ) → JoinsReplacementsIn part segmentation v → JoinsReplacements segmentation v
+joins-of_part : (part : Part) (segmentation : List Entry) (v : List ℕ) → JoinsReplacements part segmentation v → JoinsReplacements Whole segmentation v
 joins-of_part part [] v h = h
-joins-of_part part (e ∷ segmentation) v h = (h.0, h.1, replacement-of_part part e h.0 h.2, joins-of_part part segmentation h.1 h.3, h.4)
+joins-of_part part (e ∷ segmentation) v h =
+    (h.0, h.1, subst (λ rs. Contains rs h.0) (sym (replacements_in-Whole e)) (replacement-of_part part e h.0 h.2), joins-of_part part segmentation h.1 h.3, h.4)
 
-pub Spells-of_part : (part : Part) (table : List Entry) (label v : List ℕ) → PartSpells part table label v → Spells table label v
+pub Spells-of_part : (part : Part) (table : TableValue) (label v : List ℕ) → PartSpells part table label v → Spells table label v
 Spells-of_part part table label v s = (s.0, s.1, joins-of_part part s.0 v s.2)
 
 -- ---- the table without its blocked variants
@@ -84,54 +73,48 @@ unblocked_sources : (segmentation : List Entry) → flat_map (λ (e : Entry). e.
 unblocked_sources [] = refl
 unblocked_sources (e ∷ segmentation) = ap (λ xs. e.source ++ xs) (unblocked_sources segmentation)
 
-unblocked_of_table : (table segmentation : List Entry) → AllByRecursion (Contains table) segmentation → AllByRecursion (Contains (unblocked table)) (unblocked segmentation)
-unblocked_of_table table [] h = tt
-unblocked_of_table table (e ∷ segmentation) h = ((Contains-map unblocked_entry table (unblocked_entry e)).1 (e, h.0, refl), unblocked_of_table table segmentation h.1)
+unblocked_of_table : (entries segmentation : List Entry) → AllByRecursion (Contains entries) segmentation → AllByRecursion (Contains (unblocked entries)) (unblocked segmentation)
+unblocked_of_table entries [] h = tt
+unblocked_of_table entries (e ∷ segmentation) h = ((Contains-map unblocked_entry entries (unblocked_entry e)).1 (e, h.0, refl), unblocked_of_table entries segmentation h.1)
 
 unblocked_inside : (segmentation : List Entry) → AllByRecursion (λ (e : Entry). e.outside ≡ false) segmentation → AllByRecursion (λ (e : Entry). e.outside ≡ false) (unblocked segmentation)
 unblocked_inside [] h = tt
 unblocked_inside (e ∷ segmentation) h = (h.0, unblocked_inside segmentation h.1)
 
-unblocked_joins : (segmentation : List Entry) (v : List ℕ) → JoinsReplacementsIn Unblocked segmentation v → JoinsReplacements (unblocked segmentation) v
+unblocked_joins : (segmentation : List Entry) (v : List ℕ) → JoinsReplacements Unblocked segmentation v → JoinsReplacements Whole (unblocked segmentation) v
 unblocked_joins [] v h = h
-unblocked_joins (e ∷ segmentation) v h = (h.0, h.1, h.2, unblocked_joins segmentation h.1 h.3, h.4)
+unblocked_joins (e ∷ segmentation) v h =
+    (h.0, h.1, subst (λ rs. Contains rs h.0) (sym (replacements_in-Whole (unblocked_entry e))) h.2, unblocked_joins segmentation h.1 h.3, h.4)
 
 -- entries of the table without its blocked variants come from entries of the table
-pub record IsFrom (table segmentation : List Entry) (v : List ℕ) : Type 0 where
-  pub entries : List Entry
-  pub of_table : AllByRecursion (Contains table) entries
-  pub inside : AllByRecursion (λ (e : Entry). e.outside ≡ false) entries
-  pub sources : flat_map (λ (e : Entry). e.source) entries ≡ flat_map (λ (e : Entry). e.source) segmentation
-  pub joins : JoinsReplacementsIn Unblocked entries v
+pub record IsFrom (entries segmentation : List Entry) (v : List ℕ) : Type 0 where
+  pub given : List Entry
+  pub of_table : AllByRecursion (Contains entries) given
+  pub inside : AllByRecursion (λ (e : Entry). e.outside ≡ false) given
+  pub sources : flat_map (λ (e : Entry). e.source) given ≡ flat_map (λ (e : Entry). e.source) segmentation
+  pub joins : JoinsReplacements Unblocked given v
 
-from_unblocked : (table segmentation : List Entry) (v : List ℕ) → AllByRecursion (Contains (unblocked table)) segmentation → AllByRecursion (λ (e : Entry). e.outside ≡ false) segmentation → JoinsReplacements segmentation v → IsFrom table segmentation v
-from_unblocked table [] v of inside joins = record { entries = []; of_table = tt; inside = tt; sources = refl; joins = joins }
-from_unblocked table (e ∷ segmentation) v of inside joins =
-    let g = (Contains-map unblocked_entry table e).0 of.0 in
+from_unblocked : (entries segmentation : List Entry) (v : List ℕ) → AllByRecursion (Contains (unblocked entries)) segmentation → AllByRecursion (λ (e : Entry). e.outside ≡ false) segmentation
+    → JoinsReplacements Whole segmentation v → IsFrom entries segmentation v
+from_unblocked entries [] v of inside joins = record { given = []; of_table = tt; inside = tt; sources = refl; joins = joins }
+from_unblocked entries (e ∷ segmentation) v of inside joins =
+    let g = (Contains-map unblocked_entry entries e).0 of.0 in
     let same : unblocked_entry g.0 ≡ e = sym g.2 in
-    let rest = from_unblocked table segmentation joins.1 of.1 inside.1 joins.3 in
+    let rest = from_unblocked entries segmentation joins.1 of.1 inside.1 joins.3 in
+    let replaces : Contains (replacements e) joins.0 = replacement-of_part Whole e joins.0 joins.2 in
     record {
-      entries = g.0 ∷ rest.entries;
+      given = g.0 ∷ rest.given;
       of_table = (g.1, rest.of_table);
       inside = (ap (λ (x : Entry). x.outside) same ∙ inside.0, rest.inside);
-      sources = ap (λ (x : Entry). x.source ++ flat_map (λ (y : Entry). y.source) rest.entries) same ∙ ap (λ xs. e.source ++ xs) rest.sources;
-      joins = (joins.0, joins.1, subst (λ (x : Entry). Contains (replacements x) joins.0) g.2 joins.2, rest.joins, joins.4);
+      sources = ap (λ (x : Entry). x.source ++ flat_map (λ (y : Entry). y.source) rest.given) same ∙ ap (λ xs. e.source ++ xs) rest.sources;
+      joins = (joins.0, joins.1, subst (λ (x : Entry). Contains (replacements x) joins.0) g.2 replaces, rest.joins, joins.4);
     }
 
-pub PartSpells-Unblocked : (table : List Entry) (label v : List ℕ) → PartSpells Unblocked table label v ↔ Spells (unblocked table) label v
+pub PartSpells-Unblocked : (table : TableValue) (label v : List ℕ) → PartSpells Unblocked table label v ↔ Spells (without_blocked table) label v
 PartSpells-Unblocked table label v = (
-  λ s. (unblocked s.0, record { of_table = unblocked_of_table table s.0 s.1.of_table; inside = unblocked_inside s.0 s.1.inside; joined = unblocked_sources s.0 ∙ s.1.joined }, unblocked_joins s.0 v s.2),
-  λ s. (let f = from_unblocked table s.0 v s.1.of_table s.1.inside s.2 in (f.entries, record { of_table = f.of_table; inside = f.inside; joined = f.sources ∙ s.1.joined }, f.joins)),
+  λ s. (unblocked s.0, record { of_table = unblocked_of_table table.entries s.0 s.1.of_table; inside = unblocked_inside s.0 s.1.inside; joined = unblocked_sources s.0 ∙ s.1.joined }, unblocked_joins s.0 v s.2),
+  λ s. (let f = from_unblocked table.entries s.0 v s.1.of_table s.1.inside s.2 in (f.given, record { of_table = f.of_table; inside = f.inside; joined = f.sources ∙ s.1.joined }, f.joins)),
 )
-
--- no source is blocked, so a label spells itself
-sources_are_joined : (segmentation : List Entry) → JoinsReplacementsIn Unblocked segmentation (flat_map (λ (e : Entry). e.source) segmentation)
-sources_are_joined [] = refl
-sources_are_joined (e ∷ segmentation) =
-    (e.source, flat_map (λ (x : Entry). x.source) segmentation, Contains-head e.source (sequences_in (filter (part_has Unblocked) e.variants)), sources_are_joined segmentation, refl)
-
-pub PartSpells-itself : (table : List Entry) (label : List ℕ) → HasSegmentation table label → PartSpells Unblocked table label label
-PartSpells-itself table label h = (h.0, h.1, subst (JoinsReplacementsIn Unblocked h.0) h.1.joined (sources_are_joined h.0))
 
 -- ---- which replacements a part has, by their numbers
 

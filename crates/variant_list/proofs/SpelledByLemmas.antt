@@ -1,26 +1,27 @@
--- The list that computes has exactly what uses spell.
-use Rattle.std.proofs.Common.{◌≡◌, ℕ, zero, suc, ◌+◌, ◌-◌, ◌≤◌, ◌<◌, List, [], ◌∷◌, ◌++◌, length, drop, map, get_or, refl, sym, ap, subst, ◌↔◌, arith, length-append}
+-- The list that computes has exactly what uses spell, and that of a label what the label spells.
+use Rattle.std.proofs.Common.{◌≡◌, ℕ, zero, suc, ◌+◌, ◌-◌, ◌≤◌, ◌<◌, List, [], ◌∷◌, ◌++◌, length, drop, map, get_or, refl, sym, ap, ◌∙◌, subst, ◌↔◌, arith, length-append}
 use Rattle.std.specs.Prelude.{slice_index_or}
-use Rattle.std.specs.List.{Contains}
+use Rattle.std.specs.List.{Contains, flat_map, sum_by}
 use Rattle.std.proofs.lemmas.List.{length-drop, length-map}
-use Rattle.std.proofs.lemmas.List.Sums.{sum_by-le}
+use Rattle.std.proofs.lemmas.List.Sums.{sum_by-le, sum_by-cons}
 use Rattle.std.proofs.lemmas.List.Elements.{All-contains, Contains-get_or}
-use Rattle.variant_table.specs.Entries.{Entry, Variant, replacements}
+use Rattle.variant_table.specs.Entries.{Entry, TableValue, Variant, replacements}
 use Rattle.variant_table.specs.Places.{AreEntriesAt, entries_at}
 use Rattle.variant_table.specs.WellFormed.{IsSequence, IsEntry, IsWellFormed}
 use Rattle.variant_table.proofs.BeginningLemmas.{entries_are_at}
 use Rattle.variant_list.specs.declared.part.Part.{Part}
+use Rattle.variant_list.specs.declared.part.Part.TheVariants.{Whole}
 use Rattle.variant_list.specs.Parts.{replacements_in}
+use Rattle.variant_list.specs.Spelled.{part_spelled, spelled}
+use Rattle.variant_list.specs.Spelling.{PartSpells, Spells}
 use Rattle.variant_list.specs.Segmentations.{inside_of}
 use Rattle.variant_list.specs.inner.LabelSets.{SomeGives}
 use Rattle.variant_list.specs.inner.Layouts.{UseSpells}
 use Rattle.variant_list.specs.Uses.{Use, IsUse, AreUses, UsesSpell, spelled_from_each, spelled_by, use_of, uses_of_entry, uses_at, uses_from, uses_of}
 use Rattle.variant_list.proofs.ListMembers.{Contains-head, Contains-one, Contains-map, Contains-flat_map}
-use Rattle.variant_list.proofs.SpellingLemmas.{source_is_sequence}
-use Rattle.variant_list.proofs.UsesLemmas.{nothing_spelled, UsesSpell-here, uses_at-IsUseOf, length-uses_from}
+use Rattle.variant_list.proofs.UsesLemmas.{nothing_spelled, UsesSpell-here, UsesSpell-label, IsUseOf-fits, uses_at-IsUseOf, length-uses_from}
 use Rattle.variant_list.proofs.InsideLemmas.{Contains-inside, inside-few}
 use Rattle.variant_list.proofs.PartLemmas.{replacement-of_part, replacements_in-few}
-use Rattle.variant_list.proofs.UseCounts.{length-of_flat_map}
 
 -- from a later place on
 spelled_from-each : (uses : List (List Use)) (k : ℕ) → k ≤ length uses → slice_index_or (spelled_from_each uses) k [] ≡ spelled_by (drop k uses)
@@ -62,31 +63,37 @@ spelled_within (suc n) (here ∷ later) v are short =
 pub spelled_by-UsesSpell : (uses : List (List Use)) (v : List ℕ) → AreUses uses → Contains (spelled_by uses) v ↔ UsesSpell uses v
 spelled_by-UsesSpell uses v are = spelled_within (length uses) uses v are (omega arith)
 
+length-of_flat_map : {X Y : Type 0} (f : X → List Y) (h : X → ℕ) → ((x : X) → length (f x) ≡ h x) → (xs : List X) → length (flat_map f xs) ≡ sum_by h xs
+length-of_flat_map f h each [] = refl
+length-of_flat_map f h each (x ∷ xs) =
+    length-append (f x) (flat_map f xs) ∙ ap (λ n. n + length (flat_map f xs)) (each x) ∙ ap (λ n. h x + n) (length-of_flat_map f h each xs) ∙ sym (sum_by-cons h x xs)
+
 -- the uses under a well-formed table end within the label, and are few
-module _ (part : Part) (table : List Entry) (label : List ℕ) (formed : IsWellFormed table) where
+module _ (part : Part) (table : TableValue) (label : List ℕ) (formed : IsWellFormed table.entries) where
   is_use : (place n : ℕ) (u : Use) → place + suc n ≡ length label → Contains (uses_at part table label place) u → IsUse (length (uses_from part table label (suc place) n) + 1) u
   is_use place n u whole m =
       let is = (uses_at-IsUseOf part table label place u).0 m in
-      let here = ((entries_are_at table label place formed).members is.entry).0 is.at in
-      let each : IsEntry is.entry = All-contains IsEntry table is.entry formed.entries here.0 in
+      let here = ((entries_are_at table.entries label place formed).members is.entry).0 is.at in
+      let fit = IsUseOf-fits part table label formed place u is in
+      let each : IsEntry is.entry = All-contains IsEntry table.entries is.entry formed.entries here.0 in
       let one : IsSequence u.points = All-contains IsSequence (replacements is.entry) u.points each.sequences (replacement-of_part part is.entry u.points is.replaces) in
       record {
-        some = omega (arith, source_is_sequence table is.entry formed.entries here.0, is.covers);
-        within = omega (arith, is.covers, ap length here.1.1, length-append is.entry.source here.1.0, length-drop place label, whole, length-uses_from part table label n (suc place));
+        some = fit.0;
+        within = omega (arith, fit.1, whole, length-uses_from part table label n (suc place));
         filled = one.filled;
         short = one.short;
       }
 
   few_uses : (place : ℕ) → length (uses_at part table label place) ≤ 136
   few_uses place =
-      let all : List Entry = entries_at table label place in
+      let all : List Entry = entries_at table.entries label place in
       let here : List Entry = inside_of all in
-      let at : AreEntriesAt table label place all = entries_are_at table label place formed in
+      let at : AreEntriesAt table.entries label place all = entries_are_at table.entries label place formed in
       let of_entry : (e : Entry) → IsEntry e → length (uses_of_entry part e) ≤ 17 = λ (e : Entry) is.
       omega (arith, length-map (replacements_in part e) (use_of e), replacements_in-few part e, length-map e.variants (λ (v : Variant). v.sequence), is.few) in
       let each : (k : ℕ) (d : Entry) → k < length here → length (uses_of_entry part (get_or here k d)) ≤ 17 = λ (k : ℕ) (d : Entry) l.
       (let e : Entry = get_or here k d in
-      of_entry e (All-contains IsEntry table e formed.entries ((at.members e).0 ((Contains-inside all e).0 (Contains-get_or here k d l)).0).0)) in
+      of_entry e (All-contains IsEntry table.entries e formed.entries ((at.members e).0 ((Contains-inside all e).0 (Contains-get_or here k d l)).0).0)) in
       omega (arith, sum_by-le (λ (e : Entry). length (uses_of_entry part e)) 17 here each, length-of_flat_map (uses_of_entry part) (λ (e : Entry). length (uses_of_entry part e)) (λ (e : Entry). refl) here, inside-few all, at.few)
 
   AreUses-from : (place n : ℕ) → place + n ≡ length label → AreUses (uses_from part table label place n)
@@ -99,3 +106,14 @@ module _ (part : Part) (table : List Entry) (label : List ℕ) (formed : IsWellF
 
   pub AreUses-label : AreUses (uses_of part table label)
   AreUses-label = AreUses-from 0 (length label) (omega arith)
+
+-- ---- what a label spells, as it computes
+
+pub part_spelled-PartSpells : (part : Part) (table : TableValue) (label v : List ℕ) → IsWellFormed table.entries → Contains (part_spelled part table label) v ↔ PartSpells part table label v
+part_spelled-PartSpells part table label v formed =
+    let listed = spelled_by-UsesSpell (uses_of part table label) v (AreUses-label part table label formed) in
+    let same = UsesSpell-label part table label formed v in
+    (λ m. same.0 (listed.0 m), λ s. listed.1 (same.1 s))
+
+pub spelled-Spells : (table : TableValue) (label v : List ℕ) → IsWellFormed table.entries → Contains (spelled table label) v ↔ Spells table label v
+spelled-Spells = part_spelled-PartSpells Whole

@@ -36,7 +36,7 @@ tested_are_listed hopeless table label after formed =
     IsListOf-same (IsVariant test table label after) (IsTested hopeless table label after) (tested hopeless table label after) (λ v. (
       λ i. let parts = both (fits_label v) (has_hope hopeless v) i.accepted in record { spelled = i.spelled; short = fits_label-short v parts.0; greater = i.greater; hope = hope-gives hopeless v parts.1 },
       λ t. record { accepted = joined (fits_label v) (has_hope hopeless v) (short-fits_label v t.short) (ap is_none (shortest_hopeless-none hopeless v t.hope)); spelled = t.spelled; greater = t.greater },
-    )) (variants-AreVariants test table label after formed.entries)
+    )) (variants-AreVariants test table label after formed)
 
 turned : (a t g : Bool) → (a ≡ true → t ≡ true) → (a && g) ≡ ((t && g) && a)
 turned true true true h = refl

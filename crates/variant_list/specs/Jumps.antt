@@ -2,7 +2,7 @@
 use Rattle.std.specs.Prelude.{◌≡◌, ◌⊎◌, ◌&&◌, ℕ, ◌*◌, ◌≤◌, Bool, not, List, length, take, filter, Contains}
 use Rattle.std.specs.Bool.{OnTrue, OnFalse}
 use Rattle.std.specs.Ordering.{is_lt}
-use Rattle.variant_table.specs.Entries.{Entry}
+use Rattle.variant_table.specs.Entries.{TableValue}
 use Rattle.variant_list.specs.Labels.{IsBelow, label_cmp}
 use Rattle.variant_list.specs.Spelled.{spelled}
 use Rattle.variant_list.specs.Variants.{fits_label, in_order}
@@ -32,7 +32,7 @@ abbrev pub candidates_among_from : List (List ℕ) → List ℕ → List (List �
 candidates_among_from labels text = filter (λ v. fits_label v && not (is_lt (label_cmp v text))) (in_order labels)
 
 -- the candidates that are no less than the text, in label order, as a list that computes
-abbrev pub candidates_from : List Entry → List ℕ → List ℕ → List (List ℕ)
+abbrev pub candidates_from : TableValue → List ℕ → List ℕ → List (List ℕ)
 candidates_from table label text = candidates_among_from (spelled table label) text
 
 -- the cursor went to the least candidate that is no less than the text; or there is none, and it goes on after the first 63 code

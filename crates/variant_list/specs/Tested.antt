@@ -1,14 +1,14 @@
 -- The labels that a listing tests: the candidates that have hope.
 use Rattle.std.specs.Prelude.{ℕ, ◌&&◌, Bool, List, filter, None}
 use Rattle.std.specs.Ordering.{is_lt}
-use Rattle.variant_table.specs.Entries.{Entry}
+use Rattle.variant_table.specs.Entries.{TableValue}
 use Rattle.variant_list.specs.Beginnings.{has_hope, dead_ends}
 use Rattle.variant_list.specs.Labels.{label_cmp}
 use Rattle.variant_list.specs.Variants.{fits_label, variants, variants_among, candidates_among}
 
 -- the tested labels after the given text: the candidates of which neither a beginning nor the whole is
 -- hopeless
-abbrev pub tested : (List ℕ → Bool) → List Entry → List ℕ → List ℕ → List (List ℕ)
+abbrev pub tested : (List ℕ → Bool) → TableValue → List ℕ → List ℕ → List (List ℕ)
 tested hopeless = variants (λ v. fits_label v && has_hope hopeless v)
 
 -- of some labels those

@@ -1,7 +1,7 @@
 -- The uses of a label: what may stand in the place of which of its code points. The net of a label is laid out from them.
 use Rattle.std.specs.Prelude.{◌≡◌, ℕ, zero, suc, ◌+◌, ◌-◌, ◌≤◌, List, [], ◌∷◌, ◌++◌, length, drop, map, sum_by, slice_index_or, Contains, All}
 use Rattle.std.specs.List.{flat_map}
-use Rattle.variant_table.specs.Entries.{Entry}
+use Rattle.variant_table.specs.Entries.{Entry, TableValue}
 use Rattle.variant_table.specs.Places.{entries_at}
 use Rattle.variant_list.specs.declared.part.Part.{Part}
 use Rattle.variant_list.specs.Parts.{replacements_in}
@@ -60,6 +60,10 @@ points_in = sum_by (λ u. length u.points)
 abbrev pub use_edges : List (List Use) → ℕ
 use_edges = sum_by points_in
 
+-- how many places their net has: before, between and after the code points of the label, and between those of each use
+abbrev pub use_places : List (List Use) → ℕ
+use_places uses = length uses + 1 + use_edges uses - use_count uses
+
 -- ---- the uses of a label under a part of a table
 
 -- a replacement of the entry may stand in the place of its source
@@ -70,13 +74,13 @@ abbrev pub uses_of_entry : Part → Entry → List Use
 uses_of_entry part e = map (use_of e) (replacements_in part e)
 
 -- those at a place of the label: of the entries there that are not outside
-abbrev pub uses_at : Part → List Entry → List ℕ → ℕ → List Use
-uses_at part table label place = flat_map (uses_of_entry part) (inside_of (entries_at table label place))
+abbrev pub uses_at : Part → TableValue → List ℕ → ℕ → List Use
+uses_at part table label place = flat_map (uses_of_entry part) (inside_of (entries_at table.entries label place))
 
 -- those at so many places, from this one on
-abbrev pub uses_from : Part → List Entry → List ℕ → ℕ → ℕ → List (List Use)
+abbrev pub uses_from : Part → TableValue → List ℕ → ℕ → ℕ → List (List Use)
 uses_from part table label place zero = []
 uses_from part table label place (suc n) = uses_at part table label place ∷ uses_from part table label (suc place) n
 
-abbrev pub uses_of : Part → List Entry → List ℕ → List (List Use)
+abbrev pub uses_of : Part → TableValue → List ℕ → List (List Use)
 uses_of part table label = uses_from part table label 0 (length label)

@@ -13,7 +13,7 @@ use variant_table::Table;
 #[cold]
 pub fn furthest(alloc: Global, table: &Table, label: &[u32]) -> Result<usize, AllocError>
     requires { length label.now ≤ 63 }
-    ensures { IfOk result (λ place. place ≡ furthest table.now.entries label.now) }
+    ensures { IfOk result (λ place. place ≡ furthest table.now label.now) }
 {
     // The length is read for its contract alone: a table is well-formed.
     let _entries = table.len();
@@ -32,7 +32,7 @@ fn is_segmented(alloc: Global, table: &Table, label: &[u32]) -> Result<bool, All
     requires some { 1 ≤ length label.now }
     requires short { length label.now ≤ 63 }
     ensures well_formed { IsWellFormed table.now.entries }
-    ensures segmented { IfOk result (λ segmented. IsTrue segmented ↔ HasSegmentation table.now.entries label.now) }
+    ensures segmented { IfOk result (λ segmented. IsTrue segmented ↔ HasSegmentation table.now label.now) }
 {
     match Net::build(alloc, table, label) {
         Ok(_) => Ok(true),

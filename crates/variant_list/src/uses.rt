@@ -22,7 +22,7 @@ pub(crate) fn lay_out(
     part: Part,
     label: &[u32],
 ) -> Result<Graph, AllocError>
-    ensures net { IfOk result (IsNetOf (uses_of part table.now.entries label.now)) }
+    ensures net { IfOk result (IsNetOf (uses_of part table.now label.now)) }
     ensures well_formed { IsWellFormed table.now.entries }
 {
     // The length is read for its contract alone: a table is well-formed, so no source is empty.
@@ -46,7 +46,7 @@ fn add_uses_at(
     requires sound { IsSound draft.old }
     requires place { place < length label.now }
     requires count { place + length draft.old.places ≡ length label.now }
-    ensures { OnOk result (HasTaken draft.old (uses_at part table.now.entries label.now place) draft.new) }
+    ensures { OnOk result (HasTaken draft.old (uses_at part table.now label.now place) draft.new) }
 {
     for entry in table.entries_at(label, place) {
         // A label that is asked about has no outside source.

@@ -32,7 +32,7 @@ use Rattle.variant_table.specs.declared.version.Notation.{Notation}
 use Rattle.variant_table.specs.declared.version.Notation.TheVariants.{Table, Ruleset}
 use Rattle.variant_table.specs.declared.version.Version.TheVariants.{One, Two, Three}
 use Rattle.variant_table.specs.DefinitionLines.{if_read, keyword_in, with_behind}
-use Rattle.variant_table.specs.Entries.{Variant, Entry, IsOfVersion, TableValue, empty_table, table_of, whole, sequences_in, replacements}
+use Rattle.variant_table.specs.Entries.{Variant, Entry, IsOfVersion, IsPlain, TableValue, empty_table, entry_from, source_of, table_of, whole, sequences_in, replacements}
 use Rattle.variant_table.specs.Forms.{is_plain, is_bare, has_form, variant_of, mapped_of}
 use Rattle.variant_table.specs.Canonical.{canonical_line, canonical_text, version_line, head_text, table_text}
 use Rattle.variant_table.specs.WellFormed.{AreOfVersion, IsSequence as IsTableSequence, IsEntry, IsTable}
@@ -40,6 +40,7 @@ use Rattle.variant_table.specs.Limits.{line_limit, text_limit}
 use Rattle.variant_table.specs.Versions.{version_of, head_of, body_of, size_of, is_version_line, notation_of}
 use Rattle.variant_table.specs.Texts.{LineSpells, LineAdds, LinesSpell, AreLinesOf, IsTextOf}
 use Rattle.variant_table.proofs.ConditionLemmas.{AreScalars, sequences_scalar, sequences_filled}
+use Rattle.variant_table.proofs.EntryLemmas.{same_variant}
 use Rattle.variant_table.proofs.LimitLemmas.{line_limit-least}
 use Rattle.variant_table.proofs.SizeLemmas.{size_of-cons}
 use Rattle.variant_table.proofs.WritingLemmas.{further_text, sequence_text-is, length-sequence_text, variant_text, further_variants_text, variants_text, canonical_line-is}
@@ -63,9 +64,15 @@ entry_form e h =
 pub canonical_line_spells : (e : Entry) → IsEntry e → IsEntryLine (record { mapped = map mapped_of (whole e); last = None }) (canonical_line e)
 canonical_line_spells e h = entry_spelled (record { mapped = map mapped_of (whole e); last = None }) (canonical_line e) (form_back (map mapped_of (whole e)) None (entry_form e h))
 
-variants_back : (variants : List Variant) → map variant_of (map mapped_of variants) ≡ variants
-variants_back [] = refl
-variants_back (v ∷ variants) = ap (λ vs. v ∷ vs) (variants_back variants)
+variants_back : (variants : List Variant) → AllByRecursion IsPlain variants → map variant_of (map mapped_of variants) ≡ variants
+variants_back [] h = refl
+variants_back (v ∷ variants) h =
+    ap (λ w. w ∷ map variant_of (map mapped_of variants)) (same_variant (variant_of (mapped_of v)) v refl refl (sym h.0.0) (sym h.0.1)) ∙ ap (λ vs. v ∷ vs) (variants_back variants h.1)
+
+all_plain_of : (v : Version) (e : Entry) → IsOfVersion v e → AllByRecursion IsPlain (whole e)
+all_plain_of One e h = recursion_from_All IsPlain (whole e) h.2
+all_plain_of Two e h = recursion_from_All IsPlain (whole e) h.1
+all_plain_of Three e h = recursion_from_All IsPlain (whole e) h
 
 -- ---- its version
 
@@ -79,7 +86,7 @@ all_plain (v ∷ variants) = all_plain variants
 
 of_version : (v : Version) (e : Entry) → IsOfVersion v e → has_form v (record { mapped = map mapped_of (whole e); last = None }) ≡ true
 of_version One e h = ap (λ b. b && true) (all_unmarked (whole e) (h.0, recursion_from_All (λ v. v.blocked ≡ false) e.variants h.1))
-of_version Two e h = ap (λ b. b && not e.outside) (all_plain (whole e)) ∙ ap not h
+of_version Two e h = ap (λ b. b && not e.outside) (all_plain (whole e)) ∙ ap not h.0
 of_version Three e h = all_plain (whole e)
 
 -- ---- the bytes of a line: no line feed, no carriage return
@@ -107,7 +114,7 @@ variants_in_line (v ∷ variants) = ((refl, refl), joined (variant_text v) (furt
 line_in_line : (e : Entry) → AreInLine (canonical_line e)
 line_in_line e =
     subst AreInLine (sym (canonical_line-is e))
-    (joined (mark_text e.outside ++ sequence_text e.source) (variants_text e.variants) (variant_in_line (record { sequence = e.source; blocked = e.outside })) (variants_in_line e.variants))
+    (joined (mark_text e.outside ++ sequence_text e.source) (variants_text e.variants) (variant_in_line (source_of e)) (variants_in_line e.variants))
 
 no_feed_line : (line : List ℕ) → AreInLine line → HasNoFeed line
 no_feed_line line h = All-weaker IsInLine (λ b. b ≢ 10) (λ b other is. cc (eq-eqb b 10 is, other.0)) line (All-from_recursion IsInLine line h)
@@ -181,7 +188,7 @@ length-marked_line e h = omega (arith, h.few, length-by_marks e h, one_mark e.ou
 
 -- in version 2 it has at most 967
 pub length-blocked_line : (e : Entry) → IsEntry e → IsOfVersion Two e → length (canonical_line e) ≤ 967
-length-blocked_line e h of = omega (arith, h.few, length-by_marks e h, ap (λ b. length (mark_text b)) of, marked-few e.variants)
+length-blocked_line e h of = omega (arith, h.few, length-by_marks e h, ap (λ b. length (mark_text b)) of.0, marked-few e.variants)
 
 -- in version 1 it has at most 951
 pub length-canonical_line : (e : Entry) → IsEntry e → IsOfVersion One e → length (canonical_line e) ≤ 951
@@ -224,7 +231,7 @@ spells_entry v e h of = inr (inr (
   record { mapped = map mapped_of (whole e); last = None },
   subst (IsEntryLine (record { mapped = map mapped_of (whole e); last = None })) (sym (strip_nothing (canonical_line e) (line_in_line e))) (canonical_line_spells e h),
   of_version v e of,
-  ap (λ vs. (record { source = e.source; outside = e.outside; variants = vs }) ∷ []) (sym (variants_back e.variants)),
+  ap (λ vs. entry_from vs ∷ []) (sym (variants_back (whole e) (all_plain_of v e of))),
 ))
 
 entries_spell : (v : Version) (d : Definitions) (done table : List Entry) → AllByRecursion IsEntry table → AllByRecursion (IsOfVersion v) table

@@ -19,7 +19,7 @@ use Rattle.idn_class.proofs.ClassNumbers.{class_of-no_scalar, is_scalar-out}
 use Rattle.variant_table.specs.Faults.{Limit, BadClass, SameVariant, SameSource}
 use Rattle.variant_table.specs.declared.version.Version.{Version}
 use Rattle.variant_table.specs.declared.version.Version.TheVariants.{One, Two, Three}
-use Rattle.variant_table.specs.Entries.{Entry, replacements, sequences_in, IsOfVersion}
+use Rattle.variant_table.specs.Entries.{Entry, replacements, sequences_in, IsOfVersion, IsPlain, whole}
 use Rattle.variant_table.specs.inner.Held.{HasNoEmptySequence}
 use Rattle.variant_table.specs.Limits.{entry_limit}
 use Rattle.variant_table.specs.Ranges.{point_entry, range_size}
@@ -212,21 +212,38 @@ bare_unmarked (m ∷ mapped) h =
     let p = and_parts (is_bare m) (list_all is_bare mapped) h in
     (true_not m.marked (and_parts (is_plain m) (not m.marked) p.0).1, bare_unmarked mapped p.1)
 
+-- what a line makes has neither tags nor a condition
+plain_variants : (mapped : List Mapped) → AllByRecursion IsPlain (map variant_of mapped)
+plain_variants [] = tt
+plain_variants (m ∷ mapped) = ((refl, refl), plain_variants mapped)
+
+plain_entry : (mapped : List Mapped) → All IsPlain (whole (entry_of mapped))
+plain_entry [] = All-from_recursion IsPlain (whole (entry_of [])) ((refl, refl), tt)
+plain_entry (m ∷ mapped) = All-from_recursion IsPlain (whole (entry_of (m ∷ mapped))) (plain_variants (m ∷ mapped))
+
+plain_point : (o : Bool) (c : ℕ) → All IsPlain (whole (point_entry o c))
+plain_point o c = All-from_recursion IsPlain (whole (point_entry o c)) ((refl, refl), tt)
+
 bare_entry : (mapped : List Mapped) → list_all is_bare mapped ≡ true → IsOfVersion One (entry_of mapped)
-bare_entry [] h = (refl, All-from_recursion (λ v. v.blocked ≡ false) [] tt)
-bare_entry (m ∷ mapped) h = let all = bare_unmarked (m ∷ mapped) h in (all.0, All-from_recursion (λ v. v.blocked ≡ false) (map variant_of mapped) all.1)
+bare_entry [] h = (refl, All-from_recursion (λ v. v.blocked ≡ false) [] tt, plain_entry [])
+bare_entry (m ∷ mapped) h = let all = bare_unmarked (m ∷ mapped) h in (all.0, All-from_recursion (λ v. v.blocked ≡ false) (map variant_of mapped) all.1, plain_entry (m ∷ mapped))
 
 inside_entry : (mapped : List Mapped) → begins_marked mapped ≡ false → IsOfVersion Two (entry_of mapped)
-inside_entry [] h = refl
-inside_entry (m ∷ mapped) h = h
+inside_entry [] h = (refl, plain_entry [])
+inside_entry (m ∷ mapped) h = (h, plain_entry (m ∷ mapped))
 
 points_inside : (o : Bool) (cs : List ℕ) → o ≡ false → AllByRecursion (IsOfVersion Two) (map (point_entry o) cs)
 points_inside o [] h = tt
-points_inside o (c ∷ cs) h = (h, points_inside o cs h)
+points_inside o (c ∷ cs) h = ((h, plain_point o c), points_inside o cs h)
 
-all_of_three : (es : List Entry) → AllByRecursion (IsOfVersion Three) es
-all_of_three [] = tt
-all_of_three (e ∷ es) = (tt, all_of_three es)
+points_of_three : (o : Bool) (cs : List ℕ) → AllByRecursion (IsOfVersion Three) (map (point_entry o) cs)
+points_of_three o [] = tt
+points_of_three o (c ∷ cs) = (plain_point o c, points_of_three o cs)
+
+all_of_three : (last : Option ℕ) (mapped : List Mapped) → AllByRecursion (IsOfVersion Three) (entries_to last mapped)
+all_of_three None mapped = (plain_entry mapped, tt)
+all_of_three (Some last) [] = tt
+all_of_three (Some last) (m ∷ mapped) = points_of_three m.marked (range_with_len (slice_index m.points 0) (range_size (slice_index m.points 0) last))
 
 version_form : (v : Version) (last : Option ℕ) (mapped : List Mapped) → has_form v (record { mapped = mapped; last = last }) ≡ true → AllByRecursion (IsOfVersion v) (entries_to last mapped)
 version_form One None mapped h = (bare_entry mapped (and_parts (list_all is_bare mapped) true h).0, tt)
@@ -236,7 +253,7 @@ version_form Two (Some last) [] h = tt
 version_form Two (Some last) (m ∷ mapped) h =
     points_inside m.marked (range_with_len (slice_index m.points 0) (range_size (slice_index m.points 0) last))
     (true_not m.marked (and_parts (list_all is_plain (m ∷ mapped)) (not m.marked) h).1)
-version_form Three last mapped h = all_of_three (entries_to last mapped)
+version_form Three last mapped h = all_of_three last mapped
 
 pub version_spelled : (v : Version) (line : List ℕ) (es : List Entry) → SpellsEntries v line es → AllByRecursion (IsOfVersion v) es
 version_spelled v line es h = subst (AllByRecursion (IsOfVersion v)) (sym h.3) (version_form v h.0.last h.0.mapped h.2)

@@ -5,7 +5,7 @@ use Rattle.std.specs.List.{All, AllByRecursion, slice_range}
 use Rattle.std.proofs.lemmas.List.{map-append, length-map, take-append-drop}
 use Rattle.std.proofs.lemmas.List.Elements.{recursion_from_All}
 use Rattle.variant_table.specs.declared.sequences.Span.{Span}
-use Rattle.variant_table.specs.Entries.{Variant, sequences_in, replacements, marks, entry_from}
+use Rattle.variant_table.specs.Entries.{Variant, sequences_in, replacements, marks, entry_from, whole}
 use Rattle.variant_table.specs.inner.Held.{entry_at, entries_of, IsEntryBelow}
 use Rattle.variant_table.proofs.ListLemmas.{drop_next}
 use Rattle.variant_table.proofs.PartLemmas.{slice_range-append, slice_range-end}
@@ -33,14 +33,25 @@ variant_marked [] i b e = absurd cc
 variant_marked (v ∷ vs) zero b e = (v, refl, cc)
 variant_marked (v ∷ vs) (suc i) b e = variant_marked vs i b e
 
--- the variant of a sequence and a mark
-pub variant_from : (vs : List Variant) (i : ℕ) (s : List ℕ) (b : Bool) → slice_get (sequences_in vs) i ≡ Some s → slice_get (map (λ v. v.blocked) vs) i ≡ Some b → slice_get vs i ≡ Some (record { sequence = s; blocked = b })
-variant_from [] i s b e f = absurd cc
-variant_from (v ∷ vs) zero s b e f =
-    let p : v.sequence ≡ s = cc in
-    let q : v.blocked ≡ b = cc in
-    ap (λ x. Some (record { sequence = x; blocked = v.blocked })) p ∙ ap (λ x. Some (record { sequence = s; blocked = x })) q
-variant_from (v ∷ vs) (suc i) s b e f = variant_from vs i s b e f
+-- variants of which all parts are equal
+pub same_variant : (v w : Variant) → v.sequence ≡ w.sequence → v.blocked ≡ w.blocked → v.tags ≡ w.tags → v.condition ≡ w.condition → v ≡ w
+same_variant v w s b t c =
+    ap (λ x. record v { sequence = x }) s ∙ ap (λ x. record w { blocked = x; tags = v.tags; condition = v.condition }) b
+    ∙ ap (λ x. record w { tags = x; condition = v.condition }) t ∙ ap (λ x. record w { condition = x }) c
+
+-- the variant by its parts
+pub variant_from : (vs : List Variant) (i : ℕ) (w : Variant) → slice_get (sequences_in vs) i ≡ Some w.sequence → slice_get (map (λ v. v.blocked) vs) i ≡ Some w.blocked
+    → slice_get (map (λ v. v.tags) vs) i ≡ Some w.tags → slice_get (map (λ v. v.condition) vs) i ≡ Some w.condition → slice_get vs i ≡ Some w
+variant_from [] i w s b t c = absurd cc
+variant_from (v ∷ vs) zero w s b t c = ap (λ x. Some x) (same_variant v w (cc) (cc) (cc) (cc))
+variant_from (v ∷ vs) (suc i) w s b t c = variant_from vs i w s b t c
+
+-- what is known of a variant by its sequence and its mark
+pub variant_seen : (vs : List Variant) (i : ℕ) (s : List ℕ) (b : Bool) → slice_get (sequences_in vs) i ≡ Some s → slice_get (map (λ v. v.blocked) vs) i ≡ Some b
+    → (v : Variant) × (slice_get vs i ≡ Some v) × (v.sequence ≡ s) × (v.blocked ≡ b)
+variant_seen [] i s b e f = absurd cc
+variant_seen (v ∷ vs) zero s b e f = (v, refl, cc, cc)
+variant_seen (v ∷ vs) (suc i) s b e f = variant_seen vs i s b e f
 
 later_marks : (vs : List Variant) (i : ℕ) → 0 < i → slice_get (marks (entry_from vs)) i ≡ slice_get (map (λ v. v.blocked) vs) i
 later_marks vs zero l = absurd (omega (arith, l))
@@ -62,6 +73,10 @@ pub outside_at : (sequences : List Variant) (s : Span) (b : Bool) → s.start < 
 outside_at sequences s b l e =
     let at = variant_marked sequences s.start b e in
     ap (λ d. (entry_from (take (s.end - s.start) d)).outside) (drop_next sequences s.start at.0 at.1) ∙ outside_of_take (s.end - s.start) at.0 (drop (s.start + 1) sequences) (omega arith) ∙ at.2
+
+pub whole-entry_from : (sequences : List Variant) → 0 < length sequences → whole (entry_from sequences) ≡ sequences
+whole-entry_from [] l = absurd (omega (arith, l))
+whole-entry_from (x ∷ sequences) l = refl
 
 pub source-first : (sequences : List Variant) (x : List ℕ) → slice_get (sequences_in sequences) 0 ≡ Some x → (entry_from sequences).source ≡ x
 source-first [] x e = absurd cc
@@ -104,6 +119,13 @@ module _ (sequences : List Variant) (s : Span) (some : s.start < s.end) (within 
       ap (λ r. slice_get r i) replacements-entry_at ∙ slice_get-map (λ v. v.sequence) (slice_range sequences s.start s.end) i
       ∙ ap (option_map (λ v. v.sequence)) (slice_get-take (drop s.start sequences) (s.end - s.start) i l ∙ slice_get-drop sequences s.start i)
       ∙ sym (slice_get-map (λ v. v.sequence) sequences (s.start + i))
+
+  -- what the source or a variant says
+  pub part_of : {X : Type 0} (f : Variant → X) (i : ℕ) → i < s.end - s.start → slice_get (map f (whole (entry_at sequences s))) i ≡ slice_get (map f sequences) (s.start + i)
+  part_of f i l =
+      ap (λ vs. slice_get (map f vs) i) (whole-entry_from (slice_range sequences s.start s.end) (omega (arith, size))) ∙ slice_get-map f (slice_range sequences s.start s.end) i
+      ∙ ap (option_map f) (slice_get-take (drop s.start sequences) (s.end - s.start) i l ∙ slice_get-drop sequences s.start i)
+      ∙ sym (slice_get-map f sequences (s.start + i))
 
   -- the mark of a variant
   pub mark_of : (i : ℕ) → 0 < i → i < s.end - s.start → slice_get (marks (entry_at sequences s)) i ≡ slice_get (map (λ v. v.blocked) sequences) (s.start + i)

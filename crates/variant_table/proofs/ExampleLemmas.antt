@@ -7,7 +7,7 @@ use Rattle.idn_class.proofs.ComputedLabels.{in_table, class_of-in_table}
 use Rattle.variant_table.specs.Faults.{Limit, BadClass, SameVariant, SameSource}
 use Rattle.variant_table.specs.declared.version.Version.{Version}
 use Rattle.variant_table.specs.declared.version.Version.TheVariants.{One, Two}
-use Rattle.variant_table.specs.Entries.{Variant, Entry}
+use Rattle.variant_table.specs.Entries.{Variant, Entry, entry_from}
 use Rattle.variant_table.specs.Ranges.{point_entry, range_entries, point_variant}
 use Rattle.variant_table.specs.Conditions.{is_over_limit, has_bad_class, has_bad_point, has_repeat, has_source_in}
 use Rattle.variant_table.specs.Reading.{with_entries}
@@ -26,7 +26,7 @@ with_entries-by v d t es o b r s f g h i =
 
 -- the entry of a and these variants
 abbrev pub letter : List Variant → Entry
-letter variants = record { source = 0x61 ∷ []; outside = false; variants = variants }
+letter variants = entry_from (point_variant false 0x61 ∷ variants)
 
 pvalid : (c : ℕ) → class_of c ≡ Pvalid → has_bad_point (c ∷ []) ≡ false
 pvalid c e = rw e
@@ -86,7 +86,7 @@ three = range_entries false 0x61 0x63
 
 -- x, with y blocked and z
 abbrev pub last_letter : Entry
-last_letter = record { source = 0x78 ∷ []; outside = false; variants = point_variant true 0x79 ∷ point_variant false 0x7A ∷ [] }
+last_letter = entry_from (point_variant false 0x78 ∷ point_variant true 0x79 ∷ point_variant false 0x7A ∷ [])
 
 good-three : list_any has_bad_class three ≡ false
 good-three = rw good-61 (rw good-62 (rw good-63 refl))

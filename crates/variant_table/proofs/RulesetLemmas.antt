@@ -64,7 +64,7 @@ as_ruleset entries h = record {
   without_fault = h.without_fault;
   defined = refl;
   well_formed = h.well_formed;
-  of_version = λ k d l. tt;
+  of_version = λ k d l. (h.of_version k d l).1;
   few = omega (arith, h.few);
   short = omega (arith, h.short, length-append (head_text Two) (canonical_text entries), length-append (head_text Three) (canonical_text entries));
 }

@@ -12,7 +12,7 @@ use Rattle.std.proofs.lemmas.List.Concat.{flat_map-append}
 use Rattle.std.proofs.lemmas.List.Sums.{sum_by-cons}
 use Rattle.idn_text.proofs.LawLemmas.{joined-raw_lines}
 use Rattle.idn_text.specs.Points.{is_hex_digit, point_of_hex}
-use Rattle.ruleset_text.specs.declared.entry_form.Condition.{Condition}
+use Rattle.ruleset_text.specs.declared.entry_form.NamedCondition.{NamedCondition}
 use Rattle.ruleset_text.specs.Canonical.{four_digits, hex_digit, point_text}
 use Rattle.ruleset_text.specs.Definitions.{Definitions}
 use Rattle.ruleset_text.specs.Entries.{Mapped}
@@ -188,7 +188,7 @@ no_tags : (tags : List (List ℕ)) → not (has_tags tags) ≡ true → tags ≡
 no_tags [] h = refl
 no_tags (tag ∷ tags) h = absurd cc
 
-no_condition : (c : Option Condition) → not (is_some c) ≡ true → c ≡ None
+no_condition : (c : Option NamedCondition) → not (is_some c) ≡ true → c ≡ None
 no_condition None h = refl
 no_condition (Some c) h = absurd cc
 

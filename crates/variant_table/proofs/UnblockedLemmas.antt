@@ -13,7 +13,7 @@ use Rattle.variant_table.specs.declared.version.Version.TheVariants.{One, Two, T
 use Rattle.variant_table.specs.Canonical.{canonical_line, canonical_text, head_text}
 use Rattle.variant_table.specs.Conditions.{repeats, has_source_in}
 use Rattle.ruleset_text.specs.Definitions.{Definitions, definitions_text}
-use Rattle.variant_table.specs.Entries.{Variant, Entry, IsOfVersion, table_of, sequences_in, replacements, unblocked_entry, unblocked, has_blocked, entry_from}
+use Rattle.variant_table.specs.Entries.{Variant, Entry, IsOfVersion, IsPlain, table_of, sequences_in, replacements, unblocked_entry, unblocked, has_blocked, entry_from, whole}
 use Rattle.variant_table.specs.inner.Order.{IsOrderOf}
 use Rattle.variant_table.specs.WellFormed.{IsSequence, IsEntry, IsTable}
 use Rattle.variant_table.proofs.ConditionLemmas.{AreNewSources, distinct_from, no_repeats, distinct_sources, new_sources, no_sources}
@@ -62,7 +62,7 @@ pub unblocked_none : (t : List Entry) → has_blocked t ≡ false → unblocked 
 unblocked_none [] h = refl
 unblocked_none (e ∷ t) h =
     let p = or_parts (list_any (λ v. v.blocked) e.variants) (has_blocked t) h in
-    ap (λ vs. record { source = e.source; outside = e.outside; variants = vs } ∷ unblocked t) (none_left e.variants p.0) ∙ ap (λ x. e ∷ x) (unblocked_none t p.1)
+    ap (λ vs. record e { variants = vs } ∷ unblocked t) (none_left e.variants p.0) ∙ ap (λ x. e ∷ x) (unblocked_none t p.1)
 
 -- ---- the order of the sources stays
 
@@ -134,20 +134,23 @@ entries_kept (e ∷ t) h = (entry_kept e h.0, entries_kept t h.1)
 pub well_formed_kept : (t : List Entry) → All IsEntry t → All IsEntry (unblocked t)
 well_formed_kept t h = All-from_recursion IsEntry (unblocked t) (entries_kept t (recursion_from_All IsEntry t h))
 
-unmarked_free : (variants : List Variant) → AllByRecursion (λ v. v.blocked ≡ false) variants → AllByRecursion (λ v. v.blocked ≡ false) (free variants)
-unmarked_free [] h = tt
-unmarked_free (v ∷ variants) h = by_mark v.blocked (unmarked_free variants h.1)
+each_free : (P : Variant → Type 0) (variants : List Variant) → AllByRecursion P variants → AllByRecursion P (free variants)
+each_free P [] h = tt
+each_free P (v ∷ variants) h = by_mark v.blocked (each_free P variants h.1)
   where
-    by_mark : (b : Bool) → AllByRecursion (λ v. v.blocked ≡ false) (free variants) → AllByRecursion (λ v. v.blocked ≡ false) (cond (not b) (v ∷ free variants) (free variants))
+    by_mark : (b : Bool) → AllByRecursion P (free variants) → AllByRecursion P (cond (not b) (v ∷ free variants) (free variants))
     by_mark true rest = rest
     by_mark false rest = (h.0, rest)
+
+plain_free : (e : Entry) → All IsPlain (whole e) → All IsPlain (whole (unblocked_entry e))
+plain_free e h = let all = recursion_from_All IsPlain (whole e) h in All-from_recursion IsPlain (whole (unblocked_entry e)) (all.0, each_free IsPlain e.variants all.1)
 
 version_kept : (v : Version) (t : List Entry) → AllByRecursion (IsOfVersion v) t → AllByRecursion (IsOfVersion v) (unblocked t)
 version_kept v [] h = tt
 version_kept One (e ∷ t) h =
-    ((h.0.0, All-from_recursion (λ x. x.blocked ≡ false) (free e.variants) (unmarked_free e.variants (recursion_from_All (λ x. x.blocked ≡ false) e.variants h.0.1))), version_kept One t h.1)
-version_kept Two (e ∷ t) h = (h.0, version_kept Two t h.1)
-version_kept Three (e ∷ t) h = (tt, version_kept Three t h.1)
+    ((h.0.0, All-from_recursion (λ x. x.blocked ≡ false) (free e.variants) (each_free (λ x. x.blocked ≡ false) e.variants (recursion_from_All (λ x. x.blocked ≡ false) e.variants h.0.1)), plain_free e h.0.2), version_kept One t h.1)
+version_kept Two (e ∷ t) h = ((h.0.0, plain_free e h.0.1), version_kept Two t h.1)
+version_kept Three (e ∷ t) h = (plain_free e h.0, version_kept Three t h.1)
 
 -- ---- sources
 

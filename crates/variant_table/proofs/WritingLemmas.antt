@@ -11,7 +11,7 @@ use Rattle.ruleset_text.specs.Canonical.{point_text}
 use Rattle.ruleset_text.specs.EntryText as entries
 use Rattle.ruleset_text.specs.EntryText.{mark_text, sequence_text, mapped_text, entry_text}
 use Rattle.ruleset_text.proofs.HexLemmas.{length-point_text}
-use Rattle.variant_table.specs.Entries.{Variant, Entry}
+use Rattle.variant_table.specs.Entries.{Variant, Entry, source_of}
 use Rattle.variant_table.specs.Forms.{mapped_of}
 use Rattle.variant_table.specs.Canonical.{separator, canonical_line, canonical_text}
 use Rattle.variant_table.proofs.ListLemmas.{take_next}
@@ -91,7 +91,7 @@ line_of source [] = plain_text source ∙ sym (append-nil (variant_text source))
 line_of source (v ∷ variants) = ap (λ t. t ++ 124 ∷ entries.variants_text (map mapped_of (v ∷ variants))) (plain_text source) ∙ ap (λ t. variant_text source ++ 124 ∷ t) (further_plain v variants)
 
 pub canonical_line-is : (e : Entry) → canonical_line e ≡ (mark_text e.outside ++ sequence_text e.source) ++ variants_text e.variants
-canonical_line-is e = line_of (record { sequence = e.source; blocked = e.outside }) e.variants
+canonical_line-is e = line_of (source_of e) e.variants
 
 -- ---- a table
 

@@ -5,7 +5,7 @@ use Rattle.ruleset_text.specs.Entries.{Mapped, EntryForm}
 use Rattle.ruleset_text.specs.EntryWords.{IsEntryLine}
 use Rattle.variant_table.specs.declared.version.Version.{Version}
 use Rattle.variant_table.specs.declared.version.Version.TheVariants.{One, Two, Three}
-use Rattle.variant_table.specs.Entries.{Variant, Entry, entry_from}
+use Rattle.variant_table.specs.Entries.{Variant, Entry, entry_from, plain_variant}
 use Rattle.variant_table.specs.Ranges.{range_entries}
 
 -- ---- the forms of each version
@@ -36,7 +36,7 @@ has_form Three form = list_all is_plain form.mapped
 -- ---- the entries of a form
 
 abbrev pub variant_of : Mapped → Variant
-variant_of m = record { sequence = m.points; blocked = m.marked }
+variant_of m = plain_variant m.marked m.points
 
 -- the entry of a source and its variants
 abbrev pub entry_of : List Mapped → Entry

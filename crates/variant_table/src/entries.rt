@@ -83,10 +83,20 @@ fn take_unblocked(sequences: &mut Sequences, entry: &Entry) -> Result<(), AllocE
     ensures some { OnOk result (0 < length sequences.new) }
 {
     sequences.clear();
-    sequences.push(entry.source(), entry.is_outside())?;
+    sequences.push(
+        entry.source(),
+        entry.is_outside(),
+        entry.tags(0),
+        entry.condition(0),
+    )?;
     for number in 1..entry.replacements() {
         if !entry.blocked(number) {
-            sequences.push(entry.replacement(number), false)?;
+            sequences.push(
+                entry.replacement(number),
+                false,
+                entry.tags(number),
+                entry.condition(number),
+            )?;
         }
     }
     Ok(())

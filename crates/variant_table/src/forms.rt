@@ -74,7 +74,7 @@ pub fn take_sequences(sequences: &mut Sequences, mapped: &[Mapped]) -> Result<()
 {
     sequences.clear();
     for m in mapped {
-        sequences.push(&m.points, m.marked)?;
+        sequences.push(&m.points, m.marked, &[], None)?;
     }
     Ok(())
 }

@@ -4,7 +4,7 @@ ghost use Rattle.idn_text.specs.Lines.{raw_lines, with_last_feed};
 ghost use Rattle.variant_table.specs.Faults.{LineFault};
 ghost use Rattle.variant_table.specs.Canonical.{canonical_line, head_text, table_text};
 ghost use Rattle.ruleset_text.specs.Definitions.{nothing_defined};
-ghost use Rattle.variant_table.specs.Entries.{Entry, TableValue, IsOfVersion, table_of, unblocked};
+ghost use Rattle.variant_table.specs.Entries.{Entry, TableValue, IsOfVersion, entry_from, plain_variant, table_of, unblocked};
 ghost use Rattle.ruleset_text.specs.Lexemes.{lexemes};
 ghost use Rattle.variant_table.specs.Forms.{SpellsEntries};
 ghost use Rattle.variant_table.specs.Reading.{entries_in, table_of_text};
@@ -91,9 +91,9 @@ pub fn gaps_of_are_the_gaps()
 
 /// Examples of version 1, which the definitions compute.
 pub fn definitions_compute_the_examples()
-    ensures read { entries_in versions.One (lexemes (codes "u+0061 | 0062 : 0063-0064")) ≡ Ok (record { source = 97 ∷ []; outside = false; variants = point_variant false 98 ∷ record { sequence = 99 ∷ 100 ∷ []; blocked = false } ∷ [] } ∷ []) }
-    ensures written { table_text versions.One nothing_defined (record { source = 97 ∷ []; outside = false; variants = point_variant false 98 ∷ record { sequence = 99 ∷ 100 ∷ []; blocked = false } ∷ [] } ∷ []) ≡ codes "0061|0062:0063-0064" ++ 10 ∷ [] }
-    ensures six { canonical_line (record { source = 0x10FFFF ∷ 0x4E2D ∷ []; outside = false; variants = [] }) ≡ codes "10FFFF-4E2D" }
+    ensures read { entries_in versions.One (lexemes (codes "u+0061 | 0062 : 0063-0064")) ≡ Ok (entry_from (point_variant false 97 ∷ point_variant false 98 ∷ plain_variant false (99 ∷ 100 ∷ []) ∷ []) ∷ []) }
+    ensures written { table_text versions.One nothing_defined (entry_from (point_variant false 97 ∷ point_variant false 98 ∷ plain_variant false (99 ∷ 100 ∷ []) ∷ []) ∷ []) ≡ codes "0061|0062:0063-0064" ++ 10 ∷ [] }
+    ensures six { canonical_line (entry_from (plain_variant false (0x10FFFF ∷ 0x4E2D ∷ []) ∷ [])) ≡ codes "10FFFF-4E2D" }
     ensures syntax { table_of_text notations.Table (codes "0061|") ≡ Err (1, faults.Syntax) }
     ensures range { table_of_text notations.Table (codes "0061..0063") ≡ Err (1, faults.Syntax) }
     ensures blocked { table_of_text notations.Table (codes "0061|!0062") ≡ Err (1, faults.Syntax) }
@@ -103,10 +103,10 @@ pub fn definitions_compute_the_examples()
     ensures bad_class { table_of_text notations.Table (codes "0041") ≡ Err (1, faults.BadClass) }
     ensures same_variant { table_of_text notations.Table (codes "0061|0061") ≡ Err (1, faults.SameVariant) }
     ensures same_source { table_of_text notations.Table (codes "0061" ++ 10 ∷ codes "0061") ≡ Err (2, faults.SameSource) }
-    ensures gaps { gaps_of (record { source = 97 ∷ []; outside = false; variants = record { sequence = 97 ∷ 97 ∷ []; blocked = false } ∷ [] } ∷ []) ≡ (97 ∷ 97 ∷ [], 97 ∷ []) ∷ [] }
-    ensures chain { gaps_of (record { source = 97 ∷ []; outside = false; variants = point_variant false 98 ∷ [] } ∷ record { source = 98 ∷ []; outside = false; variants = point_variant true 97 ∷ point_variant false 99 ∷ [] } ∷ record { source = 99 ∷ []; outside = false; variants = point_variant false 98 ∷ [] } ∷ [])
+    ensures gaps { gaps_of (entry_from (point_variant false 97 ∷ plain_variant false (97 ∷ 97 ∷ []) ∷ []) ∷ []) ≡ (97 ∷ 97 ∷ [], 97 ∷ []) ∷ [] }
+    ensures chain { gaps_of (entry_from (point_variant false 97 ∷ point_variant false 98 ∷ []) ∷ entry_from (point_variant false 98 ∷ point_variant true 97 ∷ point_variant false 99 ∷ []) ∷ entry_from (point_variant false 99 ∷ point_variant false 98 ∷ []) ∷ [])
         ≡ (97 ∷ [], 99 ∷ []) ∷ (99 ∷ [], 97 ∷ []) ∷ [] }
-    ensures places { entries_at (point_entry false 115 ∷ record { source = 115 ∷ 115 ∷ []; outside = false; variants = point_variant false 0xDF ∷ [] } ∷ []) (115 ∷ 115 ∷ 115 ∷ []) 2
+    ensures places { entries_at (point_entry false 115 ∷ entry_from (plain_variant false (115 ∷ 115 ∷ []) ∷ point_variant false 0xDF ∷ []) ∷ []) (115 ∷ 115 ∷ 115 ∷ []) 2
         ≡ point_entry false 115 ∷ [] }
 {}
 
@@ -115,11 +115,11 @@ pub fn definitions_compute_the_examples_of_version_2()
     ensures table { table_of_text notations.Table (codes "%version 2" ++ 10 ∷ codes "0061..0063" ++ 10 ∷ codes "0078|!0079:007A") ≡ Ok (record {
       version = versions.Two;
       definitions = nothing_defined;
-      entries = point_entry false 0x61 ∷ point_entry false 0x62 ∷ point_entry false 0x63 ∷ record { source = 0x78 ∷ []; outside = false; variants = point_variant true 0x79 ∷ point_variant false 0x7A ∷ [] } ∷ [];
+      entries = point_entry false 0x61 ∷ point_entry false 0x62 ∷ point_entry false 0x63 ∷ entry_from (point_variant false 0x78 ∷ point_variant true 0x79 ∷ point_variant false 0x7A ∷ []) ∷ [];
     }) }
-    ensures written { table_text versions.Two nothing_defined (point_entry false 0x61 ∷ point_entry false 0x62 ∷ point_entry false 0x63 ∷ record { source = 0x78 ∷ []; outside = false; variants = point_variant true 0x79 ∷ point_variant false 0x7A ∷ [] } ∷ [])
+    ensures written { table_text versions.Two nothing_defined (point_entry false 0x61 ∷ point_entry false 0x62 ∷ point_entry false 0x63 ∷ entry_from (point_variant false 0x78 ∷ point_variant true 0x79 ∷ point_variant false 0x7A ∷ []) ∷ [])
         ≡ codes "%version 2" ++ 10 ∷ codes "0061" ++ 10 ∷ codes "0062" ++ 10 ∷ codes "0063" ++ 10 ∷ codes "0078|!0079:007A" ++ 10 ∷ [] }
-    ensures unblocked { unblocked (record { source = 0x78 ∷ []; outside = false; variants = point_variant true 0x79 ∷ point_variant false 0x7A ∷ [] } ∷ []) ≡ record { source = 0x78 ∷ []; outside = false; variants = point_variant false 0x7A ∷ [] } ∷ [] }
+    ensures unblocked { unblocked (entry_from (point_variant false 0x78 ∷ point_variant true 0x79 ∷ point_variant false 0x7A ∷ []) ∷ []) ≡ entry_from (point_variant false 0x78 ∷ point_variant false 0x7A ∷ []) ∷ [] }
     ensures empty { table_of_text notations.Table (codes "%version 2" ++ 13 ∷ []) ≡ Ok (table_of versions.Two nothing_defined []) }
     ensures falling { table_of_text notations.Table (codes "%version 2" ++ 10 ∷ codes "0063..0061") ≡ Err (2, faults.Syntax) }
     ensures marked_source { table_of_text notations.Table (codes "%version 2" ++ 10 ∷ codes "!0061|0062") ≡ Err (2, faults.Syntax) }
@@ -153,14 +153,14 @@ pub fn definitions_compute_the_examples_of_rulesets()
     ensures demand { table_of_text notations.Ruleset (codes "%version 3" ++ 10 ∷ codes "%never ^ .") ≡ Err (2, faults.Syntax) }
     ensures set { table_of_text notations.Ruleset (codes "%version 3" ++ 10 ∷ codes "% set C 0061") ≡ Err (2, faults.Syntax) }
     ensures later { table_of_text notations.Table (codes "%version 2" ++ 10 ∷ codes "%version 3") ≡ Err (2, faults.Syntax) }
-    ensures outside { entries_in versions.Three (lexemes (codes "! 0061|!0062")) ≡ Ok (record { source = 0x61 ∷ []; outside = true; variants = point_variant true 0x62 ∷ [] } ∷ []) }
+    ensures outside { entries_in versions.Three (lexemes (codes "! 0061|!0062")) ≡ Ok (entry_from (point_variant true 0x61 ∷ point_variant true 0x62 ∷ []) ∷ []) }
     ensures outside_range { entries_in versions.Three (lexemes (codes "!0062..0063")) ≡ Ok (point_entry true 0x62 ∷ point_entry true 0x63 ∷ []) }
     ensures outside_in_version_2 { entries_in versions.Two (lexemes (codes "!0062..0063")) ≡ Err faults.Syntax }
     ensures two_marks { table_of_text notations.Ruleset (codes "%version 3" ++ 10 ∷ codes "!!0061") ≡ Err (2, faults.Syntax) }
     ensures no_source { table_of_text notations.Ruleset (codes "%version 3" ++ 10 ∷ codes "!|0061") ≡ Err (2, faults.Syntax) }
     ensures limit { table_of_text notations.Ruleset (codes "%version 3" ++ 10 ∷ codes "0041-0041-0041-0041-0041-0041-0041-0041-0041") ≡ Err (2, faults.Limit) }
-    ensures written { table_text versions.Three nothing_defined (point_entry false 0x61 ∷ record { source = 0x78 ∷ []; outside = false; variants = point_variant true 0x79 ∷ [] } ∷ [])
+    ensures written { table_text versions.Three nothing_defined (point_entry false 0x61 ∷ entry_from (point_variant false 0x78 ∷ point_variant true 0x79 ∷ []) ∷ [])
         ≡ codes "%version 3" ++ 10 ∷ codes "0061" ++ 10 ∷ codes "0078|!0079" ++ 10 ∷ [] }
-    ensures marked { table_text versions.Three nothing_defined (record { source = 0x61 ∷ 0x62 ∷ []; outside = true; variants = point_variant true 0x63 ∷ [] } ∷ [])
+    ensures marked { table_text versions.Three nothing_defined (entry_from (plain_variant true (0x61 ∷ 0x62 ∷ []) ∷ point_variant true 0x63 ∷ []) ∷ [])
         ≡ codes "%version 3" ++ 10 ∷ codes "!0061-0062|!0063" ++ 10 ∷ [] }
 {}

@@ -19,6 +19,7 @@ mod reading;
 mod rows;
 mod sequences;
 mod table;
+mod tags;
 mod version;
 
 pub use canonical::write_sequence;

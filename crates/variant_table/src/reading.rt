@@ -261,7 +261,7 @@ fn push_points(
     let mut sequences = Sequences::new(alloc);
     for offset in 0..count {
         sequences.clear();
-        sequences.push(&[first + offset as u32], outside)?;
+        sequences.push(&[first + offset as u32], outside, &[], None)?;
         rows.push(number, &sequences)?;
     }
     Ok(())

@@ -1,9 +1,11 @@
 //! Sequences of code points, as parts of one vector.
-ghost use Rattle.std.specs.Prelude.{◌≡◌, ◌<◌, [], ◌∷◌, ◌++◌, length, OnOk, OnErr, slice_get, Some, drop, map, take};
+ghost use Rattle.std.specs.Prelude.{◌≡◌, ◌<◌, ◌≤◌, [], ◌∷◌, ◌++◌, length, OnOk, OnErr, slice_get, Some, drop, map, take};
 ghost use Rattle.std.specs.List.{list_any};
 ghost use Rattle.variant_table.specs.Entries.{sequences_in};
 ghost use Rattle.std.specs.Iterator.{YieldsFirstRef, item_count};
 
+use crate::tags::Tags;
+use label_patterns::Condition;
 use std::alloc::{AllocError, Global};
 use std::marker::Model;
 
@@ -14,14 +16,19 @@ pub struct Span {
     pub end: usize,
 }
 
-/// A sequence as a part of a vector of code points, and whether it is blocked.
-#[derive(Clone, Copy, Debug, PartialEq, Eq)]
+/// A sequence as a part of a vector of code points, whether it is blocked, its tags and its condition. A ruleset
+/// may have a million of them, so a part is kept within 32 bytes.
+#[derive(Drop)]
 pub struct Part {
     pub span: Span,
+    pub tags: Tags,
     pub blocked: bool,
+    pub condition: Option<Condition>,
 }
 
-/// Sequences of code points, each of which may be blocked.
+const _: () = prove!(size_of::<Part>() == 32);
+
+/// Sequences of code points, each of which may be blocked, and may have tags and a condition.
 #[derive(Drop)]
 pub struct Sequences {
     points: Vec<u32>,
@@ -72,6 +79,23 @@ impl Sequences {
         self.parts[index].blocked
     }
 
+    /// The tags of the sequence of this number.
+    pub fn tags(&self, index: usize) -> &[u8]
+        requires { index < length self.now }
+        ensures tags { slice_get (map (λ v. v.tags) self.now) index ≡ Some result.now }
+        ensures few { length result.now ≤ 8 }
+    {
+        self.parts[index].tags.as_slice()
+    }
+
+    /// The condition of the sequence of this number.
+    pub fn condition(&self, index: usize) -> Option<Condition>
+        requires { index < length self.now }
+        ensures { slice_get (map (λ v. v.condition) self.now) index ≡ Some result }
+    {
+        self.parts[index].condition
+    }
+
     /// Whether some sequence is blocked.
     pub fn has_blocked(&self) -> bool
         ensures { result ≡ list_any (λ v. v.blocked) self.now }
@@ -108,8 +132,15 @@ impl Sequences {
     }
 
     /// Adds a sequence. An `Err` changes nothing.
-    pub fn push(&mut self, sequence: &[u32], blocked: bool) -> Result<(), AllocError>
-        ensures ok { OnOk result (self.new ≡ self.old ++ record { sequence = sequence.now; blocked = blocked } ∷ []) }
+    pub fn push(
+        &mut self,
+        sequence: &[u32],
+        blocked: bool,
+        tags: &[u8],
+        condition: Option<Condition>,
+    ) -> Result<(), AllocError>
+        requires { length tags.now ≤ 8 }
+        ensures ok { OnOk result (self.new ≡ self.old ++ record { sequence = sequence.now; blocked = blocked; tags = tags.now; condition = condition } ∷ []) }
         ensures err { OnErr result (self.new ≡ self.old) }
     {
         let start = self.points.len();
@@ -117,7 +148,9 @@ impl Sequences {
         let end = self.points.len();
         self.parts.push(Part {
             span: Span { start, end },
+            tags: Tags::of(tags),
             blocked,
+            condition,
         })?;
         Ok(())
     }
@@ -128,7 +161,12 @@ impl Sequences {
         ensures kept { take (length self.old) self.new ≡ self.old }
     {
         for index in 0..others.len() {
-            self.push(others.get(index), others.is_blocked(index))?;
+            self.push(
+                others.get(index),
+                others.is_blocked(index),
+                others.tags(index),
+                others.condition(index),
+            )?;
         }
         Ok(())
     }

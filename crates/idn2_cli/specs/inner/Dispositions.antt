@@ -5,7 +5,7 @@ use Rattle.variant_table.specs.Entries.{TableValue, unblocked}
 use Rattle.variant_list.specs.declared.part.Part.{Part}
 use Rattle.variant_list.specs.declared.part.Part.TheVariants.{Unblocked}
 use Rattle.variant_list.specs.Positions.{Built}
-use Rattle.variant_list.specs.Spelling.{Spells}
+use Rattle.variant_list.specs.Spelling.{PartSpells}
 use Rattle.idn2_options.specs.Settings.{Settings}
 use Rattle.answer_json.specs.declared.block.Disposition.{Disposition}
 use Rattle.idn2_cli.specs.Said.{Said}
@@ -23,12 +23,12 @@ AreOfTable table Unstated = table.version ≡ One
 AreOfTable table AllAllocatable = (table.version ≢ One) × (unblocked table.entries ≡ table.entries)
 AreOfTable table (BySpelling part) = (table.version ≢ One) × (part ≡ Unblocked)
 
--- the same of a label: the net spells what the label spells under the table without its blocked variants
+-- the same of a label: the net spells what the label spells under the part of the table that is not blocked
 abbrev pub AreOfLabel : TableValue → List ℕ → Dispositions Built → Type 0
 AreOfLabel table label Unstated = table.version ≡ One
 AreOfLabel table label AllAllocatable = (table.version ≢ One) × (unblocked table.entries ≡ table.entries)
 AreOfLabel table label (BySpelling net) =
-    (table.version ≢ One) × ((v : List ℕ) → Contains net.spelled v ↔ Spells (unblocked table.entries) label v)
+    (table.version ≢ One) × ((v : List ℕ) → Contains net.spelled v ↔ PartSpells Unblocked table label v)
 
 -- the disposition of a variant that is told
 abbrev pub field_by : Dispositions Built → List ℕ → Option Disposition

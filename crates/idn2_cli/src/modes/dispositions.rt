@@ -47,7 +47,7 @@ impl Dispositions<Part> {
         requires some { 1 ≤ length label.now }
         requires short { length label.now ≤ 63 }
         requires table { AreOfTable table.now self.now }
-        requires cut { HasSegmentation table.now.entries label.now }
+        requires cut { HasSegmentation table.now label.now }
         ensures label { IfOk result (AreOfLabel table.now label.now) }
     {
         match self {

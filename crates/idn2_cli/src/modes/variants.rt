@@ -54,7 +54,7 @@ impl<'t, 'r, 'b> PointAnswering for Variants<'t, 'r, 'b> {
 
     ghost needs_none = { λ _ label. IsRefusedWithoutMemory label };
 
-    ghost goes_on = { λ mode label. All NeedsNoMemory (tested_after (filter_of mode.table.now) (keeping (option_copied mode.registered) mode.options.now) (spelled mode.table.now.entries label)) };
+    ghost goes_on = { λ mode label. All NeedsNoMemory (tested_after (filter_of mode.table.now) (keeping (option_copied mode.registered) mode.options.now) (spelled mode.table.now label)) };
 
     fn answer_points<W: Sink, E: Sink>(
         &self,
@@ -125,7 +125,7 @@ fn list<W: Sink, E: Sink>(
         (λ refusal. refusal ≡ refusal_in (listing_answer (keeping (option_copied mode.now.registered) mode.now.options.now) mode.now.table.now label.now)) }
     ensures kept { KeepsIfRefused console.old console.new (result_of result) }
     ensures begun { StopsForMemory
-        (All NeedsNoMemory (tested_after (filter_of mode.now.table.now) (keeping (option_copied mode.now.registered) mode.now.options.now) (spelled mode.now.table.now.entries label.now)))
+        (All NeedsNoMemory (tested_after (filter_of mode.now.table.now) (keeping (option_copied mode.now.registered) mode.now.options.now) (spelled mode.now.table.now label.now)))
         console.old console.new (result_of result) }
 {
     match Net::build(alloc, mode.table, label) {

@@ -228,7 +228,7 @@ fn cause_by_table(
     table: &Table,
 ) -> Result<Option<LineCause>, AllocError>
     requires { AreScalarValues label.now }
-    ensures { IfOk result (λ cause. cause ≡ option_map LineCause.OfLabel (table_cause table.now.entries label.now refusal)) }
+    ensures { IfOk result (λ cause. cause ≡ option_map LineCause.OfLabel (table_cause table.now label.now refusal)) }
 {
     match refusal {
         Refusal::NotInTable => Ok(of_label(outside_cause(alloc, label, table)?)),
@@ -238,7 +238,7 @@ fn cause_by_table(
 
 /// The code point behind those that sources of a table reach.
 fn outside_cause(alloc: Global, label: &[u32], table: &Table) -> Result<Option<Cause>, AllocError>
-    ensures { IfOk result (λ cause. cause ≡ outside_cause table.now.entries label.now) }
+    ensures { IfOk result (λ cause. cause ≡ outside_cause table.now label.now) }
 {
     if label.len() > MAX_LABEL_LEN {
         return Ok(None);

@@ -1,7 +1,7 @@
 -- Reading the form of an entry or of a range, from the first lexeme to the last.
 use Rattle.std.specs.Prelude.{ℕ, nat_le, ◌==◌, ◌&&◌, not, Bool, true, false, Option, Some, None, is_some, List, [], ◌∷◌, ◌++◌, length, slice_index, bytes_eq, codes, map, if◌then◌else◌}
-use Rattle.ruleset_text.specs.declared.entry_form.ConditionKind.{ConditionKind}
-use Rattle.ruleset_text.specs.declared.entry_form.ConditionKind.TheVariants as condition
+use Rattle.label_patterns.specs.declared.condition.ConditionKind.{ConditionKind}
+use Rattle.label_patterns.specs.declared.condition.ConditionKind.TheVariants as condition
 use Rattle.ruleset_text.specs.declared.entry_reading.EntryState as reading
 use Rattle.ruleset_text.specs.declared.entry_reading.EntryWord.{EntryWord}
 use Rattle.ruleset_text.specs.declared.entry_reading.EntryWord.TheVariants as word

@@ -1,7 +1,7 @@
 -- Definitions that stand before lines of examples, and parts of examples.
 use Rattle.std.specs.Prelude.{ℕ, Bool, Option, List, [], ◌∷◌, codes}
 use Rattle.label_patterns.specs.Patterns as patterns
-use Rattle.ruleset_text.specs.declared.entry_form.Condition.{Condition}
+use Rattle.ruleset_text.specs.declared.entry_form.NamedCondition.{NamedCondition}
 use Rattle.ruleset_text.specs.Definitions.{Definitions}
 use Rattle.ruleset_text.specs.Entries.{Mapped}
 use Rattle.ruleset_text.specs.Spans.{span}
@@ -18,5 +18,5 @@ some_defined = record {
 }
 
 -- a source or a variant, as it is written
-abbrev pub written : Bool → List ℕ → List (List ℕ) → Option Condition → Mapped
+abbrev pub written : Bool → List ℕ → List (List ℕ) → Option NamedCondition → Mapped
 written marked points tags condition = record { marked = marked; points = points; tags = tags; condition = condition }

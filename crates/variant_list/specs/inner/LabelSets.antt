@@ -1,21 +1,22 @@
 -- What sets of labels hold, and what a step of the plain lister adds to them.
-use Rattle.std.specs.Prelude.{◌≡◌, ℕ, false, ◌-◌, ◌<◌, ◌⊎◌, ◌↔◌, List, ◌++◌, length, drop, Contains, slice_index_or, Vec}
+use Rattle.std.specs.Prelude.{◌≡◌, ℕ, false, ◌-◌, ◌<◌, ◌⊎◌, ◌↔◌, List, ◌++◌, length, Contains, slice_index_or, Vec}
 use Rattle.std.specs.declared.alloc.Global.{Global}
 use Rattle.std.specs.BTreeSet.{BTreeSet}
-use Rattle.variant_table.specs.Entries.{Entry, replacements}
+use Rattle.variant_table.specs.Entries.{Entry, TableValue, replacements}
 use Rattle.variant_list.specs.Labels.{IsRising}
-use Rattle.variant_list.specs.Spelling.{Spells}
+use Rattle.variant_list.specs.declared.part.Part.TheVariants.{Whole}
+use Rattle.variant_list.specs.inner.Places.{SpellsFrom}
 use Rattle.variant_list.specs.LabelSet.{labels_of}
 
--- the set holds exactly what the label spells, in label order
-pub record HoldsSpelled (table : List Entry) (label : List ℕ) (labels : BTreeSet (Vec ℕ Global)) : Type 0 where
-  pub spelled : (v : List ℕ) → Contains (labels_of labels) v ↔ Spells table label v
+-- the set holds exactly what the code points of the label from a place on spell, in label order
+pub record HoldsSpelled (table : TableValue) (label : List ℕ) (place : ℕ) (labels : BTreeSet (Vec ℕ Global)) : Type 0 where
+  pub spelled : (v : List ℕ) → Contains (labels_of labels) v ↔ SpellsFrom Whole table label place v
   pub rising : IsRising (labels_of labels)
 
 -- the sets hold what the last code points of the label spell: none of them, one, two, and so on
-abbrev pub HoldEndings : List Entry → List ℕ → List (BTreeSet (Vec ℕ Global)) → Type 0
+abbrev pub HoldEndings : TableValue → List ℕ → List (BTreeSet (Vec ℕ Global)) → Type 0
 HoldEndings table label sets =
-    (n : ℕ) (d : BTreeSet (Vec ℕ Global)) → n < length sets → HoldsSpelled table (drop (length label - n) label) (slice_index_or sets n d)
+    (n : ℕ) (d : BTreeSet (Vec ℕ Global)) → n < length sets → HoldsSpelled table label (length label - n) (slice_index_or sets n d)
 
 -- new has the labels of old and those of which P holds
 abbrev pub Adds : (List ℕ → Type 0) → List (List ℕ) → List (List ℕ) → Type 0

@@ -14,9 +14,9 @@ use Rattle.variant_table.specs.Limits.{text_limit}
 abbrev pub part_at : {X : Type 0} → List X → Span → List X
 part_at xs s = slice_range xs s.start s.end
 
--- the sequences that the parts of a list of code points name, with their marks
+-- the sequences that the parts of a list of code points name, with their marks, tags and conditions
 abbrev pub parts_of : List ℕ → List Part → List Variant
-parts_of points parts = map (λ p. record { sequence = part_at points p.span; blocked = p.blocked }) parts
+parts_of points parts = map (λ p. record { sequence = part_at points p.span; blocked = p.blocked; tags = p.tags; condition = p.condition }) parts
 
 -- a span within the limit
 abbrev pub IsSpanBelow : ℕ → Span → Type 0

@@ -1,5 +1,4 @@
 use Rattle.variant_list.proofs.UsesLemmas.{UsesSpell-label}
-use Rattle.variant_list.proofs.UseCounts.{use_count-label, use_edges-label}
 use Rattle.variant_list.proofs.SpelledByLemmas.{spelled_by-UsesSpell, AreUses-label}
 use Rattle.variant_list.proofs.laws.uses_agree.Goals as goal
 
@@ -8,6 +7,4 @@ returns c = record {
   spells = λ part table label v formed. UsesSpell-label part table label formed v;
   computes = spelled_by-UsesSpell;
   fit = AreUses-label;
-  count = use_count-label;
-  edges = use_edges-label;
 }

@@ -8,7 +8,7 @@ pub returns-then-reached : goal.returns-then-reached
 returns-then-reached c =
     let label = c.args.label.now in
     let count = length label - c.loop-dropped.dropped in
-    furthest-found c.args.table.now.entries label count c.len-entries.ensures.well_formed (omega arith)
+    furthest-found c.args.table.now label count c.len-entries.ensures.well_formed (omega arith)
     (c.in_ok-reached.ensures.segmented.0 c.if-reached.true) c.loop-dropped.invariant
 
 pub loop-dropped-preserved : goal.loop-dropped-preserved
@@ -20,7 +20,7 @@ loop-dropped-preserved c = λ count more upto has.
       | inl greater ↦ c.loop-dropped.invariant count greater upto has
       | inr from ↦
           let same : count ≡ here = omega arith in
-          let reached = c.in_ok-reached.ensures.segmented.1 (subst (λ n. HasSegmentation c.args.table.now.entries (take n label)) same has) in
+          let reached = c.in_ok-reached.ensures.segmented.1 (subst (λ n. HasSegmentation c.args.table.now (take n label)) same has) in
           let clash : true ≡ false = sym reached ∙ c.if-reached.false in cc
     ]
 
@@ -28,4 +28,4 @@ pub returns : goal.returns
 returns c =
     let label = c.args.label.now in
     let past = c.loop-dropped-test.false in
-    furthest-nowhere c.args.table.now.entries label c.len-entries.ensures.well_formed (λ count more upto. c.loop-dropped.invariant count (omega arith) upto)
+    furthest-nowhere c.args.table.now label c.len-entries.ensures.well_formed (λ count more upto. c.loop-dropped.invariant count (omega arith) upto)

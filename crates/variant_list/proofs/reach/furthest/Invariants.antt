@@ -3,4 +3,4 @@ use Rattle.variant_list.specs.Segmentations.{HasSegmentation}
 use Rattle.variant_list.proofs.reach.furthest.Given as goal
 
 abbrev pub invariant-loop-dropped : goal.invariant-loop-dropped
-invariant-loop-dropped l = (count : ℕ) → length l.label - l.dropped < count → count ≤ length l.label → HasSegmentation l.table.entries (take count l.label) → ⊥
+invariant-loop-dropped l = (count : ℕ) → length l.label - l.dropped < count → count ≤ length l.label → HasSegmentation l.table (take count l.label) → ⊥

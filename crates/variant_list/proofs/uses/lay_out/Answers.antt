@@ -1,5 +1,5 @@
 use Rattle.std.proofs.Common.{◌≡◌, ℕ, suc, ◌+◌, ◌-◌, ◌<◌, List, [], ◌∷◌, length, sym, subst, arith}
-use Rattle.variant_table.specs.Entries.{Entry}
+use Rattle.variant_table.specs.Entries.{TableValue}
 use Rattle.variant_list.specs.inner.Layouts.{Draft, IsLaid}
 use Rattle.variant_list.specs.inner.NetPlans.{IsNetOf}
 use Rattle.variant_list.specs.Uses.{Use, uses_at, uses_from, uses_of}
@@ -11,11 +11,11 @@ pub add_uses_at-requires-clause-count : goal.add_uses_at-requires-clause-count
 add_uses_at-requires-clause-count c =
     let label : List ℕ = c.args.label.now in
     let count : ℕ = c.loop-count.count in
-    omega (arith, c.loop-count.invariant.open_place.count, length-uses_from c.args.part c.args.table.now.entries label count (length label - count), c.loop-count-test.true)
+    omega (arith, c.loop-count.invariant.open_place.count, length-uses_from c.args.part c.args.table.now label count (length label - count), c.loop-count-test.true)
 
 pub loop-count-preserved : goal.loop-count-preserved
 loop-count-preserved c =
-    let table : List Entry = c.args.table.now.entries in
+    let table : TableValue = c.args.table.now in
     let label : List ℕ = c.args.label.now in
     let count : ℕ = c.loop-count.count in
     let position : ℕ = length label - count - 1 in
@@ -33,7 +33,7 @@ loop-count-preserved c =
 
 pub returns-clause-net : goal.returns-clause-net
 returns-clause-net c =
-    let table : List Entry = c.args.table.now.entries in
+    let table : TableValue = c.args.table.now in
     let label : List ℕ = c.args.label.now in
     let draft : Draft = c.loop-count.draft in
     let over : c.loop-count.count ≡ length label = omega (arith, c.loop-count-test.false, c.loop-count.auto.count-end) in

@@ -1,7 +1,8 @@
 use Rattle.std.proofs.Common.{◌≡◌, ◌-◌, ◌∷◌, take}
 use Rattle.std.specs.Prelude.{filter, not}
+use Rattle.variant_table.specs.Entries.{source_of}
 use Rattle.variant_table.proofs.entries.take_unblocked.Given as goal
 
 -- the source and the variants so far that are not blocked
 abbrev pub invariant-loop-number : goal.invariant-loop-number
-invariant-loop-number l = l.sequences ≡ (record { sequence = l.entry.source; blocked = l.entry.outside }) ∷ filter (λ v. not v.blocked) (take (l.number - 1) l.entry.variants)
+invariant-loop-number l = l.sequences ≡ source_of l.entry ∷ filter (λ v. not v.blocked) (take (l.number - 1) l.entry.variants)

@@ -1,7 +1,7 @@
-use Rattle.std.proofs.Common.{◌-◌, ◌≤◌, length, ap, arith}
+use Rattle.std.proofs.Common.{◌-◌, ◌≤◌, ◌∙◌, Some, length, refl, ap, arith}
 use Rattle.std.proofs.lemmas.List.{take_all}
 use Rattle.variant_table.specs.Entries.{Variant, Entry, entry_from}
-use Rattle.variant_table.proofs.EntryLemmas.{variant_from, length-variants}
+use Rattle.variant_table.proofs.EntryLemmas.{same_variant, variant_seen, length-variants}
 use Rattle.variant_table.proofs.WritingLemmas.{variants_text}
 use Rattle.variant_table.proofs.LengthLemmas.{one_mark, sequence_filled, sequence_short, length-variants_next, length-one_line}
 use Rattle.variant_table.proofs.lengths.line_len.Goals as goal
@@ -14,8 +14,9 @@ sequence_len-requires-in-loop-number-clause-short c = sequence_short c.args.sequ
 
 pub loop-number-preserved : goal.loop-number-preserved
 loop-number-preserved c =
-    let v : Variant = record { sequence = c.get-in-loop-number.result.now; blocked = c.is_blocked-in-loop-number.result } in
-    let at = variant_from c.args.sequences.now c.loop-number.number c.get-in-loop-number.result.now c.is_blocked-in-loop-number.result c.get-in-loop-number.ensures c.is_blocked-in-loop-number.ensures in
+    let seen = variant_seen c.args.sequences.now c.loop-number.number c.get-in-loop-number.result.now c.is_blocked-in-loop-number.result c.get-in-loop-number.ensures c.is_blocked-in-loop-number.ensures in
+    let v : Variant = record { sequence = c.get-in-loop-number.result.now; blocked = c.is_blocked-in-loop-number.result; tags = seen.0.tags; condition = seen.0.condition } in
+    let at = seen.1 ∙ ap (λ w. Some w) (same_variant seen.0 v seen.2 seen.3 refl refl) in
     let next = length-variants_next c.args.sequences.now c.loop-number.number v (omega arith) at in (
       omega (arith, c.loop-number.invariant.0, next, c.sequence_len-in-loop-number.ensures.count, c.mark_len-in-loop-number.ensures),
       omega (arith, c.loop-number.invariant.1, c.sequence_len-in-loop-number.ensures.few, one_mark c.is_blocked-in-loop-number.result, c.mark_len-in-loop-number.ensures),

@@ -1,7 +1,7 @@
 use Rattle.std.proofs.Common.{◌≡◌, ◌+◌, ◌-◌, ◌++◌, ◌∷◌, [], rules, ℕ, List, Ok, length, refl, ap, sym, subst, ◌∙◌, arith, length-append}
 use Rattle.variant_table.specs.Conditions.{has_source_in}
 use Rattle.variant_table.specs.Entries.{Entry, entry_from}
-use Rattle.variant_table.specs.Ranges.{point_entry}
+use Rattle.variant_table.specs.Ranges.{point_entry, point_variant}
 use Rattle.variant_table.specs.Reading.{◌>>=◌}
 use Rattle.variant_table.specs.inner.ReadingSteps.{Fails, with_new_source, with_new_sources}
 use Rattle.variant_table.proofs.AddingLemmas.{fails_then}
@@ -16,7 +16,7 @@ returns-in_err-push-2 c =
     let e : Entry = point_entry c.args.outside (first + i) in
     let fault = c.in_err-push-2.field-0.0 in
     let rest : List Entry = points_from c.args.outside (first + (i + 1)) (c.args.count - (i + 1)) in
-    let is : entry_from c.push.new.self ≡ e = ap entry_from (c.in_ok-push.ensures.ok ∙ ap (λ ss. ss ++ (record { sequence = (first + i) ∷ []; blocked = c.args.outside }) ∷ []) c.clear.ensures) in
+    let is : entry_from c.push.new.self ≡ e = ap entry_from (c.in_ok-push.ensures.ok ∙ ap (λ ss. ss ++ point_variant c.args.outside (first + i) ∷ []) c.clear.ensures) in
     let failed : Fails c.args.number fault (with_new_source t e) = subst (λ x. Fails c.args.number fault (with_new_source t x)) is c.in_err-push-2.ensures.read in
     let fails : Fails c.args.number fault (with_new_sources c.args.rows.now (points_from c.args.outside first c.args.count)) =
     subst (Fails c.args.number fault) (sym (ap (with_new_sources t) (points_next c.args.outside first c.args.count i c.loop-offset-test.true)) ∙ c.loop-offset.invariant.same) (fails_then c.args.number fault (with_new_source t e) (λ x. with_new_sources x rest) failed) in
@@ -30,7 +30,7 @@ loop-offset-preserved c =
     let t' : List Entry = c.push-in-loop-offset.new.self in
     let e : Entry = point_entry c.args.outside (first + i) in
     let rest : List Entry = points_from c.args.outside (first + (i + 1)) (c.args.count - (i + 1)) in
-    let is : entry_from c.push.new.self ≡ e = ap entry_from (c.in_ok-push.ensures.ok ∙ ap (λ ss. ss ++ (record { sequence = (first + i) ∷ []; blocked = c.args.outside }) ∷ []) c.clear.ensures) in
+    let is : entry_from c.push.new.self ≡ e = ap entry_from (c.in_ok-push.ensures.ok ∙ ap (λ ss. ss ++ point_variant c.args.outside (first + i) ∷ []) c.clear.ensures) in
     let added : with_new_source t e ≡ Ok t' = ap (with_new_source t) (sym is) ∙ c.in_ok-push-2.ensures.read in
     record {
       same = sym (ap (with_new_sources t) (points_next c.args.outside first c.args.count i c.loop-offset-test.true) ∙ ap (λ r. r >>= λ x. with_new_sources x rest) added) ∙ c.loop-offset.invariant.same;

@@ -19,13 +19,13 @@ build-requires-clause-short g c =
 
 pub returns-in-Ok-clause-written : goal.returns-in-Ok-clause-written
 returns-in-Ok-clause-written g c =
-    rw (← c.parts_of.ensures.label, ← c.parts_of.ensures.text, segmented_answer c.args.table.now.entries c.parts_of.result.0.now _ c.requires.table c.in-Ok.ensures.segmented)
+    rw (← c.parts_of.ensures.label, ← c.parts_of.ensures.text, segmented_answer c.args.table.now c.parts_of.result.0.now _ c.requires.table c.in-Ok.ensures.segmented)
     (emits_answered _ _ _ c.write_least.result c.answered.result c.answered.ensures
-    (rw (among_from-in_order c.in-Ok.net.spelled (spelled c.args.table.now.entries c.parts_of.result.0.now) c.parts_of.result.1.now c.in-Ok.ensures.spelled) at c.write_least.ensures.written))
+    (rw (among_from-in_order c.in-Ok.net.spelled (spelled c.args.table.now c.parts_of.result.0.now) c.parts_of.result.1.now c.in-Ok.ensures.spelled) at c.write_least.ensures.written))
 
 pub returns-in-Ok-clause-refused : goal.returns-in-Ok-clause-refused
 returns-in-Ok-clause-refused g c =
-    rw (← c.parts_of.ensures.label, ← c.parts_of.ensures.text, segmented_answer c.args.table.now.entries c.parts_of.result.0.now _ c.requires.table c.in-Ok.ensures.segmented)
+    rw (← c.parts_of.ensures.label, ← c.parts_of.ensures.text, segmented_answer c.args.table.now c.parts_of.result.0.now _ c.requires.table c.in-Ok.ensures.segmented)
     (answered_none c.write_least.result c.answered.result c.answered.ensures)
 
 pub returns-in-Ok-clause-kept : goal.returns-in-Ok-clause-kept
@@ -39,9 +39,9 @@ returns-in-Err-Memory-clause-written g c = stops_first _ _
 
 pub returns-in-Err-NotInTable-clause-written : goal.returns-in-Err-NotInTable-clause-written
 returns-in-Err-NotInTable-clause-written g c =
-    rw (← c.parts_of.ensures.label, ← c.parts_of.ensures.text, unsegmented_answer c.args.table.now.entries c.parts_of.result.0.now _ c.requires.table (c.in-Err-NotInTable.ensures.not_in_table c.in-Err-NotInTable.field-0-is))
+    rw (← c.parts_of.ensures.label, ← c.parts_of.ensures.text, unsegmented_answer c.args.table.now c.parts_of.result.0.now _ c.requires.table (c.in-Err-NotInTable.ensures.not_in_table c.in-Err-NotInTable.field-0-is))
     (writes_nothing _)
 
 pub returns-in-Err-NotInTable-clause-refused : goal.returns-in-Err-NotInTable-clause-refused
 returns-in-Err-NotInTable-clause-refused g c =
-    rw (← c.parts_of.ensures.label, ← c.parts_of.ensures.text, unsegmented_answer c.args.table.now.entries c.parts_of.result.0.now _ c.requires.table (c.in-Err-NotInTable.ensures.not_in_table c.in-Err-NotInTable.field-0-is)) refl
+    rw (← c.parts_of.ensures.label, ← c.parts_of.ensures.text, unsegmented_answer c.args.table.now c.parts_of.result.0.now _ c.requires.table (c.in-Err-NotInTable.ensures.not_in_table c.in-Err-NotInTable.field-0-is)) refl

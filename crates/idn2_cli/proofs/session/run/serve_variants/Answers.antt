@@ -24,8 +24,8 @@ returns g c =
     let o : Settings = keeping (option_copied c.args.registered) c.args.options.now in
     let table : TableValue = c.in-Ok.table in
     as_mode o Variants c.args.text.now (Ok table) _ _ _ _ _ c.serve_lines.result c.requires.mode (subst (λ n. IsTextOf n c.args.text.now c.in-Ok.table) (ap (λ (v : Settings). v.notation) c.options.view_is) c.in-Ok.ensures.table)
-    (ap (λ f. lines_job f (explained_by c.if_wanted-explaining.result) (variants_answer o table) true (λ line. IsRefusedWithoutMemory (chars line)) (λ line. All NeedsNoMemory (tested_after (filter_of table) o (spelled table.entries (chars line)))))
+    (ap (λ f. lines_job f (explained_by c.if_wanted-explaining.result) (variants_answer o table) true (λ line. IsRefusedWithoutMemory (chars line)) (λ line. All NeedsNoMemory (tested_after (filter_of table) o (spelled table (chars line)))))
     (ap (λ (v : Settings). v.form) c.options.view_is)
-    ∙ ap (λ e. lines_job o.form e (variants_answer o table) true (λ line. IsRefusedWithoutMemory (chars line)) (λ line. All NeedsNoMemory (tested_after (filter_of table) o (spelled table.entries (chars line)))))
-    (c.if_wanted-explaining.ensures ∙ ap (λ x. if_wanted x (ByTable table.entries)) c.tells_causes.ensures))
+    ∙ ap (λ e. lines_job o.form e (variants_answer o table) true (λ line. IsRefusedWithoutMemory (chars line)) (λ line. All NeedsNoMemory (tested_after (filter_of table) o (spelled table (chars line)))))
+    (c.if_wanted-explaining.ensures ∙ ap (λ x. if_wanted x (ByTable table)) c.tells_causes.ensures))
     c.serve_lines.ensures
