@@ -16,3 +16,6 @@ returns-in-Unblocked c =
     let e : Entry = c.args.entry.now in
     subst (λ (part : Part). slice_get (map (part_has part) (marked e)) c.args.number ≡ Some (not c.blocked.result)) (sym c.in-Unblocked.is)
     (has-Unblocked e c.args.number c.blocked.result c.blocked.ensures)
+
+pub returns-in-Tagged : goal.returns-in-Tagged
+returns-in-Tagged c = ?
