@@ -1,7 +1,7 @@
 -- The parts of a table: a part has some of the replacements of its entries, and all of their sources.
-use Rattle.std.specs.Prelude.{ℕ, Bool, true, false, not, ◌&&◌, ◌||◌, ◌==◌, ◌≡◌, None, List, [], ◌∷◌, length, filter, All}
+use Rattle.std.specs.Prelude.{ℕ, Bool, true, false, not, ◌&&◌, ◌||◌, ◌==◌, ◌≡◌, None, List, [], ◌∷◌, length, All}
 use Rattle.std.specs.List.{list_any}
-use Rattle.variant_table.specs.Entries.{Entry, TableValue, Variant, sequences_in}
+use Rattle.variant_table.specs.Entries.{Entry, TableValue, Variant}
 use Rattle.variant_list.specs.declared.part.Part.{Part}
 use Rattle.variant_list.specs.declared.part.Part.TheVariants.{Whole, Unblocked, Tagged}
 
@@ -19,10 +19,6 @@ abbrev pub part_has : Part → Variant → Bool
 part_has Whole r = true
 part_has Unblocked r = not r.blocked
 part_has (Tagged tag) r = not r.blocked && are_of tag r.tags
-
--- what may stand in the place of the source: those of its replacements that the part has
-abbrev pub replacements_in : Part → Entry → List (List ℕ)
-replacements_in part e = sequences_in (filter (part_has part) (marked e))
 
 -- neither a source nor a variant of the table has tags
 abbrev pub HasNoTags : TableValue → Type 0
