@@ -1,23 +1,15 @@
-<<<<<<< HEAD
 -- The replacements that a part of a table has, and what its parts spell.
 use Rattle.std.proofs.Common.{◌≡◌, ◌<◌, ◌+◌, ℕ, zero, suc, Bool, true, false, None, List, [], ◌∷◌, ◌++◌, length, Some, slice_get, refl, sym, ap, ◌∙◌, subst, inl, inr, ◌↔◌, map, arith}
 use Rattle.std.specs.Prelude.{not, ◌&&◌}
-=======
--- The replacements that a part of a table has, and that its part that is not blocked spells what the table without its blocked
--- variants spells.
-use Rattle.std.proofs.Common.{◌≡◌, ◌<◌, ◌≤◌, ℕ, zero, suc, Bool, true, false, List, [], ◌∷◌, ◌++◌, length, Some, slice_get, refl, sym, ap, ◌∙◌, subst, inl, inr, ◌↔◌, map, arith}
-use Rattle.std.specs.Prelude.{not, ◌&&◌, filter, if◌then◌else◌}
->>>>>>> main
 use Rattle.std.specs.Option.{option_map}
 use Rattle.std.specs.List.{Contains, All, AllByRecursion, flat_map}
 use Rattle.std.proofs.lemmas.List.{length-map}
 use Rattle.std.proofs.lemmas.List.Elements.{All-contains}
 use Rattle.std.proofs.lemmas.Option.{slice_get-map}
-<<<<<<< HEAD
 use Rattle.label_patterns.specs.Patterns.{Pattern}
 use Rattle.label_patterns.specs.Matches.{Seen}
 use Rattle.label_patterns.specs.Conditions.{ConditionHolds}
-use Rattle.variant_table.specs.Entries.{Entry, TableValue, Variant, replacements, marks, whole, sequences_in, unblocked, unblocked_entry}
+use Rattle.variant_table.specs.Entries.{Entry, TableValue, Variant, replacements, marks, whole, itself, sequences_in, unblocked, unblocked_entry}
 use Rattle.valid_labels.specs.Segmentations.{AllHold, IsSegmentation, seen_under}
 use Rattle.variant_list.specs.declared.part.Part.{Part}
 use Rattle.variant_list.specs.declared.part.Part.TheVariants.{Whole, Unblocked, Tagged}
@@ -25,19 +17,6 @@ use Rattle.variant_list.specs.Laws.{without_blocked}
 use Rattle.variant_list.specs.Spelling.{Replaces, JoinsReplacements, PartSpells, Spells}
 use Rattle.variant_list.specs.Parts.{marked, are_of, part_has, HasNoTags}
 use Rattle.variant_list.proofs.ListMembers.{Contains-head, Contains-later, Contains-cases, Contains-map, Contains-filter}
-=======
-use Rattle.variant_table.specs.Entries.{Entry, TableValue, Variant, replacements, marks, whole, sequences_in, unblocked, unblocked_entry}
-use Rattle.variant_list.specs.declared.part.Part.{Part}
-use Rattle.variant_list.specs.declared.part.Part.TheVariants.{Whole, Unblocked, Tagged}
-use Rattle.variant_list.specs.Laws.{without_blocked}
-use Rattle.variant_list.specs.Spelling.{JoinsReplacements, PartSpells, Spells}
-use Rattle.variant_list.specs.Parts.{marked, are_of, part_has, replacements_in, HasNoTags}
-use Rattle.variant_list.proofs.ListMembers.{Contains-head, Contains-later, Contains-none, Contains-cases, Contains-map}
->>>>>>> main
-
--- the source of an entry as a replacement of itself
-abbrev pub itself : Entry → Variant
-itself e = record { sequence = e.source; blocked = false; tags = e.tags; condition = None }
 
 -- what replaces the source of an entry is one of its replacements
 pub Replaces-of_entry : (part : Part) (table : TableValue) (label : List ℕ) (place : ℕ) (e : Entry) (r : List ℕ) → Replaces part table label place e r → Contains (replacements e) r
@@ -117,12 +96,11 @@ from_unblocked : (table : TableValue) (label : List ℕ) (place : ℕ) (segmenta
 from_unblocked table label place [] v of inside held joins = record { given = []; of_table = tt; inside = tt; sources = refl; held = tt; joins = joins }
 from_unblocked table label place (e ∷ segmentation) v of inside held joins =
     let g = (Contains-map unblocked_entry table.entries e).0 of.0 in
-    one g.0 g.1 g.2
+    one (from_unblocked table label (place + length e.source) segmentation joins.1 of.1 inside.1 held.1 joins.3) g.0 g.1 g.2
   where
-    one : (f : Entry) → Contains table.entries f → e ≡ unblocked_entry f → IsFrom table label place (e ∷ segmentation) v
-    one f in_table same =
+    one : IsFrom table label (place + length e.source) segmentation joins.1 → (f : Entry) → Contains table.entries f → e ≡ unblocked_entry f → IsFrom table label place (e ∷ segmentation) v
+    one rest f in_table same =
         let source : f.source ≡ e.source = ap (λ (x : Entry). x.source) (sym same) in
-        let rest = from_unblocked table label (place + length e.source) segmentation joins.1 of.1 inside.1 held.1 joins.3 in
         let r = joins.2 in
         let of_entry = (marked-unblocked f r.replacement).1 (subst (λ (x : Entry). Contains (marked x) r.replacement) same r.of_entry) in
         let next : place + length e.source ≡ place + length f.source = ap (λ s. place + length s) (sym source) in
@@ -211,37 +189,6 @@ lacks-Tagged tag e i at =
 
 -- ---- the sub-table of a tag
 
-<<<<<<< HEAD
-=======
--- a part that has all that another has
-replacement-of_more : (part more : Part) (vs : List Variant) → ((v : Variant) → Contains vs v → part_has part v ≡ true → part_has more v ≡ true) → (r : List ℕ)
-    → Contains (sequences_in (filter (part_has part) vs)) r → Contains (sequences_in (filter (part_has more) vs)) r
-replacement-of_more part more [] each r m = m
-replacement-of_more part more (v ∷ vs) each r m =
-    by_test (part_has part v) (part_has more v) (each v (Contains-head v vs)) m (replacement-of_more part more vs (λ w h. each w (Contains-later v vs w h)) r)
-  where
-    by_test : (t u : Bool) → (t ≡ true → u ≡ true) → Contains (sequences_in (if t then v ∷ filter (part_has part) vs else filter (part_has part) vs)) r
-        → (Contains (sequences_in (filter (part_has part) vs)) r → Contains (sequences_in (filter (part_has more) vs)) r)
-        → Contains (sequences_in (if u then v ∷ filter (part_has more) vs else filter (part_has more) vs)) r
-    by_test true true stays m go = elim (Contains-cases v.sequence (sequences_in (filter (part_has part) vs)) r m) [
-      | inl e ↦ subst (Contains (v.sequence ∷ sequences_in (filter (part_has more) vs))) e (Contains-head v.sequence (sequences_in (filter (part_has more) vs)))
-      | inr later ↦ Contains-later v.sequence (sequences_in (filter (part_has more) vs)) r (go later)
-    ]
-    by_test true false stays m go = absurd (let clash : false ≡ true = stays refl in cc)
-    by_test false true stays m go = Contains-later v.sequence (sequences_in (filter (part_has more) vs)) r (go m)
-    by_test false false stays m go = go m
-
-joins-of_more : (part more : Part) (entries : List Entry) → ((e : Entry) → Contains entries e → (v : Variant) → Contains (marked e) v → part_has part v ≡ true → part_has more v ≡ true)
-    → (segmentation : List Entry) (v : List ℕ) → AllByRecursion (Contains entries) segmentation → JoinsReplacements part segmentation v → JoinsReplacements more segmentation v
-joins-of_more part more entries each [] v of h = h
-joins-of_more part more entries each (e ∷ segmentation) v of h =
-    (h.0, h.1, replacement-of_more part more (marked e) (each e of.0) h.0 h.2, joins-of_more part more entries each segmentation h.1 of.1 h.3, h.4)
-
-PartSpells-more : (part more : Part) (table : TableValue) → ((e : Entry) → Contains table.entries e → (v : Variant) → Contains (marked e) v → part_has part v ≡ true → part_has more v ≡ true)
-    → (label v : List ℕ) → PartSpells part table label v → PartSpells more table label v
-PartSpells-more part more table each label v s = (s.0, s.1, joins-of_more part more table.entries each s.0 v s.1.of_table s.2)
-
->>>>>>> main
 pub PartSpells-Tagged : (tag : ℕ) (table : TableValue) (label v : List ℕ) → PartSpells (Tagged tag) table label v → PartSpells Unblocked table label v
 PartSpells-Tagged tag table = PartSpells-more (Tagged tag) Unblocked table (λ e h v m has. and-left (not v.blocked) (are_of tag v.tags) has)
 

@@ -4,7 +4,7 @@ ghost use Rattle.variant_table.specs.Entries.{replacements, whole};
 ghost use Rattle.variant_table.specs.WellFormed.{IsSequence, IsWellFormed};
 ghost use Rattle.variant_list.specs.Parts.{are_of, marked, part_has};
 ghost use Rattle.variant_list.specs.Uses.{holds_for, may_stand, may_replace, use_of, uses_of_entry, uses_at, uses_of};
-ghost use Rattle.variant_list.specs.inner.Asking.{LabelUses};
+ghost use Rattle.variant_list.specs.inner.Asking.{CanAsk};
 ghost use Rattle.variant_list.specs.inner.NetPlans.{IsNetOf};
 ghost use Rattle.variant_list.specs.inner.Layouts.{IsSound, HasTaken};
 
@@ -13,21 +13,22 @@ use crate::graph::Graph;
 use crate::part::Part;
 use label_patterns::{SeenLabel, condition_holds};
 use std::alloc::{AllocError, Global};
-use std::marker::Model;
 use variant_table::{Entry, Table};
 
 /// The net of a label of at most 63 code points: a place for each of its beginnings, and a chain of edges for each
 /// replacement that the part has of each entry at a place, as far as their conditions hold in the label.
-pub(crate) fn lay_out(
+pub(crate) fn lay_out<'a>(
     alloc: Global,
-    table: &Table,
+    table: &'a Table,
     part: Part,
-    label: &[u32],
+    label: &'a [u32],
 ) -> Result<Graph, AllocError>
     requires short { length label.now ≤ 63 }
     ensures net { IfOk result (IsNetOf (uses_of part table.now label.now)) }
     ensures well_formed { IsWellFormed table.now.entries }
 {
+    // The length is read for its contract alone: a table is well-formed, so no source is empty.
+    let _entries = table.len();
     if !table.has_conditions() {
         let seen = None;
         return lay_out_uses(
@@ -57,11 +58,9 @@ pub(crate) fn lay_out(
 
 /// The net of these uses.
 fn lay_out_uses(alloc: Global, uses: &Uses<'_>) -> Result<Graph, AllocError>
-    ensures net { IfOk result (IsNetOf (uses_of uses.now.part uses.now.table uses.now.label)) }
-    ensures well_formed { IsWellFormed uses.now.table.entries }
+    requires asked { CanAsk uses.now.table.now uses.now.label.now uses.now.seen }
+    ensures { IfOk result (IsNetOf (uses_of uses.now.part uses.now.table.now uses.now.label.now)) }
 {
-    // The length is read for its contract alone: a table is well-formed, so no source is empty.
-    let _entries = uses.table.len();
     let len = uses.label.len();
     let mut draft = NetDraft::new(alloc, len)?;
     for count in 0..len {
@@ -72,6 +71,7 @@ fn lay_out_uses(alloc: Global, uses: &Uses<'_>) -> Result<Graph, AllocError>
 }
 
 /// What tells the uses of a label under a part of a table.
+#[derive(Drop)]
 struct Uses<'a> {
     table: &'a Table,
     part: Part,
@@ -80,23 +80,14 @@ struct Uses<'a> {
     seen: Option<SeenLabel<'a>>,
 }
 
-impl<'a> Model for Uses<'a> {
-    ghost use Rattle.variant_list.specs.inner.Asking.{LabelUses, CanAsk};
-
-    ghost Value = { LabelUses };
-
-    ghost view = { λ u. record { table = u.table.now; part = u.part; label = u.label.now } };
-
-    ghost invariant = { λ u. CanAsk u.table.now u.label.now u.seen };
-}
-
 impl<'a> Uses<'a> {
     /// Adds the uses that begin at a place of the label.
     fn add_at(&self, draft: &mut NetDraft, place: usize) -> Result<(), AllocError>
+        requires asked { CanAsk self.now.table.now self.now.label.now self.now.seen }
         requires sound { IsSound draft.old }
-        requires place { place < length self.now.label }
-        requires count { place + length draft.old.places ≡ length self.now.label }
-        ensures { OnOk result (HasTaken draft.old (uses_at self.now.part self.now.table self.now.label place) draft.new) }
+        requires place { place < length self.now.label.now }
+        requires count { place + length draft.old.places ≡ length self.now.label.now }
+        ensures { OnOk result (HasTaken draft.old (uses_at self.now.part self.now.table.now self.now.label.now place) draft.new) }
     {
         for entry in self.table.entries_at(self.label, place) {
             if self.may_stand(&entry, place) {
@@ -109,9 +100,10 @@ impl<'a> Uses<'a> {
     /// Whether an entry may be in a segmentation of the label, with its source at the place. A label that is asked
     /// about has no outside source.
     fn may_stand(&self, entry: &Entry<'_>, place: usize) -> bool
-        requires in_table { Contains self.now.table.entries entry.now }
-        requires within { place + length entry.now.source ≤ length self.now.label }
-        ensures { result ≡ may_stand self.now.table self.now.label place entry.now }
+        requires asked { CanAsk self.now.table.now self.now.label.now self.now.seen }
+        requires in_table { Contains self.now.table.now.entries entry.now }
+        requires within { place + length entry.now.source ≤ length self.now.label.now }
+        ensures { result ≡ may_stand self.now.table.now self.now.label.now place entry.now }
     {
         !entry.is_outside() && self.holds_for(entry, 0, place)
     }
@@ -124,15 +116,16 @@ impl<'a> Uses<'a> {
         entry: &Entry<'_>,
         place: usize,
     ) -> Result<(), AllocError>
-        requires in_table { Contains self.now.table.entries entry.now }
-        requires within { place + length entry.now.source ≤ length self.now.label }
+        requires asked { CanAsk self.now.table.now self.now.label.now self.now.seen }
+        requires in_table { Contains self.now.table.now.entries entry.now }
+        requires within { place + length entry.now.source ≤ length self.now.label.now }
         requires sound { IsSound draft.old }
         requires sequences { All IsSequence (replacements entry.now) }
         requires room { length entry.now.source ≤ length draft.old.places }
-        ensures { OnOk result (HasTaken draft.old (uses_of_entry self.now.part self.now.table self.now.label place entry.now) draft.new) }
+        ensures { OnOk result (HasTaken draft.old (uses_of_entry self.now.part self.now.table.now self.now.label.now place entry.now) draft.new) }
     {
         // Of a whole table without conditions no replacement is asked about.
-        if self.seen.is_none() && self.part == Part::Whole {
+        if self.seen.is_none() && matches!(self.part, Part::Whole) {
             return add_all(draft, entry);
         }
         let covers = entry.source().len();
@@ -146,10 +139,11 @@ impl<'a> Uses<'a> {
 
     /// Whether the replacement of this number may be put in the place of the source, which begins at this place.
     fn may_replace(&self, entry: &Entry<'_>, number: usize, place: usize) -> bool
+        requires asked { CanAsk self.now.table.now self.now.label.now self.now.seen }
         requires number { number < length (replacements entry.now) }
-        requires in_table { Contains self.now.table.entries entry.now }
-        requires within { place + length entry.now.source ≤ length self.now.label }
-        ensures { slice_get (map (may_replace self.now.part self.now.table self.now.label place entry.now) (marked entry.now)) number ≡ Some result }
+        requires in_table { Contains self.now.table.now.entries entry.now }
+        requires within { place + length entry.now.source ≤ length self.now.label.now }
+        ensures { slice_get (map (may_replace self.now.part self.now.table.now self.now.label.now place entry.now) (marked entry.now)) number ≡ Some result }
     {
         // The source has its condition as a source, and none as a replacement of itself.
         has_replacement(self.part, entry, number)
@@ -158,10 +152,11 @@ impl<'a> Uses<'a> {
 
     /// Whether the condition of the source or variant of this number holds for the source, which begins at this place.
     fn holds_for(&self, entry: &Entry<'_>, number: usize, place: usize) -> bool
+        requires asked { CanAsk self.now.table.now self.now.label.now self.now.seen }
         requires number { number < length (replacements entry.now) }
-        requires in_table { Contains self.now.table.entries entry.now }
-        requires within { place + length entry.now.source ≤ length self.now.label }
-        ensures { slice_get (map (λ r. holds_for self.now.table self.now.label place entry.now r.condition) (whole entry.now)) number ≡ Some result }
+        requires in_table { Contains self.now.table.now.entries entry.now }
+        requires within { place + length entry.now.source ≤ length self.now.label.now }
+        ensures { slice_get (map (λ r. holds_for self.now.table.now self.now.label.now place entry.now r.condition) (whole entry.now)) number ≡ Some result }
     {
         let Some(seen) = &self.seen else {
             return true;

@@ -1,15 +1,8 @@
--- What tells the uses of a label.
+-- How the conditions of a table are asked of a label.
 use Rattle.std.specs.Prelude.{◌≡◌, ℕ, List, Option, Some, None, All}
 use Rattle.label_patterns.specs.Matches.{Seen}
 use Rattle.variant_table.specs.Entries.{TableValue, whole}
 use Rattle.valid_labels.specs.Segmentations.{seen_under}
-use Rattle.variant_list.specs.declared.part.Part.{Part}
-
--- a label, and the part of a table under which it has uses
-pub record LabelUses : Type 0 where
-  pub table : TableValue
-  pub part : Part
-  pub label : List ℕ
 
 -- the label as the rules of the table see it, or none, where neither a source nor a variant has a condition
 abbrev pub CanAsk : TableValue → List ℕ → Option Seen → Type 0
