@@ -5,3 +5,7 @@ mod OneLemmas
 mod LawLemmas
 mod ContextLemmas
 mod DemandLemmas
+pub mod GrownLemmas
+pub mod TestLemmas
+pub mod BarringLemmas
+pub mod AskingLemmas

@@ -1,0 +1,2 @@
+pub mod Segmentations
+pub mod Laws
