@@ -1,26 +1,31 @@
 -- What the entries of a line add.
-use Rattle.std.proofs.Common.{◌≡◌, ℕ, ◌+◌, ◌<◌, ◌≤◌, Bool, true, false, ◌||◌, cond, List, [], ◌∷◌, ◌++◌, length, map, Option, Some, None, Result, Ok, Err, refl, sym, ap, subst, ◌∙◌, arith, append_assoc, length-append}
-use Rattle.std.specs.Prelude.{nat_lt}
-use Rattle.std.specs.List.{AllByRecursion, list_any}
+use Rattle.std.proofs.Common.{◌≡◌, ℕ, ◌+◌, ◌-◌, ◌<◌, ◌≤◌, Bool, true, false, ◌||◌, cond, List, [], ◌∷◌, ◌++◌, length, map, Option, Some, None, Result, Ok, Err, refl, sym, ap, subst, ◌∙◌, arith, length-append}
+use Rattle.std.specs.Prelude.{nat_lt, slice_index}
+use Rattle.std.specs.List.{AllByRecursion, list_any, range_with_len}
 use Rattle.std.proofs.lemmas.Bool.{le-ltb, lt-ltb, or_from}
-use Rattle.ruleset_text.specs.Definitions.{Definitions, definitions_text}
+use Rattle.std.proofs.lemmas.List.FromFn.{length-map-range_with_len}
+use Rattle.ruleset_text.specs.Definitions.{Definitions}
 use Rattle.ruleset_text.specs.Entries.{Mapped, EntryForm}
+use Rattle.ruleset_text.specs.EntryText.{IsForm}
 use Rattle.variant_table.specs.declared.fault.TableFault.{TableFault}
 use Rattle.variant_table.specs.declared.fault.TableFault.TheVariants as tables
 use Rattle.variant_table.specs.declared.version.Version.{Version}
 use Rattle.variant_table.specs.declared.version.Version.TheVariants.{One, Two, Three}
-use Rattle.variant_table.specs.Faults.{LineFault, Limit, SameSource}
+use Rattle.variant_table.specs.Faults.{LineFault, Limit, NoSuchName, BadClass, SameVariant, SameSource}
 use Rattle.variant_table.specs.Canonical.{table_text, written_text}
-use Rattle.variant_table.specs.Conditions.{is_too_large, is_text_too_long, is_over_limit, has_source_in}
+use Rattle.variant_table.specs.Conditions.{is_too_large, is_text_too_long, is_over_limit, has_bad_class, has_repeat, has_source_in}
 use Rattle.variant_table.specs.Entries.{Entry}
-use Rattle.variant_table.specs.Forms.{written_out, entry_of}
+use Rattle.variant_table.specs.Forms.{with_point, written_out, knows_all, variant_of, entry_of, entries_of}
 use Rattle.variant_table.specs.Limits.{text_limit, entry_limit}
-use Rattle.variant_table.specs.Reading.{◌>>=◌, with_form}
+use Rattle.variant_table.specs.Ranges.{range_size}
+use Rattle.variant_table.specs.Reading.{◌>>=◌, with_entries, with_form}
 use Rattle.variant_table.specs.WellFormed.{IsNamed}
 use Rattle.variant_table.specs.inner.Held.{counted, IsCounted, IsLeft}
-use Rattle.variant_table.specs.inner.ReadingSteps.{Fails}
-use Rattle.variant_table.proofs.ConditionLemmas.{IsKnown, text_with}
-use Rattle.variant_table.proofs.TestLemmas.{with_form-over}
+use Rattle.variant_table.specs.inner.ReadingSteps.{Fails, with_new_source, with_new_sources}
+use Rattle.variant_table.proofs.ConditionLemmas.{IsKnown, known_form, named_form, points_are, text_with}
+use Rattle.variant_table.proofs.LengthLemmas.{range_lines}
+use Rattle.variant_table.proofs.RangeLemmas.{points_from, range_small, range_single, with_range}
+use Rattle.variant_table.proofs.TestLemmas.{with_form-over, with_form-unnamed, with_form-entries, entries-bad, entries-again, entries-new}
 
 -- a fault of the first step is one of both
 pub fails_then : {X Y : Type 0} (number : ℕ) (fault : TableFault) (r : Result X LineFault) (f : X → Result Y LineFault) → Fails number fault r → Fails number fault (r >>= f)
@@ -91,7 +96,103 @@ module _ (v : Version) (d : Definitions) (t : List Entry) (form : EntryForm) (le
     named = all-join (IsNamed d) t es so_far.named named;
   }
 
--- with a new source
-pub new_table : (b : Bool) (t es t' : List Entry) → cond b (Err SameSource) (Ok (t ++ es)) ≡ Ok t' → t' ≡ t ++ es
+-- with new sources
+new_table : (b : Bool) (t es t' : List Entry) → cond b (Err SameSource) (Ok (t ++ es)) ≡ Ok t' → t' ≡ t ++ es
 new_table true t es t' h = absurd cc
 new_table false t es t' h = cc
+
+or_none : (b : Bool) → (b || false) ≡ b
+or_none true = refl
+or_none false = refl
+
+-- ---- an entry
+
+module _ (v : Version) (d : Definitions) (t : List Entry) (ms : List Mapped) (left : ℕ) (so_far : IsCounted v d left t) where
+  abbrev pub entry_form : EntryForm
+  entry_form = record { mapped = ms; last = None }
+
+  pub entry_too_many : entry_limit v ≤ length t → with_form v d t entry_form ≡ Err Limit
+  entry_too_many l = too_many v d t entry_form left so_far (omega (arith, l))
+
+  pub entry_too_large : is_too_large ms ≡ true → with_form v d t entry_form ≡ Err Limit
+  entry_too_large h = too_large v d t entry_form left so_far (ap (λ b. b || false) h)
+
+  pub entry_too_long : left < counted v (written_text (ms ∷ [])) → with_form v d t entry_form ≡ Err Limit
+  entry_too_long l = too_long v d t entry_form left so_far l
+
+  module _ (is : IsForm ms None) (few : length t < entry_limit v) (small : is_too_large ms ≡ false) (rest : ℕ) (rest-is : counted v (written_text (ms ∷ [])) + rest ≡ left) where
+    fits : is_over_limit v d t (ms ∷ []) ≡ false
+    fits = not_over v d t entry_form left so_far (omega (arith, few)) (ap (λ b. b || false) small) rest rest-is
+
+    pub entry_unnamed : knows_all d ms ≡ false → with_form v d t entry_form ≡ Err NoSuchName
+    entry_unnamed k = with_form-unnamed v d t entry_form fits k
+
+    module _ (known : knows_all d ms ≡ true) where
+      pub entry_bad : has_bad_class (entry_of d ms) ≡ true → with_form v d t entry_form ≡ Err BadClass
+      entry_bad b = with_form-entries v d t entry_form fits known ∙ entries-bad t (entry_of d ms ∷ []) (ap (λ x. x || false) b)
+
+      pub entry_again : has_bad_class (entry_of d ms) ≡ false → has_repeat (entry_of d ms) ≡ true → with_form v d t entry_form ≡ Err SameVariant
+      entry_again b r = with_form-entries v d t entry_form fits known ∙ entries-again t (entry_of d ms ∷ []) (ap (λ x. x || false) b) (ap (λ x. x || false) r)
+
+      pub entry_new : has_bad_class (entry_of d ms) ≡ false → has_repeat (entry_of d ms) ≡ false → with_form v d t entry_form ≡ with_new_source t (entry_of d ms)
+      entry_new b r =
+          with_form-entries v d t entry_form fits known ∙ entries-new t (entry_of d ms ∷ []) (ap (λ x. x || false) b) (ap (λ x. x || false) r)
+          ∙ ap (λ x. cond x (Err SameSource) (Ok (t ++ entry_of d ms ∷ []))) (or_none (has_source_in t (entry_of d ms)))
+
+      pub entry_counted : (t' : List Entry) → with_new_source t (entry_of d ms) ≡ Ok t' → IsCounted v d rest t'
+      entry_counted t' e =
+          subst (IsCounted v d rest) (sym (new_table (has_source_in t (entry_of d ms)) t (entry_of d ms ∷ []) t' e))
+          (counted_with v d t entry_form left so_far (known_form d None ms is known) (entry_of d ms ∷ []) refl (named_form d None ms is known) rest rest-is)
+
+-- ---- a range
+
+module _ (v : Version) (d : Definitions) (t : List Entry) (m : Mapped) (first last count left : ℕ) (so_far : IsCounted v d left t) (at : slice_index m.points 0 ≡ first) (size : count ≡ last - first + 1) (rises : first ≤ last) where
+  abbrev pub range_form : EntryForm
+  range_form = record { mapped = m ∷ []; last = Some last }
+
+  lines : written_out range_form ≡ range_lines m first count
+  lines = ap (λ f. range_lines m f (range_size f last)) at ∙ ap (range_lines m first) (let same : last + 1 - first ≡ count = omega (arith, size, rises) in same)
+
+  length-lines : length (written_out range_form) ≡ count
+  length-lines = ap length lines ∙ length-map-range_with_len (λ c. with_point m c ∷ []) first count
+
+  pub range_too_many : entry_limit v < length t + count → with_form v d t range_form ≡ Err Limit
+  range_too_many l = too_many v d t range_form left so_far (omega (arith, l, length-lines))
+
+  pub range_too_long : left < counted v (written_text (range_lines m first count)) → with_form v d t range_form ≡ Err Limit
+  range_too_long l = too_long v d t range_form left so_far (subst (λ es. left < counted v (written_text es)) (sym lines) l)
+
+  module _ (is : IsForm (m ∷ []) (Some last)) (few : length t + count ≤ entry_limit v) (rest : ℕ) (rest-is : counted v (written_text (range_lines m first count)) + rest ≡ left) where
+    text_left : counted v (written_text (written_out range_form)) + rest ≡ left
+    text_left = ap (λ es. counted v (written_text es) + rest) lines ∙ rest-is
+
+    range_fits : is_over_limit v d t (written_out range_form) ≡ false
+    range_fits = not_over v d t range_form left so_far (omega (arith, few, length-lines)) (ap (list_any is_too_large) lines ∙ range_small m (range_with_len first count)) rest text_left
+
+    pub range_unnamed : knows_all d (m ∷ []) ≡ false → with_form v d t range_form ≡ Err NoSuchName
+    range_unnamed k = with_form-unnamed v d t range_form range_fits k
+
+    module _ (known : knows_all d (m ∷ []) ≡ true) where
+      es : List Entry
+      es = points_from (variant_of d m) first count
+
+      es-are : entries_of d range_form ≡ es
+      unfolding es
+      es-are = ap (map (entry_of d)) lines ∙ points_are d m (range_with_len first count)
+
+      pub range_bad : list_any has_bad_class (points_from (variant_of d m) first count) ≡ true → with_form v d t range_form ≡ Err BadClass
+      unfolding es
+      range_bad b = with_form-entries v d t range_form range_fits known ∙ ap (with_entries t) es-are ∙ entries-bad t es b
+
+      pub range_good : list_any has_bad_class (points_from (variant_of d m) first count) ≡ false → with_form v d t range_form ≡ with_new_sources t (points_from (variant_of d m) first count)
+      unfolding es
+      range_good b =
+          with_form-entries v d t range_form range_fits known ∙ ap (with_entries t) es-are ∙ entries-new t es b (range_single (variant_of d m) first count)
+          ∙ sym (with_range (variant_of d m) t first count)
+
+      pub range_counted : (t' : List Entry) → with_new_sources t (points_from (variant_of d m) first count) ≡ Ok t' → IsCounted v d rest t'
+      unfolding es
+      range_counted t' e =
+          subst (IsCounted v d rest) (sym (new_table (list_any (has_source_in t) es) t es t' (sym (with_range (variant_of d m) t first count) ∙ e)))
+          (counted_with v d t range_form left so_far (known_form d (Some last) (m ∷ []) is known) es (sym es-are)
+          (subst (AllByRecursion (IsNamed d)) es-are (named_form d (Some last) (m ∷ []) is known)) rest text_left)

@@ -337,7 +337,7 @@ named_point d m c h k =
     let one : HasItsNames d (variant_of d m) = named_variant d m h (and_parts (knows_names d m) true k).0 in
     All-from_recursion (HasItsNames d) (whole (entry_of d (with_point m c ∷ []))) (record { tags = one.tags; distinct = one.distinct; unmarked = one.unmarked; condition = one.condition }, tt)
 
-named_form : (d : Definitions) (last : Option ℕ) (mapped : List Mapped) → IsForm mapped last → knows_all d mapped ≡ true → AllByRecursion (IsNamed d) (map (entry_of d) (written_to last mapped))
+pub named_form : (d : Definitions) (last : Option ℕ) (mapped : List Mapped) → IsForm mapped last → knows_all d mapped ≡ true → AllByRecursion (IsNamed d) (map (entry_of d) (written_to last mapped))
 named_form d last [] h k = absurd h
 named_form d None (m ∷ mapped) h k = (named_entry d m mapped h k, tt)
 named_form d (Some last) (m ∷ []) h k =

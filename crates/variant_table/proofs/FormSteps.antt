@@ -109,10 +109,24 @@ module _ (names tags : List (List ℕ)) (i : ℕ) (found : List ℕ) (tag : List
 
 -- ---- the source of a range
 
--- the first code point of a range
-pub first_is : (points : List ℕ) (c : ℕ) → 0 < length points → c ≡ slice_index_or points 0 c → c ≡ slice_index points 0
-first_is [] c l e = absurd (omega (arith, l))
-first_is (d ∷ points) c l e = e
+-- a range has one source, of one code point, which is not above the last
+pub record IsRange (items : List held.Mapped) (x : held.Mapped) (first last : ℕ) : Type 0 where
+  pub one : items ≡ x ∷ []
+  pub first_is : slice_index x.points.items 0 ≡ first
+  pub rises : first ≤ last
+
+pub range_of : (items : List held.Mapped) (x : held.Mapped) (first last : ℕ) → IsForm (map mapped items) (Some last) → x ≡ slice_index_or items 0 x → first ≡ slice_index_or x.points.items 0 first → IsRange items x first last
+range_of [] x first last h e f = absurd h
+range_of (y ∷ z ∷ items) x first last h e f = absurd h
+range_of (y ∷ []) x first last h e f =
+    let point : y.points.items ≡ (h.2).0 ∷ [] = (h.2).1 in
+    let same : x.points.items ≡ (h.2).0 ∷ [] = ap (λ m. m.points.items) e ∙ point in
+    let is : first ≡ (h.2).0 = f ∙ ap (λ ps. slice_index_or ps 0 first) same in
+    record {
+      one = ap (λ m. m ∷ []) (sym e);
+      first_is = ap (λ ps. slice_index ps 0) same ∙ sym is;
+      rises = omega (arith, is, (h.2).2);
+    }
 
 -- ---- what was found
 

@@ -34,11 +34,11 @@ fn left_after_line(entry: &[Mapped], left: usize) -> Option<usize>
     requires small { is_too_large (map form_of entry.now) ≡ false }
     ensures { IsLeft left (length (written_text (map form_of entry.now ∷ []))) result }
 {
-    let mut left = left;
+    let mut rest = left;
     for mapped in entry {
-        left = left_after_mapped(mapped, left)?;
+        rest = left_after_mapped(mapped, rest)?;
     }
-    Some(left)
+    Some(rest)
 }
 
 /// How many bytes are left behind a source or a variant, and one byte more: that of what follows it.
@@ -47,16 +47,16 @@ fn left_after_mapped(mapped: &Mapped, left: usize) -> Option<usize>
     requires short { length mapped.now.points.items ≤ 8 }
     ensures { IsLeft left (length (mapped_text (form_of mapped.now) None) + 1) result }
 {
-    let left = left.checked_sub(mark_len(mapped.marked) + sequence_len(&mapped.points))?;
-    left_after_names(mapped, left)
+    let rest = left.checked_sub(mark_len(mapped.marked) + sequence_len(&mapped.points))?;
+    left_after_names(mapped, rest)
 }
 
 /// How many bytes are left behind its tags and its condition.
 fn left_after_names(mapped: &Mapped, left: usize) -> Option<usize>
     ensures { IsLeft left (length (tags_text (form_of mapped.now).tags ++ condition_text (form_of mapped.now).condition)) result }
 {
-    let left = left_after_tags(&mapped.tags, left)?;
-    left_after_condition(&mapped.condition, left)
+    let rest = left_after_tags(&mapped.tags, left)?;
+    left_after_condition(&mapped.condition, rest)
 }
 
 /// How many bytes are left behind tags: ` as ` and their names, with commas between them.
@@ -66,11 +66,11 @@ fn left_after_tags(tags: &[Name], left: usize) -> Option<usize>
     if tags.is_empty() {
         return Some(left);
     }
-    let mut left = left.checked_sub(3)?;
+    let mut rest = left.checked_sub(3)?;
     for tag in tags {
-        left = left.checked_sub(tag.as_slice().len() + 1)?;
+        rest = rest.checked_sub(tag.as_slice().len() + 1)?;
     }
-    Some(left)
+    Some(rest)
 }
 
 /// How many bytes are left behind a condition.
@@ -80,8 +80,8 @@ fn left_after_condition(condition: &Option<NamedCondition>, left: usize) -> Opti
     match condition {
         None => Some(left),
         Some(condition) => {
-            let left = left.checked_sub(word_len(condition.kind))?;
-            left.checked_sub(condition.rule.as_slice().len())
+            let rest = left.checked_sub(word_len(condition.kind))?;
+            rest.checked_sub(condition.rule.as_slice().len())
         }
     }
 }
@@ -141,19 +141,19 @@ fn left_after_points(source: &Mapped, first: u32, count: usize, left: usize) -> 
     requires last { first + count ≤ 2 ^ 32 }
     ensures { IsLeft left (length (written_text (map (λ c. with_point (form_of source.now) c ∷ []) (range_with_len first count)))) result }
 {
-    let mut left = left;
+    let mut rest = left;
     for offset in 0..count {
-        left = left_after_point(source, first + offset as u32, left)?;
+        rest = left_after_point(source, first + offset as u32, rest)?;
     }
-    Some(left)
+    Some(rest)
 }
 
 /// How many bytes are left behind a source with this code point, and one byte more: that of the line feed.
 fn left_after_point(source: &Mapped, point: u32, left: usize) -> Option<usize>
     ensures { IsLeft left (length (mapped_text (with_point (form_of source.now) point) None) + 1) result }
 {
-    let left = left.checked_sub(mark_len(source.marked) + point_len(point) + 1)?;
-    left_after_names(source, left)
+    let rest = left.checked_sub(mark_len(source.marked) + point_len(point) + 1)?;
+    left_after_names(source, rest)
 }
 
 /// How many bytes a code point has.
