@@ -1,4 +1,4 @@
-use Rattle.std.proofs.Common.{arith, ◌≡◌, ◌≤◌, ◌-◌, ◌+◌, ℕ, List, ◌++◌, ◌∷◌, [], false, map, length, refl, ap, sym, ◌∙◌, take, append_assoc, Some}
+use Rattle.std.proofs.Common.{arith, ◌≡◌, ◌≤◌, ◌-◌, ◌+◌, ℕ, List, ◌++◌, ◌∷◌, [], false, map, length, ap, sym, ◌∙◌, take, append_assoc, Some}
 use Rattle.std.specs.Prelude.{slice_get}
 use Rattle.std.specs.Option.{option_map}
 use Rattle.std.proofs.lemmas.List.{take_all, length-map}
@@ -6,7 +6,7 @@ use Rattle.ruleset_text.specs.Definitions.{Definitions}
 use Rattle.ruleset_text.specs.Entries.{Mapped}
 use Rattle.ruleset_text.specs.EntryText.{sequence_text, mark_text, tags_text, condition_text}
 use Rattle.variant_table.specs.Entries.{Variant, Entry, sequences_in, replacements, source_of}
-use Rattle.variant_table.specs.Forms.{name_at, named, mapped_of}
+use Rattle.variant_table.specs.Forms.{mapped_of}
 use Rattle.variant_table.specs.WellFormed.{IsSequence}
 use Rattle.variant_table.specs.Canonical.{separator, canonical_line}
 use Rattle.variant_table.proofs.EntryLemmas.{slice_get-map, variant_from}

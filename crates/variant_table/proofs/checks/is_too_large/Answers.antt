@@ -1,4 +1,4 @@
-use Rattle.std.proofs.Common.{rules, tests, arith, length, map, List, ℕ, Bool, [], ◌∷◌, ◌≡◌, ◌∙◌, refl, ap, sym, ◌||◌, false}
+use Rattle.std.proofs.Common.{rules, tests, arith, length, map, List, Bool, [], ◌∷◌, ◌≡◌, ◌∙◌, refl, ap, sym, ◌||◌, false}
 use Rattle.std.specs.Prelude.{nat_lt}
 use Rattle.std.specs.List.{list_any}
 use Rattle.std.proofs.lemmas.Bool.{le-ltb}

@@ -1,4 +1,4 @@
-use Rattle.std.proofs.Common.{◌≡◌, ◌<◌, ℕ, List, length, sym, ap, ◌∙◌, arith}
+use Rattle.std.proofs.Common.{◌≡◌, ℕ, List, length, ap, ◌∙◌, arith}
 use Rattle.ruleset_text.specs.Names.{number_of}
 use Rattle.variant_table.proofs.NumberLemmas.{rule_unknown, rule_known}
 use Rattle.variant_table.proofs.forms.look_up_condition.Goals as goal

@@ -1,4 +1,4 @@
-use Rattle.std.proofs.Common.{◌≡◌, ◌+◌, ◌<◌, ℕ, List, length, sym, ap, ◌∙◌, arith}
+use Rattle.std.proofs.Common.{◌≡◌, ◌<◌, ℕ, List, length, ap, ◌∙◌, arith}
 use Rattle.ruleset_text.specs.Names.{number_of}
 use Rattle.variant_table.proofs.FormSteps.{tag_found, tag_fits, tag_unknown}
 use Rattle.variant_table.proofs.forms.look_up_tags.Goals as goal

@@ -1,10 +1,10 @@
-use Rattle.std.proofs.Common.{◌≡◌, ◌+◌, ◌<◌, ◌≤◌, length, map, drop, ap, subst, sym, arith, rules}
+use Rattle.std.proofs.Common.{◌<◌, ◌≤◌, length, map, arith, rules}
 use Rattle.std.proofs.lemmas.List.{length-map}
 use Rattle.ruleset_text.specs.EntryForms.{mapped}
 use Rattle.variant_table.specs.Canonical.{written_text}
 use Rattle.std.specs.Prelude.{[], ◌∷◌}
 use Rattle.variant_table.proofs.FormSteps.{one_of_all}
-use Rattle.variant_table.proofs.LengthLemmas.{pieces_size, pieces_left, pieces_none, length-written, short_of}
+use Rattle.variant_table.proofs.LengthLemmas.{pieces_left, pieces_none, length-written, short_of}
 use Rattle.variant_table.proofs.lengths.left_after_line.Goals as goal
 
 pub left_after_mapped-requires-clause-some : goal.left_after_mapped-requires-clause-some

@@ -1,4 +1,4 @@
-use Rattle.std.proofs.Common.{◌≡◌, ◌+◌, ◌<◌, ◌≤◌, length, drop, ap, arith, rules, tests}
+use Rattle.std.proofs.Common.{◌≡◌, ◌+◌, ◌<◌, length, ap, arith, rules, tests}
 use Rattle.ruleset_text.specs.EntryText.{tags_text}
 use Rattle.variant_table.proofs.LengthLemmas.{names_size, names_left, length-tags_text}
 use Rattle.variant_table.proofs.ListLemmas.{drop_all}

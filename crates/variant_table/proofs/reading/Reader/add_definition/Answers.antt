@@ -1,7 +1,6 @@
-use Rattle.std.proofs.Common.{rules, ◌+◌, ◌≤◌, refl, subst, sym, arith}
+use Rattle.std.proofs.Common.{rules, ◌+◌, ◌≤◌, subst, sym, arith}
 use Rattle.ruleset_text.specs.Lexemes.{lexemes}
 use Rattle.variant_table.specs.Entries.{table_of}
-use Rattle.variant_table.specs.Limits.{text_limit}
 use Rattle.variant_table.specs.Reading.{with_definition}
 use Rattle.variant_table.specs.inner.ReadingSteps.{Fails}
 use Rattle.variant_table.proofs.DefiningLemmas.{room_within, definition_read, definition_fails, definitions_fit, definitions_counted}

@@ -1,11 +1,10 @@
-use Rattle.std.proofs.Common.{◌≡◌, ◌∷◌, [], false, true, Some, None, length, map, refl, sym, ap, subst, ◌∙◌}
+use Rattle.std.proofs.Common.{◌≡◌, false, true, Some, None, map, refl, sym, ap, subst, ◌∙◌}
 use Rattle.ruleset_text.specs.Entries.{EntryForm}
 use Rattle.ruleset_text.specs.EntryForms.{mapped, entry_form}
 use Rattle.ruleset_text.specs.EntryText.{IsForm}
 use Rattle.ruleset_text.specs.EntryWords.{IsEntryLine}
-use Rattle.ruleset_text.specs.Lexemes.{lexemes}
-use Rattle.variant_table.specs.Forms.{has_form, HasForm}
-use Rattle.variant_table.specs.Reading.{◌>>=◌, form_in, with_form, with_entry_words}
+use Rattle.variant_table.specs.Forms.{has_form}
+use Rattle.variant_table.specs.Reading.{◌>>=◌, with_form}
 use Rattle.variant_table.specs.inner.ReadingSteps.{Leaves}
 use Rattle.variant_table.proofs.FormLemmas.{form_read, formless_words, other_version}
 use Rattle.variant_table.proofs.FormSteps.{none_spelled, one_spelled}

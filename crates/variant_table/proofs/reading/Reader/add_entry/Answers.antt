@@ -1,8 +1,7 @@
-use Rattle.std.proofs.Common.{◌≡◌, ◌+◌, ◌<◌, ◌≤◌, true, false, length, map, rules, refl, sym, ap, subst, ◌∙◌, arith}
+use Rattle.std.proofs.Common.{map, rules, refl, sym, ap, subst, ◌∙◌, arith}
 use Rattle.ruleset_text.specs.EntryForms.{mapped}
-use Rattle.variant_table.specs.Conditions.{is_too_large, has_bad_class, has_repeat}
+use Rattle.variant_table.specs.Conditions.{has_bad_class, has_repeat}
 use Rattle.variant_table.specs.Entries.{entry_from}
-use Rattle.variant_table.specs.Forms.{knows_all, entry_of}
 use Rattle.variant_table.specs.Reading.{with_form}
 use Rattle.variant_table.specs.inner.ReadingSteps.{Fails, with_new_source}
 use Rattle.variant_table.proofs.AddingLemmas.{entry_form, entry_too_many, entry_too_large, entry_too_long, entry_unnamed, entry_bad, entry_again, entry_new, entry_counted}

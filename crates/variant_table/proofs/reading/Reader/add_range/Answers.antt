@@ -1,4 +1,4 @@
-use Rattle.std.proofs.Common.{◌≡◌, ◌+◌, ◌-◌, ◌<◌, ◌≤◌, ◌∷◌, [], ℕ, true, false, length, map, Some, rules, refl, sym, ap, subst, ◌∙◌, arith}
+use Rattle.std.proofs.Common.{◌≡◌, ◌+◌, ◌-◌, ◌<◌, ℕ, length, map, Some, rules, refl, sym, ap, subst, ◌∙◌, arith}
 use Rattle.ruleset_text.specs.EntryForms.{mapped}
 use Rattle.ruleset_text.specs.EntryText.{IsForm}
 use Rattle.variant_table.specs.Entries.{Variant, entry_from, source_of}
@@ -7,7 +7,6 @@ use Rattle.variant_table.specs.Limits.{entry_limit}
 use Rattle.variant_table.specs.Reading.{with_form}
 use Rattle.variant_table.specs.inner.ReadingSteps.{Fails, with_new_sources}
 use Rattle.variant_table.proofs.AddingLemmas.{range_too_many, range_too_long, range_unnamed, range_bad, range_good, range_counted}
-use Rattle.variant_table.proofs.ConditionLemmas.{all_mapped}
 use Rattle.variant_table.proofs.FormSteps.{range_of}
 use Rattle.variant_table.proofs.RangeLemmas.{points_from}
 use Rattle.variant_table.proofs.reading.Reader.add_range.Goals as goal
