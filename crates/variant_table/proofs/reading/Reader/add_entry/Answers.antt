@@ -11,10 +11,13 @@ use Rattle.variant_table.proofs.reading.Reader.add_entry.Goals.{then-len-entry_l
 use Rattle.std.specs.Prelude.{None}
 
 pub returns-then-len-entry_limit-clause-read : goal.returns-then-len-entry_limit-clause-read
-returns-then-len-entry_limit-clause-read c = (refl, elim c.then-len-entry_limit.branch [
-  | then-len-entry_limit-via-then-len-entry_limit w ↦ entry_too_many c.args.self.now.version c.args.self.now.definitions c.args.self.now.rows (map mapped c.args.mapped.now) c.args.self.now.left c.requires.counted (omega (arith, w.if-len-entry_limit.true, c.len.ensures, c.entry_limit.ensures.limit))
-  | then-len-entry_limit-via-else-len-entry_limit+then-is_too_large w ↦ entry_too_large c.args.self.now.version c.args.self.now.definitions c.args.self.now.rows (map mapped c.args.mapped.now) c.args.self.now.left c.requires.counted (sym w.is_too_large.ensures ∙ w.if-is_too_large.true)
-])
+returns-then-len-entry_limit-clause-read c = (
+  refl,
+  elim c.then-len-entry_limit.branch [
+    | then-len-entry_limit-via-then-len-entry_limit w ↦ entry_too_many c.args.self.now.version c.args.self.now.definitions c.args.self.now.rows (map mapped c.args.mapped.now) c.args.self.now.left c.requires.counted (omega (arith, w.if-len-entry_limit.true, c.len.ensures, c.entry_limit.ensures.limit))
+    | then-len-entry_limit-via-else-len-entry_limit+then-is_too_large w ↦ entry_too_large c.args.self.now.version c.args.self.now.definitions c.args.self.now.rows (map mapped c.args.mapped.now) c.args.self.now.left c.requires.counted (sym w.is_too_large.ensures ∙ w.if-is_too_large.true)
+  ],
+)
 
 pub left_after_entry-requires-clause-filled : goal.left_after_entry-requires-clause-filled
 left_after_entry-requires-clause-filled c = filled_mapped (map mapped c.args.mapped.now) (all_mapped None (map mapped c.args.mapped.now) c.requires.form)
