@@ -7,6 +7,7 @@ use Rattle.ruleset_text.specs.declared.entry_place.WrongPlace.TheVariants as wro
 use Rattle.ruleset_text.specs.declared.line_point.LinePoint.{LinePoint}
 use Rattle.ruleset_text.specs.Entries.{Mapped, EntryForm}
 use Rattle.ruleset_text.specs.EntryParts.{is_within, are_within, has_parts, has_tags}
+use Rattle.ruleset_text.specs.WrongPlaces.{FitsNames}
 use Rattle.ruleset_text.specs.inner.WrongSteps.{wrong_place}
 use Rattle.ruleset_text.proofs.WrongPlaceLemmas.{the_wrong_place}
 use Rattle.variant_table.specs.declared.place.FaultPlace.{FaultPlace}
@@ -23,21 +24,21 @@ and_true : (b : Bool) → (b && true) ≡ b
 and_true true = refl
 and_true false = refl
 
-plain_within : (tags : List (List ℕ)) (m : Mapped) → m.tags ≡ tags → is_within true m ≡ is_plain m
+plain_within : (tags : List (List ℕ)) (m : Mapped) → m.tags ≡ tags → is_within false true m ≡ is_plain m
 plain_within [] m e = ap (λ (l : List (List ℕ)). not (has_tags l) && not (is_some m.condition) && true) e ∙ and_true (true && not (is_some m.condition)) ∙ sym (ap (λ (l : List (List ℕ)). is_plain (record m { tags = l })) e)
 plain_within (tag ∷ tags) m e = ap (λ (l : List (List ℕ)). not (has_tags l) && not (is_some m.condition) && true) e ∙ sym (ap (λ (l : List (List ℕ)). is_plain (record m { tags = l })) e)
 
-bare_within : (tags : List (List ℕ)) (m : Mapped) → m.tags ≡ tags → is_within false m ≡ (is_plain m && not m.marked)
+bare_within : (tags : List (List ℕ)) (m : Mapped) → m.tags ≡ tags → is_within false false m ≡ (is_plain m && not m.marked)
 bare_within [] m e = ap (λ (l : List (List ℕ)). not (has_tags l) && not (is_some m.condition) && not m.marked) e ∙ sym (ap (λ (l : List (List ℕ)). is_plain (record m { tags = l }) && not m.marked) e)
 bare_within (tag ∷ tags) m e = ap (λ (l : List (List ℕ)). not (has_tags l) && not (is_some m.condition) && not m.marked) e ∙ sym (ap (λ (l : List (List ℕ)). is_plain (record m { tags = l }) && not m.marked) e)
 
-all_plain : (ms : List Mapped) → list_all (is_within true) ms ≡ list_all is_plain ms
+all_plain : (ms : List Mapped) → list_all (is_within false true) ms ≡ list_all is_plain ms
 all_plain [] = refl
-all_plain (m ∷ ms) = ap (λ b. b && list_all (is_within true) ms) (plain_within m.tags m refl) ∙ ap (λ b. is_plain m && b) (all_plain ms)
+all_plain (m ∷ ms) = ap (λ b. b && list_all (is_within false true) ms) (plain_within m.tags m refl) ∙ ap (λ b. is_plain m && b) (all_plain ms)
 
-all_bare : (ms : List Mapped) → list_all (is_within false) ms ≡ list_all is_bare ms
+all_bare : (ms : List Mapped) → list_all (is_within false false) ms ≡ list_all is_bare ms
 all_bare [] = refl
-all_bare (m ∷ ms) = ap (λ b. b && list_all (is_within false) ms) (bare_within m.tags m refl) ∙ ap (λ b. is_bare m && b) (all_bare ms)
+all_bare (m ∷ ms) = ap (λ b. b && list_all (is_within false false) ms) (bare_within m.tags m refl) ∙ ap (λ b. is_bare m && b) (all_bare ms)
 
 moved : (a b c : Bool) → ((a && c) && b) ≡ ((a && b) && c)
 moved true true true = refl
@@ -58,7 +59,7 @@ form_parts Two form = by form.mapped ∙ sym (and_true (are_within (parts_of Two
     by [] = refl
     by (m ∷ ms) =
         moved (is_plain m) (not m.marked) (list_all is_plain ms)
-        ∙ ap (λ b. (is_plain m && not m.marked) && b) (sym (all_plain ms)) ∙ ap (λ b. b && list_all (is_within true) ms) (sym (bare_within m.tags m refl))
+        ∙ ap (λ b. (is_plain m && not m.marked) && b) (sym (all_plain ms)) ∙ ap (λ b. b && list_all (is_within false true) ms) (sym (bare_within m.tags m refl))
 form_parts Three form = by form.mapped ∙ sym (and_true (are_within (parts_of Three) form.mapped))
   where
     by : (ms : List Mapped) → list_all is_plain ms ≡ are_within (parts_of Three) ms
@@ -91,30 +92,30 @@ of_syntax place None e = absurd cc
 of_syntax place (Some (wrong.Lexeme p m)) e = let same : Lexeme p m ≡ place = cc in subst IsOfSyntax same tt
 of_syntax place (Some (wrong.End p)) e = let same : End p ≡ place = cc in subst IsOfSyntax same tt
 
-syntax_is : (version : Version) (line : List ℕ) (place : FaultPlace) → option_map as_fault (wrong_place (parts_of version) line) ≡ Some place → IsSyntaxPlace version line place
-syntax_is version line (Lexeme place n) e = (the_wrong_place (parts_of version) line (wrong.Lexeme place n)).0 (lexeme_from place n (wrong_place (parts_of version) line) e)
-syntax_is version line (End place) e = (the_wrong_place (parts_of version) line (wrong.End place)).0 (end_from place (wrong_place (parts_of version) line) e)
-syntax_is version line (Point place c) e = of_syntax (Point place c) (wrong_place (parts_of version) line) e
-syntax_is version line (InRange place c) e = of_syntax (InRange place c) (wrong_place (parts_of version) line) e
-syntax_is version line (Variant place) e = of_syntax (Variant place) (wrong_place (parts_of version) line) e
-syntax_is version line (Source place) e = of_syntax (Source place) (wrong_place (parts_of version) line) e
-syntax_is version line (Byte place) e = of_syntax (Byte place) (wrong_place (parts_of version) line) e
-syntax_is version line (NinthPoint place c) e = of_syntax (NinthPoint place c) (wrong_place (parts_of version) line) e
-syntax_is version line (SeventeenthVariant place c) e = of_syntax (SeventeenthVariant place c) (wrong_place (parts_of version) line) e
+syntax_is : (version : Version) (line : List ℕ) (place : FaultPlace) → FitsNames (parts_of version) line → option_map as_fault (wrong_place (parts_of version) line) ≡ Some place → IsSyntaxPlace version line place
+syntax_is version line (Lexeme place n) fits e = (the_wrong_place (parts_of version) line (wrong.Lexeme place n) fits).0 (lexeme_from place n (wrong_place (parts_of version) line) e)
+syntax_is version line (End place) fits e = (the_wrong_place (parts_of version) line (wrong.End place) fits).0 (end_from place (wrong_place (parts_of version) line) e)
+syntax_is version line (Point place c) fits e = of_syntax (Point place c) (wrong_place (parts_of version) line) e
+syntax_is version line (InRange place c) fits e = of_syntax (InRange place c) (wrong_place (parts_of version) line) e
+syntax_is version line (Variant place) fits e = of_syntax (Variant place) (wrong_place (parts_of version) line) e
+syntax_is version line (Source place) fits e = of_syntax (Source place) (wrong_place (parts_of version) line) e
+syntax_is version line (Byte place) fits e = of_syntax (Byte place) (wrong_place (parts_of version) line) e
+syntax_is version line (NinthPoint place c) fits e = of_syntax (NinthPoint place c) (wrong_place (parts_of version) line) e
+syntax_is version line (SeventeenthVariant place c) fits e = of_syntax (SeventeenthVariant place c) (wrong_place (parts_of version) line) e
 
-is_syntax : (version : Version) (line : List ℕ) (place : FaultPlace) → IsSyntaxPlace version line place → option_map as_fault (wrong_place (parts_of version) line) ≡ Some place
-is_syntax version line (Lexeme place n) is = ap (option_map as_fault) ((the_wrong_place (parts_of version) line (wrong.Lexeme place n)).1 is)
-is_syntax version line (End place) is = ap (option_map as_fault) ((the_wrong_place (parts_of version) line (wrong.End place)).1 is)
-is_syntax version line (Point place c) is = absurd is
-is_syntax version line (InRange place c) is = absurd is
-is_syntax version line (Variant place) is = absurd is
-is_syntax version line (Source place) is = absurd is
-is_syntax version line (Byte place) is = absurd is
-is_syntax version line (NinthPoint place c) is = absurd is
-is_syntax version line (SeventeenthVariant place c) is = absurd is
+is_syntax : (version : Version) (line : List ℕ) (place : FaultPlace) → FitsNames (parts_of version) line → IsSyntaxPlace version line place → option_map as_fault (wrong_place (parts_of version) line) ≡ Some place
+is_syntax version line (Lexeme place n) fits is = ap (option_map as_fault) ((the_wrong_place (parts_of version) line (wrong.Lexeme place n) fits).1 is)
+is_syntax version line (End place) fits is = ap (option_map as_fault) ((the_wrong_place (parts_of version) line (wrong.End place) fits).1 is)
+is_syntax version line (Point place c) fits is = absurd is
+is_syntax version line (InRange place c) fits is = absurd is
+is_syntax version line (Variant place) fits is = absurd is
+is_syntax version line (Source place) fits is = absurd is
+is_syntax version line (Byte place) fits is = absurd is
+is_syntax version line (NinthPoint place c) fits is = absurd is
+is_syntax version line (SeventeenthVariant place c) fits is = absurd is
 
-pub syntax_told : (version : Version) (line : List ℕ) (place : FaultPlace) → is_no_entry version line ≡ false → (syntax_place version line ≡ Some place) ↔ IsSyntaxPlace version line place
-syntax_told version line place e = (λ h. syntax_is version line place (sym (told_at version line e) ∙ h), λ is. told_at version line e ∙ is_syntax version line place is)
+pub syntax_told : (version : Version) (line : List ℕ) (place : FaultPlace) → is_no_entry version line ≡ false → FitsNames (parts_of version) line → (syntax_place version line ≡ Some place) ↔ IsSyntaxPlace version line place
+syntax_told version line place e fits = (λ h. syntax_is version line place fits (sym (told_at version line e) ∙ h), λ is. told_at version line e ∙ is_syntax version line place fits is)
 
 -- ---- code points
 

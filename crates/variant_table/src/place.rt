@@ -159,6 +159,7 @@ fn parts_of(version: Version) -> EntryParts
         outside,
         blocked,
         ranges,
+        named: false,
     }
 }
 

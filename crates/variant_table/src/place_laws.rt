@@ -3,6 +3,7 @@ ghost use Rattle.std.specs.Prelude.{◌≡◌, ◌↔◌, ℕ, List, Some, false
 ghost use Rattle.ruleset_text.specs.declared.line_point.LinePoint.{LinePoint};
 ghost use Rattle.ruleset_text.specs.Entries.{EntryForm};
 ghost use Rattle.ruleset_text.specs.EntryParts.{has_parts};
+ghost use Rattle.ruleset_text.specs.WrongPlaces.{FitsNames};
 ghost use Rattle.variant_table.specs.FaultPlaces.{is_no_entry, parts_of, point_place, syntax_place};
 ghost use Rattle.variant_table.specs.Forms.{has_form};
 ghost use Rattle.variant_table.specs.PlaceExamples.{ExamplesOfPlaces};
@@ -16,7 +17,7 @@ use crate::version::Version;
 pub fn places_are_told()
     ensures parts { (version : Version) (form : EntryForm) → has_form version form ≡ has_parts (parts_of version) form }
     ensures syntax { (version : Version) (line : List ℕ) (place : FaultPlace) → is_no_entry version line ≡ false →
-        (syntax_place version line ≡ Some place) ↔ IsSyntaxPlace version line place }
+        FitsNames (parts_of version) line → (syntax_place version line ≡ Some place) ↔ IsSyntaxPlace version line place }
     ensures class { (points : List LinePoint) (place : FaultPlace) → (point_place points ≡ Some place) ↔ IsFirstBad points place }
 {}
 
