@@ -208,7 +208,7 @@ record IsSound (parts : EntryParts) (n : ℕ) (s : State) : Type 0 where
   named : ReadsTags s.phase → parts.named ≡ true
   tags : length s.current.tags ≤ n
 
-point_bound : (w : List ℕ) (c : ℕ) → point_of w ≡ Some c → c ≤ 1114111
+pub point_bound : (w : List ℕ) (c : ℕ) → point_of w ≡ Some c → c ≤ 1114111
 point_bound w c e = let below = scalar_below c (hex_facts (without_prefix w) c e).scalar in omega (arith, below)
 
 first_bound : (points : List ℕ) (c : ℕ) → slice_index points 0 ≤ 1114111 → c ≤ 1114111 → slice_index (points ++ c ∷ []) 0 ≤ 1114111

@@ -23,5 +23,6 @@ pub mod EntryWords
 pub mod PlacedLexemes
 pub mod EntryParts
 pub mod WrongPlaces
+pub mod DefinitionPlaces
 pub mod LinePoints
 pub mod inner
