@@ -15,6 +15,8 @@ class RichRuleset(RandomRuleset):
 
     def __init__(self, seed):
         self.random, self.depth = random.Random(seed), 0
+        # Within the choices of a demand there are starts and ends of labels.
+        self.is_demand = self.is_within_choice = False
         self.sequences = self.some_sequences()
         self.has_conditions, self.has_rules = self.random.random() < 0.8, True
         self.kinds = self.random.choice((("blocked", "allocatable", None), ("blocked", "simp", "trad", "both"),
@@ -59,12 +61,16 @@ class RichRuleset(RandomRuleset):
         """One operator with or without a count; groups within each other at most three deep."""
         point = spelled((self.random.choice(self.POINTS),))
         flat = (f'<char cp="{point}"/>', f'<char cp="{point}"/>', "<any/>", self.set(), f'<char cp="{point} {point}"/>')
+        if self.is_within_choice and self.random.random() < 0.2:
+            return self.random.choice(("<start/>", "<end/>"))
         made = self.random.choice(flat)
         if self.depth < 2 and self.random.random() < 0.3:
             self.depth += 1
+            self.is_within_choice = self.is_demand
             inner = [self.operator() + self.maybe(0.3, self.operator()) for _ in range(self.random.choice((1, 2)))]
             made = "<choice>" + "".join(f"<rule>{each}</rule>" for each in inner) + "</choice>"
             self.depth -= 1
+            self.is_within_choice = self.depth > 0 and self.is_demand
         return counted(made, self.maybe(0.4, self.random.choice(("0+", "1+", "2", "0:1", "1:2", "2+"))))
 
     def behind_and_ahead(self):
@@ -80,7 +86,11 @@ class RichRuleset(RandomRuleset):
         yield f'<rule name="p">{self.behind_and_ahead()}</rule>'
         yield (f'<rule name="q"><choice><rule>{self.behind_and_ahead()}</rule><rule by-ref="p"/>'
                f"<rule>{self.behind_and_ahead()}</rule></choice></rule>")
-        yield f'<rule name="anywhere">{self.set()}</rule>'
+        anywhere = self.set()
+        if self.random.random() < 0.3:
+            anywhere = f'<start/><any count="0+"/>{anywhere}<any count="0+"/>'
+        yield f'<rule name="anywhere">{anywhere}</rule>'
+        self.is_demand = True
         for name in self.DEMANDS:
             parts = "".join(self.operator() for _ in range(self.random.choice((1, 2, 3))))
             parts += self.maybe(0.2, '<rule by-ref="x"/>') if name != "x" else ""

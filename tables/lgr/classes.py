@@ -8,6 +8,8 @@ from .ruleset import point_of
 
 OPERATORS = {"union": "union", "intersection": "intersection", "difference": "difference",
              "symmetric-difference": "symmetric_difference"}
+# How many sets an operator has; any other has one or more.
+SETS_OF = {"complement": 1, "difference": 2, "symmetric-difference": 2}
 # The categories by their names, in lower case and without what stands between the words; a short name is its own.
 LETTERS, CASED = ("Lu", "Ll", "Lt", "Lm", "Lo"), ("Lu", "Ll", "Lt")
 MARKS, NUMBERS = ("Mn", "Mc", "Me"), ("Nd", "Nl", "No")
@@ -39,13 +41,11 @@ class Classes:
         if element.name == "class":
             return self.class_of(element)
         sets = [self.set_of(child) for child in element.children]
-        if not sets or None in sets:
+        if not sets or None in sets or SETS_OF.get(element.name, len(sets)) != len(sets):
             return None
         first, *others = sets
         if element.name == "complement":
-            return None if others else self.points - first
-        if element.name not in OPERATORS:
-            return None
+            return self.points - first
         for other in others:
             first = getattr(first, OPERATORS[element.name])(other)
         return first
@@ -69,10 +69,17 @@ class Classes:
         properties = [each.attributes["property"] for each in self.all_within(element, set()) if "property" in each.attributes]
         unknown = [text for text in properties if self.with_property(text) is None]
         if not unknown:
-            return "a set operator without its sets"
+            return "a set operator that has too few sets, or too many"
         if not self.are_all_known:
             return f"the property '{unknown[0]}', and this Python lacks code points of the ruleset: a newer one has them"
         return f"the property '{unknown[0]}', and only General_Category, Canonical_Combining_Class and Bidi_Class are known"
+
+    def of_no_tag(self, elements):
+        """The classes of these elements and within them that are of a tag which no code point of the ruleset has."""
+        for element in elements:
+            if "from-tag" in element.attributes and element.attributes["from-tag"] not in self.tagged:
+                yield element
+            yield from self.of_no_tag(element.children)
 
     def all_within(self, element, seen):
         """The element and those of which it is made; those with names are seen once."""

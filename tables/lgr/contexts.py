@@ -36,7 +36,7 @@ class Contexts:
         """Where the condition holds for the source: Holds or Where."""
         expression = self.rules.rule(condition.rule, line)
         if condition.rule not in self.points:
-            self.points[condition.rule] = one_anywhere(expression)
+            self.points[condition.rule] = self.one_anywhere(expression)
         points = self.points[condition.rule]
         asked = condition, points is not None and not points.points.isdisjoint(source)
         if asked not in self.known:
@@ -70,10 +70,30 @@ class Contexts:
         one code point, this stands somewhere before or behind the source, or within."""
         if is_within or expressions.is_everywhere(expression):
             return [(EMPTY, EMPTY)]
-        one = one_anywhere(expression)
+        one = self.one_anywhere(expression)
         if one is None:
             raise Unsayable(line, "a rule without an anchor, in a condition, that is about more than one code point")
         return [(expressions.sequence([one, self.anything]), EMPTY), (EMPTY, expressions.sequence([self.anything, one]))]
+
+    def one_anywhere(self, expression):
+        """The code points of which a label that matches has at least one, where the rule asks for nothing else; or None."""
+        if isinstance(expression, expressions.Points):
+            return expression
+        if isinstance(expression, expressions.Repeat):
+            return self.one_anywhere(expression.part) if expression.least == 1 else None
+        if isinstance(expression, expressions.Choice) and expression != NOTHING:
+            each = list(map(self.one_anywhere, expression.branches))
+            return None if None in each else expressions.one_of(frozenset().union(*(one.points for one in each)))
+        if isinstance(expression, expressions.Sequence):
+            asking = [part for part in self.without_ends(expression.parts) if not expressions.is_everywhere(part)]
+            return self.one_anywhere(asking[0]) if len(asking) == 1 else None
+        return None
+
+    def without_ends(self, parts):
+        """The parts without a start and an end of the label from which anything may stand up to the others."""
+        if parts[:2] == (START, self.anything):
+            parts = parts[1:]
+        return parts[:-1] if parts[-2:] == (self.anything, END) else parts
 
 
 def contexts_of(expression, line):
@@ -92,14 +112,3 @@ def contexts_of(expression, line):
     return [(expressions.sequence([*parts[:at], before]), expressions.sequence([behind, *parts[at + 1:]]))
             for before, behind in contexts_of(parts[at], line)]
 
-
-def one_anywhere(expression):
-    """The code points of which a label that matches has at least one, where the rule asks for nothing else; or None."""
-    if isinstance(expression, expressions.Points):
-        return expression
-    if isinstance(expression, expressions.Repeat):
-        return one_anywhere(expression.part) if expression.least == 1 else None
-    if isinstance(expression, expressions.Choice) and expression != NOTHING:
-        each = list(map(one_anywhere, expression.branches))
-        return None if None in each else expressions.one_of(frozenset().union(*(one.points for one in each)))
-    return None

@@ -26,6 +26,7 @@ class Exact:
 
     def __init__(self, ruleset, refusals, untyped, losses):
         self.losses, self.repertoire = losses, Repertoire(ruleset, refusals, losses)
+        self.definitions_given = ruleset.definitions
         self.rules = Rules(ruleset, self.repertoire.points)
         self.contexts, self.conditions = Contexts(self.rules), {}
         self.definitions = Definitions(self.repertoire.points)
@@ -41,10 +42,16 @@ class Exact:
         self.tags = Tags(self.sub_tables, self.definitions)
         say_demands(self.outcomes.demands, self.rules, self.definitions, self.losses)
         entries = [(self.entry_of(entry, variants), Origin(entry.line, entry.name, "")) for entry, variants in kept]
-        for element in self.rules.unused():
-            self.losses.tell(element.line, f"{element.name} '{element.attributes['name']}'", "it makes no difference")
+        self.tell_of_names()
         check_counts(self.definitions, entries, self.losses)
         return entries
+
+    def tell_of_names(self):
+        for element in self.rules.unused():
+            self.losses.tell(element.line, f"{element.name} '{element.attributes['name']}'", "it makes no difference")
+        for element in self.rules.classes.of_no_tag(self.definitions_given):
+            reason = "no code point has the tag, so that nothing is in the class"
+            self.losses.tell(element.line, f"class from-tag '{element.attributes['from-tag']}'", reason)
 
     # Actions.
 

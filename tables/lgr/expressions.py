@@ -79,8 +79,11 @@ def repeat(part, least, most):
     if isinstance(part, Sign):
         return part if least else EMPTY
     shortest = least_length(part)
-    if shortest == 0:
+    if is_everywhere(part):
         least = 0
+    elif shortest == 0:
+        # It may match an empty part, but not each one, as the start of a label does: so it isn't left out.
+        return Repeat(part, least, most)
     elif least * shortest > MOST_LABEL_POINTS:
         return NOTHING
     elif most is not None and most * shortest >= MOST_LABEL_POINTS:

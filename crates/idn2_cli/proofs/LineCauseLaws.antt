@@ -70,10 +70,10 @@ registered-is label refusal cause = by_prefix (has_ace_prefix label) refl
     by_prefix : (coded : Bool) → has_ace_prefix label ≡ coded → (cond coded (option_map OfALabel (a_label_cause label refusal)) (option_map OfLabel (cause_of label refusal)) ≡ Some cause) ↔ IsRegisteredCause label refusal cause
     by_prefix true e =
         let is = of-part OfALabel (a_label_cause label refusal) (IsALabelCause label refusal) cause (a_label_cause-is label refusal) in
-        (λ h. inl (e, is.0 h), λ has. elim has [ | inl coded ↦ is.1 coded.1 | inr plain ↦ absurd (let clash : true ≡ false = sym e ∙ plain.0 in cc) ])
+        (λ h. inl (e, is.0 h), λ has. elim has [ inl coded ↦ is.1 coded.1 | inr plain ↦ absurd (let clash : true ≡ false = sym e ∙ plain.0 in cc) ])
     by_prefix false e =
         let is = of-part OfLabel (cause_of label refusal) (IsCause label refusal) cause (cause-is label refusal) in
-        (λ h. inr (e, is.0 h), λ has. elim has [ | inl coded ↦ absurd (let clash : true ≡ false = sym coded.0 ∙ e in cc) | inr plain ↦ is.1 plain.1 ])
+        (λ h. inr (e, is.0 h), λ has. elim has [ inl coded ↦ absurd (let clash : true ≡ false = sym coded.0 ∙ e in cc) | inr plain ↦ is.1 plain.1 ])
 
 -- a label that is refused with 40 is short enough to be registered, and can't be cut into sources
 abbrev IsOutside : TableValue → List ℕ → Type 0
@@ -82,8 +82,7 @@ IsOutside table label = (length label ≤ 63) × (HasSegmentation table label �
 outside-is : (table : TableValue) (label : List ℕ) (cause : Cause) → IsWellFormed table.entries → IsOutside table label → (table_cause table label NotInTable ≡ Some cause) ↔ IsOutsideCause table label cause
 outside-is table label cause formed outside =
     let is = furthest-is table label formed in
-    let told = outside-told table label (furthest table label) formed outside.0 is in
-    (
+    let told = outside-told table label (furthest table label) formed outside.0 is in (
       λ h.
           let found : Some (Point (furthest table label) (slice_index label (furthest table label))) ≡ Some cause = sym told ∙ h in
           let same : Point (furthest table label) (slice_index label (furthest table label)) ≡ cause = cc in
@@ -139,7 +138,7 @@ unfolding register_answer tested_answer
 registered-told label refusal refused some none = by_prefix (has_ace_prefix label) refused none
   where
     plain : (fault : Option Refusal) (a_label : List ℕ) → unless_fault fault (Ok a_label) ≡ Err refusal → fault ≡ Some refusal
-    plain fault a_label h = elim (fault_or_result fault (Ok a_label) refusal h) [ | inl is ↦ is | inr ok ↦ absurd (let clash : Ok a_label ≡ Err refusal = ok.1 in cc) ]
+    plain fault a_label h = elim (fault_or_result fault (Ok a_label) refusal h) [ inl is ↦ is | inr ok ↦ absurd (let clash : Ok a_label ≡ Err refusal = ok.1 in cc) ]
 
     by_prefix : (coded : Bool) → cond coded (and_then (u_label_answer label) (λ decoded. Ok (a_label_of decoded))) (unless_fault (first_fault label) (Ok (a_label_of label))) ≡ Err refusal
         → cond coded (option_map OfALabel (a_label_cause label refusal)) (option_map OfLabel (cause_of label refusal)) ≡ None → ⊥
@@ -240,7 +239,7 @@ abbrev NoneBeyond : List ℕ → ℕ → Type 0
 NoneBeyond bytes place = (count : ℕ) → place < count → count ≤ length bytes → IsUtf8 (take count bytes) → ⊥
 
 valid_len-is : (bytes : List ℕ) (n : ℕ) → n ≤ length bytes → NoneBeyond bytes n → (let place = valid_len_up_to bytes n in (place ≤ n) × IsUtf8 (take place bytes) × NoneBeyond bytes place)
-valid_len-is bytes zero within beyond = (omega arith, (IsUtf8-from_is_utf8 [] refl, beyond))
+valid_len-is bytes zero within beyond = (omega arith, ([], (refl, refl)), beyond)
 valid_len-is bytes (suc n) within beyond = by_test (λ none. valid_len-is bytes n (omega arith) none) (is_utf8 (take (suc n) bytes)) refl
   where
     beyond_fewer : is_utf8 (take (suc n) bytes) ≡ false → NoneBeyond bytes n
@@ -253,30 +252,30 @@ valid_len-is bytes (suc n) within beyond = by_test (λ none. valid_len-is bytes 
 
     by_test : (NoneBeyond bytes n → (let place = valid_len_up_to bytes n in (place ≤ n) × IsUtf8 (take place bytes) × NoneBeyond bytes place)) → (utf8 : Bool) → is_utf8 (take (suc n) bytes) ≡ utf8
         → (let place = cond utf8 (suc n) (valid_len_up_to bytes n) in (place ≤ suc n) × IsUtf8 (take place bytes) × NoneBeyond bytes place)
-    by_test fewer true e = (omega arith, (IsUtf8-from_is_utf8 (take (suc n) bytes) e, beyond))
-    by_test fewer false e = let is = fewer (beyond_fewer e) in let fewest = is.0 in (omega arith, is.1)
+    by_test fewer true e = (omega arith, IsUtf8-from_is_utf8 (take (suc n) bytes) e, beyond)
+    by_test fewer false e = let is = fewer (beyond_fewer e) in let fewest = is.0 in (omega arith, is.1, is.2)
 
 bad_byte-is : (bytes : List ℕ) → is_utf8 bytes ≡ false → IsValidUpTo bytes (utf8_valid_len bytes)
 unfolding utf8_valid_len
 bad_byte-is bytes other =
     let is = valid_len-is bytes (length bytes) (omega arith) (λ count more upto. absurd (omega arith)) in
-    record { short = within (cases_lt (valid_len_up_to bytes (length bytes)) (length bytes)); front = is.1.0; longest = longest }
+    record { short = within (cases_lt (valid_len_up_to bytes (length bytes)) (length bytes)); front = is.1; longest = longest }
   where
     within : (valid_len_up_to bytes (length bytes) < length bytes) ⊎ (length bytes ≤ valid_len_up_to bytes (length bytes)) → valid_len_up_to bytes (length bytes) < length bytes
     within (inl lt) = lt
     within (inr upto) =
         let is = valid_len-is bytes (length bytes) (omega arith) (λ count more most. absurd (omega arith)) in
-        let clash : true ≡ false = sym (is_utf8-from_IsUtf8 bytes (subst IsUtf8 (take_all (valid_len_up_to bytes (length bytes)) bytes upto) is.1.0)) ∙ other in absurd cc
+        let clash : true ≡ false = sym (is_utf8-from_IsUtf8 bytes (subst IsUtf8 (take_all (valid_len_up_to bytes (length bytes)) bytes upto) is.1)) ∙ other in absurd cc
 
     longest : (m : ℕ) → valid_len_up_to bytes (length bytes) < m → IsUtf8 (take m bytes) → ⊥
     longest m more is = elim (cases_lt (length bytes) m) [
       | inl past ↦ let clash : true ≡ false = sym (is_utf8-from_IsUtf8 bytes (subst IsUtf8 (take_all m bytes (omega arith)) is)) ∙ other in cc
-      | inr upto ↦ (valid_len-is bytes (length bytes) (omega arith) (λ count beyond most. absurd (omega arith))).1.1 m more upto is
+      | inr upto ↦ (valid_len-is bytes (length bytes) (omega arith) (λ count beyond most. absurd (omega arith))).2 m more upto is
     ]
 
 byte-is : (bytes : List ℕ) (cause : LineCause) → is_utf8 bytes ≡ false → (Some (bad_byte bytes) ≡ Some cause) ↔ IsBadByte bytes cause
 byte-is bytes cause other = (
-  λ h. let same : bad_byte bytes ≡ cause = cc in (utf8_valid_len bytes, (bad_byte-is bytes other, sym same)),
+  λ h. let same : bad_byte bytes ≡ cause = cc in (utf8_valid_len bytes, bad_byte-is bytes other, sym same),
   λ has. ap Some (bad_byte-at bytes has.0 has.1 ∙ sym has.2),
 )
 
@@ -291,8 +290,7 @@ IsToldAs how body refusal cause = (body_cause how body refusal ≡ Some cause) �
 
 long-is : (how : Explained) (refusal : Refusal) (cause : LineCause) → how ≢ Unexplained → IsToldAs how None refusal cause
 long-is how refusal cause explained =
-    let told = wanted-told how LongLine explained in
-    (
+    let told = wanted-told how LongLine explained in (
       λ h. let found : Some LongLine ≡ Some cause = sym told ∙ h in let same : LongLine ≡ cause = cc in sym same,
       λ is. told ∙ ap Some (sym is),
     )
@@ -303,11 +301,11 @@ text-is how bytes refusal cause explained by = by_utf8 (is_utf8 bytes) refl
     by_utf8 : (utf8 : Bool) → is_utf8 bytes ≡ utf8 → (cond utf8 (points_cause how (chars bytes) refusal) (unless_unexplained how (bad_byte bytes)) ≡ Some cause) ↔ IsLineCause how (Some bytes) refusal cause
     by_utf8 true e =
         let is = points-is how (chars bytes) refusal cause (by e) in
-        (λ h. inr (e, is.0 h), λ has. elim has [ | inl other ↦ absurd (let clash : true ≡ false = sym e ∙ other.0 in cc) | inr points ↦ is.1 points.1 ])
+        (λ h. inr (e, is.0 h), λ has. elim has [ inl other ↦ absurd (let clash : true ≡ false = sym e ∙ other.0 in cc) | inr points ↦ is.1 points.1 ])
     by_utf8 false e =
         let told = wanted-told how (bad_byte bytes) explained in
         let is = byte-is bytes cause e in
-        (λ h. inl (e, is.0 (sym told ∙ h)), λ has. elim has [ | inl byte ↦ told ∙ is.1 byte.1 | inr points ↦ absurd (let clash : true ≡ false = sym points.0 ∙ e in cc) ])
+        (λ h. inl (e, is.0 (sym told ∙ h)), λ has. elim has [ inl byte ↦ told ∙ is.1 byte.1 | inr points ↦ absurd (let clash : true ≡ false = sym points.0 ∙ e in cc) ])
 
 -- of UTF-8 it is the refusal of its code points, unless it is empty
 text-refused : (answer : List ℕ → LineAnswer) (bytes : List ℕ) (refusal : Refusal) → is_utf8 bytes ≡ true → text_answer answer bytes ≡ Err refusal → (refusal ≡ refusals.Empty) ⊎ (answer (chars bytes) ≡ Err refusal)
@@ -362,7 +360,7 @@ pub refusals_explained : RefusalsAreExplained
 refusals_explained mode o table line refusal other wanted formed refused =
     let same : explained_in mode o table ≡ explained_by_mode mode o table = ap (λ (b : Bool). if_wanted b (explained_by_mode mode o table)) wanted in
     let is : (cause : LineCause) → IsToldAs (explained_in mode o table) line.body refusal cause =
-        λ cause. subst (λ (how : Explained). IsToldAs how line.body refusal cause) (sym same) (line-exactly mode o table line.body refusal cause other formed refused) in
+    λ cause. subst (λ (how : Explained). IsToldAs how line.body refusal cause) (sym same) (line-exactly mode o table line.body refusal cause other formed refused) in
     record {
       exactly = is;
       always = λ some valid none. line-always mode o table line.body refusal other formed refused some valid (ap (λ (how : Explained). body_cause how line.body refusal) (sym same) ∙ none);

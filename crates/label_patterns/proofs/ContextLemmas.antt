@@ -73,7 +73,7 @@ item-passed p q s found other are j l = (
   ],
 )
 
-place-alone : (p : Pattern) (s : Seen) (i j : ℕ) → is_place p ≡ true → Matches s p i j → ⊥
+pub place-alone : (p : Pattern) (s : Seen) (i j : ℕ) → is_place p ≡ true → Matches s p i j → ⊥
 place-alone (Point c) s i j e h = cc
 place-alone (Set n) s i j e h = cc
 place-alone Any s i j e h = cc

@@ -12,7 +12,7 @@ use Rattle.label_patterns.specs.Laws.{seen, MatchesStay, MatchesParts}
 abbrev pub IsOfParts : ℕ → (ℕ → ℕ → Type 0) → Type 0
 IsOfParts n R = (i j : ℕ) → R i j → (i ≤ j) × (i ≤ n → j ≤ n)
 
-rounds-parts : (n : ℕ) (R : ℕ → ℕ → Type 0) → IsOfParts n R → IsOfParts n (Rounds R)
+pub rounds-parts : (n : ℕ) (R : ℕ → ℕ → Type 0) → IsOfParts n R → IsOfParts n (Rounds R)
 rounds-parts n R parts i _ no_round = (omega arith, λ l. l)
 rounds-parts n R parts i _ (one_more k j rounds step) =
     let before = rounds-parts n R parts i k rounds in

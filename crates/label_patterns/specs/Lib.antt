@@ -6,4 +6,8 @@ pub mod Matches
 pub mod Rules
 pub mod Conditions
 pub mod Laws
+pub mod FirstEnds
+pub mod Barring
+pub mod Tests
+pub mod TestLaws
 pub mod inner

@@ -71,7 +71,7 @@ pub fn places_behind(context: &PatternTree, seen: &SeenLabel) -> u64
     }
 }
 
-fn is_place(tree: &PatternTree) -> bool
+pub(crate) fn is_place(tree: &PatternTree) -> bool
     ensures { result ≡ is_place_pattern (pattern tree.now) }
 {
     matches!(tree, PatternTree::Place)

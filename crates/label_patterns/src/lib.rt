@@ -2,6 +2,8 @@
 //! has at most 63 code points, so a set of its places is one word.
 #![tactic(auto)]
 
+mod asking;
+mod barring;
 mod condition;
 mod contexts;
 mod demands;
@@ -14,10 +16,14 @@ mod seen_label;
 mod span;
 mod starts;
 
+pub use asking::{condition_holds, is_barred};
+pub use barring::has_no_end;
 pub use condition::{Condition, ConditionKind};
 pub use contexts::{holds, places_before, places_behind};
-pub use demands::occurs;
-pub use laws::{before_stays, matches_are_parts, matches_stay};
+pub use demands::{first_end, occurs};
+pub use laws::{
+    barred_for_good, barring_stays, before_stays, matches_are_parts, matches_stay, tests_agree,
+};
 pub use pattern_tree::PatternTree;
 pub use point_set::PointSet;
 pub use seen_label::SeenLabel;

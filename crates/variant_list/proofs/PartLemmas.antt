@@ -1,17 +1,18 @@
 -- The replacements that a part of a table has, and that its part that is not blocked spells what the table without its blocked
 -- variants spells.
 use Rattle.std.proofs.Common.{◌≡◌, ◌<◌, ◌≤◌, ℕ, zero, suc, Bool, true, false, List, [], ◌∷◌, ◌++◌, length, Some, slice_get, refl, sym, ap, ◌∙◌, subst, inl, inr, ◌↔◌, map, arith}
-use Rattle.std.specs.Prelude.{not, filter, if◌then◌else◌}
+use Rattle.std.specs.Prelude.{not, ◌&&◌, filter, if◌then◌else◌}
 use Rattle.std.specs.Option.{option_map}
-use Rattle.std.specs.List.{Contains, AllByRecursion, flat_map}
+use Rattle.std.specs.List.{Contains, All, AllByRecursion, flat_map}
 use Rattle.std.proofs.lemmas.List.{length-map}
+use Rattle.std.proofs.lemmas.List.Elements.{All-contains}
 use Rattle.std.proofs.lemmas.Option.{slice_get-map}
-use Rattle.variant_table.specs.Entries.{Entry, TableValue, Variant, replacements, marks, sequences_in, unblocked, unblocked_entry}
+use Rattle.variant_table.specs.Entries.{Entry, TableValue, Variant, replacements, marks, whole, sequences_in, unblocked, unblocked_entry}
 use Rattle.variant_list.specs.declared.part.Part.{Part}
-use Rattle.variant_list.specs.declared.part.Part.TheVariants.{Whole, Unblocked}
+use Rattle.variant_list.specs.declared.part.Part.TheVariants.{Whole, Unblocked, Tagged}
 use Rattle.variant_list.specs.Laws.{without_blocked}
 use Rattle.variant_list.specs.Spelling.{JoinsReplacements, PartSpells, Spells}
-use Rattle.variant_list.specs.Parts.{marked, part_has, replacements_in}
+use Rattle.variant_list.specs.Parts.{marked, are_of, part_has, replacements_in, HasNoTags}
 use Rattle.variant_list.proofs.ListMembers.{Contains-head, Contains-later, Contains-none, Contains-cases, Contains-map}
 
 -- ---- the whole table
@@ -141,3 +142,63 @@ pub has-Unblocked : (e : Entry) (i : ℕ) (blocked : Bool) → slice_get (marks 
 has-Unblocked e i blocked at =
     let m = mapped-at (λ (v : Variant). v.blocked) (marked e) i blocked at in
     slice_get-map (part_has Unblocked) (marked e) i ∙ ap (option_map (part_has Unblocked)) m.1 ∙ ap (λ t. Some (not t)) m.2
+
+and-left : (x y : Bool) → (x && y) ≡ true → x ≡ true
+and-left true y e = refl
+and-left false y e = e
+
+pub has-Tagged : (tag : ℕ) (e : Entry) (i : ℕ) (blocked : Bool) (tags : List ℕ) → slice_get (marks e) i ≡ Some blocked → slice_get (map (λ (v : Variant). v.tags) (whole e)) i ≡ Some tags
+    → slice_get (map (part_has (Tagged tag)) (marked e)) i ≡ Some (not blocked && are_of tag tags)
+has-Tagged tag e i blocked tags at tagged =
+    let m = mapped-at (λ (v : Variant). v.blocked) (marked e) i blocked at in
+    let same : (m.0).tags ≡ tags = mapped-same (λ (v : Variant). v.tags) (marked e) i m.0 tags m.1 tagged in
+    slice_get-map (part_has (Tagged tag)) (marked e) i ∙ ap (option_map (part_has (Tagged tag))) m.1 ∙ ap (λ t. Some (not t && are_of tag (m.0).tags)) m.2 ∙ ap (λ ts. Some (not blocked && are_of tag ts)) same
+
+-- what is blocked is in no sub-table
+pub lacks-Tagged : (tag : ℕ) (e : Entry) (i : ℕ) → slice_get (marks e) i ≡ Some true → slice_get (map (part_has (Tagged tag)) (marked e)) i ≡ Some false
+lacks-Tagged tag e i at =
+    let m = mapped-at (λ (v : Variant). v.blocked) (marked e) i true at in
+    slice_get-map (part_has (Tagged tag)) (marked e) i ∙ ap (option_map (part_has (Tagged tag))) m.1 ∙ ap (λ t. Some (not t && are_of tag (m.0).tags)) m.2
+
+-- ---- the sub-table of a tag
+
+-- a part that has all that another has
+replacement-of_more : (part more : Part) (vs : List Variant) → ((v : Variant) → Contains vs v → part_has part v ≡ true → part_has more v ≡ true) → (r : List ℕ)
+    → Contains (sequences_in (filter (part_has part) vs)) r → Contains (sequences_in (filter (part_has more) vs)) r
+replacement-of_more part more [] each r m = m
+replacement-of_more part more (v ∷ vs) each r m =
+    by_test (part_has part v) (part_has more v) (each v (Contains-head v vs)) m (replacement-of_more part more vs (λ w h. each w (Contains-later v vs w h)) r)
+  where
+    by_test : (t u : Bool) → (t ≡ true → u ≡ true) → Contains (sequences_in (if t then v ∷ filter (part_has part) vs else filter (part_has part) vs)) r
+        → (Contains (sequences_in (filter (part_has part) vs)) r → Contains (sequences_in (filter (part_has more) vs)) r)
+        → Contains (sequences_in (if u then v ∷ filter (part_has more) vs else filter (part_has more) vs)) r
+    by_test true true stays m go = elim (Contains-cases v.sequence (sequences_in (filter (part_has part) vs)) r m) [
+      | inl e ↦ subst (Contains (v.sequence ∷ sequences_in (filter (part_has more) vs))) e (Contains-head v.sequence (sequences_in (filter (part_has more) vs)))
+      | inr later ↦ Contains-later v.sequence (sequences_in (filter (part_has more) vs)) r (go later)
+    ]
+    by_test true false stays m go = absurd (let clash : false ≡ true = stays refl in cc)
+    by_test false true stays m go = Contains-later v.sequence (sequences_in (filter (part_has more) vs)) r (go m)
+    by_test false false stays m go = go m
+
+joins-of_more : (part more : Part) (entries : List Entry) → ((e : Entry) → Contains entries e → (v : Variant) → Contains (marked e) v → part_has part v ≡ true → part_has more v ≡ true)
+    → (segmentation : List Entry) (v : List ℕ) → AllByRecursion (Contains entries) segmentation → JoinsReplacements part segmentation v → JoinsReplacements more segmentation v
+joins-of_more part more entries each [] v of h = h
+joins-of_more part more entries each (e ∷ segmentation) v of h =
+    (h.0, h.1, replacement-of_more part more (marked e) (each e of.0) h.0 h.2, joins-of_more part more entries each segmentation h.1 of.1 h.3, h.4)
+
+PartSpells-more : (part more : Part) (table : TableValue) → ((e : Entry) → Contains table.entries e → (v : Variant) → Contains (marked e) v → part_has part v ≡ true → part_has more v ≡ true)
+    → (label v : List ℕ) → PartSpells part table label v → PartSpells more table label v
+PartSpells-more part more table each label v s = (s.0, s.1, joins-of_more part more table.entries each s.0 v s.1.of_table s.2)
+
+pub PartSpells-Tagged : (tag : ℕ) (table : TableValue) (label v : List ℕ) → PartSpells (Tagged tag) table label v → PartSpells Unblocked table label v
+PartSpells-Tagged tag table = PartSpells-more (Tagged tag) Unblocked table (λ e h v m has. and-left (not v.blocked) (are_of tag v.tags) has)
+
+-- where nothing has tags, the sub-table of a tag has all that is not blocked
+pub PartSpells-untagged : (tag : ℕ) (table : TableValue) (label v : List ℕ) → HasNoTags table → PartSpells Unblocked table label v → PartSpells (Tagged tag) table label v
+PartSpells-untagged tag table label v none =
+    PartSpells-more Unblocked (Tagged tag) table
+    (λ e h v m has. without_tags v (All-contains (λ (r : Variant). r.tags ≡ []) (marked e) v (All-contains (λ (x : Entry). All (λ (r : Variant). r.tags ≡ []) (marked x)) table.entries e none h) m) has)
+    label v
+  where
+    without_tags : (v : Variant) → v.tags ≡ [] → not v.blocked ≡ true → (not v.blocked && are_of tag v.tags) ≡ true
+    without_tags v e has = ap (λ t. t && are_of tag v.tags) has ∙ ap (are_of tag) e

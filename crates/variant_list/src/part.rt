@@ -7,4 +7,7 @@ pub enum Part {
     Whole,
     /// Those that are not blocked. A source is not, as a replacement of itself.
     Unblocked,
+    /// The sub-table of the tag of this number: those that are not blocked, and have this tag or none. So a source that
+    /// has other tags alone does not stand for itself.
+    Tagged(u8),
 }

@@ -3,7 +3,7 @@ ghost use Rattle.std.specs.Prelude.{◌≡◌, ◌+◌, ◌<◌, ◌≤◌, map,
 ghost use Rattle.variant_table.specs.Entries.{replacements};
 ghost use Rattle.variant_table.specs.WellFormed.{IsSequence, IsWellFormed};
 ghost use Rattle.variant_list.specs.declared.part.Part.TheVariants.{Whole};
-ghost use Rattle.variant_list.specs.Parts.{marked, part_has};
+ghost use Rattle.variant_list.specs.Parts.{marked, are_of, part_has};
 ghost use Rattle.variant_list.specs.Uses.{uses_of_entry, uses_at, uses_of};
 ghost use Rattle.variant_list.specs.inner.NetPlans.{IsNetOf};
 ghost use Rattle.variant_list.specs.inner.Layouts.{IsSound, HasTaken};
@@ -68,6 +68,7 @@ fn add_uses_of(draft: &mut NetDraft, part: Part, entry: &Entry<'_>) -> Result<()
         // Of a whole table no replacement is asked about.
         Part::Whole => add_all_uses_of(draft, entry),
         Part::Unblocked => add_some_uses_of(draft, part, entry),
+        Part::Tagged(_) => add_some_uses_of(draft, part, entry),
     }
 }
 
@@ -109,5 +110,13 @@ fn has_replacement(part: Part, entry: &Entry<'_>, number: usize) -> bool
     match part {
         Part::Whole => true,
         Part::Unblocked => !entry.blocked(number),
+        Part::Tagged(tag) => !entry.blocked(number) && are_of_tag(entry.tags(number), tag),
     }
+}
+
+/// Whether a sequence with these tags is in the sub-table of the tag of this number: one without tags is in each.
+fn are_of_tag(tags: &[u8], tag: u8) -> bool
+    ensures { result ≡ are_of tag tags.now }
+{
+    tags.is_empty() || tags.contains(&tag)
 }

@@ -9,7 +9,6 @@ use Rattle.std.proofs.Math.ListN.{get_or-append}
 use Rattle.std.proofs.Math.Seq.{get_or-append_seam}
 use Rattle.std.proofs.lemmas.List.Elements.{All-from_recursion, recursion_from_All}
 use Rattle.std.proofs.lemmas.List.Folds.{list_any_none}
-use Rattle.std.proofs.lemmas.List.Kept.{AllPairs-cons}
 use Rattle.std.proofs.lemmas.List.Quantifiers.{all_pairs_push}
 use Rattle.std.proofs.lemmas.Slice.Eq.{bytes_eq-Decides}
 use Rattle.idn_text.specs.Points.{is_scalar_value}
@@ -19,14 +18,15 @@ use Rattle.idn_class.proofs.ClassNumbers.{class_of-no_scalar, is_scalar-out}
 use Rattle.variant_table.specs.Faults.{Limit, BadClass, SameVariant, SameSource}
 use Rattle.variant_table.specs.declared.version.Version.{Version}
 use Rattle.variant_table.specs.declared.version.Version.TheVariants.{One, Two, Three}
-use Rattle.variant_table.specs.Entries.{Entry, replacements, sequences_in, IsOfVersion, IsPlain, whole}
+use Rattle.variant_table.specs.Entries.{Entry, replacements, sequences_in, IsOfVersion, IsPlain, itself, whole}
 use Rattle.variant_table.specs.inner.Held.{HasNoEmptySequence}
 use Rattle.variant_table.specs.Limits.{entry_limit}
 use Rattle.variant_table.specs.Ranges.{point_entry, range_size}
-use Rattle.variant_table.specs.Conditions.{is_too_large, is_text_too_long, is_over_limit, has_bad_point, has_bad_class, repeats, has_repeat, has_source_in}
+use Rattle.variant_table.specs.Conditions.{is_too_large, is_text_too_long, is_over_limit, has_bad_point, has_bad_class, has_repeat, has_source_in}
 use Rattle.variant_table.specs.Reading.{with_entries}
 use Rattle.ruleset_text.specs.Definitions.{Definitions}
 use Rattle.variant_table.proofs.ExampleLemmas.{with_entries-by}
+use Rattle.variant_table.proofs.RepeatLemmas.{distinct_from, no_repeats}
 use Rattle.ruleset_text.specs.Entries.{Mapped}
 use Rattle.ruleset_text.specs.EntryText.{IsSequence, IsMapped, IsForm}
 use Rattle.variant_table.specs.Forms.{is_plain, is_bare, begins_marked, has_form, variant_of, entry_of, entries_to, SpellsEntries}
@@ -89,33 +89,6 @@ pub sequences_scalar : (ss : List (List ℕ)) → AllByRecursion IsTableSequence
 sequences_scalar [] h = tt
 sequences_scalar (s ∷ ss) h = (points_scalars s (recursion_from_All IsTablePoint s h.0.points), sequences_scalar ss h.1)
 
-others : (s : List ℕ) (ss : List (List ℕ)) → list_any (bytes_eq s) ss ≡ false → AllByRecursion (λ r. s ≢ r) ss
-others s [] h = tt
-others s (r ∷ ss) h =
-    let p = or_parts (bytes_eq s r) (list_any (bytes_eq s) ss) h in
-    (λ same. (let t : bytes_eq s r ≡ true = (bytes_eq-Decides s r).1 same in let f : true ≡ false = sym t ∙ p.0 in cc), others s ss p.1)
-
-none_equal : (s : List ℕ) (ss : List (List ℕ)) → AllByRecursion (λ r. s ≢ r) ss → list_any (bytes_eq s) ss ≡ false
-none_equal s [] h = refl
-none_equal s (r ∷ ss) h = or_from (bytes_eq s r) (list_any (bytes_eq s) ss) (false_from_ne_true (bytes_eq s r) (λ t. h.0 ((bytes_eq-Decides s r).0 t))) (none_equal s ss h.1)
-
-pub distinct_from : (ss : List (List ℕ)) → repeats ss ≡ false → AllPairs (λ r s. r ≢ s) ss
-distinct_from [] h = λ i j d l k. absurd (omega (arith, k))
-distinct_from (s ∷ ss) h =
-    let p = or_parts (list_any (bytes_eq s) ss) (repeats ss) h in
-    AllPairs-cons (λ r s. r ≢ s) s ss (All-from_recursion (λ r. s ≢ r) ss (others s ss p.0)) (distinct_from ss p.1)
-
-pairs_head : {X : Type 0} (R : X → X → Type 0) (x : X) (xs : List X) → AllPairs R (x ∷ xs) → All (R x) xs
-pairs_head R x xs h = λ k d l. h 0 (suc k) d (omega arith) (omega (arith, l))
-
-pairs_tail : {X : Type 0} (R : X → X → Type 0) (x : X) (xs : List X) → AllPairs R (x ∷ xs) → AllPairs R xs
-pairs_tail R x xs h = λ i j d l k. h (suc i) (suc j) d (omega (arith, l)) (omega (arith, k))
-
-pub no_repeats : (ss : List (List ℕ)) → AllPairs (λ r s. r ≢ s) ss → repeats ss ≡ false
-no_repeats [] h = refl
-no_repeats (s ∷ ss) h =
-    or_from (list_any (bytes_eq s) ss) (repeats ss) (none_equal s ss (recursion_from_All (λ r. s ≢ r) ss (pairs_head (λ r s. r ≢ s) s ss h))) (no_repeats ss (pairs_tail (λ r s. r ≢ s) s ss h))
-
 -- an entry without a fault of its own
 pub entry_from_tests : (e : Entry) → HasNoEmptySequence e → is_too_large e ≡ false → has_bad_class e ≡ false → has_repeat e ≡ false → IsEntry e
 entry_from_tests e h a b d =
@@ -123,7 +96,7 @@ entry_from_tests e h a b d =
     record {
       sequences = All-from_recursion IsTableSequence (replacements e) (sequences_table (replacements e) h p.1 b);
       few = ltb-false 16 (length e.variants) p.0;
-      distinct = distinct_from (replacements e) d;
+      distinct = distinct_from (itself e ∷ e.variants) d;
     }
 
 pub small_from_entry : (e : Entry) → IsEntry e → is_too_large e ≡ false
@@ -135,7 +108,7 @@ pub good_from_entry : (e : Entry) → IsEntry e → has_bad_class e ≡ false
 good_from_entry e h = sequences_good (replacements e) (recursion_from_All IsTableSequence (replacements e) h.sequences)
 
 pub single_from_entry : (e : Entry) → IsEntry e → has_repeat e ≡ false
-single_from_entry e h = no_repeats (replacements e) h.distinct
+single_from_entry e h = no_repeats (itself e ∷ e.variants) h.distinct
 
 -- ---- sources
 

@@ -1,9 +1,10 @@
 -- Entries as spans of a list of sequences.
 use Rattle.std.proofs.Common.{◌≡◌, ℕ, zero, suc, ◌+◌, ◌-◌, ◌<◌, ◌≤◌, Bool, List, [], ◌∷◌, ◌++◌, length, map, take, drop, Some, refl, sym, ap, ◌∙◌, arith, length-take, length-drop}
-use Rattle.std.specs.Prelude.{slice_get, option_map}
+use Rattle.std.specs.Prelude.{slice_get, option_map, Option}
 use Rattle.std.specs.List.{All, AllByRecursion, slice_range}
 use Rattle.std.proofs.lemmas.List.{map-append, length-map, take-append-drop}
 use Rattle.std.proofs.lemmas.List.Elements.{recursion_from_All}
+use Rattle.label_patterns.specs.declared.condition.Condition.{Condition}
 use Rattle.variant_table.specs.declared.sequences.Span.{Span}
 use Rattle.variant_table.specs.Entries.{Variant, sequences_in, replacements, marks, entry_from, whole}
 use Rattle.variant_table.specs.inner.Held.{entry_at, entries_of, IsEntryBelow}
@@ -52,6 +53,13 @@ pub variant_seen : (vs : List Variant) (i : ℕ) (s : List ℕ) (b : Bool) → s
 variant_seen [] i s b e f = absurd cc
 variant_seen (v ∷ vs) zero s b e f = (v, refl, cc, cc)
 variant_seen (v ∷ vs) (suc i) s b e f = variant_seen vs i s b e f
+
+-- the variant whose sequence and condition stand at a place
+pub variant_asked : (vs : List Variant) (i : ℕ) (s : List ℕ) (c : Option Condition) → slice_get (sequences_in vs) i ≡ Some s → slice_get (map (λ v. v.condition) vs) i ≡ Some c
+    → (v : Variant) × (slice_get vs i ≡ Some v) × (v.sequence ≡ s) × (v.condition ≡ c)
+variant_asked [] i s c e f = absurd cc
+variant_asked (v ∷ vs) zero s c e f = (v, refl, cc, cc)
+variant_asked (v ∷ vs) (suc i) s c e f = variant_asked vs i s c e f
 
 later_marks : (vs : List Variant) (i : ℕ) → 0 < i → slice_get (marks (entry_from vs)) i ≡ slice_get (map (λ v. v.blocked) vs) i
 later_marks vs zero l = absurd (omega (arith, l))

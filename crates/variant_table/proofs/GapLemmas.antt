@@ -1,5 +1,5 @@
 -- The gaps of a table.
-use Rattle.std.proofs.Common.{◌≡◌, ◌⊎◌, inl, inr, ◌↔◌, ℕ, zero, suc, Bool, true, false, ◌||◌, cond, List, [], ◌∷◌, ◌++◌, take, ◌+◌, Option, Some, None, Ok, Err, refl, sym, ap, subst, ◌∙◌, arith, Vec, Global}
+use Rattle.std.proofs.Common.{◌≡◌, ◌⊎◌, inl, inr, ◌↔◌, ℕ, zero, suc, Bool, true, false, ◌||◌, cond, List, [], ◌∷◌, ◌++◌, take, ◌+◌, Option, Some, None, Ok, Err, refl, sym, ap, subst, ◌∙◌, Vec, Global}
 use Rattle.std.specs.Prelude.{bytes_eq, slice_get, IfOk, Result}
 use Rattle.std.specs.Ordering.{nat_cmp, match_ordering, ordering_then}
 use Rattle.std.specs.declared.cmp.Ordering.{Ordering}
@@ -23,6 +23,7 @@ use Rattle.variant_table.specs.Places.{entry_with}
 use Rattle.variant_table.specs.Gaps.{IsPair, IsGap, pair_cmp, AreGapsOf, has_variant, reverse_gaps, wanted_gap, further_gaps, gaps_by, gaps_through, gaps_of_entry, inserted, gaps_of, pair_of, pairs_of}
 use Rattle.variant_table.proofs.MemberLemmas.{Contains-head, Contains-later, Contains-none, Contains-one, Contains-cases, find_none}
 use Rattle.variant_table.proofs.BeginningLemmas.{same_entry, entry_with-found, entry_with-of}
+use Rattle.variant_table.proofs.RepeatLemmas.{unlike_source}
 
 abbrev pub Pair : Type 0
 Pair = List ℕ × List ℕ
@@ -116,9 +117,7 @@ contradicts b e f = absurd (let g : true ≡ false = sym e ∙ f in cc)
 module _ (table : List Entry) (well : IsWellFormed table) where
   -- a variant is unlike its source
   unlike : (e : Entry) (v : List ℕ) → Contains table e → Contains (sequences_in e.variants) v → v ≡ e.source → ⊥
-  unlike e v h m same =
-      let d = (All-contains IsEntry table e well.entries h).distinct in
-      d 0 (suc m.0) v (omega arith) (omega (arith, m.1)) (sym (m.2 ∙ same))
+  unlike e v h m same = unlike_source e v (All-contains IsEntry table e well.entries h) m (sym same)
 
   -- the variants of a source are those of its one entry
   of_source : (e : Entry) (s v : List ℕ) → Contains table e → e.source ≡ s → IsPair table s v → Contains (sequences_in e.variants) v

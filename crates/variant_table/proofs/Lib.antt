@@ -48,6 +48,8 @@ pub mod ExampleLemmas
 pub mod RangeLemmas
 -- How long canonical lines are.
 pub mod LengthLemmas
+-- Variants of an entry that stand again, and those that are apart.
+pub mod RepeatLemmas
 -- The table without its blocked variants.
 pub mod UnblockedLemmas
 -- What the entries of a line add.

@@ -1,8 +1,6 @@
 -- One element of a list, and what follows it; a fact about a failed call.
-use Rattle.std.proofs.Common.{◌≡◌, ℕ, zero, suc, ◌+◌, ◌<◌, ◌≤◌, length, get_or, refl, arith, true, false, ◌||◌, List, [], ◌∷◌, ◌++◌, take, drop, Some, sym, ap, ◌∙◌, add-one}
-use Rattle.std.specs.Prelude.{slice_get, bytes_eq, OnErr, Result, Ok, Err}
-use Rattle.std.specs.List.{list_any}
-use Rattle.variant_table.specs.Conditions.{repeats}
+use Rattle.std.proofs.Common.{◌≡◌, ℕ, zero, suc, ◌+◌, ◌<◌, ◌≤◌, length, get_or, refl, arith, List, [], ◌∷◌, ◌++◌, take, drop, Some, sym, ap, ◌∙◌, add-one}
+use Rattle.std.specs.Prelude.{slice_get, OnErr, Result, Ok, Err}
 
 drop_suc : {X : Type 0} (xs : List X) (i : ℕ) (x : X) → slice_get xs i ≡ Some x → drop i xs ≡ x ∷ drop (suc i) xs
 drop_suc [] i x e = absurd cc
@@ -23,12 +21,6 @@ drop_all [] zero l = refl
 drop_all [] (suc i) l = refl
 drop_all (y ∷ ys) zero l = absurd (omega (arith, l))
 drop_all (y ∷ ys) (suc i) l = drop_all ys i (omega (arith, l))
-
-pub repeats_here : (xs : List (List ℕ)) (i : ℕ) (x : List ℕ) → slice_get xs i ≡ Some x → list_any (bytes_eq x) (drop (i + 1) xs) ≡ true → repeats (drop i xs) ≡ true
-repeats_here xs i x e t = ap repeats (drop_next xs i x e) ∙ ap (λ b. b || repeats (drop (i + 1) xs)) t
-
-pub repeats_later : (xs : List (List ℕ)) (i : ℕ) (x : List ℕ) → slice_get xs i ≡ Some x → list_any (bytes_eq x) (drop (i + 1) xs) ≡ false → repeats (drop i xs) ≡ repeats (drop (i + 1) xs)
-repeats_later xs i x e t = ap repeats (drop_next xs i x e) ∙ ap (λ b. b || repeats (drop (i + 1) xs)) t
 
 take_suc : {X : Type 0} (xs : List X) (i : ℕ) (x : X) → slice_get xs i ≡ Some x → take (suc i) xs ≡ take i xs ++ x ∷ []
 take_suc [] i x e = absurd cc

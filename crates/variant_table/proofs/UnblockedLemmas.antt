@@ -1,5 +1,5 @@
 -- The table without its blocked variants.
-use Rattle.std.proofs.Common.{◌≡◌, ℕ, zero, suc, ◌+◌, ◌≤◌, Bool, true, false, ◌||◌, cond, List, [], ◌∷◌, ◌++◌, length, map, take, get_or, Some, refl, sym, ap, subst, ◌∙◌, arith, length-append}
+use Rattle.std.proofs.Common.{◌≡◌, ℕ, zero, suc, ◌+◌, ◌≤◌, Bool, true, false, ◌||◌, cond, List, [], ◌∷◌, ◌++◌, length, map, take, get_or, Some, None, refl, sym, ap, subst, ◌∙◌, arith, length-append}
 use Rattle.std.specs.Prelude.{slice_get, bytes_eq, filter, not, IsPermutation}
 use Rattle.std.specs.Ordering.{nat_cmp}
 use Rattle.std.specs.declared.cmp.Ordering.TheVariants.{Less}
@@ -11,12 +11,13 @@ use Rattle.std.proofs.lemmas.List.Elements.{All-from_recursion, recursion_from_A
 use Rattle.variant_table.specs.declared.version.Version.{Version}
 use Rattle.variant_table.specs.declared.version.Version.TheVariants.{One, Two, Three}
 use Rattle.variant_table.specs.Canonical.{canonical_line, canonical_text, head_text}
-use Rattle.variant_table.specs.Conditions.{repeats, has_source_in}
+use Rattle.variant_table.specs.Conditions.{is_again, repeats, has_source_in}
 use Rattle.ruleset_text.specs.Definitions.{Definitions, definitions_text}
-use Rattle.variant_table.specs.Entries.{Variant, Entry, IsOfVersion, IsPlain, table_of, sequences_in, replacements, unblocked_entry, unblocked, has_blocked, entry_from, whole}
+use Rattle.variant_table.specs.Entries.{Variant, Entry, IsOfVersion, IsPlain, table_of, sequences_in, replacements, unblocked_entry, unblocked, has_blocked, entry_from, itself, whole}
 use Rattle.variant_table.specs.inner.Order.{IsOrderOf}
 use Rattle.variant_table.specs.WellFormed.{IsSequence, IsEntry, IsTable}
-use Rattle.variant_table.proofs.ConditionLemmas.{AreNewSources, distinct_from, no_repeats, distinct_sources, new_sources, no_sources}
+use Rattle.variant_table.proofs.ConditionLemmas.{AreNewSources, distinct_sources, new_sources, no_sources}
+use Rattle.variant_table.proofs.RepeatLemmas.{distinct_from, no_repeats}
 use Rattle.variant_table.proofs.ListLemmas.{take_next}
 use Rattle.variant_table.proofs.EntryLemmas.{variant_marked}
 use Rattle.variant_table.proofs.WritingLemmas.{variant_text, further_variants_text, variants_text, canonical_line-is}
@@ -89,23 +90,23 @@ all_free P (v ∷ variants) h = by_mark v.blocked (all_free P variants h.1)
     by_mark true rest = rest
     by_mark false rest = (h.0, rest)
 
-any_free : (p : List ℕ → Bool) (variants : List Variant) → list_any p (sequences_in variants) ≡ false → list_any p (sequences_in (free variants)) ≡ false
+any_free : (p : Variant → Bool) (variants : List Variant) → list_any p variants ≡ false → list_any p (free variants) ≡ false
 any_free p [] h = refl
-any_free p (v ∷ variants) h = by_mark v.blocked (any_free p variants (or_parts (p v.sequence) (list_any p (sequences_in variants)) h).1)
+any_free p (v ∷ variants) h = by_mark v.blocked (any_free p variants (or_parts (p v) (list_any p variants) h).1)
   where
-    by_mark : (b : Bool) → list_any p (sequences_in (free variants)) ≡ false → list_any p (sequences_in (cond (not b) (v ∷ free variants) (free variants))) ≡ false
+    by_mark : (b : Bool) → list_any p (free variants) ≡ false → list_any p (cond (not b) (v ∷ free variants) (free variants)) ≡ false
     by_mark true rest = rest
-    by_mark false rest = or_from (p v.sequence) (list_any p (sequences_in (free variants))) (or_parts (p v.sequence) (list_any p (sequences_in variants)) h).0 rest
+    by_mark false rest = or_from (p v) (list_any p (free variants)) (or_parts (p v) (list_any p variants) h).0 rest
 
-repeats_free : (variants : List Variant) → repeats (sequences_in variants) ≡ false → repeats (sequences_in (free variants)) ≡ false
+repeats_free : (variants : List Variant) → repeats variants ≡ false → repeats (free variants) ≡ false
 repeats_free [] h = refl
-repeats_free (v ∷ variants) h = by_mark v.blocked (repeats_free variants (or_parts (list_any (bytes_eq v.sequence) (sequences_in variants)) (repeats (sequences_in variants)) h).1)
+repeats_free (v ∷ variants) h = by_mark v.blocked (repeats_free variants (or_parts (list_any (is_again v.sequence v.condition) variants) (repeats variants) h).1)
   where
-    by_mark : (b : Bool) → repeats (sequences_in (free variants)) ≡ false → repeats (sequences_in (cond (not b) (v ∷ free variants) (free variants))) ≡ false
+    by_mark : (b : Bool) → repeats (free variants) ≡ false → repeats (cond (not b) (v ∷ free variants) (free variants)) ≡ false
     by_mark true rest = rest
     by_mark false rest =
-        or_from (list_any (bytes_eq v.sequence) (sequences_in (free variants))) (repeats (sequences_in (free variants)))
-        (any_free (bytes_eq v.sequence) variants (or_parts (list_any (bytes_eq v.sequence) (sequences_in variants)) (repeats (sequences_in variants)) h).0) rest
+        or_from (list_any (is_again v.sequence v.condition) (free variants)) (repeats (free variants))
+        (any_free (is_again v.sequence v.condition) variants (or_parts (list_any (is_again v.sequence v.condition) variants) (repeats variants) h).0) rest
 
 few_free : (variants : List Variant) → length (free variants) ≤ length variants
 few_free [] = omega arith
@@ -118,13 +119,12 @@ few_free (v ∷ variants) = by_mark v.blocked (few_free variants)
 entry_kept : (e : Entry) → IsEntry e → IsEntry (unblocked_entry e)
 entry_kept e h =
     let all = recursion_from_All IsSequence (replacements e) h.sequences in
-    let single : repeats (replacements e) ≡ false = no_repeats (replacements e) h.distinct in
-    let p = or_parts (list_any (bytes_eq e.source) (sequences_in e.variants)) (repeats (sequences_in e.variants)) single in
+    let p = or_parts (list_any (is_again e.source None) e.variants) (repeats e.variants) (no_repeats (itself e ∷ e.variants) h.distinct) in
     record {
       sequences = All-from_recursion IsSequence (replacements (unblocked_entry e)) (all.0, all_free IsSequence e.variants all.1);
       few = omega (arith, h.few, few_free e.variants);
-      distinct = distinct_from (replacements (unblocked_entry e))
-          (or_from (list_any (bytes_eq e.source) (sequences_in (free e.variants))) (repeats (sequences_in (free e.variants))) (any_free (bytes_eq e.source) e.variants p.0) (repeats_free e.variants p.1));
+      distinct = distinct_from (itself (unblocked_entry e) ∷ free e.variants)
+          (or_from (list_any (is_again e.source None) (free e.variants)) (repeats (free e.variants)) (any_free (is_again e.source None) e.variants p.0) (repeats_free e.variants p.1));
     }
 
 entries_kept : (t : List Entry) → AllByRecursion IsEntry t → AllByRecursion IsEntry (unblocked t)

@@ -1,11 +1,14 @@
 -- What may be wrong with a line and its entries.
-use Rattle.std.specs.Prelude.{ℕ, ◌+◌, ◌++◌, Bool, false, ◌||◌, not, nat_lt, List, [], ◌∷◌, length, bytes_eq}
+use Rattle.std.specs.Prelude.{ℕ, ◌+◌, ◌++◌, ◌==◌, Bool, true, false, ◌||◌, ◌&&◌, not, nat_lt, Option, Some, List, [], ◌∷◌, length, bytes_eq}
 use Rattle.std.specs.List.{list_any}
 use Rattle.idn_class.specs.Class.{class_of}
+use Rattle.label_patterns.specs.declared.condition.Condition.{Condition}
+use Rattle.label_patterns.specs.declared.condition.ConditionKind.{ConditionKind}
+use Rattle.label_patterns.specs.declared.condition.ConditionKind.TheVariants.{When, Unless}
 use Rattle.ruleset_text.specs.Definitions.{Definitions}
 use Rattle.variant_table.specs.declared.version.Version.{Version}
 use Rattle.variant_table.specs.declared.version.Version.TheVariants.{One, Two, Three}
-use Rattle.variant_table.specs.Entries.{Entry, replacements}
+use Rattle.variant_table.specs.Entries.{Variant, Entry, replacements, itself}
 use Rattle.variant_table.specs.Canonical.{table_text}
 use Rattle.variant_table.specs.Limits.{line_limit, text_limit, entry_limit}
 use Rattle.variant_table.specs.WellFormed.{is_table_class}
@@ -37,14 +40,29 @@ has_bad_point s = list_any (λ c. not (is_table_class (class_of c))) s
 abbrev pub has_bad_class : Entry → Bool
 has_bad_class e = list_any has_bad_point (replacements e)
 
--- a sequence that stands again later
-abbrev pub repeats : List (List ℕ) → Bool
-repeats [] = false
-repeats (s ∷ sequences) = list_any (bytes_eq s) sequences || repeats sequences
+-- the same is asked of a rule
+abbrev pub is_same_kind : ConditionKind → ConditionKind → Bool
+is_same_kind When When = true
+is_same_kind Unless Unless = true
+is_same_kind k l = false
 
--- two equal variants, or a variant equal to the source
+-- two conditions, which differ
+abbrev pub differ : Option Condition → Option Condition → Bool
+differ (Some c) (Some d) = not (is_same_kind c.kind d.kind && c.rule == d.rule)
+differ c d = false
+
+-- the variant has this sequence, and they haven't each a condition of its own
+abbrev pub is_again : List ℕ → Option Condition → Variant → Bool
+is_again sequence condition v = bytes_eq sequence v.sequence && not (differ condition v.condition)
+
+-- one that stands again later
+abbrev pub repeats : List Variant → Bool
+repeats [] = false
+repeats (v ∷ variants) = list_any (is_again v.sequence v.condition) variants || repeats variants
+
+-- two equal variants, unless their conditions differ; or a variant equal to the source
 abbrev pub has_repeat : Entry → Bool
-has_repeat e = repeats (replacements e)
+has_repeat e = repeats (itself e ∷ e.variants)
 
 -- a source that an entry of the table has
 abbrev pub has_source_in : List Entry → Entry → Bool

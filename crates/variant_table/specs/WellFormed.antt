@@ -1,14 +1,15 @@
 -- Which tables are well-formed.
-use Rattle.std.specs.Prelude.{◌≡◌, ◌≢◌, ℕ, ◌≤◌, Bool, true, false, IsTrue, List, [], length, All, AllPairs}
+use Rattle.std.specs.Prelude.{◌≡◌, ◌≢◌, ℕ, ◌≤◌, Bool, true, false, IsTrue, Option, None, List, [], ◌∷◌, length, All, AllPairs}
 use Rattle.idn_text.specs.Points.{IsScalarValue}
 use Rattle.idn_class.specs.declared.class.Class.{Class}
 use Rattle.idn_class.specs.declared.class.Class.TheVariants.{Pvalid, Contextj, Contexto}
 use Rattle.idn_class.specs.Class.{class_of}
+use Rattle.label_patterns.specs.declared.condition.Condition.{Condition}
 use Rattle.ruleset_text.specs.Definitions.{Definitions, nothing_defined}
 use Rattle.ruleset_text.specs.WellFormed.{AreDefinitions}
 use Rattle.variant_table.specs.declared.version.Version.{Version}
 use Rattle.variant_table.specs.declared.version.Version.TheVariants.{One, Two, Three}
-use Rattle.variant_table.specs.Entries.{Entry, replacements, IsOfVersion, TableValue}
+use Rattle.variant_table.specs.Entries.{Variant, Entry, replacements, itself, IsOfVersion, TableValue}
 use Rattle.variant_table.specs.Canonical.{canonical_text, table_text}
 use Rattle.variant_table.specs.Limits.{text_limit, entry_limit}
 
@@ -30,11 +31,19 @@ pub record IsSequence (s : List ℕ) : Type 0 where
   pub short : length s ≤ 8
   pub points : All IsTablePoint s
 
--- a source and at most 16 variants, all different
+-- two conditions, which differ
+abbrev pub AreOther : Option Condition → Option Condition → Type 0
+AreOther c d = (c ≢ None) × (d ≢ None) × (c ≢ d)
+
+-- different sequences, or equal ones each of which has a condition of its own
+abbrev pub AreApart : Variant → Variant → Type 0
+AreApart v w = v.sequence ≡ w.sequence → AreOther v.condition w.condition
+
+-- a source and at most 16 variants: no variant is the source, and equal variants have different conditions
 pub record IsEntry (e : Entry) : Type 0 where
   pub sequences : All IsSequence (replacements e)
   pub few : length e.variants ≤ 16
-  pub distinct : AllPairs (λ r s. r ≢ s) (replacements e)
+  pub distinct : AllPairs AreApart (itself e ∷ e.variants)
 
 -- at most 65,536 entries with different sources, whose canonical text has at most 8,388,608 bytes: the largest limits of any version
 pub record IsWellFormed (table : List Entry) : Type 0 where

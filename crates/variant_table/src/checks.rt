@@ -1,13 +1,14 @@
 //! What may be wrong with an entry by itself.
-ghost use Rattle.std.specs.Prelude.{◌≡◌, ◌+◌, ◌<◌, Bool, ◌≤◌, ◌^◌, length, map, bytes_eq, drop, IfOk};
+ghost use Rattle.std.specs.Prelude.{◌≡◌, ◌+◌, ◌<◌, Bool, ◌≤◌, ◌^◌, length, map, drop, slice_get, Some, IfOk};
 ghost use Rattle.std.specs.List.{list_any, range_with_len};
 ghost use Rattle.variant_table.specs.Conditions as conditions;
-ghost use Rattle.variant_table.specs.Entries.{sequences_in, entry_from};
+ghost use Rattle.variant_table.specs.Entries.{Variant, entry_from};
 ghost use Rattle.variant_table.specs.Ranges.{point_entry};
 ghost use Rattle.variant_table.specs.WellFormed.{is_table_class};
 
 use crate::sequences::Sequences;
 use idn_class::{Class, class_of};
+use label_patterns::Condition;
 use std::alloc::{AllocError, Global};
 
 /// The most sequences of an entry: a source and 16 variants.
@@ -68,22 +69,63 @@ fn is_table_class(class: Class) -> bool
     matches!(class, Class::Pvalid | Class::Contextj | Class::Contexto)
 }
 
-/// Whether two sequences are equal.
+/// Whether a variant is equal to the source; or two variants are equal, unless each has a condition of its own.
 pub fn has_repeat(sequences: &Sequences) -> bool
     requires { 0 < length sequences.now }
     ensures { result ≡ conditions.has_repeat (entry_from sequences.now) }
 {
-    for index in 0..sequences.len() {
-        if occurs_from(sequences, index + 1, sequences.get(index)) {
+    if occurs_from(sequences, 1, sequences.get(0), None) {
+        return true;
+    }
+    for index in 1..sequences.len() {
+        if occurs_from(
+            sequences,
+            index + 1,
+            sequences.get(index),
+            sequences.condition(index),
+        ) {
             return true;
         }
     }
     false
 }
 
-/// Whether a sequence occurs at the number `start` or after it.
-fn occurs_from(sequences: &Sequences, start: usize, wanted: &[u32]) -> bool
-    ensures { result ≡ list_any (bytes_eq wanted.now) (drop start (sequences_in sequences.now)) }
+/// Whether a sequence with this condition occurs again at the number `start` or after it.
+fn occurs_from(
+    sequences: &Sequences,
+    start: usize,
+    wanted: &[u32],
+    condition: Option<Condition>,
+) -> bool
+    ensures { result ≡ list_any (conditions.is_again wanted.now condition) (drop start sequences.now) }
 {
-    sequences.from_index(start).any(|s| wanted == s)
+    for number in start..sequences.len() {
+        if is_again(sequences, number, wanted, condition) {
+            return true;
+        }
+    }
+    false
+}
+
+/// Whether the variant of this number has the sequence, and they haven't each a condition of its own.
+fn is_again(
+    sequences: &Sequences,
+    number: usize,
+    wanted: &[u32],
+    condition: Option<Condition>,
+) -> bool
+    requires { number < length sequences.now }
+    ensures { (v : Variant) × (slice_get sequences.now number ≡ Some v) × (result ≡ conditions.is_again wanted.now condition v) }
+{
+    wanted == sequences.get(number) && !differ(condition, sequences.condition(number))
+}
+
+/// Whether these are two conditions, which differ.
+fn differ(left: Option<Condition>, right: Option<Condition>) -> bool
+    ensures { result ≡ conditions.differ left right }
+{
+    match (left, right) {
+        (Some(left), Some(right)) => left != right,
+        _ => false,
+    }
 }

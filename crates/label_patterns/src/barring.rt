@@ -1,0 +1,114 @@
+//! Conditions that fail whatever follows a beginning of a label.
+ghost use Rattle.std.specs.Prelude.{◌≡◌, ◌↔◌, ◌≤◌, length, IsTrue};
+ghost use Rattle.label_patterns.specs.Barring.{ends_in_place as ends_in_place_pattern, OneEndsBefore, OneIsDone};
+ghost use Rattle.label_patterns.specs.Laws.{HasNoEnd};
+ghost use Rattle.label_patterns.specs.Matches.{HasItsSets};
+ghost use Rattle.label_patterns.specs.Rules.{branches, EndsBefore};
+ghost use Rattle.label_patterns.specs.Trees.{pattern};
+
+use crate::contexts::{is_place, places_before};
+use crate::pattern_tree::PatternTree;
+use crate::places::has;
+use crate::seen_label::SeenLabel;
+
+/// Whether `_` is the last item of the context.
+fn ends_in_place(context: &PatternTree) -> bool
+    ensures { result ≡ ends_in_place_pattern (pattern context.now) }
+{
+    match context {
+        PatternTree::Place => true,
+        PatternTree::Then(item, rest) => !is_place(item) && ends_in_place(rest),
+        PatternTree::Point(_) => false,
+        PatternTree::Set(_) => false,
+        PatternTree::Any => false,
+        PatternTree::Start => false,
+        PatternTree::End => false,
+        PatternTree::Group(_) => false,
+        PatternTree::Optional(_) => false,
+        PatternTree::Many(_) => false,
+        PatternTree::Either(_, _) => false,
+    }
+}
+
+/// Whether what stands before `_` in the context is found before a place of the label.
+fn is_before(context: &PatternTree, seen: &SeenLabel, start: usize) -> bool
+    requires known { HasItsSets (length seen.now.sets) (pattern context.now) }
+    requires start { start ≤ length seen.now.label }
+    ensures { IsTrue result ↔ EndsBefore seen.now (pattern context.now) start }
+{
+    has(places_before(context, seen), start)
+}
+
+/// Whether what stands before `_` in one of the rule's contexts is found before a place of the label.
+pub fn one_ends_before(rule: &PatternTree, seen: &SeenLabel, start: usize) -> bool
+    requires known { HasItsSets (length seen.now.sets) (pattern rule.now) }
+    requires start { start ≤ length seen.now.label }
+    ensures { IsTrue result ↔ OneEndsBefore seen.now (branches (pattern rule.now)) start }
+{
+    match rule {
+        PatternTree::Either(context, others) => {
+            is_before(context, seen, start) || one_ends_before(others, seen, start)
+        }
+        PatternTree::Then(_, _) => is_before(rule, seen, start),
+        PatternTree::Place => true,
+        PatternTree::Point(_) => false,
+        PatternTree::Set(_) => false,
+        PatternTree::Any => false,
+        PatternTree::Start => false,
+        PatternTree::End => false,
+        PatternTree::Group(_) => false,
+        PatternTree::Optional(_) => false,
+        PatternTree::Many(_) => false,
+    }
+}
+
+/// The same for a context in which nothing stands after `_`.
+pub fn one_is_done(rule: &PatternTree, seen: &SeenLabel, start: usize) -> bool
+    requires known { HasItsSets (length seen.now.sets) (pattern rule.now) }
+    requires start { start ≤ length seen.now.label }
+    ensures { IsTrue result ↔ OneIsDone seen.now (branches (pattern rule.now)) start }
+{
+    match rule {
+        PatternTree::Either(context, others) => {
+            is_done(context, seen, start) || one_is_done(others, seen, start)
+        }
+        PatternTree::Then(_, _) => is_done(rule, seen, start),
+        PatternTree::Place => true,
+        PatternTree::Point(_) => false,
+        PatternTree::Set(_) => false,
+        PatternTree::Any => false,
+        PatternTree::Start => false,
+        PatternTree::End => false,
+        PatternTree::Group(_) => false,
+        PatternTree::Optional(_) => false,
+        PatternTree::Many(_) => false,
+    }
+}
+
+/// Whether nothing stands after `_` in the context, and what stands before it is found before a place of the label.
+fn is_done(context: &PatternTree, seen: &SeenLabel, start: usize) -> bool
+    requires known { HasItsSets (length seen.now.sets) (pattern context.now) }
+    requires start { start ≤ length seen.now.label }
+    ensures { IsTrue result ↔ (IsTrue (ends_in_place_pattern (pattern context.now)) × EndsBefore seen.now (pattern context.now) start) }
+{
+    ends_in_place(context) && is_before(context, seen, start)
+}
+
+/// Whether a pattern doesn't ask for the end of the label.
+pub fn has_no_end(tree: &PatternTree) -> bool
+    ensures { IsTrue result ↔ HasNoEnd (pattern tree.now) }
+{
+    match tree {
+        PatternTree::End => false,
+        PatternTree::Group(part) => has_no_end(part),
+        PatternTree::Optional(part) => has_no_end(part),
+        PatternTree::Many(part) => has_no_end(part),
+        PatternTree::Then(first, rest) => has_no_end(first) && has_no_end(rest),
+        PatternTree::Either(left, right) => has_no_end(left) && has_no_end(right),
+        PatternTree::Point(_) => true,
+        PatternTree::Set(_) => true,
+        PatternTree::Any => true,
+        PatternTree::Start => true,
+        PatternTree::Place => true,
+    }
+}
