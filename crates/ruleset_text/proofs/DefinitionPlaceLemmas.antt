@@ -870,12 +870,11 @@ all_closed p closed_ some = by p.is_rule p.passed refl refl
 groups_closed : (g : ℕ) (p : PatternState) → p.groups ≡ g → is_nothing p.last ≡ false → Completed (InPattern p)
 groups_closed zero p open_ some = all_closed p open_ some
 groups_closed (suc g) p open_ some =
-    let later = groups_closed g (closed p) (ap (λ n. n - 1) open_ ∙ out_of g) refl in
-    (
+    let later = groups_closed g (closed p) (ap (λ n. n - 1) open_ ∙ out_of g) refl in (
       codes ")" ∷ later.0,
       ap (λ n. if_some (in_pattern (if_may (not (n == 0) && not (is_nothing p.last)) (closed p))) (λ t. accepts t later.0)) open_
-      ∙ ap (λ b. if_some (in_pattern (if_may (not b && not (is_nothing p.last)) (closed p))) (λ t. accepts t later.0)) (suc_zero g)
-      ∙ ap (λ b. if_some (in_pattern (if_may (not b) (closed p))) (λ t. accepts t later.0)) some ∙ later.1,
+          ∙ ap (λ b. if_some (in_pattern (if_may (not b && not (is_nothing p.last)) (closed p))) (λ t. accepts t later.0)) (suc_zero g)
+          ∙ ap (λ b. if_some (in_pattern (if_may (not b) (closed p))) (λ t. accepts t later.0)) some ∙ later.1,
     )
 
 pattern_completed : (p : PatternState) → Completed (InPattern p)
@@ -902,11 +901,10 @@ above_completed (suc low) = ([], grind (arith, nat_tests))
 
 range_completed : (c : ℕ) → c ≤ 1114111 → Completed (Spans (held.Range c))
 range_completed c below =
-    let fits : nat_le c 1114111 ≡ true = grind (arith, nat_tests) in
-    (
+    let fits : nat_le c 1114111 ≡ true = grind (arith, nat_tests) in (
       codes "10FFFF" ∷ [],
       ap (λ p. if_some (in_spans (held_step (held.Range c) p)) is_whole) last_part
-      ∙ ap (λ b. if_some (in_spans (cond b (Some (held.Above (1114111 + 1))) None)) is_whole) fits,
+          ∙ ap (λ b. if_some (in_spans (cond b (Some (held.Above (1114111 + 1))) None)) is_whole) fits,
     )
 
 named_completed : (k : Keyword) → Completed (Named k)
@@ -1096,8 +1094,7 @@ unfolding wrong_definition
 end_found line place e =
     let p = passed (length line) (Some (End place)) (placed_lexemes line) Nothing tt e in
     let o = open_place (length line) place (is_whole p.0) p.2 in
-    let r = all_lexemes line (Some p.0) p.1 in
-    (
+    let r = all_lexemes line (Some p.0) p.1 in (
       o.1,
       begins_by_run (lexemes line) p.0 r,
       λ d. let clash : true ≡ false = sym (defined_accepts (lexemes line) d) ∙ whole_by_run (lexemes line) p.0 r ∙ o.0 in cc,
@@ -1154,8 +1151,8 @@ no_wrong_place names line = by (wrong_definition line) refl ∙ ap not (accepts_
         let k = stuck (length line) place n (placed_lexemes line) Nothing e in
         let split : lexemes line ≡ unplaced k.before ++ (k.w.lexeme ∷ unplaced k.behind) = sym (unplaced-from 0 line) ∙ ap unplaced k.cut ∙ unplaced_append k.before (k.w ∷ k.behind) in
         let stops : accepts Nothing (lexemes line) ≡ false =
-            ap (accepts Nothing) split ∙ accepts_run (unplaced k.before) (k.w.lexeme ∷ unplaced k.behind) Nothing
-            ∙ ap (λ o. if_some o (λ t. accepts t (k.w.lexeme ∷ unplaced k.behind))) k.reached ∙ ap (λ o. if_some o (λ t. accepts t (unplaced k.behind))) k.none in
+        ap (accepts Nothing) split ∙ accepts_run (unplaced k.before) (k.w.lexeme ∷ unplaced k.behind) Nothing
+        ∙ ap (λ o. if_some o (λ t. accepts t (k.w.lexeme ∷ unplaced k.behind))) k.reached ∙ ap (λ o. if_some o (λ t. accepts t (unplaced k.behind))) k.none in
         sym (ap not stops)
 
     of_end : (o : Option WrongPlace) → IsNoLexeme o → wrong_definition line ≡ o → is_some o ≡ not (accepts Nothing (lexemes line))

@@ -24,5 +24,6 @@ pub mod PlacedLexemes
 pub mod EntryParts
 pub mod WrongPlaces
 pub mod DefinitionPlaces
+pub mod LineNames
 pub mod LinePoints
 pub mod inner
