@@ -2,8 +2,10 @@ pub mod Segmentations
 pub mod Pieces
 pub mod Demands
 pub mod Validity
+pub mod Testing
 pub mod Tests
 pub mod Furthest
+pub mod Causes
 pub mod Examples
 pub mod Laws
 pub mod inner
