@@ -32,3 +32,5 @@ pub mod DemandLemmas
 pub mod PieceSteps
 -- Which beginnings of a label are lost, by two places.
 pub mod LostPlaces
+-- Why a label may not be asked about, step by step.
+pub mod CauseLemmas
