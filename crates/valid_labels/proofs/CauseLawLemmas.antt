@@ -31,8 +31,8 @@ use Rattle.valid_labels.proofs.PartLemmas.{first-part, first-inside, after-first
 use Rattle.valid_labels.proofs.SegmentationLemmas.{IsInside, HoldsIn, made-cut}
 use Rattle.valid_labels.proofs.TestLemmas.{segmentation-agrees, made-agrees, wanted-agrees, sequence-filled}
 
-pub clash : {P : Type 0} (b : Bool) → b ≡ true → b ≡ false → P
-clash b t f = absurd (let g : true ≡ false = sym t ∙ f in cc)
+pub opposite : {P : Type 0} (b : Bool) → b ≡ true → b ≡ false → P
+opposite b t f = absurd (let g : true ≡ false = sym t ∙ f in cc)
 
 some-one : {X : Type 0} (a b : X) → Some a ≡ Some b → a ≡ b
 some-one a b e = cc
@@ -65,19 +65,19 @@ module _ (table : TableValue) (label : List ℕ) where
     where
       by_holds : (b : Bool) → holds_in table label e.condition place (place + length e.source) ≡ b → e.outside ≡ false
           → (e.outside ≡ false) × (holds_in table label e.condition place (place + length e.source) ≡ false) × (is_made_of_sources table (drop (place + length e.source) label) ≡ true)
-      by_holds true is inside = clash (is_misplaced table label place e) h (misplaced-held table label place e inside is)
+      by_holds true is inside = opposite (is_misplaced table label place e) h (misplaced-held table label place e inside is)
       by_holds false is inside = (inside, is, sym (misplaced-else table label place e inside is) ∙ h)
 
       by_mark : (b : Bool) → e.outside ≡ b
           → (e.outside ≡ false) × (holds_in table label e.condition place (place + length e.source) ≡ false) × (is_made_of_sources table (drop (place + length e.source) label) ≡ true)
-      by_mark true is = clash (is_misplaced table label place e) h (misplaced-outside table label place e is)
+      by_mark true is = opposite (is_misplaced table label place e) h (misplaced-outside table label place e is)
       by_mark false is = by_holds (holds_in table label e.condition place (place + length e.source)) refl is
 
   -- a misplaced entry has a condition
   has-condition : (place : ℕ) (e : Entry) → is_misplaced table label place e ≡ true → e.condition ≡ None → ⊥
   has-condition place e h none =
       let f = facts place e h in
-      clash true refl (sym (ap (λ c. holds_in table label c place (place + length e.source)) none) ∙ f.1)
+      opposite true refl (sym (ap (λ c. holds_in table label c place (place + length e.source)) none) ∙ f.1)
 
   -- ---- the entries at a place
 
@@ -124,7 +124,7 @@ module _ (table : TableValue) (label : List ℕ) where
         | inl a ↦ inl (
           a.0,
           λ f m t. elim (Contains-cases x es f m) [
-            | inl same ↦ clash (is_misplaced table label place f) t (ap (is_misplaced table label place) (sym same) ∙ is)
+            | inl same ↦ opposite (is_misplaced table label place f) t (ap (is_misplaced table label place) (sym same) ∙ is)
             | inr k ↦ a.1 f k t
           ],
         )
@@ -134,7 +134,7 @@ module _ (table : TableValue) (label : List ℕ) where
           test = b.test;
           condition = b.condition;
           longest = λ f m t. elim (Contains-cases x es f m) [
-            | inl same ↦ clash (is_misplaced table label place f) t (ap (is_misplaced table label place) (sym same) ∙ is)
+            | inl same ↦ opposite (is_misplaced table label place f) t (ap (is_misplaced table label place) (sym same) ∙ is)
             | inr k ↦ b.longest f k t
           ];
         })
@@ -151,7 +151,7 @@ module _ (table : TableValue) (label : List ℕ) where
           let a = later found g in (
             a.0,
             λ f m t. elim (Contains-cases x es f m) [
-              | inl same ↦ clash (is_misplaced table label place f) t (ap (is_misplaced table label place) (sym same) ∙ is)
+              | inl same ↦ opposite (is_misplaced table label place f) t (ap (is_misplaced table label place) (sym same) ∙ is)
               | inr k ↦ a.1 f k t
             ],
           )
@@ -219,7 +219,7 @@ module _ (table : TableValue) (label : List ℕ) where
           inside = f.0;
           within = inside;
           stands = first-part label place e.source m.1.0 m.1.1;
-          fails = λ holds. clash (holds_in table label e.condition place (place + length e.source))
+          fails = λ holds. opposite (holds_in table label e.condition place (place + length e.source))
               ((condition-agrees table.definitions.rules (seen_under table label) e.condition place (place + length e.source) l inside).1 holds) f.1;
           reached = reached;
           rest = (made-agrees table (drop (place + length e.source) label) formed).0 f.2;
@@ -321,7 +321,7 @@ broken-sound s (d ∷ ds) n cause h = by_test (is_wanted d.kind (occurs_in s d.p
         d,
         record {
           at = refl;
-          broken = λ kept. clash (is_wanted d.kind (occurs_in s d.pattern)) ((kept-agrees s d).1 kept) is;
+          broken = λ kept. opposite (is_wanted d.kind (occurs_in s d.pattern)) ((kept-agrees s d).1 kept) is;
           first = λ k e l at. absurd (omega (arith, l));
         },
         sym (some-one (Broken n d.kind) cause g) ∙ (let number : n ≡ n + 0 = omega arith in ap (λ m. Broken m d.kind) number),
@@ -392,7 +392,7 @@ module _ (table : TableValue) (label : List ℕ) (formed : IsWellFormed table.en
           subst (IsCause table label) (sym (r.1.2 ∙ ap (λ m. Broken m r.1.0.kind) number)) (agrees.0 is, (r.1.0, r.1.1, refl))
       by_test false is agrees g =
           let r = misplaced-sound table label formed cause g in
-          subst (IsCause table label) (sym r.1.1) ((λ has. clash (has_place (held_places table label) (length label)) (agrees.1 has) is), r.1.2)
+          subst (IsCause table label) (sym r.1.1) ((λ has. opposite (has_place (held_places table label) (length label)) (agrees.1 has) is), r.1.2)
 
   -- where none is told there is none
   none-told : (cause : ValidityCause) → cause_of table label ≡ None → IsCause table label cause → ⊥
@@ -406,7 +406,7 @@ module _ (table : TableValue) (label : List ℕ) (formed : IsWellFormed table.en
       by_test false e agrees (Misplaced p c) g x =
           let m = x.1.1.misplaced in
           none-misplaced table label formed p x.1.0 (below-none table label (length label) g p (place-inside table label formed p x.1.0 m)) m
-      by_test false e agrees (Broken n k) g x = clash (has_place (held_places table label) (length label)) (agrees.1 x.0) e
+      by_test false e agrees (Broken n k) g x = opposite (has_place (held_places table label) (length label)) (agrees.1 x.0) e
 
   complete : (cause : ValidityCause) → IsCause table label cause → cause_of table label ≡ Some cause
   complete cause is = by_value (cause_of table label) refl
@@ -454,7 +454,7 @@ module _ (table : TableValue) (label : List ℕ) (formed : IsWellFormed table.en
             inside = each.0.1;
             within = inside;
             stands = stands;
-            fails = λ holds. clash (holds_in table label e.condition place end) (agrees.1 holds) is;
+            fails = λ holds. opposite (holds_in table label e.condition place end) (agrees.1 holds) is;
             reached = reached;
             rest = (
               es,
@@ -488,7 +488,7 @@ module _ (table : TableValue) (label : List ℕ) (formed : IsWellFormed table.en
           by_test false is agrees g =
               let cut = (made-cut table label).0 made in
               elim (walk cut.0 0 (omega arith) cut.1.each (sym cut.1.joined) no_round) [
-                | inl all ↦ clash (has_place (held_places table label) (length label)) ((held-agrees table label formed (length label)).1 all) is
+                | inl all ↦ opposite (has_place (held_places table label) (length label)) ((held-agrees table label formed (length label)).1 all) is
                 | inr m ↦ none-misplaced table label formed m.0 m.1.0 (below-none table label (length label) g m.0 (place-inside table label formed m.0 m.1.0 m.1.1)) m.1.1
               ]
 
