@@ -25,5 +25,6 @@ pub mod EntryParts
 pub mod WrongPlaces
 pub mod DefinitionPlaces
 pub mod LineNames
+pub mod ExpectedNames
 pub mod LinePoints
 pub mod inner

@@ -1,17 +1,16 @@
 -- The names on a line, and where what a definition may not have stands on its line. Places are bytes, counted from 0.
-use Rattle.std.specs.Prelude.{ℕ, ◌+◌, ◌-◌, ◌==◌, Bool, false, not, Option, Some, None, List, [], ◌∷◌, length, bytes_eq, codes, if◌then◌else◌}
+use Rattle.std.specs.Prelude.{◌≡◌, ℕ, ◌+◌, ◌-◌, ◌==◌, Bool, true, false, not, Option, Some, None, List, [], ◌∷◌, ◌++◌, length, bytes_eq, codes, if◌then◌else◌}
+use Rattle.std.specs.List.{AllByRecursion}
 use Rattle.ruleset_text.specs.declared.entry_place.WrongPlace.{WrongPlace}
 use Rattle.ruleset_text.specs.declared.entry_place.WrongPlace.TheVariants.{Lexeme}
-use Rattle.ruleset_text.specs.declared.entry_reading.EntryWord.{EntryWord}
-use Rattle.ruleset_text.specs.declared.entry_reading.EntryWord.TheVariants as word
 use Rattle.ruleset_text.specs.declared.keyword.Keyword.{Keyword}
 use Rattle.ruleset_text.specs.declared.keyword.Keyword.TheVariants as keyword
-use Rattle.ruleset_text.specs.declared.line_names.Expected.{Expected}
-use Rattle.ruleset_text.specs.declared.line_names.Expected.TheVariants as expected
+use Rattle.ruleset_text.specs.declared.expected.Expected.{Expected}
+use Rattle.ruleset_text.specs.declared.expected.Expected.TheVariants as expected
 use Rattle.ruleset_text.specs.declared.line_point.LinePoint.{LinePoint}
 use Rattle.ruleset_text.specs.Definition.{keyword_of}
-use Rattle.ruleset_text.specs.inner.EntrySteps.{word_of}
-use Rattle.ruleset_text.specs.LinePoints.{points_from}
+use Rattle.ruleset_text.specs.ExpectedNames.{expected_next}
+use Rattle.ruleset_text.specs.LinePoints.{points_in}
 use Rattle.ruleset_text.specs.Names.{is_one_of}
 use Rattle.ruleset_text.specs.PlacedLexemes.{Placed, placed_lexemes}
 use Rattle.ruleset_text.specs.SetNames.{set_name}
@@ -44,18 +43,6 @@ abbrev pub unknown_set : List (List ℕ) → List Placed → Option WrongPlace
 unknown_set sets [] = None
 unknown_set sets (w ∷ ws) = if is_unknown sets (set_name w.lexeme) then Some (place_of w) else unknown_set sets ws
 
--- what is named next in an entry: behind 'as' and ',' a tag, behind 'when' and 'unless' a rule
-abbrev pub expected_behind : EntryWord → Expected
-expected_behind word.As = expected.Tag
-expected_behind word.Comma = expected.Tag
-expected_behind word.When = expected.Rule
-expected_behind word.Unless = expected.Rule
-expected_behind e = expected.Nothing
-
-abbrev pub expected_next : Expected → List ℕ → Expected
-expected_next expected.Nothing w = expected_behind (word_of w)
-expected_next e w = expected.Nothing
-
 -- a tag or a rule that is none of these
 abbrev pub is_unexpected : List (List ℕ) → List (List ℕ) → Expected → List ℕ → Bool
 is_unexpected tags rules expected.Nothing w = false
@@ -69,6 +56,38 @@ unknown_name_from tags rules e (w ∷ ws) =
 
 abbrev pub unknown_name : List (List ℕ) → List (List ℕ) → List Placed → Option WrongPlace
 unknown_name tags rules ws = unknown_name_from tags rules expected.Nothing ws
+
+-- ---- the same by what they have to be
+
+-- a lexeme of which this is true, and of none before it
+pub record IsFirstLexeme (test : List ℕ → Bool) (ws : List Placed) (place : WrongPlace) : Type 0 where
+  pub before : List Placed
+  pub w : Placed
+  pub behind : List Placed
+  pub cut : ws ≡ before ++ w ∷ behind
+  pub earlier : AllByRecursion (λ v. test v.lexeme ≡ false) before
+  pub is : test w.lexeme ≡ true
+  pub told : place ≡ place_of w
+
+-- what is named behind these lexemes
+abbrev pub expected_after : Expected → List Placed → Expected
+expected_after e [] = e
+expected_after e (w ∷ ws) = expected_after (expected_next e w.lexeme) ws
+
+-- each tag and each rule that these lexemes name is known
+abbrev pub AreKnown : List (List ℕ) → List (List ℕ) → Expected → List Placed → Type 0
+AreKnown tags rules e [] = Unit {0}
+AreKnown tags rules e (w ∷ ws) = (is_unexpected tags rules e w.lexeme ≡ false) × AreKnown tags rules (expected_next e w.lexeme) ws
+
+-- a lexeme that names a tag or a rule that is not known, behind those that name none such
+pub record IsFirstUnknown (tags rules : List (List ℕ)) (e : Expected) (ws : List Placed) (place : WrongPlace) : Type 0 where
+  pub before : List Placed
+  pub w : Placed
+  pub behind : List Placed
+  pub cut : ws ≡ before ++ w ∷ behind
+  pub earlier : AreKnown tags rules e before
+  pub unknown : is_unexpected tags rules (expected_after e before) w.lexeme ≡ true
+  pub told : place ≡ place_of w
 
 -- ---- code points and groups
 
@@ -85,7 +104,7 @@ behind_name (w ∷ ws) = behind_keyword (keyword_of w.lexeme) ws
 
 -- the code points that it names there
 abbrev pub definition_points : List ℕ → List LinePoint
-definition_points line = points_from 0 0 (behind_name (placed_lexemes line))
+definition_points line = points_in (behind_name (placed_lexemes line))
 
 -- the first '(' within eight groups
 abbrev pub ninth_group_from : ℕ → List Placed → Option WrongPlace

@@ -18,7 +18,11 @@ ghost use Rattle.ruleset_text.specs.inner.DefinitionWrongSteps.{wrong_definition
 ghost use Rattle.ruleset_text.specs.inner.EntrySteps.{entry_in};
 ghost use Rattle.ruleset_text.specs.inner.Examples.{some_defined, written};
 ghost use Rattle.ruleset_text.specs.Lexemes.{lexemes};
+ghost use Rattle.ruleset_text.specs.LineNames.{IsFirstLexeme, IsFirstUnknown, is_unknown, unknown_name, unknown_set};
+ghost use Rattle.ruleset_text.specs.declared.expected.Expected.TheVariants.{Nothing};
 ghost use Rattle.ruleset_text.specs.Names.{AreNames, is_name};
+ghost use Rattle.ruleset_text.specs.PlacedLexemes.{Placed};
+ghost use Rattle.ruleset_text.specs.SetNames.{set_name};
 ghost use Rattle.ruleset_text.specs.Reading.{pattern_of};
 ghost use Rattle.ruleset_text.specs.Spans.{span, spans_of};
 ghost use Rattle.ruleset_text.specs.Tokens.{tokens_of};
@@ -175,4 +179,12 @@ pub fn definitions_compute_the_entries()
 pub fn wrong_definitions_are_told()
     ensures place { (line : List ℕ) (place : WrongPlace) → (wrong_definition line ≡ Some place) ↔ IsWrongPlace line place }
     ensures whole { (names : List (List ℕ)) (line : List ℕ) → is_some (wrong_definition line) ≡ not (is_some (definition_in names (lexemes line))) }
+{}
+
+/// The place that is told of a name is that of the first lexeme that names a set, a tag or a rule that is none of those given.
+pub fn unknown_names_are_told()
+    ensures sets { (sets : List (List ℕ)) (ws : List Placed) (place : WrongPlace) →
+        (unknown_set sets ws ≡ Some place) ↔ IsFirstLexeme (λ lexeme. is_unknown sets (set_name lexeme)) ws place }
+    ensures names { (tags rules : List (List ℕ)) (ws : List Placed) (place : WrongPlace) →
+        (unknown_name tags rules ws ≡ Some place) ↔ IsFirstUnknown tags rules Nothing ws place }
 {}

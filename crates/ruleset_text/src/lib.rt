@@ -14,6 +14,7 @@ mod entry_form;
 mod entry_laws;
 mod entry_place;
 mod entry_reading;
+mod expected;
 mod fault;
 mod keyword;
 mod laws;
@@ -47,7 +48,7 @@ pub use keyword::{Keyword, keyword_of};
 pub use laws::{
     canonical_lines_are_read_back, canonical_text_is_read_back, definitions_compute_the_entries,
     definitions_compute_the_examples, definitions_compute_the_lines, reading_a_pattern_is_exact,
-    what_lines_define_has_no_fault, wrong_definitions_are_told,
+    unknown_names_are_told, what_lines_define_has_no_fault, wrong_definitions_are_told,
 };
 pub use lexemes::{next_lexeme, without_blanks};
 pub use limits::{has_its_sets, is_within, without_atoms};

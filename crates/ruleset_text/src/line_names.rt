@@ -8,19 +8,11 @@ ghost use Rattle.ruleset_text.specs.PlacedLexemes.{placed_lexemes};
 ghost use Rattle.ruleset_text.specs.SetNames.{set_name as set_name_of};
 
 use crate::entry_place::WrongPlace;
-use crate::entry_reading::{EntryWord, word_of};
+use crate::expected::{Expected, expected_next};
 use crate::lexemes::next_lexeme;
 use crate::names::{Name, is_one_of};
 use crate::placed::next_placed;
 use crate::set_names::set_name;
-
-/// What a lexeme names in an entry.
-#[derive(Clone, Copy, Debug, PartialEq, Eq)]
-enum Expected {
-    Nothing,
-    Tag,
-    Rule,
-}
 
 /// The name that a line defines by a keyword, if it begins with it.
 pub fn defined_name<'a>(keyword: &[u8], line: &'a [u8]) -> Option<&'a [u8]>
@@ -98,20 +90,6 @@ fn is_unexpected(tags: &[Name], rules: &[Name], expected: Expected, lexeme: &[u8
         Expected::Nothing => false,
         Expected::Tag => !is_one_of(tags, lexeme),
         Expected::Rule => !is_one_of(rules, lexeme),
-    }
-}
-
-/// What is named behind a lexeme.
-fn expected_next(expected: Expected, lexeme: &[u8]) -> Expected
-    ensures { result ≡ lines.expected_next expected lexeme.now }
-{
-    match expected {
-        Expected::Nothing => match word_of(lexeme) {
-            EntryWord::As | EntryWord::Comma => Expected::Tag,
-            EntryWord::When | EntryWord::Unless => Expected::Rule,
-            _ => Expected::Nothing,
-        },
-        _ => Expected::Nothing,
     }
 }
 

@@ -1,6 +1,6 @@
 -- Where a line of a table has its fault. Places are bytes of the line, counted from 0.
-use Rattle.std.specs.Prelude.{ℕ, ◌-◌, nat_lt, ◌==◌, Bool, true, false, ◌||◌, not, Option, Some, None, List, [], ◌∷◌, ◌++◌, length, map, take, codes, find, bytes_eq, slice_get, if◌then◌else◌}
-use Rattle.std.specs.List.{list_any, range_with_len}
+use Rattle.std.specs.Prelude.{ℕ, ◌-◌, nat_lt, ◌==◌, Bool, true, false, ◌||◌, ◌&&◌, not, Option, Some, None, List, [], ◌∷◌, ◌++◌, length, take, codes, find, bytes_eq, slice_get, if◌then◌else◌}
+use Rattle.std.specs.List.{range_with_len}
 use Rattle.std.specs.Option.{option_map}
 use Rattle.std.specs.Str.Lines.{strip_carriage_return}
 use Rattle.idn_class.specs.Class.{class_of}
@@ -9,7 +9,8 @@ use Rattle.ruleset_text.specs.declared.entry_place.EntryParts.{EntryParts}
 use Rattle.ruleset_text.specs.declared.entry_place.WrongPlace.{WrongPlace}
 use Rattle.ruleset_text.specs.declared.entry_place.WrongPlace.TheVariants as wrong
 use Rattle.ruleset_text.specs.declared.line_point.LinePoint.{LinePoint}
-use Rattle.ruleset_text.specs.Entries.{EntryForm}
+use Rattle.ruleset_text.specs.declared.entry_form.NamedCondition.{NamedCondition}
+use Rattle.ruleset_text.specs.Entries.{EntryForm, Mapped}
 use Rattle.ruleset_text.specs.inner.EntrySteps.{entry_in}
 use Rattle.ruleset_text.specs.inner.DefinitionWrongSteps.{wrong_definition}
 use Rattle.ruleset_text.specs.inner.WrongSteps.{wrong_place}
@@ -21,6 +22,7 @@ use Rattle.variant_table.specs.declared.fault.TableFault.{TableFault}
 use Rattle.variant_table.specs.declared.fault.TableFault.TheVariants as tables
 use Rattle.variant_table.specs.declared.place.FaultPlace.{FaultPlace}
 use Rattle.variant_table.specs.declared.place.FaultPlace.TheVariants.{Lexeme, End, Point, InRange, Variant, Source, Byte, NinthPoint, SeventeenthVariant}
+use Rattle.variant_table.specs.Conditions.{is_same_kind}
 use Rattle.variant_table.specs.DefinitionPlaces.{definition_limit, names_defined}
 use Rattle.variant_table.specs.declared.version.Notation.{Notation}
 use Rattle.variant_table.specs.declared.version.Version.{Version}
@@ -77,19 +79,33 @@ class_place (Some last) points = range_place points last
 
 -- ---- what is given twice
 
--- the number of the first sequence that is one of those before it, of which these stand before the list
-abbrev pub first_again : List (List ℕ) → List (List ℕ) → Option ℕ
+-- two conditions, which differ
+abbrev pub are_other : Option NamedCondition → Option NamedCondition → Bool
+are_other (Some c) (Some d) = not (is_same_kind c.kind d.kind && bytes_eq c.rule d.rule)
+are_other c d = false
+
+-- the same sequence again: that of the source, or of a variant, unless each of the two has a condition of its own
+abbrev pub is_again : Bool → Mapped → Mapped → Bool
+is_again is_source m n = bytes_eq m.points n.points && (is_source || not (are_other m.condition n.condition))
+
+-- it stands in a list, of which the first is the source, or all are variants
+abbrev pub stands_in : Bool → List Mapped → Mapped → Bool
+stands_in is_source [] n = false
+stands_in is_source (m ∷ mapped) n = is_again is_source m n || stands_in false mapped n
+
+-- the number of the first that stands before it, of which these stand before the list
+abbrev pub first_again : List Mapped → List Mapped → Option ℕ
 first_again before [] = None
-first_again before (s ∷ sequences) = if list_any (λ r. bytes_eq r s) before then Some (length before) else first_again (before ++ s ∷ []) sequences
+first_again before (m ∷ mapped) = if stands_in true before m then Some (length before) else first_again (before ++ m ∷ []) mapped
 
 -- where the sequence of this number begins
 abbrev pub sequence_place : List LinePoint → Option ℕ → Option FaultPlace
 sequence_place points None = None
 sequence_place points (Some number) = option_map (λ p. Variant p.place) (find (λ p. p.sequence == number) points)
 
--- the later of the first two sequences that are equal
+-- the later of the first two that are equal
 abbrev pub variant_place : EntryForm → List LinePoint → Option FaultPlace
-variant_place form points = sequence_place points (first_again [] (map (λ m. m.points) form.mapped))
+variant_place form points = sequence_place points (first_again [] form.mapped)
 
 abbrev pub source_place : List LinePoint → Option FaultPlace
 source_place [] = None

@@ -1,13 +1,15 @@
 //! Where a line of a table has its fault. It is looked for only once the fault is told, and reading knows nothing of it.
-ghost use Rattle.std.specs.Prelude.{◌≡◌, ◌<◌, [], IfOk, Some, length, take, find, bytes_eq, slice_index_or};
-ghost use Rattle.std.specs.List.{list_any, range_with_len};
+ghost use Rattle.std.specs.Prelude.{◌≡◌, ◌<◌, ◌&&◌, true, [], IfOk, Some, length, take, find, bytes_eq, slice_index_or};
+ghost use Rattle.std.specs.List.{range_with_len};
 ghost use Rattle.std.specs.Option.{option_copied, option_map};
-ghost use Rattle.ruleset_text.specs.EntryForms.{entry_form};
+ghost use Rattle.ruleset_text.specs.Entries.{Mapped as Form};
+ghost use Rattle.ruleset_text.specs.EntryForms.{entry_form, mapped as form_of};
 ghost use Rattle.idn_text.specs.Lines.{raw_lines};
+ghost use Rattle.variant_table.specs.Conditions.{is_same_kind};
 ghost use Rattle.variant_table.specs.FaultPlaces as places;
 ghost use Rattle.variant_table.specs.FaultPlaces.{is_bad_point as is_bad, line_at as line_of};
 ghost use Rattle.variant_table.specs.Ranges.{range_size};
-ghost use Rattle.variant_table.specs.inner.PlaceSteps.{lines_of, sequences_of};
+ghost use Rattle.variant_table.specs.inner.PlaceSteps.{forms_of, lines_of};
 
 use crate::fault::TableFault;
 use crate::place_names::LinesBefore;
@@ -15,9 +17,9 @@ use crate::version::{Notation, Version, head_of};
 use idn_class::{Class, class_of};
 use idn_text::{TextLines, without_carriage_return};
 use ruleset_text::{
-    EntryForm, EntryParts, LinePoint, Mapped, WrongPlace, definition_points, line_points,
-    name_place, read_entry, unknown_name, unknown_set, without_blanks, wrong_definition,
-    wrong_place,
+    EntryForm, EntryParts, LinePoint, Mapped, NamedCondition, WrongPlace, definition_points,
+    line_points, name_place, read_entry, unknown_name, unknown_set, without_blanks,
+    wrong_definition, wrong_place,
 };
 use std::alloc::{AllocError, Global};
 
@@ -342,9 +344,9 @@ fn is_bad_point(alloc: Global, point: u32) -> Result<bool, AllocError>
     Ok(!matches!(class, Class::Pvalid | Class::Contextj | Class::Contexto))
 }
 
-/// The number of the first sequence that is one of those before it.
+/// The number of the first source or variant that stands before it.
 fn first_again(mapped: &[Mapped]) -> Option<usize>
-    ensures { result ≡ places.first_again [] (sequences_of mapped.now) }
+    ensures { result ≡ places.first_again [] (forms_of mapped.now) }
 {
     for number in 0..mapped.len() {
         if is_before(mapped, number) {
@@ -354,18 +356,44 @@ fn first_again(mapped: &[Mapped]) -> Option<usize>
     None
 }
 
-/// Whether the sequence of this number is one of those before it.
+/// Whether that of this number stands before it.
 fn is_before(mapped: &[Mapped], number: usize) -> bool
     requires { number < length mapped.now }
-    ensures { result ≡ list_any (λ r. bytes_eq r (slice_index_or (sequences_of mapped.now) number [])) (take number (sequences_of mapped.now)) }
+    ensures { (d : Form) → result ≡ places.stands_in true (take number (forms_of mapped.now)) (slice_index_or (forms_of mapped.now) number d) }
 {
-    let sequence = mapped[number].points.as_slice();
-    for m in &mapped[..number] {
-        if m.points.as_slice() == sequence {
+    for other in 0..number {
+        if is_again(other == 0, &mapped[other], &mapped[number]) {
             return true;
         }
     }
     false
+}
+
+/// Whether a sequence is that of the source, or of a variant, unless each of the two has a condition of its own.
+fn is_again(is_source: bool, earlier: &Mapped, later: &Mapped) -> bool
+    ensures { result ≡ places.is_again is_source (form_of earlier.now) (form_of later.now) }
+{
+    earlier.points.as_slice() == later.points.as_slice()
+        && (is_source || !are_other(&earlier.condition, &later.condition))
+}
+
+/// Whether these are two conditions, which differ.
+fn are_other(one: &Option<NamedCondition>, other: &Option<NamedCondition>) -> bool
+    ensures { result ≡ places.are_other one.now other.now }
+{
+    let Some(one) = one else {
+        return false;
+    };
+    match other {
+        Some(other) => !is_same(one, other),
+        None => false,
+    }
+}
+
+fn is_same(one: &NamedCondition, other: &NamedCondition) -> bool
+    ensures { result ≡ (is_same_kind one.now.kind other.now.kind && bytes_eq one.now.rule other.now.rule) }
+{
+    one.kind == other.kind && one.rule.as_slice() == other.rule.as_slice()
 }
 
 /// Where the sequence of this number begins.
