@@ -65,7 +65,7 @@ fn places_in_tables_of_version_2(rt: HostRuntime) -> Result<(), Fail> {
 const RULESETS: [(&str, Option<FaultPlace>); 7] = [
     ("0061", None),
     ("", None),
-    ("%version 3\n%version 3", None),
+    ("%version 3\n%version 3", Some(FaultPlace::Lexeme(0, 8))),
     ("%version 3\n\t%set C 0061", None),
     ("%version 3\n!!0061", Some(FaultPlace::Lexeme(1, 1))),
     ("%version 3\n0061 when r", Some(FaultPlace::Lexeme(5, 4))),
