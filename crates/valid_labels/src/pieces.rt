@@ -4,7 +4,7 @@ ghost use Rattle.std.specs.List.{AllByRecursion};
 ghost use Rattle.variant_table.specs.Entries.{sequences_in};
 ghost use Rattle.variant_table.specs.WellFormed.{IsWellFormed};
 ghost use Rattle.valid_labels.specs.Validity.{IsSound};
-ghost use Rattle.valid_labels.specs.inner.Pieces.{AreLone, IsLongest, items_of};
+ghost use Rattle.valid_labels.specs.inner.Pieces.{AreLone, IsLongest, IsPlain, items_of};
 ghost use Rattle.valid_labels.specs.Tests.{is_covered as is_made};
 
 use crate::sources::is_covered;
@@ -66,6 +66,22 @@ impl<'a> Pieces<'a> {
         ensures short { result ≤ 8 }
     {
         self.longest
+    }
+
+    /// Whether it is known of a code point that it is a piece without a condition, and that no other piece begins with it.
+    pub(crate) fn is_plain(&self, point: u32) -> bool
+        ensures { IsTrue result → IsPlain self.now point }
+    {
+        // The length is read for its contract alone: no two sources are equal.
+        let _entries = self.table.len();
+        let lone: &[Vec<u32>] = &self.lone;
+        if lone.len() > 0 {
+            return false;
+        }
+        match self.table.single(point) {
+            Some(entry) => entry.condition(0).is_none(),
+            None => false,
+        }
     }
 
     /// Reads of the table that it is sound.

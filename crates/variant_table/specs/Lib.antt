@@ -10,6 +10,7 @@ pub mod Conditions
 pub mod DefinitionLines
 pub mod Texts
 pub mod Places
+pub mod Singles
 pub mod Reading
 pub mod Faults
 pub mod DefinitionPlaces
