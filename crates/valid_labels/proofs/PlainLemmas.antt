@@ -1,5 +1,5 @@
 -- Code points that stand for themselves alone.
-use Rattle.std.proofs.Common.{Bool, get_or, take, true, false, ◌+◌, ◌≡◌, ℕ, ◌<◌, ◌⊎◌, inl, inr, List, [], ◌∷◌, length, refl, sym, ap, subst, ◌∙◌, arith}
+use Rattle.std.proofs.Common.{◌++◌, Bool, get_or, take, true, false, ◌+◌, ◌≡◌, ℕ, ◌<◌, ◌⊎◌, inl, inr, List, [], ◌∷◌, length, refl, sym, ap, subst, ◌∙◌, arith}
 use Rattle.std.specs.Prelude.{◌↔◌, IsTrue, Option, Some, None}
 use Rattle.std.proofs.lemmas.List.{get_or-take}
 use Rattle.label_patterns.specs.Places.{Has}
@@ -16,24 +16,21 @@ use Rattle.std.specs.List.{Contains}
 use Rattle.variant_table.specs.Entries.{Entry, TableValue}
 use Rattle.variant_table.specs.Singles.{IsSingle}
 use Rattle.variant_table.specs.WellFormed.{IsWellFormed}
-use Rattle.variant_table.proofs.MemberLemmas.{Contains-none}
-use Rattle.valid_labels.specs.inner.Pieces.{AreLone, ArePlainBelow, IsPlain}
+use Rattle.variant_table.proofs.MemberLemmas.{Contains-none, Contains-one}
+use Rattle.std.proofs.lemmas.List.Elements.{Contains-append_cases}
+use Rattle.valid_labels.specs.inner.Pieces.{AreLone, ArePlainBelow, IsPlain, NoneBegins}
 
 -- the source of an entry without a condition, with which no longer source begins, where each variant is made of sources
-pub single-plain : (table : TableValue) (lone : List (List ℕ)) (point : ℕ) (e : Entry) → IsWellFormed table.entries → AreLone table lone → length lone ≡ 0 → IsSingle table.entries point e → e.condition ≡ None → IsPlain table point
+pub single-plain : (table : TableValue) (lone : List (List ℕ)) (point : ℕ) (e : Entry) → IsWellFormed table.entries → AreLone table lone → NoneBegins lone point → IsSingle table.entries point e → e.condition ≡ None → IsPlain table point
 single-plain table lone point e formed are none single free = record {
   formed = formed;
   piece = inl (e, single.in_table, single.alone, free);
   alone = λ rest c piece. elim piece [
     | inl a ↦ by_rest rest a.0 a.1 a.2
-    | inr b ↦ absurd (empty lone none (point ∷ rest) ((are (point ∷ rest)).1 (b.0, b.1)))
+    | inr b ↦ absurd (none rest ((are (point ∷ rest)).1 (b.0, b.1)))
   ];
 }
   where
-    empty : (xs : List (List ℕ)) → length xs ≡ 0 → (s : List ℕ) → Contains xs s → ⊥
-    empty [] z s h = Contains-none s h
-    empty (x ∷ xs) z s h = omega (arith, z)
-
     by_rest : (r : List ℕ) (f : Entry) → Contains table.entries f → f.source ≡ point ∷ r → r ≡ []
     by_rest [] f h is = refl
     by_rest (d ∷ r) f h is = absurd (single.longest f d r h is)
@@ -79,3 +76,17 @@ more-plain table label place found more is are plain with_place p h = elim (with
   | inl old ↦ (let a = are p old in ((let l = a.0 in omega (arith, l)), a.1))
   | inr new ↦ ((let e = new.1 in omega (arith, e)), subst (λ q. IsPlain table (get_or label q 0)) (sym new.1) (plain new.0))
 ]
+
+-- ---- sequences, one after the other
+
+pub no-begins : (point : ℕ) → NoneBegins [] point
+no-begins point rest h = Contains-none (point ∷ rest) h
+
+pub more-begins : (sequences : List (List ℕ)) (points : List ℕ) (point : ℕ) → NoneBegins sequences point → NoneBegins (points ∷ []) point → NoneBegins (sequences ++ points ∷ []) point
+more-begins sequences points point before new rest h = elim (Contains-append_cases sequences (points ∷ []) (point ∷ rest) h) [ inl a ↦ before rest a | inr b ↦ new rest b ]
+
+-- a sequence that is empty, or begins with another code point
+pub begins-other : (points : List ℕ) (point : ℕ) → ((0 < length points) → get_or points 0 0 ≡ point → ⊥) → NoneBegins (points ∷ []) point
+begins-other points point other rest h =
+    let same = Contains-one points (point ∷ rest) h in
+    other (omega (arith, ap length same)) (ap (λ l. get_or l 0 0) same)
