@@ -1,5 +1,5 @@
 -- What a line of input is answered, or why it is refused.
-use Rattle.std.specs.Prelude.{◌≡◌, ◌⊎◌, ℕ, ◌≤◌, ◌==◌, Bool, bytes_eq, Contains, List, [], ◌∷◌, ◌++◌, length, chars, Option, Some, None, Result, Ok, Err, if◌then◌else◌, ◌-◌, map, filter}
+use Rattle.std.specs.Prelude.{◌≡◌, ◌⊎◌, ℕ, ◌≤◌, ◌==◌, Bool, ◌&&◌, ◌||◌, bytes_eq, Contains, List, [], ◌∷◌, ◌++◌, length, chars, Option, Some, None, Result, Ok, Err, if◌then◌else◌, ◌-◌, map, filter}
 use Rattle.std.specs.Str.{is_utf8}
 use Rattle.std.specs.List.{list_any, slice_get, before_first, after_first}
 use Rattle.std.specs.Option.{is_none}
@@ -17,6 +17,9 @@ use Rattle.idn_label.specs.Lookup.{lookup_answer}
 use Rattle.variant_table.specs.declared.version.Version.{Version}
 use Rattle.variant_table.specs.declared.version.Version.TheVariants.{One, Two, Three}
 use Rattle.variant_table.specs.Entries.{TableValue}
+use Rattle.valid_labels.specs.Validity.{HasNoLostBeginning, IsValid}
+use Rattle.valid_labels.specs.Tests.{asks_nothing, is_lost, is_valid}
+use Rattle.variant_list.specs.Beginnings.{has_hope}
 use Rattle.variant_list.specs.declared.part.Part.TheVariants.{Unblocked}
 use Rattle.variant_list.specs.Spelled.{part_spelled, spelled}
 use Rattle.idn2_options.specs.Settings.{Settings}
@@ -48,9 +51,20 @@ pub record Filter : Type 0 where
 abbrev pub registrable_labels : Filter
 registrable_labels = record { accepts = is_registrable; hopeless = hopeless }
 
--- what is asked under a table
+-- that they are valid under the table, too, and no beginning of them is lost: none of a valid label is
+abbrev pub ruled_labels : TableValue → Filter
+ruled_labels table =
+    record {
+      accepts = λ v. is_registrable v && (is_valid table v && has_hope (is_lost table) v);
+      hopeless = λ w. hopeless w || is_lost table w;
+    }
+
+-- what is asked under a table, by whether it asks nothing of its labels: then each label that is spelled is valid
+abbrev pub filter_if : Bool → TableValue → Filter
+filter_if asks_nothing table = if asks_nothing then registrable_labels else ruled_labels table
+
 abbrev pub filter_of : TableValue → Filter
-filter_of table = registrable_labels
+filter_of table = filter_if (asks_nothing table) table
 
 -- whether a label is one of these
 abbrev pub is_among : List (List ℕ) → List ℕ → Bool
@@ -214,19 +228,22 @@ abbrev pub IsKept : Option (List (List ℕ)) → List ℕ → Type 0
 IsKept None v = Unit {0}
 IsKept (Some registered) v = Contains registered v
 
--- a registrable label, greater than the text of the settings, that arises by cutting the label into sources of the table and
--- replacing each by itself or one of its variants; and which is registered, if the listing is kept to registered labels
+-- a registrable label, valid under the table, greater than the text of the settings, that arises by cutting the label into sources
+-- of the table and replacing each by itself or one of its variants, as far as their conditions hold in the label; and which is
+-- registered, if the listing is kept to registered labels
 pub record IsListed (o : Settings) (table : TableValue) (label v : List ℕ) : Type 0 where
   pub registrable : IsRegistrable v
+  pub valid : IsValid table v
   pub greater : IsBelow o.after v
   pub spelled : Spells table label v
   pub kept : IsKept o.registered v
 
--- a label of at most 63 code points that arises so, greater than the text, with no hopeless beginning, where the listing is
--- whole: one that is kept to registered labels tries none
+-- a label of at most 63 code points that arises so, greater than the text, with no beginning that is hopeless or lost, where the
+-- listing is whole: one that is kept to registered labels tries none
 pub record IsTried (o : Settings) (table : TableValue) (label v : List ℕ) : Type 0 where
   pub short : length v ≤ 63
   pub hope : HasHope v
+  pub found : HasNoLostBeginning table v
   pub greater : IsBelow o.after v
   pub spelled : Spells table label v
   pub whole : o.registered ≡ None
