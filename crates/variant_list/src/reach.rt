@@ -2,7 +2,7 @@
 ghost use Rattle.std.specs.Prelude.{◌≡◌, ◌≤◌, ◌↔◌, length, IsTrue, IfOk};
 ghost use Rattle.variant_table.specs.WellFormed.{IsWellFormed};
 ghost use Rattle.variant_list.specs.Furthest.{furthest};
-ghost use Rattle.variant_list.specs.Segmentations.{HasSegmentation};
+ghost use Rattle.valid_labels.specs.Segmentations.{HasSegmentation};
 
 use crate::net::{Net, NetFault};
 use std::alloc::{AllocError, Global};
