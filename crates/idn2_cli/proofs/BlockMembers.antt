@@ -1,5 +1,5 @@
 -- The block and the check that compute are those that are listed.
-use Rattle.std.proofs.Common.{◌≡◌, ◌≤◌, ◌⊎◌, inl, inr, ℕ, zero, suc, Bool, true, false, List, [], ◌∷◌, length, take, Option, Some, None, refl, sym, ap, subst, ◌∙◌, arith}
+use Rattle.std.proofs.Common.{◌≡◌, ◌≤◌, ◌⊎◌, ◌↔◌, inl, inr, ℕ, Bool, true, false, List, [], ◌∷◌, length, take, Option, Some, None, refl, sym, ap, subst, ◌∙◌, arith}
 use Rattle.std.specs.Prelude.{nat_le}
 use Rattle.std.specs.Option.{is_none}
 use Rattle.std.proofs.lemmas.Bool.Decides.{nat_tests}
@@ -18,7 +18,8 @@ use Rattle.valid_labels.specs.Validity.{IsSound, IsValid}
 use Rattle.valid_labels.proofs.NothingLemmas.{nothing-is-asked}
 use Rattle.valid_labels.proofs.TestLemmas.{tests-agree}
 use Rattle.variant_list.specs.Laws.{IsTested}
-use Rattle.variant_list.specs.Segmentations.{HasSegmentation}
+use Rattle.valid_labels.specs.Segmentations.{HasSegmentation}
+use Rattle.variant_list.specs.declared.part.Part.TheVariants.{Whole}
 use Rattle.variant_list.specs.Labels.{IsListOf}
 use Rattle.variant_list.specs.Spelled.{spelled}
 use Rattle.variant_list.specs.Spelling.{Spells}
@@ -40,12 +41,13 @@ use Rattle.idn2_cli.specs.Transcript.{IsCheck}
 use Rattle.idn2_cli.specs.Transcript.{check_findings}
 use Rattle.idn2_cli.proofs.DispositionLemmas.{disposition-IsDisposition}
 use Rattle.idn2_cli.proofs.FilterLemmas.{accepted-is, hope-is}
+use Rattle.idn2_cli.proofs.SpelledLemmas.{spelled-replacements}
 use Rattle.idn2_cli.proofs.SegmentedLabels.{segmented_answer, unsegmented_answer, segmented_or_not}
 
 -- what a label spells is valid where the table asks nothing
 spelled-valid : (table : TableValue) (label v : List ℕ) → IsSound table → Spells table label v → asks_nothing table ≡ true → IsValid table v
 spelled-valid table label v sound spells free =
-    nothing-is-asked.valid table v sound ((tests-agree.nothing table).0 free) (spelled-replacements table label v spells)
+    nothing-is-asked.valid table v sound ((tests-agree.nothing table).0 free) (spelled-replacements Whole table label v spells)
 
 same_listed : (o : Settings) (table : TableValue) (label v : List ℕ) → IsSound table
     → (IsVariant (filter_of table).accepts table label o.after v × IsKept o.registered v) ↔ IsListed o table label v

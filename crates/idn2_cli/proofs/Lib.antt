@@ -8,6 +8,8 @@ pub mod TextAnswers
 pub mod BlockSteps
 -- What a listing asks of labels, and what is known of it.
 pub mod FilterLemmas
+-- What a label spells joins sources and variants of the table.
+pub mod SpelledLemmas
 -- The stop of a listing, as it is seen from where the cursor stands.
 pub mod StopSteps
 -- One line more, and the end of the lines.
