@@ -22,6 +22,7 @@ use Rattle.variant_list.specs.Spelled.{spelled}
 use Rattle.variant_list.specs.Variants.{variants, in_order}
 use Rattle.variant_list.specs.Examples.{a_or_two, letter_or_hyphen}
 use Rattle.idn2_options.specs.Settings.{Settings}
+use Rattle.valid_labels.specs.Tests.{asks_nothing}
 use Rattle.idn2_cli.specs.Answers.{Filter, block, block_to, disposition, filter_if, registrable_labels, stop_of, variants_after, is_registrable, kept_to, lesser_label, nth, nth_if_given, one_answer, tested_after, u_label_of, visited_in}
 use Rattle.idn2_options.specs.declared.command_line.form.Form.TheVariants.{Plain}
 use Rattle.idn2_cli.specs.Said.{Said, Registered, said_line}

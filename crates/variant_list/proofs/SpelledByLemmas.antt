@@ -94,8 +94,12 @@ module _ (part : Part) (table : TableValue) (label : List ℕ) (formed : IsWellF
       (let e : Entry = get_or here k d in
       of_entry e (All-contains IsEntry table.entries e formed.entries ((at.members e).0 ((Contains-filter (may_stand table label place) all e).0 (Contains-get_or here k d l)).0).0)) in
       omega (
-        arith, sum_by-le (λ (e : Entry). length (uses_of_entry part table label place e)) 17 here each,
-        length-of_flat_map (uses_of_entry part table label place) (λ (e : Entry). length (uses_of_entry part table label place e)) (λ (e : Entry). refl) here, filter-few (may_stand table label place) all, at.few)
+        arith,
+        sum_by-le (λ (e : Entry). length (uses_of_entry part table label place e)) 17 here each,
+        length-of_flat_map (uses_of_entry part table label place) (λ (e : Entry). length (uses_of_entry part table label place e)) (λ (e : Entry). refl) here,
+        filter-few (may_stand table label place) all,
+        at.few,
+      )
 
   AreUses-from : (place n : ℕ) → place + n ≡ length label → AreUses (uses_from part table label place n)
   AreUses-from place zero whole = tt

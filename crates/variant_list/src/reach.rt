@@ -36,7 +36,7 @@ fn is_segmented(alloc: Global, table: &Table, label: &[u32]) -> Result<bool, All
 {
     match Net::build(alloc, table, label) {
         Ok(_) => Ok(true),
-        Err(NetFault::NotInTable) => Ok(false),
+        Err(NetFault::NothingSpelled) => Ok(false),
         Err(NetFault::Memory) => Err(AllocError),
     }
 }

@@ -57,7 +57,7 @@ impl Dispositions<Part> {
                 Ok(net) => Ok(Dispositions::BySpelling(SpellingTest::new(alloc, net)?)),
                 Err(NetFault::Memory) => Err(AllocError),
                 // No source is blocked, so the label spells itself.
-                Err(NetFault::NotInTable) => unreachable!(),
+                Err(NetFault::NothingSpelled) => unreachable!(),
             },
         }
     }
