@@ -18,7 +18,6 @@ use Rattle.valid_labels.specs.Validity.{IsSound, IsValid}
 use Rattle.valid_labels.proofs.NothingLemmas.{nothing-is-asked}
 use Rattle.valid_labels.proofs.TestLemmas.{tests-agree}
 use Rattle.variant_list.specs.Laws.{IsTested}
-use Rattle.valid_labels.specs.Segmentations.{HasSegmentation}
 use Rattle.variant_list.specs.declared.part.Part.TheVariants.{Whole}
 use Rattle.variant_list.specs.Labels.{IsListOf}
 use Rattle.variant_list.specs.Spelled.{spelled}
@@ -42,7 +41,7 @@ use Rattle.idn2_cli.specs.Transcript.{check_findings}
 use Rattle.idn2_cli.proofs.DispositionLemmas.{disposition-IsDisposition}
 use Rattle.idn2_cli.proofs.FilterLemmas.{accepted-is, hope-is}
 use Rattle.idn2_cli.proofs.SpelledLemmas.{spelled-replacements}
-use Rattle.idn2_cli.proofs.SegmentedLabels.{segmented_answer, unsegmented_answer, segmented_or_not}
+use Rattle.idn2_cli.proofs.AdmittedLabels.{admitted-made, admitted_answer, admitted_or_refused, refused_answer}
 
 -- what a label spells is valid where the table asks nothing
 spelled-valid : (table : TableValue) (label v : List ℕ) → IsSound table → Spells table label v → asks_nothing table ≡ true → IsValid table v
@@ -114,14 +113,11 @@ block-IsBlock o table label sound = record {
     formed = sound.entries
 
 listing : (o : Settings) (table : TableValue) (label : List ℕ) → IsSound table → IsListing o table label (listing_answer o table label)
-listing o table label sound = by_cases (segmented_or_not table label formed)
-  where
-    formed : IsWellFormed table.entries
-    formed = sound.entries
-
-    by_cases : HasSegmentation table label ⊎ (HasSegmentation table label → ⊥) → IsListing o table label (listing_answer o table label)
-    by_cases (inl has) = subst (IsListing o table label) (sym (segmented_answer table label (block o table label) formed has)) (has, block-IsBlock o table label sound)
-    by_cases (inr none) = subst (IsListing o table label) (sym (unsegmented_answer table label (block o table label) formed none)) (none, refl)
+listing o table label sound = elim (admitted_or_refused table label sound) [
+  | inl is ↦ subst (IsListing o table label) (sym (admitted_answer table label (block o table label) sound is)) (is, block-IsBlock o table label sound)
+  | inr refused ↦
+      subst (IsListing o table label) (sym (refused_answer table label refused.0 (block o table label) sound refused.1 (admitted-made table label))) refused.1
+]
 
 -- the answer to a label that may be registered
 pub variants_answer-IsListing : (o : Settings) (table : TableValue) (label : List ℕ) → IsSound table → IsRegistrable label → IsListing o table label (variants_answer o table label)

@@ -26,8 +26,8 @@ pub mod CheckLemmas
 pub mod DecodedLemmas
 -- The listing of a label's variants, and the labels in it.
 pub mod ListingLemmas
--- Labels that can be cut into sources of a table, and others.
-pub mod SegmentedLabels
+-- Labels that a table admits, and others.
+pub mod AdmittedLabels
 -- The third field of a variant's line: which variants the table without its blocked variants spells.
 pub mod DispositionLemmas
 -- The block and the check that compute are those that are listed.
