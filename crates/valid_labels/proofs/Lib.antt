@@ -18,3 +18,9 @@ pub mod RuleLemmas
 pub mod LostLemmas
 -- Labels that may be asked about, and tables that ask nothing.
 pub mod NothingLemmas
+-- Where sources and other sequences end that stand at a place.
+pub mod EndLemmas
+-- Steps from place to place.
+pub mod StepLemmas
+-- Labels that are made of sources, by their steps; how far sources reach.
+pub mod SourceLemmas

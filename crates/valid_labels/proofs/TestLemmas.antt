@@ -34,7 +34,7 @@ rounds-map R S f i _ (one_more k j rounds step) = one_more k j (rounds-map R S f
 
 -- ---- sources
 
-sequence-filled : (entries : List Entry) (e : Entry) (s : List ℕ) → IsWellFormed entries → Contains entries e → Contains (replacements e) s → 0 < length s
+pub sequence-filled : (entries : List Entry) (e : Entry) (s : List ℕ) → IsWellFormed entries → Contains entries e → Contains (replacements e) s → 0 < length s
 sequence-filled entries e s formed h r =
     let each : IsEntry e = All-contains IsEntry entries e formed.entries h in
     let one : IsSequence s = All-contains IsSequence (replacements e) s each.sequences r in

@@ -3,5 +3,7 @@ pub mod Pieces
 pub mod Demands
 pub mod Validity
 pub mod Tests
+pub mod Furthest
 pub mod Examples
 pub mod Laws
+pub mod inner

@@ -1,5 +1,6 @@
 //! Laws of the definitions, each the contract of a function that does nothing.
 ghost use Rattle.valid_labels.specs.Examples.{ValidityOfExamples};
+ghost use Rattle.valid_labels.specs.Furthest.{FurthestIsTold};
 ghost use Rattle.valid_labels.specs.Laws.{AdmittedAreValid, LostForGood, NothingIsAsked, SegmentationsAgree, TestsAgree};
 
 /// A label with a segmentation is made of sources, and a label that is made of sources without conditions has one.
@@ -31,4 +32,9 @@ pub fn nothing_is_asked()
 /// Worked examples hold, by computation.
 pub fn examples_hold()
     ensures { ValidityOfExamples }
+{}
+
+/// The place up to which sources reach is the one that is told.
+pub fn furthest_is_told()
+    ensures { FurthestIsTold }
 {}
