@@ -27,7 +27,7 @@ unless-true : (b : Bool) → (b ≡ true → ⊥) → b ≡ false
 unless-true true h = absurd (h refl)
 unless-true false h = refl
 
-answer_by : Bool → Bool → List Said → LineAnswer
+abbrev answer_by : Bool → Bool → List Said → LineAnswer
 answer_by admitted made said = if admitted then Ok said else (if made then Err NotValid else Err NotInTable)
 
 -- a table that was read has well-formed entries and definitions

@@ -1,7 +1,7 @@
 -- What a listing asks of labels, and what is known of it.
 use Rattle.std.proofs.Common.{◌≡◌, ◌≢◌, ◌≤◌, ◌<◌, ◌⊎◌, inl, inr, ◌++◌, ◌&&◌, ◌||◌, ◌↔◌, ℕ, zero, suc, List, [], ◌∷◌, Option, Some, None, Bool, true, false, IsTrue, take, drop, length, refl, sym, ap, subst, ◌∙◌, arith}
 use Rattle.std.specs.Prelude.{nat_le}
-use Rattle.std.specs.Option.{is_none}
+use Rattle.std.specs.Option.{is_none, option_map}
 use Rattle.std.proofs.lemmas.Bool.Decides.{nat_tests}
 use Rattle.std.proofs.Math.Seq.{take-append_seam}
 use Rattle.std.proofs.lemmas.List.{length-append, take-append-drop, take_all}
@@ -21,6 +21,9 @@ use Rattle.valid_labels.proofs.TestLemmas.{tests-agree}
 use Rattle.variant_list.specs.Beginnings.{HasHope, has_hope, shortest_hopeless}
 use Rattle.variant_list.proofs.BeginningLemmas.{hope-gives, shortest_hopeless-none}
 use Rattle.idn2_cli.proofs.HopeLemmas.{clear}
+use Rattle.idn2_cli.specs.inner.Ruling.{IsValidityBy, filter_by, lesser_count, lost_in, passes, ruling_of}
+use Rattle.valid_labels.specs.declared.validity.Validity.{Validity}
+use Rattle.valid_labels.specs.declared.validity.Validity.TheVariants.{Lost, Valid, NotValid}
 use Rattle.idn2_cli.specs.Answers.{Filter, filter_if, filter_of, is_registrable, registrable_labels, ruled_labels}
 
 -- each label that is accepted may be registered, and none of them begins with a hopeless list
@@ -182,3 +185,87 @@ hope-is table v sound free = by_test (asks_nothing table) free
       λ both k low high. neither-from (hopeless (take k v)) (is_lost table (take k v)) (clear (take k v) (both.0 k))
         (unless-true (is_lost table (take k v)) (λ is. both.1 k high ((tests-agree.lost table (take k v) sound).0 is))),
     )
+
+-- ---- the filter by the table that labels are tested by
+
+pub filter_by-IsSound : (ruling : Option TableValue) → IsSound (filter_by ruling)
+filter_by-IsSound None = registrable_labels-IsSound
+filter_by-IsSound (Some table) = ruled_labels-IsSound table
+
+-- it is the filter of the table
+pub filter_by-ruling : (table : TableValue) → filter_by (ruling_of table) ≡ filter_of table
+filter_by-ruling table = by_test (asks_nothing table)
+  where
+    by_test : (b : Bool) → filter_by (if b then None else Some table) ≡ filter_if b table
+    by_test true = refl
+    by_test false = refl
+
+pub accepts-passed : (ruling : Option TableValue) (v : List ℕ) → IsRegistrable v → passes ruling v ≡ true → (filter_by ruling).accepts v ≡ true
+accepts-passed None v registrable is = ap is_none registrable
+accepts-passed (Some table) v registrable is = both-from (is_registrable v) _ (ap is_none registrable) is
+
+pub accepts-failed : (ruling : Option TableValue) (v : List ℕ) → passes ruling v ≡ false → (filter_by ruling).accepts v ≡ false
+accepts-failed None v is = cc
+accepts-failed (Some table) v is = not-right (is_registrable v) _ is
+
+pub accepts-unregistrable : (ruling : Option TableValue) (v : List ℕ) → is_registrable v ≡ false → (filter_by ruling).accepts v ≡ false
+accepts-unregistrable None v is = is
+accepts-unregistrable (Some table) v is = not-left (is_registrable v) _ is
+
+-- ---- the verdict on a label
+
+lesser-first : (n : Option ℕ) → lesser_count (Some 1) (option_map suc n) ≡ Some 1
+lesser-first None = refl
+lesser-first (Some n) = refl
+
+lesser-second : (n : Option ℕ) → lesser_count (option_map suc n) (Some 1) ≡ Some 1
+lesser-second None = refl
+lesser-second (Some zero) = refl
+lesser-second (Some (suc n)) = refl
+
+lesser-later : (m n : Option ℕ) → option_map suc (lesser_count m n) ≡ lesser_count (option_map suc m) (option_map suc n)
+lesser-later None n = refl
+lesser-later (Some m) None = refl
+lesser-later (Some m) (Some n) = by_test (nat_le m n)
+  where
+    by_test : (b : Bool) → option_map suc (if b then Some m else Some n) ≡ (if b then Some (suc m) else Some (suc n))
+    by_test true = refl
+    by_test false = refl
+
+-- the shortest beginning of which one of two tests is true
+shortest-of_two : (f g : List ℕ → Bool) (v : List ℕ) → shortest_hopeless (λ w. f w || g w) v ≡ lesser_count (shortest_hopeless f v) (shortest_hopeless g v)
+shortest-of_two f g [] = refl
+shortest-of_two f g (c ∷ v) = by_tests (f (c ∷ [])) (g (c ∷ []))
+  where
+    later : (List ℕ → Bool) → Option ℕ
+    later h = option_map suc (shortest_hopeless (λ w. h (c ∷ w)) v)
+
+    by_tests : (a b : Bool) → (if a || b then Some 1 else option_map suc (shortest_hopeless (λ w. f (c ∷ w) || g (c ∷ w)) v))
+        ≡ lesser_count (if a then Some 1 else option_map suc (shortest_hopeless (λ w. f (c ∷ w)) v)) (if b then Some 1 else option_map suc (shortest_hopeless (λ w. g (c ∷ w)) v))
+    by_tests true true = refl
+    by_tests true false = sym (lesser-first (shortest_hopeless (λ w. g (c ∷ w)) v))
+    by_tests false true = sym (lesser-second (shortest_hopeless (λ w. f (c ∷ w)) v))
+    by_tests false false =
+        ap (option_map suc) (shortest-of_two (λ w. f (c ∷ w)) (λ w. g (c ∷ w)) v) ∙ lesser-later (shortest_hopeless (λ w. f (c ∷ w)) v) (shortest_hopeless (λ w. g (c ∷ w)) v)
+
+lesser-none : (n : Option ℕ) → lesser_count n None ≡ n
+lesser-none None = refl
+lesser-none (Some n) = refl
+
+pub verdict-count : (ruling : Option TableValue) (v : List ℕ) (validity : Validity) → IsValidityBy ruling v validity
+    → lesser_count (shortest_hopeless hopeless v) (lost_in validity) ≡ shortest_hopeless (filter_by ruling).hopeless v
+verdict-count None v validity is = ap (λ (x : Validity). lesser_count (shortest_hopeless hopeless v) (lost_in x)) is ∙ lesser-none (shortest_hopeless hopeless v)
+verdict-count (Some table) v validity is =
+    ap (lesser_count (shortest_hopeless hopeless v)) (sym is.0) ∙ sym (shortest-of_two hopeless (is_lost table) v)
+
+pub passes-valid : (ruling : Option TableValue) (v : List ℕ) → IsValidityBy ruling v Valid → passes ruling v ≡ true
+passes-valid None v is = refl
+passes-valid (Some table) v is = both-from (is_valid table v) _ is.1 (ap is_none is.0)
+
+pub passes-not_valid : (ruling : Option TableValue) (v : List ℕ) → IsValidityBy ruling v NotValid → passes ruling v ≡ false
+passes-not_valid None v is = cc
+passes-not_valid (Some table) v is = not-left (is_valid table v) _ is.1
+
+pub passes-lost : (ruling : Option TableValue) (v : List ℕ) (count : ℕ) → IsValidityBy ruling v (Lost count) → passes ruling v ≡ false
+passes-lost None v count is = cc
+passes-lost (Some table) v count is = not-right (is_valid table v) _ (ap is_none is.0)

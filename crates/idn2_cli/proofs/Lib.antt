@@ -8,6 +8,8 @@ pub mod TextAnswers
 pub mod BlockSteps
 -- What a listing asks of labels, and what is known of it.
 pub mod FilterLemmas
+-- What a test of labels finds and keeps.
+pub mod RulingLemmas
 -- What a label spells joins sources and variants of the table.
 pub mod SpelledLemmas
 -- The stop of a listing, as it is seen from where the cursor stands.

@@ -10,3 +10,4 @@ pub mod Asked
 pub mod Objects
 pub mod ServedLines
 pub mod CauseRoom
+pub mod Ruling

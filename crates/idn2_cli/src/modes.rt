@@ -1,5 +1,6 @@
 //! What each mode does with a line, or with the table.
 
+mod admission;
 pub(crate) mod answering;
 mod block;
 mod check_table;
@@ -13,6 +14,7 @@ mod lookup;
 mod register;
 mod variants;
 
+pub(crate) use admission::ruling_of_table;
 pub(crate) use check_table::check_table;
 pub(crate) use decode::Decode;
 pub(crate) use dispositions::Dispositions;
