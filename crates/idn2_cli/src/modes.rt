@@ -1,6 +1,7 @@
 //! What each mode does with a line, or with the table.
 
 mod admission;
+mod allocations;
 pub(crate) mod answering;
 mod block;
 mod check_table;

@@ -24,6 +24,7 @@ ghost use Rattle.idn2_cli.specs.inner.Emitting.{Emits, StopsForMemory};
 ghost use Rattle.idn2_cli.specs.declared.output.stop.Stop.TheVariants as stop;
 
 use crate::modes::admission::{lesser, lost_by, validity_by};
+use crate::modes::allocations::Allocations;
 use crate::modes::dispositions::Dispositions;
 use crate::modes::kept_line::KeptLine;
 use crate::output::asked::Asked;
@@ -40,7 +41,7 @@ use idn2_options::{Form, Options};
 use itoa::Buffer;
 use std::alloc::{AllocError, Global};
 use valid_labels::{Validity, ValidityTest};
-use variant_list::{Cursor, Judge, Net, Outcome, SpellingTest, Verdict};
+use variant_list::{Cursor, Judge, Net, Outcome, Verdict};
 
 /// Writes the block of a net's label, with all its variants. They are tested for being valid, too, where there is a test.
 pub(crate) fn write_block<W: Sink, E: Sink>(
@@ -49,7 +50,7 @@ pub(crate) fn write_block<W: Sink, E: Sink>(
     options: &Options,
     net: &Net,
     validity: Option<ValidityTest<'_>>,
-    dispositions: &mut Dispositions<SpellingTest>,
+    dispositions: &mut Dispositions<Allocations>,
     console: &mut Console<'_, '_, W, E>,
 ) -> Result<(), Stop>
     requires few { length asked.now.text.now ≤ MAX_LINE_LEN }

@@ -20,6 +20,7 @@ ghost use Rattle.idn2_cli.specs.inner.Ruling.{KeepsOf, filter_by, ruling_in, rul
 ghost use Rattle.idn2_cli.specs.inner.ServedLines.{result_of};
 
 use crate::modes::admission::{admitted_net, test_by};
+use crate::modes::allocations::{Allocations, SubTables};
 use crate::modes::answering::{Served, answered, refused};
 use crate::modes::block::write_block;
 use crate::modes::code_points::PointAnswering;
@@ -34,7 +35,7 @@ use idn2_options::Options;
 use registered_labels::RegisteredLabels;
 use std::alloc::Global;
 use valid_labels::{Pieces, ValidityTest};
-use variant_list::{Net, Part, SpellingTest};
+use variant_list::Net;
 use variant_table::Table;
 
 /// The listing of variants by a table (RFC 7940 section 8). The options say after which text it
@@ -43,7 +44,7 @@ use variant_table::Table;
 pub(crate) struct Variants<'t, 'r, 'b> {
     pub table: &'t Table,
     pub ruling: Option<&'t Pieces<'t>>,
-    pub dispositions: &'t Dispositions<Part>,
+    pub dispositions: &'t Dispositions<SubTables>,
     pub options: &'t Options,
     pub registered: Option<&'r RegisteredLabels<'b>>,
 }
@@ -81,7 +82,7 @@ fn write_lines<W: Sink, E: Sink>(
     asked: &Asked<'_>,
     net: &Net,
     validity: Option<ValidityTest<'_>>,
-    dispositions: &mut Dispositions<SpellingTest>,
+    dispositions: &mut Dispositions<Allocations>,
     console: &mut Console<'_, '_, W, E>,
 ) -> Result<(), Stop>
     requires few { length asked.now.text.now ≤ MAX_LINE_LEN }

@@ -16,6 +16,7 @@ use Rattle.idn2_cli.specs.Answers.{Filter}
 use Rattle.idn2_cli.specs.inner.Ruling.{filter_by, ruling_in}
 use Rattle.idn2_cli.specs.Said.{Said, Listed, said_text}
 use Rattle.idn2_cli.specs.inner.Asked.{asked_line}
+use Rattle.idn2_cli.specs.inner.Allocations.{Allowed}
 use Rattle.idn2_cli.specs.inner.Dispositions.{field_by}
 use Rattle.idn2_cli.specs.inner.LineAnswers.{reaches}
 use Rattle.idn2_cli.specs.Transcript.{Output}
@@ -47,8 +48,8 @@ same_filters j f same_labels same_beginnings =
     ∙ ap (λ (h : List ℕ → Bool). let made : Filter = record { accepts = f.accepts; hopeless = h } in made) same_beginnings
 
 -- the disposition is told by what does not change
-told : {field : Option Disposition} {now first : Dispositions Built} (v : List ℕ) → field ≡ field_by now v → now ≡ first → field ≡ field_by first v
-told v is same = is ∙ ap (λ (d : Dispositions Built). field_by d v) same
+told : {field : Option Disposition} {now first : Dispositions Allowed} (v : List ℕ) → field ≡ field_by now v → now ≡ first → field ≡ field_by first v
+told v is same = is ∙ ap (λ (d : Dispositions Allowed). field_by d v) same
 
 -- what is said with the same disposition
 line_is : (text : Said → List ℕ) (v : List ℕ) {f g : Option Disposition} → f ≡ g → text (Listed f v) ≡ text (Listed g v)
