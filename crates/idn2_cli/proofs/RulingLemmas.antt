@@ -1,8 +1,8 @@
 -- What a test of labels finds and keeps.
-use Rattle.std.proofs.Common.{◌≡◌, ◌≤◌, ◌<◌, ℕ, zero, suc, List, [], ◌∷◌, Bool, true, false, Option, Some, None, IsTrue, take, length, min, refl, sym, ap, subst, ◌∙◌, arith}
+use Rattle.std.proofs.Common.{◌≡◌, ◌≤◌, ◌<◌, ℕ, zero, suc, List, [], ◌∷◌, Bool, true, false, Option, Some, None, IsTrue, take, length, min, refl, sym, ap, subst, ◌∙◌, if◌then◌else◌, arith}
 use Rattle.std.proofs.Math.Nat.{min-le_left, min-le_right}
 use Rattle.valid_labels.specs.Testing.{IsValidity, SharesKept, Testing}
-use Rattle.valid_labels.specs.Tests.{is_lost, is_valid}
+use Rattle.valid_labels.specs.Tests.{asks_nothing, is_lost, is_valid}
 use Rattle.valid_labels.specs.Validity.{HasNoLostBeginning, IsLost, IsShortestLost, IsSound}
 use Rattle.valid_labels.specs.declared.validity.Validity.{Validity}
 use Rattle.valid_labels.specs.declared.validity.Validity.TheVariants.{Lost, Valid, NotValid}
@@ -11,7 +11,7 @@ use Rattle.variant_table.specs.Entries.{TableValue}
 use Rattle.variant_list.specs.Beginnings.{shortest_hopeless}
 use Rattle.variant_list.specs.Sharing.{IsKeptOf}
 use Rattle.variant_list.proofs.BeginningLemmas.{shortest_hopeless-at, shortest_hopeless-none}
-use Rattle.idn2_cli.specs.inner.Ruling.{IsValidityBy, KeepsOf, KeepsShared, lost_in}
+use Rattle.idn2_cli.specs.inner.Ruling.{IsValidityBy, KeepsOf, KeepsShared, lost_in, ruling_in, ruling_of}
 
 unless-true : (b : Bool) → (b ≡ true → ⊥) → b ≡ false
 unless-true true h = absurd (h refl)
@@ -64,3 +64,21 @@ kept-shared (Some test) shared label before kept same = (kept.0, shares)
 
     shares : SharesKept shared test.kept label
     shares = of_kept ∙ of_label
+
+-- the table of a test is that of which it is the ruling
+sound-table : (test : Testing) (table : TableValue) → ruling_in (Some test) ≡ ruling_of table → IsSound table → IsSound test.table
+sound-table test table is sound = by_test (asks_nothing table) is
+  where
+    by_test : (b : Bool) → Some test.table ≡ (if b then None else Some table) → IsSound test.table
+    by_test true e = absurd (let clash : Some test.table ≡ None = e in cc)
+    by_test false e = let same : test.table ≡ table = cc in subst IsSound (sym same) sound
+
+-- a test that is just made keeps nothing
+pub new-kept : (test : Option Testing) (table : TableValue) (label : List ℕ) → ruling_in test ≡ ruling_of table → IsSound table → KeepsShared test 0 label
+new-kept None table label is sound = tt
+new-kept (Some test) table label is sound = (sound-table test table is sound, refl)
+
+-- one that has forgotten what it kept
+pub forgotten-kept : (old new : Testing) (table : TableValue) (v : List ℕ) → ruling_in (Some old) ≡ ruling_of table → IsSound table → new.kept ≡ [] → new.table ≡ old.table → KeepsOf v (Some new)
+forgotten-kept old new table v is sound empty same =
+    (subst IsSound (sym same) (sound-table old table is sound), ap (λ (k : List ℕ). take (length k) v) empty ∙ sym empty)

@@ -34,7 +34,6 @@ pub(crate) fn test_by<'p>(
     ruling: Option<&'p Pieces<'p>>,
 ) -> Result<Option<ValidityTest<'p>>, AllocError>
     ensures ruling { IfOk result (λ test. ruling_in test ≡ option_copied ruling) }
-    ensures new { IfOk result (λ test. (v : List ℕ) → KeepsNothing test) }
 {
     match ruling {
         None => Ok(None),

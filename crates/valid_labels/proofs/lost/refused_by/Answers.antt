@@ -7,5 +7,5 @@ use Rattle.valid_labels.proofs.lost.refused_by.Goals as goal
 pub returns : goal.returns
 returns c =
     let s = c.args.seen.now in
-    let same = c.demands-demands.ensures.is ∙ ap (λ (d : Definitions). d.demands) c.definitions.ensures in
+    let same = c.demands-demands.ensures.is ∙ ap (λ (d : Definitions). d.demands) c.definitions.ensures.is in
     subst (λ ds. MatchOption c.refused_end.result (NoneRefuses s ds) (IsRefusedAt s ds)) same c.refused_end.ensures

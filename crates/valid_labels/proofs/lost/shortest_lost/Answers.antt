@@ -17,7 +17,7 @@ returns c =
     let table = c.args.pieces.now in
     let label = c.args.label.now in
     let D = c.definitions-definitions.result.now in
-    let same = λ (j : ℕ). unbarred-pieces table c.table-table.result.now D c.args.seen.now (items_of c.lone.result.now) label c.table-table.ensures c.definitions-definitions.ensures c.requires.seen c.lone.ensures.lone j in
+    let same = λ (j : ℕ). unbarred-pieces table c.table-table.result.now D c.args.seen.now (items_of c.lone.result.now) label c.table-table.ensures c.definitions-definitions.ensures.is c.requires.seen c.lone.ensures.lone j in
     let refused : MatchOption c.refused_by-refused.result (NoneRefuses (seen_under table label) table.definitions.demands) (IsRefusedAt (seen_under table label) table.definitions.demands) =
     subst (λ s. MatchOption c.refused_by-refused.result (NoneRefuses s table.definitions.demands) (IsRefusedAt s table.definitions.demands)) c.requires.seen
     (subst (λ (t : TableValue). MatchOption c.refused_by-refused.result (NoneRefuses c.args.seen.now t.definitions.demands) (IsRefusedAt c.args.seen.now t.definitions.demands)) c.table-table.ensures c.refused_by-refused.ensures) in
