@@ -52,8 +52,8 @@ same_listed : (o : Settings) (table : TableValue) (label v : List ℕ) → IsSou
     → (IsVariant (filter_of table).accepts table label o.after v × IsKept o.registered v) ↔ IsListed o table label v
 same_listed o table label v sound = (
   λ i.
-    let both = (accepted-is table v sound (spelled-valid table label v sound i.0.spelled)).0 i.0.accepted in
-    record { registrable = both.0; valid = both.1; greater = i.0.greater; spelled = i.0.spelled; kept = i.1 },
+      let both = (accepted-is table v sound (spelled-valid table label v sound i.0.spelled)).0 i.0.accepted in
+      record { registrable = both.0; valid = both.1; greater = i.0.greater; spelled = i.0.spelled; kept = i.1 },
   λ l. (record { accepted = (accepted-is table v sound (λ free. l.valid)).1 (l.registrable, l.valid); spelled = l.spelled; greater = l.greater }, l.kept),
 )
 
@@ -72,8 +72,8 @@ same_tried : (o : Settings) (table : TableValue) (label v : List ℕ) → IsSoun
     → (IsTested (filter_of table).hopeless table label o.after v × (o.registered ≡ None)) ↔ IsTried o table label v
 same_tried o table label v sound = (
   λ t.
-    let both = (hope-is table v sound (spelled-valid table label v sound t.0.spelled)).0 t.0.hope in
-    record { short = t.0.short; hope = both.0; found = both.1; greater = t.0.greater; spelled = t.0.spelled; whole = t.1 },
+      let both = (hope-is table v sound (spelled-valid table label v sound t.0.spelled)).0 t.0.hope in
+      record { short = t.0.short; hope = both.0; found = both.1; greater = t.0.greater; spelled = t.0.spelled; whole = t.1 },
   λ t. (record { spelled = t.spelled; short = t.short; greater = t.greater; hope = (hope-is table v sound (spelled-valid table label v sound t.spelled)).1 (t.hope, t.found) }, t.whole),
 )
 

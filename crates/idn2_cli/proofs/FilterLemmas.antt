@@ -1,5 +1,5 @@
 -- What a listing asks of labels, and what is known of it.
-use Rattle.std.proofs.Common.{◌≡◌, ◌≢◌, ◌≤◌, ◌<◌, ◌⊎◌, inl, inr, ◌++◌, ◌&&◌, ◌||◌, ◌↔◌, ℕ, zero, suc, List, [], ◌∷◌, Option, Some, None, Bool, true, false, IsTrue, take, drop, length, refl, sym, ap, subst, ◌∙◌, arith}
+use Rattle.std.proofs.Common.{◌≡◌, ◌≢◌, ◌≤◌, ◌<◌, ◌⊎◌, inl, inr, ◌++◌, ◌&&◌, ◌||◌, ◌↔◌, ℕ, zero, suc, List, [], ◌∷◌, Option, Some, None, Bool, true, false, IsTrue, take, drop, length, refl, sym, ap, subst, ◌∙◌, if◌then◌else◌, arith}
 use Rattle.std.specs.Prelude.{nat_le}
 use Rattle.std.specs.Option.{is_none, option_map}
 use Rattle.std.proofs.lemmas.Bool.Decides.{nat_tests}
@@ -21,6 +21,7 @@ use Rattle.valid_labels.proofs.TestLemmas.{tests-agree}
 use Rattle.variant_list.specs.Beginnings.{HasHope, has_hope, shortest_hopeless}
 use Rattle.variant_list.proofs.BeginningLemmas.{hope-gives, shortest_hopeless-none}
 use Rattle.idn2_cli.proofs.HopeLemmas.{clear}
+use Rattle.idn2_cli.specs.inner.ForGood.{none_accepted}
 use Rattle.idn2_cli.specs.inner.Ruling.{IsValidityBy, filter_by, lesser_count, lost_in, passes, ruling_of}
 use Rattle.valid_labels.specs.declared.validity.Validity.{Validity}
 use Rattle.valid_labels.specs.declared.validity.Validity.TheVariants.{Lost, Valid, NotValid}
@@ -89,25 +90,10 @@ unless-true false h = refl
 
 -- ---- labels that are valid under a table, too
 
--- a label that begins with a lost list has such a beginning
-lost_beginning : (lost : List ℕ → Bool) (w z : List ℕ) → lost [] ≡ false → lost w ≡ true → has_hope lost (w ++ z) ≡ false
-lost_beginning lost [] z none is = let clash : false ≡ true = sym none ∙ is in cc
-lost_beginning lost (c ∷ w) z none is = unless-true (has_hope lost ((c ∷ w) ++ z)) clash
-  where
-    at_it : lost (take (length (c ∷ w)) ((c ∷ w) ++ z)) ≡ true
-    at_it = ap lost (take-append_seam (c ∷ w) z) ∙ is
-
-    clash : has_hope lost ((c ∷ w) ++ z) ≡ true → ⊥
-    clash h =
-        let clear : lost (take (length (c ∷ w)) ((c ∷ w) ++ z)) ≡ false = hope-gives lost ((c ∷ w) ++ z) h (length (c ∷ w)) (omega arith) (omega (arith, length-append (c ∷ w) z)) in
-        let bad : false ≡ true = sym clear ∙ at_it in cc
-
 pub ruled_labels-IsSound : (table : TableValue) → IsSound (ruled_labels table)
 ruled_labels-IsSound table = record {
   registrable = λ v h. is_registrable-from v (both-left (is_registrable v) (is_valid table v && has_hope (is_lost table) v) h);
-  for_good = λ w z h. elim (one-of (hopeless w) (is_lost table w) h) [
-    inl is ↦ not-left (is_registrable (w ++ z)) _ (none_hopeless w z is) |
-    inr is ↦ not-right (is_registrable (w ++ z)) _ (not-right (is_valid table (w ++ z)) _ (lost_beginning (is_lost table) w z refl is)) ];
+  for_good = none_accepted (Some table);
 }
 
 pub filter_of-IsSound : (table : TableValue) → IsSound (filter_of table)
@@ -160,7 +146,7 @@ accepted-is table v sound free = by_test (asks_nothing table) free
     by_test false valid = (
       λ h. (
         is_registrable-from v (both-left (is_registrable v) (is_valid table v && has_hope (is_lost table) v) h),
-        valid_test.0 (both-left (is_valid table v) (has_hope (is_lost table) v) (both-right (is_registrable v) (is_valid table v && has_hope (is_lost table) v) h))
+        valid_test.0 (both-left (is_valid table v) (has_hope (is_lost table) v) (both-right (is_registrable v) (is_valid table v && has_hope (is_lost table) v) h)),
       ),
       λ both. both-from (is_registrable v) _ (ap is_none both.0) (both-from (is_valid table v) _ (valid_test.1 both.1) (no_lost both.1)),
     )
@@ -180,10 +166,10 @@ hope-is table v sound free = by_test (asks_nothing table) free
     by_test false valid = (
       λ h. (
         hope-rule v (λ k low high. neither-left (hopeless (take k v)) (is_lost table (take k v)) (h k low high)),
-        none_lost (λ k low high. neither-right (hopeless (take k v)) (is_lost table (take k v)) (h k low high))
+        none_lost (λ k low high. neither-right (hopeless (take k v)) (is_lost table (take k v)) (h k low high)),
       ),
       λ both k low high. neither-from (hopeless (take k v)) (is_lost table (take k v)) (clear (take k v) (both.0 k))
-        (unless-true (is_lost table (take k v)) (λ is. both.1 k high ((tests-agree.lost table (take k v) sound).0 is))),
+          (unless-true (is_lost table (take k v)) (λ is. both.1 k high ((tests-agree.lost table (take k v) sound).0 is))),
     )
 
 -- ---- the filter by the table that labels are tested by
@@ -216,12 +202,12 @@ accepts-unregistrable (Some table) v is = not-left (is_registrable v) _ is
 
 lesser-first : (n : Option ℕ) → lesser_count (Some 1) (option_map suc n) ≡ Some 1
 lesser-first None = refl
-lesser-first (Some n) = refl
+lesser-first (Some n) = let le : nat_le 1 (suc n) ≡ true = grind (arith, nat_tests) in ap (λ (b : Bool). let r : Option ℕ = if b then Some 1 else Some (suc n) in r) le
 
 lesser-second : (n : Option ℕ) → lesser_count (option_map suc n) (Some 1) ≡ Some 1
 lesser-second None = refl
 lesser-second (Some zero) = refl
-lesser-second (Some (suc n)) = refl
+lesser-second (Some (suc n)) = let gt : nat_le (suc (suc n)) 1 ≡ false = grind (arith, nat_tests) in ap (λ (b : Bool). let r : Option ℕ = if b then Some (suc (suc n)) else Some 1 in r) gt
 
 lesser-later : (m n : Option ℕ) → option_map suc (lesser_count m n) ≡ lesser_count (option_map suc m) (option_map suc n)
 lesser-later None n = refl

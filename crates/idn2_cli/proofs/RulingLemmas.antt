@@ -76,7 +76,10 @@ sound-table test table is sound = by_test (asks_nothing table) is
 -- a test that is just made keeps nothing
 pub new-kept : (test : Option Testing) (table : TableValue) (label : List ℕ) → ruling_in test ≡ ruling_of table → IsSound table → KeepsShared test 0 label
 new-kept None table label is sound = tt
-new-kept (Some test) table label is sound = (sound-table test table is sound, refl)
+new-kept (Some test) table label is sound = (sound-table test table is sound, ap (λ (m : ℕ). take m test.kept) none ∙ sym (ap (λ (m : ℕ). take m label) none))
+  where
+    none : min 0 (length test.kept) ≡ 0
+    none = let le = min-le_left 0 (length test.kept) in omega (arith, le)
 
 -- one that has forgotten what it kept
 pub forgotten-kept : (old new : Testing) (table : TableValue) (v : List ℕ) → ruling_in (Some old) ≡ ruling_of table → IsSound table → new.kept ≡ [] → new.table ≡ old.table → KeepsOf v (Some new)

@@ -12,3 +12,4 @@ pub mod Objects
 pub mod ServedLines
 pub mod CauseRoom
 pub mod Ruling
+pub mod ForGood

@@ -1,7 +1,6 @@
 //! Which labels a table admits, and why it refuses the others.
 
 ghost use Rattle.std.specs.Prelude.{◌≡◌, ◌≢◌, ◌≤◌, ℕ, List, length, IfOk, IfErr, IsOk};
-ghost use Rattle.std.specs.Option.{option_copied};
 ghost use Rattle.idn_text.specs.declared.refusal.Refusal.TheVariants as refusals;
 ghost use Rattle.valid_labels.specs.Validity.{IsAdmitted, IsSound};
 ghost use Rattle.variant_list.specs.Spelled.{spelled};
@@ -31,9 +30,9 @@ pub(crate) fn ruling_of_table(
 /// The test of the labels of one line.
 pub(crate) fn test_by<'p>(
     alloc: Global,
-    ruling: Option<&'p Pieces<'p>>,
+    ruling: &'p Option<Pieces<'p>>,
 ) -> Result<Option<ValidityTest<'p>>, AllocError>
-    ensures ruling { IfOk result (λ test. ruling_in test ≡ option_copied ruling) }
+    ensures ruling { IfOk result (λ test. ruling_in test ≡ ruling.now) }
 {
     match ruling {
         None => Ok(None),
@@ -118,11 +117,7 @@ pub(crate) fn lesser(a: Option<usize>, b: Option<usize>) -> Option<usize>
 
 /// Whether a label that may be registered is valid, too.
 #[inline(always)]
-pub(crate) fn is_valid_by(
-    test: &mut Option<ValidityTest<'_>>,
-    label: &[u32],
-    shared: usize,
-) -> bool
+pub(crate) fn is_valid_by(test: &mut Option<ValidityTest<'_>>, label: &[u32], shared: usize) -> bool
     requires short { length label.now ≤ 63 }
     requires kept { KeepsShared test.old shared label.now }
     ensures passes { result ≡ passes (ruling_in test.old) label.now }

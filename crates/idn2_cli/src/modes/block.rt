@@ -1,13 +1,12 @@
 //! The block of a label: a line for each of its variants, and a trailer.
 
-ghost use Rattle.std.specs.Prelude.{◌≡◌, ◌≤◌, ◌∷◌, [], ◌++◌, length, codes, decimal, All, None, Some, IfOk, IfErr, IsOk, OnErr};
+ghost use Rattle.std.specs.Prelude.{◌≡◌, ◌≤◌, ℕ, ◌∷◌, [], ◌++◌, List, length, codes, decimal, All, None, Some, IfOk, IfErr, IsOk, OnErr};
 ghost use Rattle.idn_text.specs.Points.{AreScalarValues};
 ghost use Rattle.idn_class.specs.Known.{AreKnown};
 ghost use Rattle.idn_punycode.specs.Kept.{IsTakenApart};
 ghost use Rattle.idn_label.specs.ALabel.{a_label_of};
 ghost use Rattle.idn_label.specs.FirstFault.{IsRegistrable};
 ghost use Rattle.idn_label.specs.Memory.{NeedsNoMemory};
-ghost use Rattle.idn2_cli.proofs.FilterLemmas.{filter_by-IsSound};
 ghost use Rattle.variant_list.specs.Beginnings.{shortest_hopeless};
 ghost use Rattle.variant_list.specs.Sharing.{IsKeptOf};
 ghost use Rattle.variant_list.specs.Tested.{tested_among};
@@ -16,6 +15,7 @@ ghost use Rattle.idn2_options.specs.Settings.{IsWithinLimits, keeping};
 ghost use Rattle.idn2_cli.specs.Transcript.{outputs, Output};
 ghost use Rattle.idn2_cli.specs.Said.{BlockEnd, Listed, disposition_field, said_text, variant_line};
 ghost use Rattle.idn2_cli.specs.inner.Asked.{asked_line};
+ghost use Rattle.idn2_cli.specs.inner.ForGood.{none_accepted};
 ghost use Rattle.idn2_cli.specs.inner.Ruling.{KeepsOf, filter_by, ruling_in};
 ghost use Rattle.idn2_cli.specs.inner.Dispositions.{block_by, field_by};
 ghost use Rattle.idn2_cli.specs.inner.KeptLines.{IsBegun};
@@ -58,8 +58,8 @@ pub(crate) fn write_block<W: Sink, E: Sink>(
     requires spelled { All AreScalarValues net.now.spelled }
     requires new { (v : List ℕ) → KeepsOf v validity }
     ensures written { Emits console.old console.new
-        (outputs (said_text asked.now.form (asked_line asked.now)) (block_by (filter_by (ruling_in validity)) (field_by dispositions.old) (keeping None options.now) net.now.spelled)) result }
-    ensures begun { StopsForMemory (All NeedsNoMemory (tested_among (filter_by (ruling_in validity)).hopeless net.now.spelled options.now.after))
+        (outputs (said_text asked.now.form (asked_line asked.now)) (block_by (filter_by (ruling_in validity.entry)) (field_by dispositions.old) (keeping None options.now) net.now.spelled)) result }
+    ensures begun { StopsForMemory (All NeedsNoMemory (tested_among (filter_by (ruling_in validity.entry)).hopeless net.now.spelled options.now.after))
         console.old console.new result }
 {
     let mut cursor = Cursor::new(alloc, net, &options.after)?;
@@ -85,13 +85,14 @@ pub(crate) fn write_block<W: Sink, E: Sink>(
         }
         let variant = cursor.last();
         let disposition = dispositions.of_variant(variant);
-        let a_label = judge.test.a_label();
+        let kept = &mut judge;
+        let a_label = kept.test.a_label();
         write_variant(
             asked,
             variant,
             a_label,
             disposition,
-            &mut judge.line,
+            &mut kept.line,
             console,
         )?;
         count += 1;
@@ -122,7 +123,7 @@ impl<'p> Judge for Registrable<'p> {
 
     ghost needs_none = { λ _ label. NeedsNoMemory label };
 
-    ghost lost_for_good = { λ judge w z lost. (filter_by-IsSound (ruling_in judge.validity)).for_good w z lost };
+    ghost lost_for_good = { λ judge w z lost. none_accepted (ruling_in judge.validity) w z lost };
 
     /// It takes no memory for a label of which the test needs none.
     fn judge(&mut self, alloc: Global, label: &[u32], shared: usize) -> Result<Verdict, AllocError>
@@ -132,6 +133,8 @@ impl<'p> Judge for Registrable<'p> {
         ensures verdict { IfOk result (IsVerdict (filter_by (ruling_in self.old.validity)).accepts (filter_by (ruling_in self.old.validity)).hopeless (λ v. self.new.test.text ≡ a_label_of v) label.now) }
         ensures memory { OnErr result (shortest_hopeless (filter_by (ruling_in self.old.validity)).hopeless label.now ≡ None) }
         ensures no_memory { NeedsNoMemory label.now → IsOk result }
+        ensures same_labels { (λ (v : List ℕ). (filter_by (ruling_in self.new.validity)).accepts v) ≡ (λ (v : List ℕ). (filter_by (ruling_in self.old.validity)).accepts v) }
+        ensures same_beginnings { (λ (v : List ℕ). (filter_by (ruling_in self.new.validity)).hopeless v) ≡ (λ (v : List ℕ). (filter_by (ruling_in self.old.validity)).hopeless v) }
     {
         self.beginnings.keep(shared);
         self.test.keep(shared);

@@ -1,6 +1,6 @@
 //! The block of a label that is kept to registered labels.
 
-ghost use Rattle.std.specs.Prelude.{◌≡◌, ◌≤◌, Some, All, Err, length};
+ghost use Rattle.std.specs.Prelude.{◌≡◌, ◌≤◌, ℕ, List, Some, All, Err, length};
 ghost use Rattle.idn_text.specs.Points.{AreScalarValues};
 ghost use Rattle.idn2_options.specs.Settings.{IsWithinLimits, keeping};
 ghost use Rattle.idn2_cli.specs.Said.{said_text};
@@ -44,7 +44,7 @@ pub(crate) fn write_collisions<W: Sink, E: Sink>(
     requires spelled { All AreScalarValues net.now.spelled }
     requires new { (v : List ℕ) → KeepsOf v validity }
     ensures written { Emits console.old console.new
-        (outputs (said_text asked.now.form (asked_line asked.now)) (block_by (filter_by (ruling_in validity)) (field_by dispositions.old) (keeping (Some registered.now) options.now) net.now.spelled)) result }
+        (outputs (said_text asked.now.form (asked_line asked.now)) (block_by (filter_by (ruling_in validity.entry)) (field_by dispositions.old) (keeping (Some registered.now) options.now) net.now.spelled)) result }
     ensures begun { result ≡ Err stop.Memory → console.new ≡ console.old }
 {
     // How many there are is more than the count ever is.

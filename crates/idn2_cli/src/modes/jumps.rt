@@ -4,7 +4,6 @@
 ghost use Rattle.std.specs.Prelude.{◌≡◌, ◌≤◌, ◌∷◌, [], true, length, slice_get, All, IfOk, IfErr, Err, None, Some};
 ghost use Rattle.idn_text.specs.Points.{AreScalarValues};
 ghost use Rattle.idn_label.specs.FirstFault.{IsRegistrable};
-ghost use Rattle.std.specs.Option.{option_copied};
 ghost use Rattle.valid_labels.specs.Validity.{IsSound};
 ghost use Rattle.variant_list.specs.Jumps.{candidates_among_from};
 ghost use Rattle.idn2_cli.specs.Answers.{jump_answer, least_answer, requested_label, requested_text};
@@ -39,15 +38,15 @@ use variant_table::Table;
 
 /// Answers requests by a table: each is a label, or a label, a tab and a text.
 #[derive(Drop)]
-pub(crate) struct Jumps<'t> {
+pub(crate) struct Jumps<'t, 'p> {
     pub table: &'t Table,
-    pub ruling: Option<&'t Pieces<'t>>,
+    pub ruling: &'p Option<Pieces<'t>>,
 }
 
-impl<'t> PointAnswering for Jumps<'t> {
+impl<'t, 'p> PointAnswering for Jumps<'t, 'p> {
     ghost answer_of = { λ mode line. jump_answer mode.table.now line };
 
-    ghost is_ready = { λ mode. IsSound mode.table.now × (option_copied mode.ruling ≡ ruling_of mode.table.now) };
+    ghost is_ready = { λ mode. IsSound mode.table.now × (mode.ruling.now ≡ ruling_of mode.table.now) };
 
     ghost reads_table = { λ _. true };
 
@@ -70,13 +69,13 @@ impl<'t> PointAnswering for Jumps<'t> {
 /// Answers the least label from a text on that a label spells, which may be registered.
 fn answer_least<W: Sink, E: Sink>(
     alloc: Global,
-    mode: &Jumps<'_>,
+    mode: &Jumps<'_, '_>,
     asked: &Asked<'_>,
     points: &[u32],
     console: &mut Console<'_, '_, W, E>,
 ) -> Served
     requires sound { IsSound mode.now.table.now }
-    requires ruling { option_copied mode.now.ruling ≡ ruling_of mode.now.table.now }
+    requires ruling { mode.now.ruling.now ≡ ruling_of mode.now.table.now }
     requires few { length asked.now.text.now ≤ MAX_LINE_LEN }
     requires scalar_values { AreScalarValues points.now }
     requires registrable { IsRegistrable (requested_label points.now) }

@@ -1,6 +1,6 @@
 //! The variants of a label under a table, all of them or those that are registered.
 
-ghost use Rattle.std.specs.Prelude.{◌≡◌, ◌≤◌, true, All, IfOk, length};
+ghost use Rattle.std.specs.Prelude.{◌≡◌, ◌≤◌, ℕ, List, true, All, IfOk, length};
 ghost use Rattle.idn_text.specs.Points.{AreScalarValues};
 ghost use Rattle.idn_label.specs.FirstFault.{IsRegistrable};
 ghost use Rattle.idn_label.specs.Memory.{NeedsNoMemory};
@@ -41,19 +41,19 @@ use variant_table::Table;
 /// The listing of variants by a table (RFC 7940 section 8). The options say after which text it
 /// begins and where it stops. It is kept to the registered labels, if there are some.
 #[derive(Drop)]
-pub(crate) struct Variants<'t, 'r, 'b> {
+pub(crate) struct Variants<'t, 'p, 'r, 'b> {
     pub table: &'t Table,
-    pub ruling: Option<&'t Pieces<'t>>,
+    pub ruling: &'p Option<Pieces<'t>>,
     pub dispositions: &'t Dispositions<SubTables>,
     pub options: &'t Options,
     pub registered: Option<&'r RegisteredLabels<'b>>,
 }
 
-impl<'t, 'r, 'b> PointAnswering for Variants<'t, 'r, 'b> {
+impl<'t, 'p, 'r, 'b> PointAnswering for Variants<'t, 'p, 'r, 'b> {
     ghost answer_of = { λ mode label. variants_answer (keeping (option_copied mode.registered) mode.options.now) mode.table.now label };
 
     ghost is_ready = { λ mode. IsWithinLimits mode.options.now × IsSound mode.table.now
-        × (option_copied mode.ruling ≡ ruling_of mode.table.now) × AreOfTable mode.table.now mode.dispositions.now };
+        × (mode.ruling.now ≡ ruling_of mode.table.now) × AreOfTable mode.table.now mode.dispositions.now };
 
     ghost reads_table = { λ _. true };
 
@@ -78,7 +78,7 @@ impl<'t, 'r, 'b> PointAnswering for Variants<'t, 'r, 'b> {
 /// Writes the block of a net's label.
 fn write_lines<W: Sink, E: Sink>(
     alloc: Global,
-    mode: &Variants<'_, '_, '_>,
+    mode: &Variants<'_, '_, '_, '_>,
     asked: &Asked<'_>,
     net: &Net,
     validity: Option<ValidityTest<'_>>,
@@ -90,9 +90,9 @@ fn write_lines<W: Sink, E: Sink>(
     requires spelled { All AreScalarValues net.now.spelled }
     requires new { (v : List ℕ) → KeepsOf v validity }
     ensures written { Emits console.old console.new
-        (outputs (said_text asked.now.form (asked_line asked.now)) (block_by (filter_by (ruling_in validity)) (field_by dispositions.old) (keeping (option_copied mode.now.registered) mode.now.options.now) net.now.spelled)) result }
+        (outputs (said_text asked.now.form (asked_line asked.now)) (block_by (filter_by (ruling_in validity.entry)) (field_by dispositions.old) (keeping (option_copied mode.now.registered) mode.now.options.now) net.now.spelled)) result }
     ensures begun { StopsForMemory
-        (All NeedsNoMemory (tested_after (filter_by (ruling_in validity)) (keeping (option_copied mode.now.registered) mode.now.options.now) net.now.spelled))
+        (All NeedsNoMemory (tested_after (filter_by (ruling_in validity.entry)) (keeping (option_copied mode.now.registered) mode.now.options.now) net.now.spelled))
         console.old console.new result }
 {
     match mode.registered {
@@ -123,14 +123,14 @@ fn write_lines<W: Sink, E: Sink>(
 /// Lists the variants of a label that may be registered.
 fn list<W: Sink, E: Sink>(
     alloc: Global,
-    mode: &Variants<'_, '_, '_>,
+    mode: &Variants<'_, '_, '_, '_>,
     asked: &Asked<'_>,
     label: &[u32],
     console: &mut Console<'_, '_, W, E>,
 ) -> Served
     requires limits { IsWithinLimits mode.now.options.now }
     requires sound { IsSound mode.now.table.now }
-    requires ruling { option_copied mode.now.ruling ≡ ruling_of mode.now.table.now }
+    requires ruling { mode.now.ruling.now ≡ ruling_of mode.now.table.now }
     requires dispositions { AreOfTable mode.now.table.now mode.now.dispositions.now }
     requires few { length asked.now.text.now ≤ MAX_LINE_LEN }
     requires scalar_values { AreScalarValues label.now }

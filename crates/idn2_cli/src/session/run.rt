@@ -202,7 +202,7 @@ fn serve_variants<R: Source, W: Sink, E: Sink>(
     let dispositions = Dispositions::of_table(&table);
     let mode = Variants {
         table: &table,
-        ruling: ruling.as_ref(),
+        ruling: &ruling,
         dispositions: &dispositions,
         options,
         registered,
@@ -253,7 +253,7 @@ fn serve_jumps<R: Source, W: Sink, E: Sink>(
     };
     let mode = Jumps {
         table: &table,
-        ruling: ruling.as_ref(),
+        ruling: &ruling,
     };
     let explaining = Explaining::Request(&table).if_wanted(options.tells_causes());
     let by_points = ByPoints { mode: &mode };

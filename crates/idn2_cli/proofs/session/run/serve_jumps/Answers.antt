@@ -20,5 +20,5 @@ returns g c =
     as_mode c.args.options.now Jump c.args.text.now (Ok c.in-Ok.table) _ _ _ _ _ c.serve_lines.result c.requires.mode (subst (λ n. IsTextOf n c.args.text.now c.in-Ok.table) (ap (λ (v : Settings). v.notation) c.options.view_is) c.in-Ok.ensures.table)
     (ap (λ f. lines_job f (explained_by c.if_wanted-explaining.result) (jump_answer c.in-Ok.table) true (λ line. IsRefusedWithoutMemory (requested_label (chars line))) (λ line. Unit {0})) (ap (λ (v : Settings). v.form) c.options.view_is)
     ∙ ap (λ e. lines_job c.args.options.now.form e (jump_answer c.in-Ok.table) true (λ line. IsRefusedWithoutMemory (requested_label (chars line))) (λ line. Unit {0}))
-    (c.if_wanted-explaining.ensures ∙ ap (λ x. if_wanted x (ByRequest c.in-Ok.table)) c.tells_causes.ensures))
+    (c.if_wanted-explaining.ensures ∙ ap (λ x. if_wanted x (ByRequest c.in-Ok.table)) c.tells_causes-2.ensures))
     c.serve_lines.ensures

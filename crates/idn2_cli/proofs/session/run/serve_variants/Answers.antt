@@ -27,5 +27,5 @@ returns g c =
     (ap (λ f. lines_job f (explained_by c.if_wanted-explaining.result) (variants_answer o table) true (λ line. IsRefusedWithoutMemory (chars line)) (λ line. All NeedsNoMemory (tested_after (filter_of table) o (spelled table (chars line)))))
     (ap (λ (v : Settings). v.form) c.options.view_is)
     ∙ ap (λ e. lines_job o.form e (variants_answer o table) true (λ line. IsRefusedWithoutMemory (chars line)) (λ line. All NeedsNoMemory (tested_after (filter_of table) o (spelled table (chars line)))))
-    (c.if_wanted-explaining.ensures ∙ ap (λ x. if_wanted x (ByTable table)) c.tells_causes.ensures))
+    (c.if_wanted-explaining.ensures ∙ ap (λ x. if_wanted x (ByTable table)) c.tells_causes-2.ensures))
     c.serve_lines.ensures
