@@ -212,27 +212,31 @@ lesser-second (Some (suc n)) = let gt : nat_le (suc (suc n)) 1 ≡ false = grind
 lesser-later : (m n : Option ℕ) → option_map suc (lesser_count m n) ≡ lesser_count (option_map suc m) (option_map suc n)
 lesser-later None n = refl
 lesser-later (Some m) None = refl
-lesser-later (Some m) (Some n) = by_test (nat_le m n)
+lesser-later (Some m) (Some n) =
+    by_test (nat_le m n) ∙ ap (λ (b : Bool). let r : Option ℕ = if b then Some (suc m) else Some (suc n) in r) (same (nat_le m n) refl)
   where
-    by_test : (b : Bool) → option_map suc (if b then Some m else Some n) ≡ (if b then Some (suc m) else Some (suc n))
+    same : (b : Bool) → nat_le m n ≡ b → b ≡ nat_le (suc m) (suc n)
+    same true e = let t : nat_le (suc m) (suc n) ≡ true = grind (arith, nat_tests) in sym t
+    same false e = let t : nat_le (suc m) (suc n) ≡ false = grind (arith, nat_tests) in sym t
+
+    by_test : (b : Bool) → option_map suc (let r : Option ℕ = if b then Some m else Some n in r) ≡ (let r : Option ℕ = if b then Some (suc m) else Some (suc n) in r)
     by_test true = refl
     by_test false = refl
+
+first_of_two : (x y xy : Option ℕ) (a b : Bool) → xy ≡ lesser_count x y
+    → (let r : Option ℕ = if a || b then Some 1 else option_map suc xy in r)
+    ≡ lesser_count (let r : Option ℕ = if a then Some 1 else option_map suc x in r) (let r : Option ℕ = if b then Some 1 else option_map suc y in r)
+first_of_two x y xy true true is = refl
+first_of_two x y xy true false is = sym (lesser-first y)
+first_of_two x y xy false true is = sym (lesser-second x)
+first_of_two x y xy false false is = ap (option_map suc) is ∙ lesser-later x y
 
 -- the shortest beginning of which one of two tests is true
 shortest-of_two : (f g : List ℕ → Bool) (v : List ℕ) → shortest_hopeless (λ w. f w || g w) v ≡ lesser_count (shortest_hopeless f v) (shortest_hopeless g v)
 shortest-of_two f g [] = refl
-shortest-of_two f g (c ∷ v) = by_tests (f (c ∷ [])) (g (c ∷ []))
-  where
-    later : (List ℕ → Bool) → Option ℕ
-    later h = option_map suc (shortest_hopeless (λ w. h (c ∷ w)) v)
-
-    by_tests : (a b : Bool) → (if a || b then Some 1 else option_map suc (shortest_hopeless (λ w. f (c ∷ w) || g (c ∷ w)) v))
-        ≡ lesser_count (if a then Some 1 else option_map suc (shortest_hopeless (λ w. f (c ∷ w)) v)) (if b then Some 1 else option_map suc (shortest_hopeless (λ w. g (c ∷ w)) v))
-    by_tests true true = refl
-    by_tests true false = sym (lesser-first (shortest_hopeless (λ w. g (c ∷ w)) v))
-    by_tests false true = sym (lesser-second (shortest_hopeless (λ w. f (c ∷ w)) v))
-    by_tests false false =
-        ap (option_map suc) (shortest-of_two (λ w. f (c ∷ w)) (λ w. g (c ∷ w)) v) ∙ lesser-later (shortest_hopeless (λ w. f (c ∷ w)) v) (shortest_hopeless (λ w. g (c ∷ w)) v)
+shortest-of_two f g (c ∷ v) =
+    first_of_two (shortest_hopeless (λ w. f (c ∷ w)) v) (shortest_hopeless (λ w. g (c ∷ w)) v) (shortest_hopeless (λ w. f (c ∷ w) || g (c ∷ w)) v) (f (c ∷ [])) (g (c ∷ []))
+    (shortest-of_two (λ w. f (c ∷ w)) (λ w. g (c ∷ w)) v)
 
 lesser-none : (n : Option ℕ) → lesser_count n None ≡ n
 lesser-none None = refl

@@ -3,7 +3,7 @@ use Rattle.std.proofs.Common.{◌≡◌, ◌≤◌, ◌<◌, ℕ, zero, suc, Lis
 use Rattle.std.proofs.Math.Nat.{min-le_left, min-le_right}
 use Rattle.valid_labels.specs.Testing.{IsValidity, SharesKept, Testing}
 use Rattle.valid_labels.specs.Tests.{asks_nothing, is_lost, is_valid}
-use Rattle.valid_labels.specs.Validity.{HasNoLostBeginning, IsLost, IsShortestLost, IsSound}
+use Rattle.valid_labels.specs.Validity.{AsksNothing, HasNoLostBeginning, IsLost, IsShortestLost, IsSound}
 use Rattle.valid_labels.specs.declared.validity.Validity.{Validity}
 use Rattle.valid_labels.specs.declared.validity.Validity.TheVariants.{Lost, Valid, NotValid}
 use Rattle.valid_labels.proofs.TestLemmas.{tests-agree}
@@ -85,3 +85,18 @@ new-kept (Some test) table label is sound = (sound-table test table is sound, ap
 pub forgotten-kept : (old new : Testing) (table : TableValue) (v : List ℕ) → ruling_in (Some old) ≡ ruling_of table → IsSound table → new.kept ≡ [] → new.table ≡ old.table → KeepsOf v (Some new)
 forgotten-kept old new table v is sound empty same =
     (subst IsSound (sym same) (sound-table old table is sound), ap (λ (k : List ℕ). take (length k) v) empty ∙ sym empty)
+
+-- the table of a test is that of which it is the ruling, and without a test the table asks nothing
+pub same-table : (test : Testing) (table : TableValue) → ruling_in (Some test) ≡ ruling_of table → test.table ≡ table
+same-table test table is = by_test (asks_nothing table) is
+  where
+    by_test : (b : Bool) → Some test.table ≡ (if b then None else Some table) → test.table ≡ table
+    by_test true e = absurd (let clash : Some test.table ≡ None = e in cc)
+    by_test false e = cc
+
+pub nothing-asked : (table : TableValue) → ruling_in None ≡ ruling_of table → AsksNothing table
+nothing-asked table is = (tests-agree.nothing table).0 (by_test (asks_nothing table) is)
+  where
+    by_test : (b : Bool) → None ≡ (if b then None else Some table) → b ≡ true
+    by_test true e = refl
+    by_test false e = absurd (let clash : None ≡ Some table = e in cc)

@@ -1,6 +1,7 @@
 //! Which labels a table admits, and why it refuses the others.
 
-ghost use Rattle.std.specs.Prelude.{◌≡◌, ◌≢◌, ◌≤◌, ℕ, List, length, IfOk, IfErr, IsOk};
+ghost use Rattle.std.specs.Prelude.{◌≡◌, ◌≢◌, ◌≤◌, ℕ, List, length, All, IfOk, IfErr, IsOk};
+ghost use Rattle.idn_text.specs.Points.{AreScalarValues};
 ghost use Rattle.idn_text.specs.declared.refusal.Refusal.TheVariants as refusals;
 ghost use Rattle.valid_labels.specs.Validity.{IsAdmitted, IsSound};
 ghost use Rattle.variant_list.specs.Spelled.{spelled};
@@ -53,17 +54,19 @@ pub(crate) fn admitted_net(
     requires ruling { ruling_in validity.old ≡ ruling_of table.now }
     requires new { KeepsShared validity.old 0 label.now }
     ensures spelled { IfOk result (λ net. in_order net.spelled ≡ in_order (spelled table.now label.now)) }
+    ensures scalar_values { IfOk result (λ net. All AreScalarValues net.spelled) }
     ensures admitted { IfOk result (λ _. IsAdmitted table.now label.now) }
     ensures refused { IfErr result (λ refusal. refusal ≢ refusals.Memory → IsRefusedAs table.now label.now refusal) }
     ensures same { ruling_in validity.new ≡ ruling_in validity.old }
     ensures begun { (v : List ℕ) → IsOk result → KeepsOf v validity.new }
 {
-    if let Some(test) = validity {
-        match test.admission(label, 0) {
+    match validity {
+        None => {}
+        Some(test) => match test.admission(label, 0) {
             Admission::NotMade => return Err(Refusal::NotInTable),
             Admission::NotValid => return Err(Refusal::NotValid),
             Admission::Admitted => test.forget(),
-        }
+        },
     }
     match Net::build(alloc, table, label) {
         Ok(net) => Ok(net),

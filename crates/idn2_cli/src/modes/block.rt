@@ -133,8 +133,7 @@ impl<'p> Judge for Registrable<'p> {
         ensures verdict { IfOk result (IsVerdict (filter_by (ruling_in self.old.validity)).accepts (filter_by (ruling_in self.old.validity)).hopeless (λ v. self.new.test.text ≡ a_label_of v) label.now) }
         ensures memory { OnErr result (shortest_hopeless (filter_by (ruling_in self.old.validity)).hopeless label.now ≡ None) }
         ensures no_memory { NeedsNoMemory label.now → IsOk result }
-        ensures same_labels { (λ (v : List ℕ). (filter_by (ruling_in self.new.validity)).accepts v) ≡ (λ (v : List ℕ). (filter_by (ruling_in self.old.validity)).accepts v) }
-        ensures same_beginnings { (λ (v : List ℕ). (filter_by (ruling_in self.new.validity)).hopeless v) ≡ (λ (v : List ℕ). (filter_by (ruling_in self.old.validity)).hopeless v) }
+        ensures same_ruling { ruling_in self.new.validity ≡ ruling_in self.old.validity }
     {
         self.beginnings.keep(shared);
         self.test.keep(shared);

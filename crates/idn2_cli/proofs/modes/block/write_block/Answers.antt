@@ -1,4 +1,4 @@
-use Rattle.std.proofs.Common.{◌≡◌, ◌+◌, ◌-◌, ◌∙◌, ℕ, List, Bool, Option, Result, Ok, Err, ap, sym, subst, refl, inr}
+use Rattle.std.proofs.Common.{◌≡◌, ◌+◌, ◌-◌, ◌∙◌, ℕ, List, Bool, Option, Result, Ok, Err, All, ap, sym, subst, refl, inr}
 use Rattle.std.specs.declared.alloc.AllocError.{AllocError}
 use Rattle.idn_class.specs.Known.{AreKnown}
 use Rattle.idn_class.proofs.KnownLemmas.{AreKnown-nil}
@@ -8,7 +8,10 @@ use Rattle.variant_list.specs.declared.cursor.Outcome.TheVariants as outcome
 use Rattle.idn2_cli.specs.inner.KeptLines.{IsBegun}
 use Rattle.std.proofs.lemmas.Result.{err_from_is_err_and}
 use Rattle.variant_list.proofs.CallAnswers.{not_ok}
-use Rattle.variant_list.specs.Positions.{Built}
+use Rattle.variant_list.specs.Positions.{Built, Position, tested_ahead}
+use Rattle.variant_list.specs.Steps.{Decides, SeeksOver, moved_over}
+use Rattle.variant_list.specs.Stepping.{StepsTo}
+use Rattle.idn_label.specs.Memory.{NeedsNoMemory}
 use Rattle.idn2_cli.specs.declared.modes.dispositions.Dispositions.{Dispositions}
 use Rattle.idn2_options.specs.Settings.{Settings}
 use Rattle.answer_json.specs.declared.block.Disposition.{Disposition}
@@ -133,7 +136,7 @@ variants-preserved g c =
       known = kept.0;
       apart = kept.1;
       begun = subst (λ v. IsBegun v c.write_variant.new.line) c.last-variant.ensures.value c.write_variant.ensures.begun;
-      tested = kept.2.1;
+      tested = kept.3;
     }
 
 pub returns-in_err-seek-clause-written : goal.returns-in_err-seek-clause-written
