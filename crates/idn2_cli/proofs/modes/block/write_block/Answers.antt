@@ -34,15 +34,15 @@ decided-as : (P : Type 0) (r : Result Outcome AllocError) (o x : Outcome) → r 
 decided-as P r o x is same h = subst (λ (y : Outcome). IfDecided (Ok y) P) same (subst (λ (a : Result Outcome AllocError). IfDecided a P) is h)
 
 -- what the judge asks is what was asked at the start
-decided_by : {j f : Filter} {old : Position} {tries left : ℕ} {r : Result Outcome AllocError} → j ≡ f
+decided_by : (j f : Filter) (old : Position) (tries left : ℕ) (r : Result Outcome AllocError) → j ≡ f
     → Decides j.accepts j.hopeless old tries r (moved_over j.hopeless (tries - left) old) left → Decides f.accepts f.hopeless old tries r (moved_over f.hopeless (tries - left) old) left
-decided_by {old = old} {tries = tries} {left = left} {r = r} same h = subst (λ (f : Filter). Decides f.accepts f.hopeless old tries r (moved_over f.hopeless (tries - left) old) left) same h
+decided_by j f old tries left r same h = subst (λ (f : Filter). Decides f.accepts f.hopeless old tries r (moved_over f.hopeless (tries - left) old) left) same h
 
-moves_by : {j f : Filter} {taken : ℕ} {r : Result Outcome AllocError} {old new : Position} → j ≡ f → SeeksOver j.hopeless taken r old new → SeeksOver f.hopeless taken r old new
-moves_by {taken = taken} {r = r} {old = old} {new = new} same h = subst (λ (f : Filter). SeeksOver f.hopeless taken r old new) same h
+moves_by : (j f : Filter) (taken : ℕ) (r : Result Outcome AllocError) (old new : Position) → j ≡ f → SeeksOver j.hopeless taken r old new → SeeksOver f.hopeless taken r old new
+moves_by j f taken r old new same h = subst (λ (f : Filter). SeeksOver f.hopeless taken r old new) same h
 
-steps_by : {j f : Filter} {old new : Position} {steps left : Option ℕ} {r : Result Outcome AllocError} → j ≡ f → StepsTo j.hopeless old steps r new left → StepsTo f.hopeless old steps r new left
-steps_by {old = old} {new = new} {steps = steps} {left = left} {r = r} same h = subst (λ (f : Filter). StepsTo f.hopeless old steps r new left) same h
+steps_by : (j f : Filter) (old new : Position) (steps left : Option ℕ) (r : Result Outcome AllocError) → j ≡ f → StepsTo j.hopeless old steps r new left → StepsTo f.hopeless old steps r new left
+steps_by j f old new steps left r same h = subst (λ (f : Filter). StepsTo f.hopeless old steps r new left) same h
 
 -- two filters that ask the same are one
 same_filters : (j f : Filter) → j.accepts ≡ f.accepts → j.hopeless ≡ f.hopeless → j ≡ f
@@ -80,26 +80,26 @@ variants-init g c = record {
 pub write_stop-requires-clause-scalar_values : goal.write_stop-requires-clause-scalar_values
 write_stop-requires-clause-scalar_values g c =
     (subst IsWritable (sym c.last.ensures.value)
-    (spent-writable (filter_by (ruling_in c.args.validity)) (said_text c.args.asked.now.form (asked_line c.args.asked.now)) (field_by c.args.dispositions.now) _ _ _ _ c.variants.cursor c.seek.new.self c.variants.count c.variants.tries c.seek.new.tries c.variants.steps c.seek.new.steps c.requires.spelled c.variants.invariant.listing (spent-from (filter_by (ruling_in c.args.validity)) c.variants.cursor c.seek.new.self c.variants.tries c.seek.new.tries c.variants.steps c.seek.new.steps c.seek.result c.in_ok-seek.field-0 c.in_ok-seek.was (decided_by c.variants.invariant.same_filter c.seek.ensures.decided) (moves_by c.variants.invariant.same_filter c.seek.ensures.moves) (steps_by c.variants.invariant.same_filter c.seek.ensures.steps) c.in-Spent.is))).scalar_values
+    (spent-writable (filter_by (ruling_in c.args.validity)) (said_text c.args.asked.now.form (asked_line c.args.asked.now)) (field_by c.args.dispositions.now) _ _ _ _ c.variants.cursor c.seek.new.self c.variants.count c.variants.tries c.seek.new.tries c.variants.steps c.seek.new.steps c.requires.spelled c.variants.invariant.listing (spent-from (filter_by (ruling_in c.args.validity)) c.variants.cursor c.seek.new.self c.variants.tries c.seek.new.tries c.variants.steps c.seek.new.steps c.seek.result c.in_ok-seek.field-0 c.in_ok-seek.was (decided_by (filter_by (ruling_in c.variants.judge.validity)) (filter_by (ruling_in c.args.validity)) c.variants.cursor c.variants.tries c.seek.new.tries c.seek.result c.variants.invariant.same_filter c.seek.ensures.decided) (moves_by (filter_by (ruling_in c.variants.judge.validity)) (filter_by (ruling_in c.args.validity)) (c.variants.tries - c.seek.new.tries) c.seek.result c.variants.cursor c.seek.new.self c.variants.invariant.same_filter c.seek.ensures.moves) (steps_by (filter_by (ruling_in c.variants.judge.validity)) (filter_by (ruling_in c.args.validity)) c.variants.cursor c.seek.new.self c.variants.steps c.seek.new.steps c.seek.result c.variants.invariant.same_filter c.seek.ensures.steps) c.in-Spent.is))).scalar_values
 
 pub write_stop-requires-in-Halted-clause-scalar_values : goal.write_stop-requires-in-Halted-clause-scalar_values
 write_stop-requires-in-Halted-clause-scalar_values g c =
     (subst IsWritable (sym c.last-in-Halted.ensures.value)
-    (halted-writable (filter_by (ruling_in c.args.validity)) (said_text c.args.asked.now.form (asked_line c.args.asked.now)) (field_by c.args.dispositions.now) _ _ _ _ c.variants.cursor c.seek.new.self c.variants.count c.variants.tries c.seek.new.tries c.variants.steps c.seek.new.steps c.requires.spelled c.variants.invariant.listing (halted-from (filter_by (ruling_in c.args.validity)) c.variants.cursor c.seek.new.self c.variants.tries c.seek.new.tries c.variants.steps c.seek.new.steps c.seek.result c.in_ok-seek.field-0 c.in_ok-seek.was (decided_by c.variants.invariant.same_filter c.seek.ensures.decided) (moves_by c.variants.invariant.same_filter c.seek.ensures.moves) (steps_by c.variants.invariant.same_filter c.seek.ensures.steps) c.in-Halted.is))).scalar_values
+    (halted-writable (filter_by (ruling_in c.args.validity)) (said_text c.args.asked.now.form (asked_line c.args.asked.now)) (field_by c.args.dispositions.now) _ _ _ _ c.variants.cursor c.seek.new.self c.variants.count c.variants.tries c.seek.new.tries c.variants.steps c.seek.new.steps c.requires.spelled c.variants.invariant.listing (halted-from (filter_by (ruling_in c.args.validity)) c.variants.cursor c.seek.new.self c.variants.tries c.seek.new.tries c.variants.steps c.seek.new.steps c.seek.result c.in_ok-seek.field-0 c.in_ok-seek.was (decided_by (filter_by (ruling_in c.variants.judge.validity)) (filter_by (ruling_in c.args.validity)) c.variants.cursor c.variants.tries c.seek.new.tries c.seek.result c.variants.invariant.same_filter c.seek.ensures.decided) (moves_by (filter_by (ruling_in c.variants.judge.validity)) (filter_by (ruling_in c.args.validity)) (c.variants.tries - c.seek.new.tries) c.seek.result c.variants.cursor c.seek.new.self c.variants.invariant.same_filter c.seek.ensures.moves) (steps_by (filter_by (ruling_in c.variants.judge.validity)) (filter_by (ruling_in c.args.validity)) c.variants.cursor c.seek.new.self c.variants.steps c.seek.new.steps c.seek.result c.variants.invariant.same_filter c.seek.ensures.steps) c.in-Halted.is))).scalar_values
 
 pub returns-in-Spent-clause-written : goal.returns-in-Spent-clause-written
 returns-in-Spent-clause-written g c =
-    let spent = spent-from (filter_by (ruling_in c.args.validity)) c.variants.cursor c.seek.new.self c.variants.tries c.seek.new.tries c.variants.steps c.seek.new.steps c.seek.result c.in_ok-seek.field-0 c.in_ok-seek.was (decided_by c.variants.invariant.same_filter c.seek.ensures.decided) (moves_by c.variants.invariant.same_filter c.seek.ensures.moves) (steps_by c.variants.invariant.same_filter c.seek.ensures.steps) c.in-Spent.is in
+    let spent = spent-from (filter_by (ruling_in c.args.validity)) c.variants.cursor c.seek.new.self c.variants.tries c.seek.new.tries c.variants.steps c.seek.new.steps c.seek.result c.in_ok-seek.field-0 c.in_ok-seek.was (decided_by (filter_by (ruling_in c.variants.judge.validity)) (filter_by (ruling_in c.args.validity)) c.variants.cursor c.variants.tries c.seek.new.tries c.seek.result c.variants.invariant.same_filter c.seek.ensures.decided) (moves_by (filter_by (ruling_in c.variants.judge.validity)) (filter_by (ruling_in c.args.validity)) (c.variants.tries - c.seek.new.tries) c.seek.result c.variants.cursor c.seek.new.self c.variants.invariant.same_filter c.seek.ensures.moves) (steps_by (filter_by (ruling_in c.variants.judge.validity)) (filter_by (ruling_in c.args.validity)) c.variants.cursor c.seek.new.self c.variants.steps c.seek.new.steps c.seek.result c.variants.invariant.same_filter c.seek.ensures.steps) c.in-Spent.is in
     listing-spent (filter_by (ruling_in c.args.validity)) (said_text c.args.asked.now.form (asked_line c.args.asked.now)) (field_by c.args.dispositions.now) _ _ _ _ _ c.variants.cursor c.seek.new.self c.variants.count c.variants.tries c.seek.new.tries c.variants.steps c.seek.new.steps c.last.result.now c.write_stop.result c.variants.invariant.listing spent c.last.ensures.value c.write_stop.ensures.written
 
 pub returns-in-Halted-clause-written : goal.returns-in-Halted-clause-written
 returns-in-Halted-clause-written g c =
-    let halted = halted-from (filter_by (ruling_in c.args.validity)) c.variants.cursor c.seek.new.self c.variants.tries c.seek.new.tries c.variants.steps c.seek.new.steps c.seek.result c.in_ok-seek.field-0 c.in_ok-seek.was (decided_by c.variants.invariant.same_filter c.seek.ensures.decided) (moves_by c.variants.invariant.same_filter c.seek.ensures.moves) (steps_by c.variants.invariant.same_filter c.seek.ensures.steps) c.in-Halted.is in
+    let halted = halted-from (filter_by (ruling_in c.args.validity)) c.variants.cursor c.seek.new.self c.variants.tries c.seek.new.tries c.variants.steps c.seek.new.steps c.seek.result c.in_ok-seek.field-0 c.in_ok-seek.was (decided_by (filter_by (ruling_in c.variants.judge.validity)) (filter_by (ruling_in c.args.validity)) c.variants.cursor c.variants.tries c.seek.new.tries c.seek.result c.variants.invariant.same_filter c.seek.ensures.decided) (moves_by (filter_by (ruling_in c.variants.judge.validity)) (filter_by (ruling_in c.args.validity)) (c.variants.tries - c.seek.new.tries) c.seek.result c.variants.cursor c.seek.new.self c.variants.invariant.same_filter c.seek.ensures.moves) (steps_by (filter_by (ruling_in c.variants.judge.validity)) (filter_by (ruling_in c.args.validity)) c.variants.cursor c.seek.new.self c.variants.steps c.seek.new.steps c.seek.result c.variants.invariant.same_filter c.seek.ensures.steps) c.in-Halted.is in
     listing-halted (filter_by (ruling_in c.args.validity)) (said_text c.args.asked.now.form (asked_line c.args.asked.now)) (field_by c.args.dispositions.now) _ _ _ _ _ c.variants.cursor c.seek.new.self c.variants.count c.variants.tries c.seek.new.tries c.variants.steps c.seek.new.steps c.last-in-Halted.result.now c.write_stop-in-Halted.result c.variants.invariant.listing halted c.last-in-Halted.ensures.value c.write_stop-in-Halted.ensures.written
 
 pub returns-in-Ended-clause-written : goal.returns-in-Ended-clause-written
 returns-in-Ended-clause-written g c =
-    let ended = ended-from (filter_by (ruling_in c.args.validity)) c.variants.cursor c.seek.new.self c.variants.tries c.seek.new.tries c.variants.steps c.seek.new.steps c.seek.result c.in_ok-seek.field-0 c.in_ok-seek.was (decided_by c.variants.invariant.same_filter c.seek.ensures.decided) (moves_by c.variants.invariant.same_filter c.seek.ensures.moves) (steps_by c.variants.invariant.same_filter c.seek.ensures.steps) c.in-Ended.is in
+    let ended = ended-from (filter_by (ruling_in c.args.validity)) c.variants.cursor c.seek.new.self c.variants.tries c.seek.new.tries c.variants.steps c.seek.new.steps c.seek.result c.in_ok-seek.field-0 c.in_ok-seek.was (decided_by (filter_by (ruling_in c.variants.judge.validity)) (filter_by (ruling_in c.args.validity)) c.variants.cursor c.variants.tries c.seek.new.tries c.seek.result c.variants.invariant.same_filter c.seek.ensures.decided) (moves_by (filter_by (ruling_in c.variants.judge.validity)) (filter_by (ruling_in c.args.validity)) (c.variants.tries - c.seek.new.tries) c.seek.result c.variants.cursor c.seek.new.self c.variants.invariant.same_filter c.seek.ensures.moves) (steps_by (filter_by (ruling_in c.variants.judge.validity)) (filter_by (ruling_in c.args.validity)) c.variants.cursor c.seek.new.self c.variants.steps c.seek.new.steps c.seek.result c.variants.invariant.same_filter c.seek.ensures.steps) c.in-Ended.is in
     listing-ended (filter_by (ruling_in c.args.validity)) (said_text c.args.asked.now.form (asked_line c.args.asked.now)) (field_by c.args.dispositions.now) _ _ _ _ _ c.variants.cursor c.variants.count c.variants.tries c.seek.new.tries c.variants.steps c.write_end.result c.variants.invariant.listing ended c.write_end.ensures.written
 
 -- ---- a variant
@@ -107,25 +107,25 @@ returns-in-Ended-clause-written g c =
 pub returns-in_err-write_variant-clause-written : goal.returns-in_err-write_variant-clause-written
 returns-in_err-write_variant-clause-written g c =
     let p = err_from_is_err_and c.from_residual-in_err-write_variant.result c.from_residual-in_err-write_variant.ensures.1 in
-    let found = found-from (filter_by (ruling_in c.args.validity)) c.variants.cursor c.seek.new.self c.variants.tries c.seek.new.tries c.variants.steps c.seek.new.steps c.seek.result c.in_ok-seek.field-0 c.in_ok-seek.was (decided_by c.variants.invariant.same_filter c.seek.ensures.decided) (moves_by c.variants.invariant.same_filter c.seek.ensures.moves) (steps_by c.variants.invariant.same_filter c.seek.ensures.steps) c.in-Found.is in
+    let found = found-from (filter_by (ruling_in c.args.validity)) c.variants.cursor c.seek.new.self c.variants.tries c.seek.new.tries c.variants.steps c.seek.new.steps c.seek.result c.in_ok-seek.field-0 c.in_ok-seek.was (decided_by (filter_by (ruling_in c.variants.judge.validity)) (filter_by (ruling_in c.args.validity)) c.variants.cursor c.variants.tries c.seek.new.tries c.seek.result c.variants.invariant.same_filter c.seek.ensures.decided) (moves_by (filter_by (ruling_in c.variants.judge.validity)) (filter_by (ruling_in c.args.validity)) (c.variants.tries - c.seek.new.tries) c.seek.result c.variants.cursor c.seek.new.self c.variants.invariant.same_filter c.seek.ensures.moves) (steps_by (filter_by (ruling_in c.variants.judge.validity)) (filter_by (ruling_in c.args.validity)) c.variants.cursor c.seek.new.self c.variants.steps c.seek.new.steps c.seek.result c.variants.invariant.same_filter c.seek.ensures.steps) c.in-Found.is in
     rw p.1 (listing-broken (filter_by (ruling_in c.args.validity)) (said_text c.args.asked.now.form (asked_line c.args.asked.now)) (field_by c.args.dispositions.now) _ _ _ _ _ c.variants.cursor c.seek.new.self c.variants.count c.variants.tries c.seek.new.tries c.variants.steps c.seek.new.steps c.last-variant.result.now c.write_variant.result p.0 c.variants.invariant.listing found c.last-variant.ensures.value
     (emits_as _ _ Output _ _ c.write_variant.result (line_is (said_text c.args.asked.now.form (asked_line c.args.asked.now)) c.last-variant.result.now (told c.last-variant.result.now c.of_variant-disposition.ensures.field c.variants.invariant.same)) c.write_variant.ensures.written) (c.in_err-write_variant.was ∙ ap Err (sym p.2)))
 
 pub write_stop-requires-then-is_reached-clause-scalar_values : goal.write_stop-requires-then-is_reached-clause-scalar_values
 write_stop-requires-then-is_reached-clause-scalar_values g c =
     (subst IsWritable (sym c.last-then-is_reached.ensures.value)
-    (found-writable (filter_by (ruling_in c.args.validity)) (said_text c.args.asked.now.form (asked_line c.args.asked.now)) (field_by c.args.dispositions.now) _ _ _ _ c.variants.cursor c.seek.new.self c.variants.count c.variants.tries c.seek.new.tries c.variants.steps c.seek.new.steps c.requires.spelled c.variants.invariant.listing (found-from (filter_by (ruling_in c.args.validity)) c.variants.cursor c.seek.new.self c.variants.tries c.seek.new.tries c.variants.steps c.seek.new.steps c.seek.result c.in_ok-seek.field-0 c.in_ok-seek.was (decided_by c.variants.invariant.same_filter c.seek.ensures.decided) (moves_by c.variants.invariant.same_filter c.seek.ensures.moves) (steps_by c.variants.invariant.same_filter c.seek.ensures.steps) c.in-Found.is))).scalar_values
+    (found-writable (filter_by (ruling_in c.args.validity)) (said_text c.args.asked.now.form (asked_line c.args.asked.now)) (field_by c.args.dispositions.now) _ _ _ _ c.variants.cursor c.seek.new.self c.variants.count c.variants.tries c.seek.new.tries c.variants.steps c.seek.new.steps c.requires.spelled c.variants.invariant.listing (found-from (filter_by (ruling_in c.args.validity)) c.variants.cursor c.seek.new.self c.variants.tries c.seek.new.tries c.variants.steps c.seek.new.steps c.seek.result c.in_ok-seek.field-0 c.in_ok-seek.was (decided_by (filter_by (ruling_in c.variants.judge.validity)) (filter_by (ruling_in c.args.validity)) c.variants.cursor c.variants.tries c.seek.new.tries c.seek.result c.variants.invariant.same_filter c.seek.ensures.decided) (moves_by (filter_by (ruling_in c.variants.judge.validity)) (filter_by (ruling_in c.args.validity)) (c.variants.tries - c.seek.new.tries) c.seek.result c.variants.cursor c.seek.new.self c.variants.invariant.same_filter c.seek.ensures.moves) (steps_by (filter_by (ruling_in c.variants.judge.validity)) (filter_by (ruling_in c.args.validity)) c.variants.cursor c.seek.new.self c.variants.steps c.seek.new.steps c.seek.result c.variants.invariant.same_filter c.seek.ensures.steps) c.in-Found.is))).scalar_values
 
 pub returns-then-is_reached-clause-written : goal.returns-then-is_reached-clause-written
 returns-then-is_reached-clause-written g c =
-    let found = found-from (filter_by (ruling_in c.args.validity)) c.variants.cursor c.seek.new.self c.variants.tries c.seek.new.tries c.variants.steps c.seek.new.steps c.seek.result c.in_ok-seek.field-0 c.in_ok-seek.was (decided_by c.variants.invariant.same_filter c.seek.ensures.decided) (moves_by c.variants.invariant.same_filter c.seek.ensures.moves) (steps_by c.variants.invariant.same_filter c.seek.ensures.steps) c.in-Found.is in
+    let found = found-from (filter_by (ruling_in c.args.validity)) c.variants.cursor c.seek.new.self c.variants.tries c.seek.new.tries c.variants.steps c.seek.new.steps c.seek.result c.in_ok-seek.field-0 c.in_ok-seek.was (decided_by (filter_by (ruling_in c.variants.judge.validity)) (filter_by (ruling_in c.args.validity)) c.variants.cursor c.variants.tries c.seek.new.tries c.seek.result c.variants.invariant.same_filter c.seek.ensures.decided) (moves_by (filter_by (ruling_in c.variants.judge.validity)) (filter_by (ruling_in c.args.validity)) (c.variants.tries - c.seek.new.tries) c.seek.result c.variants.cursor c.seek.new.self c.variants.invariant.same_filter c.seek.ensures.moves) (steps_by (filter_by (ruling_in c.variants.judge.validity)) (filter_by (ruling_in c.args.validity)) c.variants.cursor c.seek.new.self c.variants.steps c.seek.new.steps c.seek.result c.variants.invariant.same_filter c.seek.ensures.steps) c.in-Found.is in
     let reached = sym (ap (λ (o : Settings). reaches o.limit (c.variants.count + 1)) c.options.view_is) ∙ sym c.is_reached.ensures ∙ c.if-is_reached.true in
     listing-reached (filter_by (ruling_in c.args.validity)) (said_text c.args.asked.now.form (asked_line c.args.asked.now)) (field_by c.args.dispositions.now) _ _ _ _ _ _ c.variants.cursor c.seek.new.self c.variants.count c.variants.tries c.seek.new.tries c.variants.steps c.seek.new.steps c.last-variant.result.now c.last-then-is_reached.result.now c.write_stop-then-is_reached.result c.variants.invariant.listing
     found c.last-variant.ensures.value (writes_as _ _ Output _ _ (line_is (said_text c.args.asked.now.form (asked_line c.args.asked.now)) c.last-variant.result.now (told c.last-variant.result.now c.of_variant-disposition.ensures.field c.variants.invariant.same)) c.in_ok-write_variant.ensures.written) reached c.last-then-is_reached.ensures.value c.write_stop-then-is_reached.ensures.written
 
 pub variants-preserved : goal.variants-preserved
 variants-preserved g c =
-    let found = found-from (filter_by (ruling_in c.args.validity)) c.variants.cursor c.seek.new.self c.variants.tries c.seek.new.tries c.variants.steps c.seek.new.steps c.seek.result c.in_ok-seek.field-0 c.in_ok-seek.was (decided_by c.variants.invariant.same_filter c.seek.ensures.decided) (moves_by c.variants.invariant.same_filter c.seek.ensures.moves) (steps_by c.variants.invariant.same_filter c.seek.ensures.steps) c.in-Found.is in
+    let found = found-from (filter_by (ruling_in c.args.validity)) c.variants.cursor c.seek.new.self c.variants.tries c.seek.new.tries c.variants.steps c.seek.new.steps c.seek.result c.in_ok-seek.field-0 c.in_ok-seek.was (decided_by (filter_by (ruling_in c.variants.judge.validity)) (filter_by (ruling_in c.args.validity)) c.variants.cursor c.variants.tries c.seek.new.tries c.seek.result c.variants.invariant.same_filter c.seek.ensures.decided) (moves_by (filter_by (ruling_in c.variants.judge.validity)) (filter_by (ruling_in c.args.validity)) (c.variants.tries - c.seek.new.tries) c.seek.result c.variants.cursor c.seek.new.self c.variants.invariant.same_filter c.seek.ensures.moves) (steps_by (filter_by (ruling_in c.variants.judge.validity)) (filter_by (ruling_in c.args.validity)) c.variants.cursor c.seek.new.self c.variants.steps c.seek.new.steps c.seek.result c.variants.invariant.same_filter c.seek.ensures.steps) c.in-Found.is in
     let kept = decided-as _ c.seek.result c.in_ok-seek.field-0 outcome.Found c.in_ok-seek.was c.in-Found.is c.seek.ensures.kept in
     let going = sym (ap (λ (o : Settings). reaches o.limit (c.variants.count + 1)) c.options.view_is) ∙ sym c.is_reached.ensures ∙ c.if-is_reached.false in
     record {

@@ -1,4 +1,4 @@
-use Rattle.std.proofs.Common.{◌≡◌, ◌≤◌, ◌+◌, ◌∙◌, ℕ, List, Bool, true, false, not, Option, Err, length, take, ap, sym, subst, refl}
+use Rattle.std.proofs.Common.{◌≡◌, ◌≤◌, ◌+◌, ◌∙◌, ℕ, List, Bool, true, false, Option, Err, length, take, ap, sym, subst, refl}
 use Rattle.std.proofs.lemmas.Result.{err_from_is_err_and}
 use Rattle.idn_text.specs.Points.{AreScalarValues}
 use Rattle.idn_label.proofs.ALabels.{registrable_scalars}
@@ -32,14 +32,14 @@ line_is : (text : Said → List ℕ) (v : List ℕ) {f g : Option Disposition} �
 line_is text v same = ap (λ field. text (Listed field v)) same
 
 -- a label that was found valid is accepted, and any other is not
-accepted : (entry now : Option TableValue) → now ≡ entry → (v u : List ℕ) → v ≡ u → (b : Bool) → b ≡ passes now v → not b ≡ false → IsRegistrable u → (filter_by entry).accepts u ≡ true
+accepted : (entry now : Option TableValue) → now ≡ entry → (v u : List ℕ) → v ≡ u → (b : Bool) → b ≡ passes now v → b ≡ true → IsRegistrable u → (filter_by entry).accepts u ≡ true
 accepted entry now same v u at true is going registrable =
     accepts-passed entry u registrable (sym (is ∙ ap (λ (r : Option TableValue). passes r v) same ∙ ap (passes entry) at))
-accepted entry now same v u at false is going registrable = let clash : true ≡ false = going in cc
+accepted entry now same v u at false is going registrable = let clash : false ≡ true = going in cc
 
-not_accepted : (entry now : Option TableValue) → now ≡ entry → (v u : List ℕ) → v ≡ u → (b : Bool) → b ≡ passes now v → not b ≡ true → (filter_by entry).accepts u ≡ false
+not_accepted : (entry now : Option TableValue) → now ≡ entry → (v u : List ℕ) → v ≡ u → (b : Bool) → b ≡ passes now v → b ≡ false → (filter_by entry).accepts u ≡ false
 not_accepted entry now same v u at false is passing = accepts-failed entry u (sym (is ∙ ap (λ (r : Option TableValue). passes r v) same ∙ ap (passes entry) at))
-not_accepted entry now same v u at true is passing = let clash : false ≡ true = passing in cc
+not_accepted entry now same v u at true is passing = let clash : true ≡ false = passing in cc
 
 pub returns-in_err-search-clause-written : goal.returns-in_err-search-clause-written
 returns-in_err-search-clause-written g c =

@@ -1,4 +1,4 @@
-use Rattle.std.proofs.Common.{subst, All, Ok, ap, chars, true, ◌∙◌}
+use Rattle.std.proofs.Common.{inl, refl, subst, All, Ok, ap, chars, true, ◌∙◌}
 use Rattle.std.specs.Option.{option_copied}
 use Rattle.idn_label.specs.Memory.{NeedsNoMemory}
 use Rattle.variant_table.specs.Entries.{TableValue}
@@ -33,5 +33,5 @@ returns g c =
 
 pub returns-in_default : goal.returns-in_default
 returns-in_default g c =
-    refused_lines (keeping (option_copied c.args.registered) c.args.options.now) Variants (lists_by_table (keeping (option_copied c.args.registered) c.args.options.now) c.requires.mode) c.args.text.now _ Memory _ _ c.refuse_table-in_default.result c.requires.unread tt
+    refused_lines (keeping (option_copied c.args.registered) c.args.options.now) Variants (lists_by_table (keeping (option_copied c.args.registered) c.args.options.now) c.requires.mode) c.args.text.now _ Memory _ _ c.refuse_table-in_default.result c.requires.unread (inl refl)
     (in_form c.args.text.now Memory _ _ _ _ _ _ _ _ c.refuse_table-in_default.result (ap (λ (v : Settings). v.form) c.options.view_is) c.tells_causes.ensures (ap (λ (v : Settings). v.notation) c.options.view_is) c.refuse_table-in_default.ensures.told) c.refuse_table-in_default.ensures.status
