@@ -61,12 +61,24 @@ fn places_in_tables_of_version_2(rt: HostRuntime) -> Result<(), Fail> {
     Ok(())
 }
 
-/// Rulesets. None is told of a first line that isn't the version line, and of a line that begins with `%`.
-const RULESETS: [(&str, Option<FaultPlace>); 7] = [
+/// Rulesets, by the places of their lines. None is told of a first line that isn't the version line.
+const RULESETS: [(&str, Option<FaultPlace>); 13] = [
     ("0061", None),
     ("", None),
-    ("%version 3\n%version 3", None),
+    ("%version 3\n%version 3", Some(FaultPlace::Lexeme(0, 8))),
     ("%version 3\n\t%set C 0061", None),
+    (
+        "%version 3\n\t%set C 0062 0061",
+        Some(FaultPlace::Lexeme(13, 4)),
+    ),
+    (
+        "%version 3\n%rule r ^ (. _)",
+        Some(FaultPlace::Lexeme(13, 1)),
+    ),
+    ("%version 3\n%rule r ^ .", Some(FaultPlace::End(11))),
+    ("%version 3\n%set C 0024", Some(FaultPlace::Point(7, 0x24))),
+    ("%version 3\n%rule r @C _", Some(FaultPlace::Lexeme(8, 2))),
+    ("%version 3\n%tag t\n%tag t", Some(FaultPlace::Lexeme(5, 1))),
     ("%version 3\n!!0061", Some(FaultPlace::Lexeme(1, 1))),
     ("%version 3\n0061 when r", Some(FaultPlace::Lexeme(5, 4))),
     (

@@ -25,7 +25,7 @@ pub use laws::{
     barred_for_good, barring_stays, before_stays, matches_are_parts, matches_stay, tests_agree,
 };
 pub use pattern_tree::PatternTree;
-pub use places::{either, has, with_place_if};
+pub use places::{both, either, has, point_places, with_place_if};
 pub use point_set::PointSet;
 pub use seen_label::{SeenLabel, renew_masks};
 pub use span::Span;

@@ -30,3 +30,7 @@ pub mod LineBytes
 mod PlacedLemmas
 mod EntryPartLemmas
 pub mod WrongPlaceLemmas
+-- The same of a line that is to define something.
+pub mod DefinitionPlaceLemmas
+-- The first lexeme on a line that names what is not known.
+mod LineNameLaws

@@ -1,7 +1,9 @@
 -- The code points that a line of an entry or of a range names, with their places.
 use Rattle.std.specs.Prelude.{ℕ, ◌+◌, Bool, ◌||◌, Option, Some, None, List, [], ◌∷◌, bytes_eq, codes, if◌then◌else◌}
 use Rattle.ruleset_text.specs.declared.line_point.LinePoint.{LinePoint}
+use Rattle.ruleset_text.specs.declared.expected.Expected.TheVariants.{Nothing}
 use Rattle.ruleset_text.specs.EntryWords.{point_of}
+use Rattle.ruleset_text.specs.ExpectedNames.{without_names}
 use Rattle.ruleset_text.specs.PlacedLexemes.{Placed, placed_lexemes}
 
 -- '|' or ':', behind which a further sequence begins
@@ -20,6 +22,10 @@ points_from sequence index (w ∷ ws) =
     if is_separator w.lexeme then points_from (sequence + 1) 0 ws else
     and_point w.place sequence index (point_of w.lexeme) (λ n. points_from sequence n ws)
 
+-- those among lexemes; the name of a tag or of a rule is none, also where it looks like one
+abbrev pub points_in : List Placed → List LinePoint
+points_in ws = points_from 0 0 (without_names Nothing ws)
+
 -- those of a line, in its order
 abbrev pub line_points : List ℕ → List LinePoint
-line_points line = points_from 0 0 (placed_lexemes line)
+line_points line = points_in (placed_lexemes line)

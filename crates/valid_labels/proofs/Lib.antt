@@ -32,3 +32,9 @@ pub mod DemandLemmas
 pub mod PieceSteps
 -- Which beginnings of a label are lost, by two places.
 pub mod LostPlaces
+-- Why a label may not be asked about, step by step.
+pub mod CauseLemmas
+-- The cause that is told is the one that there is.
+pub mod CauseLawLemmas
+-- Code points that stand for themselves alone.
+pub mod PlainLemmas

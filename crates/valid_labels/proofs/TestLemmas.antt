@@ -60,7 +60,7 @@ sources-stand A Q es label are i j =
     )
 
 -- a label is cut into sources where the set has its end
-sources-agree : (asked : Option Condition → ℕ → ℕ → Bool) (A : Option Condition → ℕ → ℕ → Type 0) (Q : Entry → Type 0) (es : List Entry) (label : List ℕ) → Tells (length label) asked A → AllByRecursion IsFilled (sources_of es)
+pub sources-agree : (asked : Option Condition → ℕ → ℕ → Bool) (A : Option Condition → ℕ → ℕ → Type 0) (Q : Entry → Type 0) (es : List Entry) (label : List ℕ) → Tells (length label) asked A → AllByRecursion IsFilled (sources_of es)
     → ((e : Entry) → Contains es e ↔ Q e) → (j : ℕ) → IsTrue (has_place (cut_places asked (sources_of es) label) j) ↔ Rounds (EntryStands Q A label) 0 j
 sources-agree asked A Q es label tells filled are j =
     let t = place-tested (cut_places asked (sources_of es) label) j in
@@ -80,7 +80,7 @@ covered-agrees table points formed =
       λ h. s.1 (cut-steps (Contains table.entries) NotAsked points (c.0 h)),
     )
 
-inside-are : (table : TableValue) (e : Entry) → Contains (inside_of table.entries) e ↔ IsInside table e
+pub inside-are : (table : TableValue) (e : Entry) → Contains (inside_of table.entries) e ↔ IsInside table e
 inside-are table e =
     let f = Contains-filter (λ (x : Entry). not x.outside) table.entries e in
     (λ h. (let g = f.0 h in (g.0, mark e.outside g.1)), λ h. f.1 (h.0, ap not h.1))
@@ -89,10 +89,10 @@ inside-are table e =
     mark true h = not-true h
     mark false h = refl
 
-inside-filled : (table : TableValue) → IsWellFormed table.entries → AllByRecursion IsFilled (sources_of (inside_of table.entries))
+pub inside-filled : (table : TableValue) → IsWellFormed table.entries → AllByRecursion IsFilled (sources_of (inside_of table.entries))
 inside-filled table formed = sources-filled table.entries (inside_of table.entries) formed (λ e h. ((inside-are table e).0 h).0)
 
-holds-tells : (table : TableValue) (label : List ℕ) → Tells (length label) (holds_in table label) (HoldsIn table label)
+pub holds-tells : (table : TableValue) (label : List ℕ) → Tells (length label) (holds_in table label) (HoldsIn table label)
 holds-tells table label c i j l m = condition-agrees table.definitions.rules (seen_under table label) c i j l m
 
 pub made-agrees : (table : TableValue) (label : List ℕ) → IsWellFormed table.entries → IsTrue (is_made_of_sources table label) ↔ IsMadeOfSources table label
@@ -189,7 +189,7 @@ may-reach-agrees table label formed j = pieces-cut (may_hold_in table label) (λ
 
 -- ---- demands
 
-wanted-agrees : (kind : DemandKind) (occurring : Bool) (P : Type 0) → IsTrue occurring ↔ P → IsTrue (is_wanted kind occurring) ↔ IsWanted kind P
+pub wanted-agrees : (kind : DemandKind) (occurring : Bool) (P : Type 0) → IsTrue occurring ↔ P → IsTrue (is_wanted kind occurring) ↔ IsWanted kind P
 wanted-agrees Never occurring P e = not-false occurring P e
 wanted-agrees Always occurring P e = e
 

@@ -5,6 +5,8 @@ pub mod Validity
 pub mod Testing
 pub mod Tests
 pub mod Furthest
+pub mod Causes
+pub mod CauseLaws
 pub mod Examples
 pub mod Laws
 pub mod inner

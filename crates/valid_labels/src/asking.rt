@@ -100,7 +100,7 @@ impl<'a> Asking for UnbarredSource<'a> {
 }
 
 /// Whether a condition holds for the part of a label from `start` to `end`.
-fn holds(
+pub(crate) fn holds(
     condition: Option<Condition>,
     definitions: &Definitions,
     seen: &SeenLabel,

@@ -3,7 +3,7 @@ ghost use Rattle.std.specs.Prelude.{◌≡◌, ◌↔◌, ◌+◌, ◌≤◌, �
 ghost use Rattle.std.specs.List.{AllByRecursion, slice_range};
 ghost use Rattle.label_patterns.specs.Matches.{Rounds};
 ghost use Rattle.label_patterns.specs.Places.{Has};
-ghost use Rattle.valid_labels.specs.inner.Steps.{SequenceIs, SourceIs, StepIs};
+ghost use Rattle.valid_labels.specs.inner.Steps.{ArePlain, SequenceIs, SourceIs, StepIs};
 
 use crate::asking::Asking;
 use label_patterns::{either, has, with_place_if};
@@ -16,17 +16,55 @@ pub fn reached<A: Asking>(table: &Table, sequences: &[Vec<u32>], label: &[u32], 
     requires filled { AllByRecursion (λ v. 0 < length v.items) sequences.now }
     ensures { (j : _) → Has result j ↔ Rounds (StepIs (A.asks asking.now) table.now.entries (map (λ v. v.items) sequences.now) label.now) 0 j }
 {
+    reached_over(table, sequences, label, asking, 0)
+}
+
+/// The same, where `plain` has places of which it is known that one code point, and nothing else, stands there.
+pub fn reached_over<A: Asking>(
+    table: &Table,
+    sequences: &[Vec<u32>],
+    label: &[u32],
+    asking: &A,
+    plain: u64,
+) -> u64
+    requires short { length label.now ≤ 63 }
+    requires ready { A.can_ask asking.now (length label.now) }
+    requires filled { AllByRecursion (λ v. 0 < length v.items) sequences.now }
+    requires plain { ArePlain (StepIs (A.asks asking.now) table.now.entries (map (λ v. v.items) sequences.now) label.now) (length label.now) plain }
+    ensures { (j : _) → Has result j ↔ Rounds (StepIs (A.asks asking.now) table.now.entries (map (λ v. v.items) sequences.now) label.now) 0 j }
+{
     // The length is read for its contract alone: no source is empty.
     let _entries = table.len();
     let mut found = 1;
     for place in 0..label.len() {
         if has(found, place) {
-            let ends = source_ends(table, label, place, asking);
-            let others = sequence_ends(sequences, label, place);
-            found = either(found, either(ends, others));
+            let ends = if has(plain, place) {
+                with_place_if(0, place + 1, true)
+            } else {
+                step_ends(table, sequences, label, place, asking)
+            };
+            found = either(found, ends);
         }
     }
     found
+}
+
+/// The places where the sources end that stand at a place, if what is asked of them is so, and the sequences.
+fn step_ends<A: Asking>(
+    table: &Table,
+    sequences: &[Vec<u32>],
+    label: &[u32],
+    place: usize,
+    asking: &A,
+) -> u64
+    requires short { length label.now ≤ 63 }
+    requires place { place ≤ length label.now }
+    requires ready { A.can_ask asking.now (length label.now) }
+    ensures { (j : _) → Has result j ↔ StepIs (A.asks asking.now) table.now.entries (map (λ v. v.items) sequences.now) label.now place j }
+{
+    let ends = source_ends(table, label, place, asking);
+    let others = sequence_ends(sequences, label, place);
+    either(ends, others)
 }
 
 /// The places where the sources end that stand at a place, if what is asked of them is so.

@@ -25,7 +25,7 @@ pub fn are_kept(demands: &[Demand], seen: &SeenLabel) -> bool
 }
 
 /// Whether a label keeps a demand.
-fn is_kept(wanted: &Demand, seen: &SeenLabel) -> bool
+pub(crate) fn is_kept(wanted: &Demand, seen: &SeenLabel) -> bool
     requires { HasItsSets (length seen.now.sets) (demand wanted.now).pattern }
     ensures { IsTrue result ↔ IsKept seen.now (demand wanted.now) }
 {

@@ -1,4 +1,5 @@
 //! Laws of the definitions, each the contract of a function that does nothing.
+ghost use Rattle.valid_labels.specs.CauseLaws.{CauseIsExact};
 ghost use Rattle.valid_labels.specs.Examples.{ValidityOfExamples};
 ghost use Rattle.valid_labels.specs.Furthest.{FurthestIsTold};
 ghost use Rattle.valid_labels.specs.Laws.{AdmittedAreValid, LostForGood, NothingIsAsked, SegmentationsAgree, TestsAgree};
@@ -37,4 +38,10 @@ pub fn examples_hold()
 /// The place up to which sources reach is the one that is told.
 pub fn furthest_is_told()
     ensures { FurthestIsTold }
+{}
+
+/// The cause that is told is the one that there is, and there is one where a label is made of sources and may not be
+/// asked about.
+pub fn cause_is_exact()
+    ensures { CauseIsExact }
 {}

@@ -2,6 +2,7 @@
 #![tactic(auto)]
 
 mod asking;
+mod cause;
 mod cutting;
 mod demands;
 mod laws;
@@ -12,9 +13,10 @@ mod testing;
 mod valid;
 mod validity;
 
+pub use cause::{ValidityCause, invalid_cause};
 pub use laws::{
-    admitted_are_valid, examples_hold, furthest_is_told, lost_for_good, nothing_is_asked,
-    segmentations_agree, tests_agree,
+    admitted_are_valid, cause_is_exact, examples_hold, furthest_is_told, lost_for_good,
+    nothing_is_asked, segmentations_agree, tests_agree,
 };
 pub use pieces::Pieces;
 pub use sources::{asks_nothing, furthest, is_made_of_sources};

@@ -1,10 +1,10 @@
 //! What is found of a table once, so that its labels can be tested.
-ghost use Rattle.std.specs.Prelude.{◌≡◌, ◌↔◌, ◌<◌, ◌≤◌, ◌++◌, length, map, max, filter, not, IsTrue, IfOk, OnOk};
+ghost use Rattle.std.specs.Prelude.{[], ◌∷◌, false, ◌≡◌, ◌↔◌, ◌<◌, ◌≤◌, ◌++◌, length, map, max, filter, not, IsTrue, IfOk, OnOk};
 ghost use Rattle.std.specs.List.{AllByRecursion};
 ghost use Rattle.variant_table.specs.Entries.{sequences_in};
 ghost use Rattle.variant_table.specs.WellFormed.{IsWellFormed};
 ghost use Rattle.valid_labels.specs.Validity.{IsSound};
-ghost use Rattle.valid_labels.specs.inner.Pieces.{AreLone, IsLongest, items_of};
+ghost use Rattle.valid_labels.specs.inner.Pieces.{AreLone, IsLongest, IsPlain, NoneBegins, items_of};
 ghost use Rattle.valid_labels.specs.Tests.{is_covered as is_made};
 
 use crate::sources::is_covered;
@@ -66,6 +66,22 @@ impl<'a> Pieces<'a> {
         ensures short { result ≤ 8 }
     {
         self.longest
+    }
+
+    /// Whether it is known of a code point that it is a piece without a condition, and that no other piece begins with it.
+    pub(crate) fn is_plain(&self, point: u32) -> bool
+        ensures { IsTrue result → IsPlain self.now point }
+    {
+        // The length is read for its contract alone: no two sources are equal.
+        let _entries = self.table.len();
+        let lone: &[Vec<u32>] = &self.lone;
+        if one_begins(lone, point) {
+            return false;
+        }
+        match self.table.single(point) {
+            Some(entry) => entry.condition(0).is_none(),
+            None => false,
+        }
     }
 
     /// Reads of the table that it is sound.
@@ -137,4 +153,24 @@ fn greater(left: usize, right: usize) -> usize
     ensures { result ≡ max left right }
 {
     if left < right { right } else { left }
+}
+
+/// Whether one of these sequences begins with a code point.
+fn one_begins(sequences: &[Vec<u32>], point: u32) -> bool
+    ensures { result ≡ false → NoneBegins (items_of sequences.now) point }
+{
+    for sequence in sequences {
+        let points: &[u32] = sequence;
+        if begins(points, point) {
+            return true;
+        }
+    }
+    false
+}
+
+/// Whether a sequence begins with a code point.
+fn begins(points: &[u32], point: u32) -> bool
+    ensures { result ≡ false → NoneBegins (points.now ∷ []) point }
+{
+    points.len() > 0 && points[0] == point
 }

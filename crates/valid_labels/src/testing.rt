@@ -1,11 +1,13 @@
 //! Tests of labels under a table.
+ghost use Rattle.std.specs.Prelude.{◌≡◌, ◌≤◌, length, take};
+ghost use Rattle.valid_labels.specs.inner.Pieces.{ArePlainBelow};
 
 use crate::pieces::Pieces;
 use crate::sources::is_made_of_sources;
 use crate::valid::{is_admitted, validity};
 use crate::validity::{Admission, Validity};
 use idn_class::KeptLabel;
-use label_patterns::renew_masks;
+use label_patterns::{both, point_places, renew_masks, with_place_if};
 use std::alloc::{AllocError, Global};
 use std::marker::Model;
 
@@ -18,10 +20,14 @@ pub struct ValidityTest<'a> {
     kept: KeptLabel,
     /// For each set its places in that label.
     masks: Vec<u64>,
+    /// Places of that label at which a code point stands for itself alone.
+    plain: u64,
 }
 
 impl<'a> Model for ValidityTest<'a> {
+    ghost use Rattle.std.specs.Prelude.{length};
     ghost use Rattle.label_patterns.specs.inner.Masks.{AreMasks};
+    ghost use Rattle.valid_labels.specs.inner.Pieces.{ArePlainBelow};
     ghost use Rattle.valid_labels.specs.Testing.{Testing, testing_code};
 
     ghost Value = { Testing };
@@ -30,7 +36,7 @@ impl<'a> Model for ValidityTest<'a> {
 
     ghost view = { λ t. record { table = t.pieces.now; kept = t.kept } };
 
-    ghost invariant = { λ t. AreMasks t.pieces.now.definitions.sets t.kept t.masks.items };
+    ghost invariant = { λ t. AreMasks t.pieces.now.definitions.sets t.kept t.masks.items × ArePlainBelow (length t.kept) t.pieces.now t.kept t.plain };
 }
 
 impl<'a> ValidityTest<'a> {
@@ -51,6 +57,7 @@ impl<'a> ValidityTest<'a> {
             pieces,
             kept: KeptLabel::new(),
             masks,
+            plain: 0,
         })
     }
 
@@ -90,7 +97,7 @@ impl<'a> ValidityTest<'a> {
         self.see(label, shared);
         let sets = self.pieces.table().definitions().sets();
         let masks: &[u64] = &self.masks;
-        validity(self.pieces, sets, label, masks)
+        validity(self.pieces, sets, label, masks, self.plain)
     }
 
     /// Keeps nothing of the label that was tested last.
@@ -110,11 +117,35 @@ impl<'a> ValidityTest<'a> {
         ensures same_table { self.new.table ≡ self.old.table }
     {
         let shared = shared.min(label.len()).min(self.kept.len());
+        let plain = plain_places(self.pieces, &self.kept, self.plain, label, shared);
         self.kept.keep(shared);
         for place in shared..label.len() {
             self.kept.push(label[place]);
         }
+        self.plain = plain;
         let sets = self.pieces.table().definitions().sets();
         renew_masks(sets, label, shared, &mut self.masks);
     }
+}
+
+/// Places of a label at which a code point stands for itself alone, where `plain` has such places of one that begins with
+/// the same `shared` code points.
+fn plain_places(
+    pieces: &Pieces<'_>,
+    kept: &KeptLabel,
+    plain: u64,
+    label: &[u32],
+    shared: usize,
+) -> u64
+    requires short { length label.now ≤ 63 }
+    requires shared { shared ≤ length label.now }
+    requires same { take shared kept.now ≡ take shared label.now }
+    requires plain { ArePlainBelow (length kept.now) pieces.now kept.now plain }
+    ensures { ArePlainBelow (length label.now) pieces.now label.now result }
+{
+    let mut found = both(plain, point_places(shared));
+    for place in shared..label.len() {
+        found = with_place_if(found, place, pieces.is_plain(label[place]));
+    }
+    found
 }

@@ -14,7 +14,7 @@ use Rattle.valid_labels.specs.Segmentations.{seen_under}
 use Rattle.variant_list.specs.declared.part.Part.{Part}
 use Rattle.variant_list.specs.declared.part.Part.TheVariants.{Whole}
 use Rattle.variant_list.specs.Parts.{marked, part_has}
-use Rattle.variant_list.specs.Uses.{use_of, holds_for, may_replace, uses_of_entry}
+use Rattle.variant_list.specs.Uses.{use_of, holds_for, may_stand, may_replace, uses_of_entry}
 use Rattle.variant_list.proofs.ListMembers.{Contains-head, Contains-later, Contains-cases}
 use Rattle.variant_list.proofs.PartLemmas.{mapped-at, mapped-same}
 
@@ -106,3 +106,13 @@ uses-free table label place e free =
       | inl same ↦ ap (λ (w : Variant). holds_for table label place e w.condition) (sym same)
       | inr later ↦ ap (holds_for table label place e) (All-contains (λ (r : Variant). r.condition ≡ None) (whole e) v free (Contains-later (source_of e) e.variants v later))
     ]
+
+-- an entry without conditions may stand anywhere, unless it is outside
+pub stands-free : (table : TableValue) (label : List ℕ) (place : ℕ) (e : Entry) → All (λ (r : Variant). r.condition ≡ None) (whole e) → may_stand table label place e ≡ not e.outside
+stands-free table label place e free =
+    let none : e.condition ≡ None = All-contains (λ (r : Variant). r.condition ≡ None) (whole e) (source_of e) free (Contains-head (source_of e) e.variants) in
+    ap (λ c. not e.outside && holds_for table label place e c) none ∙ and-true (not e.outside)
+  where
+    and-true : (b : Bool) → (b && true) ≡ b
+    and-true true = refl
+    and-true false = refl

@@ -1,7 +1,8 @@
 //! The uses of a label under a part of a table, and the net that is laid out from them.
-ghost use Rattle.std.specs.Prelude.{◌≡◌, ◌+◌, ◌<◌, ◌≤◌, map, length, slice_get, Some, All, Contains, IfOk, OnOk};
+ghost use Rattle.std.specs.Prelude.{◌≡◌, ◌+◌, ◌<◌, ◌≤◌, map, length, slice_get, None, Some, All, Contains, IfOk, OnOk};
 ghost use Rattle.variant_table.specs.Entries.{replacements, whole};
 ghost use Rattle.variant_table.specs.WellFormed.{IsSequence, IsWellFormed};
+ghost use Rattle.variant_list.specs.declared.part.Part.TheVariants.{Whole};
 ghost use Rattle.variant_list.specs.Parts.{are_of, marked, part_has};
 ghost use Rattle.variant_list.specs.Uses.{holds_for, may_stand, may_replace, use_of, uses_of_entry, uses_at, uses_of};
 ghost use Rattle.variant_list.specs.inner.Asking.{CanAsk};
@@ -89,6 +90,10 @@ impl<'a> Uses<'a> {
         requires count { place + length draft.old.places ≡ length self.now.label.now }
         ensures { OnOk result (HasTaken draft.old (uses_at self.now.part self.now.table.now self.now.label.now place) draft.new) }
     {
+        // Of a whole table without conditions nothing is asked.
+        if self.seen.is_none() && matches!(self.part, Part::Whole) {
+            return add_all_at(draft, self.table, self.label, place);
+        }
         for entry in self.table.entries_at(self.label, place) {
             if self.may_stand(&entry, place) {
                 self.add_entry(draft, &entry, place)?;
@@ -124,10 +129,6 @@ impl<'a> Uses<'a> {
         requires room { length entry.now.source ≤ length draft.old.places }
         ensures { OnOk result (HasTaken draft.old (uses_of_entry self.now.part self.now.table.now self.now.label.now place entry.now) draft.new) }
     {
-        // Of a whole table without conditions no replacement is asked about.
-        if self.seen.is_none() && matches!(self.part, Part::Whole) {
-            return add_all(draft, entry);
-        }
         let covers = entry.source().len();
         for number in 0..entry.replacements() {
             if self.may_replace(entry, number, place) {
@@ -165,6 +166,27 @@ impl<'a> Uses<'a> {
         let end = place + entry.source().len();
         condition_holds(entry.condition(number), rules, seen, place, end)
     }
+}
+
+/// Adds the uses of a table without conditions that begin at a place of the label.
+fn add_all_at(
+    draft: &mut NetDraft,
+    table: &Table,
+    label: &[u32],
+    place: usize,
+) -> Result<(), AllocError>
+    requires free { CanAsk table.now label.now None }
+    requires sound { IsSound draft.old }
+    requires place { place < length label.now }
+    requires count { place + length draft.old.places ≡ length label.now }
+    ensures { OnOk result (HasTaken draft.old (uses_at Whole table.now label.now place) draft.new) }
+{
+    for entry in table.entries_at(label, place) {
+        if !entry.is_outside() {
+            add_all(draft, &entry)?;
+        }
+    }
+    Ok(())
 }
 
 /// Adds a use for each replacement of an entry.

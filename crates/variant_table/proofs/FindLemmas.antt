@@ -1,13 +1,16 @@
--- The first of a list that a test is true of, and the first sequence that stands again.
+-- The first of a list that a test is true of, and the first source or variant that stands again.
 use Rattle.std.proofs.Common.{◌≡◌, ℕ, zero, suc, min, ◌+◌, ◌-◌, ◌<◌, ◌≤◌, Bool, true, false, ◌||◌, not, cond, eqb, List, [], ◌∷◌, ◌++◌, length, take, drop, get_or, Some, None, refl, sym, ap, ◌∙◌, arith}
-use Rattle.std.specs.Prelude.{find, bytes_eq, slice_get}
-use Rattle.std.specs.List.{list_any, range_with_len}
+use Rattle.std.specs.Prelude.{find, slice_get, ◌==◌}
+use Rattle.std.specs.List.{range_with_len}
+use Rattle.std.proofs.lemmas.Bool.Decides.{nat_tests}
 use Rattle.std.proofs.lemmas.List.{take_more, length-take}
 use Rattle.ruleset_text.specs.declared.entry_form.Mapped.{Mapped}
+use Rattle.ruleset_text.specs.Entries.{Mapped as Form}
+use Rattle.ruleset_text.specs.EntryForms.{mapped as form_of}
 use Rattle.ruleset_text.specs.Lexemes.{is_blank}
 use Rattle.ruleset_text.proofs.LexemeLemmas.{first_place, is_blank-first}
-use Rattle.variant_table.specs.FaultPlaces.{begins_in_percent, first_again}
-use Rattle.variant_table.specs.inner.PlaceSteps.{sequences_of}
+use Rattle.variant_table.specs.FaultPlaces.{begins_in_percent, first_again, is_again, stands_in}
+use Rattle.variant_table.specs.inner.PlaceSteps.{forms_of}
 use Rattle.variant_table.proofs.ListLemmas.{drop_item, drop_all}
 
 module _ {X : Type 0} (p : X → Bool) (xs : List X) (i : ℕ) where
@@ -52,61 +55,74 @@ get_same [] i a b l = absurd (omega (arith, l))
 get_same (x ∷ xs) zero a b l = refl
 get_same (x ∷ xs) (suc i) a b l = get_same xs i a b (omega (arith, l))
 
-module _ (xs : List (List ℕ)) (i : ℕ) where
-  again_step : i < length xs → (b : Bool) → list_any (λ r. bytes_eq r (get_or xs i [])) (take i xs) ≡ b
+module _ (xs : List Form) (i : ℕ) where
+  again_step : (d : Form) → i < length xs → (b : Bool) → stands_in true (take i xs) (get_or xs i d) ≡ b
       → first_again (take i xs) (drop i xs) ≡ cond b (Some (length (take i xs))) (first_again (take (i + 1) xs) (drop (i + 1) xs))
-  again_step l b t =
-      let s : List ℕ = get_or xs i [] in
-      let is : s ≡ get_or xs i s = get_same xs i [] s l in
-      ap (first_again (take i xs)) (drop_item xs i s l is)
-      ∙ ap (λ c. cond c (Some (length (take i xs))) (first_again (take i xs ++ s ∷ []) (drop (i + 1) xs))) t
-      ∙ ap (λ before. cond b (Some (length (take i xs))) (first_again before (drop (i + 1) xs))) (sym (take_more xs i s l ∙ ap (λ y. take i xs ++ y ∷ []) (sym is)))
+  again_step d l b t =
+      let m : Form = get_or xs i d in
+      let is : m ≡ get_or xs i m = get_same xs i d m l in
+      ap (first_again (take i xs)) (drop_item xs i m l is)
+      ∙ ap (λ c. cond c (Some (length (take i xs))) (first_again (take i xs ++ m ∷ []) (drop (i + 1) xs))) t
+      ∙ ap (λ before. cond b (Some (length (take i xs))) (first_again before (drop (i + 1) xs))) (sym (take_more xs i m l ∙ ap (λ y. take i xs ++ y ∷ []) (sym is)))
 
-  pub again_here : i < length xs → list_any (λ r. bytes_eq r (get_or xs i [])) (take i xs) ≡ true → first_again (take i xs) (drop i xs) ≡ first_again [] xs → Some i ≡ first_again [] xs
-  again_here l t inv = ap (λ n. Some n) (sym (length-take i xs ∙ min-l l)) ∙ sym (again_step l true t) ∙ inv
+  pub again_here : (d : Form) → i < length xs → stands_in true (take i xs) (get_or xs i d) ≡ true → first_again (take i xs) (drop i xs) ≡ first_again [] xs → Some i ≡ first_again [] xs
+  again_here d l t inv = ap (λ n. Some n) (sym (length-take i xs ∙ min-l l)) ∙ sym (again_step d l true t) ∙ inv
     where
       min-l : i < length xs → min i (length xs) ≡ i
       min-l l = omega (arith, l)
 
-  pub again_later : i < length xs → list_any (λ r. bytes_eq r (get_or xs i [])) (take i xs) ≡ false → first_again (take i xs) (drop i xs) ≡ first_again [] xs → first_again (take (i + 1) xs) (drop (i + 1) xs) ≡ first_again [] xs
-  again_later l t inv = sym (again_step l false t) ∙ inv
+  pub again_later : (d : Form) → i < length xs → stands_in true (take i xs) (get_or xs i d) ≡ false → first_again (take i xs) (drop i xs) ≡ first_again [] xs → first_again (take (i + 1) xs) (drop (i + 1) xs) ≡ first_again [] xs
+  again_later d l t inv = sym (again_step d l false t) ∙ inv
 
   pub again_none : length xs ≤ i → first_again (take i xs) (drop i xs) ≡ first_again [] xs → None ≡ first_again [] xs
   again_none l inv = sym (ap (first_again (take i xs)) (drop_all xs i l)) ∙ inv
 
--- ---- the sequences of a form
+-- ---- a source and its variants in memory
 
-pub length-sequences : (xs : List Mapped) → length (sequences_of xs) ≡ length xs
-length-sequences [] = refl
-length-sequences (x ∷ xs) = ap suc (length-sequences xs)
+pub length-forms : (xs : List Mapped) → length (forms_of xs) ≡ length xs
+length-forms [] = refl
+length-forms (x ∷ xs) = ap suc (length-forms xs)
 
-pub take-sequences : (n : ℕ) (xs : List Mapped) → sequences_of (take n xs) ≡ take n (sequences_of xs)
-take-sequences zero xs = refl
-take-sequences (suc n) [] = refl
-take-sequences (suc n) (x ∷ xs) = ap (λ l. x.points.items ∷ l) (take-sequences n xs)
+pub take-forms : (n : ℕ) (xs : List Mapped) → forms_of (take n xs) ≡ take n (forms_of xs)
+take-forms zero xs = refl
+take-forms (suc n) [] = refl
+take-forms (suc n) (x ∷ xs) = ap (λ l. form_of x ∷ l) (take-forms n xs)
 
-pub sequence_at : (xs : List Mapped) (i : ℕ) (x : Mapped) (s : List ℕ) → i < length xs → x ≡ get_or xs i x → get_or (sequences_of xs) i s ≡ x.points.items
-sequence_at [] i x s l e = absurd (omega (arith, l))
-sequence_at (y ∷ xs) zero x s l e = ap (λ m. m.points.items) (sym e)
-sequence_at (y ∷ xs) (suc i) x s l e = sequence_at xs i x s (omega (arith, l)) e
+pub form_at : (xs : List Mapped) (i : ℕ) (x : Mapped) (d : Form) → i < length xs → x ≡ get_or xs i x → get_or (forms_of xs) i d ≡ form_of x
+form_at [] i x d l e = absurd (omega (arith, l))
+form_at (y ∷ xs) zero x d l e = ap form_of (sym e)
+form_at (y ∷ xs) (suc i) x d l e = form_at xs i x d (omega (arith, l)) e
 
--- some of a list, one after another
-module _ (test : List ℕ → Bool) (xs : List Mapped) (i : ℕ) where
-  any_step : (x : Mapped) → i < length xs → x ≡ get_or xs i x → (b : Bool) → test x.points.items ≡ b → list_any test (drop i (sequences_of xs)) ≡ (b || list_any test (drop (i + 1) (sequences_of xs)))
-  any_step x l e b t =
-      let ss = sequences_of xs in
-      let within : i < length ss = omega (arith, l, length-sequences xs) in
-      ap (list_any test) (drop_item ss i x.points.items within (sym (sequence_at xs i x x.points.items l e))) ∙ ap (λ c. c || list_any test (drop (i + 1) ss)) t
+-- whether it stands before, one after another
+next_some : (i : ℕ) → (i + 1 == 0) ≡ false
+next_some i = grind (arith, nat_tests)
 
-  pub any_here : (x : Mapped) → i < length xs → x ≡ get_or xs i x → test x.points.items ≡ true → list_any test (drop i (sequences_of xs)) ≡ list_any test (sequences_of xs) → true ≡ list_any test (sequences_of xs)
-  any_here x l e t inv = sym (any_step x l e true t) ∙ inv
+get_taken : {X : Type 0} (xs : List X) (n i : ℕ) (d : X) → i < n → get_or (take n xs) i d ≡ get_or xs i d
+get_taken xs zero i d l = absurd (omega (arith, l))
+get_taken [] (suc n) i d l = refl
+get_taken (x ∷ xs) (suc n) zero d l = refl
+get_taken (x ∷ xs) (suc n) (suc i) d l = get_taken xs n i d (omega (arith, l))
 
-  pub any_later : (x : Mapped) → i < length xs → x ≡ get_or xs i x → test x.points.items ≡ false → list_any test (drop i (sequences_of xs)) ≡ list_any test (sequences_of xs)
-      → list_any test (drop (i + 1) (sequences_of xs)) ≡ list_any test (sequences_of xs)
-  any_later x l e t inv = sym (any_step x l e false t) ∙ inv
+module _ (xs : List Mapped) (n i : ℕ) (m : Form) where
+  abbrev before : List Form
+  before = take n (forms_of xs)
 
-  pub any_none : length xs ≤ i → list_any test (drop i (sequences_of xs)) ≡ list_any test (sequences_of xs) → false ≡ list_any test (sequences_of xs)
-  any_none l inv = sym (ap (list_any test) (drop_all (sequences_of xs) i (omega (arith, l, length-sequences xs)))) ∙ inv
+  stands_step : (x : Mapped) → i < n → n ≤ length xs → x ≡ get_or xs i x → (b : Bool) → is_again (i == 0) (form_of x) m ≡ b → stands_in (i == 0) (drop i before) m ≡ (b || stands_in (i + 1 == 0) (drop (i + 1) before) m)
+  stands_step x l upto e b t =
+      let within : i < length before = omega (arith, l, upto, length-take n (forms_of xs), length-forms xs) in
+      let at : form_of x ≡ get_or before i (form_of x) = sym (get_taken (forms_of xs) n i (form_of x) l ∙ form_at xs i x (form_of x) (omega (arith, l, upto)) e) in
+      ap (λ ys. stands_in (i == 0) ys m) (drop_item before i (form_of x) within at)
+      ∙ ap (λ c. c || stands_in false (drop (i + 1) before) m) t ∙ ap (λ c. b || stands_in c (drop (i + 1) before) m) (sym (next_some i))
+
+  pub stands_here : (x : Mapped) → i < n → n ≤ length xs → x ≡ get_or xs i x → is_again (i == 0) (form_of x) m ≡ true → stands_in (i == 0) (drop i before) m ≡ stands_in true before m → true ≡ stands_in true before m
+  stands_here x l upto e t inv = sym (stands_step x l upto e true t) ∙ inv
+
+  pub stands_later : (x : Mapped) → i < n → n ≤ length xs → x ≡ get_or xs i x → is_again (i == 0) (form_of x) m ≡ false → stands_in (i == 0) (drop i before) m ≡ stands_in true before m
+      → stands_in (i + 1 == 0) (drop (i + 1) before) m ≡ stands_in true before m
+  stands_later x l upto e t inv = sym (stands_step x l upto e false t) ∙ inv
+
+  pub stands_none : n ≤ i → stands_in (i == 0) (drop i before) m ≡ stands_in true before m → false ≡ stands_in true before m
+  stands_none l inv = sym (ap (λ ys. stands_in (i == 0) ys m) (drop_all before i (omega (arith, l, length-take n (forms_of xs))))) ∙ inv
 
 -- ---- a line that begins with '%'
 

@@ -66,3 +66,5 @@ pub mod DefiningLemmas
 pub mod FindLemmas
 -- The places that are told are those that are defined.
 pub mod PlaceLawLemmas
+-- What the lines before a faulty line define.
+mod PlaceNameLemmas

@@ -1,5 +1,5 @@
 -- Variants of an entry that stand again, and those that are apart.
-use Rattle.std.proofs.Common.{◌≡◌, ℕ, zero, suc, ◌+◌, ◌<◌, Bool, true, false, not, ◌&&◌, ◌||◌, eqb, List, [], ◌∷◌, length, map, drop, get_or, Some, None, Option, refl, sym, ap, ◌∙◌, arith, eq-eqb}
+use Rattle.std.proofs.Common.{◌≡◌, ℕ, zero, suc, ◌+◌, ◌<◌, ◌≤◌, Bool, true, false, not, ◌&&◌, ◌||◌, eqb, List, [], ◌∷◌, length, map, drop, get_or, Some, None, Option, refl, sym, ap, ◌∙◌, arith, eq-eqb, length-drop}
 use Rattle.std.specs.Prelude.{bytes_eq, slice_get}
 use Rattle.std.specs.List.{AllByRecursion, All, AllPairs, Contains, list_any}
 use Rattle.std.proofs.lemmas.Bool.{and_parts, or_parts, or_from, not-false, eqb-true}
@@ -115,6 +115,15 @@ pub again_then : (vs : List Variant) (i : ℕ) (s wanted : List ℕ) (c d : Opti
 again_then vs i s wanted c d e f g =
     let at = variant_asked vs i s c e f in
     (at.0, at.1, sym (ap (λ b. b && not (differ d (at.0).condition)) (ap (bytes_eq wanted) at.2 ∙ g) ∙ ap (λ x. not (differ d x)) at.3))
+
+-- the last one stands again nowhere
+alone : (vs : List Variant) → length vs ≤ 1 → repeats vs ≡ false
+alone [] l = refl
+alone (v ∷ []) l = refl
+alone (v ∷ w ∷ vs) l = absurd (omega (arith, l))
+
+pub repeats_last : (vs : List Variant) (i : ℕ) → length vs ≤ i + 1 → repeats (drop i vs) ≡ false
+repeats_last vs i l = alone (drop i vs) (omega (arith, l, length-drop i vs))
 
 -- ---- an entry by its sequences
 

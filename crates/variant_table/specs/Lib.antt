@@ -10,8 +10,10 @@ pub mod Conditions
 pub mod DefinitionLines
 pub mod Texts
 pub mod Places
+pub mod Singles
 pub mod Reading
 pub mod Faults
+pub mod DefinitionPlaces
 pub mod FaultPlaces
 pub mod ToldPlaces
 pub mod PlaceExamples

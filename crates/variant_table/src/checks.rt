@@ -78,7 +78,8 @@ pub fn has_repeat(sequences: &Sequences) -> bool
     if occurs_from(sequences, 1, sequences.get(0), None) {
         return true;
     }
-    for index in 1..sequences.len() {
+    // Behind the last one there is nothing.
+    for index in 1..sequences.len() - 1 {
         if occurs_from(
             sequences,
             index + 1,
@@ -92,6 +93,8 @@ pub fn has_repeat(sequences: &Sequences) -> bool
 }
 
 /// Whether a sequence with this condition occurs again at the number `start` or after it.
+// It is asked for each entry, so it stands in line.
+#[inline(always)]
 fn occurs_from(
     sequences: &Sequences,
     start: usize,

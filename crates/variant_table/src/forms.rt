@@ -75,6 +75,7 @@ fn begins_marked(mapped: &[Mapped]) -> bool
 
 /// Takes the sequences of a source and its variants, in place of what was in `sequences`, and tells whether each tag and
 /// each rule that they name is defined. If one isn't, some sequences may be missing.
+#[inline(always)]
 pub fn take_sequences(
     sequences: &mut Sequences,
     definitions: &Definitions,
@@ -94,6 +95,8 @@ pub fn take_sequences(
 }
 
 /// Adds the sequence of a source or a variant, if each tag and the rule that it names are defined.
+// It is called for each sequence that is read, so it stands in line, with all that it calls.
+#[inline(always)]
 fn take_sequence(
     sequences: &mut Sequences,
     definitions: &Definitions,
@@ -114,6 +117,7 @@ fn take_sequence(
 }
 
 /// The numbers of tags, if they are defined.
+#[inline(always)]
 fn look_up_tags(definitions: &Definitions, tags: &[Name]) -> Option<Tags>
     requires { AreNames tags.now }
     ensures { MatchOption result (list_all (is_one_of definitions.now.tags) tags.now ≡ false)
@@ -132,6 +136,7 @@ fn look_up_tags(definitions: &Definitions, tags: &[Name]) -> Option<Tags>
 }
 
 /// The condition with the number of its rule, if the rule is defined.
+#[inline(always)]
 fn look_up_condition(
     definitions: &Definitions,
     condition: &Option<NamedCondition>,

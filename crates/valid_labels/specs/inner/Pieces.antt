@@ -1,9 +1,11 @@
 -- What is kept of the pieces of a table.
-use Rattle.std.specs.Prelude.{◌≡◌, ◌⊎◌, ◌↔◌, ℕ, ◌<◌, ◌≤◌, List, length, map, Option, Contains, Vec}
+use Rattle.std.specs.Prelude.{◌≡◌, ◌⊎◌, ◌↔◌, ℕ, ◌<◌, ◌≤◌, List, [], ◌∷◌, length, map, Option, None, Contains, slice_index, Vec}
 use Rattle.std.specs.Global.{Global}
 use Rattle.std.specs.List.{AllByRecursion}
 use Rattle.label_patterns.specs.declared.condition.Condition.{Condition}
+use Rattle.label_patterns.specs.Places.{Has}
 use Rattle.variant_table.specs.Entries.{TableValue}
+use Rattle.variant_table.specs.WellFormed.{IsWellFormed}
 use Rattle.valid_labels.specs.Pieces.{IsCovered, IsPiece, IsVariant}
 
 -- the code points of sequences in memory
@@ -25,3 +27,17 @@ pub record ArePieces (table : TableValue) (sequences : List (Vec ℕ Global)) (m
   pub filled : AllByRecursion (λ v. 0 < length v.items) sequences
   pub longest : IsLongest table most
   pub short : most ≤ 8
+
+-- a code point is a piece without a condition, and no other piece begins with it
+pub record IsPlain (table : TableValue) (point : ℕ) : Type 0 where
+  pub formed : IsWellFormed table.entries
+  pub piece : IsPiece table (point ∷ []) None
+  pub alone : (rest : List ℕ) (c : Option Condition) → IsPiece table (point ∷ rest) c → rest ≡ []
+
+-- of the first n code points of a label those at these places are plain
+abbrev pub ArePlainBelow : ℕ → TableValue → List ℕ → ℕ → Type 0
+ArePlainBelow n table label places = (p : ℕ) → Has places p → (p < n) × IsPlain table (slice_index label p)
+
+-- none of the sequences begins with the code point
+abbrev pub NoneBegins : List (List ℕ) → ℕ → Type 0
+NoneBegins sequences point = (rest : List ℕ) → Contains sequences (point ∷ rest) → ⊥

@@ -1,6 +1,7 @@
 -- Steps from place to place of a label: sources that stand there and of which something is asked, and lone variants.
-use Rattle.std.specs.Prelude.{◌≡◌, ◌⊎◌, ℕ, ◌≤◌, List, length, Contains}
+use Rattle.std.specs.Prelude.{◌≡◌, ◌⊎◌, ◌↔◌, ℕ, ◌+◌, ◌<◌, ◌≤◌, List, length, Contains}
 use Rattle.std.specs.List.{slice_range}
+use Rattle.label_patterns.specs.Places.{Has}
 use Rattle.variant_table.specs.Entries.{Entry}
 
 -- a source stands from i to j, and what is asked of its entry is so
@@ -14,3 +15,7 @@ SequenceIs sequences label i j = (i ≤ j) × (j ≤ length label) × Contains s
 -- one or the other
 abbrev pub StepIs : (Entry → ℕ → ℕ → Type 0) → List Entry → List (List ℕ) → List ℕ → ℕ → ℕ → Type 0
 StepIs asks entries sequences label i j = SourceIs asks entries label i j ⊎ SequenceIs sequences label i j
+
+-- from each of these places, which are in a label of n code points, one code point leads on, and nothing else
+abbrev pub ArePlain : (ℕ → ℕ → Type 0) → ℕ → ℕ → Type 0
+ArePlain R n places = (i : ℕ) → Has places i → (i < n) × ((j : ℕ) → R i j ↔ (j ≡ i + 1))

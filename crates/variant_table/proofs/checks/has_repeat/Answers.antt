@@ -1,9 +1,8 @@
 use Rattle.std.proofs.Common.{◌≡◌, ◌∙◌, ◌+◌, ◌≤◌, ◌||◌, sym, ap, true, drop, length, arith, refl}
 use Rattle.std.specs.List.{list_any}
-use Rattle.std.proofs.lemmas.List.{at_drop_all}
 use Rattle.variant_table.specs.Conditions.{is_again, repeats}
 use Rattle.variant_table.proofs.EntryLemmas.{variant_asked}
-use Rattle.variant_table.proofs.RepeatLemmas.{repeats_here, repeats_later, repeat_of}
+use Rattle.variant_table.proofs.RepeatLemmas.{repeats_here, repeats_last, repeats_later, repeat_of}
 use Rattle.variant_table.proofs.checks.has_repeat.Goals as goal
 
 pub loop-index-init : goal.loop-index-init
@@ -36,6 +35,6 @@ loop-index-preserved c =
 pub returns : goal.returns
 returns c =
     let ss = c.args.sequences.now in
-    let over : length ss ≤ c.loop-index.index = omega (arith, c.loop-index-test.false, c.len-index-end.ensures) in
+    let over : length ss ≤ c.loop-index.index + 1 = omega (arith, c.loop-index-test.false, c.len-index-end.ensures) in
     sym (repeat_of ss c.get.result.now c.requires c.get.ensures ∙ ap (λ b. b || repeats (drop 1 ss)) (sym c.occurs_from.ensures ∙ c.if-occurs_from.false)
-    ∙ sym c.loop-index.invariant ∙ at_drop_all repeats ss c.loop-index.index over)
+    ∙ sym c.loop-index.invariant ∙ repeats_last ss c.loop-index.index over)

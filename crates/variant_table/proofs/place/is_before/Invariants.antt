@@ -1,9 +1,12 @@
-use Rattle.std.proofs.Common.{◌≡◌, take, drop}
-use Rattle.std.specs.Prelude.{bytes_eq}
-use Rattle.std.specs.List.{list_any}
-use Rattle.variant_table.specs.inner.PlaceSteps.{sequences_of}
+use Rattle.std.proofs.Common.{◌≡◌, true, take, drop}
+use Rattle.std.specs.Prelude.{◌==◌, slice_index_or}
+use Rattle.ruleset_text.specs.Entries.{Mapped as Form}
+use Rattle.variant_table.specs.FaultPlaces.{stands_in}
+use Rattle.variant_table.specs.inner.PlaceSteps.{forms_of}
 use Rattle.variant_table.proofs.place.is_before.Given as goal
 
 -- what is left decides
-abbrev pub invariant-loop-m : goal.invariant-loop-m
-invariant-loop-m l = list_any (λ r. bytes_eq r l.sequence) (drop l.m-index (sequences_of (take l.number l.mapped))) ≡ list_any (λ r. bytes_eq r l.sequence) (sequences_of (take l.number l.mapped))
+abbrev pub invariant-loop-other : goal.invariant-loop-other
+invariant-loop-other l =
+    (d : Form) → stands_in (l.other == 0) (drop l.other (take l.number (forms_of l.mapped))) (slice_index_or (forms_of l.mapped) l.number d)
+    ≡ stands_in true (take l.number (forms_of l.mapped)) (slice_index_or (forms_of l.mapped) l.number d)

@@ -1,4 +1,6 @@
-use Rattle.std.proofs.Common.{◌≡◌, ℕ, ◌+◌, ◌≤◌, Bool, true, false, List, ◌∷◌, length, sym, ap, subst, ◌∙◌, arith}
+use Rattle.std.proofs.Common.{◌≡◌, ℕ, ◌+◌, ◌≤◌, Bool, true, false, List, ◌∷◌, length, refl, sym, ap, subst, ◌∙◌, arith}
+use Rattle.std.specs.Prelude.{Option, None, Some, not, OnOk}
+use Rattle.std.specs.Option.{is_some}
 use Rattle.std.specs.List.{Contains, filter, flat_map}
 use Rattle.std.proofs.lemmas.List.Elements.{All-contains}
 use Rattle.variant_table.specs.Entries.{Entry, TableValue}
@@ -6,10 +8,12 @@ use Rattle.variant_table.specs.Places.{entries_at}
 use Rattle.variant_table.specs.WellFormed.{IsEntry, IsWellFormed}
 use Rattle.variant_table.proofs.BeginningLemmas.{entries_are_at}
 use Rattle.variant_list.specs.declared.part.Part.{Part}
+use Rattle.variant_list.specs.inner.Asking.{CanAsk}
 use Rattle.variant_list.specs.inner.Layouts.{Draft, HasTaken}
-use Rattle.variant_list.specs.Uses.{Use, may_stand, uses_of_entry}
+use Rattle.variant_list.specs.Uses.{Use, may_stand, uses_of_entry, uses_at}
 use Rattle.variant_list.proofs.TakenUses.{HasEntries, HasEntries-more, HasEntries-skip, HasEntries-next, HasEntries-all}
 use Rattle.variant_list.proofs.UsesLemmas.{IsWithin-at}
+use Rattle.variant_list.proofs.uses.Uses.add_at.Goals.{in-Whole, in_default}
 use Rattle.variant_list.proofs.uses.Uses.add_at.Goals as goal
 
 -- an entry at the place
@@ -24,6 +28,23 @@ next part table label place all given left e rest old new formed same listed h s
     let m = HasEntries-next (may_stand table label place) (uses_of_entry part table label place) all left e rest old new h steps in
     let at : Contains (entries_at table.entries label place) e = subst (λ es. Contains es e) (same ∙ listed) m in
     record { in_table = (((entries_are_at table.entries label place formed).members e).0 at).0; within = (IsWithin-at table label place e formed at).1 }
+
+none_of : {X : Type 0} (o : Option X) → is_some o ≡ false → o ≡ None
+none_of None is = refl
+none_of (Some x) is = absurd (let clash : true ≡ false = is in cc)
+
+pub add_all_at-requires-clause-free : goal.add_all_at-requires-clause-free
+add_all_at-requires-clause-free c =
+    subst (CanAsk c.args.self.now.table.now c.args.self.now.label.now) (none_of c.args.self.now.seen (c.is_none.ensures ∙ ap not c.if-is_none.true)) c.requires.asked
+
+pub returns-then-matches : goal.returns-then-matches
+returns-then-matches c =
+    let table : TableValue = c.args.self.now.table.now in
+    let label : List ℕ = c.args.self.now.label.now in
+    elim c.match-matches.branch [
+      | in-Whole w ↦ subst (λ (part : Part). OnOk c.add_all_at.result (HasTaken c.args.draft.now (uses_at part table label c.args.place) c.add_all_at.new.draft)) (sym w.in-Whole.is) c.add_all_at.ensures
+      | in_default w ↦ absurd (let clash : false ≡ true = sym w.matches-is ∙ c.if-matches.true in cc)
+    ]
 
 pub may_stand-requires-clause-in_table : goal.may_stand-requires-clause-in_table
 may_stand-requires-clause-in_table c =

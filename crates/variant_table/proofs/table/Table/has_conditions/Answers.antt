@@ -14,8 +14,10 @@ without_rules d (Some c) none has = absurd (omega (arith, none, has))
 pub returns : goal.returns
 returns c =
     let t : IsTable c.args.self.now = subst IsTable c.self.view_is c.self.invariant in
-    record { none = λ no k d l i r m.
-        let empty : length c.rule_names.result.now ≡ 0 = eqb-true (length c.rule_names.result.now) 0 (sym c.is_empty.ensures ∙ not-false c.is_empty.result no) in
-        let rules : length c.args.self.now.definitions.rule_names ≡ 0 =
-            ap (λ (v : TableValue). length v.definitions.rule_names) (sym c.self.view_is) ∙ ap length (sym c.rule_names.ensures.is) ∙ empty in
-        without_rules c.args.self.now.definitions _ rules (t.named k d l i r m).condition }
+    record {
+      none = λ no k d l i r m.
+          let empty : length c.rule_names.result.now ≡ 0 = eqb-true (length c.rule_names.result.now) 0 (sym c.is_empty.ensures ∙ not-false c.is_empty.result no) in
+          let rules : length c.args.self.now.definitions.rule_names ≡ 0 =
+          ap (λ (v : TableValue). length v.definitions.rule_names) (sym c.self.view_is) ∙ ap length (sym c.rule_names.ensures.is) ∙ empty in
+          without_rules c.args.self.now.definitions _ rules (t.named k d l i r m).condition;
+    }

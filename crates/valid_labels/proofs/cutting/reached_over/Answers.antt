@@ -1,9 +1,11 @@
 use Rattle.std.proofs.Common.{◌≡◌, ℕ, ◌+◌, true, false, sym, subst, ◌∙◌, arith}
+use Rattle.std.specs.Prelude.{◌↔◌}
+use Rattle.label_patterns.specs.Places.{Has}
 use Rattle.valid_labels.specs.inner.Steps.{StepIs}
 use Rattle.valid_labels.proofs.ReachedLemmas.{IsFound, found-start, found-more, found-same, found-all}
-use Rattle.valid_labels.proofs.StepLemmas.{items_of, steps-on, steps-inside, step-ends}
-use Rattle.valid_labels.proofs.cutting.reached.Goals as goal
-use Rattle.valid_labels.proofs.cutting.reached.Goals.{then-has, else-has}
+use Rattle.valid_labels.proofs.StepLemmas.{items_of, steps-on, steps-inside, plain-ends}
+use Rattle.valid_labels.proofs.cutting.reached_over.Goals as goal
+use Rattle.valid_labels.proofs.cutting.reached_over.Goals.{then-has, then-has-2, else-has-2, else-has}
 
 pub loop-place-init : goal.loop-place-init
 loop-place-init g c =
@@ -22,9 +24,13 @@ loop-place-preserved g c =
     let on = steps-on asks entries c.args.sequences.now label c.len-entries.ensures.well_formed c.requires.filled in
     elim c.if-has.branch [
       | then-has w ↦
-          let are = step-ends asks entries sequences label place w.source_ends-ends.result w.sequence_ends-others.result w.either.result w.source_ends-ends.ensures w.sequence_ends-others.ensures w.either.ensures.places in
+          let are : (j : ℕ) → Has w.if-has-2.ends j ↔ R place j = elim w.if-has-2.branch [
+            | then-has-2 v ↦ subst (λ n. (j : ℕ) → Has n j ↔ R place j) (sym v.ends-is)
+                (plain-ends R place v.with_place_if-ends.result v.with_place_if-ends.ensures (c.requires.plain place (w.has-then-has.ensures.0 v.if-has-2.true)).1)
+            | else-has-2 v ↦ subst (λ n. (j : ℕ) → Has n j ↔ R place j) (sym v.ends-is) v.step_ends-ends.ensures
+          ] in
           subst (IsFound R (place + 1)) (sym w.found-is)
-          (found-more R on place c.loop-place.found w.either.result w.either-found.result (c.has.ensures.0 w.if-has.true) are w.either-found.ensures.places c.loop-place.invariant)
+          (found-more R on place c.loop-place.found w.if-has-2.ends w.either-found.result (c.has.ensures.0 w.if-has.true) are w.either-found.ensures.places c.loop-place.invariant)
       | else-has w ↦
           subst (IsFound R (place + 1)) (sym w.found-is)
           (found-same R on place c.loop-place.found (λ h. (let e : true ≡ false = sym (c.has.ensures.1 h) ∙ w.if-has.false in cc)) c.loop-place.invariant)

@@ -1,7 +1,7 @@
 use Rattle.std.proofs.Common.{map}
 use Rattle.valid_labels.specs.inner.Steps.{StepIs}
 use Rattle.valid_labels.proofs.ReachedLemmas.{IsFound}
-use Rattle.valid_labels.proofs.cutting.reached.Given as goal
+use Rattle.valid_labels.proofs.cutting.reached_over.Given as goal
 
 -- the places that were found so far
 abbrev pub invariant-loop-place : goal.invariant-loop-place
