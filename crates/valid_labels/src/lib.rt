@@ -8,6 +8,7 @@ mod demands;
 mod laws;
 mod lost;
 mod pieces;
+mod plain_points;
 mod sources;
 mod testing;
 mod valid;

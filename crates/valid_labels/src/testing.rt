@@ -3,6 +3,7 @@ ghost use Rattle.std.specs.Prelude.{◌≡◌, ◌≤◌, length, take};
 ghost use Rattle.valid_labels.specs.inner.Pieces.{ArePlainBelow};
 
 use crate::pieces::Pieces;
+use crate::plain_points::PlainPoints;
 use crate::sources::is_made_of_sources;
 use crate::valid::{is_admitted, validity};
 use crate::validity::{Admission, Validity};
@@ -15,7 +16,7 @@ use std::marker::Model;
 /// begin alike. That changes no answer.
 #[derive(Drop)]
 pub struct ValidityTest<'a> {
-    pieces: &'a Pieces<'a>,
+    points: PlainPoints<'a>,
     /// The label that was tested last.
     kept: KeptLabel,
     /// For each set its places in that label.
@@ -34,9 +35,9 @@ impl<'a> Model for ValidityTest<'a> {
 
     ghost coded = { testing_code };
 
-    ghost view = { λ t. record { table = t.pieces.now; kept = t.kept } };
+    ghost view = { λ t. record { table = t.points; kept = t.kept } };
 
-    ghost invariant = { λ t. AreMasks t.pieces.now.definitions.sets t.kept t.masks.items × ArePlainBelow (length t.kept) t.pieces.now t.kept t.plain };
+    ghost invariant = { λ t. AreMasks t.points.definitions.sets t.kept t.masks.items × ArePlainBelow (length t.kept) t.points t.kept t.plain };
 }
 
 impl<'a> ValidityTest<'a> {
@@ -54,7 +55,7 @@ impl<'a> ValidityTest<'a> {
             masks.push(0)?;
         }
         Ok(ValidityTest {
-            pieces,
+            points: PlainPoints::new(pieces),
             kept: KeptLabel::new(),
             masks,
             plain: 0,
@@ -71,7 +72,7 @@ impl<'a> ValidityTest<'a> {
         ensures same_table { self.new.table ≡ self.old.table }
     {
         self.see(label, shared);
-        let table = self.pieces.table();
+        let table = self.points.pieces().table();
         if !is_made_of_sources(table, label) {
             return Admission::NotMade;
         }
@@ -95,9 +96,10 @@ impl<'a> ValidityTest<'a> {
         ensures same_table { self.new.table ≡ self.old.table }
     {
         self.see(label, shared);
-        let sets = self.pieces.table().definitions().sets();
+        let pieces = self.points.pieces();
+        let sets = pieces.table().definitions().sets();
         let masks: &[u64] = &self.masks;
-        validity(self.pieces, sets, label, masks, self.plain)
+        validity(pieces, sets, label, masks, self.plain)
     }
 
     /// Keeps nothing of the label that was tested last.
@@ -117,13 +119,13 @@ impl<'a> ValidityTest<'a> {
         ensures same_table { self.new.table ≡ self.old.table }
     {
         let shared = shared.min(label.len()).min(self.kept.len());
-        let plain = plain_places(self.pieces, &self.kept, self.plain, label, shared);
+        let plain = plain_places(&mut self.points, &self.kept, self.plain, label, shared);
         self.kept.keep(shared);
         for place in shared..label.len() {
             self.kept.push(label[place]);
         }
         self.plain = plain;
-        let sets = self.pieces.table().definitions().sets();
+        let sets = self.points.pieces().table().definitions().sets();
         renew_masks(sets, label, shared, &mut self.masks);
     }
 }
@@ -131,7 +133,7 @@ impl<'a> ValidityTest<'a> {
 /// Places of a label at which a code point stands for itself alone, where `plain` has such places of one that begins with
 /// the same `shared` code points.
 fn plain_places(
-    pieces: &Pieces<'_>,
+    points: &mut PlainPoints<'_>,
     kept: &KeptLabel,
     plain: u64,
     label: &[u32],
@@ -140,12 +142,13 @@ fn plain_places(
     requires short { length label.now ≤ 63 }
     requires shared { shared ≤ length label.now }
     requires same { take shared kept.now ≡ take shared label.now }
-    requires plain { ArePlainBelow (length kept.now) pieces.now kept.now plain }
-    ensures { ArePlainBelow (length label.now) pieces.now label.now result }
+    requires plain { ArePlainBelow (length kept.now) points.old kept.now plain }
+    ensures plain { ArePlainBelow (length label.now) points.old label.now result }
+    ensures same { points.new ≡ points.old }
 {
     let mut found = both(plain, point_places(shared));
     for place in shared..label.len() {
-        found = with_place_if(found, place, pieces.is_plain(label[place]));
+        found = with_place_if(found, place, points.contains(label[place]));
     }
     found
 }

@@ -41,3 +41,7 @@ ArePlainBelow n table label places = (p : ℕ) → Has places p → (p < n) × I
 -- none of the sequences begins with the code point
 abbrev pub NoneBegins : List (List ℕ) → ℕ → Type 0
 NoneBegins sequences point = (rest : List ℕ) → Contains sequences (point ∷ rest) → ⊥
+
+-- each of these is plain, or stands for none
+abbrev pub AreKnown : TableValue → List ℕ → Type 0
+AreKnown table points = (k : ℕ) → k < length points → (slice_index points k ≡ 4294967295) ⊎ IsPlain table (slice_index points k)

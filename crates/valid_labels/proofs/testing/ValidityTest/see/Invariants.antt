@@ -5,6 +5,6 @@ use Rattle.valid_labels.proofs.testing.ValidityTest.see.Given as goal
 abbrev pub invariant-loop-place : goal.invariant-loop-place
 invariant-loop-place l = record {
   kept : l.self-inside.kept ≡ take l.place l.label;
-  pieces : l.self-inside.pieces ≡ l.initial.self-inside.pieces;
+  points : l.self-inside.points ≡ l.initial.self-inside.points;
   masks : l.self-inside.masks ≡ l.initial.self-inside.masks;
 }
