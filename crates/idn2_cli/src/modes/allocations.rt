@@ -35,19 +35,24 @@ impl SubTables {
 /// What tells which variants of a label may be allocated.
 #[derive(Drop)]
 pub(crate) struct Allocations {
-    /// The label itself, unless the tests tell of it, too.
-    own: Option<Vec<u32>>,
-    /// What the label spells under each sub-table, as far as that is something.
-    tests: Vec<SpellingTest>,
+    tests: Tests,
+}
+
+/// The tests of what a label spells.
+#[derive(Drop)]
+enum Tests {
+    /// What the label spells by what is not blocked, itself among it: the table has no tags.
+    Unblocked(SpellingTest),
+    /// The label itself, and what it spells under each sub-table, as far as that is something.
+    OfTags(Vec<u32>, Vec<SpellingTest>),
 }
 
 impl Model for Allocations {
-    ghost use Rattle.std.specs.Option.{option_map};
-    ghost use Rattle.idn2_cli.specs.inner.Allocations.{Allowed};
+    ghost use Rattle.idn2_cli.specs.inner.Allocations.{Allowed, allowed_of};
 
     ghost Value = { Allowed };
 
-    ghost view = { λ a. record { own = option_map (λ label. label.items) a.own; nets = a.tests.items } };
+    ghost view = { λ a. allowed_of a.tests };
 
     ghost invariant = { λ a. Unit {0} };
 }
@@ -83,9 +88,8 @@ impl Allocations {
     {
         match Net::of_part(alloc, table, Part::Unblocked, label) {
             Ok(net) => {
-                let mut tests = Vec::with_capacity(alloc, 1)?;
-                tests.push(SpellingTest::new(alloc, net)?)?;
-                Ok(Allocations { own: None, tests })
+                let tests = Tests::Unblocked(SpellingTest::new(alloc, net)?);
+                Ok(Allocations { tests })
             }
             Err(NetFault::Memory) => Err(AllocError),
             // No source is blocked, so the label spells itself.
@@ -117,10 +121,8 @@ impl Allocations {
         }
         let mut own = Vec::with_capacity(alloc, label.len())?;
         own.extend_from_slice(label)?;
-        Ok(Allocations {
-            own: Some(own),
-            tests,
-        })
+        let tests = Tests::OfTags(own, tests);
+        Ok(Allocations { tests })
     }
 
     /// Whether the variant may be allocated. Takes no memory.
@@ -129,12 +131,10 @@ impl Allocations {
         ensures told { result ≡ allows self.old variant.now }
         ensures same { self.new ≡ self.old }
     {
-        if let Some(label) = &self.own {
-            if variant == label.as_slice() {
-                return true;
-            }
+        match &mut self.tests {
+            Tests::Unblocked(test) => test.spells(variant),
+            Tests::OfTags(own, tests) => { variant == own.as_slice() || spells_one(tests, variant) }
         }
-        spells_one(&mut self.tests, variant)
     }
 }
 
