@@ -14,8 +14,8 @@ use Rattle.idn_text.proofs.Utf8Lemmas.{IsUtf8-from_points, points_from_utf8}
 use Rattle.idn_cause.specs.declared.cause.Cause.TheVariants.{Point}
 use Rattle.variant_table.specs.Entries.{TableValue}
 use Rattle.variant_table.specs.WellFormed.{IsWellFormed}
-use Rattle.variant_list.specs.Furthest.{IsFurthest, furthest}
-use Rattle.variant_list.proofs.FurthestLemmas.{furthest-told}
+use Rattle.valid_labels.specs.Furthest.{IsFurthest, furthest}
+use Rattle.valid_labels.proofs.SourceLemmas.{furthest-told}
 use Rattle.idn2_cli.specs.Explained.{Explained, Unexplained, bad_byte, body_cause, points_cause, unless_unexplained, table_cause, text_cause}
 use Rattle.idn2_cli.specs.CauseTexts.{tail_text}
 use Rattle.idn2_cli.proofs.TextAnswers.{is_not_utf8}
@@ -46,7 +46,7 @@ bad_byte-at bytes place valid = ap (λ n. Byte n (slice_index bytes n)) (utf8_va
 pub outside-told : (table : TableValue) (label : List ℕ) (place : ℕ) → IsWellFormed table.entries → length label ≤ 63 → IsFurthest table label place → table_cause table label NotInTable ≡ Some (Point place (slice_index label place))
 outside-told table label place formed short is =
     let within : nat_le (length label) 63 ≡ true = grind (arith, nat_tests) in
-    let at : furthest table label ≡ place = sym ((furthest-told table label place formed).0 is) in
+    let at : furthest table label ≡ place = sym ((furthest-told.exactly table label place formed).0 is) in
     ap (λ b. cond b (Some (Point (furthest table label) (slice_index label (furthest table label)))) None) within
     ∙ ap (λ n. Some (Point n (slice_index label n))) at
 

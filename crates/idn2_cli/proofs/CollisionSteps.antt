@@ -170,6 +170,19 @@ module _ (f : Filter) (text : Said → List ℕ) (field : List ℕ → Option Di
   under_way-registrable s next v h found is =
       subst IsRegistrable (sym is) (All-head IsRegistrable next.label (collisions_ahead next) (subst (All IsRegistrable) found h.registrable))
 
+  -- it isn't accepted, and is passed over
+  pub under_way-passed : (o : Settings) (net : Built) (labels : List (List ℕ)) (old now : Held) (s next : Matching) (count total : ℕ) → IsUnderWay o net labels old now s count total
+      → collisions_ahead s ≡ next.label ∷ collisions_ahead next → f.accepts next.label ≡ false → IsUnderWay o net labels old now next count total
+  under_way-passed o net labels old now s next count total h found passed =
+      let fewer : length (collisions_ahead s) ≡ suc (length (collisions_ahead next)) = ap (λ (l : List (List ℕ)). length l) found in
+      let kept : kept_ahead f s ≡ kept_ahead f next = ap (filter f.accepts) found ∙ ap (λ (b : Bool). if b then next.label ∷ kept_ahead f next else kept_ahead f next) passed in record {
+        so_far = h.so_far;
+        split = h.split ∙ ap (λ (l : List (List ℕ)). h.so_far ++ outputs text (lines_from (line_of field) o.limit count l)) kept;
+        pieces = h.pieces;
+        few = omega (arith, h.few, fewer);
+        registrable = All-tail IsRegistrable next.label (collisions_ahead next) (subst (All IsRegistrable) found h.registrable);
+      }
+
   -- its line could not be written whole
   pub under_way-broken : {A : Type 0} (o : Settings) (net : Built) (labels : List (List ℕ)) (old now new : Held) (s next : Matching) (count total : ℕ) (v : List ℕ) (r : Result A Stop) (why : Stop) → IsUnderWay o net labels old now s count total
       → collisions_ahead s ≡ next.label ∷ collisions_ahead next → f.accepts next.label ≡ true → v ≡ next.label → Emits now new (Output (text (line_of field v)) ∷ []) r → r ≡ Err why

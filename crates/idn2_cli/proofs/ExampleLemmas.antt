@@ -22,7 +22,8 @@ use Rattle.variant_list.specs.Spelled.{spelled}
 use Rattle.variant_list.specs.Variants.{variants, in_order}
 use Rattle.variant_list.specs.Examples.{a_or_two, letter_or_hyphen}
 use Rattle.idn2_options.specs.Settings.{Settings}
-use Rattle.idn2_cli.specs.Answers.{block, block_to, disposition, filter_of, is_registrable, kept_to, lesser_label, nth, nth_if_given, one_answer, tested_after, u_label_of, visited_in}
+use Rattle.valid_labels.specs.Tests.{asks_nothing}
+use Rattle.idn2_cli.specs.Answers.{Filter, block, block_to, disposition, filter_if, registrable_labels, stop_of, variants_after, is_registrable, kept_to, lesser_label, nth, nth_if_given, one_answer, tested_after, u_label_of, visited_in}
 use Rattle.idn2_options.specs.declared.command_line.form.Form.TheVariants.{Plain}
 use Rattle.idn2_cli.specs.Said.{Said, Registered, said_line}
 use Rattle.std.specs.Char.{encode_utf8}
@@ -52,26 +53,34 @@ filter-passes after (v ∷ vs) ldh =
     ap (λ (b : Bool). if b && is_gt (label_cmp v after) then v ∷ filter (λ v. is_registrable v && is_gt (label_cmp v after)) vs else filter (λ v. is_registrable v && is_gt (label_cmp v after)) vs) (registrable-passes v ldh.0)
     ∙ ap (λ (rest : List (List ℕ)). if passes v && is_gt (label_cmp v after) then v ∷ rest else rest) (filter-passes after vs ldh.1)
 
--- the block of a label that spells such labels alone
+-- the block of a label by what is asked of labels
+abbrev block_with : Filter → Settings → TableValue → List ℕ → List Said
+block_with f o table label = block_to (disposition table label) (stop_of f o (spelled table label)) (variants_after f o (spelled table label))
+
+-- that of a label that spells such labels alone
 abbrev ldh_block : Settings → TableValue → List ℕ → List Said
 ldh_block o table label =
     let vs = kept_to o.registered (variants passes table label o.after) in
-    block_to (disposition table label) (lesser_label (nth_if_given vs o.limit) (lesser_label (nth (tested_after (filter_of table) o (spelled table label)) o.tries) (nth_if_given (visited_in (filter_of table) o (spelled table label)) o.steps))) vs
+    let f : Filter = registrable_labels in
+    block_to (disposition table label) (lesser_label (nth_if_given vs o.limit) (lesser_label (nth (tested_after f o (spelled table label)) o.tries) (nth_if_given (visited_in f o (spelled table label)) o.steps))) vs
 
-block-ldh : (o : Settings) (table : TableValue) (label : List ℕ) → AllLdh (in_order (spelled table label)) → block o table label ≡ ldh_block o table label
-block-ldh o table label ldh =
-    ap (λ (all : List (List ℕ)). let vs = kept_to o.registered all in block_to (disposition table label) (lesser_label (nth_if_given vs o.limit) (lesser_label (nth (tested_after (filter_of table) o (spelled table label)) o.tries) (nth_if_given (visited_in (filter_of table) o (spelled table label)) o.steps))) vs)
+-- under a table that asks nothing of its labels
+block-ldh : (o : Settings) (table : TableValue) (label : List ℕ) → asks_nothing table ≡ true → AllLdh (in_order (spelled table label)) → block o table label ≡ ldh_block o table label
+block-ldh o table label nothing ldh =
+    let f : Filter = registrable_labels in
+    ap (λ (b : Bool). block_with (filter_if b table) o table label) nothing
+    ∙ ap (λ (all : List (List ℕ)). let vs = kept_to o.registered all in block_to (disposition table label) (lesser_label (nth_if_given vs o.limit) (lesser_label (nth (tested_after f o (spelled table label)) o.tries) (nth_if_given (visited_in f o (spelled table label)) o.steps))) vs)
     (filter-passes o.after (in_order (spelled table label)) ldh)
 
 pub blocks : ExamplesOfBlocks
 unfolding digits a_label_of idna hopeless rules
 blocks = record {
-  doubled = ap (map said_line) (block-ldh (listing None 1000000) a_or_two (codes "aa") (refl, (refl, (refl, tt)))) ∙ refl;
-  limited = ap (map said_line) (block-ldh (listing (Some 2) 1000000) a_or_two (codes "aa") (refl, (refl, (refl, tt)))) ∙ refl;
-  spent = ap (map said_line) (block-ldh (listing None 4) letter_or_hyphen (codes "aaa") (refl, (refl, (refl, (refl, (refl, (refl, (refl, (refl, tt))))))))) ∙ refl;
-  stepped = ap (map said_line) (block-ldh (record (listing None 1000000) { steps = Some 3 }) letter_or_hyphen (codes "aaa") (refl, (refl, (refl, (refl, (refl, (refl, (refl, (refl, tt))))))))) ∙ refl;
-  y_blocked = ap (map said_line) (block-ldh (listing None 1000000) y_or_z (codes "ax") (refl, (refl, (refl, tt)))) ∙ refl;
-  allocatable_by_one_cutting = ap (map said_line) (block-ldh (listing None 1000000) one_or_both (codes "aa") (refl, (refl, (refl, (refl, tt))))) ∙ refl;
+  doubled = ap (map said_line) (block-ldh (listing None 1000000) a_or_two (codes "aa") refl (refl, (refl, (refl, tt)))) ∙ refl;
+  limited = ap (map said_line) (block-ldh (listing (Some 2) 1000000) a_or_two (codes "aa") refl (refl, (refl, (refl, tt)))) ∙ refl;
+  spent = ap (map said_line) (block-ldh (listing None 4) letter_or_hyphen (codes "aaa") refl (refl, (refl, (refl, (refl, (refl, (refl, (refl, (refl, tt))))))))) ∙ refl;
+  stepped = ap (map said_line) (block-ldh (record (listing None 1000000) { steps = Some 3 }) letter_or_hyphen (codes "aaa") refl (refl, (refl, (refl, (refl, (refl, (refl, (refl, (refl, tt))))))))) ∙ refl;
+  y_blocked = ap (map said_line) (block-ldh (listing None 1000000) y_or_z (codes "ax") refl (refl, (refl, (refl, tt)))) ∙ refl;
+  allocatable_by_one_cutting = ap (map said_line) (block-ldh (listing None 1000000) one_or_both (codes "aa") refl (refl, (refl, (refl, (refl, tt))))) ∙ refl;
 }
 
 -- ---- a run

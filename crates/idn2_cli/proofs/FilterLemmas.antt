@@ -1,11 +1,31 @@
 -- What a listing asks of labels, and what is known of it.
-use Rattle.std.proofs.Common.{◌≡◌, ◌≤◌, ◌++◌, ℕ, List, Option, Some, None, true, false, length, refl}
-use Rattle.std.specs.Option.{is_none}
+use Rattle.std.proofs.Common.{◌≡◌, ◌≢◌, ◌≤◌, ◌<◌, ◌⊎◌, inl, inr, ◌++◌, ◌&&◌, ◌||◌, ◌↔◌, ℕ, zero, suc, List, [], ◌∷◌, Option, Some, None, Bool, true, false, IsTrue, take, drop, length, refl, sym, ap, subst, ◌∙◌, if◌then◌else◌, arith}
+use Rattle.std.specs.Prelude.{nat_le}
+use Rattle.std.specs.Option.{is_none, option_map}
+use Rattle.std.proofs.lemmas.Bool.Decides.{nat_tests}
+use Rattle.std.proofs.Math.Seq.{take-append_seam}
+use Rattle.std.proofs.lemmas.List.{length-append, take-append-drop, take_all}
+use Rattle.idn_class.specs.Hopeless as class
+use Rattle.idn_class.specs.Hopeless.{hopeless, IsHopeless}
+use Rattle.idn_class.proofs.HopelessSteps.{hopeless-nil}
+use Rattle.idn_class.proofs.HopelessTests.{hopeless-from}
 use Rattle.idn_label.specs.FirstFault.{first_fault, IsRegistrable}
 use Rattle.idn_label.proofs.HopeLemmas.{none_hopeless}
 use Rattle.idn_label.proofs.RequirementLemmas.{MeetsRequirements-registrable}
 use Rattle.variant_table.specs.Entries.{TableValue}
-use Rattle.idn2_cli.specs.Answers.{Filter, filter_of, is_registrable, registrable_labels}
+use Rattle.valid_labels.specs.Validity as validity
+use Rattle.valid_labels.specs.Validity.{IsLost, IsValid, HasNoLostBeginning}
+use Rattle.valid_labels.specs.Tests.{asks_nothing, is_lost, is_valid}
+use Rattle.valid_labels.proofs.LostLemmas.{lost-invalid}
+use Rattle.valid_labels.proofs.TestLemmas.{tests-agree}
+use Rattle.variant_list.specs.Beginnings.{HasHope, has_hope, shortest_hopeless}
+use Rattle.variant_list.proofs.BeginningLemmas.{hope-gives, shortest_hopeless-none}
+use Rattle.idn2_cli.proofs.HopeLemmas.{clear}
+use Rattle.idn2_cli.specs.inner.ForGood.{none_accepted}
+use Rattle.idn2_cli.specs.inner.Ruling.{IsValidityBy, filter_by, lesser_count, lost_in, passes, ruling_of}
+use Rattle.valid_labels.specs.declared.validity.Validity.{Validity}
+use Rattle.valid_labels.specs.declared.validity.Validity.TheVariants.{Lost, Valid, NotValid}
+use Rattle.idn2_cli.specs.Answers.{Filter, filter_if, filter_of, is_registrable, registrable_labels, ruled_labels}
 
 -- each label that is accepted may be registered, and none of them begins with a hopeless list
 pub record IsSound (f : Filter) : Type 0 where
@@ -16,7 +36,7 @@ pub record IsSound (f : Filter) : Type 0 where
 pub accepted-short : (f : Filter) → IsSound f → (v : List ℕ) → f.accepts v ≡ true → length v ≤ 63
 accepted-short f sound v accepted = (MeetsRequirements-registrable v (sound.registrable v accepted)).points
 
-is_registrable-from : (v : List ℕ) → is_registrable v ≡ true → IsRegistrable v
+pub is_registrable-from : (v : List ℕ) → is_registrable v ≡ true → IsRegistrable v
 is_registrable-from v h = none (first_fault v) h
   where
     none : {X : Type 0} (r : Option X) → is_none r ≡ true → r ≡ None
@@ -26,5 +46,216 @@ is_registrable-from v h = none (first_fault v) h
 pub registrable_labels-IsSound : IsSound registrable_labels
 registrable_labels-IsSound = record { registrable = is_registrable-from; for_good = none_hopeless }
 
+-- ---- both halves of a test
+
+both-left : (a b : Bool) → (a && b) ≡ true → a ≡ true
+both-left true b h = refl
+both-left false b h = cc
+
+both-right : (a b : Bool) → (a && b) ≡ true → b ≡ true
+both-right true b h = h
+both-right false b h = cc
+
+both-from : (a b : Bool) → a ≡ true → b ≡ true → (a && b) ≡ true
+both-from true b g h = h
+both-from false b g h = cc
+
+not-left : (a b : Bool) → a ≡ false → (a && b) ≡ false
+not-left false b h = refl
+not-left true b h = cc
+
+not-right : (a b : Bool) → b ≡ false → (a && b) ≡ false
+not-right true b h = h
+not-right false b h = refl
+
+neither-left : (a b : Bool) → (a || b) ≡ false → a ≡ false
+neither-left false b h = refl
+neither-left true b h = cc
+
+neither-right : (a b : Bool) → (a || b) ≡ false → b ≡ false
+neither-right false b h = h
+neither-right true b h = cc
+
+neither-from : (a b : Bool) → a ≡ false → b ≡ false → (a || b) ≡ false
+neither-from false b g h = h
+neither-from true b g h = cc
+
+one-of : (a b : Bool) → (a || b) ≡ true → (a ≡ true) ⊎ (b ≡ true)
+one-of true b h = inl refl
+one-of false b h = inr h
+
+unless-true : (b : Bool) → (b ≡ true → ⊥) → b ≡ false
+unless-true true h = absurd (h refl)
+unless-true false h = refl
+
+-- ---- labels that are valid under a table, too
+
+pub ruled_labels-IsSound : (table : TableValue) → IsSound (ruled_labels table)
+ruled_labels-IsSound table = record {
+  registrable = λ v h. is_registrable-from v (both-left (is_registrable v) (is_valid table v && has_hope (is_lost table) v) h);
+  for_good = none_accepted (Some table);
+}
+
 pub filter_of-IsSound : (table : TableValue) → IsSound (filter_of table)
-filter_of-IsSound table = registrable_labels-IsSound
+filter_of-IsSound table = by_test (asks_nothing table)
+  where
+    by_test : (b : Bool) → IsSound (filter_if b table)
+    by_test true = registrable_labels-IsSound
+    by_test false = ruled_labels-IsSound table
+
+-- ---- no beginning of a valid label is lost, and none of a label with hope is hopeless
+
+not_lost : (table : TableValue) (v : List ℕ) → validity.IsSound table → IsValid table v → (k : ℕ) → IsLost table (take k v) → ⊥
+not_lost table v sound valid k is = lost-invalid table (take k v) (drop k v) sound is (subst (IsValid table) (sym (take-append-drop k v)) valid)
+
+empty_has_hope : IsHopeless [] → ⊥
+empty_has_hope h = let clash : false ≡ true = sym hopeless-nil ∙ hopeless-from [] h in cc
+
+hope-rule : (v : List ℕ) → HasHope hopeless v → class.HasHope v
+hope-rule v h zero bad = empty_has_hope bad
+hope-rule [] h (suc k) bad = empty_has_hope bad
+hope-rule (c ∷ v) h (suc k) bad = by_length (nat_le (suc k) (length (c ∷ v))) refl
+  where
+    clash : (n : ℕ) → 1 ≤ n → n ≤ length (c ∷ v) → IsHopeless (take n (c ∷ v)) → ⊥
+    clash n low high at = let both : false ≡ true = sym (h n low high) ∙ hopeless-from (take n (c ∷ v)) at in cc
+
+    all : (n : ℕ) → length (c ∷ v) ≤ n → take n (c ∷ v) ≡ take (length (c ∷ v)) (c ∷ v)
+    all n long = take_all n (c ∷ v) long ∙ sym (take_all (length (c ∷ v)) (c ∷ v) (omega arith))
+
+    by_length : (b : Bool) → nat_le (suc k) (length (c ∷ v)) ≡ b → ⊥
+    by_length true is = clash (suc k) (omega arith) (grind (arith, nat_tests)) bad
+    by_length false is =
+        let long : length (c ∷ v) ≤ suc k = grind (arith, nat_tests) in
+        clash (length (c ∷ v)) (omega arith) (omega arith) (subst IsHopeless (all (suc k) long) bad)
+
+-- ---- what the filter of a table asks of a label that is valid where the table asks nothing
+
+-- it accepts exactly the registrable labels that are valid
+pub accepted-is : (table : TableValue) (v : List ℕ) → validity.IsSound table → (asks_nothing table ≡ true → IsValid table v)
+    → ((filter_of table).accepts v ≡ true) ↔ (IsRegistrable v × IsValid table v)
+accepted-is table v sound free = by_test (asks_nothing table) free
+  where
+    valid_test : IsTrue (is_valid table v) ↔ IsValid table v
+    valid_test = tests-agree.valid table v sound
+
+    no_lost : IsValid table v → has_hope (is_lost table) v ≡ true
+    no_lost valid = ap is_none (shortest_hopeless-none (is_lost table) v (λ k low high. unless-true (is_lost table (take k v)) (λ is. not_lost table v sound valid k ((tests-agree.lost table (take k v) sound).0 is))))
+
+    by_test : (b : Bool) → (b ≡ true → IsValid table v) → ((filter_if b table).accepts v ≡ true) ↔ (IsRegistrable v × IsValid table v)
+    by_test true valid = (λ h. (is_registrable-from v h, valid refl), λ both. ap is_none both.0)
+    by_test false valid = (
+      λ h. (
+        is_registrable-from v (both-left (is_registrable v) (is_valid table v && has_hope (is_lost table) v) h),
+        valid_test.0 (both-left (is_valid table v) (has_hope (is_lost table) v) (both-right (is_registrable v) (is_valid table v && has_hope (is_lost table) v) h)),
+      ),
+      λ both. both-from (is_registrable v) _ (ap is_none both.0) (both-from (is_valid table v) _ (valid_test.1 both.1) (no_lost both.1)),
+    )
+
+-- no beginning is hopeless to it exactly where none is hopeless and none is lost
+pub hope-is : (table : TableValue) (v : List ℕ) → validity.IsSound table → (asks_nothing table ≡ true → IsValid table v)
+    → HasHope (filter_of table).hopeless v ↔ (class.HasHope v × HasNoLostBeginning table v)
+hope-is table v sound free = by_test (asks_nothing table) free
+  where
+    none_lost : HasHope (is_lost table) v → HasNoLostBeginning table v
+    none_lost h zero high is = absurd (let bad : 0 < 0 = is.some in omega (arith, bad))
+    none_lost h (suc k) high is =
+        let clash : false ≡ true = sym (h (suc k) (omega arith) high) ∙ (tests-agree.lost table (take (suc k) v) sound).1 is in cc
+
+    by_test : (b : Bool) → (b ≡ true → IsValid table v) → HasHope (filter_if b table).hopeless v ↔ (class.HasHope v × HasNoLostBeginning table v)
+    by_test true valid = (λ h. (hope-rule v h, λ k high. not_lost table v sound (valid refl) k), λ both k low high. clear (take k v) (both.0 k))
+    by_test false valid = (
+      λ h. (
+        hope-rule v (λ k low high. neither-left (hopeless (take k v)) (is_lost table (take k v)) (h k low high)),
+        none_lost (λ k low high. neither-right (hopeless (take k v)) (is_lost table (take k v)) (h k low high)),
+      ),
+      λ both k low high. neither-from (hopeless (take k v)) (is_lost table (take k v)) (clear (take k v) (both.0 k))
+          (unless-true (is_lost table (take k v)) (λ is. both.1 k high ((tests-agree.lost table (take k v) sound).0 is))),
+    )
+
+-- ---- the filter by the table that labels are tested by
+
+pub filter_by-IsSound : (ruling : Option TableValue) → IsSound (filter_by ruling)
+filter_by-IsSound None = registrable_labels-IsSound
+filter_by-IsSound (Some table) = ruled_labels-IsSound table
+
+-- it is the filter of the table
+pub filter_by-ruling : (table : TableValue) → filter_by (ruling_of table) ≡ filter_of table
+filter_by-ruling table = by_test (asks_nothing table)
+  where
+    by_test : (b : Bool) → filter_by (if b then None else Some table) ≡ filter_if b table
+    by_test true = refl
+    by_test false = refl
+
+pub accepts-passed : (ruling : Option TableValue) (v : List ℕ) → IsRegistrable v → passes ruling v ≡ true → (filter_by ruling).accepts v ≡ true
+accepts-passed None v registrable is = ap is_none registrable
+accepts-passed (Some table) v registrable is = both-from (is_registrable v) _ (ap is_none registrable) is
+
+pub accepts-failed : (ruling : Option TableValue) (v : List ℕ) → passes ruling v ≡ false → (filter_by ruling).accepts v ≡ false
+accepts-failed None v is = cc
+accepts-failed (Some table) v is = not-right (is_registrable v) _ is
+
+pub accepts-unregistrable : (ruling : Option TableValue) (v : List ℕ) → is_registrable v ≡ false → (filter_by ruling).accepts v ≡ false
+accepts-unregistrable None v is = is
+accepts-unregistrable (Some table) v is = not-left (is_registrable v) _ is
+
+-- ---- the verdict on a label
+
+lesser-first : (n : Option ℕ) → lesser_count (Some 1) (option_map suc n) ≡ Some 1
+lesser-first None = refl
+lesser-first (Some n) = let le : nat_le 1 (suc n) ≡ true = grind (arith, nat_tests) in ap (λ (b : Bool). let r : Option ℕ = if b then Some 1 else Some (suc n) in r) le
+
+lesser-second : (n : Option ℕ) → lesser_count (option_map suc n) (Some 1) ≡ Some 1
+lesser-second None = refl
+lesser-second (Some zero) = refl
+lesser-second (Some (suc n)) = let gt : nat_le (suc (suc n)) 1 ≡ false = grind (arith, nat_tests) in ap (λ (b : Bool). let r : Option ℕ = if b then Some (suc (suc n)) else Some 1 in r) gt
+
+lesser-later : (m n : Option ℕ) → option_map suc (lesser_count m n) ≡ lesser_count (option_map suc m) (option_map suc n)
+lesser-later None n = refl
+lesser-later (Some m) None = refl
+lesser-later (Some m) (Some n) =
+    by_test (nat_le m n) ∙ ap (λ (b : Bool). let r : Option ℕ = if b then Some (suc m) else Some (suc n) in r) (same (nat_le m n) refl)
+  where
+    same : (b : Bool) → nat_le m n ≡ b → b ≡ nat_le (suc m) (suc n)
+    same true e = let t : nat_le (suc m) (suc n) ≡ true = grind (arith, nat_tests) in sym t
+    same false e = let t : nat_le (suc m) (suc n) ≡ false = grind (arith, nat_tests) in sym t
+
+    by_test : (b : Bool) → option_map suc (let r : Option ℕ = if b then Some m else Some n in r) ≡ (let r : Option ℕ = if b then Some (suc m) else Some (suc n) in r)
+    by_test true = refl
+    by_test false = refl
+
+first_of_two : (x y xy : Option ℕ) (a b : Bool) → xy ≡ lesser_count x y
+    → (let r : Option ℕ = if a || b then Some 1 else option_map suc xy in r)
+    ≡ lesser_count (let r : Option ℕ = if a then Some 1 else option_map suc x in r) (let r : Option ℕ = if b then Some 1 else option_map suc y in r)
+first_of_two x y xy true true is = refl
+first_of_two x y xy true false is = sym (lesser-first y)
+first_of_two x y xy false true is = sym (lesser-second x)
+first_of_two x y xy false false is = ap (option_map suc) is ∙ lesser-later x y
+
+-- the shortest beginning of which one of two tests is true
+shortest-of_two : (f g : List ℕ → Bool) (v : List ℕ) → shortest_hopeless (λ w. f w || g w) v ≡ lesser_count (shortest_hopeless f v) (shortest_hopeless g v)
+shortest-of_two f g [] = refl
+shortest-of_two f g (c ∷ v) =
+    first_of_two (shortest_hopeless (λ w. f (c ∷ w)) v) (shortest_hopeless (λ w. g (c ∷ w)) v) (shortest_hopeless (λ w. f (c ∷ w) || g (c ∷ w)) v) (f (c ∷ [])) (g (c ∷ []))
+    (shortest-of_two (λ w. f (c ∷ w)) (λ w. g (c ∷ w)) v)
+
+lesser-none : (n : Option ℕ) → lesser_count n None ≡ n
+lesser-none None = refl
+lesser-none (Some n) = refl
+
+pub verdict-count : (ruling : Option TableValue) (v : List ℕ) (validity : Validity) → IsValidityBy ruling v validity
+    → lesser_count (shortest_hopeless hopeless v) (lost_in validity) ≡ shortest_hopeless (filter_by ruling).hopeless v
+verdict-count None v validity is = ap (λ (x : Validity). lesser_count (shortest_hopeless hopeless v) (lost_in x)) is ∙ lesser-none (shortest_hopeless hopeless v)
+verdict-count (Some table) v validity is =
+    ap (lesser_count (shortest_hopeless hopeless v)) (sym is.0) ∙ sym (shortest-of_two hopeless (is_lost table) v)
+
+pub passes-valid : (ruling : Option TableValue) (v : List ℕ) → IsValidityBy ruling v Valid → passes ruling v ≡ true
+passes-valid None v is = refl
+passes-valid (Some table) v is = both-from (is_valid table v) _ is.1 (ap is_none is.0)
+
+pub passes-not_valid : (ruling : Option TableValue) (v : List ℕ) → IsValidityBy ruling v NotValid → passes ruling v ≡ false
+passes-not_valid None v is = cc
+passes-not_valid (Some table) v is = not-left (is_valid table v) _ is.1
+
+pub passes-lost : (ruling : Option TableValue) (v : List ℕ) (count : ℕ) → IsValidityBy ruling v (Lost count) → passes ruling v ≡ false
+passes-lost None v count is = cc
+passes-lost (Some table) v count is = not-right (is_valid table v) _ (ap is_none is.0)

@@ -19,7 +19,7 @@ use Rattle.idn_label.specs.FirstFault.{first_fault, IsRegistrable}
 use Rattle.idn_label.proofs.ALabels.{registrable_scalars}
 use Rattle.variant_table.specs.declared.version.Notation.{Notation}
 use Rattle.variant_table.specs.Entries.{TableValue}
-use Rattle.variant_table.specs.WellFormed.{IsWellFormed}
+use Rattle.valid_labels.specs.Validity.{IsSound}
 use Rattle.variant_table.proofs.TextLemmas.{one_table, not_both}
 use Rattle.idn2_options.specs.Settings.{Settings}
 use Rattle.idn2_options.specs.declared.command_line.mode.Mode.{Mode}
@@ -37,6 +37,7 @@ use Rattle.idn2_cli.specs.declared.output.status.Status.{Status}
 use Rattle.idn2_cli.specs.declared.output.status.Status.TheVariants.{Clean, Refused, Faulty, OutOfMemory}
 use Rattle.idn2_cli.specs.declared.output.stop.Stop.{Stop}
 use Rattle.idn2_cli.specs.declared.output.stop.Stop.TheVariants as stop
+use Rattle.idn2_cli.proofs.AdmittedLabels.{sound_table}
 use Rattle.idn2_cli.proofs.BlockMembers.{variants_answer-IsListing}
 use Rattle.idn2_cli.proofs.TextAnswers.{text_answer-none, text_answer-points, chars-encoded, utf8-of_chars}
 use Rattle.idn2_cli.proofs.WrittenPieces.{output_of-append}
@@ -78,7 +79,7 @@ module _ (o : Settings) (table : TableValue) where
   abbrev printed_line : Numbered → List ℕ
   printed_line line = output_of (line_pieces o.form (explained_in Variants o table) (variants_answer o table) line)
 
-  listing-printed : IsWellFormed table.entries → (line : Numbered) (label : List ℕ) → IsLineOf label line
+  listing-printed : IsSound table → (line : Numbered) (label : List ℕ) → IsLineOf label line
       → (answer : LineAnswer) × IsListing o table label answer × (printed_line line ≡ printed_of o.form (explained_in Variants o table) line answer)
   listing-printed formed line label is =
       let answers : line_answer (variants_answer o table) line.body ≡ variants_answer o table label =
@@ -120,7 +121,7 @@ module _ (o : Settings) (table : TableValue) where
         ap (λ (b : Bool). let r : LineAnswer = if b then (if length bytes == 0 then Err Empty else variants_answer o table (chars bytes)) else Err NotUtf8 in r) other,
       )
 
-  line-printed : IsWellFormed table.entries → (line : Numbered) → IsPrintedFor o table line (printed_line line)
+  line-printed : IsSound table → (line : Numbered) → IsPrintedFor o table line (printed_line line)
   line-printed formed line = record {
     listing = listing-printed formed line;
     refused = λ none.
@@ -128,7 +129,7 @@ module _ (o : Settings) (table : TableValue) where
         (other.0, refused-printed line other.0 other.1);
   }
 
-  lines-printed : IsWellFormed table.entries → (lines : List Numbered) → ArePrintedFor o table lines (map printed_line lines)
+  lines-printed : IsSound table → (lines : List Numbered) → ArePrintedFor o table lines (map printed_line lines)
   lines-printed formed [] = tt
   lines-printed formed (line ∷ lines) = (line-printed formed line, lines-printed formed lines)
 
@@ -172,7 +173,7 @@ begun-cut stop.Messages pieces written cut =
     rw (cut.split, cut.cut) (begun-before cut.before (Message cut.text ∷ cut.after) (Message (take cut.taken cut.text) ∷ []) (output_of cut.after, refl))
 begun-cut stop.Memory pieces written cut = (output_of cut.0, ap output_of cut.1 ∙ output_of-append written cut.0)
 
-module _ (o : Settings) (table : TableValue) (formed : IsWellFormed table.entries) (is : o.mode ≡ Variants) where
+module _ (o : Settings) (table : TableValue) (formed : IsSound table) (is : o.mode ≡ Variants) where
   abbrev job : Job
   job = mode_job o (Ok table)
 
@@ -277,5 +278,5 @@ pub headline : (o : Settings) (text : List ℕ) (table : TableValue) (given : Ta
     → PrintsListings o table start now old.output.contents new.output.contents status
 headline o text table given start now old new status is spelled read ends =
     let same = same_table o.notation text given table (subst (λ (m : Mode). IsTableOf m o.notation text given) is read) spelled in
-    ends-prints o table spelled.lines.well_formed.well_formed is start now old new status
+    ends-prints o table (sound_table table spelled.lines.well_formed) is start now old new status
     (subst (λ (g : TableGiven). Ends (mode_job o g) start now old new status) same ends)

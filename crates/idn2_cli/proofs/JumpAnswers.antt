@@ -8,7 +8,7 @@ use Rattle.variant_table.specs.Entries.{TableValue}
 use Rattle.variant_table.specs.WellFormed.{IsWellFormed}
 use Rattle.variant_list.specs.Labels.{IsListOf}
 use Rattle.variant_list.specs.Positions.{Built, Position}
-use Rattle.valid_labels.specs.Segmentations.{HasSegmentation}
+use Rattle.valid_labels.specs.Validity.{IsSound}
 use Rattle.variant_list.specs.Spelling.{Spells}
 use Rattle.variant_list.specs.Jumps.{IsFrom, IsLeastFrom, IsCandidate, candidates_from}
 use Rattle.variant_list.proofs.FromLemmas.{candidates_from-IsListOf}
@@ -16,7 +16,7 @@ use Rattle.variant_list.proofs.ListMembers.{Contains-head, Contains-none, Contai
 use Rattle.variant_list.proofs.ListedLemmas.{above_first}
 use Rattle.idn2_cli.specs.Said.{Least}
 use Rattle.idn2_cli.specs.Answers.{IsJump, IsLeast, IsJumpAnswer, jump_answer, least_answer, requested_label, requested_text}
-use Rattle.idn2_cli.proofs.SegmentedLabels.{segmented_answer, unsegmented_answer, segmented_or_not}
+use Rattle.idn2_cli.proofs.AdmittedLabels.{admitted-made, admitted_answer, admitted_or_refused, refused_answer}
 
 -- the first of the candidates from a text on is the least
 least_is_first : (P : List ℕ → Type 0) (text : List ℕ) (vs : List (List ℕ)) → IsListOf (λ v. IsCandidate P v × IsFrom text v) vs → IsLeast P text (slice_get vs 0)
@@ -34,19 +34,25 @@ least-IsJump table label text formed =
     least_is_first (Spells table label) text (candidates_from table label text) (candidates_from-IsListOf table label text formed)
 
 -- the answer to a request whose label may be registered
-pub jump_answer-IsJumpAnswer : (table : TableValue) (request : List ℕ) → IsWellFormed table.entries → IsRegistrable (requested_label request) → IsJumpAnswer table request (jump_answer table request)
-jump_answer-IsJumpAnswer table request formed registrable =
-    subst (IsJumpAnswer table request) (sym (ap (λ (f : Option Refusal). unless_fault f (least_answer table (requested_label request) (requested_text request))) registrable))
-    (by_cases (segmented_or_not table (requested_label request) formed))
+pub jump_answer-IsJumpAnswer : (table : TableValue) (request : List ℕ) → IsSound table → IsRegistrable (requested_label request) → IsJumpAnswer table request (jump_answer table request)
+jump_answer-IsJumpAnswer table request sound registrable =
+    subst (IsJumpAnswer table request) (sym (ap (λ (f : Option Refusal). unless_fault f (least_answer table label text)) registrable))
+    (elim (admitted_or_refused table label sound) [
+      | inl is ↦
+          subst (IsJumpAnswer table request) (sym (admitted_answer table label (Least least ∷ []) sound is))
+          (is, (least, refl, least-IsJump table label text sound.entries))
+      | inr refused ↦
+          subst (IsJumpAnswer table request) (sym (refused_answer table label refused.0 (Least least ∷ []) sound refused.1 (admitted-made table label))) refused.1
+    ])
   where
-    least : Option (List ℕ)
-    least = slice_get (candidates_from table (requested_label request) (requested_text request)) 0
+    label : List ℕ
+    label = requested_label request
 
-    by_cases : HasSegmentation table (requested_label request) ⊎ (HasSegmentation table (requested_label request) → ⊥) → IsJumpAnswer table request (least_answer table (requested_label request) (requested_text request))
-    by_cases (inl has) =
-        subst (IsJumpAnswer table request) (sym (segmented_answer table (requested_label request) (Least least ∷ []) formed has))
-        (has, (least, refl, least-IsJump table (requested_label request) (requested_text request) formed))
-    by_cases (inr none) = subst (IsJumpAnswer table request) (sym (unsegmented_answer table (requested_label request) (Least least ∷ []) formed none)) (none, refl)
+    text : List ℕ
+    text = requested_text request
+
+    least : Option (List ℕ)
+    least = slice_get (candidates_from table label text) 0
 
 -- the first fault of the label is told before that
 pub jump-refused : (table : TableValue) (request : List ℕ) (refusal : Refusal) → first_fault (requested_label request) ≡ Some refusal → jump_answer table request ≡ Err refusal

@@ -8,6 +8,10 @@ pub mod TextAnswers
 pub mod BlockSteps
 -- What a listing asks of labels, and what is known of it.
 pub mod FilterLemmas
+-- What a test of labels finds and keeps.
+pub mod RulingLemmas
+-- What a label spells joins sources and variants of the table.
+pub mod SpelledLemmas
 -- The stop of a listing, as it is seen from where the cursor stands.
 pub mod StopSteps
 -- One line more, and the end of the lines.
@@ -24,8 +28,8 @@ pub mod CheckLemmas
 pub mod DecodedLemmas
 -- The listing of a label's variants, and the labels in it.
 pub mod ListingLemmas
--- Labels that can be cut into sources of a table, and others.
-pub mod SegmentedLabels
+-- Labels that a table admits, and others.
+pub mod AdmittedLabels
 -- Which labels may be allocated, as tests tell it.
 pub mod AllocationLemmas
 -- The third field of a variant's line: which variants the table without its blocked variants spells.

@@ -33,13 +33,14 @@ use Rattle.idn_cause.proofs.NameLaws.{name_cause-is, name_fault-has_cause}
 use Rattle.idn_cause.proofs.QueryLaws.{query_cause-is, query_fault-has_cause}
 use Rattle.variant_table.specs.Entries.{TableValue}
 use Rattle.variant_table.specs.WellFormed.{IsWellFormed}
-use Rattle.variant_list.specs.Furthest.{furthest}
-use Rattle.valid_labels.specs.Segmentations.{HasSegmentation}
-use Rattle.variant_list.proofs.FurthestLemmas.{furthest-is, furthest-within}
+use Rattle.valid_labels.specs.Furthest.{furthest}
+use Rattle.valid_labels.specs.Segmentations.{IsMadeOfSources}
+use Rattle.valid_labels.specs.Validity.{IsSound}
+use Rattle.valid_labels.proofs.SourceLemmas.{furthest-told}
 use Rattle.idn2_options.specs.Settings.{Settings, tells_causes}
 use Rattle.idn2_options.specs.declared.command_line.mode.Mode.{Mode}
 use Rattle.idn2_options.specs.declared.command_line.mode.Mode.TheVariants as modes
-use Rattle.idn2_cli.specs.Answers.{LineAnswer, if_segmented, line_answer, mode_answer, one_answer, requested_label, text_answer}
+use Rattle.idn2_cli.specs.Answers.{IsRefusedAs, LineAnswer, if_admitted, line_answer, mode_answer, one_answer, requested_label, text_answer}
 use Rattle.idn2_cli.specs.Explained.{Explained, Unexplained, ByLabel, ByName, ByQuery, ByTable, ByRequest, ByTest, bad_byte, body_cause, explained_by_mode, explained_in, if_wanted, outside_cause, points_cause, registered_cause, table_cause, text_cause, unless_unexplained}
 use Rattle.idn2_cli.specs.LineCauses.{IsBadByte, IsExplained, IsLineCause, IsOf, IsOutsideCause, IsPointsCause, IsRegisteredCause, IsTableCause, RefusalsAreExplained}
 use Rattle.idn2_cli.specs.Said.{Said}
@@ -47,7 +48,7 @@ use Rattle.idn2_cli.specs.Transcript.{Refuses, pieces_for, line_pieces, piece_in
 use Rattle.idn2_cli.specs.declared.refusals.cause.LineCause.{LineCause}
 use Rattle.idn2_cli.specs.declared.refusals.cause.LineCause.TheVariants.{Byte, LongLine, OfLabel, OfALabel, OfName, OfQuery}
 use Rattle.idn2_cli.proofs.CauseLemmas.{bad_byte-at, outside-told}
-use Rattle.idn2_cli.proofs.SegmentedLabels.{segmented_answer, segmented_or_not, unsegmented_answer}
+use Rattle.idn2_cli.proofs.AdmittedLabels.{admitted-made, admitted_answer, admitted_or_refused, refused_answer}
 
 -- ---- what is told of code points is their cause
 
@@ -75,18 +76,18 @@ registered-is label refusal cause = by_prefix (has_ace_prefix label) refl
         let is = of-part OfLabel (cause_of label refusal) (IsCause label refusal) cause (cause-is label refusal) in
         (λ h. inr (e, is.0 h), λ has. elim has [ inl coded ↦ absurd (let clash : true ≡ false = sym coded.0 ∙ e in cc) | inr plain ↦ is.1 plain.1 ])
 
--- a label that is refused with 40 is short enough to be registered, and can't be cut into sources
+-- a label that is refused with 40 is short enough to be registered, and isn't made of sources
 abbrev IsOutside : TableValue → List ℕ → Type 0
-IsOutside table label = (length label ≤ 63) × (HasSegmentation table label → ⊥)
+IsOutside table label = (length label ≤ 63) × (IsMadeOfSources table label → ⊥)
 
 outside-is : (table : TableValue) (label : List ℕ) (cause : Cause) → IsWellFormed table.entries → IsOutside table label → (table_cause table label NotInTable ≡ Some cause) ↔ IsOutsideCause table label cause
 outside-is table label cause formed outside =
-    let is = furthest-is table label formed in
+    let is = (furthest-told.exactly table label (furthest table label) formed).1 refl in
     let told = outside-told table label (furthest table label) formed outside.0 is in (
       λ h.
           let found : Some (Point (furthest table label) (slice_index label (furthest table label))) ≡ Some cause = sym told ∙ h in
           let same : Point (furthest table label) (slice_index label (furthest table label)) ≡ cause = cc in
-          (furthest table label, is, furthest-within table label formed outside.1, sym same),
+          (furthest table label, is, furthest-told.within table label formed outside.1, sym same),
       λ has. outside-told table label has.0 formed outside.0 has.1 ∙ ap Some (sym has.3),
     )
 
@@ -168,69 +169,77 @@ fault-not_outside : (label : List ℕ) → first_fault label ≡ Some NotInTable
 unfolding cause_of
 fault-not_outside label fault = fault-has_cause label NotInTable fault (λ same. cc) refl
 
-unsegmented : (table : TableValue) (label : List ℕ) (said : List Said) (refusal : Refusal) → IsWellFormed table.entries → if_segmented table label said ≡ Err refusal → (refusal ≡ NotInTable) × (HasSegmentation table label → ⊥)
-unsegmented table label said refusal formed refused = elim (segmented_or_not table label formed) [
-  | inl has ↦ absurd (let clash : Ok said ≡ Err refusal = sym (segmented_answer table label said formed has) ∙ refused in cc)
-  | inr none ↦
-      let told : Err NotInTable ≡ Err refusal = sym (unsegmented_answer table label said formed none) ∙ refused in
-      let same : NotInTable ≡ refusal = cc in (sym same, none)
+refused-as : (table : TableValue) (label : List ℕ) (said : List Said) (refusal : Refusal) → IsSound table → if_admitted table label said ≡ Err refusal → IsRefusedAs table label refusal
+refused-as table label said refusal sound refused = elim (admitted_or_refused table label sound) [
+  | inl is ↦ absurd (let clash : Ok said ≡ Err refusal = sym (admitted_answer table label said sound is) ∙ refused in cc)
+  | inr other ↦
+      let told : Err other.0 ≡ Err refusal = sym (refused_answer table label other.0 said sound other.1 (admitted-made table label)) ∙ refused in
+      let same : other.0 ≡ refusal = cc in subst (IsRefusedAs table label) same other.1
 ]
 
 -- what is asked of a label under a table
 abbrev IsTested : TableValue → List ℕ → Refusal → Type 0
-IsTested table label refusal = (said : List Said) × (unless_fault (first_fault label) (if_segmented table label said) ≡ Err refusal)
+IsTested table label refusal = (said : List Said) × (unless_fault (first_fault label) (if_admitted table label said) ≡ Err refusal)
 
-table-refused : (table : TableValue) (label : List ℕ) (refusal : Refusal) → IsWellFormed table.entries → IsTested table label refusal → (first_fault label ≡ Some refusal) ⊎ ((refusal ≡ NotInTable) × IsOutside table label)
-table-refused table label refusal formed tested = elim (fault_or_result (first_fault label) (if_segmented table label tested.0) refusal tested.1) [
+table-refused : (table : TableValue) (label : List ℕ) (refusal : Refusal) → IsSound table → IsTested table label refusal
+    → (first_fault label ≡ Some refusal) ⊎ (((refusal ≡ NotInTable) × IsOutside table label) ⊎ (refusal ≡ refusals.NotValid))
+table-refused table label refusal sound tested = elim (fault_or_result (first_fault label) (if_admitted table label tested.0) refusal tested.1) [
   | inl fault ↦ inl fault
-  | inr result ↦
-      let is = unsegmented table label tested.0 refusal formed result.1 in
-      inr (is.0, ((MeetsRequirements-registrable label result.0).points, is.1))
+  | inr result ↦ elim (refused-as table label tested.0 refusal sound result.1) [
+    | inl outside ↦ inr (inl (outside.1, ((MeetsRequirements-registrable label result.0).points, outside.0)))
+    | inr other ↦ inr (inr other.2)
+  ]
 ]
 
-table-outside : (table : TableValue) (label : List ℕ) (refusal : Refusal) → IsWellFormed table.entries → IsTested table label refusal → refusal ≡ NotInTable → IsOutside table label
-table-outside table label refusal formed tested same = elim (table-refused table label refusal formed tested) [
+table-outside : (table : TableValue) (label : List ℕ) (refusal : Refusal) → IsSound table → IsTested table label refusal → refusal ≡ NotInTable → IsOutside table label
+table-outside table label refusal sound tested same = elim (table-refused table label refusal sound tested) [
   | inl fault ↦ absurd (fault-not_outside label (fault ∙ ap Some same))
-  | inr outside ↦ outside.1
+  | inr others ↦ elim others [
+    | inl outside ↦ outside.1
+    | inr other ↦ absurd (let clash : refusals.NotValid ≡ NotInTable = sym other ∙ same in cc)
+  ]
 ]
 
 table_cause-other : (table : TableValue) (label : List ℕ) (refusal : Refusal) → refusal ≢ NotInTable → table_cause table label refusal ≡ cause_of label refusal
 table_cause-other table label NotInTable other = absurd (other refl)
 table_cause-other table label refusal other = refl
 
-table-told : (table : TableValue) (label : List ℕ) (refusal : Refusal) → IsWellFormed table.entries → IsTested table label refusal → refusal ≢ refusals.Empty → table_cause table label refusal ≢ None
-table-told table label refusal formed tested some none = elim (table-refused table label refusal formed tested) [
+table-told : (table : TableValue) (label : List ℕ) (refusal : Refusal) → IsSound table → IsTested table label refusal → refusal ≢ refusals.Empty → refusal ≢ refusals.NotValid → table_cause table label refusal ≢ None
+table-told table label refusal sound tested some valid none = elim (table-refused table label refusal sound tested) [
   | inl fault ↦
       let other : refusal ≢ NotInTable = λ same. fault-not_outside label (fault ∙ ap Some same) in
       fault-has_cause label refusal fault some (sym (table_cause-other table label refusal other) ∙ none)
-  | inr outside ↦
-      let told = outside-told table label (furthest table label) formed outside.1.0 (furthest-is table label formed) in
-      let clash : Some (Point (furthest table label) (slice_index label (furthest table label))) ≡ None = sym told ∙ ap (table_cause table label) (sym outside.0) ∙ none in cc
+  | inr others ↦ elim others [
+    | inl outside ↦
+        let told = outside-told table label (furthest table label) sound.entries outside.1.0 ((furthest-told.exactly table label (furthest table label) sound.entries).1 refl) in
+        let clash : Some (Point (furthest table label) (slice_index label (furthest table label))) ≡ None = sym told ∙ ap (table_cause table label) (sym outside.0) ∙ none in cc
+    | inr other ↦ valid other
+  ]
 ]
 
 -- of each mode
-points-refused : (mode : Mode) (o : Settings) (table : TableValue) (points : List ℕ) (refusal : Refusal) → IsWellFormed table.entries → mode_answer mode o table points ≡ Err refusal → IsRefusedBy (explained_by_mode mode o table) points refusal
+points-refused : (mode : Mode) (o : Settings) (table : TableValue) (points : List ℕ) (refusal : Refusal) → IsSound table → mode_answer mode o table points ≡ Err refusal → IsRefusedBy (explained_by_mode mode o table) points refusal
 points-refused modes.Lookup o table points refusal formed refused = tt
 points-refused modes.Register o table points refusal formed refused = tt
 points-refused modes.Decode o table points refusal formed refused = tt
-points-refused modes.Variants o table points refusal formed refused = (formed, table-outside table points refusal formed (_, refused))
-points-refused modes.Jump o table points refusal formed refused = (formed, table-outside table (requested_label points) refusal formed (_, refused))
+points-refused modes.Variants o table points refusal formed refused = (formed.entries, table-outside table points refusal formed (_, refused))
+points-refused modes.Jump o table points refusal formed refused = (formed.entries, table-outside table (requested_label points) refusal formed (_, refused))
 points-refused modes.CheckTable o table points refusal formed refused = tt
 
-points-told : (mode : Mode) (o : Settings) (table : TableValue) (points : List ℕ) (refusal : Refusal) → IsWellFormed table.entries → mode_answer mode o table points ≡ Err refusal → refusal ≢ refusals.Empty → refusal ≢ refusals.LookupInvalid → points_cause (explained_by_mode mode o table) points refusal ≢ None
+points-told : (mode : Mode) (o : Settings) (table : TableValue) (points : List ℕ) (refusal : Refusal) → IsSound table → mode_answer mode o table points ≡ Err refusal → refusal ≢ refusals.Empty → refusal ≢ refusals.LookupInvalid → refusal ≢ refusals.NotValid → points_cause (explained_by_mode mode o table) points refusal ≢ None
 unfolding points_cause
-points-told modes.Lookup o table points refusal formed refused some other none =
+points-told modes.Lookup o table points refusal formed refused some other valid none =
     query-told (utf8_of points) o.std3 refusal (of_text-refused _ (query_name (utf8_of points) o.std3) refusal refused) other (untold OfQuery (query_cause (utf8_of points) o.std3 refusal) none)
-points-told modes.Register o table points refusal formed refused some other none =
+points-told modes.Register o table points refusal formed refused some other valid none =
     registered-told points refusal (of_text-refused _ (register_answer points) refusal refused) some none
-points-told modes.Decode o table points refusal formed refused some other none =
+points-told modes.Decode o table points refusal formed refused some other valid none =
     name_fault-has_cause points refusal (then-refused (decode_answer points) utf8_of refusal (of_text-refused _ (in_utf8 (decode_answer points)) refusal refused)) some
     (untold OfName (name_cause points refusal) none)
-points-told modes.Variants o table points refusal formed refused some other none =
-    table-told table points refusal formed (_, refused) some (untold OfLabel (table_cause table points refusal) none)
-points-told modes.Jump o table points refusal formed refused some other none =
-    table-told table (requested_label points) refusal formed (_, refused) some (untold OfLabel (table_cause table (requested_label points) refusal) none)
-points-told modes.CheckTable o table points refusal formed refused some other none = let clash : Ok [] ≡ Err refusal = refused in cc
+points-told modes.Variants o table points refusal formed refused some other valid none =
+    table-told table points refusal formed (_, refused) some valid (untold OfLabel (table_cause table points refusal) none)
+points-told modes.Jump o table points refusal formed refused some other valid none =
+    table-told table (requested_label points) refusal formed (_, refused) some valid (untold OfLabel (table_cause table (requested_label points) refusal) none)
+points-told modes.CheckTable o table points refusal formed refused some other valid none = let clash : Ok [] ≡ Err refusal = refused in cc
 
 -- ---- bytes that are no UTF-8
 
@@ -316,9 +325,9 @@ text-refused answer bytes refusal utf8 refused =
     by_length true h = let same : refusals.Empty ≡ refusal = cc in inl (sym same)
     by_length false h = inr h
 
-empty-refused : (mode : Mode) (o : Settings) (table : TableValue) (points : List ℕ) → IsWellFormed table.entries → IsRefusedBy (explained_by_mode mode o table) points refusals.Empty
-empty-refused modes.Variants o table points formed = (formed, λ same. absurd (let clash : refusals.Empty ≡ NotInTable = same in cc))
-empty-refused modes.Jump o table points formed = (formed, λ same. absurd (let clash : refusals.Empty ≡ NotInTable = same in cc))
+empty-refused : (mode : Mode) (o : Settings) (table : TableValue) (points : List ℕ) → IsSound table → IsRefusedBy (explained_by_mode mode o table) points refusals.Empty
+empty-refused modes.Variants o table points formed = (formed.entries, λ same. absurd (let clash : refusals.Empty ≡ NotInTable = same in cc))
+empty-refused modes.Jump o table points formed = (formed.entries, λ same. absurd (let clash : refusals.Empty ≡ NotInTable = same in cc))
 empty-refused modes.Lookup o table points formed = tt
 empty-refused modes.Register o table points formed = tt
 empty-refused modes.Decode o table points formed = tt
@@ -332,7 +341,7 @@ explains modes.Variants o table other = λ same. let clash : ByTable table ≡ U
 explains modes.Jump o table other = λ same. let clash : ByRequest table ≡ Unexplained = same in cc
 explains modes.CheckTable o table other = absurd (other refl)
 
-line-exactly : (mode : Mode) (o : Settings) (table : TableValue) (body : Option (List ℕ)) (refusal : Refusal) (cause : LineCause) → mode ≢ modes.CheckTable → IsWellFormed table.entries
+line-exactly : (mode : Mode) (o : Settings) (table : TableValue) (body : Option (List ℕ)) (refusal : Refusal) (cause : LineCause) → mode ≢ modes.CheckTable → IsSound table
     → line_answer (mode_answer mode o table) body ≡ Err refusal → IsToldAs (explained_by_mode mode o table) body refusal cause
 line-exactly mode o table None refusal cause other formed refused = long-is (explained_by_mode mode o table) refusal cause (explains mode o table other)
 line-exactly mode o table (Some bytes) refusal cause other formed refused = text-is (explained_by_mode mode o table) bytes refusal cause (explains mode o table other) by
@@ -343,16 +352,16 @@ line-exactly mode o table (Some bytes) refusal cause other formed refused = text
       | inr points ↦ points-refused mode o table (chars bytes) refusal formed points
     ]
 
-line-always : (mode : Mode) (o : Settings) (table : TableValue) (body : Option (List ℕ)) (refusal : Refusal) → mode ≢ modes.CheckTable → IsWellFormed table.entries
-    → line_answer (mode_answer mode o table) body ≡ Err refusal → refusal ≢ refusals.Empty → refusal ≢ refusals.LookupInvalid → body_cause (explained_by_mode mode o table) body refusal ≢ None
-line-always mode o table None refusal other formed refused some valid none =
+line-always : (mode : Mode) (o : Settings) (table : TableValue) (body : Option (List ℕ)) (refusal : Refusal) → mode ≢ modes.CheckTable → IsSound table
+    → line_answer (mode_answer mode o table) body ≡ Err refusal → refusal ≢ refusals.Empty → refusal ≢ refusals.LookupInvalid → refusal ≢ refusals.NotValid → body_cause (explained_by_mode mode o table) body refusal ≢ None
+line-always mode o table None refusal other formed refused some lookup valid none =
     let clash : Some LongLine ≡ None = sym (wanted-told (explained_by_mode mode o table) LongLine (explains mode o table other)) ∙ none in cc
-line-always mode o table (Some bytes) refusal other formed refused some valid none = by_utf8 (is_utf8 bytes) refl none
+line-always mode o table (Some bytes) refusal other formed refused some lookup valid none = by_utf8 (is_utf8 bytes) refl none
   where
     by_utf8 : (utf8 : Bool) → is_utf8 bytes ≡ utf8 → cond utf8 (points_cause (explained_by_mode mode o table) (chars bytes) refusal) (unless_unexplained (explained_by_mode mode o table) (bad_byte bytes)) ≡ None → ⊥
     by_utf8 true e n = elim (text-refused (mode_answer mode o table) bytes refusal e refused) [
       | inl empty ↦ some empty
-      | inr points ↦ points-told mode o table (chars bytes) refusal formed points some valid n
+      | inr points ↦ points-told mode o table (chars bytes) refusal formed points some lookup valid n
     ]
     by_utf8 false e n = let clash : Some (bad_byte bytes) ≡ None = sym (wanted-told (explained_by_mode mode o table) (bad_byte bytes) (explains mode o table other)) ∙ n in cc
 
@@ -363,7 +372,7 @@ refusals_explained mode o table line refusal other wanted formed refused =
     λ cause. subst (λ (how : Explained). IsToldAs how line.body refusal cause) (sym same) (line-exactly mode o table line.body refusal cause other formed refused) in
     record {
       exactly = is;
-      always = λ some valid none. line-always mode o table line.body refusal other formed refused some valid (ap (λ (how : Explained). body_cause how line.body refusal) (sym same) ∙ none);
+      always = λ some lookup valid none. line-always mode o table line.body refusal other formed refused some lookup valid (ap (λ (how : Explained). body_cause how line.body refusal) (sym same) ∙ none);
       told = λ cause has.
           ap (pieces_for o.form (explained_in mode o table) line) refused
           ∙ ap (λ (told : Option LineCause). piece_in o.form (Refuses line refusal told) ∷ []) ((is cause).1 has);

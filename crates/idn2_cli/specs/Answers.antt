@@ -1,12 +1,12 @@
 -- What a line of input is answered, or why it is refused.
-use Rattle.std.specs.Prelude.{◌≡◌, ◌⊎◌, ℕ, zero, suc, ◌<◌, ◌≤◌, ◌==◌, ◌||◌, Bool, bytes_eq, Contains, List, [], ◌∷◌, ◌++◌, length, chars, Option, Some, None, Result, Ok, Err, if◌then◌else◌, ◌-◌, map, filter}
+use Rattle.std.specs.Prelude.{◌≡◌, ◌⊎◌, ℕ, zero, suc, ◌<◌, ◌≤◌, ◌==◌, ◌&&◌, ◌||◌, Bool, bytes_eq, Contains, List, [], ◌∷◌, ◌++◌, length, chars, Option, Some, None, Result, Ok, Err, if◌then◌else◌, ◌-◌, map, filter}
 use Rattle.std.specs.Str.{is_utf8}
 use Rattle.std.specs.List.{list_any, slice_get, before_first, after_first}
 use Rattle.std.specs.Option.{is_none}
 use Rattle.std.specs.Ordering.{is_le}
 use Rattle.idna.specs.Validity.{has_ace_prefix}
 use Rattle.idn_text.specs.declared.refusal.Refusal.{Refusal}
-use Rattle.idn_text.specs.declared.refusal.Refusal.TheVariants.{LineTooLong, NotUtf8, Empty, NotInTable}
+use Rattle.idn_text.specs.declared.refusal.Refusal.TheVariants.{LineTooLong, NotUtf8, Empty, NotInTable, NotValid}
 use Rattle.idn_class.specs.Hopeless.{hopeless, HasHope}
 use Rattle.idn_label.specs.FirstFault.{first_fault, IsRegistrable}
 use Rattle.idn_label.specs.Answers.{Answer, unless_fault}
@@ -17,6 +17,9 @@ use Rattle.idn_label.specs.Lookup.{lookup_answer}
 use Rattle.variant_table.specs.declared.version.Version.{Version}
 use Rattle.variant_table.specs.declared.version.Version.TheVariants.{One, Two, Three}
 use Rattle.variant_table.specs.Entries.{TableValue}
+use Rattle.valid_labels.specs.Validity.{HasNoLostBeginning, IsAdmitted, IsValid}
+use Rattle.valid_labels.specs.Tests.{asks_nothing, is_admitted, is_lost, is_made_of_sources, is_valid}
+use Rattle.variant_list.specs.Beginnings.{has_hope}
 use Rattle.variant_list.specs.declared.part.Part.{Part}
 use Rattle.variant_list.specs.declared.part.Part.TheVariants.{Whole, Unblocked, Tagged}
 use Rattle.variant_list.specs.Spelled.{part_spelled, spelled}
@@ -27,7 +30,7 @@ use Rattle.answer_json.specs.declared.block.Disposition.{Disposition}
 use Rattle.answer_json.specs.declared.block.Disposition.TheVariants.{Allocatable, Blocked}
 use Rattle.idn2_cli.specs.Said.{Said, LookedUp, Registered, Decoded, Listed, BlockEnd, Least}
 use Rattle.variant_list.specs.Labels.{label_cmp, IsBelow, IsListOf}
-use Rattle.valid_labels.specs.Segmentations.{HasSegmentation}
+use Rattle.valid_labels.specs.Segmentations.{IsMadeOfSources}
 use Rattle.variant_list.specs.Spelling.{PartSpells, Spells}
 use Rattle.variant_list.specs.Tested.{tested_among}
 use Rattle.variant_list.specs.Variants.{candidates_among, variants_among}
@@ -49,9 +52,20 @@ pub record Filter : Type 0 where
 abbrev pub registrable_labels : Filter
 registrable_labels = record { accepts = is_registrable; hopeless = hopeless }
 
--- what is asked under a table
+-- that they are valid under the table, too, and no beginning of them is lost: none of a valid label is
+abbrev pub ruled_labels : TableValue → Filter
+ruled_labels table =
+    record {
+      accepts = λ v. is_registrable v && (is_valid table v && has_hope (is_lost table) v);
+      hopeless = λ w. hopeless w || is_lost table w;
+    }
+
+-- what is asked under a table, by whether it asks nothing of its labels: then each label that is spelled is valid
+abbrev pub filter_if : Bool → TableValue → Filter
+filter_if asks_nothing table = if asks_nothing then registrable_labels else ruled_labels table
+
 abbrev pub filter_of : TableValue → Filter
-filter_of table = registrable_labels
+filter_of table = filter_if (asks_nothing table) table
 
 -- whether a label is one of these
 abbrev pub is_among : List (List ℕ) → List ℕ → Bool
@@ -177,13 +191,14 @@ label_or (Err refusal) given = given
 abbrev pub u_label_of : List ℕ → List ℕ
 u_label_of label = if has_ace_prefix label then label_or (u_label_answer label) label else label
 
--- this for a label that can be cut into sources of the table; any other label is refused
-abbrev pub if_segmented : TableValue → List ℕ → List Said → LineAnswer
-if_segmented table label said = if length (spelled table label) == 0 then Err NotInTable else Ok said
+-- this for a label that the table admits. Any other is refused: it isn't made of sources of the table, or it is, and isn't valid
+abbrev pub if_admitted : TableValue → List ℕ → List Said → LineAnswer
+if_admitted table label said =
+    if is_admitted table label then Ok said else (if is_made_of_sources table label then Err NotValid else Err NotInTable)
 
 -- the block of such a label
 abbrev pub listing_answer : Settings → TableValue → List ℕ → LineAnswer
-listing_answer o table label = if_segmented table label (block o table label)
+listing_answer o table label = if_admitted table label (block o table label)
 
 -- the same, where the label may be registered; its first fault is reported before that
 abbrev pub variants_answer : Settings → TableValue → List ℕ → LineAnswer
@@ -192,7 +207,7 @@ variants_answer o table label = unless_fault (first_fault label) (listing_answer
 -- the least label from a text on that such a label spells
 abbrev pub least_answer : TableValue → List ℕ → List ℕ → LineAnswer
 least_answer table label text =
-    if_segmented table label (Least (slice_get (candidates_from table label text) 0) ∷ [])
+    if_admitted table label (Least (slice_get (candidates_from table label text) 0) ∷ [])
 
 -- the same of a request, whose label may be registered; its first fault is reported before that
 abbrev pub jump_answer : TableValue → List ℕ → LineAnswer
@@ -225,19 +240,22 @@ abbrev pub IsKept : Option (List (List ℕ)) → List ℕ → Type 0
 IsKept None v = Unit {0}
 IsKept (Some registered) v = Contains registered v
 
--- a registrable label, greater than the text of the settings, that arises by cutting the label into sources of the table and
--- replacing each by itself or one of its variants; and which is registered, if the listing is kept to registered labels
+-- a registrable label, valid under the table, greater than the text of the settings, that arises by cutting the label into sources
+-- of the table and replacing each by itself or one of its variants, as far as their conditions hold in the label; and which is
+-- registered, if the listing is kept to registered labels
 pub record IsListed (o : Settings) (table : TableValue) (label v : List ℕ) : Type 0 where
   pub registrable : IsRegistrable v
+  pub valid : IsValid table v
   pub greater : IsBelow o.after v
   pub spelled : Spells table label v
   pub kept : IsKept o.registered v
 
--- a label of at most 63 code points that arises so, greater than the text, with no hopeless beginning, where the listing is
--- whole: one that is kept to registered labels tries none
+-- a label of at most 63 code points that arises so, greater than the text, with no beginning that is hopeless or lost, where the
+-- listing is whole: one that is kept to registered labels tries none
 pub record IsTried (o : Settings) (table : TableValue) (label v : List ℕ) : Type 0 where
   pub short : length v ≤ 63
   pub hope : HasHope v
+  pub found : HasNoLostBeginning table v
   pub greater : IsBelow o.after v
   pub spelled : Spells table label v
   pub whole : o.registered ≡ None
@@ -288,10 +306,16 @@ pub record IsBlock (o : Settings) (table : TableValue) (label : List ℕ) (said 
   pub disposed : (v : List ℕ) → IsDisposition table label v (field v)
   pub exact : said ≡ map (λ v. Listed (field v) v) (up_to stop listed) ++ BlockEnd (length (up_to stop listed)) stop ∷ []
 
--- a label that can be cut into sources of the table is answered by its block, and any other is refused
+-- a label is refused that isn't made of sources of the table; and so is another one that the table doesn't admit
+abbrev pub IsRefusedAs : TableValue → List ℕ → Refusal → Type 0
+IsRefusedAs table label refusal =
+    ((¬ IsMadeOfSources table label) × (refusal ≡ NotInTable))
+    ⊎ (IsMadeOfSources table label × (¬ IsAdmitted table label) × (refusal ≡ NotValid))
+
+-- a label that the table admits is answered by its block, and any other is refused
 abbrev pub IsListing : Settings → TableValue → List ℕ → LineAnswer → Type 0
-IsListing o table label (Ok said) = HasSegmentation table label × IsBlock o table label said
-IsListing o table label (Err refusal) = (¬ HasSegmentation table label) × (refusal ≡ NotInTable)
+IsListing o table label (Ok said) = IsAdmitted table label × IsBlock o table label said
+IsListing o table label (Err refusal) = IsRefusedAs table label refusal
 
 -- ---- the least label from a text on, by what it has to be
 
@@ -304,9 +328,9 @@ IsLeast P text None = HasNoneFrom (IsCandidate P) text
 abbrev pub IsJump : TableValue → List ℕ → List ℕ → Option (List ℕ) → Type 0
 IsJump table label text = IsLeast (Spells table label) text
 
--- a request whose label can be cut into sources of the table is answered by that label, and any other is refused
+-- a request whose label the table admits is answered by that label, and any other is refused
 abbrev pub IsJumpAnswer : TableValue → List ℕ → LineAnswer → Type 0
 IsJumpAnswer table request (Ok said) =
-    HasSegmentation table (requested_label request)
+    IsAdmitted table (requested_label request)
     × ((least : Option (List ℕ)) × (said ≡ Least least ∷ []) × IsJump table (requested_label request) (requested_text request) least)
-IsJumpAnswer table request (Err refusal) = (¬ HasSegmentation table (requested_label request)) × (refusal ≡ NotInTable)
+IsJumpAnswer table request (Err refusal) = IsRefusedAs table (requested_label request) refusal

@@ -13,7 +13,7 @@ use Rattle.idn_cause.specs.Causes.{cause_of}
 use Rattle.idn_cause.specs.ALabelCauses.{a_label_cause}
 use Rattle.idn_cause.specs.NameCauses.{name_cause, query_cause}
 use Rattle.variant_table.specs.Entries.{TableValue}
-use Rattle.variant_list.specs.Furthest.{furthest}
+use Rattle.valid_labels.specs.Furthest.{furthest}
 use Rattle.idn2_options.specs.Settings.{Settings, tells_causes}
 use Rattle.idn2_options.specs.declared.command_line.mode.Mode.{Mode}
 use Rattle.idn2_options.specs.declared.command_line.mode.Mode.TheVariants.{Lookup, Register, Decode, Variants, Jump, CheckTable}

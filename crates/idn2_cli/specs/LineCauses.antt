@@ -5,15 +5,15 @@ use Rattle.idna.specs.Validity.{has_ace_prefix}
 use Rattle.idn_text.specs.Lines.{Numbered}
 use Rattle.idn_text.specs.Points.{utf8_of}
 use Rattle.idn_text.specs.declared.refusal.Refusal.{Refusal}
-use Rattle.idn_text.specs.declared.refusal.Refusal.TheVariants.{Empty, LookupInvalid, NotInTable}
+use Rattle.idn_text.specs.declared.refusal.Refusal.TheVariants.{Empty, LookupInvalid, NotInTable, NotValid}
 use Rattle.idn_cause.specs.declared.cause.Cause.{Cause}
 use Rattle.idn_cause.specs.declared.cause.Cause.TheVariants.{Point}
 use Rattle.idn_cause.specs.Causes.{IsCause}
 use Rattle.idn_cause.specs.ALabelCauses.{IsALabelCause}
 use Rattle.idn_cause.specs.NameCauses.{IsNameCause, IsQueryCause}
 use Rattle.variant_table.specs.Entries.{TableValue}
-use Rattle.variant_table.specs.WellFormed.{IsWellFormed}
-use Rattle.variant_list.specs.Furthest.{IsFurthest}
+use Rattle.valid_labels.specs.Validity.{IsSound}
+use Rattle.valid_labels.specs.Furthest.{IsFurthest}
 use Rattle.idn2_options.specs.Settings.{Settings, tells_causes}
 use Rattle.idn2_options.specs.declared.command_line.mode.Mode.{Mode}
 use Rattle.idn2_options.specs.declared.command_line.mode.Mode.TheVariants.{CheckTable}
@@ -33,7 +33,7 @@ IsRegisteredCause label refusal cause =
     ((has_ace_prefix label ≡ true) × IsOf OfALabel (IsALabelCause label refusal) cause)
     ⊎ ((has_ace_prefix label ≡ false) × IsOf OfLabel (IsCause label refusal) cause)
 
--- of a label that can't be cut into sources of a table: the code point after the furthest place that they reach (RFC 7940, section 8.1)
+-- of a label that isn't made of sources of a table: the code point after the furthest place that they reach (RFC 7940, section 8.1)
 abbrev pub IsOutsideCause : TableValue → List ℕ → Cause → Type 0
 IsOutsideCause table label cause =
     (place : ℕ) × IsFurthest table label place × (place < length label) × (cause ≡ Point place (slice_index label place))
@@ -63,12 +63,12 @@ IsLineCause how None refusal cause = cause ≡ LongLine
 IsLineCause how (Some bytes) refusal cause =
     ((is_utf8 bytes ≡ false) × IsBadByte bytes cause) ⊎ ((is_utf8 bytes ≡ true) × IsPointsCause how (chars bytes) refusal cause)
 
--- a refused line is told with this cause, where causes are wanted, and with no other. Each has one but an empty line, and a name of
--- which ToASCII tells no more than that it is none (UTS 46, section 4.2)
+-- a refused line is told with this cause, where causes are wanted, and with no other. Each has one but an empty line, a name of which
+-- ToASCII tells no more than that it is none (UTS 46, section 4.2), and a label that isn't valid under a ruleset
 pub record IsExplained (mode : Mode) (o : Settings) (table : TableValue) (line : Numbered) (refusal : Refusal) : Type 0 where
   pub exactly : (cause : LineCause) →
       (body_cause (explained_in mode o table) line.body refusal ≡ Some cause) ↔ IsLineCause (explained_in mode o table) line.body refusal cause
-  pub always : refusal ≢ Empty → refusal ≢ LookupInvalid → body_cause (explained_in mode o table) line.body refusal ≢ None
+  pub always : refusal ≢ Empty → refusal ≢ LookupInvalid → refusal ≢ NotValid → body_cause (explained_in mode o table) line.body refusal ≢ None
   pub told : (cause : LineCause) → IsLineCause (explained_in mode o table) line.body refusal cause →
       line_pieces o.form (explained_in mode o table) (mode_answer mode o table) line ≡ piece_in o.form (Refuses line refusal (Some cause)) ∷ []
 
@@ -76,4 +76,4 @@ pub record IsExplained (mode : Mode) (o : Settings) (table : TableValue) (line :
 abbrev pub RefusalsAreExplained : Type 0
 RefusalsAreExplained =
     (mode : Mode) (o : Settings) (table : TableValue) (line : Numbered) (refusal : Refusal) → mode ≢ CheckTable → tells_causes o ≡ true →
-    IsWellFormed table.entries → line_answer (mode_answer mode o table) line.body ≡ Err refusal → IsExplained mode o table line refusal
+    IsSound table → line_answer (mode_answer mode o table) line.body ≡ Err refusal → IsExplained mode o table line refusal

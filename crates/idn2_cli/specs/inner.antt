@@ -11,3 +11,5 @@ pub mod Asked
 pub mod Objects
 pub mod ServedLines
 pub mod CauseRoom
+pub mod Ruling
+pub mod ForGood

@@ -1,5 +1,6 @@
 //! What each mode does with a line, or with the table.
 
+mod admission;
 mod allocations;
 pub(crate) mod answering;
 mod block;
@@ -14,6 +15,7 @@ mod lookup;
 mod register;
 mod variants;
 
+pub(crate) use admission::ruling_of_table;
 pub(crate) use check_table::check_table;
 pub(crate) use decode::Decode;
 pub(crate) use dispositions::Dispositions;

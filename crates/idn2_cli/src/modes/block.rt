@@ -1,28 +1,29 @@
 //! The block of a label: a line for each of its variants, and a trailer.
 
-ghost use Rattle.std.specs.Prelude.{◌≡◌, ◌≤◌, ◌∷◌, [], ◌++◌, length, codes, decimal, All, None, Some, IfOk, IfErr, IsOk, OnErr};
+ghost use Rattle.std.specs.Prelude.{◌≡◌, ◌≤◌, ℕ, ◌∷◌, [], ◌++◌, List, length, codes, decimal, All, None, Some, IfOk, IfErr, IsOk, OnErr};
 ghost use Rattle.idn_text.specs.Points.{AreScalarValues};
 ghost use Rattle.idn_class.specs.Known.{AreKnown};
 ghost use Rattle.idn_punycode.specs.Kept.{IsTakenApart};
 ghost use Rattle.idn_label.specs.ALabel.{a_label_of};
 ghost use Rattle.idn_label.specs.FirstFault.{IsRegistrable};
 ghost use Rattle.idn_label.specs.Memory.{NeedsNoMemory};
-ghost use Rattle.idn_label.proofs.HopeLemmas.{none_hopeless};
 ghost use Rattle.variant_list.specs.Beginnings.{shortest_hopeless};
 ghost use Rattle.variant_list.specs.Sharing.{IsKeptOf};
 ghost use Rattle.variant_list.specs.Tested.{tested_among};
 ghost use Rattle.variant_list.specs.Verdicts.{IsVerdict};
 ghost use Rattle.idn2_options.specs.Settings.{IsWithinLimits, keeping};
 ghost use Rattle.idn2_cli.specs.Transcript.{outputs, Output};
-ghost use Rattle.idn2_cli.specs.Answers.{registrable_labels};
 ghost use Rattle.idn2_cli.specs.Said.{BlockEnd, Listed, disposition_field, said_text, variant_line};
 ghost use Rattle.idn2_cli.specs.inner.Asked.{asked_line};
+ghost use Rattle.idn2_cli.specs.inner.ForGood.{none_accepted};
+ghost use Rattle.idn2_cli.specs.inner.Ruling.{KeepsOf, filter_by, ruling_in};
 ghost use Rattle.idn2_cli.specs.inner.Dispositions.{block_by, field_by};
 ghost use Rattle.idn2_cli.specs.inner.KeptLines.{IsBegun};
 ghost use Rattle.idn2_cli.specs.inner.LineAnswers.{reaches};
 ghost use Rattle.idn2_cli.specs.inner.Emitting.{Emits, StopsForMemory};
 ghost use Rattle.idn2_cli.specs.declared.output.stop.Stop.TheVariants as stop;
 
+use crate::modes::admission::{lesser, lost_by, validity_by};
 use crate::modes::allocations::Allocations;
 use crate::modes::dispositions::Dispositions;
 use crate::modes::kept_line::KeptLine;
@@ -39,23 +40,26 @@ use idn_text::{MAX_LINE_LEN, Refusal, Sink};
 use idn2_options::{Form, Options};
 use itoa::Buffer;
 use std::alloc::{AllocError, Global};
+use valid_labels::{Validity, ValidityTest};
 use variant_list::{Cursor, Judge, Net, Outcome, Verdict};
 
-/// Writes the block of a net's label, with all its variants.
+/// Writes the block of a net's label, with all its variants. They are tested for being valid, too, where there is a test.
 pub(crate) fn write_block<W: Sink, E: Sink>(
     alloc: Global,
     asked: &Asked<'_>,
     options: &Options,
     net: &Net,
+    validity: Option<ValidityTest<'_>>,
     dispositions: &mut Dispositions<Allocations>,
     console: &mut Console<'_, '_, W, E>,
 ) -> Result<(), Stop>
     requires few { length asked.now.text.now ≤ MAX_LINE_LEN }
     requires limits { IsWithinLimits options.now }
     requires spelled { All AreScalarValues net.now.spelled }
+    requires new { (v : List ℕ) → KeepsOf v validity }
     ensures written { Emits console.old console.new
-        (outputs (said_text asked.now.form (asked_line asked.now)) (block_by registrable_labels (field_by dispositions.old) (keeping None options.now) net.now.spelled)) result }
-    ensures begun { StopsForMemory (All NeedsNoMemory (tested_among registrable_labels.hopeless net.now.spelled options.now.after))
+        (outputs (said_text asked.now.form (asked_line asked.now)) (block_by (filter_by (ruling_in validity.entry)) (field_by dispositions.old) (keeping None options.now) net.now.spelled)) result }
+    ensures begun { StopsForMemory (All NeedsNoMemory (tested_among (filter_by (ruling_in validity.entry)).hopeless net.now.spelled options.now.after))
         console.old console.new result }
 {
     let mut cursor = Cursor::new(alloc, net, &options.after)?;
@@ -63,6 +67,7 @@ pub(crate) fn write_block<W: Sink, E: Sink>(
         beginnings: KeptBeginnings::new(),
         test: KeptALabel::new(),
         line: KeptLine::new(),
+        validity,
     };
     let mut tries = options.tries;
     let mut steps = options.steps;
@@ -80,13 +85,14 @@ pub(crate) fn write_block<W: Sink, E: Sink>(
         }
         let variant = cursor.last();
         let disposition = dispositions.of_variant(variant);
-        let a_label = judge.test.a_label();
+        let kept = &mut judge;
+        let a_label = kept.test.a_label();
         write_variant(
             asked,
             variant,
             a_label,
             disposition,
-            &mut judge.line,
+            &mut kept.line,
             console,
         )?;
         count += 1;
@@ -96,42 +102,49 @@ pub(crate) fn write_block<W: Sink, E: Sink>(
     }
 }
 
-/// Only labels that may be registered are listed (RFC 5891 section 4.2). What a label shares at its start with the one
-/// before is neither tested nor taken apart nor written again.
+/// Only labels that may be registered are listed (RFC 5891 section 4.2), and under a ruleset only valid ones (RFC 7940
+/// section 8). What a label shares at its start with the one before is neither tested nor taken apart nor written again.
 #[derive(Drop)]
-struct Registrable {
+struct Registrable<'p> {
     beginnings: KeptBeginnings,
     test: KeptALabel,
     line: KeptLine,
+    validity: Option<ValidityTest<'p>>,
 }
 
-impl Judge for Registrable {
-    ghost accepted = { λ _ label. registrable_labels.accepts label };
+impl<'p> Judge for Registrable<'p> {
+    ghost accepted = { λ judge label. (filter_by (ruling_in judge.validity)).accepts label };
 
-    ghost lost = { λ _ label. registrable_labels.hopeless label };
+    ghost lost = { λ judge label. (filter_by (ruling_in judge.validity)).hopeless label };
 
     ghost tells = { λ judge label. judge.test.text ≡ a_label_of label };
 
-    ghost keeps = { λ judge label. AreKnown label judge.beginnings × IsTakenApart label judge.test × IsBegun label judge.line };
+    ghost keeps = { λ judge label. AreKnown label judge.beginnings × IsTakenApart label judge.test × IsBegun label judge.line × KeepsOf label judge.validity };
 
     ghost needs_none = { λ _ label. NeedsNoMemory label };
 
-    ghost lost_for_good = { λ _ w z lost. none_hopeless w z lost };
+    ghost lost_for_good = { λ judge w z lost. none_accepted (ruling_in judge.validity) w z lost };
 
     /// It takes no memory for a label of which the test needs none.
     fn judge(&mut self, alloc: Global, label: &[u32], shared: usize) -> Result<Verdict, AllocError>
         requires short { length label.now ≤ 63 }
-        requires kept { IsKeptOf (λ v. AreKnown v self.old.beginnings × IsTakenApart v self.old.test × IsBegun v self.old.line) shared label.now }
-        ensures kept { AreKnown label.now self.new.beginnings × IsTakenApart label.now self.new.test × IsBegun label.now self.new.line }
-        ensures verdict { IfOk result (IsVerdict registrable_labels.accepts registrable_labels.hopeless (λ v. self.new.test.text ≡ a_label_of v) label.now) }
-        ensures memory { OnErr result (shortest_hopeless registrable_labels.hopeless label.now ≡ None) }
+        requires kept { IsKeptOf (λ v. AreKnown v self.old.beginnings × IsTakenApart v self.old.test × IsBegun v self.old.line × KeepsOf v self.old.validity) shared label.now }
+        ensures kept { AreKnown label.now self.new.beginnings × IsTakenApart label.now self.new.test × IsBegun label.now self.new.line × KeepsOf label.now self.new.validity }
+        ensures verdict { IfOk result (IsVerdict (filter_by (ruling_in self.old.validity)).accepts (filter_by (ruling_in self.old.validity)).hopeless (λ v. self.new.test.text ≡ a_label_of v) label.now) }
+        ensures memory { OnErr result (shortest_hopeless (filter_by (ruling_in self.old.validity)).hopeless label.now ≡ None) }
         ensures no_memory { NeedsNoMemory label.now → IsOk result }
+        ensures same_ruling { ruling_in self.new.validity ≡ ruling_in self.old.validity }
     {
         self.beginnings.keep(shared);
         self.test.keep(shared);
         self.line.keep(shared);
-        if let Some(count) = self.beginnings.shortest_hopeless(label) {
+        let hopeless = self.beginnings.shortest_hopeless(label);
+        let validity = validity_by(&mut self.validity, label, shared);
+        if let Some(count) = lesser(hopeless, lost_by(validity)) {
             return Ok(Verdict::Hopeless(count));
+        }
+        if let Validity::NotValid = validity {
+            return Ok(Verdict::NotAccepted);
         }
         let facts = self.beginnings.facts();
         match self.test.test_label(alloc, label, facts) {

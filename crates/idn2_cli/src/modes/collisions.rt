@@ -1,16 +1,17 @@
 //! The block of a label that is kept to registered labels.
 
-ghost use Rattle.std.specs.Prelude.{◌≡◌, ◌≤◌, Some, All, Err, length};
+ghost use Rattle.std.specs.Prelude.{◌≡◌, ◌≤◌, ℕ, List, Some, All, Err, length};
 ghost use Rattle.idn_text.specs.Points.{AreScalarValues};
 ghost use Rattle.idn2_options.specs.Settings.{IsWithinLimits, keeping};
-ghost use Rattle.idn2_cli.specs.Answers.{registrable_labels};
 ghost use Rattle.idn2_cli.specs.Said.{said_text};
 ghost use Rattle.idn2_cli.specs.Transcript.{outputs};
 ghost use Rattle.idn2_cli.specs.inner.Asked.{asked_line};
+ghost use Rattle.idn2_cli.specs.inner.Ruling.{KeepsOf, filter_by, ruling_in};
 ghost use Rattle.idn2_cli.specs.inner.Dispositions.{block_by, field_by};
 ghost use Rattle.idn2_cli.specs.inner.Emitting.{Emits};
 ghost use Rattle.idn2_cli.specs.declared.output.stop.Stop.TheVariants as stop;
 
+use crate::modes::admission::is_valid_by;
 use crate::modes::allocations::Allocations;
 use crate::modes::block::{is_reached, write_end, write_stop, write_variant};
 use crate::modes::dispositions::Dispositions;
@@ -23,6 +24,7 @@ use idn_text::{MAX_LINE_LEN, Sink};
 use idn2_options::Options;
 use registered_labels::{Collisions, RegisteredLabels};
 use std::alloc::Global;
+use valid_labels::ValidityTest;
 use variant_list::Net;
 
 /// Writes the block of a net's label, with those of its variants that are registered. It goes from one of them to the next
@@ -33,14 +35,16 @@ pub(crate) fn write_collisions<W: Sink, E: Sink>(
     options: &Options,
     net: &Net,
     registered: &RegisteredLabels<'_>,
+    mut validity: Option<ValidityTest<'_>>,
     dispositions: &mut Dispositions<Allocations>,
     console: &mut Console<'_, '_, W, E>,
 ) -> Result<(), Stop>
     requires few { length asked.now.text.now ≤ MAX_LINE_LEN }
     requires limits { IsWithinLimits options.now }
     requires spelled { All AreScalarValues net.now.spelled }
+    requires new { (v : List ℕ) → KeepsOf v validity }
     ensures written { Emits console.old console.new
-        (outputs (said_text asked.now.form (asked_line asked.now)) (block_by registrable_labels (field_by dispositions.old) (keeping (Some registered.now) options.now) net.now.spelled)) result }
+        (outputs (said_text asked.now.form (asked_line asked.now)) (block_by (filter_by (ruling_in validity.entry)) (field_by dispositions.old) (keeping (Some registered.now) options.now) net.now.spelled)) result }
     ensures begun { result ≡ Err stop.Memory → console.new ≡ console.old }
 {
     // How many there are is more than the count ever is.
@@ -51,6 +55,10 @@ pub(crate) fn write_collisions<W: Sink, E: Sink>(
     'collisions: while let Some(shared) = search.advance() {
         line.keep(shared);
         let label = search.label();
+        // A variant that isn't valid is none, though it be registered.
+        if !is_valid_by(&mut validity, label, shared) {
+            continue;
+        }
         let a_label = encode_label(label);
         let disposition = dispositions.of_variant(label);
         write_variant(asked, label, &a_label, disposition, &mut line, console)?;

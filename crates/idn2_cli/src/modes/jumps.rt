@@ -4,7 +4,7 @@
 ghost use Rattle.std.specs.Prelude.{◌≡◌, ◌≤◌, ◌∷◌, [], true, length, slice_get, All, IfOk, IfErr, Err, None, Some};
 ghost use Rattle.idn_text.specs.Points.{AreScalarValues};
 ghost use Rattle.idn_label.specs.FirstFault.{IsRegistrable};
-ghost use Rattle.variant_table.specs.WellFormed.{IsWellFormed};
+ghost use Rattle.valid_labels.specs.Validity.{IsSound};
 ghost use Rattle.variant_list.specs.Jumps.{candidates_among_from};
 ghost use Rattle.idn2_cli.specs.Answers.{jump_answer, least_answer, requested_label, requested_text};
 ghost use Rattle.idn2_cli.specs.Memory.{IsRefusedWithoutMemory};
@@ -13,10 +13,12 @@ ghost use Rattle.idn2_cli.specs.Transcript.{Output};
 ghost use Rattle.idn2_cli.specs.inner.Asked.{asked_line};
 ghost use Rattle.idn2_cli.specs.inner.Emitting.{Emits};
 ghost use Rattle.idn2_cli.specs.inner.LineAnswers.{KeepsIfRefused, refusal_in, reply_pieces};
+ghost use Rattle.idn2_cli.specs.inner.Ruling.{ruling_of};
 ghost use Rattle.idn2_cli.specs.inner.ServedLines.{result_of};
 ghost use Rattle.idn2_cli.specs.declared.modes.answering.Served.TheVariants as served;
 ghost use Rattle.idn2_cli.specs.declared.output.stop.Stop.TheVariants as stop;
 
+use crate::modes::admission::{admitted_net, test_by};
 use crate::modes::answering::{Served, answered, refused};
 use crate::modes::code_points::PointAnswering;
 use crate::modes::kept_line::KeptLine;
@@ -27,22 +29,24 @@ use crate::output::stop::Stop;
 use crate::request::{label_of_request, parts_of};
 use answer_json::Input;
 use idn_label::test_label;
-use idn_text::{MAX_LINE_LEN, Refusal, Sink};
+use idn_text::{MAX_LINE_LEN, Sink};
 use idn2_options::Form;
 use std::alloc::Global;
-use variant_list::{Cursor, Net, NetFault};
+use valid_labels::Pieces;
+use variant_list::{Cursor, Net};
 use variant_table::Table;
 
 /// Answers requests by a table: each is a label, or a label, a tab and a text.
 #[derive(Drop)]
-pub(crate) struct Jumps<'t> {
+pub(crate) struct Jumps<'t, 'p> {
     pub table: &'t Table,
+    pub ruling: &'p Option<Pieces<'t>>,
 }
 
-impl<'t> PointAnswering for Jumps<'t> {
+impl<'t, 'p> PointAnswering for Jumps<'t, 'p> {
     ghost answer_of = { λ mode line. jump_answer mode.table.now line };
 
-    ghost is_ready = { λ mode. IsWellFormed mode.table.now.entries };
+    ghost is_ready = { λ mode. IsSound mode.table.now × (mode.ruling.now ≡ ruling_of mode.table.now) };
 
     ghost reads_table = { λ _. true };
 
@@ -56,7 +60,7 @@ impl<'t> PointAnswering for Jumps<'t> {
         console: &mut Console<'_, '_, W, E>,
     ) -> Served {
         match test_label(alloc, label_of_request(points)) {
-            Ok(_) => answer_least(alloc, self.table, asked, points, console),
+            Ok(_) => answer_least(alloc, self, asked, points, console),
             Err(refusal) => refused(refusal),
         }
     }
@@ -65,26 +69,29 @@ impl<'t> PointAnswering for Jumps<'t> {
 /// Answers the least label from a text on that a label spells, which may be registered.
 fn answer_least<W: Sink, E: Sink>(
     alloc: Global,
-    table: &Table,
+    mode: &Jumps<'_, '_>,
     asked: &Asked<'_>,
     points: &[u32],
     console: &mut Console<'_, '_, W, E>,
 ) -> Served
-    requires table { IsWellFormed table.now.entries }
+    requires sound { IsSound mode.now.table.now }
+    requires ruling { mode.now.ruling.now ≡ ruling_of mode.now.table.now }
     requires few { length asked.now.text.now ≤ MAX_LINE_LEN }
     requires scalar_values { AreScalarValues points.now }
     requires registrable { IsRegistrable (requested_label points.now) }
     ensures written { Emits console.old console.new
-        (reply_pieces asked.now.form (asked_line asked.now) (least_answer table.now (requested_label points.now) (requested_text points.now))) (result_of result) }
-    ensures refused { IfOk (result_of result) (λ refusal. refusal ≡ refusal_in (least_answer table.now (requested_label points.now) (requested_text points.now))) }
+        (reply_pieces asked.now.form (asked_line asked.now) (least_answer mode.now.table.now (requested_label points.now) (requested_text points.now))) (result_of result) }
+    ensures refused { IfOk (result_of result) (λ refusal. refusal ≡ refusal_in (least_answer mode.now.table.now (requested_label points.now) (requested_text points.now))) }
     ensures kept { KeepsIfRefused console.old console.new (result_of result) }
     ensures begun { result ≡ served.Stopped stop.Memory → console.new ≡ console.old }
 {
     let (label, text) = parts_of(points);
-    match Net::build(alloc, table, label) {
+    let Ok(mut validity) = test_by(alloc, mode.ruling) else {
+        return Served::Stopped(Stop::Memory);
+    };
+    match admitted_net(alloc, mode.table, &mut validity, label) {
         Ok(net) => answered(write_least(alloc, asked, &net, text, console)),
-        Err(NetFault::NothingSpelled) => Served::Refused(Refusal::NotInTable),
-        Err(NetFault::Memory) => Served::Stopped(Stop::Memory),
+        Err(refusal) => refused(refusal),
     }
 }
 

@@ -1,10 +1,10 @@
 //! The variants of a label under a table, all of them or those that are registered.
 
-ghost use Rattle.std.specs.Prelude.{◌≡◌, ◌≤◌, true, All, IfOk, length};
+ghost use Rattle.std.specs.Prelude.{◌≡◌, ◌≤◌, ℕ, List, true, All, IfOk, length};
 ghost use Rattle.idn_text.specs.Points.{AreScalarValues};
 ghost use Rattle.idn_label.specs.FirstFault.{IsRegistrable};
 ghost use Rattle.idn_label.specs.Memory.{NeedsNoMemory};
-ghost use Rattle.variant_table.specs.WellFormed.{IsWellFormed};
+ghost use Rattle.valid_labels.specs.Validity.{IsSound};
 ghost use Rattle.variant_list.specs.Spelled.{spelled};
 ghost use Rattle.std.specs.Option.{option_copied};
 ghost use Rattle.idn2_options.specs.Settings.{IsWithinLimits, keeping};
@@ -16,8 +16,10 @@ ghost use Rattle.idn2_cli.specs.Transcript.{outputs};
 ghost use Rattle.idn2_cli.specs.inner.Asked.{asked_line};
 ghost use Rattle.idn2_cli.specs.inner.Emitting.{Emits, StopsForMemory};
 ghost use Rattle.idn2_cli.specs.inner.LineAnswers.{KeepsIfRefused, refusal_in, reply_pieces};
+ghost use Rattle.idn2_cli.specs.inner.Ruling.{KeepsOf, filter_by, ruling_in, ruling_of};
 ghost use Rattle.idn2_cli.specs.inner.ServedLines.{result_of};
 
+use crate::modes::admission::{admitted_net, test_by};
 use crate::modes::allocations::{Allocations, SubTables};
 use crate::modes::answering::{Served, answered, refused};
 use crate::modes::block::write_block;
@@ -28,28 +30,30 @@ use crate::output::asked::Asked;
 use crate::output::console::Console;
 use crate::output::stop::Stop;
 use idn_label::test_label;
-use idn_text::{MAX_LINE_LEN, Refusal, Sink};
+use idn_text::{MAX_LINE_LEN, Sink};
 use idn2_options::Options;
 use registered_labels::RegisteredLabels;
 use std::alloc::Global;
-use variant_list::{Net, NetFault};
+use valid_labels::{Pieces, ValidityTest};
+use variant_list::Net;
 use variant_table::Table;
 
 /// The listing of variants by a table (RFC 7940 section 8). The options say after which text it
 /// begins and where it stops. It is kept to the registered labels, if there are some.
 #[derive(Drop)]
-pub(crate) struct Variants<'t, 'r, 'b> {
+pub(crate) struct Variants<'t, 'p, 'r, 'b> {
     pub table: &'t Table,
+    pub ruling: &'p Option<Pieces<'t>>,
     pub dispositions: &'t Dispositions<SubTables>,
     pub options: &'t Options,
     pub registered: Option<&'r RegisteredLabels<'b>>,
 }
 
-impl<'t, 'r, 'b> PointAnswering for Variants<'t, 'r, 'b> {
+impl<'t, 'p, 'r, 'b> PointAnswering for Variants<'t, 'p, 'r, 'b> {
     ghost answer_of = { λ mode label. variants_answer (keeping (option_copied mode.registered) mode.options.now) mode.table.now label };
 
-    ghost is_ready = { λ mode. IsWithinLimits mode.options.now × IsWellFormed mode.table.now.entries
-        × AreOfTable mode.table.now mode.dispositions.now };
+    ghost is_ready = { λ mode. IsWithinLimits mode.options.now × IsSound mode.table.now
+        × (mode.ruling.now ≡ ruling_of mode.table.now) × AreOfTable mode.table.now mode.dispositions.now };
 
     ghost reads_table = { λ _. true };
 
@@ -74,19 +78,21 @@ impl<'t, 'r, 'b> PointAnswering for Variants<'t, 'r, 'b> {
 /// Writes the block of a net's label.
 fn write_lines<W: Sink, E: Sink>(
     alloc: Global,
-    mode: &Variants<'_, '_, '_>,
+    mode: &Variants<'_, '_, '_, '_>,
     asked: &Asked<'_>,
     net: &Net,
+    validity: Option<ValidityTest<'_>>,
     dispositions: &mut Dispositions<Allocations>,
     console: &mut Console<'_, '_, W, E>,
 ) -> Result<(), Stop>
     requires few { length asked.now.text.now ≤ MAX_LINE_LEN }
     requires limits { IsWithinLimits mode.now.options.now }
     requires spelled { All AreScalarValues net.now.spelled }
+    requires new { (v : List ℕ) → KeepsOf v validity }
     ensures written { Emits console.old console.new
-        (outputs (said_text asked.now.form (asked_line asked.now)) (block_by (filter_of mode.now.table.now) (field_by dispositions.old) (keeping (option_copied mode.now.registered) mode.now.options.now) net.now.spelled)) result }
+        (outputs (said_text asked.now.form (asked_line asked.now)) (block_by (filter_by (ruling_in validity.entry)) (field_by dispositions.old) (keeping (option_copied mode.now.registered) mode.now.options.now) net.now.spelled)) result }
     ensures begun { StopsForMemory
-        (All NeedsNoMemory (tested_after (filter_of mode.now.table.now) (keeping (option_copied mode.now.registered) mode.now.options.now) net.now.spelled))
+        (All NeedsNoMemory (tested_after (filter_by (ruling_in validity.entry)) (keeping (option_copied mode.now.registered) mode.now.options.now) net.now.spelled))
         console.old console.new result }
 {
     match mode.registered {
@@ -97,24 +103,34 @@ fn write_lines<W: Sink, E: Sink>(
                 mode.options,
                 net,
                 registered,
+                validity,
                 dispositions,
                 console,
             )
         }
-        None => write_block(alloc, asked, mode.options, net, dispositions, console),
+        None => write_block(
+            alloc,
+            asked,
+            mode.options,
+            net,
+            validity,
+            dispositions,
+            console,
+        ),
     }
 }
 
 /// Lists the variants of a label that may be registered.
 fn list<W: Sink, E: Sink>(
     alloc: Global,
-    mode: &Variants<'_, '_, '_>,
+    mode: &Variants<'_, '_, '_, '_>,
     asked: &Asked<'_>,
     label: &[u32],
     console: &mut Console<'_, '_, W, E>,
 ) -> Served
     requires limits { IsWithinLimits mode.now.options.now }
-    requires table { IsWellFormed mode.now.table.now.entries }
+    requires sound { IsSound mode.now.table.now }
+    requires ruling { mode.now.ruling.now ≡ ruling_of mode.now.table.now }
     requires dispositions { AreOfTable mode.now.table.now mode.now.dispositions.now }
     requires few { length asked.now.text.now ≤ MAX_LINE_LEN }
     requires scalar_values { AreScalarValues label.now }
@@ -129,14 +145,22 @@ fn list<W: Sink, E: Sink>(
         (All NeedsNoMemory (tested_after (filter_of mode.now.table.now) (keeping (option_copied mode.now.registered) mode.now.options.now) (spelled mode.now.table.now label.now)))
         console.old console.new (result_of result) }
 {
-    match Net::build(alloc, mode.table, label) {
+    let Ok(mut validity) = test_by(alloc, mode.ruling) else {
+        return Served::Stopped(Stop::Memory);
+    };
+    match admitted_net(alloc, mode.table, &mut validity, label) {
         Ok(net) => match mode.dispositions.of_label(alloc, mode.table, label) {
-            Ok(mut dispositions) => {
-                answered(write_lines(alloc, mode, asked, &net, &mut dispositions, console))
-            }
+            Ok(mut dispositions) => answered(write_lines(
+                alloc,
+                mode,
+                asked,
+                &net,
+                validity,
+                &mut dispositions,
+                console,
+            )),
             Err(_) => Served::Stopped(Stop::Memory),
         },
-        Err(NetFault::NothingSpelled) => Served::Refused(Refusal::NotInTable),
-        Err(NetFault::Memory) => Served::Stopped(Stop::Memory),
+        Err(refusal) => refused(refusal),
     }
 }

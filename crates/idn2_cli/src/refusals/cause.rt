@@ -17,7 +17,7 @@ use idn_label::{MAX_LABEL_LEN, code_point_at, has_ace_prefix};
 use idn_text::{MAX_LINE_LEN, Refusal, decode_points, write_points};
 use std::alloc::{AllocError, Global};
 use std::str;
-use variant_list::furthest;
+use valid_labels::furthest;
 use variant_table::{FaultPlace, Table};
 
 /// How a mode explains what it refuses.
@@ -231,18 +231,18 @@ fn cause_by_table(
     ensures { IfOk result (λ cause. cause ≡ option_map LineCause.OfLabel (table_cause table.now label.now refusal)) }
 {
     match refusal {
-        Refusal::NotInTable => Ok(of_label(outside_cause(alloc, label, table)?)),
+        Refusal::NotInTable => Ok(of_label(outside_cause(label, table))),
         _ => Ok(of_label(cause_of(alloc, label, refusal)?)),
     }
 }
 
 /// The code point behind those that sources of a table reach.
-fn outside_cause(alloc: Global, label: &[u32], table: &Table) -> Result<Option<Cause>, AllocError>
-    ensures { IfOk result (λ cause. cause ≡ outside_cause table.now label.now) }
+fn outside_cause(label: &[u32], table: &Table) -> Option<Cause>
+    ensures { result ≡ outside_cause table.now label.now }
 {
     if label.len() > MAX_LABEL_LEN {
-        return Ok(None);
+        return None;
     }
-    let place = furthest(alloc, table, label)?;
-    Ok(Some(Cause::Point(place, code_point_at(label, place))))
+    let place = furthest(table, label);
+    Some(Cause::Point(place, code_point_at(label, place)))
 }

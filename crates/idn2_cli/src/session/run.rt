@@ -14,7 +14,9 @@ ghost use Rattle.idn2_cli.specs.inner.Emitting.{Emits};
 ghost use Rattle.idn2_options.specs.declared.command_line.mode.Mode.TheVariants as modes;
 
 use crate::modes::code_points::ByPoints;
-use crate::modes::{Decode, Dispositions, Jumps, Lookup, Register, Variants, check_table};
+use crate::modes::{
+    Decode, Dispositions, Jumps, Lookup, Register, Variants, check_table, ruling_of_table,
+};
 use crate::output::console::Console;
 use crate::output::status::Status;
 use crate::output::stop::Stop;
@@ -27,7 +29,7 @@ use idn_text::{Lines, Sink, Source};
 use idn2_options::{Form, Mode, Options};
 use registered_labels::RegisteredLabels;
 use std::alloc::Global;
-use variant_table::{Notation, Table};
+use variant_table::{Notation, Table, TableFault};
 
 /// Runs a mode over its input, of which no line was read yet. Where nothing fails, the pieces of the
 /// transcript are written, and the status says whether something was refused. A fault of a reader,
@@ -186,9 +188,21 @@ fn serve_variants<R: Source, W: Sink, E: Sink>(
             );
         }
     };
+    let Ok(ruling) = ruling_of_table(alloc, &table) else {
+        return refuse_table(
+            alloc,
+            options.form,
+            options.tells_causes(),
+            options.notation,
+            text,
+            TableFault::Memory,
+            console,
+        );
+    };
     let dispositions = Dispositions::of_table(&table);
     let mode = Variants {
         table: &table,
+        ruling: &ruling,
         dispositions: &dispositions,
         options,
         registered,
@@ -226,7 +240,21 @@ fn serve_jumps<R: Source, W: Sink, E: Sink>(
             );
         }
     };
-    let mode = Jumps { table: &table };
+    let Ok(ruling) = ruling_of_table(alloc, &table) else {
+        return refuse_table(
+            alloc,
+            options.form,
+            options.tells_causes(),
+            options.notation,
+            text,
+            TableFault::Memory,
+            console,
+        );
+    };
+    let mode = Jumps {
+        table: &table,
+        ruling: &ruling,
+    };
     let explaining = Explaining::Request(&table).if_wanted(options.tells_causes());
     let by_points = ByPoints { mode: &mode };
     serve_lines(alloc, options.form, &explaining, &by_points, input, console)

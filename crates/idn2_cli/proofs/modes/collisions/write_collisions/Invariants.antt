@@ -2,7 +2,7 @@ use Rattle.std.proofs.Common.{◌≡◌, length}
 use Rattle.registered_labels.specs.Collisions.{collisions_ahead}
 use Rattle.idn2_cli.specs.inner.Dispositions.{field_by}
 use Rattle.idn2_cli.specs.inner.KeptLines.{IsBegun}
-use Rattle.idn2_cli.specs.Answers.{registrable_labels}
+use Rattle.idn2_cli.specs.inner.Ruling.{KeepsOf, filter_by, ruling_in}
 use Rattle.idn2_cli.specs.Said.{said_text}
 use Rattle.idn2_cli.specs.inner.Asked.{asked_line}
 use Rattle.idn2_cli.proofs.CollisionSteps.{IsUnderWay}
@@ -13,7 +13,9 @@ abbrev pub invariant-collisions : goal.invariant-collisions
 invariant-collisions g l =
     record {
       same : l.dispositions ≡ l.fn.dispositions;
-      under_way : IsUnderWay registrable_labels (said_text l.asked.form (asked_line l.asked)) (field_by l.fn.dispositions) l.options l.net l.fn.registered
+      same_test : ruling_in l.validity ≡ ruling_in l.fn.validity;
+      tested : KeepsOf l.search.label l.validity;
+      under_way : IsUnderWay (filter_by (ruling_in l.fn.validity)) (said_text l.asked.form (asked_line l.asked)) (field_by l.fn.dispositions) l.options l.net l.fn.registered
           l.fn.console
           l.console
           l.search l.count l.total;

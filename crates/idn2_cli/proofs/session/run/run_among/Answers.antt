@@ -4,6 +4,7 @@ use Rattle.idn2_options.specs.Settings.{keeping}
 use Rattle.idn2_cli.specs.Ends.{Held}
 use Rattle.idn2_cli.proofs.LentWriters.{same_loans, given_back}
 use Rattle.idn2_cli.proofs.HeadlineLemmas.{headline}
+use Rattle.idn2_cli.proofs.AdmittedLabels.{sound_table}
 use Rattle.idn2_cli.proofs.BlockMembers.{variants_answer-IsListing}
 use Rattle.idn2_cli.proofs.session.run.run_among.Goals as goal
 
@@ -25,4 +26,4 @@ returns-clause-headline g c = λ table is text.
     headline (keeping (option_copied c.args.registered) c.args.options.now) _ table ended.0 _ _ _ _ _ is text ended.1 ended.2
 
 pub returns-clause-listing : goal.returns-clause-listing
-returns-clause-listing g c = λ table label text registrable. variants_answer-IsListing (keeping (option_copied c.args.registered) c.args.options.now) table label text.lines.well_formed.well_formed registrable
+returns-clause-listing g c = λ table label text registrable. variants_answer-IsListing (keeping (option_copied c.args.registered) c.args.options.now) table label (sound_table table text.lines.well_formed) registrable

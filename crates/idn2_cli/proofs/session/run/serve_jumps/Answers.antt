@@ -1,7 +1,8 @@
-use Rattle.std.proofs.Common.{subst, Ok, ap, chars, true, ◌∙◌}
+use Rattle.std.proofs.Common.{inl, refl, subst, Ok, ap, chars, true, ◌∙◌}
 use Rattle.idn2_options.specs.Settings.{Settings}
 use Rattle.idn2_options.specs.declared.command_line.mode.Mode.TheVariants.{Jump}
 use Rattle.variant_table.specs.Texts.{IsTextOf, IsToldOf}
+use Rattle.variant_table.specs.declared.fault.TableFault.TheVariants.{Memory}
 use Rattle.idn2_cli.specs.Answers.{jump_answer, requested_label}
 use Rattle.idn2_cli.specs.Ends.{lines_job}
 use Rattle.idn2_cli.specs.Explained.{ByRequest, if_wanted}
@@ -20,5 +21,10 @@ returns g c =
     as_mode c.args.options.now Jump c.args.text.now (Ok c.in-Ok.table) _ _ _ _ _ c.serve_lines.result c.requires.mode (subst (λ n. IsTextOf n c.args.text.now c.in-Ok.table) (ap (λ (v : Settings). v.notation) c.options.view_is) c.in-Ok.ensures.table)
     (ap (λ f. lines_job f (explained_by c.if_wanted-explaining.result) (jump_answer c.in-Ok.table) true (λ line. IsRefusedWithoutMemory (requested_label (chars line))) (λ line. Unit {0})) (ap (λ (v : Settings). v.form) c.options.view_is)
     ∙ ap (λ e. lines_job c.args.options.now.form e (jump_answer c.in-Ok.table) true (λ line. IsRefusedWithoutMemory (requested_label (chars line))) (λ line. Unit {0}))
-    (c.if_wanted-explaining.ensures ∙ ap (λ x. if_wanted x (ByRequest c.in-Ok.table)) c.tells_causes.ensures))
+    (c.if_wanted-explaining.ensures ∙ ap (λ x. if_wanted x (ByRequest c.in-Ok.table)) c.tells_causes-2.ensures))
     c.serve_lines.ensures
+
+pub returns-in_default : goal.returns-in_default
+returns-in_default g c =
+    refused_lines c.args.options.now Jump (jumps_by_table c.args.options.now c.requires.mode) c.args.text.now _ Memory _ _ c.refuse_table-in_default.result c.requires.unread (inl refl)
+    (in_form c.args.text.now Memory _ _ _ _ _ _ _ _ c.refuse_table-in_default.result (ap (λ (v : Settings). v.form) c.options.view_is) c.tells_causes.ensures (ap (λ (v : Settings). v.notation) c.options.view_is) c.refuse_table-in_default.ensures.told) c.refuse_table-in_default.ensures.status

@@ -1,10 +1,11 @@
-use Rattle.std.proofs.Common.{subst, All, Ok, ap, chars, true, ◌∙◌}
+use Rattle.std.proofs.Common.{inl, refl, subst, All, Ok, ap, chars, true, ◌∙◌}
 use Rattle.std.specs.Option.{option_copied}
 use Rattle.idn_label.specs.Memory.{NeedsNoMemory}
 use Rattle.variant_table.specs.Entries.{TableValue}
 use Rattle.variant_list.specs.Spelled.{spelled}
 use Rattle.idn2_options.specs.Settings.{Settings, keeping}
 use Rattle.variant_table.specs.Texts.{IsTextOf, IsToldOf}
+use Rattle.variant_table.specs.declared.fault.TableFault.TheVariants.{Memory}
 use Rattle.idn2_cli.specs.Answers.{filter_of, tested_after, variants_answer}
 use Rattle.idn2_cli.specs.Explained.{ByTable, if_wanted}
 use Rattle.idn2_cli.specs.Memory.{IsRefusedWithoutMemory}
@@ -27,5 +28,10 @@ returns g c =
     (ap (λ f. lines_job f (explained_by c.if_wanted-explaining.result) (variants_answer o table) true (λ line. IsRefusedWithoutMemory (chars line)) (λ line. All NeedsNoMemory (tested_after (filter_of table) o (spelled table (chars line)))))
     (ap (λ (v : Settings). v.form) c.options.view_is)
     ∙ ap (λ e. lines_job o.form e (variants_answer o table) true (λ line. IsRefusedWithoutMemory (chars line)) (λ line. All NeedsNoMemory (tested_after (filter_of table) o (spelled table (chars line)))))
-    (c.if_wanted-explaining.ensures ∙ ap (λ x. if_wanted x (ByTable table)) c.tells_causes.ensures))
+    (c.if_wanted-explaining.ensures ∙ ap (λ x. if_wanted x (ByTable table)) c.tells_causes-2.ensures))
     c.serve_lines.ensures
+
+pub returns-in_default : goal.returns-in_default
+returns-in_default g c =
+    refused_lines (keeping (option_copied c.args.registered) c.args.options.now) Variants (lists_by_table (keeping (option_copied c.args.registered) c.args.options.now) c.requires.mode) c.args.text.now _ Memory _ _ c.refuse_table-in_default.result c.requires.unread (inl refl)
+    (in_form c.args.text.now Memory _ _ _ _ _ _ _ _ c.refuse_table-in_default.result (ap (λ (v : Settings). v.form) c.options.view_is) c.tells_causes.ensures (ap (λ (v : Settings). v.notation) c.options.view_is) c.refuse_table-in_default.ensures.told) c.refuse_table-in_default.ensures.status

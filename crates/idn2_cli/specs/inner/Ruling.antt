@@ -1,0 +1,63 @@
+-- The table that labels are tested by: none, where the table asks nothing of its labels.
+use Rattle.std.specs.Prelude.{◌≡◌, ◌&&◌, ℕ, nat_le, Bool, true, false, List, length, take, Option, Some, None, if◌then◌else◌}
+use Rattle.std.specs.Option.{option_map}
+use Rattle.variant_table.specs.Entries.{TableValue}
+use Rattle.valid_labels.specs.Testing.{SharesKept, Testing}
+use Rattle.valid_labels.specs.Validity.{IsSound}
+use Rattle.valid_labels.specs.Tests.{asks_nothing, is_lost, is_valid}
+use Rattle.valid_labels.specs.declared.validity.Validity.{Validity}
+use Rattle.valid_labels.specs.declared.validity.Validity.TheVariants.{Lost, Valid, NotValid}
+use Rattle.variant_list.specs.Beginnings.{has_hope, shortest_hopeless}
+use Rattle.idn2_cli.specs.Answers.{Filter, registrable_labels, ruled_labels}
+
+abbrev pub ruling_of : TableValue → Option TableValue
+ruling_of table = if asks_nothing table then None else Some table
+
+-- the table of a test, if there is one
+abbrev pub ruling_in : Option Testing → Option TableValue
+ruling_in test = option_map (λ t. t.table) test
+
+-- its table is sound, and what it keeps of the label before is of one that begins with the same code points
+abbrev pub KeepsShared : Option Testing → ℕ → List ℕ → Type 0
+KeepsShared None shared label = Unit {0}
+KeepsShared (Some test) shared label = IsSound test.table × SharesKept shared test.kept label
+
+-- its table is sound, and what it keeps is of this label
+abbrev pub KeepsOf : List ℕ → Option Testing → Type 0
+KeepsOf label None = Unit {0}
+KeepsOf label (Some test) = IsSound test.table × (take (length test.kept) label ≡ test.kept)
+
+-- what is then asked of labels
+abbrev pub filter_by : Option TableValue → Filter
+filter_by None = registrable_labels
+filter_by (Some table) = ruled_labels table
+
+-- a label that may be registered is accepted so
+abbrev pub passes : Option TableValue → List ℕ → Bool
+passes None v = true
+passes (Some table) v = is_valid table v && has_hope (is_lost table) v
+
+-- ---- what is found of a label
+
+-- how many code points its shortest lost beginning has, if it has one
+abbrev pub lost_in : Validity → Option ℕ
+lost_in (Lost count) = Some count
+lost_in Valid = None
+lost_in NotValid = None
+
+abbrev pub is_found_valid : Validity → Type 0 → Type 0 → Type 0
+is_found_valid (Lost count) valid not_valid = Unit {0}
+is_found_valid Valid valid not_valid = valid
+is_found_valid NotValid valid not_valid = not_valid
+
+-- it is found by a table, or there is none, and each label is taken for valid
+abbrev pub IsValidityBy : Option TableValue → List ℕ → Validity → Type 0
+IsValidityBy None label validity = validity ≡ Valid
+IsValidityBy (Some table) label validity =
+    (shortest_hopeless (is_lost table) label ≡ lost_in validity) × is_found_valid validity (is_valid table label ≡ true) (is_valid table label ≡ false)
+
+-- the lesser of two numbers, as far as they are there
+abbrev pub lesser_count : Option ℕ → Option ℕ → Option ℕ
+lesser_count None b = b
+lesser_count (Some a) None = Some a
+lesser_count (Some a) (Some b) = if nat_le a b then Some a else Some b

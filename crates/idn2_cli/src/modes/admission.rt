@@ -1,0 +1,131 @@
+//! Which labels a table admits, and why it refuses the others.
+
+ghost use Rattle.std.specs.Prelude.{◌≡◌, ◌≢◌, ◌≤◌, ℕ, List, length, All, IfOk, IfErr, IsOk};
+ghost use Rattle.idn_text.specs.Points.{AreScalarValues};
+ghost use Rattle.idn_text.specs.declared.refusal.Refusal.TheVariants as refusals;
+ghost use Rattle.valid_labels.specs.Validity.{IsAdmitted, IsSound};
+ghost use Rattle.variant_list.specs.Spelled.{spelled};
+ghost use Rattle.variant_list.specs.Variants.{in_order};
+ghost use Rattle.idn2_cli.specs.Answers.{IsRefusedAs};
+ghost use Rattle.idn2_cli.specs.inner.Ruling.{IsValidityBy, KeepsOf, KeepsShared, lesser_count, lost_in, passes, ruling_in, ruling_of};
+
+use idn_text::Refusal;
+use std::alloc::{AllocError, Global};
+use valid_labels::{Admission, Pieces, Validity, ValidityTest, asks_nothing};
+use variant_list::{Net, NetFault};
+use variant_table::Table;
+
+/// What labels are tested by, where the table asks something of them; it is found once.
+pub(crate) fn ruling_of_table(
+    alloc: Global,
+    table: &Table,
+) -> Result<Option<Pieces<'_>>, AllocError>
+    ensures { IfOk result (λ ruling. ruling ≡ ruling_of table.now) }
+{
+    if asks_nothing(table) {
+        return Ok(None);
+    }
+    Ok(Some(Pieces::of_table(alloc, table)?))
+}
+
+/// The test of the labels of one line.
+pub(crate) fn test_by<'p>(
+    alloc: Global,
+    ruling: &'p Option<Pieces<'p>>,
+) -> Result<Option<ValidityTest<'p>>, AllocError>
+    ensures ruling { IfOk result (λ test. ruling_in test ≡ ruling.now) }
+{
+    match ruling {
+        None => Ok(None),
+        Some(pieces) => Ok(Some(ValidityTest::new(alloc, pieces)?)),
+    }
+}
+
+/// The net of a label that the table admits, or why it refuses the label, or that memory was refused.
+pub(crate) fn admitted_net(
+    alloc: Global,
+    table: &Table,
+    validity: &mut Option<ValidityTest<'_>>,
+    label: &[u32],
+) -> Result<Net, Refusal>
+    requires some { 1 ≤ length label.now }
+    requires short { length label.now ≤ 63 }
+    requires sound { IsSound table.now }
+    requires ruling { ruling_in validity.old ≡ ruling_of table.now }
+    requires new { KeepsShared validity.old 0 label.now }
+    ensures spelled { IfOk result (λ net. in_order net.spelled ≡ in_order (spelled table.now label.now)) }
+    ensures scalar_values { IfOk result (λ net. All AreScalarValues net.spelled) }
+    ensures admitted { IfOk result (λ _. IsAdmitted table.now label.now) }
+    ensures refused { IfErr result (λ refusal. refusal ≢ refusals.Memory → IsRefusedAs table.now label.now refusal) }
+    ensures same { ruling_in validity.new ≡ ruling_in validity.old }
+    ensures begun { (v : List ℕ) → IsOk result → KeepsOf v validity.new }
+{
+    match validity {
+        None => {}
+        Some(test) => match test.admission(label, 0) {
+            Admission::NotMade => return Err(Refusal::NotInTable),
+            Admission::NotValid => return Err(Refusal::NotValid),
+            Admission::Admitted => test.forget(),
+        },
+    }
+    match Net::build(alloc, table, label) {
+        Ok(net) => Ok(net),
+        Err(NetFault::NothingSpelled) => Err(Refusal::NotInTable),
+        Err(NetFault::Memory) => Err(Refusal::Memory),
+    }
+}
+
+/// Whether a label is valid, or how many code points its shortest lost beginning has. Without a test each label is. Its
+/// first `shared` code points are those of the label before.
+#[inline(always)]
+pub(crate) fn validity_by(
+    test: &mut Option<ValidityTest<'_>>,
+    label: &[u32],
+    shared: usize,
+) -> Validity
+    requires short { length label.now ≤ 63 }
+    requires kept { KeepsShared test.old shared label.now }
+    ensures validity { IsValidityBy (ruling_in test.old) label.now result }
+    ensures kept { KeepsOf label.now test.new }
+    ensures same { ruling_in test.new ≡ ruling_in test.old }
+{
+    match test {
+        None => Validity::Valid,
+        Some(test) => test.judge(label, shared),
+    }
+}
+
+/// How many code points the shortest lost beginning of a label has, if it has one.
+#[inline(always)]
+pub(crate) fn lost_by(validity: Validity) -> Option<usize>
+    ensures { result ≡ lost_in validity }
+{
+    match validity {
+        Validity::Lost(count) => Some(count),
+        Validity::Valid | Validity::NotValid => None,
+    }
+}
+
+/// The lesser of two numbers, as far as they are there.
+#[inline(always)]
+pub(crate) fn lesser(a: Option<usize>, b: Option<usize>) -> Option<usize>
+    ensures { result ≡ lesser_count a b }
+{
+    match (a, b) {
+        (Some(a), Some(b)) => Some(a.min(b)),
+        (Some(a), None) => Some(a),
+        (None, b) => b,
+    }
+}
+
+/// Whether a label that may be registered is valid, too.
+#[inline(always)]
+pub(crate) fn is_valid_by(test: &mut Option<ValidityTest<'_>>, label: &[u32], shared: usize) -> bool
+    requires short { length label.now ≤ 63 }
+    requires kept { KeepsShared test.old shared label.now }
+    ensures passes { result ≡ passes (ruling_in test.old) label.now }
+    ensures kept { KeepsOf label.now test.new }
+    ensures same { ruling_in test.new ≡ ruling_in test.old }
+{
+    matches!(validity_by(test, label, shared), Validity::Valid)
+}
