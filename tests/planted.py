@@ -7,8 +7,9 @@ one function knows of another is its contract, so no body is refused for what is
 refusal of its own there is tried again by itself. So is one that edits anything but bodies, as a constant.
 
 What refuses an edit is told after it: a goal in the code; or a proof that was written for the right code and no longer
-serves, which says less of the contract. An edit that is refused only since a proof names what it takes away says nothing:
-it counts as a failure, as do one that is proved and one that doesn't compile. Each check begins with what that of the right
+serves, which says less of the contract. An edit that is refused only since a proof names what it takes away says little:
+of wrong-bodies it counts as a failure; the gate tells it and goes on, as rt does for must-fail. One that is proved and one
+that doesn't compile are failures everywhere. Each check begins with what that of the right
 code kept; LANES is how many crates are tried side by side. The last line is 'N passed, M failed', and the exit status is 0
 where nothing failed."""
 
@@ -29,6 +30,8 @@ CRATES = os.path.join(ROOT, "crates")
 # How many edits are planted at once, at most, 16 if MOST doesn't say: where one of them doesn't compile, all are tried again
 # one by one.
 MOST = int(os.environ.get("MOST", "16"))
+# Whether a refusal by a name alone is a failure: before a release, but not in the gate.
+STRICT = sys.argv[1:2] == ["wrong-bodies"]
 
 # The type of an impl: after `for` if it is one of a trait.
 IMPL = re.compile(r"^impl\b(?:<.*?> )?(?:.* for )?&?\s*(\w+)")
@@ -202,7 +205,7 @@ def verdicts(copy, batch):
         else:
             # what the prover says of code that it can't take, if it does
             told = next((line for line in lines if ": no proof: " in line), lines[-1] if lines else "")
-            yield edit, False, f"refused by a name alone: {': '.join(named)[:160]}" if named else f"no verdict: {told[:300]}"
+            yield edit, bool(named) and not STRICT, f"refused by a name alone: {': '.join(named)[:160]}" if named else f"no verdict: {told[:300]}"
 
 
 def try_crate(crate, folder):
