@@ -25,7 +25,6 @@ use Rattle.ruleset_text.specs.Entries.{Mapped}
 use Rattle.ruleset_text.specs.Lexemes.{lexemes}
 use Rattle.ruleset_text.specs.Names.{is_letter, is_name_byte, is_name, is_one_of, number_of, AreNames}
 use Rattle.ruleset_text.specs.WellFormed.{AreDefinitions, IsDefinition}
-use Rattle.ruleset_text.proofs.DefinedLemmas.{NamesNoDemand, demands_grow, without_demands}
 use Rattle.ruleset_text.proofs.DefinitionsBackLemmas.{definitions_back}
 use Rattle.ruleset_text.proofs.DefinitionsTextLemmas.{definitions_text-length}
 use Rattle.ruleset_text.proofs.LineBytes.{IsInLine, AreInLine, joined, lines_in_line, point_in_line}
@@ -38,7 +37,7 @@ use Rattle.variant_table.specs.declared.version.Version.{Version}
 use Rattle.variant_table.specs.declared.version.Notation.{Notation}
 use Rattle.variant_table.specs.declared.version.Notation.TheVariants.{Table, Ruleset}
 use Rattle.variant_table.specs.declared.version.Version.TheVariants.{One, Two, Three}
-use Rattle.variant_table.specs.DefinitionLines.{if_read, keyword_in, with_behind}
+use Rattle.variant_table.specs.DefinitionLines.{keyword_in, with_behind}
 use Rattle.variant_table.specs.Entries.{Variant, Entry, IsOfVersion, IsPlain, TableValue, empty_table, entry_from, source_of, table_of, whole, sequences_in, replacements}
 use Rattle.variant_table.specs.Forms.{has_tags, is_plain, is_bare, has_form, knows_rule, knows_all, numbered, name_at, named, variant_of, mapped_of, as_written}
 use Rattle.variant_table.specs.Canonical.{canonical_line, canonical_text, version_line, head_text, table_text}
@@ -157,7 +156,7 @@ all_unmarked d (v ∷ variants) p h =
 of_version : (v : Version) (d : Definitions) (e : Entry) → IsOfVersion v e → has_form v (record { mapped = as_written d e; last = None }) ≡ true
 of_version One d e h = ap (λ b. b && true) (all_unmarked d (whole e) (recursion_from_All IsPlain (whole e) h.2) (h.0, recursion_from_All (λ v. v.blocked ≡ false) e.variants h.1))
 of_version Two d e h = ap (λ b. b && not e.outside) (all_plain d (whole e) (recursion_from_All IsPlain (whole e) h.1)) ∙ ap not h.0
-of_version Three d e h = all_plain d (whole e) (recursion_from_All IsPlain (whole e) h)
+of_version Three d e h = refl
 
 -- ---- the bytes of a line: no line feed, no carriage return
 
@@ -416,24 +415,17 @@ entries_spell v d done (e ∷ table) are h n of = (
 record Read (limit : ℕ) (d e : Definitions) (words : List (List ℕ)) : Type 0 where
   keyword : Keyword
   behind : List (List ℕ)
-  begins : (v : Version) → v ≡ Three → NamesNoDemand keyword → keyword_in v words ≡ Some (keyword, behind)
+  begins : (v : Version) → v ≡ Three → keyword_in v words ≡ Some (keyword, behind)
   defined : defined limit d keyword behind ≡ Ok e
-
-if_read-is : (k : Keyword) → NamesNoDemand k → if_read (Some k) ≡ Some k
-if_read-is keyword.Tag n = refl
-if_read-is keyword.Set n = refl
-if_read-is keyword.Rule n = refl
-if_read-is keyword.Never n = absurd n
-if_read-is keyword.Always n = absurd n
 
 words_read : (limit : ℕ) (d e : Definitions) (words : List (List ℕ)) → with_words limit d words ≡ Ok e → Read limit d e words
 words_read limit d e [] h = absurd cc
 words_read limit d e (word ∷ behind) h = by_keyword (keyword_of word) refl h
   where
-    begins_with : (k : Keyword) → keyword_of word ≡ Some k → (v : Version) → v ≡ Three → NamesNoDemand k → keyword_in v (word ∷ behind) ≡ Some (k, behind)
-    begins_with k is One e n = absurd cc
-    begins_with k is Two e n = absurd cc
-    begins_with k is Three e n = ap (λ o. with_behind behind (if_read o)) is ∙ ap (with_behind behind) (if_read-is k n)
+    begins_with : (k : Keyword) → keyword_of word ≡ Some k → (v : Version) → v ≡ Three → keyword_in v (word ∷ behind) ≡ Some (k, behind)
+    begins_with k is One e = absurd cc
+    begins_with k is Two e = absurd cc
+    begins_with k is Three e = ap (with_behind behind) is
 
     by_keyword : (o : Option Keyword) → keyword_of word ≡ o → with_keyword limit d o behind ≡ Ok e → Read limit d e (word ∷ behind)
     by_keyword None is h = absurd cc
@@ -443,24 +435,16 @@ after_is : (r : Result Definitions DefinitionFault) (f : Definitions → Result 
 after_is (Ok d) f e h = (d, refl, h)
 after_is (Err fault) f e h = absurd cc
 
-demands_of_lines : (limit : ℕ) (d e : Definitions) (lines : List (List ℕ)) → with_lines limit d lines ≡ Ok e → length d.demands ≤ length e.demands
-demands_of_lines limit d e [] h = omega (arith, ap (λ (x : Definitions). length x.demands) (let same : d ≡ e = cc in same))
-demands_of_lines limit d e (line ∷ lines) h =
-    let first = after_is (with_words limit d (lexemes line)) (λ x. with_lines limit x lines) e h in
-    let read = words_read limit d first.0 (lexemes line) first.1 in
-    omega (arith, demands_grow limit d first.0 read.keyword read.behind read.defined, demands_of_lines limit first.0 e lines first.2)
-
-lines_define : (d e : Definitions) (lines : List (List ℕ)) → AllByRecursion AreInLine lines → with_lines (8388608 - length (head_text Three ++ [])) d lines ≡ Ok e → length e.demands ≡ 0 → LinesSpell (table_of Three d []) lines (table_of Three e [])
-lines_define d e [] own h none = ap (λ x. table_of Three x []) (let same : e ≡ d = cc in same)
-lines_define d e (line ∷ lines) own h none =
+lines_define : (d e : Definitions) (lines : List (List ℕ)) → AllByRecursion AreInLine lines → with_lines (8388608 - length (head_text Three ++ [])) d lines ≡ Ok e → LinesSpell (table_of Three d []) lines (table_of Three e [])
+lines_define d e [] own h = ap (λ x. table_of Three x []) (let same : e ≡ d = cc in same)
+lines_define d e (line ∷ lines) own h =
     let limit : ℕ = 8388608 - length (head_text Three ++ []) in
     let first = after_is (with_words limit d (lexemes line)) (λ x. with_lines limit x lines) e h in
     let read = words_read limit d first.0 (lexemes line) first.1 in
-    let fewer : length first.0.demands ≡ 0 = omega (arith, none, demands_of_lines limit first.0 e lines first.2) in
-    let begins = read.begins Three refl (without_demands limit d first.0 read.keyword read.behind read.defined fewer) in (
+    let begins = read.begins Three refl in (
       table_of Three first.0 [],
       subst (λ l. LineAdds (table_of Three d []) l (table_of Three first.0 [])) (sym (strip_nothing line own.0)) (inr (first.0, (read.keyword, read.behind, begins, read.defined), refl)),
-      lines_define first.0 e lines own.1 first.2 none,
+      lines_define first.0 e lines own.1 first.2,
     )
 
 definitions_spell : (v : Version) (d : Definitions) → AreOfVersion v d → AreDefinitions d → length (table_text v d []) ≤ text_limit v → LinesSpell (empty_table v) (canonical_lines d) (table_of v d [])
@@ -470,7 +454,6 @@ definitions_spell Three d of are l =
     lines_define nothing_defined d (canonical_lines d) (lines_in_line d are)
     (definitions_back d (8388608 - length (head_text Three ++ [])) are
     (omega (arith, l, length-append (head_text Three) (definitions_text d ++ []), length-append (definitions_text d) [], definitions_text-length d, length-append (head_text Three) [])))
-    (ap length of)
 
 behind_one_another : (t m u : TableValue) (a b : List (List ℕ)) → LinesSpell t a m → LinesSpell m b u → LinesSpell t (a ++ b) u
 behind_one_another t m u [] b h k = subst (λ x. LinesSpell x b u) h k

@@ -299,10 +299,10 @@ version_form Two d (Some last) (m ∷ mapped) h =
     let p = and_parts (list_all is_plain (m ∷ mapped)) (not m.marked) h in
     each_point (IsOfVersion Two) d m (range_with_len (slice_index m.points 0) (range_size (slice_index m.points 0) last))
     (λ c. (true_not m.marked p.1, plain_entry d (with_point m c ∷ []) (plain_point m mapped p.0)))
-version_form Three d None mapped h = (plain_entry d mapped h, tt)
+version_form Three d None mapped h = (tt, tt)
 version_form Three d (Some last) [] h = tt
 version_form Three d (Some last) (m ∷ mapped) h =
-    each_point (IsOfVersion Three) d m (range_with_len (slice_index m.points 0) (range_size (slice_index m.points 0) last)) (λ c. plain_entry d (with_point m c ∷ []) (plain_point m mapped h))
+    each_point (IsOfVersion Three) d m (range_with_len (slice_index m.points 0) (range_size (slice_index m.points 0) last)) (λ c. tt)
 
 -- ---- names
 

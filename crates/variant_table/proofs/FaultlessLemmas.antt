@@ -19,14 +19,14 @@ use Rattle.ruleset_text.specs.EntryText.{IsForm}
 use Rattle.ruleset_text.specs.Lexemes.{lexemes}
 use Rattle.ruleset_text.specs.WellFormed.{AreDefinitions}
 use Rattle.ruleset_text.proofs.AddedLemmas.{nothing_counted}
-use Rattle.ruleset_text.proofs.DefinedLemmas.{Grown, defined_grows, NamesNoDemand, demands_stay, NamesStay, names_stay}
+use Rattle.ruleset_text.proofs.DefinedLemmas.{Grown, defined_grows, NamesStay, names_stay}
 use Rattle.ruleset_text.proofs.DefinitionsTextLemmas.{definitions_text-length}
 use Rattle.variant_table.specs.Faults.{LineFault, Limit, Syntax}
 use Rattle.variant_table.specs.declared.version.Notation.{Notation}
 use Rattle.variant_table.specs.declared.version.Notation.TheVariants.{Table, Ruleset}
 use Rattle.variant_table.specs.declared.version.Version.{Version}
 use Rattle.variant_table.specs.declared.version.Version.TheVariants.{One, Two, Three}
-use Rattle.variant_table.specs.DefinitionLines.{if_read, with_behind, keyword_in, room_for_definitions, Defines}
+use Rattle.variant_table.specs.DefinitionLines.{keyword_in, room_for_definitions, Defines}
 use Rattle.variant_table.specs.Entries.{Entry, IsOfVersion, TableValue, empty_table}
 use Rattle.variant_table.specs.Canonical.{canonical_line, canonical_text, head_text, table_text, version_line, written_text}
 use Rattle.variant_table.specs.Limits.{line_limit, text_limit, entry_limit}
@@ -146,7 +146,7 @@ pub record IsSound (t : TableValue) : Type 0 where
 nothing_of : (v : Version) → AreOfVersion v nothing_defined
 nothing_of One = refl
 nothing_of Two = refl
-nothing_of Three = refl
+nothing_of Three = tt
 
 pub empty_sound : (v : Version) → IsSound (empty_table v)
 empty_sound v = record {
@@ -159,33 +159,16 @@ empty_sound v = record {
 
 -- ---- definitions
 
--- only a ruleset has them, and no demand is read
-record IsRead (v : Version) (k : Keyword) : Type 0 where
-  of_three : v ≡ Three
-  no_demand : NamesNoDemand k
+-- only a ruleset has them
+of_three : (v : Version) (words behind : List (List ℕ)) (k : Keyword) → keyword_in v words ≡ Some (k, behind) → v ≡ Three
+of_three One words behind k e = absurd cc
+of_three Two words behind k e = absurd cc
+of_three Three words behind k e = refl
 
-abbrev keyword_told : Option (Keyword × List (List ℕ)) → Keyword
-keyword_told None = keyword.Tag
-keyword_told (Some told) = told.0
-
-kept : (o : Option Keyword) (words behind : List (List ℕ)) (k : Keyword) → with_behind words (if_read o) ≡ Some (k, behind) → NamesNoDemand k
-kept None words behind k e = absurd cc
-kept (Some keyword.Tag) words behind k e = subst NamesNoDemand (ap keyword_told e) tt
-kept (Some keyword.Set) words behind k e = subst NamesNoDemand (ap keyword_told e) tt
-kept (Some keyword.Rule) words behind k e = subst NamesNoDemand (ap keyword_told e) tt
-kept (Some keyword.Never) words behind k e = absurd cc
-kept (Some keyword.Always) words behind k e = absurd cc
-
-is_read : (v : Version) (words behind : List (List ℕ)) (k : Keyword) → keyword_in v words ≡ Some (k, behind) → IsRead v k
-is_read One words behind k e = absurd cc
-is_read Two words behind k e = absurd cc
-is_read Three [] behind k e = absurd cc
-is_read Three (word ∷ words) behind k e = record { of_three = refl; no_demand = kept (keyword_of word) words behind k e }
-
-of_ruleset : (v : Version) (d e : Definitions) → v ≡ Three → e.demands ≡ d.demands → AreOfVersion v d → AreOfVersion v e
-of_ruleset One d e is same h = absurd cc
-of_ruleset Two d e is same h = absurd cc
-of_ruleset Three d e is same h = same ∙ h
+of_ruleset : (v : Version) (d : Definitions) → v ≡ Three → AreOfVersion v d
+of_ruleset One d is = absurd cc
+of_ruleset Two d is = absurd cc
+of_ruleset Three d is = tt
 
 -- a text with what a line defines
 fits_defined : (v : Version) (d e : Definitions) (es : List Entry) → v ≡ Three → is_text_too_long v (table_text v d es) ≡ false → Grown (text_limit v - length (head_text v ++ canonical_text d es)) d e → canonical_text e es ≡ canonical_text d es
@@ -199,19 +182,19 @@ fits_defined Three d e es is fits g same =
 defined_sound : (t : TableValue) (k : Keyword) (words behind : List (List ℕ)) (d : Definitions) → IsSound t → keyword_in t.version words ≡ Some (k, behind)
     → defined (room_for_definitions t) t.definitions k behind ≡ Ok d → IsSound (record t { definitions = d })
 defined_sound t k words behind d h n e =
-    let read = is_read t.version words behind k n in
+    let three = of_three t.version words behind k n in
     let g : Grown (room_for_definitions t) t.definitions d = defined_grows (room_for_definitions t) t.definitions d k behind h.without_fault e in
     let stay : NamesStay t.definitions d = names_stay (room_for_definitions t) t.definitions d k behind e in
     record {
       without_fault = g.without_fault;
-      defined = of_ruleset t.version t.definitions d read.of_three (demands_stay (room_for_definitions t) t.definitions d k behind read.no_demand e) h.defined;
+      defined = of_ruleset t.version d three;
       of_version = h.of_version;
       named = named_on t.definitions d t.entries stay h.named;
       entries = record {
         sound = h.entries.sound;
         new = h.entries.new;
         few = h.entries.few;
-        fits = fits_defined t.version t.definitions d t.entries read.of_three h.entries.fits g (text_stays t.definitions d t.entries stay h.named);
+        fits = fits_defined t.version t.definitions d t.entries three h.entries.fits g (text_stays t.definitions d t.entries stay h.named);
       };
     }
 

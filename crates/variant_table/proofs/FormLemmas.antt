@@ -20,7 +20,7 @@ use Rattle.ruleset_text.proofs.HexLemmas.{hex_facts}
 use Rattle.variant_table.specs.declared.version.Version.{Version}
 use Rattle.variant_table.specs.declared.version.Version.TheVariants.{One, Two, Three}
 use Rattle.variant_table.specs.Faults.{LineFault, Syntax}
-use Rattle.variant_table.specs.DefinitionLines.{if_read, keyword_in, with_behind}
+use Rattle.variant_table.specs.DefinitionLines.{keyword_in, with_behind}
 use Rattle.variant_table.specs.Entries.{Entry, TableValue}
 use Rattle.variant_table.specs.Forms.{has_form, HasForm, entries_of, SpellsEntries}
 use Rattle.variant_table.specs.Reading.{◌>>=◌, is_skipped, form_by, form_in, with_definition, with_form_of, with_line, with_words}
@@ -143,7 +143,7 @@ none_in : (v : Version) (words : List (List ℕ)) → begins 37 words ≡ false 
 none_in One words h = refl
 none_in Two words h = refl
 none_in Three [] h = refl
-none_in Three (word ∷ words) h = ap (λ o. with_behind words (if_read o)) (no_keyword word words h)
+none_in Three (word ∷ words) h = ap (with_behind words) (no_keyword word words h)
 
 -- an entry is no definition
 pub form-no_definition : (v : Version) (line : List ℕ) (form : EntryForm) → HasForm v line form → keyword_in v (lexemes line) ≡ None

@@ -42,6 +42,10 @@ all_bare : (ms : List Mapped) → list_all (is_within false false) ms ≡ list_a
 all_bare [] = refl
 all_bare (m ∷ ms) = ap (λ b. b && list_all (is_within false false) ms) (bare_within m.tags m refl) ∙ ap (λ b. is_bare m && b) (all_bare ms)
 
+all_within : (ms : List Mapped) → list_all (is_within true true) ms ≡ true
+all_within [] = refl
+all_within (m ∷ ms) = all_within ms
+
 moved : (a b c : Bool) → ((a && c) && b) ≡ ((a && b) && c)
 moved true true true = refl
 moved true true false = refl
@@ -64,9 +68,9 @@ form_parts Two form = by form.mapped ∙ sym (and_true (are_within (parts_of Two
         ∙ ap (λ b. (is_plain m && not m.marked) && b) (sym (all_plain ms)) ∙ ap (λ b. b && list_all (is_within false true) ms) (sym (bare_within m.tags m refl))
 form_parts Three form = by form.mapped ∙ sym (and_true (are_within (parts_of Three) form.mapped))
   where
-    by : (ms : List Mapped) → list_all is_plain ms ≡ are_within (parts_of Three) ms
+    by : (ms : List Mapped) → true ≡ are_within (parts_of Three) ms
     by [] = refl
-    by (m ∷ ms) = sym (all_plain (m ∷ ms))
+    by (m ∷ ms) = sym (all_within ms)
 
 -- ---- syntax
 

@@ -155,7 +155,7 @@ version_kept v [] h = tt
 version_kept One (e ∷ t) h =
     ((h.0.0, All-from_recursion (λ x. x.blocked ≡ false) (free e.variants) (each_free (λ x. x.blocked ≡ false) e.variants (recursion_from_All (λ x. x.blocked ≡ false) e.variants h.0.1)), plain_free e h.0.2), version_kept One t h.1)
 version_kept Two (e ∷ t) h = ((h.0.0, plain_free e h.0.1), version_kept Two t h.1)
-version_kept Three (e ∷ t) h = (plain_free e h.0, version_kept Three t h.1)
+version_kept Three (e ∷ t) h = (tt, version_kept Three t h.1)
 
 -- ---- sources
 

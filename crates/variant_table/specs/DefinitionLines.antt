@@ -1,9 +1,8 @@
--- The lines of a ruleset that define something: a tag, a set or a rule.
+-- The lines of a ruleset that define something: a tag, a set, a rule or a demand.
 use Rattle.std.specs.Prelude.{◌≡◌, ℕ, ◌-◌, Ok, Err, ◌++◌, length, Option, Some, None, List, [], ◌∷◌}
 use Rattle.ruleset_text.specs.declared.fault.DefinitionFault.{DefinitionFault}
 use Rattle.ruleset_text.specs.declared.fault.DefinitionFault.TheVariants as definitions
 use Rattle.ruleset_text.specs.declared.keyword.Keyword.{Keyword}
-use Rattle.ruleset_text.specs.declared.keyword.Keyword.TheVariants.{Tag, Set, Rule, Never, Always}
 use Rattle.ruleset_text.specs.Definition.{keyword_of}
 use Rattle.ruleset_text.specs.Definitions.{Definitions, defined}
 use Rattle.ruleset_text.specs.Lexemes.{lexemes}
@@ -14,15 +13,6 @@ use Rattle.variant_table.specs.Entries.{TableValue}
 use Rattle.variant_table.specs.Faults.{LineFault, Limit, Syntax, BadClass, NoSuchName, SameName}
 use Rattle.variant_table.specs.Limits.{text_limit}
 
--- no demand is read yet, so their keywords are none
-abbrev pub if_read : Option Keyword → Option Keyword
-if_read None = None
-if_read (Some Tag) = Some Tag
-if_read (Some Set) = Some Set
-if_read (Some Rule) = Some Rule
-if_read (Some Never) = None
-if_read (Some Always) = None
-
 abbrev pub with_behind : List (List ℕ) → Option Keyword → Option (Keyword × List (List ℕ))
 with_behind behind None = None
 with_behind behind (Some keyword) = Some (keyword, behind)
@@ -32,7 +22,7 @@ abbrev pub keyword_in : Version → List (List ℕ) → Option (Keyword × List 
 keyword_in One words = None
 keyword_in Two words = None
 keyword_in Three [] = None
-keyword_in Three (word ∷ behind) = with_behind behind (if_read (keyword_of word))
+keyword_in Three (word ∷ behind) = with_behind behind (keyword_of word)
 
 -- how many bytes the canonical text of the definitions may have beside that of the entries
 abbrev pub room_for_definitions : TableValue → ℕ

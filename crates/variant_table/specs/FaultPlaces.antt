@@ -34,11 +34,11 @@ use Rattle.variant_table.specs.WellFormed.{is_table_class}
 
 -- ---- syntax
 
--- version 1 has no '!' and no ranges, version 2 no outside sources; tags and conditions are read in none yet
+-- version 1 has no '!' and no ranges, version 2 no outside sources, and neither has tags or conditions
 abbrev pub parts_of : Version → EntryParts
 parts_of One = record { outside = false; blocked = false; ranges = false; named = false }
 parts_of Two = record { outside = false; blocked = true; ranges = true; named = false }
-parts_of Three = record { outside = true; blocked = true; ranges = true; named = false }
+parts_of Three = record { outside = true; blocked = true; ranges = true; named = true }
 
 -- '%' is the first byte that is no blank
 abbrev pub begins_in_percent : List ℕ → Bool

@@ -32,11 +32,11 @@ abbrev pub begins_marked : List Mapped → Bool
 begins_marked [] = false
 begins_marked (source ∷ variants) = source.marked
 
--- version 1 has no '!' and no ranges, version 2 no outside sources; none of them has tags or conditions
+-- version 1 has no '!' and no ranges, version 2 no outside sources, and neither has tags or conditions; version 3 has all
 abbrev pub has_form : Version → EntryForm → Bool
 has_form One form = list_all is_bare form.mapped && not (is_some form.last)
 has_form Two form = list_all is_plain form.mapped && not (begins_marked form.mapped)
-has_form Three form = list_all is_plain form.mapped
+has_form Three form = true
 
 -- the line is an entry or a range of this form, which the version has
 abbrev pub HasForm : Version → List ℕ → EntryForm → Type 0

@@ -17,19 +17,8 @@ pub fn keyword_in(version: Version, line: &[u8]) -> Option<(Keyword, &[u8])>
         Version::One | Version::Two => None,
         Version::Three => {
             let (word, behind) = next_lexeme(line)?;
-            let keyword = if_read(keyword_of(word)?)?;
-            Some((keyword, behind))
+            Some((keyword_of(word)?, behind))
         }
-    }
-}
-
-/// The keyword, unless it is that of a demand, which is not read yet.
-fn if_read(keyword: Keyword) -> Option<Keyword>
-    ensures { result ≡ lines.if_read (Some keyword) }
-{
-    match keyword {
-        Keyword::Tag | Keyword::Set | Keyword::Rule => Some(keyword),
-        Keyword::Never | Keyword::Always => None,
     }
 }
 

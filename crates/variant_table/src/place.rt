@@ -214,16 +214,16 @@ fn as_fault(place: Option<WrongPlace>) -> Option<FaultPlace>
 fn parts_of(version: Version) -> EntryParts
     ensures { result ≡ places.parts_of version }
 {
-    let (outside, blocked, ranges) = match version {
-        Version::One => (false, false, false),
-        Version::Two => (false, true, true),
-        Version::Three => (true, true, true),
+    let (outside, blocked, ranges, named) = match version {
+        Version::One => (false, false, false, false),
+        Version::Two => (false, true, true, false),
+        Version::Three => (true, true, true, true),
     };
     EntryParts {
         outside,
         blocked,
         ranges,
-        named: false,
+        named,
     }
 }
 
