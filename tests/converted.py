@@ -28,7 +28,7 @@ from notation import reading
 from ruleset_labels import RulesetLabels, Unknown
 
 UNSAYABLE = "refused: there is no such table\n"
-SEEDS = range(1, 46)
+SEEDS = range(1, 51)
 # So many random rulesets at least are converted, and so many of their labels accepted. Labels with more variants are left out.
 LEAST_CONVERTED, LEAST_ACCEPTED = 20, 300
 MOST_SPELLED = 60
