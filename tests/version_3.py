@@ -1,7 +1,8 @@
 #!/usr/bin/env python3
-"""Asks the second writing of rulesets (conformance/ruleset_labels.py, tables/notation/) for the worked rows of version 3, and
-the program, where it reads rulesets. Which labels may be registered, and which code points may stand in a table, is told by
-the built program. The last line is 'N passed, M failed', and the exit status is 0 where nothing failed."""
+"""Asks the second writing of rulesets (conformance/ruleset_labels.py, tables/notation/) and the program for the worked rows of
+version 3, and for what the rulesets of tables/rulesets/ and of docs/NOTATION.md say. Which labels may be registered, and
+which code points may stand in a table, the program tells the second writing. The last line is 'N passed, M failed', and the
+exit status is 0 where nothing failed."""
 
 import functools
 import os
@@ -82,33 +83,13 @@ def second_writing_spells(folder):
         assert again == ruleset, (text, again)
 
 
-# A line that the program doesn't read in a ruleset yet: a demand, a condition, or an entry with tags.
-NOT_YET = re.compile(r"[ \t]*(?:%(?:never|always)\b.*|[^#%\s][^#]*\b(?:when|unless|as)\b.*)", re.ASCII)
-
-
-def not_read_yet(text):
-    """The number of the first line that the program doesn't read yet, or None."""
-    lines = enumerate(text.split("\n")[1:], 2)
-    return next((number for number, line in lines if NOT_YET.fullmatch(line.rstrip("\r"))), None)
-
-
 def program_answers(folder):
-    """What the program reads it answers as the rows say. A line that it doesn't read yet is refused, so that no condition is
-    passed over, unless a line before it is faulty."""
-    read = 0
+    """Each row, as the program answers it."""
     for words, given, files, wanted in ruleset_rows.rows():
-        text = files["table"]
-        words = [table_file(folder, text.encode()) if word == "table" else word for word in words]
+        words = [table_file(folder, files["table"].encode()) if word == "table" else word for word in words]
         done = run(words, given.encode())
         found = done.stdout.decode(), done.stderr.decode(), done.returncode
-        line = not_read_yet(text) if {"--ruleset", "--check-ruleset"}.intersection(words) else None
-        before = re.fullmatch(r"idn2: table line (\d+): .*\n", wanted[1])
-        if line and not (before and int(before.group(1)) < line):
-            wanted = "", f"idn2: table line {line}: 30 table syntax\n", 2
-        else:
-            read += 1
-        assert found == wanted, (words, given, text[:400], told(found), told(wanted))
-    assert read >= 85, read
+        assert found == wanted, (words, given, files["table"][:400], told(found), told(wanted))
 
 
 # The rulesets of tables/rulesets/: words that are to be accepted, labels that are not, each with its number, and variants that
@@ -133,23 +114,40 @@ EXAMPLES = {
 }
 
 
+def answer_of_program(path, label):
+    """The number by which the program refuses the label under a ruleset, or for each variant whether it is allocatable."""
+    done = run(["--ruleset", path, "--", label])
+    message = re.fullmatch(r"idn2: line 1: (\d+) .*\n", done.stderr.decode())
+    if message:
+        return int(message.group(1))
+    variants = [line.split("\t") for line in done.stdout.decode().splitlines()[:-1]]
+    return {variant: disposition == "allocatable" for variant, _, disposition in variants}
+
+
 def example_rulesets_hold(folder):
     """Each is read, lacks no pair, and says of words what its script or its head says. What can't be registered isn't asked."""
     names = os.listdir(os.path.join(ROOT, "tables", "rulesets"))
     assert sorted(names) == sorted(EXAMPLES), names
     for name, wanted in EXAMPLES.items():
-        with open(os.path.join(ROOT, "tables", "rulesets", name), "rb") as file:
+        path = os.path.join(ROOT, "tables", "rulesets", name)
+        with open(path, "rb") as file:
             ruleset = reading.read(file.read(), BY_PROGRAM.may_stand)
         assert gaps(ruleset.variants_of()) == [], name
+        checked = run(["--check-ruleset", path])
+        assert (checked.stdout.decode(), checked.returncode) == (f"#table {len(ruleset.entries)} 0\n", 0), checked
         labels = RulesetLabels(ruleset)
         refused = {word: labels.refusal(word) for word in wanted["accepted"].split()} | {
             word: labels.refusal(word) for word in wanted["refused"]}
         assert {word: number for word, number in refused.items() if number} == wanted["refused"], (name, refused)
         assert not any(BY_PROGRAM.first_fault(word) for word in wanted["accepted"].split()), name
+        answers = {word: answer_of_program(path, word) for word in refused}
+        assert all((answers[word] == number) if number else answers[word][word] for word, number in refused.items()), answers
         for label, variants in wanted["variants"].items():
             allocatable, valid = labels.allocatable(label), set(filter(labels.is_valid, labels.spelled(label)))
             found = {variant: variant in allocatable if variant in valid else None for variant in variants}
             assert found == variants, (name, label, found)
+            listed = answer_of_program(path, label)
+            assert {variant: listed.get(variant) for variant in variants} == variants, (name, label, listed)
 
 
 def notation_shows_a_ruleset(folder):
