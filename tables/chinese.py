@@ -1,35 +1,61 @@
-#!/usr/bin/env python3
-"""Makes tables/rulesets/chinese.txt anew from tables/han.txt: python3 tables/chinese.py
+"""The ruleset of Chinese, rulesets/chinese.txt, which make.py makes together with the table han.txt: the same sets of
+variants, with a tag for each kind of character."""
 
-The sets of variants are those of han.txt, from Unicode's data. A character of a set is simplified, traditional or both by
-the character sets GB 2312 and Big Five, as Python has them. The others, and those that are in neither, are both.
-"""
+from notation.points import spelled
+from unicode_data import han_field
 
-import pathlib
-
-HERE = pathlib.Path(__file__).resolve().parent
-# The tag of a character, by the character set that it has to be in.
-CHARACTER_SETS = {"simp": "gb2312", "trad": "big5"}
+# The tag of a character, by the field of Unihan that tells of the character set that it has to be in.
+CHARACTER_SETS = {"simp": "kGB0", "trad": "kBigFive"}
+# The field that a character of a kind has where it is one end of a pair: which characters the other end is.
+DIRECTIONS = {"simp": "kTraditionalVariant", "trad": "kSimplifiedVariant"}
 
 HEAD = """\
 %version 3
 # Chinese: simplified and traditional characters as each other's variants, each kind with its own.
 #
-# Made by tables/chinese.py from tables/han.txt, which has Unicode's pairs of simplified and traditional characters. A
-# character of a pair is simplified if it is in GB 2312 alone, traditional if it is in Big Five alone, and both if it is in
-# both. So the holder of a label may have the one that is simplified throughout, and the one that is traditional
-# throughout, and a mixture of both is for nobody else. {pairs:,} characters have variants, {others:,} have none.
+# Made by tables/make.py from the sets of tables/han.txt, and from the character sets in the Unihan database of Unicode
+# {version}: a character that has variants is simplified if it is in GB 2312 alone (kGB0), traditional if it is in Big Five
+# alone (kBigFive), and both if it is in both. So the holder of a label may have the one that is simplified throughout,
+# and the one that is traditional throughout, and a mixture of both is for nobody else. {pairs:,} characters have variants,
+# {others:,} have none.
+#
+# Compared with the directions of Unihan's pairs (kSimplifiedVariant, kTraditionalVariant): of {tagged:,} characters of one
+# kind {directed:,} have that of their pairs. The others are {undirected}.
 %tag simp
 %tag trad
 """
 
 
-def main():
-    lines = (HERE / "han.txt").read_text(encoding="ascii").splitlines()
-    entries = [line.replace(":", "|").split("|") for line in lines if not line.startswith("#")]
-    pairs = sum(len(entry) > 1 for entry in entries)
-    text = HEAD.format(pairs=pairs, others=len(entries) - pairs) + "".join(map(line_of, runs_of(entries)))
-    (HERE / "rulesets" / "chinese.txt").write_text(text, encoding="ascii", newline="\n")
+def text_of(variants, version):
+    """The text, for each source its variants."""
+    kinds = {point: kind_of(point) for source in variants for point in source if variants[source]}
+    tagged = {point for point in kinds if kinds[point]}
+    directed = {point for point in tagged if has_direction(point, kinds[point])}
+    numbers = {"pairs": len(kinds), "others": len(variants) - len(kinds), "tagged": len(tagged), "directed": len(directed)}
+    undirected = ", ".join(f"{point:04X}" for point in sorted(tagged - directed))
+    runs = runs_of([(source, *others) for source, others in variants.items()])
+    return HEAD.format(version=version, undirected=undirected, **numbers) + "".join(line_of(run, kinds) for run in runs)
+
+
+def others_of(point, value):
+    """The characters that a field of variants names, but for the one itself."""
+    return {int(word[2:], 16) for word in value.split()} - {point}
+
+
+CHARACTERS = {kind: {point for point, _ in han_field("Unihan_OtherMappings.txt", field)}
+              for kind, field in CHARACTER_SETS.items()}
+DIRECTED = {kind: {point for point, value in han_field("Unihan_Variants.txt", field) if others_of(point, value)}
+            for kind, field in DIRECTIONS.items()}
+
+
+def kind_of(point):
+    """The tag of a character; None if it is of both kinds."""
+    kinds = [kind for kind, points in CHARACTERS.items() if point in points]
+    return kinds[0] if len(kinds) == 1 else None
+
+
+def has_direction(point, kind):
+    return [each for each, points in DIRECTED.items() if point in points] == [kind]
 
 
 def runs_of(entries):
@@ -37,31 +63,20 @@ def runs_of(entries):
     runs = []
     for entry in entries:
         last = runs[-1][-1] if runs else None
-        if last and len(last) == len(entry) == 1 and int(last[0], 16) + 1 == int(entry[0], 16):
+        if last and len(last) == len(entry) == 1 and (last[0][0] + 1,) == entry[0]:
             runs[-1].append(entry)
         else:
             runs.append([entry])
     return runs
 
 
-def line_of(run):
+def line_of(run, kinds):
     if len(run) > 1:
-        return f"{run[0][0]}..{run[-1][0]}\n"
-    source, *variants = run[0]
-    return (tagged(source) + "|" + ":".join(map(tagged, variants)) if variants else source) + "\n"
+        return f"{spelled(run[0][0])}..{spelled(run[-1][0])}\n"
+    source, *variants = (tagged(sequence, kinds) for sequence in run[0])
+    return source + ("|" + ":".join(variants) if variants else "") + "\n"
 
 
-def tagged(digits):
-    tags = [tag for tag, character_set in CHARACTER_SETS.items() if is_in(character_set, chr(int(digits, 16)))]
-    return f"{digits} as {tags[0]}" if len(tags) == 1 else digits
-
-
-def is_in(character_set, character):
-    try:
-        return bool(character.encode(character_set))
-    except UnicodeEncodeError:
-        return False
-
-
-if __name__ == "__main__":
-    main()
+def tagged(sequence, kinds):
+    kind = kinds.get(sequence[0])
+    return spelled(sequence) + (f" as {kind}" if kind else "")

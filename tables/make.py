@@ -6,17 +6,19 @@ It reads these files of Debian's package unicode-data (/usr/share/unicode, or th
     CaseFolding.txt                         german.txt: which letters stand for the sharp s
     NamesList.txt, UnicodeData.txt          arabic-digits.txt: the letters by language, the digits by value
     Unihan_Variants.txt.bz2                 han.txt: kSimplifiedVariant, kTraditionalVariant
-    Unihan_OtherMappings.txt.bz2            han.txt: kGB0, kBigFive, the character sets that both ends stand in
+    Unihan_OtherMappings.txt.bz2            han.txt: kGB0, kBigFive, the character sets that both ends stand in; in
+                                            rulesets/chinese.txt they tell which characters are simplified (chinese.py)
     Unihan_DictionaryLikeData.txt.bz2       han.txt: kGradeLevel, the characters that schools teach
     and those of properties that a code point's class comes from (unicode_data.py)
 
 The letters of German are written out below, since Unicode's character data does not list letters by language.
-The tables are closed under symmetry and transitivity, so `idn2 --check-table` prints no gap.
+The tables are closed under symmetry and transitivity, so `idn2 --check-table` prints no gap; nor does `--check-ruleset`.
 """
 
 import pathlib
 import re
 
+import chinese
 import unicode_data
 from notation.points import spelled
 from unicode_data import MAY_STAND_IN_A_TABLE, Classes
@@ -214,6 +216,8 @@ def main():
         (HERE / name).write_text(text, encoding="ascii", newline="\n")
         variants = sum(map(len, table.variants.values()))
         print(f"{name}: {len(table.variants)} entries, {variants} variants")
+    text = chinese.text_of(tables["han.txt"][1][0].variants, unicode_data.version())
+    (HERE / "rulesets" / "chinese.txt").write_text(text, encoding="ascii", newline="\n")
 
 
 if __name__ == "__main__":

@@ -7,14 +7,15 @@ exit status is 0 where nothing failed."""
 import functools
 import os
 import re
-import subprocess
 import sys
 
 from program import ROOT, run, run_tests, table_file
 
 sys.path += [os.path.join(ROOT, "conformance"), os.path.join(ROOT, "tables")]
 
+import check
 import ruleset_rows
+import unicode_data
 from notation import canonical, reading
 from notation.gaps import gaps
 from ruleset_labels import RulesetLabels
@@ -162,16 +163,44 @@ def notation_shows_a_ruleset(folder):
     assert labels.allocatable("国0") == {"国0", "國0"} and "國०" in labels.spelled("国0"), labels.allocatable("国0")
 
 
-def chinese_ruleset_is_made_anew(folder):
-    """tables/chinese.py makes it from tables/han.txt."""
-    path = os.path.join(ROOT, "tables", "rulesets", "chinese.txt")
-    with open(path, "rb") as file:
-        before = file.read()
-    words = ["cp", "-r", os.path.join(ROOT, "tables"), folder]
-    subprocess.run(words, check=True)
-    subprocess.run([sys.executable, os.path.join(folder, "tables", "chinese.py")], check=True)
-    with open(os.path.join(folder, "tables", "rulesets", "chinese.txt"), "rb") as file:
-        assert file.read() == before
+def chinese_ruleset_is_as_others_have_it(folder):
+    """It has the entries of tables/han.txt, and the tags that Python's codecs of GB 2312 and Big Five tell."""
+    with open(os.path.join(ROOT, "tables", "han.txt"), "rb") as file:
+        table = check.read(file.read(), BY_PROGRAM)
+    with open(os.path.join(ROOT, "tables", "rulesets", "chinese.txt"), "rb") as file:
+        entries = reading.read(file.read(), BY_PROGRAM.may_stand).entries
+    found = {source: {variant.points: False for variant in entry.variants} for source, entry in entries.items()}
+    assert found == table.entries
+    for entry in entries.values():
+        for mapped in entry.mapped() if entry.variants else ():
+            [kind] = [tags for tags, wanted in KINDS_OF_HAN.items() if wanted == kinds_of_han(chr(*mapped.points))]
+            assert mapped.tags == kind, mapped
+
+
+# The tags of a character, by the codecs that have it.
+KINDS_OF_HAN = {("simp",): ("gb2312",), ("trad",): ("big5",), (): ("gb2312", "big5")}
+
+
+def kinds_of_han(character):
+    return tuple(codec for codec in ("gb2312", "big5") if character.encode(codec, "ignore"))
+
+
+# The sets of tables/rulesets/devanagari.txt, by Unicode's Indic_Syllabic_Category.
+CATEGORIES = {"vowel": "Vowel_Independent", "consonant": "Consonant", "nukta_base": "Consonant", "vowel_sign": "Vowel_Dependent",
+              "ascii_digit": "Number", "devanagari_digit": "Number"}
+
+
+def devanagari_sets_are_as_unicode_has_them(folder):
+    """Each is of one category alone, where Unicode's data is there."""
+    if not unicode_data.FOLDER.is_dir():
+        print("no Unicode data is there, so the sets of tables/rulesets/devanagari.txt were not compared with it")
+        return
+    spans = list(unicode_data.properties("IndicSyllabicCategory.txt"))
+    with open(os.path.join(ROOT, "tables", "rulesets", "devanagari.txt"), "rb") as file:
+        sets = reading.read(file.read(), BY_PROGRAM.may_stand).sets
+    points = {name: [point for first, last in sets[name] for point in range(first, last + 1)] for name in sets}
+    found = {name: {category for point in points[name] for first, last, category in spans if first <= point <= last} for name in sets}
+    assert found == {name: {category} for name, category in CATEGORIES.items()}, found
 
 
 TESTS = [
@@ -180,7 +209,8 @@ TESTS = [
     program_answers,
     example_rulesets_hold,
     notation_shows_a_ruleset,
-    chinese_ruleset_is_made_anew,
+    chinese_ruleset_is_as_others_have_it,
+    devanagari_sets_are_as_unicode_has_them,
 ]
 
 if __name__ == "__main__":
