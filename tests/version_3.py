@@ -8,6 +8,7 @@ import functools
 import os
 import re
 import sys
+import textwrap
 
 from program import ROOT, run, run_tests, table_file
 
@@ -154,13 +155,20 @@ def example_rulesets_hold(folder):
 def notation_shows_a_ruleset(folder):
     """The example of docs/NOTATION.md is read, and says of labels what stands there."""
     with open(os.path.join(ROOT, "docs", "NOTATION.md"), encoding="utf-8") as file:
-        [text] = re.findall(r"(?:^    .*\n)+", file.read().split("\n## Version 3\n")[1].split("\n###")[0], re.MULTILINE)
-    ruleset = reading.read(text.replace("\n    ", "\n").lstrip().encode(), BY_PROGRAM.may_stand)
+        [text, *_] = re.findall(r"(?:^    .*\n)+", file.read().split("\nA ruleset with something of each kind:\n")[1], re.MULTILINE)
+    text = textwrap.dedent(text).encode()
+    ruleset = reading.read(text, BY_PROGRAM.may_stand)
     labels = RulesetLabels(ruleset)
     refused = {label: labels.refusal(label) for label in ("काa", "का", "ा", "क1", "क०", "1०", "a-1", "-a", "aa-a", "аa")}
     assert refused == {"काa": None, "का": None, "ा": 41, "क1": None, "क०": None, "1०": 41, "a-1": None, "-a": 41,
                        "aa-a": None, "аa": 40}, refused
     assert labels.allocatable("国0") == {"国0", "國0"} and "國०" in labels.spelled("国0"), labels.allocatable("国0")
+    path = table_file(folder, text)
+    for label, number in refused.items():
+        number = BY_PROGRAM.first_fault(label) or number
+        answer = answer_of_program(path, label)
+        assert answer == number if number else answer[label], (label, answer)
+    assert answer_of_program(path, "国0") == {"国0": True, "國0": True, "国०": False, "國०": False}
 
 
 def chinese_ruleset_is_as_others_have_it(folder):
