@@ -376,7 +376,8 @@ def makes_each_file_of_an_output_by_its_status(folder):
 @in_each_setting
 def leaves_a_file_as_it_was_where_its_recipe_fails(kit):
     """What is read is missing; the program or Python fails or is killed; the disk is full. Else it is made."""
-    os.remove(os.path.join(kit.folder, "published.xml"))
+    for name in ("published.xml", "plain.xml"):
+        os.remove(os.path.join(kit.folder, name))
 
     def run_recipe(command, **more):
         return subprocess.run(["sh", "-c", command], cwd=kit.folder, env=kit.environment, stdin=subprocess.DEVNULL,
@@ -393,8 +394,10 @@ def leaves_a_file_as_it_was_where_its_recipe_fails(kit):
             expect_failure("nothing to read", command, name)
     for name in ("cyrillic.txt", "alike.txt"):
         kit.write(name, "0061\n")
-    for name in ("published.xml", "latin.xml"):
+    for name in ("published.xml", "own.xml", "newer.xml"):
         kit.write(name, SCRIPTS["published.xml"])
+    for name in ("plain.xml", "latin.xml"):
+        kit.write(name, SCRIPTS["plain.xml"])
     failing = "echo 0061\necho lost >&2\n"
     for command, name in RECIPES:
         # The script that converts takes the program beside it.
