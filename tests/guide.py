@@ -330,6 +330,64 @@ def takes_what_it_cannot_read_for_unknown(kit):
         kit.expect_unknown(["change.sh", GERMAN, GERMAN, bad], b"not all variants are known: ")
 
 
+SIGMA = "%version 3\n%rule end _ $\n03B1..03C1\n03C3|03C2 when end\n03C2|03C3\n03C4..03C9\n"
+
+
+@in_each_setting
+def takes_rulesets_as_tables(kit):
+    """What a table of version 2 says a ruleset of the same lines says, whatever the script, and however its first line ends."""
+    lines = {"german": kit.read(GERMAN).split(b"\n"), "han": [b"%version 2", *kit.read(HAN).split(b"\n")]}
+    for name, (_, *others) in lines.items():
+        kit.write(f"{name}.txt", b"\n".join([b"%version 2", *others]))
+        kit.write(f"{name}3.txt", b"\n".join([b"%version 3\r" if name == "german" else b"%version 3", *others]))
+    kit.write("registered.txt", "haus\nmaß\n")
+    kit.write("names.txt", "haus\nmaß\n")
+    kit.write("keys.txt", "xn--fiqs8s\n")
+    labels = "strasse\nsss\n".encode()
+    for words in (*QUESTIONS, ["taken.sh", GERMAN, "registered.txt", "laus"], ["keys.sh", GERMAN, "maus"], ["ask.py", GERMAN],
+                  ["combine.py", GERMAN, HAN], ["list_all.sh", HAN, "中国"], ["accept.sh", GERMAN, GERMAN, "registered.txt", "m"]):
+        if words[0] == "registered.sh":
+            continue
+        found = []
+        for kind in ("", "3"):
+            shutil.rmtree(os.path.join(kit.folder, "pages"), ignore_errors=True)
+            kit.write("names.txt", "haus\nmaß\n")
+            changed = [{GERMAN: f"german{kind}.txt", HAN: f"han{kind}.txt"}.get(word, word) for word in words]
+            output, message, status = kit.run(*changed, given=labels)
+            found.append((output.replace(b"3.txt", b".txt"), message.replace(b"3.txt", b".txt"), status))
+        assert found[0] == found[1], (words, found)
+
+
+@in_each_setting
+def finds_what_a_ruleset_hides(kit):
+    """A registered label that has the new one as a variant, and not the other way round: by a condition of a variant, by one of
+    a source that is within a longer one, and by a longer outside source. The ways that would miss it refuse the ruleset."""
+    hidden = b"a registered label has it as a variant\n"
+    within = "%version 3\n%rule after_a 0061 _\n0061|0078 \n0078 unless after_a|0061\n0061-0078\n"
+    outside = "%version 3\n0061\n0062|0061-0061\n!0061-0061|0062\n"
+    for text, label, registered in ((SIGMA, "σα", "ςα"), (within, "ax", "aa"), (outside, "aa", "b")):
+        kit.write("ruleset.txt", text)
+        for others in ("", "b\nc\n"):
+            kit.write("registered.txt", "".join(sorted({f"{registered}\n", *others.splitlines(keepends=True)})))
+            kit.expect(["taken.sh", "ruleset.txt", "registered.txt", label], b"", 1, hidden)
+        kit.expect(["taken.sh", "ruleset.txt", "registered.txt", registered],
+                   f"{registered}\t".encode() + a_label_of(registered) + b"\tallocatable\n", 1)
+        kit.write("registered.txt", "c\n")
+        kit.expect(["taken.sh", "ruleset.txt", "registered.txt", label], b"", 0)
+        reason = b"a variant has a condition: " if text == SIGMA else b"a sequence has several code points: "
+        kit.expect_unknown(["keys.sh", "ruleset.txt", label], reason)
+        kit.write("registered.txt", f"{registered}\n")
+        with open(os.path.join(kit.folder, "registered.txt"), "rb") as file:
+            kit.run("fill.py", "registered.db", given=file.read())
+        kit.expect_unknown(["collisions.py", "ruleset.txt", "registered.db"], b"collisions may be hidden: ruleset.txt",
+                           given=f"{label}\n".encode())
+        os.remove(os.path.join(kit.folder, "registered.db"))
+
+
+def a_label_of(label):
+    return label.encode() if label.isascii() else b"xn--" + label.encode("punycode")
+
+
 @in_each_setting
 def takes_a_full_disk_for_unknown(kit):
     kit.write("registered.txt", "haus\n")
@@ -443,12 +501,13 @@ def takes_a_lost_program_for_unknown(kit):
     kit.write("registered.txt", "maß\n")
     kit.write("names.txt", "maß\nabc\n")
     kit.write("keys.txt", "xn--fiqs8s\n")
-    part = ("#!/bin/sh\ncase $* in *--check-table* | --version) exec {0} \"$@\" ;; esac\n"
+    kit.write("sigma.txt", SIGMA)
+    part = ("#!/bin/sh\ncase $* in *--check-table* | *--check-ruleset* | --version) exec {0} \"$@\" ;; esac\n"
             "{0} \"$@\" | head -c {1}\n{2}\n")
     for end in ("kill -9 $$", "exit 3", "exit 4"):
         for count in (0, 7, 30):
             kit.instead_of("idn2", part.format(PROGRAM, count, end))
-            for words in QUESTIONS:
+            for words in (*QUESTIONS, ["taken.sh", "sigma.txt", "registered.txt", "σα"]):
                 output, message, status = kit.run(*words)
                 assert status == NOT_KNOWN, (words, output, message, status)
     assert glob.glob(kit.folder + "/pages/[0-9]") == []
@@ -993,6 +1052,8 @@ TESTS = [
     keeps_runs_at_once_apart,
     takes_a_stop_for_unknown,
     takes_what_it_cannot_read_for_unknown,
+    takes_rulesets_as_tables,
+    finds_what_a_ruleset_hides,
     takes_a_full_disk_for_unknown,
     takes_a_lost_program_for_unknown,
     takes_a_lost_end_of_the_lines_for_unknown,
