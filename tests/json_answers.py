@@ -26,7 +26,8 @@ except ImportError:
 
 HAN = ["--variants", os.path.join(TABLES, "han.txt")]
 DIGITS = ["--variants", os.path.join(TABLES, "arabic-digits.txt")]
-LATIN = ["--ruleset", os.path.join(TABLES, "rulesets", "latin.txt")]
+LATIN, CHINESE, DEVANAGARI = (["--ruleset", os.path.join(TABLES, "rulesets", f"{name}.txt")]
+                              for name in ("latin", "chinese", "devanagari"))
 
 with open(os.path.join(ROOT, "docs", "answers.schema.json"), encoding="utf-8") as file:
     SCHEMA = json.load(file)
@@ -125,6 +126,11 @@ ROWS = [
       {"line": 1, "ulabel": "a\u0441", "alabel": "xn--a-7tb", "disposition": "blocked"},
       {"line": 1, "input": "ac", "count": 2, "complete": False, "after": "a\u0441"}], 0),
     ("\u0430c", LATIN, [refused("\u0430c", 40, "not made of table entries", **point("U+0430", 1))], 1),
+    ("काा", DEVANAGARI, [refused("काा", 41, "not valid under the table")], 1),
+    ("国學", CHINESE + ["--after", "国学", "--limit", "2"],
+     [{"line": 1, "ulabel": "国學", "alabel": "xn--vcs27h", "disposition": "allocatable"},
+      {"line": 1, "ulabel": "國学", "alabel": "xn--9cs44h", "disposition": "blocked"},
+      {"line": 1, "input": "国學", "count": 2, "complete": False, "after": "國学"}], 0),
     ("mañana", GERMAN, [refused("mañana", 40, "not made of table entries", **point("U+00F1", 3))], 1),
     ("maus", GERMAN + ["--after", "z"], [{"line": 1, "input": "maus", "count": 0, "complete": True}], 0),
     ("strasse\tstrasz", GERMAN + ["--jump"], [{"line": 1, "input": "strasse\tstrasz", "ulabel": "straße"}], 0),
@@ -420,7 +426,7 @@ SHAPES = {
        for number, shapes in OF_LABELS.items()},
     19: [shape | more for shape in OF_A_LABELS for more in (set(), {"label"})],
     20: [set()], 21: [{"octets"}, {"label", "octets"}], 30: [set(), {"byte"}], 31: [{"byte"}], 32: [{"byte"}],
-    33: [set(), {"code_point", "byte"}], 34: [set(), {"byte"}, {"code_point", "byte"}], 35: [set()], 36: [set()], 40: [PLACED],
+    33: [set(), {"code_point", "byte"}], 34: [set(), {"byte"}, {"code_point", "byte"}], 35: [set()], 36: [set()], 40: [PLACED], 41: [set()],
 }
 # A value of each member of a refusal.
 MEMBERS = {"label": 2, "decoded": True, "code_point": "U+200C", "place": 1, "rule": None, "bidi_class": "AL", "nfc": "U+00E1",
