@@ -31,7 +31,7 @@ try:
 
 # The gate: proves everything from nothing, tries the wrong bodies, runs the programs and the tests.
 test:
-	RT=$(RT) tests/gate
+	RT=$(RT) LANES=$(LANES) tests/gate
 
 # One crate while you work on it: proves what changed in it, tries its wrong bodies, and runs the tests of what is called
 # from outside, without proving these: make test-crate CRATE=idn_label
@@ -42,6 +42,7 @@ test-crate:
 	python3 tests/words.py
 	cd crates/$(CRATE) && $(RT) check
 	$(RT) must-fail $(CRATE)
+	[ ! -d crates/$(CRATE)/planted ] || RT=$(RT) python3 tests/planted.py planted $(CRATE)
 	cd crates/idn2_rows && $(RT) try --test
 
 # The wrong bodies that the gate leaves out, of all crates or of those that CRATES names.

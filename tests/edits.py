@@ -9,7 +9,7 @@ import sys
 
 from program import ROOT, run_tests
 
-FOLDERS = ("must-fail", "wrong-bodies")
+FOLDERS = ("must-fail", "planted", "wrong-bodies")
 
 
 def text_of(path):

@@ -1,5 +1,5 @@
 #!/usr/bin/env python3
-"""Tries wrong bodies, many in one check: python3 tests/planted.py FOLDER [CRATE..], with FOLDER must-fail or wrong-bodies.
+"""Tries wrong bodies, many in one check: python3 tests/planted.py FOLDER [CRATE..], with FOLDER must-fail, planted or wrong-bodies.
 
 Each edit below crates/*/FOLDER must be refused at a goal of a function that it edits. To read a crate costs more than to
 prove a function anew, so edits of different functions are planted in one copy of the crate and checked at once. All that

@@ -1,11 +1,15 @@
 -- What messages of refused lines go on with.
-use Rattle.std.proofs.Common.{◌≡◌, ℕ, ◌≤◌, nat_le, Bool, true, false, List, [], length, cond, chars, Option, Some, None, slice_index, refl, sym, ap, ◌∙◌, arith}
+use Rattle.std.proofs.Common.{◌≡◌, ℕ, ◌≤◌, ◌<◌, ◌^◌, nat_le, decimal, Bool, true, false, List, [], length, cond, chars, Option, Some, None, slice_index, refl, sym, ap, ◌∙◌, arith}
+use Rattle.std.specs.Prelude.{codes}
 use Rattle.std.specs.Str.{is_utf8, IsValidUpTo}
 use Rattle.std.proofs.lemmas.Bool.Decides.{nat_tests}
+use Rattle.std.proofs.lemmas.Fmt.{length-decimal-le, length-decimal-le_wide}
 use Rattle.std.proofs.lemmas.Str.{utf8_valid_len-IsValidUpTo, is_utf8-from_IsUtf8}
 use Rattle.idn_text.specs.Points.{IsUtf8Of}
 use Rattle.idn_text.specs.declared.refusal.Refusal.{Refusal}
+use Rattle.idn_text.specs.declared.refusal.Refusal.TheVariants as refusals
 use Rattle.idn_text.specs.declared.refusal.Refusal.TheVariants.{NotInTable}
+use Rattle.idn_text.specs.Refusals.{refusal_text}
 use Rattle.idn_text.proofs.Utf8Lemmas.{IsUtf8-from_points, points_from_utf8}
 use Rattle.idn_cause.specs.declared.cause.Cause.TheVariants.{Point}
 use Rattle.variant_table.specs.Entries.{TableValue}
@@ -19,7 +23,8 @@ use Rattle.idn2_cli.specs.inner.Explaining.{explained_by}
 use Rattle.idn2_cli.specs.declared.refusals.cause.Explaining.{Explaining}
 use Rattle.idn2_cli.specs.declared.refusals.cause.Explaining.TheVariants as by
 use Rattle.idn2_cli.specs.declared.refusals.cause.LineCause.{LineCause}
-use Rattle.idn2_cli.specs.declared.refusals.cause.LineCause.TheVariants.{Byte}
+use Rattle.idn2_cli.specs.declared.refusals.cause.LineCause.TheVariants.{Byte, OfName, OfALabel}
+use Rattle.idn2_cli.specs.inner.CauseRoom.{HasRoom, cause_room}
 
 -- without the option no cause is told
 pub unexplained-none : (body : Option (List ℕ)) (refusal : Refusal) → body_cause Unexplained body refusal ≡ None
@@ -64,3 +69,61 @@ pub body_cause-nothing : (explaining : Explaining) (body : Option (List ℕ)) (r
 body_cause-nothing explaining body refusal is = ap (λ (e : Explaining). body_cause (explained_by e) body refusal) is ∙ unexplained-none body refusal
 
 pub ruleset causes_of_text = (text_cause-points, text_cause-none)
+
+-- ---- how many digits are told
+
+-- of a place, and of the number of a label
+pub place_digits : (n : ℕ) → n ≤ 2 ^ 64 → length (decimal n) ≤ 20
+place_digits n few = length-decimal-le_wide 20 n (omega arith) (omega arith) (omega arith)
+
+pub label_digits : (n : ℕ) → n ≤ 65536 → length (decimal n) ≤ 5
+label_digits n few = length-decimal-le 5 n (omega arith) (omega arith) (omega arith)
+
+-- the text of a refusal
+pub refusal_text-short : (refusal : Refusal) → length (refusal_text refusal) ≤ 33
+refusal_text-short refusals.NotUtf8 = omega arith
+refusal_text-short refusals.LineTooLong = omega arith
+refusal_text-short refusals.Empty = omega arith
+refusal_text-short refusals.OutOfOrder = omega arith
+refusal_text-short refusals.FileTooLong = omega arith
+refusal_text-short refusals.Disallowed = omega arith
+refusal_text-short refusals.Unassigned = omega arith
+refusal_text-short refusals.NotNfc = omega arith
+refusal_text-short refusals.Hyphen = omega arith
+refusal_text-short refusals.LeadingMark = omega arith
+refusal_text-short refusals.ContextJ = omega arith
+refusal_text-short refusals.ContextO = omega arith
+refusal_text-short refusals.Bidi = omega arith
+refusal_text-short refusals.LabelTooLong = omega arith
+refusal_text-short refusals.BadALabel = omega arith
+refusal_text-short refusals.LookupInvalid = omega arith
+refusal_text-short refusals.LookupLength = omega arith
+refusal_text-short refusals.Syntax = omega arith
+refusal_text-short refusals.SameSource = omega arith
+refusal_text-short refusals.SameVariant = omega arith
+refusal_text-short refusals.BadClass = omega arith
+refusal_text-short refusals.Limit = omega arith
+refusal_text-short refusals.NoSuchName = omega arith
+refusal_text-short refusals.SameName = omega arith
+refusal_text-short refusals.NotInTable = omega arith
+refusal_text-short refusals.NotValid = omega arith
+refusal_text-short refusals.Usage = omega arith
+refusal_text-short refusals.ReadFault = omega arith
+refusal_text-short refusals.WriteFault = omega arith
+refusal_text-short refusals.Memory = omega arith
+
+-- the number of a line, of which there are at most 2^32
+pub line_digits : (n : ℕ) → n ≤ 2 ^ 32 → length (decimal n) ≤ 10
+line_digits n few = length-decimal-le 10 n (omega arith) (omega arith) (omega arith)
+
+cause_room-most : (cause : LineCause) → cause_room cause ≤ 94
+cause_room-most (OfName cause) = omega arith
+cause_room-most (OfALabel cause) = omega arith
+cause_room-most cause = omega arith
+
+-- there is room for the cause of a line of input, and for that of any other line but a name's
+pub line_has_room : (number : ℕ) (cause : LineCause) → number ≤ 2 ^ 32 → HasRoom (codes "idn2: line ") number cause
+line_has_room number cause few = let digits = line_digits number few in let most = cause_room-most cause in omega arith
+
+pub other_has_room : (before : List ℕ) (number : ℕ) (cause : LineCause) → length before ≤ 22 → number < 2 ^ 64 → cause_room cause ≤ 72 → HasRoom before number cause
+other_has_room before number cause short below few = let digits = place_digits number (omega arith) in omega arith

@@ -48,6 +48,8 @@ pub mod JumpAnswers
 pub mod HeadlineLemmas
 -- What messages of refused lines go on with.
 pub mod CauseLemmas
+-- What is told of a refused line is its cause, and each but two kinds of them has one.
+pub mod LineCauseLaws
 -- The examples of causes, computed.
 pub mod CauseExampleLemmas
 -- What a run says is the same in both forms.

@@ -9,3 +9,4 @@ pub mod Explaining
 pub mod Asked
 pub mod Objects
 pub mod ServedLines
+pub mod CauseRoom

@@ -2,6 +2,7 @@
 ghost use Rattle.std.specs.Prelude.{ℕ, List};
 ghost use Rattle.idn2_cli.specs.Answers.{LineAnswer};
 ghost use Rattle.idn2_cli.specs.Laws.{CausesAreTold, DispositionsAreTold, FormsSayTheSame};
+ghost use Rattle.idn2_cli.specs.LineCauses.{RefusalsAreExplained};
 ghost use Rattle.idn2_cli.specs.CauseExamples.{ExamplesOfCauses};
 ghost use Rattle.idn2_cli.specs.Examples.{ExamplesOfARun, ExamplesOfLines, ExamplesOfBlocks, ExamplesOfTranscripts};
 
@@ -14,6 +15,11 @@ pub fn dispositions_are_told()
 pub fn causes_are_told()
     ensures laws { CausesAreTold }
     ensures examples { ExamplesOfCauses }
+{}
+
+/// Each line that a mode refuses is told with its cause, where causes are wanted.
+pub fn refusals_are_explained()
+    ensures { RefusalsAreExplained }
 {}
 
 /// A run says the same in both forms.

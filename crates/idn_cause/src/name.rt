@@ -11,8 +11,8 @@ use std::alloc::{AllocError, Global};
 /// What gives a name its fault: the first label that is refused, counted from 0, and the cause.
 #[derive(Drop)]
 pub struct NameCause {
-    /// The number of the label.
-    pub label: usize,
+    /// The number of the label, at most 1,024.
+    pub label: u16,
     /// Why it is refused, in lower case.
     pub cause: ALabelCause,
 }
@@ -30,7 +30,7 @@ pub fn name_cause(
     ensures { IfOk result (λ cause. cause ≡ name_cause name.now refusal) }
 {
     let mut start = 0;
-    let mut number = 0;
+    let mut number: u16 = 0;
     'labels: loop {
         let end = label_end(name, start);
         let label = &name[start..end];
@@ -61,7 +61,7 @@ fn is_decoded(alloc: Global, label: &[u32]) -> Result<bool, AllocError>
 /// The cause of the fault of the label of this number.
 fn cause_at_label(
     alloc: Global,
-    number: usize,
+    number: u16,
     label: &[u32],
     refusal: Refusal,
 ) -> Result<Option<NameCause>, AllocError>

@@ -1,10 +1,10 @@
-mod PlaceLemmas
-mod RoundLemmas
-mod SetLemmas
-mod OneLemmas
-mod LawLemmas
-mod ContextLemmas
-mod DemandLemmas
+pub mod PlaceLemmas
+pub mod RoundLemmas
+pub mod SetLemmas
+pub mod OneLemmas
+pub mod LawLemmas
+pub mod ContextLemmas
+pub mod DemandLemmas
 pub mod GrownLemmas
 pub mod TestLemmas
 pub mod BarringLemmas

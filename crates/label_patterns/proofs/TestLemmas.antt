@@ -59,7 +59,7 @@ places-are test (c ∷ label) (suc i) =
     is_bit false = omega arith
 
 -- a number that isn't 0 has a bit
-some-bit : (k n : ℕ) → n ≤ k → (n ≡ 0 → ⊥) → (p : ℕ) × Has n p
+pub some-bit : (k n : ℕ) → n ≤ k → (n ≡ 0 → ⊥) → (p : ℕ) × Has n p
 some-bit zero n l some = absurd (some (omega (arith, l)))
 some-bit (suc k) n l some = elim (cases_order (n % 2) 1) [
   | inl one ↦ (0, let e : n ≡ 1 + n / 2 * 2 = omega (arith, one) in ap (λ m. bit_at m 0) e ∙ first-bit (n / 2) 1 (omega arith))
@@ -70,13 +70,13 @@ some-bit (suc k) n l some = elim (cases_order (n % 2) 1) [
 ]
 
 -- a test that a set isn't empty
-any-place : (n : ℕ) → IsTrue (not (eqb n 0)) ↔ ((p : ℕ) × Has n p)
+pub any-place : (n : ℕ) → IsTrue (not (eqb n 0)) ↔ ((p : ℕ) × Has n p)
 any-place n = (λ h. some-bit n n (omega arith) (some-from n h), λ h. some-to n (λ none. not-in-none h.0 (subst (λ m. Has m h.0) none h.1)))
 
-place-tested : (places p : ℕ) → IsTrue (has_place places p) ↔ Has places p
+pub place-tested : (places p : ℕ) → IsTrue (has_place places p) ↔ Has places p
 place-tested places p = (eqb-true (bit_at places p) 1, eq-eqb (bit_at places p) 1)
 
-every-place : (label : List ℕ) (p : ℕ) → Has (every_place label) p ↔ (p ≤ length label)
+pub every-place : (label : List ℕ) (p : ℕ) → Has (every_place label) p ↔ (p ≤ length label)
 every-place label p =
     let b = Has-below (length label + 1) (2 ^ (length label + 1)) p refl in
     (λ h. (let l = b.0 h in omega (arith, l)), λ l. b.1 (omega (arith, l)))
@@ -102,7 +102,7 @@ at-ends place starts j = (
 )
 
 -- the ends are within the label
-ends-within : (p : Pattern) (s : Seen) (starts ends : ℕ) → IsWithin (length s.label) starts → AreEnds (Matches s p) starts ends → IsWithin (length s.label) ends
+pub ends-within : (p : Pattern) (s : Seen) (starts ends : ℕ) → IsWithin (length s.label) starts → AreEnds (Matches s p) starts ends → IsWithin (length s.label) ends
 ends-within p s starts ends within are j h = let from = (are j).0 h in (parts p s from.0 j from.2).1 (within from.0 from.1)
 
 pub ends-are : (s : Seen) (p : Pattern) (starts : ℕ) → IsWithin (length s.label) starts → AreEnds (Matches s p) starts (ends_from s p starts)
@@ -123,7 +123,7 @@ ends-are s (Then p q) starts within =
 ends-are s (Either p q) starts within =
     either-ends (Matches s p) (Matches s q) starts (ends_from s p starts) (ends_from s q starts) (bit_or (ends_from s p starts) (ends_from s q starts)) (ends-are s p starts within) (ends-are s q starts within) (or-parts (ends_from s p starts) (ends_from s q starts))
 
-every-within : (label : List ℕ) → IsWithin (length label) (every_place label)
+pub every-within : (label : List ℕ) → IsWithin (length label) (every_place label)
 every-within label p h = (every-place label p).0 h
 
 pub occurs-agrees : (s : Seen) (p : Pattern) → IsTrue (occurs_in s p) ↔ Occurs s p
@@ -170,7 +170,7 @@ ends-before-agrees s context i l =
     (λ h. are.0 (tested.0 h), λ h. tested.1 (are.1 h))
 
 -- the places that begin at one
-one-within : (n j : ℕ) → j ≤ n → IsWithin n (2 ^ j)
+pub one-within : (n j : ℕ) → j ≤ n → IsWithin n (2 ^ j)
 one-within n j l p h = let e = one_bit j p h in omega (arith, e, l)
 
 from-one : (s : Seen) (q : Pattern) (j : ℕ) → j ≤ length s.label → IsTrue (not (eqb (ends_from s q (2 ^ j)) 0)) ↔ ((k : ℕ) × Matches s q j k)

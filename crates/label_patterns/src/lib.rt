@@ -25,6 +25,7 @@ pub use laws::{
     barred_for_good, barring_stays, before_stays, matches_are_parts, matches_stay, tests_agree,
 };
 pub use pattern_tree::PatternTree;
+pub use places::{either, has, with_place_if};
 pub use point_set::PointSet;
 pub use seen_label::SeenLabel;
 pub use span::Span;

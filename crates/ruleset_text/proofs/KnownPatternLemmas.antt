@@ -8,11 +8,11 @@ use Rattle.ruleset_text.specs.Definition.{Definition}
 use Rattle.ruleset_text.specs.Definitions.{Demand, Definitions, named}
 use Rattle.ruleset_text.specs.WellFormed.{IsDefinition, AreDefinitions}
 
-all_behind : {X : Type 0} (P : X → Type 0) (xs ys : List X) → AllByRecursion P (xs ++ ys) → AllByRecursion P ys
+pub all_behind : {X : Type 0} (P : X → Type 0) (xs ys : List X) → AllByRecursion P (xs ++ ys) → AllByRecursion P ys
 all_behind P [] ys all = all
 all_behind P (x ∷ xs) ys all = all_behind P xs ys all.1
 
-all_before : {X : Type 0} (P : X → Type 0) (xs ys : List X) → AllByRecursion P (xs ++ ys) → AllByRecursion P xs
+pub all_before : {X : Type 0} (P : X → Type 0) (xs ys : List X) → AllByRecursion P (xs ++ ys) → AllByRecursion P xs
 all_before P [] ys all = tt
 all_before P (x ∷ xs) ys all = (all.0, all_before P xs ys all.1)
 
@@ -34,13 +34,13 @@ tags_in d = map definition.Tag d.tags
 abbrev sets_in : Definitions → List Definition
 sets_in d = named definition.Set d.set_names d.sets
 
-abbrev rules_in : Definitions → List Definition
+abbrev pub rules_in : Definitions → List Definition
 rules_in d = named definition.Rule d.rule_names d.rules
 
-abbrev demands_in : Definitions → List Definition
+abbrev pub demands_in : Definitions → List Definition
 demands_in d = map (λ e. definition.Demand e.kind e.pattern) d.demands
 
-patterns : (d : Definitions) → AreDefinitions d → AllByRecursion (IsDefinition d.set_names) (rules_in d ++ demands_in d)
+pub patterns : (d : Definitions) → AreDefinitions d → AllByRecursion (IsDefinition d.set_names) (rules_in d ++ demands_in d)
 patterns d are =
     all_behind (IsDefinition d.set_names) (sets_in d) (rules_in d ++ demands_in d)
     (all_behind (IsDefinition d.set_names) (tags_in d) (sets_in d ++ (rules_in d ++ demands_in d)) are.each)

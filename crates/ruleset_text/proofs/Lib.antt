@@ -18,7 +18,7 @@ mod SpanBackLemmas
 mod LineBackLemmas
 pub mod DefinitionsBackLemmas
 pub mod DefinedLemmas
-mod KnownPatternLemmas
+pub mod KnownPatternLemmas
 mod EntryLemmas
 mod EntryStateLemmas
 mod EntryReadLemmas

@@ -1,1 +1,26 @@
+-- Members of lists that are made of others, and tests of all members.
+pub mod ListLemmas
+-- Parts of a label between two places.
+pub mod PartLemmas
+-- The places that steps lead to, as a set that computes.
+pub mod ReachedLemmas
+-- A label that is cut into entries, as a list and as steps from place to place.
+pub mod CutLemmas
+-- Segmentations, and what a label is made of.
 pub mod SegmentationLemmas
+-- Pieces of a table as a list, and where they end.
+pub mod PieceLemmas
+-- The tests that compute are true where the definitions hold.
+pub mod TestLemmas
+-- No rule of a table asks for the end of a label before '_'.
+pub mod RuleLemmas
+-- What is lost stays so, and is never valid.
+pub mod LostLemmas
+-- Labels that may be asked about, and tables that ask nothing.
+pub mod NothingLemmas
+-- Where sources and other sequences end that stand at a place.
+pub mod EndLemmas
+-- Steps from place to place.
+pub mod StepLemmas
+-- Labels that are made of sources, by their steps; how far sources reach.
+pub mod SourceLemmas

@@ -1,9 +1,41 @@
 -- Laws of the definitions.
-use Rattle.std.specs.Prelude.{ℕ, List}
-use Rattle.variant_table.specs.Entries.{TableValue}
+use Rattle.std.specs.Prelude.{◌≡◌, ◌↔◌, ℕ, List, ◌++◌, IsTrue, Contains}
+use Rattle.std.specs.List.{flat_map, AllByRecursion}
+use Rattle.variant_table.specs.Entries.{TableValue, replacements}
 use Rattle.valid_labels.specs.Segmentations.{IsMadeOfSources, HasSegmentation, HasNoConditions}
+use Rattle.valid_labels.specs.Validity.{IsSound, AsksNothing, IsAdmitted, IsValid, IsLost}
+use Rattle.valid_labels.specs.Tests as tests
 
 -- a label with a segmentation is made of sources, and where no source has a condition each label that is made of them has one
 pub record SegmentationsAgree : Type 0 where
   pub made : (table : TableValue) (label : List ℕ) → HasSegmentation table label → IsMadeOfSources table label
   pub free : (table : TableValue) (label : List ℕ) → HasNoConditions table → IsMadeOfSources table label → HasSegmentation table label
+
+-- the tests that compute are true exactly where the definitions hold
+pub record TestsAgree : Type 0 where
+  pub made_of_sources : (table : TableValue) (label : List ℕ) → IsSound table → IsTrue (tests.is_made_of_sources table label) ↔ IsMadeOfSources table label
+  pub segmentation : (table : TableValue) (label : List ℕ) → IsSound table → IsTrue (tests.has_segmentation table label) ↔ HasSegmentation table label
+  pub admitted : (table : TableValue) (label : List ℕ) → IsSound table → IsTrue (tests.is_admitted table label) ↔ IsAdmitted table label
+  pub valid : (table : TableValue) (label : List ℕ) → IsSound table → IsTrue (tests.is_valid table label) ↔ IsValid table label
+  pub nothing : (table : TableValue) → IsTrue (tests.asks_nothing table) ↔ AsksNothing table
+  pub lost : (table : TableValue) (label : List ℕ) → IsSound table → IsTrue (tests.is_lost table label) ↔ IsLost table label
+
+-- what is lost stays so whatever follows, and is never valid
+pub record LostForGood : Type 0 where
+  pub stays : (table : TableValue) (label more : List ℕ) → IsSound table → IsLost table label → IsLost table (label ++ more)
+  pub invalid : (table : TableValue) (label more : List ℕ) → IsSound table → IsLost table label → ¬ IsValid table (label ++ more)
+
+-- a label that may be asked about is valid
+abbrev pub AdmittedAreValid : Type 0
+AdmittedAreValid = (table : TableValue) (label : List ℕ) → IsAdmitted table label → IsValid table label
+
+-- the label is a joining of sources and variants of the table
+abbrev pub IsMadeOfReplacements : TableValue → List ℕ → Type 0
+IsMadeOfReplacements table label =
+    (parts : List (List ℕ)) × AllByRecursion (Contains (flat_map replacements table.entries)) parts × (flat_map (λ s. s) parts ≡ label)
+
+-- under a table that asks nothing a label may be asked about where it is made of sources, and is valid where it is made of
+-- sources and variants
+pub record NothingIsAsked : Type 0 where
+  pub admitted : (table : TableValue) (label : List ℕ) → AsksNothing table → IsMadeOfSources table label → IsAdmitted table label
+  pub valid : (table : TableValue) (label : List ℕ) → IsSound table → AsksNothing table → IsMadeOfReplacements table label → IsValid table label

@@ -1,2 +1,9 @@
 pub mod Segmentations
+pub mod Pieces
+pub mod Demands
+pub mod Validity
+pub mod Tests
+pub mod Furthest
+pub mod Examples
 pub mod Laws
+pub mod inner

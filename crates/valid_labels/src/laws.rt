@@ -1,7 +1,40 @@
 //! Laws of the definitions, each the contract of a function that does nothing.
-ghost use Rattle.valid_labels.specs.Laws.{SegmentationsAgree};
+ghost use Rattle.valid_labels.specs.Examples.{ValidityOfExamples};
+ghost use Rattle.valid_labels.specs.Furthest.{FurthestIsTold};
+ghost use Rattle.valid_labels.specs.Laws.{AdmittedAreValid, LostForGood, NothingIsAsked, SegmentationsAgree, TestsAgree};
 
 /// A label with a segmentation is made of sources, and a label that is made of sources without conditions has one.
 pub fn segmentations_agree()
     ensures { SegmentationsAgree }
+{}
+
+/// The tests that compute are true exactly where the definitions hold.
+pub fn tests_agree()
+    ensures { TestsAgree }
+{}
+
+/// What is lost stays so whatever follows, and is never valid.
+pub fn lost_for_good()
+    ensures { LostForGood }
+{}
+
+/// A label that may be asked about is valid.
+pub fn admitted_are_valid()
+    ensures { AdmittedAreValid }
+{}
+
+/// Under a table without conditions and demands a label that is made of sources may be asked about, and what is made
+/// of sources and variants is valid.
+pub fn nothing_is_asked()
+    ensures { NothingIsAsked }
+{}
+
+/// Worked examples hold, by computation.
+pub fn examples_hold()
+    ensures { ValidityOfExamples }
+{}
+
+/// The place up to which sources reach is the one that is told.
+pub fn furthest_is_told()
+    ensures { FurthestIsTold }
 {}

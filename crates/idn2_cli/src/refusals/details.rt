@@ -47,7 +47,7 @@ fn details_of_line<'a>(refusal: &Refusal, cause: &'a LineCause) -> RefusalMember
         LineCause::OfALabel(cause) => details_of_a_label(refusal, cause),
         LineCause::OfName(cause) => {
             let mut members = details_of_a_label(refusal, &cause.cause);
-            members.label = Some(counted(cause.label));
+            members.label = Some(counted(cause.label.into()));
             members
         }
         LineCause::OfQuery(cause) => details_of_length(cause),

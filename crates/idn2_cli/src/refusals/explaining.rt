@@ -2,6 +2,7 @@
 ghost use Rattle.std.specs.Prelude.{◌≡◌, ◌≤◌, ◌<◌, ◌+◌, [], ◌∷◌, ◌++◌, codes, decimal, length};
 ghost use Rattle.arrayvec.specs.ArrayVec.{array_vec_len};
 ghost use Rattle.ruleset_text.specs.Canonical.{four_digits, hex_digit, point_text};
+ghost use Rattle.idn2_cli.specs.inner.CauseRoom.{cause_room};
 ghost use Rattle.idn2_cli.specs.CauseTexts.{a_label_text, appendix_text, at_byte_text, barring_text, bidi_text, byte_text, cause_text, code_point_text, context_text, fault_place_text, form_text, hyphen_text, length_text, lexeme_text, line_cause_text, name_text, place_text, separator_text};
 
 use crate::output::buffers::append;
@@ -13,14 +14,14 @@ use idn_text::Refusal;
 use itoa::{Buffer, Integer};
 use variant_table::FaultPlace;
 
-/// A message with a cause, for whose bytes there is space.
-pub(crate) type ExplainedMessage = ArrayVec<u8, 512>;
+/// A message with a cause: at most 160 bytes.
+pub(crate) type ExplainedMessage = ArrayVec<u8, 160>;
 
 /// Appends the cause of a line's refusal.
 pub(crate) fn push_line_cause(text: &mut ExplainedMessage, refusal: &Refusal, cause: &LineCause)
-    requires { array_vec_len text.old ≤ 128 }
+    requires { array_vec_len text.old + cause_room cause.now ≤ 160 }
     ensures items { text.new.items ≡ text.old.items ++ line_cause_text refusal.now cause.now }
-    ensures short { array_vec_len text.new ≤ array_vec_len text.old + 300 }
+    ensures short { array_vec_len text.new ≤ array_vec_len text.old + cause_room cause.now }
 {
     match cause {
         LineCause::Byte(place, byte) => push_byte_at(text, *place, *byte),
@@ -37,9 +38,9 @@ pub(crate) fn push_line_cause(text: &mut ExplainedMessage, refusal: &Refusal, ca
 /// Appends where a line of a table has its fault.
 #[tactic(auto, unfolding(crate::specs::CauseTexts::fault_place_text))]
 fn push_fault_place(text: &mut ExplainedMessage, place: &FaultPlace, quoted: &Quoted)
-    requires { array_vec_len text.old ≤ 128 }
+    requires { array_vec_len text.old ≤ 91 }
     ensures items { text.new.items ≡ text.old.items ++ fault_place_text place.now quoted.now.items }
-    ensures short { array_vec_len text.new ≤ array_vec_len text.old + 128 }
+    ensures short { array_vec_len text.new ≤ array_vec_len text.old + 69 }
 {
     match place {
         FaultPlace::Lexeme(place, _) => {
@@ -65,7 +66,7 @@ fn push_fault_place(text: &mut ExplainedMessage, place: &FaultPlace, quoted: &Qu
 
 /// Appends a lexeme between single quotes, where it is quoted.
 fn push_lexeme(text: &mut ExplainedMessage, quoted: &Quoted)
-    requires { array_vec_len text.old ≤ 128 }
+    requires { array_vec_len text.old ≤ 126 }
     ensures items { text.new.items ≡ text.old.items ++ lexeme_text quoted.now.items }
     ensures short { array_vec_len text.new ≤ array_vec_len text.old + 34 }
 {
@@ -81,10 +82,10 @@ fn push_lexeme(text: &mut ExplainedMessage, quoted: &Quoted)
 
 /// Appends words, and a place of a line in bytes.
 fn push_words_at(text: &mut ExplainedMessage, words: &[u8], place: usize)
-    requires room { array_vec_len text.old ≤ 128 }
+    requires room { array_vec_len text.old ≤ 115 }
     requires few { length words.now ≤ 16 }
     ensures items { text.new.items ≡ text.old.items ++ (words.now ++ at_byte_text place) }
-    ensures short { array_vec_len text.new ≤ array_vec_len text.old + 80 }
+    ensures short { array_vec_len text.new ≤ array_vec_len text.old + 45 }
 {
     append(text, words);
     push_at_byte(text, place);
@@ -98,11 +99,11 @@ fn push_point_at(
     place: usize,
     after: &[u8],
 )
-    requires room { array_vec_len text.old ≤ 128 }
+    requires room { array_vec_len text.old ≤ 91 }
     requires between { length between.now ≤ 16 }
     requires after { length after.now ≤ 16 }
     ensures items { text.new.items ≡ text.old.items ++ (code_point_text point ++ (between.now ++ (at_byte_text place ++ after.now))) }
-    ensures short { array_vec_len text.new ≤ array_vec_len text.old + 100 }
+    ensures short { array_vec_len text.new ≤ array_vec_len text.old + 69 }
 {
     push_code_point(text, point);
     append(text, between);
@@ -112,9 +113,9 @@ fn push_point_at(
 
 /// Appends a place of a line in bytes.
 fn push_at_byte(text: &mut ExplainedMessage, place: usize)
-    requires { array_vec_len text.old ≤ 256 }
+    requires { array_vec_len text.old ≤ 131 }
     ensures items { text.new.items ≡ text.old.items ++ at_byte_text place }
-    ensures short { array_vec_len text.new ≤ array_vec_len text.old + 50 }
+    ensures short { array_vec_len text.new ≤ array_vec_len text.old + 29 }
 {
     append(text, b" at byte ");
     push_counted(text, place);
@@ -122,9 +123,9 @@ fn push_at_byte(text: &mut ExplainedMessage, place: usize)
 
 /// Appends a byte and its place.
 fn push_byte_at(text: &mut ExplainedMessage, place: usize, byte: u8)
-    requires { array_vec_len text.old ≤ 256 }
+    requires { array_vec_len text.old ≤ 122 }
     ensures items { text.new.items ≡ text.old.items ++ (byte_text byte ++ (codes " at byte " ++ decimal (place + 1))) }
-    ensures short { array_vec_len text.new ≤ array_vec_len text.old + 64 }
+    ensures short { array_vec_len text.new ≤ array_vec_len text.old + 38 }
 {
     push_byte(text, byte);
     append(text, b" at byte ");
@@ -133,9 +134,9 @@ fn push_byte_at(text: &mut ExplainedMessage, place: usize, byte: u8)
 
 /// Appends the place at which a label ends.
 fn push_end(text: &mut ExplainedMessage, place: usize)
-    requires { array_vec_len text.old ≤ 256 }
+    requires { array_vec_len text.old ≤ 126 }
     ensures items { text.new.items ≡ text.old.items ++ (codes "ends at place " ++ decimal (place + 1)) }
-    ensures short { array_vec_len text.new ≤ array_vec_len text.old + 64 }
+    ensures short { array_vec_len text.new ≤ array_vec_len text.old + 34 }
 {
     append(text, b"ends at place ");
     push_counted(text, place);
@@ -144,7 +145,7 @@ fn push_end(text: &mut ExplainedMessage, place: usize)
 /// Appends a byte by its two hexadecimal digits.
 #[tactic(auto, unfolding(crate::specs::CauseTexts::byte_text))]
 fn push_byte(text: &mut ExplainedMessage, byte: u8)
-    requires { array_vec_len text.old ≤ 400 }
+    requires { array_vec_len text.old ≤ 151 }
     ensures items { text.new.items ≡ text.old.items ++ byte_text byte }
     ensures short { array_vec_len text.new ≡ array_vec_len text.old + 9 }
 {
@@ -156,9 +157,9 @@ fn push_byte(text: &mut ExplainedMessage, byte: u8)
 /// Appends the cause of a label's fault.
 #[tactic(auto, unfolding(crate::specs::CauseTexts::cause_text))]
 fn push_cause(text: &mut ExplainedMessage, refusal: &Refusal, cause: &Cause)
-    requires { array_vec_len text.old ≤ 256 }
+    requires { array_vec_len text.old ≤ 88 }
     ensures items { text.new.items ≡ text.old.items ++ cause_text refusal.now cause.now }
-    ensures short { array_vec_len text.new ≤ array_vec_len text.old + 144 }
+    ensures short { array_vec_len text.new ≤ array_vec_len text.old + 72 }
 {
     match cause {
         Cause::Barred(place, point, line) => {
@@ -195,9 +196,9 @@ fn push_cause(text: &mut ExplainedMessage, refusal: &Refusal, cause: &Cause)
 
 /// Appends a place and which hyphen stands there, of a label that is so long.
 fn push_hyphen(text: &mut ExplainedMessage, place: usize, count: usize)
-    requires { array_vec_len text.old ≤ 256 }
+    requires { array_vec_len text.old ≤ 120 }
     ensures items { text.new.items ≡ text.old.items ++ (codes "place " ++ (decimal (place + 1) ++ hyphen_text place count)) }
-    ensures short { array_vec_len text.new ≤ array_vec_len text.old + 64 }
+    ensures short { array_vec_len text.new ≤ array_vec_len text.old + 40 }
 {
     append(text, b"place ");
     push_counted(text, place);
@@ -220,9 +221,9 @@ fn which_hyphen(place: usize, count: usize) -> &'static [u8]
 
 /// Appends the line that bars a code point.
 fn push_barring_line(text: &mut ExplainedMessage, line: BarringLine)
-    requires { array_vec_len text.old ≤ 320 }
+    requires { array_vec_len text.old ≤ 126 }
     ensures items { text.new.items ≡ text.old.items ++ barring_text line }
-    ensures short { array_vec_len text.new ≤ array_vec_len text.old + 40 }
+    ensures short { array_vec_len text.new ≤ array_vec_len text.old + 34 }
 {
     append(text, words_of_line(line));
 }
@@ -230,7 +231,7 @@ fn push_barring_line(text: &mut ExplainedMessage, line: BarringLine)
 /// The words for the line that bars a code point.
 fn words_of_line(line: BarringLine) -> &'static [u8]
     ensures text { result.now ≡ barring_text line }
-    ensures short { length result.now ≤ 40 }
+    ensures short { length result.now ≤ 34 }
 {
     match line {
         BarringLine::NoScalarValue => b": no scalar value",
@@ -247,9 +248,9 @@ fn words_of_line(line: BarringLine) -> &'static [u8]
 
 /// Appends what Normalization Form C has.
 fn push_form(text: &mut ExplainedMessage, form: Option<u32>)
-    requires { array_vec_len text.old ≤ 320 }
+    requires { array_vec_len text.old ≤ 142 }
     ensures items { text.new.items ≡ text.old.items ++ form_text form }
-    ensures short { array_vec_len text.new ≤ array_vec_len text.old + 40 }
+    ensures short { array_vec_len text.new ≤ array_vec_len text.old + 18 }
 {
     match form {
         Some(point) => {
@@ -262,9 +263,9 @@ fn push_form(text: &mut ExplainedMessage, form: Option<u32>)
 
 /// Appends the rule that a code point is against, if the fault is one of a context.
 fn push_context(text: &mut ExplainedMessage, refusal: &Refusal, point: u32)
-    requires { array_vec_len text.old ≤ 320 }
+    requires { array_vec_len text.old ≤ 146 }
     ensures items { text.new.items ≡ text.old.items ++ context_text refusal.now point }
-    ensures short { array_vec_len text.new ≤ array_vec_len text.old + 40 }
+    ensures short { array_vec_len text.new ≤ array_vec_len text.old + 14 }
 {
     match refusal {
         Refusal::ContextJ | Refusal::ContextO => {
@@ -277,7 +278,7 @@ fn push_context(text: &mut ExplainedMessage, refusal: &Refusal, point: u32)
 
 /// Appends the number of a code point's rule in appendix A.
 fn push_appendix(text: &mut ExplainedMessage, point: u32)
-    requires { array_vec_len text.old ≤ 400 }
+    requires { array_vec_len text.old ≤ 159 }
     ensures items { text.new.items ≡ text.old.items ++ appendix_text point }
     ensures short { array_vec_len text.new ≡ array_vec_len text.old + 1 }
 {
@@ -297,7 +298,7 @@ fn push_appendix(text: &mut ExplainedMessage, point: u32)
 
 /// Appends the name of a Bidi_Class.
 fn push_bidi_class(text: &mut ExplainedMessage, class: BidiClass)
-    requires { array_vec_len text.old ≤ 400 }
+    requires { array_vec_len text.old ≤ 157 }
     ensures items { text.new.items ≡ text.old.items ++ bidi_text class }
     ensures short { array_vec_len text.new ≤ array_vec_len text.old + 3 }
 {
@@ -327,9 +328,9 @@ pub(crate) fn name_of_class(class: BidiClass) -> &'static [u8]
 /// Appends the cause of the fault of what begins with `xn--`.
 #[tactic(auto, unfolding(crate::specs::CauseTexts::a_label_text))]
 fn push_a_label_cause(text: &mut ExplainedMessage, refusal: &Refusal, cause: &ALabelCause)
-    requires { array_vec_len text.old ≤ 240 }
+    requires { array_vec_len text.old ≤ 79 }
     ensures items { text.new.items ≡ text.old.items ++ a_label_text refusal.now cause.now }
-    ensures short { array_vec_len text.new ≤ array_vec_len text.old + 160 }
+    ensures short { array_vec_len text.new ≤ array_vec_len text.old + 81 }
 {
     match cause {
         ALabelCause::NoCode => append(text, b"nothing behind xn--"),
@@ -351,19 +352,19 @@ fn push_a_label_cause(text: &mut ExplainedMessage, refusal: &Refusal, cause: &AL
 
 /// Appends the label of a name that is refused, and the cause.
 fn push_name_cause(text: &mut ExplainedMessage, refusal: &Refusal, cause: &NameCause)
-    requires { array_vec_len text.old ≤ 128 }
+    requires { array_vec_len text.old ≤ 66 }
     ensures items { text.new.items ≡ text.old.items ++ name_text refusal.now cause.now }
-    ensures short { array_vec_len text.new ≤ array_vec_len text.old + 300 }
+    ensures short { array_vec_len text.new ≤ array_vec_len text.old + 94 }
 {
     append(text, b"label ");
-    push_counted(text, cause.label);
+    push_label_number(text, cause.label);
     push_separator(text, &cause.cause);
     push_a_label_cause(text, refusal, &cause.cause);
 }
 
 /// Appends what stands between the number of a label and its cause.
 fn push_separator(text: &mut ExplainedMessage, cause: &ALabelCause)
-    requires { array_vec_len text.old ≤ 400 }
+    requires { array_vec_len text.old ≤ 158 }
     ensures items { text.new.items ≡ text.old.items ++ separator_text cause.now }
     ensures short { array_vec_len text.new ≡ array_vec_len text.old + 2 }
 {
@@ -375,9 +376,9 @@ fn push_separator(text: &mut ExplainedMessage, cause: &ALabelCause)
 
 /// Appends a length that the DNS does not allow.
 fn push_length_cause(text: &mut ExplainedMessage, cause: &LengthCause)
-    requires { array_vec_len text.old ≤ 256 }
+    requires { array_vec_len text.old ≤ 105 }
     ensures items { text.new.items ≡ text.old.items ++ length_text cause.now }
-    ensures short { array_vec_len text.new ≤ array_vec_len text.old + 128 }
+    ensures short { array_vec_len text.new ≤ array_vec_len text.old + 55 }
 {
     match cause {
         LengthCause::LabelOctets(number, octets) => {
@@ -397,29 +398,40 @@ fn push_length_cause(text: &mut ExplainedMessage, cause: &LengthCause)
 
 /// Appends a code point and its place.
 fn push_place(text: &mut ExplainedMessage, place: usize, point: u32)
-    requires { array_vec_len text.old ≤ 320 }
+    requires { array_vec_len text.old ≤ 122 }
     ensures items { text.new.items ≡ text.old.items ++ place_text place point }
-    ensures short { array_vec_len text.new ≤ array_vec_len text.old + 60 }
+    ensures short { array_vec_len text.new ≤ array_vec_len text.old + 38 }
 {
     push_code_point(text, point);
     append(text, b" at place ");
     push_counted(text, place);
 }
 
-/// Appends a place or a number of a label, which are counted from 0, as it is counted from 1.
+/// Appends a place, which is counted from 0, as it is counted from 1.
 fn push_counted(text: &mut ExplainedMessage, place: usize)
-    requires { array_vec_len text.old ≤ 400 }
+    requires { array_vec_len text.old ≤ 140 }
     ensures items { text.new.items ≡ text.old.items ++ decimal (place + 1) }
-    ensures short { array_vec_len text.new ≤ array_vec_len text.old + 40 }
+    ensures short { array_vec_len text.new ≤ array_vec_len text.old + 20 }
 {
-    push_number(text, u128::from(place as u64) + 1);
+    let mut digits = Buffer::new();
+    append(text, digits.format(u128::from(place as u64) + 1).as_bytes());
+}
+
+/// The same of the number of a label.
+fn push_label_number(text: &mut ExplainedMessage, label: u16)
+    requires { array_vec_len text.old ≤ 155 }
+    ensures items { text.new.items ≡ text.old.items ++ decimal (label + 1) }
+    ensures short { array_vec_len text.new ≤ array_vec_len text.old + 5 }
+{
+    let mut digits = Buffer::new();
+    append(text, digits.format(u32::from(label) + 1).as_bytes());
 }
 
 /// Appends a number in decimal digits.
 fn push_number<I: Integer>(text: &mut ExplainedMessage, number: I)
-    requires { array_vec_len text.old ≤ 400 }
+    requires { array_vec_len text.old + I.MAX_STR_LEN ≤ 160 }
     ensures items { text.new.items ≡ text.old.items ++ I.text number }
-    ensures short { array_vec_len text.new ≤ array_vec_len text.old + 40 }
+    ensures short { array_vec_len text.new ≤ array_vec_len text.old + I.MAX_STR_LEN }
 {
     let mut digits = Buffer::new();
     append(text, digits.format(number).as_bytes());
@@ -428,7 +440,7 @@ fn push_number<I: Integer>(text: &mut ExplainedMessage, number: I)
 /// Appends a code point, as Unicode writes it.
 #[tactic(auto, unfolding(ruleset_text::specs::Canonical::point_text))]
 fn push_code_point(text: &mut ExplainedMessage, point: u32)
-    requires { array_vec_len text.old ≤ 400 }
+    requires { array_vec_len text.old ≤ 152 }
     ensures items { text.new.items ≡ text.old.items ++ code_point_text point }
     ensures short { array_vec_len text.new ≤ array_vec_len text.old + 8 }
 {
@@ -448,7 +460,7 @@ fn push_code_point(text: &mut ExplainedMessage, point: u32)
 /// Appends a hexadecimal digit, in upper case.
 fn push_digit(text: &mut ExplainedMessage, value: u32)
     requires digit { value < 16 }
-    requires room { array_vec_len text.old < 512 }
+    requires room { array_vec_len text.old < 160 }
     ensures items { text.new.items ≡ text.old.items ++ hex_digit value ∷ [] }
     ensures short { array_vec_len text.new ≡ array_vec_len text.old + 1 }
 {

@@ -2,6 +2,7 @@
 
 ghost use Rattle.std.specs.Prelude.{◌≡◌, ◌≤◌, ◌++◌, [], length, codes, decimal, Some};
 ghost use Rattle.idn2_cli.specs.CauseTexts.{tail_text};
+ghost use Rattle.idn2_cli.specs.inner.CauseRoom.{HasRoom};
 ghost use Rattle.idn2_cli.specs.Transcript.{told, line_message, message_with, table_message};
 
 use crate::output::buffers::append;
@@ -28,7 +29,7 @@ pub(crate) fn explained_message(
     refusal: &Refusal,
     cause: &LineCause,
 ) -> ExplainedMessage
-    requires { length before.now ≤ 22 }
+    requires { HasRoom before.now number cause.now }
     ensures { result.items ≡ message_with before.now number refusal.now (tail_text refusal.now (Some cause.now)) }
 {
     let mut message = ExplainedMessage::new();

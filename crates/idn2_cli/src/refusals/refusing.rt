@@ -1,5 +1,5 @@
 //! Refusals of lines: a message, which goes on with the cause if causes are wanted, or an object with the cause.
-ghost use Rattle.std.specs.Prelude.{◌≡◌, ◌≢◌, ◌≤◌, [], ◌∷◌, IfErr, Err, None, Some};
+ghost use Rattle.std.specs.Prelude.{◌≡◌, ◌≢◌, ◌≤◌, ◌^◌, [], ◌∷◌, IfErr, Err, None, Some};
 ghost use Rattle.std.specs.Option.{option_copied};
 ghost use Rattle.idn_text.specs.Reading.{line_at};
 ghost use Rattle.answer_json.specs.Details.{given_len};
@@ -34,6 +34,7 @@ pub(crate) fn refuse<R: Source, W: Sink, E: Sink>(
     refusal: Refusal,
     console: &mut Console<'_, '_, W, E>,
 ) -> Result<(), Stop>
+    requires { (line_at input.now).number ≤ 2 ^ 32 }
     ensures told { Emits console.old console.new (pieces_for form (explained_by explaining.now) (line_at input.now) (Err refusal)) result }
     ensures unexplained { explained_by explaining.now ≡ Unexplained → IfErr result (λ why. why ≢ stop.Memory) }
     ensures long { (line_at input.now).body ≡ None → IfErr result (λ why. why ≢ stop.Memory) }
@@ -62,6 +63,7 @@ fn explain<W: Sink, E: Sink>(
     console: &mut Console<'_, '_, W, E>,
 ) -> Result<(), Stop>
     requires few { given_len (option_copied text) ≤ MAX_LINE_LEN }
+    requires number { number ≤ 2 ^ 32 }
     ensures told { Emits console.old console.new
         (piece_in form (Refuses (record { number = number; body = option_copied text.entry }) refusal (body_cause (explained_by explaining.now) (option_copied text.entry) refusal)) ∷ []) result }
     ensures long { option_copied text.entry ≡ None → IfErr result (λ why. why ≢ stop.Memory) }
@@ -82,6 +84,7 @@ fn tell<W: Sink, E: Sink>(
     console: &mut Console<'_, '_, W, E>,
 ) -> Result<(), Stop>
     requires few { given_len (option_copied text) ≤ MAX_LINE_LEN }
+    requires number { number ≤ 2 ^ 32 }
     ensures told { Emits console.old console.new
         (piece_in form (Refuses (record { number = number; body = option_copied text.entry }) refusal (option_copied cause.entry)) ∷ []) result }
     ensures why { IfErr result (λ why. why ≢ stop.Memory) }
@@ -100,6 +103,7 @@ fn tell_message<W: Sink, E: Sink>(
     cause: Option<&LineCause>,
     console: &mut Console<'_, '_, W, E>,
 ) -> Result<(), Stop>
+    requires { number ≤ 2 ^ 32 }
     ensures told { Emits console.old console.new (Message (refused_message number refusal (tail_text refusal (option_copied cause.entry))) ∷ []) result }
     ensures why { IfErr result (λ why. why ≡ stop.Messages) }
 {
@@ -120,6 +124,7 @@ fn tell_explained<W: Sink, E: Sink>(
     cause: &LineCause,
     console: &mut Console<'_, '_, W, E>,
 ) -> Result<(), Stop>
+    requires { number ≤ 2 ^ 32 }
     ensures told { Emits console.old console.new (Message (refused_message number refusal (tail_text refusal (Some cause.now))) ∷ []) result }
     ensures why { IfErr result (λ why. why ≡ stop.Messages) }
 {

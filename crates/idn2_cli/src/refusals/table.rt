@@ -1,10 +1,11 @@
 //! A table that can't be used.
 
-ghost use Rattle.std.specs.Prelude.{◌≡◌, [], ◌∷◌, Err, IfOk, MatchOption};
+ghost use Rattle.std.specs.Prelude.{◌≡◌, ◌≤◌, [], ◌∷◌, Err, IfOk, IfSome, MatchOption};
 ghost use Rattle.std.specs.Option.{option_copied};
 ghost use Rattle.idn2_cli.specs.CauseTexts.{tail_text};
 ghost use Rattle.idn2_cli.specs.TableCauses.{fault_cause};
 ghost use Rattle.idn2_cli.specs.Transcript.{Faults, Message, check_pieces, piece_in, table_message as table_message_of};
+ghost use Rattle.idn2_cli.specs.inner.CauseRoom.{cause_room};
 ghost use Rattle.idn2_cli.specs.inner.Emitting.{Emits};
 ghost use Rattle.idn2_cli.specs.inner.TableFaults.{told_of};
 ghost use Rattle.idn2_cli.specs.declared.output.status.Status.TheVariants as statuses;
@@ -54,6 +55,7 @@ fn write_fault<W: Sink, E: Sink>(
     cause: Option<&LineCause>,
     console: &mut Console<'_, '_, W, E>,
 ) -> Result<(), Stop>
+    requires { IfSome cause (λ cause. cause_room cause.now ≤ 72) }
     ensures { Emits console.old console.new (piece_in form (Faults line refusal (option_copied cause.entry)) ∷ []) result }
 {
     match form {
@@ -72,6 +74,7 @@ fn write_message<W: Sink, E: Sink>(
     cause: Option<&LineCause>,
     console: &mut Console<'_, '_, W, E>,
 ) -> Result<(), Stop>
+    requires { IfSome cause (λ cause. cause_room cause.now ≤ 72) }
     ensures { Emits console.old console.new (Message (table_message_of line refusal.now (tail_text refusal.now (option_copied cause.entry))) ∷ []) result }
 {
     match cause {

@@ -1,9 +1,10 @@
 //! The cause of the fault of a table. It is looked for only once the fault is told, and only if causes are wanted.
-ghost use Rattle.std.specs.Prelude.{◌≡◌, ◌≤◌, [], IfOk, drop, false, length, take};
+ghost use Rattle.std.specs.Prelude.{◌≡◌, ◌≤◌, [], IfOk, IfSome, drop, false, length, take};
 ghost use Rattle.std.specs.List.{list_all};
 ghost use Rattle.std.specs.Option.{option_copied};
 ghost use Rattle.std.specs.Result.{IsOk};
 ghost use Rattle.idn2_cli.specs.TableCauses.{fault_cause, is_visible as is_visible_byte, may_be_quoted as may_be_quoted_text, quoted as quoted_of, quoted_at as quoted_in, told_if};
+ghost use Rattle.idn2_cli.specs.inner.CauseRoom.{cause_room};
 
 use crate::output::buffers::append;
 use crate::refusals::cause::{LineCause, Quoted};
@@ -23,6 +24,7 @@ pub(crate) fn fault_cause_if_wanted(
 ) -> Result<Option<LineCause>, AllocError>
     ensures cause { IfOk result (λ cause. cause ≡ told_if wanted (fault_cause notation text.now fault)) }
     ensures unwanted { wanted ≡ false → IsOk result }
+    ensures short { IfOk result (λ cause. IfSome cause (λ cause. cause_room cause ≤ 72)) }
 {
     if wanted {
         cause_of_fault(alloc, notation, text, fault)
@@ -38,7 +40,8 @@ fn cause_of_fault(
     text: &[u8],
     fault: TableFault,
 ) -> Result<Option<LineCause>, AllocError>
-    ensures { IfOk result (λ cause. cause ≡ fault_cause notation text.now fault) }
+    ensures cause { IfOk result (λ cause. cause ≡ fault_cause notation text.now fault) }
+    ensures short { IfOk result (λ cause. IfSome cause (λ cause. cause_room cause ≤ 72)) }
 {
     match fault_place(alloc, notation, text, fault)? {
         Some(place) => {

@@ -1,9 +1,10 @@
 //! The cause of a wrong line of the registered labels. It is looked for only once the line is found, and only if causes are
 //! wanted.
-ghost use Rattle.std.specs.Prelude.{◌≡◌, ◌≤◌, ◌-◌, IfOk, OnErr, false, slice_get};
+ghost use Rattle.std.specs.Prelude.{◌≡◌, ◌≤◌, ◌-◌, IfOk, IfSome, OnErr, false, slice_get};
 ghost use Rattle.std.specs.Result.{IsOk};
 ghost use Rattle.std.specs.Option.{option_copied};
 ghost use Rattle.answer_json.specs.Details.{given_len};
+ghost use Rattle.idn2_cli.specs.inner.CauseRoom.{cause_room};
 ghost use Rattle.idn2_cli.specs.WrongLines.{MayTakeMemory, body_at, order_cause, points_at, told_of_wrong_line, wrong_line_cause};
 
 use crate::refusals::cause::{Explaining, LineCause, cause_of_body};
@@ -23,6 +24,7 @@ pub(crate) fn cause_if_wanted(
 ) -> Result<Option<LineCause>, AllocError>
     ensures cause { IfOk result (λ cause. cause ≡ told_of_wrong_line wanted text.now number refusal) }
     ensures unwanted { wanted ≡ false → IsOk result }
+    ensures short { IfOk result (λ cause. IfSome cause (λ cause. cause_room cause ≤ 72)) }
     ensures memory { OnErr result (MayTakeMemory text.now number refusal) }
 {
     if wanted {
@@ -41,6 +43,7 @@ fn cause_of_wrong_line(
     refusal: Refusal,
 ) -> Result<Option<LineCause>, AllocError>
     ensures cause { IfOk result (λ cause. cause ≡ wrong_line_cause text.now number refusal) }
+    ensures short { IfOk result (λ cause. IfSome cause (λ cause. cause_room cause ≤ 72)) }
     ensures memory { OnErr result (MayTakeMemory text.now number refusal) }
 {
     match refusal {
@@ -52,7 +55,8 @@ fn cause_of_wrong_line(
 
 /// Where a label differs from the one on the line before it.
 fn cause_of_order(text: &[u8], number: u64) -> LineCause
-    ensures { result ≡ order_cause (points_at text.now (number - 1)) (points_at text.now number) }
+    ensures cause { result ≡ order_cause (points_at text.now (number - 1)) (points_at text.now number) }
+    ensures short { cause_room result ≤ 72 }
 {
     let mut before = ArrayVec::new();
     let mut label = ArrayVec::new();

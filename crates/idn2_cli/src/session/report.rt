@@ -1,10 +1,11 @@
 //! What ends the program outside a line.
-ghost use Rattle.std.specs.Prelude.{◌≡◌};
+ghost use Rattle.std.specs.Prelude.{◌≡◌, ◌≤◌, IfSome};
 ghost use Rattle.std.specs.Option.{option_copied};
 ghost use Rattle.answer_json.specs.Answers.{line_of};
 ghost use Rattle.idn2_cli.specs.CauseTexts.{tail_text};
 ghost use Rattle.idn2_cli.specs.Ends.{IsFault, TakesText, TellsUnread, TellsWrong, TellsWrongLine, closing_message, closing_status, held};
 ghost use Rattle.idn2_cli.specs.Transcript.{registered_message};
+ghost use Rattle.idn2_cli.specs.inner.CauseRoom.{cause_room};
 
 use crate::output::object::{Object, write_object};
 use crate::output::status::Status;
@@ -78,6 +79,7 @@ fn tell_wrong_line<W: Sink, E: Sink>(
     out: &mut W,
     err: &mut E,
 ) -> Status
+    requires { IfSome cause (λ cause. cause_room cause.now ≤ 72) }
     ensures { TellsWrongLine form line refusal.now (option_copied cause.entry) (held (W.state out.old) (E.state err.old)) (held (W.state out.new) (E.state err.new)) result }
 {
     match form {
@@ -104,6 +106,7 @@ fn report_wrong_line<E: Sink>(
     cause: Option<&LineCause>,
     err: &mut E,
 ) -> Status
+    requires { IfSome cause (λ cause. cause_room cause.now ≤ 72) }
     ensures { TellsWrong (registered_message line refusal.now (tail_text refusal.now (option_copied cause.entry))) (E.state err.old) (E.state err.new) result }
 {
     match cause {

@@ -1,8 +1,54 @@
-use Rattle.std.proofs.Common.{[], ◌∷◌, decimal}
+use Rattle.std.proofs.Common.{ℕ, [], ◌∷◌, length, length-append, ap, decimal, arith}
 use Rattle.idn_text.specs.Refusals.{refusal_number, refusal_text}
 use Rattle.idn2_cli.specs.CauseTexts.{line_cause_text}
+use Rattle.idn2_cli.proofs.CauseLemmas.{refusal_text-short}
 use Rattle.idn2_cli.proofs.WrongLineLemmas.{appended}
 use Rattle.idn2_cli.proofs.refusals.message.explained_message.Goals as goal
+
+pub push_line_cause-requires : goal.push_line_cause-requires
+push_line_cause-requires c =
+    let text = refusal_text-short c.args.refusal.now in
+    omega (
+      arith,
+      ap length c.append-7.ensures,
+      ap length c.append-6.ensures,
+      ap length c.append-5.ensures,
+      ap length c.append-4.ensures,
+      ap length c.append-3.ensures,
+      ap length c.append-2.ensures,
+      ap length c.append.ensures,
+      ap length c.new-message.ensures,
+      ap length c.as_bytes.ensures.value,
+      ap length c.as_bytes-2.ensures.value,
+      ap length c.as_bytes-3.ensures.value,
+      ap length c.text.ensures,
+      ap length c.format.ensures.text,
+      c.format-2.ensures.fits,
+      length-append {A = ℕ},
+    )
+
+pub append-requires-8 : goal.append-requires-8
+append-requires-8 c =
+    let text = refusal_text-short c.args.refusal.now in
+    omega (
+      arith,
+      c.push_line_cause.ensures.short,
+      ap length c.append-7.ensures,
+      ap length c.append-6.ensures,
+      ap length c.append-5.ensures,
+      ap length c.append-4.ensures,
+      ap length c.append-3.ensures,
+      ap length c.append-2.ensures,
+      ap length c.append.ensures,
+      ap length c.new-message.ensures,
+      ap length c.as_bytes.ensures.value,
+      ap length c.as_bytes-2.ensures.value,
+      ap length c.as_bytes-3.ensures.value,
+      ap length c.text.ensures,
+      ap length c.format.ensures.text,
+      c.format-2.ensures.fits,
+      length-append {A = ℕ},
+    )
 
 pub returns : goal.returns
 returns c =

@@ -1,0 +1,96 @@
+-- No rule of a table asks for the end of a label before '_'.
+use Rattle.std.proofs.Common.{◌≡◌, ℕ, inl, inr, Bool, true, false, not, cond, ◌&&◌, ◌||◌, List, [], ◌∷◌, length, refl, arith}
+use Rattle.std.specs.Prelude.{IsTrue}
+use Rattle.std.specs.List.{AllByRecursion}
+use Rattle.label_patterns.specs.Laws.{HasNoEnd, HasNoEndBefore}
+use Rattle.label_patterns.specs.Patterns.{Pattern, Point, Set, Any, Start, End, Place, Group, Optional, Many, Then, Either}
+use Rattle.label_patterns.specs.Rules as rules
+use Rattle.label_patterns.specs.Rules.{branches}
+use Rattle.ruleset_text.specs.declared.rules.Sign.TheVariants as sign
+use Rattle.ruleset_text.specs.Definition as definition
+use Rattle.ruleset_text.specs.Definitions.{Definitions, named}
+use Rattle.ruleset_text.specs.Rules.{has, is_place, is_before, is_behind, is_context, is_rule}
+use Rattle.ruleset_text.specs.WellFormed.{IsDefinition, AreDefinitions}
+use Rattle.ruleset_text.proofs.KnownPatternLemmas.{all_before, rules_in, demands_in, patterns}
+use Rattle.valid_labels.proofs.ListLemmas.{and-both, not-true}
+
+neither : (a b : Bool) → (a || b) ≡ false → (a ≡ false) × (b ≡ false)
+neither true b h = absurd (let f : true ≡ false = h in cc)
+neither false b h = (refl, h)
+
+no-end : (p : Pattern) → has sign.End p ≡ false → HasNoEnd p
+no-end (Point c) h = tt
+no-end (Set n) h = tt
+no-end Any h = tt
+no-end Start h = tt
+no-end End h = absurd (let f : true ≡ false = h in cc)
+no-end Place h = tt
+no-end (Group p) h = no-end p h
+no-end (Optional p) h = no-end p h
+no-end (Many p) h = no-end p h
+no-end (Then p q) h = let n = neither (has sign.End p) (has sign.End q) h in (no-end p n.0, no-end q n.1)
+no-end (Either p q) h = let n = neither (has sign.End p) (has sign.End q) h in (no-end p n.0, no-end q n.1)
+
+not-is : (b : Bool) → not b ≡ true → b ≡ false
+not-is true h = not-true h
+not-is false h = refl
+
+same-place : (p : Pattern) → is_place p ≡ true → IsTrue (rules.is_place p)
+same-place (Point c) h = not-true h
+same-place (Set n) h = not-true h
+same-place Any h = not-true h
+same-place Start h = not-true h
+same-place End h = not-true h
+same-place Place h = refl
+same-place (Group p) h = not-true h
+same-place (Optional p) h = not-true h
+same-place (Many p) h = not-true h
+same-place (Then p q) h = not-true h
+same-place (Either p q) h = not-true h
+
+-- an item and what follows it
+item-before : (p q : Pattern) → (is_context q ≡ true → HasNoEndBefore q) → cond (is_place p) (is_behind q) (is_before p && is_context q) ≡ true → HasNoEndBefore (Then p q)
+item-before p q later = by_item (is_place p) refl
+  where
+    by_item : (b : Bool) → is_place p ≡ b → cond b (is_behind q) (is_before p && is_context q) ≡ true → HasNoEndBefore (Then p q)
+    by_item true is h = inl (same-place p is)
+    by_item false is h =
+        let two = (and-both (is_before p) (is_context q)).0 h in
+        let parts = (and-both (not (has sign.Place p)) (not (has sign.End p))).0 two.0 in
+        inr (no-end p (not-is (has sign.End p) parts.1), later two.1)
+
+context-before : (p : Pattern) → is_context p ≡ true → HasNoEndBefore p
+context-before (Point c) h = tt
+context-before (Set n) h = tt
+context-before Any h = tt
+context-before Start h = tt
+context-before End h = tt
+context-before Place h = tt
+context-before (Group p) h = tt
+context-before (Optional p) h = tt
+context-before (Many p) h = tt
+context-before (Then p q) h = item-before p q (context-before q) h
+context-before (Either p q) h = tt
+
+pub rule-before : (p : Pattern) → is_rule p ≡ true → AllByRecursion HasNoEndBefore (branches p)
+rule-before (Point c) h = (tt, tt)
+rule-before (Set n) h = (tt, tt)
+rule-before Any h = (tt, tt)
+rule-before Start h = (tt, tt)
+rule-before End h = (tt, tt)
+rule-before Place h = (tt, tt)
+rule-before (Group p) h = (tt, tt)
+rule-before (Optional p) h = (tt, tt)
+rule-before (Many p) h = (tt, tt)
+rule-before (Then p q) h = (item-before p q (context-before q) h, tt)
+rule-before (Either p q) h = let two = (and-both (is_context p) (is_rule q)).0 h in (context-before p two.0, rule-before q two.1)
+
+rules-from : (sets names : List (List ℕ)) (rules : List Pattern) → length names ≡ length rules → AllByRecursion (IsDefinition sets) (named definition.Rule names rules)
+    → AllByRecursion (λ rule. AllByRecursion HasNoEndBefore (branches rule)) rules
+rules-from sets [] [] same all = tt
+rules-from sets [] (p ∷ rules) same all = absurd (omega (arith, same))
+rules-from sets (name ∷ names) [] same all = tt
+rules-from sets (name ∷ names) (p ∷ rules) same all = (rule-before p all.0.parts.1, rules-from sets names rules (omega (arith, same)) all.1)
+
+pub rules-before : (d : Definitions) → AreDefinitions d → AllByRecursion (λ rule. AllByRecursion HasNoEndBefore (branches rule)) d.rules
+rules-before d are = rules-from d.set_names d.rule_names d.rules are.named_rules (all_before (IsDefinition d.set_names) (rules_in d) (demands_in d) (patterns d are))

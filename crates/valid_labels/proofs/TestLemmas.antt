@@ -1,0 +1,338 @@
+-- The tests that compute are true where the definitions hold.
+use Rattle.std.proofs.Common.{◌≡◌, ℕ, zero, suc, ◌+◌, ◌<◌, ◌≤◌, inl, inr, Bool, true, false, not, ◌&&◌, ◌||◌, eqb, ltb, List, [], ◌∷◌, length, map, refl, sym, ap, subst, ◌∙◌, arith}
+use Rattle.std.specs.Prelude.{◌↔◌, IsTrue, Option, Some, None}
+use Rattle.std.specs.Option.{is_some}
+use Rattle.std.specs.List.{list_any, AllByRecursion, Contains, flat_map, slice_range}
+use Rattle.std.proofs.lemmas.Bool.{cases_order, ltb-true, lt-ltb, eqb-true}
+use Rattle.std.proofs.lemmas.List.Elements.{All-contains, Contains-append_left, Contains-append_right, Contains-append_cases}
+use Rattle.label_patterns.specs.declared.condition.Condition.{Condition}
+use Rattle.label_patterns.specs.Barring.{IsBarred}
+use Rattle.label_patterns.specs.Matches.{Seen, Rounds, no_round, one_more}
+use Rattle.label_patterns.specs.Rules.{Occurs}
+use Rattle.label_patterns.specs.Tests.{has_place, condition_barred, has_no_end, occurs_in}
+use Rattle.label_patterns.proofs.TestLemmas.{condition-agrees, barred-agrees, occurs-agrees, no-end-agrees, place-tested}
+use Rattle.ruleset_text.specs.declared.definition.DemandKind.{DemandKind}
+use Rattle.ruleset_text.specs.declared.definition.DemandKind.TheVariants.{Never, Always}
+use Rattle.ruleset_text.specs.Definitions.{Demand}
+use Rattle.variant_table.specs.Entries.{Entry, TableValue, replacements, sequences_in}
+use Rattle.variant_table.specs.WellFormed.{IsEntry, IsSequence, IsWellFormed}
+use Rattle.variant_table.proofs.MemberLemmas.{Contains-head, Contains-later}
+use Rattle.valid_labels.specs.Segmentations.{IsMadeOfSources, HasSegmentation, seen_under, inside_of}
+use Rattle.valid_labels.specs.Pieces.{IsCovered, IsVariant, IsPiece, PieceIs, IsMadeOfPieces, MayReach}
+use Rattle.valid_labels.specs.Demands.{IsKept, IsWanted, KeepsDemands}
+use Rattle.valid_labels.specs.Validity.{AsksNothing, IsAdmitted, IsValid, IsRefused, LeadsNowhere, IsLost}
+use Rattle.valid_labels.specs.Tests.{Piece, cut_places, not_asked, sources_of, is_covered, lone_variants, pieces_of, holds_in, may_hold_in, is_made_of_sources, has_segmentation, is_made_of_pieces, may_reach, is_wanted, are_kept, keeps_demands, is_admitted, is_valid, is_never, is_refused, leads_past, one_up_to, leads_on, is_lost, asks_nothing}
+use Rattle.valid_labels.specs.Laws.{TestsAgree}
+use Rattle.valid_labels.proofs.CutLemmas.{EntryStands, cut-steps, steps-cut}
+use Rattle.valid_labels.proofs.ListLemmas.{Contains-map, Contains-flat_map, Contains-filter, and-both, or-one, not-false, not-true, any-one, all-members}
+use Rattle.valid_labels.proofs.PieceLemmas.{OneStands, IsFilled, Tells, cut-places-are}
+use Rattle.valid_labels.proofs.SegmentationLemmas.{IsInside, NotAsked, HoldsIn, made-cut, segmentation-cut, covered-cut}
+
+pub rounds-map : (R S : ℕ → ℕ → Type 0) → ((i j : ℕ) → R i j → S i j) → (i j : ℕ) → Rounds R i j → Rounds S i j
+rounds-map R S f i _ no_round = no_round
+rounds-map R S f i _ (one_more k j rounds step) = one_more k j (rounds-map R S f i k rounds) (f k j step)
+
+-- ---- sources
+
+pub sequence-filled : (entries : List Entry) (e : Entry) (s : List ℕ) → IsWellFormed entries → Contains entries e → Contains (replacements e) s → 0 < length s
+sequence-filled entries e s formed h r =
+    let each : IsEntry e = All-contains IsEntry entries e formed.entries h in
+    let one : IsSequence s = All-contains IsSequence (replacements e) s each.sequences r in
+    omega (arith, one.filled)
+
+-- entries that are of a table
+abbrev pub AreOf : List Entry → List Entry → Type 0
+AreOf entries es = (e : Entry) → Contains es e → Contains entries e
+
+pub sources-filled : (entries es : List Entry) → IsWellFormed entries → AreOf entries es → AllByRecursion IsFilled (sources_of es)
+sources-filled entries es formed of = all-members IsFilled (sources_of es) (λ p h.
+    let g = (Contains-map (λ (e : Entry). let q : Piece = record { points = e.source; condition = e.condition } in q) es p).0 h in
+    subst IsFilled (sym g.2) (sequence-filled entries g.0 g.0.source formed (of g.0 g.1) (Contains-head g.0.source (sequences_in g.0.variants))))
+
+-- sources stand where their entries do
+sources-stand : (A : Option Condition → ℕ → ℕ → Type 0) (Q : Entry → Type 0) (es : List Entry) (label : List ℕ) → ((e : Entry) → Contains es e ↔ Q e) → (i j : ℕ) → OneStands A (sources_of es) label i j ↔ EntryStands Q A label i j
+sources-stand A Q es label are i j =
+    let f : Entry → Piece = λ e. record { points = e.source; condition = e.condition } in (
+      λ h.
+          let g = (Contains-map f es h.0).0 h.1 in
+          (g.0, (are g.0).0 g.1, h.2, h.3, h.4 ∙ ap (λ (q : Piece). q.points) g.2, subst (λ (q : Piece). A q.condition i j) g.2 h.5),
+      λ h. (f h.0, (Contains-map f es (f h.0)).1 (h.0, (are h.0).1 h.1, refl), h.2, h.3, h.4, h.5),
+    )
+
+-- a label is cut into sources where the set has its end
+sources-agree : (asked : Option Condition → ℕ → ℕ → Bool) (A : Option Condition → ℕ → ℕ → Type 0) (Q : Entry → Type 0) (es : List Entry) (label : List ℕ) → Tells (length label) asked A → AllByRecursion IsFilled (sources_of es)
+    → ((e : Entry) → Contains es e ↔ Q e) → (j : ℕ) → IsTrue (has_place (cut_places asked (sources_of es) label) j) ↔ Rounds (EntryStands Q A label) 0 j
+sources-agree asked A Q es label tells filled are j =
+    let t = place-tested (cut_places asked (sources_of es) label) j in
+    let c = cut-places-are label asked A tells (sources_of es) filled j in (
+      λ h. rounds-map (OneStands A (sources_of es) label) (EntryStands Q A label) (λ a b. (sources-stand A Q es label are a b).0) 0 j (c.0 (t.0 h)),
+      λ h. t.1 (c.1 (rounds-map (EntryStands Q A label) (OneStands A (sources_of es) label) (λ a b. (sources-stand A Q es label are a b).1) 0 j h)),
+    )
+
+not-asked-tells : (n : ℕ) → Tells n not_asked NotAsked
+not-asked-tells n c i j l m = (λ h. tt, λ h. refl)
+
+pub covered-agrees : (table : TableValue) (points : List ℕ) → IsWellFormed table.entries → IsTrue (is_covered table points) ↔ IsCovered table points
+covered-agrees table points formed =
+    let s = sources-agree not_asked NotAsked (Contains table.entries) table.entries points (not-asked-tells (length points)) (sources-filled table.entries table.entries formed (λ e h. h)) (λ e. (λ h. h, λ h. h)) (length points) in
+    let c = covered-cut table points in (
+      λ h. c.1 (steps-cut (Contains table.entries) NotAsked points (s.0 h)),
+      λ h. s.1 (cut-steps (Contains table.entries) NotAsked points (c.0 h)),
+    )
+
+inside-are : (table : TableValue) (e : Entry) → Contains (inside_of table.entries) e ↔ IsInside table e
+inside-are table e =
+    let f = Contains-filter (λ (x : Entry). not x.outside) table.entries e in
+    (λ h. (let g = f.0 h in (g.0, mark e.outside g.1)), λ h. f.1 (h.0, ap not h.1))
+  where
+    mark : (b : Bool) → not b ≡ true → b ≡ false
+    mark true h = not-true h
+    mark false h = refl
+
+inside-filled : (table : TableValue) → IsWellFormed table.entries → AllByRecursion IsFilled (sources_of (inside_of table.entries))
+inside-filled table formed = sources-filled table.entries (inside_of table.entries) formed (λ e h. ((inside-are table e).0 h).0)
+
+holds-tells : (table : TableValue) (label : List ℕ) → Tells (length label) (holds_in table label) (HoldsIn table label)
+holds-tells table label c i j l m = condition-agrees table.definitions.rules (seen_under table label) c i j l m
+
+pub made-agrees : (table : TableValue) (label : List ℕ) → IsWellFormed table.entries → IsTrue (is_made_of_sources table label) ↔ IsMadeOfSources table label
+made-agrees table label formed =
+    let s = sources-agree not_asked NotAsked (IsInside table) (inside_of table.entries) label (not-asked-tells (length label)) (inside-filled table formed) (inside-are table) (length label) in
+    let c = made-cut table label in (
+      λ h. c.1 (steps-cut (IsInside table) NotAsked label (s.0 h)),
+      λ h. s.1 (cut-steps (IsInside table) NotAsked label (c.0 h)),
+    )
+
+pub segmentation-agrees : (table : TableValue) (label : List ℕ) → IsWellFormed table.entries → IsTrue (has_segmentation table label) ↔ HasSegmentation table label
+segmentation-agrees table label formed =
+    let s = sources-agree (holds_in table label) (HoldsIn table label) (IsInside table) (inside_of table.entries) label (holds-tells table label) (inside-filled table formed) (inside-are table) (length label) in
+    let c = segmentation-cut table label in (
+      λ h. c.1 (steps-cut (IsInside table) (HoldsIn table label) label (s.0 h)),
+      λ h. s.1 (cut-steps (IsInside table) (HoldsIn table label) label (c.0 h)),
+    )
+
+-- ---- pieces
+
+pub lone-agree : (table : TableValue) (s : List ℕ) → IsWellFormed table.entries → Contains (lone_variants table) s ↔ (IsVariant table s × (IsCovered table s → ⊥))
+lone-agree table s formed =
+    let f = Contains-filter (λ v. not (is_covered table v)) (flat_map (λ (e : Entry). sequences_in e.variants) table.entries) s in
+    let m = Contains-flat_map (λ (e : Entry). sequences_in e.variants) table.entries s in
+    let n = not-false (is_covered table s) (IsCovered table s) (covered-agrees table s formed) in
+    (λ h. (let g = f.0 h in (m.0 g.0, n.0 g.1)), λ h. f.1 (m.1 h.0, n.1 h.1))
+
+piece-is : (p : Piece) (s : List ℕ) (c : Option Condition) → s ≡ p.points → c ≡ p.condition → p ≡ (let q : Piece = record { points = s; condition = c } in q)
+piece-is p s c e f =
+    ap (λ t. let q : Piece = record { points = t; condition = p.condition } in q) (sym e) ∙ ap (λ d. let q : Piece = record { points = s; condition = d } in q) (sym f)
+
+pub pieces-agree : (table : TableValue) (p : Piece) → IsWellFormed table.entries → Contains (pieces_of table) p ↔ IsPiece table p.points p.condition
+pieces-agree table p formed =
+    let f : Entry → Piece = λ e. record { points = e.source; condition = e.condition } in
+    let g : List ℕ → Piece = λ s. record { points = s; condition = None } in
+    let first = Contains-map f table.entries p in
+    let last = Contains-map g (lone_variants table) p in (
+      λ h. elim (Contains-append_cases (sources_of table.entries) (map g (lone_variants table)) p h) [
+        | inl a ↦ (let e = first.0 a in inl (e.0, e.1, ap (λ (q : Piece). q.points) (sym e.2), ap (λ (q : Piece). q.condition) (sym e.2)))
+        | inr b ↦
+            let s = last.0 b in
+            let l = (lone-agree table s.0 formed).0 s.1 in
+            let same : s.0 ≡ p.points = ap (λ (q : Piece). q.points) (sym s.2) in
+            inr (subst (IsVariant table) same l.0, (λ c. l.1 (subst (IsCovered table) (sym same) c)), ap (λ (q : Piece). q.condition) s.2)
+      ],
+      λ h. elim h [
+        | inl a ↦ Contains-append_left (sources_of table.entries) (map g (lone_variants table)) p (first.1 (a.0, a.1, piece-is p a.0.source a.0.condition a.2 a.3))
+        | inr b ↦ Contains-append_right (sources_of table.entries) (map g (lone_variants table)) p
+            (last.1 (p.points, (lone-agree table p.points formed).1 (b.0, b.1), piece-is p p.points None refl (sym b.2)))
+      ],
+    )
+
+variant-filled : (table : TableValue) (s : List ℕ) → IsWellFormed table.entries → IsVariant table s → 0 < length s
+variant-filled table s formed v = sequence-filled table.entries v.0 s formed v.1 (Contains-later v.0.source (sequences_in v.0.variants) s v.2)
+
+pub piece-filled : (table : TableValue) (s : List ℕ) (c : Option Condition) → IsWellFormed table.entries → IsPiece table s c → 0 < length s
+piece-filled table s c formed piece = elim piece [
+  | inl a ↦ subst (λ t. 0 < length t) a.2 (sequence-filled table.entries a.0 a.0.source formed a.1 (Contains-head a.0.source (sequences_in a.0.variants)))
+  | inr b ↦ variant-filled table s formed b.0
+]
+
+pub pieces-filled : (table : TableValue) → IsWellFormed table.entries → AllByRecursion IsFilled (pieces_of table)
+pieces-filled table formed = all-members IsFilled (pieces_of table) (λ p h. piece-filled table p.points p.condition formed ((pieces-agree table p formed).0 h))
+
+-- a piece stands in the label, and what is asked of it is so
+abbrev pub SomePiece : (Option Condition → ℕ → ℕ → Type 0) → TableValue → List ℕ → ℕ → ℕ → Type 0
+SomePiece A table label i j = (c : Option Condition) × PieceIs table label c i j × A c i j
+
+pieces-stand : (A : Option Condition → ℕ → ℕ → Type 0) (table : TableValue) (label : List ℕ) → IsWellFormed table.entries → (i j : ℕ) → OneStands A (pieces_of table) label i j ↔ SomePiece A table label i j
+pieces-stand A table label formed i j = (
+  λ h. (h.0.condition, (h.2, h.3, subst (λ s. IsPiece table s h.0.condition) (sym h.4) ((pieces-agree table h.0 formed).0 h.1)), h.5),
+  λ h.
+      let p : Piece = record { points = slice_range label i j; condition = h.0 } in
+      (p, (pieces-agree table p formed).1 h.1.2, h.1.0, h.1.1, refl, h.2),
+)
+
+pieces-cut : (asked : Option Condition → ℕ → ℕ → Bool) (A : Option Condition → ℕ → ℕ → Type 0) (table : TableValue) (label : List ℕ) → Tells (length label) asked A → IsWellFormed table.entries
+    → (j : ℕ) → IsTrue (has_place (cut_places asked (pieces_of table) label) j) ↔ Rounds (SomePiece A table label) 0 j
+pieces-cut asked A table label tells formed j =
+    let t = place-tested (cut_places asked (pieces_of table) label) j in
+    let c = cut-places-are label asked A tells (pieces_of table) (pieces-filled table formed) j in (
+      λ h. rounds-map (OneStands A (pieces_of table) label) (SomePiece A table label) (λ a b. (pieces-stand A table label formed a b).0) 0 j (c.0 (t.0 h)),
+      λ h. t.1 (c.1 (rounds-map (SomePiece A table label) (OneStands A (pieces_of table) label) (λ a b. (pieces-stand A table label formed a b).1) 0 j h)),
+    )
+
+pub made-of-pieces-agrees : (table : TableValue) (label : List ℕ) → IsWellFormed table.entries → IsTrue (is_made_of_pieces table label) ↔ IsMadeOfPieces table label
+made-of-pieces-agrees table label formed = pieces-cut (holds_in table label) (HoldsIn table label) table label (holds-tells table label) formed (length label)
+
+may-tells : (table : TableValue) (label : List ℕ) → Tells (length label) (may_hold_in table label) (λ c i j. IsBarred table.definitions.rules (seen_under table label) c i → ⊥)
+may-tells table label c i j l m = not-false (condition_barred table.definitions.rules (seen_under table label) c i) (IsBarred table.definitions.rules (seen_under table label) c i) (barred-agrees table.definitions.rules (seen_under table label) c i l)
+
+pub may-reach-agrees : (table : TableValue) (label : List ℕ) → IsWellFormed table.entries → (j : ℕ) → IsTrue (has_place (may_reach table label) j) ↔ MayReach table label j
+may-reach-agrees table label formed j = pieces-cut (may_hold_in table label) (λ c a b. IsBarred table.definitions.rules (seen_under table label) c a → ⊥) table label (may-tells table label) formed j
+
+-- ---- demands
+
+wanted-agrees : (kind : DemandKind) (occurring : Bool) (P : Type 0) → IsTrue occurring ↔ P → IsTrue (is_wanted kind occurring) ↔ IsWanted kind P
+wanted-agrees Never occurring P e = not-false occurring P e
+wanted-agrees Always occurring P e = e
+
+kept-agree : (s : Seen) (demands : List Demand) → IsTrue (are_kept s demands) ↔ AllByRecursion (IsKept s) demands
+kept-agree s [] = (λ h. tt, λ h. refl)
+kept-agree s (d ∷ demands) =
+    let two = and-both (is_wanted d.kind (occurs_in s d.pattern)) (are_kept s demands) in
+    let one = wanted-agrees d.kind (occurs_in s d.pattern) (Occurs s d.pattern) (occurs-agrees s d.pattern) in
+    let rest = kept-agree s demands in
+    (λ h. (let b = two.0 h in (one.0 b.0, rest.0 b.1)), λ h. two.1 (one.1 h.0, rest.1 h.1))
+
+pub demands-agree : (table : TableValue) (label : List ℕ) → IsTrue (keeps_demands table label) ↔ KeepsDemands table label
+demands-agree table label = kept-agree (seen_under table label) table.definitions.demands
+
+-- ---- what is lost
+
+never-agrees : (kind : DemandKind) → IsTrue (is_never kind) ↔ (kind ≡ Never)
+never-agrees Never = (λ h. refl, λ h. refl)
+never-agrees Always = (λ h. not-true h, λ h. ap is_never h)
+
+pub refused-agrees : (table : TableValue) (label : List ℕ) → IsTrue (is_refused table label) ↔ IsRefused table label
+refused-agrees table label =
+    let s = seen_under table label in
+    let any = any-one (λ (d : Demand). is_never d.kind && (has_no_end d.pattern && occurs_in s d.pattern)) table.definitions.demands in
+    let split = λ (d : Demand). and-both (is_never d.kind) (has_no_end d.pattern && occurs_in s d.pattern) in
+    let more = λ (d : Demand). and-both (has_no_end d.pattern) (occurs_in s d.pattern) in (
+      λ h.
+          let g = any.0 h in
+          let b = (split g.0).0 g.2 in
+          let m = (more g.0).0 b.1 in
+          (g.0, g.1, (never-agrees g.0.kind).0 b.0, (no-end-agrees g.0.pattern).0 m.0, (occurs-agrees s g.0.pattern).0 m.1),
+      λ h. any.1 (h.0, h.1, (split h.0).1 ((never-agrees h.0.kind).1 h.2, (more h.0).1 ((no-end-agrees h.0.pattern).1 h.3, (occurs-agrees s h.0.pattern).1 h.4))),
+    )
+
+one-place : (n : ℕ) (test : ℕ → Bool) → IsTrue (one_up_to n test) ↔ ((p : ℕ) × (p ≤ n) × IsTrue (test p))
+one-place zero test = (
+  λ h. (0, omega arith, h),
+  λ h. subst (λ p. IsTrue (test p)) (let l = h.1 in omega (arith, l)) h.2,
+)
+one-place (suc n) test =
+    let either = or-one (test (suc n)) (one_up_to n test) in
+    let rest = one-place n test in (
+      λ h. elim (either.0 h) [ inl a ↦ (suc n, omega arith, a) | inr b ↦ (let g = rest.0 b in (g.0, (let l = g.1 in omega (arith, l)), g.2)) ],
+      λ h. either.1 (elim (cases_order h.0 (suc n)) [
+        | inl e ↦ inl (subst (λ p. IsTrue (test p)) e h.2)
+        | inr o ↦ elim o [
+          | inl less ↦ inr (rest.1 (h.0, omega (arith, less), h.2))
+          | inr greater ↦ absurd (let l = h.1 in omega (arith, l, greater))
+        ]
+      ]),
+    )
+
+-- what may be reached is within the label
+pub may-reach-within : (table : TableValue) (label : List ℕ) (j : ℕ) → MayReach table label j → j ≤ length label
+may-reach-within table label _ no_round = omega arith
+may-reach-within table label _ (one_more k j rounds step) = step.1.1
+
+abbrev LeadsOn : TableValue → List ℕ → Type 0
+LeadsOn table label = (place : ℕ) × (place ≤ length label) × MayReach table label place × ((p : Piece) × IsPiece table p.points p.condition × (length label < place + length p.points))
+
+leads-agrees : (table : TableValue) (label : List ℕ) → IsWellFormed table.entries → IsTrue (leads_on table label) ↔ LeadsOn table label
+leads-agrees table label formed =
+    let reached = may_reach table label in
+    let pieces = pieces_of table in
+    let n = length label in
+    let one = one-place n (λ place. has_place reached place && leads_past pieces n place) in
+    let split = λ (place : ℕ). and-both (has_place reached place) (leads_past pieces n place) in
+    let any = λ (place : ℕ). any-one (λ (p : Piece). ltb n (place + length p.points)) pieces in (
+      λ h.
+          let g = one.0 h in
+          let b = (split g.0).0 g.2 in
+          let p = (any g.0).0 b.1 in
+          (g.0, g.1, (may-reach-agrees table label formed g.0).0 b.0, (p.0, (pieces-agree table p.0 formed).0 p.1, ltb-true n (g.0 + length p.0.points) p.2)),
+      λ h. one.1 (h.0, h.1, (split h.0).1 ((may-reach-agrees table label formed h.0).1 h.2, (any h.0).1 (h.3.0, (pieces-agree table h.3.0 formed).1 h.3.1, lt-ltb n (h.0 + length h.3.0.points) h.3.2))),
+    )
+
+nowhere-agrees : (table : TableValue) (label : List ℕ) → IsWellFormed table.entries → IsTrue (not (leads_on table label)) ↔ LeadsNowhere table label
+nowhere-agrees table label formed =
+    let none = not-false (leads_on table label) (LeadsOn table label) (leads-agrees table label formed) in (
+      λ h place points c reached piece. elim (cases_order (length label) (place + length points)) [
+        | inl e ↦ omega (arith, e)
+        | inr o ↦ elim o [
+          | inl less ↦ absurd (none.0 h (place, may-reach-within table label place reached, reached, ((let p : Piece = record { points = points; condition = c } in p), piece, less)))
+          | inr greater ↦ omega (arith, greater)
+        ]
+      ],
+      λ h. none.1 (λ on. (let l = h on.0 on.3.0.points on.3.0.condition on.2 on.3.1 in let m = on.3.2 in omega (arith, l, m))),
+    )
+
+pub lost-agrees : (table : TableValue) (label : List ℕ) → IsWellFormed table.entries → IsTrue (is_lost table label) ↔ IsLost table label
+lost-agrees table label formed =
+    let two = and-both (ltb 0 (length label)) (is_refused table label || not (leads_on table label)) in
+    let either = or-one (is_refused table label) (not (leads_on table label)) in
+    let refused = refused-agrees table label in
+    let nowhere = nowhere-agrees table label formed in (
+      λ h.
+          let b = two.0 h in
+          record { some = ltb-true 0 (length label) b.0; lost = elim (either.0 b.1) [ inl r ↦ inl (refused.0 r) | inr w ↦ inr (nowhere.0 w) ] },
+      λ h. two.1 (lt-ltb 0 (length label) h.some, either.1 (elim h.lost [ inl r ↦ inl (refused.1 r) | inr w ↦ inr (nowhere.1 w) ])),
+    )
+
+-- ---- all of them
+
+admitted-agrees : (table : TableValue) (label : List ℕ) → IsWellFormed table.entries → IsTrue (is_admitted table label) ↔ IsAdmitted table label
+admitted-agrees table label formed =
+    let two = and-both (has_segmentation table label) (keeps_demands table label) in
+    let s = segmentation-agrees table label formed in
+    let d = demands-agree table label in
+    (λ h. (let b = two.0 h in record { cut = s.0 b.0; kept = d.0 b.1 }), λ h. two.1 (s.1 h.cut, d.1 h.kept))
+
+valid-agrees : (table : TableValue) (label : List ℕ) → IsWellFormed table.entries → IsTrue (is_valid table label) ↔ IsValid table label
+valid-agrees table label formed =
+    let two = and-both (is_made_of_pieces table label) (keeps_demands table label) in
+    let s = made-of-pieces-agrees table label formed in
+    let d = demands-agree table label in
+    (λ h. (let b = two.0 h in record { cut = s.0 b.0; kept = d.0 b.1 }), λ h. two.1 (s.1 h.cut, d.1 h.kept))
+
+nil-is : {X : Type 0} (xs : List X) → IsTrue (eqb (length xs) 0) ↔ (xs ≡ [])
+nil-is [] = (λ h. refl, λ h. refl)
+nil-is (x ∷ xs) = (λ h. absurd (let e = eqb-true (suc (length xs)) 0 h in omega (arith, e)), λ h. absurd (let e : suc (length xs) ≡ 0 = ap length h in omega (arith, e)))
+
+no-conditions : (entries : List Entry) → IsTrue (not (list_any (λ (e : Entry). is_some e.condition) entries)) ↔ AllByRecursion (λ (e : Entry). e.condition ≡ None) entries
+no-conditions [] = (λ h. tt, λ h. refl)
+no-conditions (e ∷ entries) = by_condition e.condition refl (no-conditions entries)
+  where
+    by_condition : (c : Option Condition) → e.condition ≡ c → IsTrue (not (list_any (λ (x : Entry). is_some x.condition) entries)) ↔ AllByRecursion (λ (x : Entry). x.condition ≡ None) entries
+        → IsTrue (not (is_some c || list_any (λ (x : Entry). is_some x.condition) entries)) ↔ ((e.condition ≡ None) × AllByRecursion (λ (x : Entry). x.condition ≡ None) entries)
+    by_condition None is rest = (λ h. (is, rest.0 h), λ h. rest.1 h.1)
+    by_condition (Some c) is rest = (λ h. not-true h, λ h. absurd (let f : Some c ≡ None = sym is ∙ h.0 in cc))
+
+pub nothing-agrees : (table : TableValue) → IsTrue (asks_nothing table) ↔ AsksNothing table
+nothing-agrees table =
+    let two = and-both (not (list_any (λ (e : Entry). is_some e.condition) table.entries)) (eqb (length table.definitions.demands) 0) in
+    let conditions = no-conditions table.entries in
+    let demands = nil-is table.definitions.demands in
+    (λ h. (let b = two.0 h in record { conditions = conditions.0 b.0; demands = demands.0 b.1 }), λ h. two.1 (conditions.1 h.conditions, demands.1 h.demands))
+
+pub tests-agree : TestsAgree
+tests-agree = record {
+  made_of_sources = λ table label sound. made-agrees table label sound.entries;
+  segmentation = λ table label sound. segmentation-agrees table label sound.entries;
+  admitted = λ table label sound. admitted-agrees table label sound.entries;
+  valid = λ table label sound. valid-agrees table label sound.entries;
+  nothing = nothing-agrees;
+  lost = λ table label sound. lost-agrees table label sound.entries;
+}

@@ -1,0 +1,41 @@
+use Rattle.std.proofs.Common.{◌≡◌, ℕ, ◌+◌, true, false, sym, subst, ◌∙◌, arith}
+use Rattle.valid_labels.specs.inner.Steps.{StepIs}
+use Rattle.valid_labels.proofs.ReachedLemmas.{IsFound, found-start, found-more, found-same, found-all}
+use Rattle.valid_labels.proofs.StepLemmas.{items_of, steps-on, steps-inside, step-ends}
+use Rattle.valid_labels.proofs.cutting.reached.Goals as goal
+use Rattle.valid_labels.proofs.cutting.reached.Goals.{then-has, else-has}
+
+pub loop-place-init : goal.loop-place-init
+loop-place-init g c =
+    let asks = g.A.Asking.asks c.args.asking.now in
+    found-start (StepIs asks c.args.table.now.entries (items_of c.args.sequences.now) c.args.label.now)
+    (steps-on asks c.args.table.now.entries c.args.sequences.now c.args.label.now c.len-entries.ensures.well_formed c.requires.filled)
+
+pub loop-place-preserved : goal.loop-place-preserved
+loop-place-preserved g c =
+    let asks = g.A.Asking.asks c.args.asking.now in
+    let entries = c.args.table.now.entries in
+    let sequences = items_of c.args.sequences.now in
+    let label = c.args.label.now in
+    let place = c.loop-place.place in
+    let R : ℕ → ℕ → Type 0 = StepIs asks entries sequences label in
+    let on = steps-on asks entries c.args.sequences.now label c.len-entries.ensures.well_formed c.requires.filled in
+    elim c.if-has.branch [
+      | then-has w ↦
+          let are = step-ends asks entries sequences label place w.source_ends-ends.result w.sequence_ends-others.result w.either.result w.source_ends-ends.ensures w.sequence_ends-others.ensures w.either.ensures.places in
+          subst (IsFound R (place + 1)) (sym w.found-is)
+          (found-more R on place c.loop-place.found w.either.result w.either-found.result (c.has.ensures.0 w.if-has.true) are w.either-found.ensures.places c.loop-place.invariant)
+      | else-has w ↦
+          subst (IsFound R (place + 1)) (sym w.found-is)
+          (found-same R on place c.loop-place.found (λ h. (let e : true ≡ false = sym (c.has.ensures.1 h) ∙ w.if-has.false in cc)) c.loop-place.invariant)
+    ]
+
+pub returns : goal.returns
+returns g c =
+    let asks = g.A.Asking.asks c.args.asking.now in
+    let entries = c.args.table.now.entries in
+    let sequences = items_of c.args.sequences.now in
+    let label = c.args.label.now in
+    let on = steps-on asks entries c.args.sequences.now label c.len-entries.ensures.well_formed c.requires.filled in
+    found-all (StepIs asks entries sequences label) on c.loop-place.place c.loop-place.found
+    (λ i j step. (let l = on i j step in let m = steps-inside asks entries sequences label i j step in omega (arith, l, m, c.loop-place-test.false))) c.loop-place.invariant

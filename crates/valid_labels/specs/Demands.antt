@@ -1,0 +1,22 @@
+-- The demands of a table on each label (RFC 7940, section 7).
+use Rattle.std.specs.Prelude.{ℕ, List}
+use Rattle.std.specs.List.{AllByRecursion}
+use Rattle.label_patterns.specs.Matches.{Seen}
+use Rattle.label_patterns.specs.Rules.{Occurs}
+use Rattle.ruleset_text.specs.declared.definition.DemandKind.TheVariants.{Never, Always}
+use Rattle.ruleset_text.specs.declared.definition.DemandKind.{DemandKind}
+use Rattle.ruleset_text.specs.Definitions.{Demand}
+use Rattle.variant_table.specs.Entries.{TableValue}
+use Rattle.valid_labels.specs.Segmentations.{seen_under}
+
+-- no part of the label may match the pattern, or some part has to
+abbrev pub IsWanted : DemandKind → Type 0 → Type 0
+IsWanted Never Occurring = ¬ Occurring
+IsWanted Always Occurring = Occurring
+
+abbrev pub IsKept : Seen → Demand → Type 0
+IsKept seen d = IsWanted d.kind (Occurs seen d.pattern)
+
+-- the label keeps each demand of the table
+abbrev pub KeepsDemands : TableValue → List ℕ → Type 0
+KeepsDemands table label = AllByRecursion (IsKept (seen_under table label)) table.definitions.demands

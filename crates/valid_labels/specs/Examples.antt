@@ -1,0 +1,122 @@
+-- Worked examples of the definitions, by computation.
+use Rattle.std.specs.Prelude.{◌≡◌, true, false, Option, Some, None, List, [], ◌∷◌, ◌++◌, map, ℕ, codes}
+use Rattle.label_patterns.specs.declared.condition.Condition.{Condition}
+use Rattle.label_patterns.specs.declared.condition.ConditionKind.TheVariants.{When, Unless}
+use Rattle.label_patterns.specs.declared.span.Span.{Span}
+use Rattle.label_patterns.specs.Patterns.{Pattern, Point, Set, Any, Start, End, Place, Group, Optional, Many, Then, Either}
+use Rattle.ruleset_text.specs.declared.definition.DemandKind.TheVariants.{Never, Always}
+use Rattle.ruleset_text.specs.Definitions.{Demand, nothing_defined}
+use Rattle.variant_table.specs.declared.version.Version.TheVariants.{Three}
+use Rattle.variant_table.specs.Entries.{Entry, TableValue, table_of, plain_variant}
+use Rattle.valid_labels.specs.Tests.{is_made_of_sources, has_segmentation, is_admitted, is_valid, is_lost}
+
+-- a ruleset of these sets, rules and demands
+abbrev pub table_with : List (List Span) → List Pattern → List Demand → List Entry → TableValue
+table_with sets rules demands entries = table_of Three (record nothing_defined { sets = sets; rules = rules; demands = demands }) entries
+
+abbrev pub never : Pattern → Demand
+never p = record { kind = Never; pattern = p }
+
+abbrev pub always : Pattern → Demand
+always p = record { kind = Always; pattern = p }
+
+-- the condition on the first rule
+abbrev pub when_first : Option Condition
+when_first = Some (record { kind = When; rule = 0 })
+
+abbrev pub unless_first : Option Condition
+unless_first = Some (record { kind = Unless; rule = 0 })
+
+-- a source with its condition and its variants
+abbrev pub source : List ℕ → Option Condition → List (List ℕ) → Entry
+source points condition variants = record { source = points; outside = false; tags = []; condition = condition; variants = map (plain_variant false) variants }
+
+-- sources of one code point without conditions and variants
+abbrev pub letters : List ℕ → List Entry
+letters [] = []
+letters (c ∷ points) = source (c ∷ []) None [] ∷ letters points
+
+-- vowel signs follow a consonant, which may have a nukta
+abbrev pub signs : TableValue
+signs = table_with ((record { first = 2325; last = 2361 } ∷ []) ∷ []) (Then (Set 0) (Then (Optional (Point 2364)) Place) ∷ []) []
+    (letters (2325 ∷ 2326 ∷ []) ++ source (2364 ∷ []) when_first [] ∷ source (2366 ∷ []) when_first [] ∷ [])
+
+-- a vowel stands before its consonant
+abbrev pub leads : TableValue
+leads = table_with ((record { first = 3585; last = 3630 } ∷ []) ∷ []) (Then Place (Set 0) ∷ []) [] (letters (3585 ∷ []) ++ source (3648 ∷ []) when_first [] ∷ [])
+
+-- the code point 00B7 stands between two l
+abbrev pub between_l : TableValue
+between_l = table_with [] (Then (Point 108) (Then Place (Point 108)) ∷ []) [] (letters (codes "acl") ++ source (183 ∷ []) when_first [] ∷ [])
+
+-- a hyphen stands neither at an end nor after the second code point
+abbrev pub edges : TableValue
+edges = table_with [] (Either (Then Start Place) (Either (Then Place End) (Then Start (Then Any (Then Any Place)))) ∷ []) [] (letters (codes "abcd") ++ source (codes "-") unless_first [] ∷ [])
+
+-- digits are of one kind
+abbrev pub digits : TableValue
+digits = table_with ((record { first = 48; last = 57 } ∷ []) ∷ (record { first = 2406; last = 2415 } ∷ []) ∷ []) []
+    (never (Either (Then (Set 0) (Then (Many Any) (Set 1))) (Then (Set 1) (Then (Many Any) (Set 0)))) ∷ []) (letters (48 ∷ 49 ∷ 2406 ∷ 2407 ∷ []))
+
+-- no label ends in b; each has an a
+abbrev pub no_end_in_b : TableValue
+no_end_in_b = table_with [] [] (never (Then (Point 98) End) ∷ []) (letters (codes "ab"))
+
+abbrev pub some_a : TableValue
+some_a = table_with [] [] (always (Point 97) ∷ []) (letters (codes "ab"))
+
+-- e stands only after such code points of a set, with h between them, that begin the label
+abbrev pub syllables : TableValue
+syllables = table_with ((record { first = 97; last = 99 } ∷ []) ∷ []) (Then Start (Then (Many (Group (Then (Set 0) (Point 104)))) (Then (Set 0) Place)) ∷ []) []
+    (letters (codes "abch") ++ source (codes "e") when_first [] ∷ [])
+
+-- a rule that always holds: a where it does, b where it doesn't
+abbrev pub always_held : TableValue
+always_held = table_with [] (Place ∷ []) [] (source (codes "a") when_first [] ∷ source (codes "b") unless_first [] ∷ [])
+
+-- b stands after a alone; c may be replaced by bd, which is no source and not made of any
+abbrev pub after_a : TableValue
+after_a = table_with [] (Then (Point 97) Place ∷ []) [] (source (codes "a") None [] ∷ source (codes "c") None (codes "bd" ∷ []) ∷ source (codes "b") when_first [] ∷ [])
+
+-- sources of several code points
+abbrev pub several : TableValue
+several = table_with [] [] [] (source (codes "a") None [] ∷ source (codes "ab") None [] ∷ source (codes "bc") None [] ∷ [])
+
+-- labels that may be asked about, and such that are refused though they are made of sources; variants that are valid, and such
+-- that aren't; beginnings with which no valid label begins
+pub record ValidityOfExamples : Type 0 where
+  pub sign : is_admitted signs (2325 ∷ 2366 ∷ []) ≡ true
+  pub sign_after_nukta : is_admitted signs (2325 ∷ 2364 ∷ 2366 ∷ []) ≡ true
+  pub sign_after_sign : is_admitted signs (2325 ∷ 2366 ∷ 2366 ∷ []) ≡ false
+  pub sign_after_sign_made : is_made_of_sources signs (2325 ∷ 2366 ∷ 2366 ∷ []) ≡ true
+  pub sign_after_sign_lost : is_lost signs (2325 ∷ 2366 ∷ 2366 ∷ []) ≡ true
+  pub no_source : is_made_of_sources signs (2325 ∷ 2366 ∷ 97 ∷ []) ≡ false
+  pub lead : is_admitted leads (3648 ∷ 3585 ∷ []) ≡ true
+  pub lead_at_end : is_admitted leads (3585 ∷ 3648 ∷ []) ≡ false
+  pub lead_not_lost : is_lost leads (3585 ∷ 3648 ∷ []) ≡ false
+  pub between : is_admitted between_l (codes "al" ++ 183 ∷ codes "la") ≡ true
+  pub not_between : is_admitted between_l (codes "a" ++ 183 ∷ codes "la") ≡ false
+  pub hyphen : is_admitted edges (codes "a-b") ≡ true
+  pub hyphen_third : is_admitted edges (codes "ab-c") ≡ false
+  pub hyphen_fourth : is_admitted edges (codes "abc-d") ≡ true
+  pub hyphen_third_lost : is_lost edges (codes "ab-") ≡ true
+  pub hyphen_last_not_lost : is_lost edges (codes "abc-") ≡ false
+  pub one_kind : is_valid digits (2406 ∷ 2407 ∷ []) ≡ true
+  pub two_kinds : is_valid digits (48 ∷ 2407 ∷ []) ≡ false
+  pub two_kinds_lost : is_lost digits (48 ∷ 2407 ∷ []) ≡ true
+  pub ends_in_a : is_valid no_end_in_b (codes "ba") ≡ true
+  pub ends_in_b : is_valid no_end_in_b (codes "ab") ≡ false
+  pub ends_in_b_not_lost : is_lost no_end_in_b (codes "ab") ≡ false
+  pub has_a : is_admitted some_a (codes "ba") ≡ true
+  pub has_none : is_admitted some_a (codes "bb") ≡ false
+  pub syllable : is_admitted syllables (codes "ahbhce") ≡ true
+  pub no_syllable : is_admitted syllables (codes "aabe") ≡ false
+  pub held : is_admitted always_held (codes "aa") ≡ true
+  pub not_held : is_admitted always_held (codes "ab") ≡ false
+  pub variant_in_place : is_valid after_a (codes "abc") ≡ true
+  pub variant_out_of_place : is_valid after_a (codes "cb") ≡ false
+  pub variant_lost : is_lost after_a (codes "acb") ≡ false
+  pub lone_variant : is_valid after_a (codes "bdc") ≡ true
+  pub lone_variant_not_asked : is_made_of_sources after_a (codes "bdc") ≡ false
+  pub cut_two_ways : has_segmentation several (codes "abc") ≡ true
+  pub not_cut : has_segmentation several (codes "abb") ≡ false

@@ -1,0 +1,42 @@
+-- What the variants of a table are made of, as labels of their own.
+use Rattle.std.specs.Prelude.{◌≡◌, ◌⊎◌, ℕ, ◌≤◌, List, length, Option, None, Contains}
+use Rattle.std.specs.List.{flat_map, slice_range, AllByRecursion}
+use Rattle.label_patterns.specs.declared.condition.Condition.{Condition}
+use Rattle.label_patterns.specs.Matches.{Rounds}
+use Rattle.label_patterns.specs.Conditions.{ConditionHolds}
+use Rattle.label_patterns.specs.Barring.{IsBarred}
+use Rattle.variant_table.specs.Entries.{Entry, TableValue, sequences_in}
+use Rattle.valid_labels.specs.Segmentations.{seen_under}
+
+-- a sequence is made of sources of the table, of outside ones too
+abbrev pub IsCovered : TableValue → List ℕ → Type 0
+IsCovered table points = (entries : List Entry) × AllByRecursion (Contains table.entries) entries × (flat_map (λ e. e.source) entries ≡ points)
+
+-- an entry of the table has this variant
+abbrev pub IsVariant : TableValue → List ℕ → Type 0
+IsVariant table points = (e : Entry) × Contains table.entries e × Contains (sequences_in e.variants) points
+
+-- a piece of the table: a source, also an outside one, with its condition; or a variant that is not made of sources, which has none
+abbrev pub IsPiece : TableValue → List ℕ → Option Condition → Type 0
+IsPiece table points condition =
+    ((e : Entry) × Contains table.entries e × (e.source ≡ points) × (e.condition ≡ condition)) ⊎ (IsVariant table points × (¬ IsCovered table points) × (condition ≡ None))
+
+-- the part of the label from i to j is a piece with this condition
+abbrev pub PieceIs : TableValue → List ℕ → Option Condition → ℕ → ℕ → Type 0
+PieceIs table label condition i j = (i ≤ j) × (j ≤ length label) × IsPiece table (slice_range label i j) condition
+
+-- a piece stands there whose condition holds
+abbrev pub PieceStands : TableValue → List ℕ → ℕ → ℕ → Type 0
+PieceStands table label i j = (c : Option Condition) × PieceIs table label c i j × ConditionHolds table.definitions.rules (seen_under table label) c i j
+
+-- a piece stands there whose condition isn't barred
+abbrev pub PieceMayStand : TableValue → List ℕ → ℕ → ℕ → Type 0
+PieceMayStand table label i j = (c : Option Condition) × PieceIs table label c i j × (¬ IsBarred table.definitions.rules (seen_under table label) c i)
+
+-- the label can be cut into pieces whose conditions hold
+abbrev pub IsMadeOfPieces : TableValue → List ℕ → Type 0
+IsMadeOfPieces table label = Rounds (PieceStands table label) 0 (length label)
+
+-- the label can be cut up to this place into pieces whose conditions aren't barred
+abbrev pub MayReach : TableValue → List ℕ → ℕ → Type 0
+MayReach table label place = Rounds (PieceMayStand table label) 0 place

@@ -1,0 +1,57 @@
+-- Which labels are valid under a table (RFC 7940, sections 7 and 8).
+use Rattle.std.specs.Prelude.{◌≡◌, ◌⊎◌, ℕ, ◌+◌, ◌<◌, ◌≤◌, List, [], length, take, Option, Contains}
+use Rattle.label_patterns.specs.declared.condition.Condition.{Condition}
+use Rattle.label_patterns.specs.Laws.{HasNoEnd}
+use Rattle.label_patterns.specs.Rules.{Occurs}
+use Rattle.ruleset_text.specs.declared.definition.DemandKind.TheVariants.{Never}
+use Rattle.ruleset_text.specs.Definitions.{Demand}
+use Rattle.ruleset_text.specs.WellFormed.{AreDefinitions}
+use Rattle.variant_table.specs.Entries.{TableValue}
+use Rattle.variant_table.specs.WellFormed.{IsWellFormed}
+use Rattle.valid_labels.specs.Segmentations.{seen_under, HasSegmentation, HasNoConditions}
+use Rattle.valid_labels.specs.Pieces.{IsPiece, IsMadeOfPieces, MayReach}
+use Rattle.valid_labels.specs.Demands.{KeepsDemands}
+
+-- well-formed entries, and definitions without a fault
+pub record IsSound (table : TableValue) : Type 0 where
+  pub entries : IsWellFormed table.entries
+  pub definitions : AreDefinitions table.definitions
+
+-- the table asks nothing of its labels: no source has a condition, and there is no demand
+pub record AsksNothing (table : TableValue) : Type 0 where
+  pub conditions : HasNoConditions table
+  pub demands : table.definitions.demands ≡ []
+
+-- a label that may be asked about: it has a segmentation, and keeps the demands
+pub record IsAdmitted (table : TableValue) (label : List ℕ) : Type 0 where
+  pub cut : HasSegmentation table label
+  pub kept : KeepsDemands table label
+
+-- a valid label, be it asked about or a variant: it is made of pieces that may stand where they do, and keeps the demands
+pub record IsValid (table : TableValue) (label : List ℕ) : Type 0 where
+  pub cut : IsMadeOfPieces table label
+  pub kept : KeepsDemands table label
+
+-- a part of the label matches a pattern that no label may match, and that doesn't ask for the end of the label
+abbrev pub IsRefused : TableValue → List ℕ → Type 0
+IsRefused table label =
+    (d : Demand) × Contains table.definitions.demands d × (d.kind ≡ Never) × HasNoEnd d.pattern × Occurs (seen_under table label) d.pattern
+
+-- no piece that begins at a place up to which the label may be cut ends after the label
+abbrev pub LeadsNowhere : TableValue → List ℕ → Type 0
+LeadsNowhere table label = (place : ℕ) (points : List ℕ) (c : Option Condition) → MayReach table label place → IsPiece table points c → place + length points ≤ length label
+
+-- a lost label, of one code point or more: neither it nor any label that begins with it is valid
+pub record IsLost (table : TableValue) (label : List ℕ) : Type 0 where
+  pub some : 0 < length label
+  pub lost : IsRefused table label ⊎ LeadsNowhere table label
+
+-- the first n code points of the label are lost, and no fewer are
+pub record IsShortestLost (table : TableValue) (label : List ℕ) (n : ℕ) : Type 0 where
+  pub within : n ≤ length label
+  pub lost : IsLost table (take n label)
+  pub first : (k : ℕ) → k < n → ¬ IsLost table (take k label)
+
+-- no beginning of the label is lost, nor is the whole
+abbrev pub HasNoLostBeginning : TableValue → List ℕ → Type 0
+HasNoLostBeginning table label = (k : ℕ) → k ≤ length label → ¬ IsLost table (take k label)

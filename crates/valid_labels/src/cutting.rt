@@ -1,0 +1,70 @@
+//! Cutting a label: the places up to which it can be cut into sources and other sequences.
+ghost use Rattle.std.specs.Prelude.{◌≡◌, ◌↔◌, ◌+◌, ◌≤◌, ◌<◌, length, map, IsTrue};
+ghost use Rattle.std.specs.List.{AllByRecursion, slice_range};
+ghost use Rattle.label_patterns.specs.Matches.{Rounds};
+ghost use Rattle.label_patterns.specs.Places.{Has};
+ghost use Rattle.valid_labels.specs.inner.Steps.{SequenceIs, SourceIs, StepIs};
+
+use crate::asking::Asking;
+use label_patterns::{either, has, with_place_if};
+use variant_table::Table;
+
+/// The places up to which a label can be cut into sources of which what is asked is so, and into these sequences.
+pub fn reached<A: Asking>(table: &Table, sequences: &[Vec<u32>], label: &[u32], asking: &A) -> u64
+    requires short { length label.now ≤ 63 }
+    requires ready { A.can_ask asking.now (length label.now) }
+    requires filled { AllByRecursion (λ v. 0 < length v.items) sequences.now }
+    ensures { (j : _) → Has result j ↔ Rounds (StepIs (A.asks asking.now) table.now.entries (map (λ v. v.items) sequences.now) label.now) 0 j }
+{
+    // The length is read for its contract alone: no source is empty.
+    let _entries = table.len();
+    let mut found = 1;
+    for place in 0..label.len() {
+        if has(found, place) {
+            let ends = source_ends(table, label, place, asking);
+            let others = sequence_ends(sequences, label, place);
+            found = either(found, either(ends, others));
+        }
+    }
+    found
+}
+
+/// The places where the sources end that stand at a place, if what is asked of them is so.
+fn source_ends<A: Asking>(table: &Table, label: &[u32], place: usize, asking: &A) -> u64
+    requires short { length label.now ≤ 63 }
+    requires place { place ≤ length label.now }
+    requires ready { A.can_ask asking.now (length label.now) }
+    ensures { (j : _) → Has result j ↔ SourceIs (A.asks asking.now) table.now.entries label.now place j }
+{
+    let mut ends = 0;
+    for entry in table.entries_at(label, place) {
+        let end = place + entry.source().len();
+        ends = with_place_if(ends, end, asking.is_so(&entry, place, end));
+    }
+    ends
+}
+
+/// The places where those of the sequences end that stand at a place.
+fn sequence_ends(sequences: &[Vec<u32>], label: &[u32], place: usize) -> u64
+    requires short { length label.now ≤ 63 }
+    requires place { place ≤ length label.now }
+    ensures { (j : _) → Has result j ↔ SequenceIs (map (λ v. v.items) sequences.now) label.now place j }
+{
+    let mut ends = 0;
+    for sequence in sequences {
+        let points: &[u32] = sequence;
+        let stands = stands_at(points, label, place);
+        if stands {
+            ends = with_place_if(ends, place + points.len(), true);
+        }
+    }
+    ends
+}
+
+/// Whether a sequence stands at a place of a label.
+fn stands_at(points: &[u32], label: &[u32], place: usize) -> bool
+    requires { place ≤ length label.now }
+    ensures { IsTrue result ↔ ((place + length points.now ≤ length label.now) × (slice_range label.now place (place + length points.now) ≡ points.now)) }
+{
+    label[place..].starts_with(points)
+}
