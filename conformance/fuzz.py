@@ -49,12 +49,13 @@ PIECES = [b"a", b"b", b".", b"-", b"--", b"xn--", b"XN--", b"\0", b"\r", b"\r\n"
           b"\xf4\x90\x80\x80", b"\xc0\x80", "ß".encode(), "\u0301".encode(), "\U00010ffff".encode(), b"a" * 62, b"b" * 1000]
 WORDS = ["-l", "--lookup", "-r", "--register", "-d", "--decode", "-N", "--tr46nt", "--quiet", "--usestd3asciirules",
          "--explain",
-         "-h", "--help", "-V", "--version", "--variants", "--check-table", "--after", "--limit", "--tries", "--steps", "--",
+         "-h", "--help", "-V", "--version", "--variants", "--check-table", "--ruleset", "--check-ruleset", "--after", "--limit", "--tries", "--steps", "--",
          "--among", "--among=registered", "--among=absent", "--among=table", "--jump", "--jump=1", "registered",
          "-", "-rN", "-lr", "-hx", "-xh", "-r=1", "--register=1", "--bogus", "--after=", "--after=-a", "--limit=1",
          "--limit=0", "--tries=2", "--tries=0000000002", "--steps=1", "--steps=2", "--steps=0000000000000000003",
          "--steps=00000000000000000004", "--steps=1000000000000000000", "--steps=1000000000000000001", "--limit=00000000001", "--limit=+1", "--limit= 1", "table", "absent",
-         "", "a", "aß", "1", "2", "1000000000", "1000000001", "--variants=table", "--check-table=table", "a\nb"]
+         "", "a", "aß", "1", "2", "1000000000", "1000000001", "--variants=table", "--check-table=table",
+         "--ruleset=table", "--check-ruleset=table", "a\nb"]
 
 
 LIMITS = ("1", "2", "3", "7")
@@ -386,7 +387,7 @@ class Fuzz:
         return self.compare([check, "table"], b"", table=table)
 
     def words(self):
-        words = self.chance.choice(([], ["--variants", "table"]))
+        words = self.chance.choice(([], ["--variants", "table"], ["--ruleset", "table"]))
         words = words + self.chance.choices(WORDS, k=self.chance.randint(0, 6))
         table, _ = self.table("ab")
         registered = self.registered([self.sequence("ab") for _ in range(4)])
