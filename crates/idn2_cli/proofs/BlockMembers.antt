@@ -15,7 +15,7 @@ use Rattle.variant_table.specs.WellFormed.{IsWellFormed}
 use Rattle.variant_table.proofs.RisingLemmas.{gaps_of_are_gaps}
 use Rattle.variant_list.specs.Beginnings as beginnings
 use Rattle.variant_list.specs.Laws.{IsTested}
-use Rattle.variant_list.specs.Segmentations.{HasSegmentation}
+use Rattle.valid_labels.specs.Segmentations.{HasSegmentation}
 use Rattle.variant_list.specs.Labels.{IsListOf}
 use Rattle.variant_list.specs.Spelled.{spelled}
 use Rattle.variant_list.specs.Tested.{tested}

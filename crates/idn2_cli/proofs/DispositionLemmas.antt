@@ -11,14 +11,14 @@ use Rattle.variant_table.specs.WellFormed.{IsWellFormed}
 use Rattle.variant_table.proofs.UnblockedLemmas.{unblocked_none}
 use Rattle.variant_list.specs.Labels.{label_cmp}
 use Rattle.variant_list.specs.Positions.{Built}
-use Rattle.variant_list.specs.Segmentations.{HasSegmentation}
+use Rattle.valid_labels.specs.Segmentations.{HasSegmentation}
 use Rattle.variant_list.specs.Spelled.{part_spelled, spelled}
 use Rattle.variant_list.specs.declared.part.Part.TheVariants.{Unblocked}
 use Rattle.variant_list.specs.Laws.{without_blocked}
 use Rattle.variant_list.specs.Spelling.{PartSpells, Spells}
 use Rattle.variant_list.proofs.ListedLemmas.{variants-IsListed}
 use Rattle.variant_list.proofs.ListMembers.{Contains-head, Contains-later, Contains-none, Contains-cases}
-use Rattle.variant_list.proofs.PartLemmas.{PartSpells-Unblocked, Spells-of_part, has_source-Unblocked}
+use Rattle.variant_list.proofs.PartLemmas.{PartSpells-Unblocked, Spells-of_part}
 use Rattle.variant_list.proofs.SpelledByLemmas.{part_spelled-PartSpells, spelled-Spells}
 use Rattle.variant_list.proofs.SpellingLemmas.{PartSpells-itself}
 use Rattle.idn2_options.specs.Settings.{Settings}
@@ -81,7 +81,7 @@ spelled-told net v told h = ap (λ (b : Bool). Some (allocation b)) (same-test t
 
 -- a label may itself be allocated
 pub spells_itself : (table : TableValue) (label : List ℕ) → HasSegmentation table label → PartSpells Unblocked table label label
-spells_itself table label has = PartSpells-itself Unblocked has_source-Unblocked table has.0 label has.1
+spells_itself table label has = PartSpells-itself Unblocked (λ e. refl) table has.0 label has.1
 
 -- where no variant is blocked, all that is spelled may be
 all_unblocked : (table : TableValue) (label v : List ℕ) → unblocked table.entries ≡ table.entries → Spells table label v → PartSpells Unblocked table label v

@@ -8,7 +8,7 @@ use Rattle.variant_table.specs.Entries.{TableValue}
 use Rattle.variant_table.specs.WellFormed.{IsWellFormed}
 use Rattle.variant_list.specs.Labels.{IsListOf}
 use Rattle.variant_list.specs.Positions.{Built, Position}
-use Rattle.variant_list.specs.Segmentations.{HasSegmentation}
+use Rattle.valid_labels.specs.Segmentations.{HasSegmentation}
 use Rattle.variant_list.specs.Spelling.{Spells}
 use Rattle.variant_list.specs.Jumps.{IsFrom, IsLeastFrom, IsCandidate, candidates_from}
 use Rattle.variant_list.proofs.FromLemmas.{candidates_from-IsListOf}

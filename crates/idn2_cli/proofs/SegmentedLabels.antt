@@ -4,7 +4,7 @@ use Rattle.std.proofs.lemmas.Bool.Decides.{nat_tests}
 use Rattle.idn_text.specs.declared.refusal.Refusal.TheVariants.{NotInTable}
 use Rattle.variant_table.specs.Entries.{TableValue}
 use Rattle.variant_table.specs.WellFormed.{IsWellFormed}
-use Rattle.variant_list.specs.Segmentations.{HasSegmentation}
+use Rattle.valid_labels.specs.Segmentations.{HasSegmentation}
 use Rattle.variant_list.specs.Spelled.{spelled}
 use Rattle.variant_list.proofs.SpelledByLemmas.{spelled-Spells}
 use Rattle.variant_list.proofs.NetLemmas.{segmented, unsegmented}

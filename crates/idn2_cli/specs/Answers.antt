@@ -26,7 +26,7 @@ use Rattle.answer_json.specs.declared.block.Disposition.{Disposition}
 use Rattle.answer_json.specs.declared.block.Disposition.TheVariants.{Allocatable, Blocked}
 use Rattle.idn2_cli.specs.Said.{Said, LookedUp, Registered, Decoded, Listed, BlockEnd, Least}
 use Rattle.variant_list.specs.Labels.{label_cmp, IsBelow, IsListOf}
-use Rattle.variant_list.specs.Segmentations.{HasSegmentation}
+use Rattle.valid_labels.specs.Segmentations.{HasSegmentation}
 use Rattle.variant_list.specs.Spelling.{PartSpells, Spells}
 use Rattle.variant_list.specs.Tested.{tested_among}
 use Rattle.variant_list.specs.Variants.{candidates_among, variants_among}

@@ -183,14 +183,14 @@ fn labels_without_a_segmentation(rt: HostRuntime) -> Result<(), Fail> {
             return Err("not a label".into());
         }
         let fault = Net::build(rt.alloc(), &table, &points).err();
-        assert_eq!(&rt; fault, Some(NetFault::NotInTable), "{label}");
+        assert_eq!(&rt; fault, Some(NetFault::NothingSpelled), "{label}");
     }
     Ok(())
 }
 
 #[test]
 fn texts_of_faults(rt: HostRuntime) -> Result<(), Fail> {
-    let text = format!(in rt.alloc(); "{}, {}", NetFault::NotInTable, NetFault::Memory)?;
-    assert_eq!(&rt; text.as_str(), "not made of table entries, out of memory");
+    let text = format!(in rt.alloc(); "{}, {}", NetFault::NothingSpelled, NetFault::Memory)?;
+    assert_eq!(&rt; text.as_str(), "nothing spelled, out of memory");
     Ok(())
 }

@@ -109,7 +109,7 @@ fn no_net_of_a_label_outside_the_table(rt: HostRuntime) -> Result<(), Fail> {
     for part in [Part::Whole, Part::Unblocked] {
         for (table, label) in [(MARKED, "ab"), (OUTSIDE, "b"), (OUTSIDE, "abc")] {
             let fault = net_of(rt.alloc(), table, part, label)?.err();
-            assert_eq!(&rt; fault, Some(NetFault::NotInTable), "{label} under {part:?}");
+            assert_eq!(&rt; fault, Some(NetFault::NothingSpelled), "{label} under {part:?}");
         }
     }
     Ok(())

@@ -168,7 +168,7 @@ fn assert_case(
         Ok(net) => net,
         Err(fault) => {
             let told = (fault, labels.len());
-            assert_eq!(rt; told, (NetFault::NotInTable, 0), "{label:?}");
+            assert_eq!(rt; told, (NetFault::NothingSpelled, 0), "{label:?}");
             return Ok(0);
         }
     };

@@ -5,7 +5,7 @@ use Rattle.std.proofs.lemmas.List.{nil_from_length}
 use Rattle.variant_table.specs.Entries.{TableValue}
 use Rattle.variant_table.specs.WellFormed.{IsWellFormed}
 use Rattle.variant_list.specs.Furthest.{furthest_within, furthest, IsFurthest}
-use Rattle.variant_list.specs.Segmentations.{HasSegmentation}
+use Rattle.valid_labels.specs.Segmentations.{HasSegmentation}
 use Rattle.variant_list.specs.Spelled.{spelled}
 use Rattle.variant_list.proofs.SpelledByLemmas.{spelled-Spells}
 use Rattle.variant_list.proofs.NetLemmas.{segmented}
@@ -16,7 +16,7 @@ abbrev NoneBeyond : TableValue → List ℕ → ℕ → Type 0
 NoneBeyond table label place = (count : ℕ) → place < count → count ≤ length label → HasSegmentation table (take count label) → ⊥
 
 empty_reached : (table : TableValue) (label : List ℕ) → HasSegmentation table (take 0 label)
-empty_reached table label = ([], record { of_table = tt; inside = tt; joined = refl })
+empty_reached table label = ([], record { of_table = tt; inside = tt; joined = refl; held = tt })
 
 some_length : (n : ℕ) → (n == 0) ≡ false → 0 < n
 some_length zero h = let clash : true ≡ false = h in cc

@@ -1,72 +1,42 @@
--- The replacements that a part of a table has, and that its part that is not blocked spells what the table without its blocked
--- variants spells.
-use Rattle.std.proofs.Common.{◌≡◌, ◌<◌, ◌≤◌, ℕ, zero, suc, Bool, true, false, List, [], ◌∷◌, ◌++◌, length, Some, slice_get, refl, sym, ap, ◌∙◌, subst, inl, inr, ◌↔◌, map, arith}
-use Rattle.std.specs.Prelude.{not, ◌&&◌, filter, if◌then◌else◌}
+-- The replacements that a part of a table has, and what its parts spell.
+use Rattle.std.proofs.Common.{◌≡◌, ◌<◌, ◌+◌, ℕ, zero, suc, Bool, true, false, None, List, [], ◌∷◌, ◌++◌, length, Some, slice_get, refl, sym, ap, ◌∙◌, subst, inl, inr, ◌↔◌, map, arith}
+use Rattle.std.specs.Prelude.{not, ◌&&◌}
 use Rattle.std.specs.Option.{option_map}
 use Rattle.std.specs.List.{Contains, All, AllByRecursion, flat_map}
 use Rattle.std.proofs.lemmas.List.{length-map}
 use Rattle.std.proofs.lemmas.List.Elements.{All-contains}
 use Rattle.std.proofs.lemmas.Option.{slice_get-map}
-use Rattle.variant_table.specs.Entries.{Entry, TableValue, Variant, replacements, marks, whole, sequences_in, unblocked, unblocked_entry}
+use Rattle.label_patterns.specs.Patterns.{Pattern}
+use Rattle.label_patterns.specs.Matches.{Seen}
+use Rattle.label_patterns.specs.Conditions.{ConditionHolds}
+use Rattle.variant_table.specs.Entries.{Entry, TableValue, Variant, replacements, marks, whole, itself, sequences_in, unblocked, unblocked_entry}
+use Rattle.valid_labels.specs.Segmentations.{AllHold, IsSegmentation, seen_under}
 use Rattle.variant_list.specs.declared.part.Part.{Part}
 use Rattle.variant_list.specs.declared.part.Part.TheVariants.{Whole, Unblocked, Tagged}
 use Rattle.variant_list.specs.Laws.{without_blocked}
-use Rattle.variant_list.specs.Spelling.{JoinsReplacements, PartSpells, Spells}
-use Rattle.variant_list.specs.Parts.{marked, are_of, part_has, replacements_in, HasNoTags}
-use Rattle.variant_list.proofs.ListMembers.{Contains-head, Contains-later, Contains-none, Contains-cases, Contains-map}
+use Rattle.variant_list.specs.Spelling.{Replaces, JoinsReplacements, PartSpells, Spells}
+use Rattle.variant_list.specs.Parts.{marked, are_of, part_has, HasNoTags}
+use Rattle.variant_list.proofs.ListMembers.{Contains-head, Contains-later, Contains-cases, Contains-map, Contains-filter}
 
--- ---- the whole table
+-- what replaces the source of an entry is one of its replacements
+pub Replaces-of_entry : (part : Part) (table : TableValue) (label : List ℕ) (place : ℕ) (e : Entry) (r : List ℕ) → Replaces part table label place e r → Contains (replacements e) r
+Replaces-of_entry part table label place e r is = (Contains-map (λ (v : Variant). v.sequence) (marked e) r).1 (is.replacement, is.of_entry, is.is)
 
-all_kept : (vs : List Variant) → filter (part_has Whole) vs ≡ vs
-all_kept [] = refl
-all_kept (v ∷ vs) = ap (λ ws. v ∷ ws) (all_kept vs)
+-- ---- a part that has all that another has
 
-pub replacements_in-Whole : (e : Entry) → replacements_in Whole e ≡ replacements e
-replacements_in-Whole e = ap sequences_in (all_kept (marked e))
+module _ (part more : Part) (table : TableValue) (each : (e : Entry) → Contains table.entries e → (v : Variant) → Contains (marked e) v → part_has part v ≡ true → part_has more v ≡ true) where
+  joins-more : (label : List ℕ) (place : ℕ) (segmentation : List Entry) (v : List ℕ) → AllByRecursion (Contains table.entries) segmentation → JoinsReplacements part table label place segmentation v
+      → JoinsReplacements more table label place segmentation v
+  joins-more label place [] v of h = h
+  joins-more label place (e ∷ segmentation) v of h =
+      let r = h.2 in
+      (h.0, h.1, record { replacement = r.replacement; of_entry = r.of_entry; of_part = each e of.0 r.replacement r.of_entry r.of_part; held = r.held; is = r.is }, joins-more label (place + length e.source) segmentation h.1 of.1 h.3, h.4)
 
--- the whole table has each source, and so has its part that is not blocked
-pub has_source-Whole : (e : Entry) → Contains (replacements_in Whole e) e.source
-has_source-Whole e = Contains-head e.source (sequences_in (filter (part_has Whole) e.variants))
-
-pub has_source-Unblocked : (e : Entry) → Contains (replacements_in Unblocked e) e.source
-has_source-Unblocked e = Contains-head e.source (sequences_in (filter (part_has Unblocked) e.variants))
-
--- ---- a part has no more
-
-kept-of_list : (part : Part) (vs : List Variant) (r : List ℕ) → Contains (sequences_in (filter (part_has part) vs)) r → Contains (sequences_in vs) r
-kept-of_list part [] r m = absurd (Contains-none r m)
-kept-of_list part (v ∷ vs) r m = by_test (part_has part v) m (kept-of_list part vs r)
-  where
-    by_test : (t : Bool) → Contains (sequences_in (if t then v ∷ filter (part_has part) vs else filter (part_has part) vs)) r
-        → (Contains (sequences_in (filter (part_has part) vs)) r → Contains (sequences_in vs) r) → Contains (v.sequence ∷ sequences_in vs) r
-    by_test true m go = elim (Contains-cases v.sequence (sequences_in (filter (part_has part) vs)) r m) [
-      | inl e ↦ subst (Contains (v.sequence ∷ sequences_in vs)) e (Contains-head v.sequence (sequences_in vs))
-      | inr later ↦ Contains-later v.sequence (sequences_in vs) r (go later)
-    ]
-    by_test false m go = Contains-later v.sequence (sequences_in vs) r (go m)
-
-pub replacement-of_part : (part : Part) (e : Entry) (r : List ℕ) → Contains (replacements_in part e) r → Contains (replacements e) r
-replacement-of_part part e r m = kept-of_list part (marked e) r m
-
-kept-few : (part : Part) (vs : List Variant) → length (filter (part_has part) vs) ≤ length vs
-kept-few part [] = omega arith
-kept-few part (v ∷ vs) = by_test (part_has part v) (kept-few part vs)
-  where
-    by_test : (t : Bool) → length (filter (part_has part) vs) ≤ length vs → length (if t then v ∷ filter (part_has part) vs else filter (part_has part) vs) ≤ suc (length vs)
-    by_test true few = omega (arith, few)
-    by_test false few = omega (arith, few)
-
-pub replacements_in-few : (part : Part) (e : Entry) → length (replacements_in part e) ≤ length (replacements e)
-replacements_in-few part e =
-    omega (arith, length-map (filter (part_has part) (marked e)) (λ (v : Variant). v.sequence), kept-few part (marked e), length-map (marked e) (λ (v : Variant). v.sequence))
-
-joins-of_part : (part : Part) (segmentation : List Entry) (v : List ℕ) → JoinsReplacements part segmentation v → JoinsReplacements Whole segmentation v
-joins-of_part part [] v h = h
-joins-of_part part (e ∷ segmentation) v h =
-    (h.0, h.1, subst (λ rs. Contains rs h.0) (sym (replacements_in-Whole e)) (replacement-of_part part e h.0 h.2), joins-of_part part segmentation h.1 h.3, h.4)
+  PartSpells-more : (label v : List ℕ) → PartSpells part table label v → PartSpells more table label v
+  PartSpells-more label v s = (s.0, s.1, joins-more label 0 s.0 v s.1.of_table s.2)
 
 pub Spells-of_part : (part : Part) (table : TableValue) (label v : List ℕ) → PartSpells part table label v → Spells table label v
-Spells-of_part part table label v s = (s.0, s.1, joins-of_part part s.0 v s.2)
+Spells-of_part part table = PartSpells-more part Whole table (λ e in_table v m has. refl)
 
 -- ---- the table without its blocked variants
 
@@ -82,39 +52,96 @@ unblocked_inside : (segmentation : List Entry) → AllByRecursion (λ (e : Entry
 unblocked_inside [] h = tt
 unblocked_inside (e ∷ segmentation) h = (h.0, unblocked_inside segmentation h.1)
 
-unblocked_joins : (segmentation : List Entry) (v : List ℕ) → JoinsReplacements Unblocked segmentation v → JoinsReplacements Whole (unblocked segmentation) v
-unblocked_joins [] v h = h
-unblocked_joins (e ∷ segmentation) v h =
-    (h.0, h.1, subst (λ rs. Contains rs h.0) (sym (replacements_in-Whole (unblocked_entry e))) h.2, unblocked_joins segmentation h.1 h.3, h.4)
+unblocked_held : (rules : List Pattern) (seen : Seen) (place : ℕ) (segmentation : List Entry) → AllHold rules seen place segmentation → AllHold rules seen place (unblocked segmentation)
+unblocked_held rules seen place [] h = tt
+unblocked_held rules seen place (e ∷ segmentation) h = (h.0, unblocked_held rules seen (place + length e.source) segmentation h.1)
+
+-- what is not blocked of an entry is what the entry without its blocked variants has
+marked-unblocked : (e : Entry) (v : Variant) → (Contains (marked e) v × (not v.blocked ≡ true)) ↔ Contains (marked (unblocked_entry e)) v
+marked-unblocked e v = (
+  λ g. elim (Contains-cases (itself e) e.variants v g.0) [
+    | inl same ↦ subst (Contains (marked (unblocked_entry e))) same (Contains-head (itself e) (unblocked_entry e).variants)
+    | inr later ↦ Contains-later (itself e) (unblocked_entry e).variants v ((Contains-filter (λ (w : Variant). not w.blocked) e.variants v).1 (later, g.1))
+  ],
+  λ m. elim (Contains-cases (itself e) (unblocked_entry e).variants v m) [
+    | inl same ↦ (subst (Contains (marked e)) same (Contains-head (itself e) e.variants), ap (λ (w : Variant). not w.blocked) (sym same))
+    | inr later ↦ (let g = (Contains-filter (λ (w : Variant). not w.blocked) e.variants v).0 later in (Contains-later (itself e) e.variants v g.0, g.1))
+  ],
+)
+
+unblocked_joins : (table : TableValue) (label : List ℕ) (place : ℕ) (segmentation : List Entry) (v : List ℕ) → JoinsReplacements Unblocked table label place segmentation v
+    → JoinsReplacements Whole (without_blocked table) label place (unblocked segmentation) v
+unblocked_joins table label place [] v h = h
+unblocked_joins table label place (e ∷ segmentation) v h =
+    let r = h.2 in (
+      h.0,
+      h.1,
+      record { replacement = r.replacement; of_entry = (marked-unblocked e r.replacement).0 (r.of_entry, r.of_part); of_part = refl; held = r.held; is = r.is },
+      unblocked_joins table label (place + length e.source) segmentation h.1 h.3,
+      h.4,
+    )
 
 -- entries of the table without its blocked variants come from entries of the table
-pub record IsFrom (entries segmentation : List Entry) (v : List ℕ) : Type 0 where
+pub record IsFrom (table : TableValue) (label : List ℕ) (place : ℕ) (segmentation : List Entry) (v : List ℕ) : Type 0 where
   pub given : List Entry
-  pub of_table : AllByRecursion (Contains entries) given
+  pub of_table : AllByRecursion (Contains table.entries) given
   pub inside : AllByRecursion (λ (e : Entry). e.outside ≡ false) given
   pub sources : flat_map (λ (e : Entry). e.source) given ≡ flat_map (λ (e : Entry). e.source) segmentation
-  pub joins : JoinsReplacements Unblocked given v
+  pub held : AllHold table.definitions.rules (seen_under table label) place given
+  pub joins : JoinsReplacements Unblocked table label place given v
 
-from_unblocked : (entries segmentation : List Entry) (v : List ℕ) → AllByRecursion (Contains (unblocked entries)) segmentation → AllByRecursion (λ (e : Entry). e.outside ≡ false) segmentation
-    → JoinsReplacements Whole segmentation v → IsFrom entries segmentation v
-from_unblocked entries [] v of inside joins = record { given = []; of_table = tt; inside = tt; sources = refl; joins = joins }
-from_unblocked entries (e ∷ segmentation) v of inside joins =
-    let g = (Contains-map unblocked_entry entries e).0 of.0 in
-    let same : unblocked_entry g.0 ≡ e = sym g.2 in
-    let rest = from_unblocked entries segmentation joins.1 of.1 inside.1 joins.3 in
-    let replaces : Contains (replacements e) joins.0 = replacement-of_part Whole e joins.0 joins.2 in
-    record {
-      given = g.0 ∷ rest.given;
-      of_table = (g.1, rest.of_table);
-      inside = (ap (λ (x : Entry). x.outside) same ∙ inside.0, rest.inside);
-      sources = ap (λ (x : Entry). x.source ++ flat_map (λ (y : Entry). y.source) rest.given) same ∙ ap (λ xs. e.source ++ xs) rest.sources;
-      joins = (joins.0, joins.1, subst (λ (x : Entry). Contains (replacements x) joins.0) g.2 replaces, rest.joins, joins.4);
-    }
+from_unblocked : (table : TableValue) (label : List ℕ) (place : ℕ) (segmentation : List Entry) (v : List ℕ) → AllByRecursion (Contains (unblocked table.entries)) segmentation
+    → AllByRecursion (λ (e : Entry). e.outside ≡ false) segmentation → AllHold table.definitions.rules (seen_under table label) place segmentation
+    → JoinsReplacements Whole (without_blocked table) label place segmentation v → IsFrom table label place segmentation v
+from_unblocked table label place [] v of inside held joins = record { given = []; of_table = tt; inside = tt; sources = refl; held = tt; joins = joins }
+from_unblocked table label place (e ∷ segmentation) v of inside held joins =
+    let g = (Contains-map unblocked_entry table.entries e).0 of.0 in
+    one (from_unblocked table label (place + length e.source) segmentation joins.1 of.1 inside.1 held.1 joins.3) g.0 g.1 g.2
+  where
+    one : IsFrom table label (place + length e.source) segmentation joins.1 → (f : Entry) → Contains table.entries f → e ≡ unblocked_entry f → IsFrom table label place (e ∷ segmentation) v
+    one rest f in_table same =
+        let source : f.source ≡ e.source = ap (λ (x : Entry). x.source) (sym same) in
+        let r = joins.2 in
+        let of_entry = (marked-unblocked f r.replacement).1 (subst (λ (x : Entry). Contains (marked x) r.replacement) same r.of_entry) in
+        let next : place + length e.source ≡ place + length f.source = ap (λ s. place + length s) (sym source) in
+        record {
+          given = f ∷ rest.given;
+          of_table = (in_table, rest.of_table);
+          inside = (ap (λ (x : Entry). x.outside) (sym same) ∙ inside.0, rest.inside);
+          sources = ap (λ s. s ++ flat_map (λ (y : Entry). y.source) rest.given) source ∙ ap (λ xs. e.source ++ xs) rest.sources;
+          held = (
+            subst (λ (x : Entry). ConditionHolds table.definitions.rules (seen_under table label) x.condition place (place + length x.source)) same held.0,
+            subst (λ n. AllHold table.definitions.rules (seen_under table label) n rest.given) next rest.held,
+          );
+          joins = (
+            joins.0,
+            joins.1,
+            record {
+              replacement = r.replacement;
+              of_entry = of_entry.0;
+              of_part = of_entry.1;
+              held = subst (λ s. ConditionHolds table.definitions.rules (seen_under table label) r.replacement.condition place (place + length s)) (sym source) r.held;
+              is = r.is;
+            },
+            subst (λ n. JoinsReplacements Unblocked table label n rest.given joins.1) next rest.joins,
+            joins.4,
+          );
+        }
 
 pub PartSpells-Unblocked : (table : TableValue) (label v : List ℕ) → PartSpells Unblocked table label v ↔ Spells (without_blocked table) label v
 PartSpells-Unblocked table label v = (
-  λ s. (unblocked s.0, record { of_table = unblocked_of_table table.entries s.0 s.1.of_table; inside = unblocked_inside s.0 s.1.inside; joined = unblocked_sources s.0 ∙ s.1.joined }, unblocked_joins s.0 v s.2),
-  λ s. (let f = from_unblocked table.entries s.0 v s.1.of_table s.1.inside s.2 in (f.given, record { of_table = f.of_table; inside = f.inside; joined = f.sources ∙ s.1.joined }, f.joins)),
+  λ s. (
+    unblocked s.0,
+    record {
+      of_table = unblocked_of_table table.entries s.0 s.1.of_table;
+      inside = unblocked_inside s.0 s.1.inside;
+      joined = unblocked_sources s.0 ∙ s.1.joined;
+      held = unblocked_held table.definitions.rules (seen_under table label) 0 s.0 s.1.held;
+    },
+    unblocked_joins table label 0 s.0 v s.2,
+  ),
+  λ s. (let f = from_unblocked table label 0 s.0 v s.1.of_table s.1.inside s.1.held s.2 in
+      (f.given, record { of_table = f.of_table; inside = f.inside; joined = f.sources ∙ s.1.joined; held = f.held }, f.joins)),
 )
 
 -- ---- which replacements a part has, by their numbers
@@ -161,34 +188,6 @@ lacks-Tagged tag e i at =
     slice_get-map (part_has (Tagged tag)) (marked e) i ∙ ap (option_map (part_has (Tagged tag))) m.1 ∙ ap (λ t. Some (not t && are_of tag (m.0).tags)) m.2
 
 -- ---- the sub-table of a tag
-
--- a part that has all that another has
-replacement-of_more : (part more : Part) (vs : List Variant) → ((v : Variant) → Contains vs v → part_has part v ≡ true → part_has more v ≡ true) → (r : List ℕ)
-    → Contains (sequences_in (filter (part_has part) vs)) r → Contains (sequences_in (filter (part_has more) vs)) r
-replacement-of_more part more [] each r m = m
-replacement-of_more part more (v ∷ vs) each r m =
-    by_test (part_has part v) (part_has more v) (each v (Contains-head v vs)) m (replacement-of_more part more vs (λ w h. each w (Contains-later v vs w h)) r)
-  where
-    by_test : (t u : Bool) → (t ≡ true → u ≡ true) → Contains (sequences_in (if t then v ∷ filter (part_has part) vs else filter (part_has part) vs)) r
-        → (Contains (sequences_in (filter (part_has part) vs)) r → Contains (sequences_in (filter (part_has more) vs)) r)
-        → Contains (sequences_in (if u then v ∷ filter (part_has more) vs else filter (part_has more) vs)) r
-    by_test true true stays m go = elim (Contains-cases v.sequence (sequences_in (filter (part_has part) vs)) r m) [
-      | inl e ↦ subst (Contains (v.sequence ∷ sequences_in (filter (part_has more) vs))) e (Contains-head v.sequence (sequences_in (filter (part_has more) vs)))
-      | inr later ↦ Contains-later v.sequence (sequences_in (filter (part_has more) vs)) r (go later)
-    ]
-    by_test true false stays m go = absurd (let clash : false ≡ true = stays refl in cc)
-    by_test false true stays m go = Contains-later v.sequence (sequences_in (filter (part_has more) vs)) r (go m)
-    by_test false false stays m go = go m
-
-joins-of_more : (part more : Part) (entries : List Entry) → ((e : Entry) → Contains entries e → (v : Variant) → Contains (marked e) v → part_has part v ≡ true → part_has more v ≡ true)
-    → (segmentation : List Entry) (v : List ℕ) → AllByRecursion (Contains entries) segmentation → JoinsReplacements part segmentation v → JoinsReplacements more segmentation v
-joins-of_more part more entries each [] v of h = h
-joins-of_more part more entries each (e ∷ segmentation) v of h =
-    (h.0, h.1, replacement-of_more part more (marked e) (each e of.0) h.0 h.2, joins-of_more part more entries each segmentation h.1 of.1 h.3, h.4)
-
-PartSpells-more : (part more : Part) (table : TableValue) → ((e : Entry) → Contains table.entries e → (v : Variant) → Contains (marked e) v → part_has part v ≡ true → part_has more v ≡ true)
-    → (label v : List ℕ) → PartSpells part table label v → PartSpells more table label v
-PartSpells-more part more table each label v s = (s.0, s.1, joins-of_more part more table.entries each s.0 v s.1.of_table s.2)
 
 pub PartSpells-Tagged : (tag : ℕ) (table : TableValue) (label v : List ℕ) → PartSpells (Tagged tag) table label v → PartSpells Unblocked table label v
 PartSpells-Tagged tag table = PartSpells-more (Tagged tag) Unblocked table (λ e h v m has. and-left (not v.blocked) (are_of tag v.tags) has)

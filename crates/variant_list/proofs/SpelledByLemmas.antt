@@ -1,27 +1,25 @@
 -- The list that computes has exactly what uses spell, and that of a label what the label spells.
 use Rattle.std.proofs.Common.{◌≡◌, ℕ, zero, suc, ◌+◌, ◌-◌, ◌≤◌, ◌<◌, List, [], ◌∷◌, ◌++◌, length, drop, map, get_or, refl, sym, ap, ◌∙◌, subst, ◌↔◌, arith, length-append}
-use Rattle.std.specs.Prelude.{slice_index_or}
+use Rattle.std.specs.Prelude.{slice_index_or, filter}
 use Rattle.std.specs.List.{Contains, flat_map, sum_by}
 use Rattle.std.proofs.lemmas.List.{length-drop, length-map}
 use Rattle.std.proofs.lemmas.List.Sums.{sum_by-le, sum_by-cons}
 use Rattle.std.proofs.lemmas.List.Elements.{All-contains, Contains-get_or}
-use Rattle.variant_table.specs.Entries.{Entry, TableValue, Variant, replacements}
+use Rattle.variant_table.specs.Entries.{Entry, TableValue, Variant, replacements, sequences_in}
 use Rattle.variant_table.specs.Places.{AreEntriesAt, entries_at}
 use Rattle.variant_table.specs.WellFormed.{IsSequence, IsEntry, IsWellFormed}
 use Rattle.variant_table.proofs.BeginningLemmas.{entries_are_at}
 use Rattle.variant_list.specs.declared.part.Part.{Part}
 use Rattle.variant_list.specs.declared.part.Part.TheVariants.{Whole}
-use Rattle.variant_list.specs.Parts.{replacements_in}
+use Rattle.variant_list.specs.Parts.{marked}
 use Rattle.variant_list.specs.Spelled.{part_spelled, spelled}
 use Rattle.variant_list.specs.Spelling.{PartSpells, Spells}
-use Rattle.variant_list.specs.Segmentations.{inside_of}
 use Rattle.variant_list.specs.inner.LabelSets.{SomeGives}
 use Rattle.variant_list.specs.inner.Layouts.{UseSpells}
-use Rattle.variant_list.specs.Uses.{Use, IsUse, AreUses, UsesSpell, spelled_from_each, spelled_by, use_of, uses_of_entry, uses_at, uses_from, uses_of}
-use Rattle.variant_list.proofs.ListMembers.{Contains-head, Contains-one, Contains-map, Contains-flat_map}
+use Rattle.variant_list.specs.Uses.{Use, IsUse, AreUses, UsesSpell, spelled_from_each, spelled_by, use_of, may_stand, may_replace, uses_of_entry, uses_at, uses_from, uses_of}
+use Rattle.variant_list.proofs.ListMembers.{Contains-head, Contains-one, Contains-map, Contains-filter, Contains-flat_map, filter-few}
 use Rattle.variant_list.proofs.UsesLemmas.{nothing_spelled, UsesSpell-here, UsesSpell-label, IsUseOf-fits, uses_at-IsUseOf, length-uses_from}
-use Rattle.variant_list.proofs.InsideLemmas.{Contains-inside, inside-few}
-use Rattle.variant_list.proofs.PartLemmas.{replacement-of_part, replacements_in-few}
+use Rattle.variant_list.proofs.PartLemmas.{Replaces-of_entry}
 
 -- from a later place on
 spelled_from-each : (uses : List (List Use)) (k : ℕ) → k ≤ length uses → slice_index_or (spelled_from_each uses) k [] ≡ spelled_by (drop k uses)
@@ -72,11 +70,11 @@ length-of_flat_map f h each (x ∷ xs) =
 module _ (part : Part) (table : TableValue) (label : List ℕ) (formed : IsWellFormed table.entries) where
   is_use : (place n : ℕ) (u : Use) → place + suc n ≡ length label → Contains (uses_at part table label place) u → IsUse (length (uses_from part table label (suc place) n) + 1) u
   is_use place n u whole m =
-      let is = (uses_at-IsUseOf part table label place u).0 m in
+      let is = (uses_at-IsUseOf part table label formed place u).0 m in
       let here = ((entries_are_at table.entries label place formed).members is.entry).0 is.at in
       let fit = IsUseOf-fits part table label formed place u is in
       let each : IsEntry is.entry = All-contains IsEntry table.entries is.entry formed.entries here.0 in
-      let one : IsSequence u.points = All-contains IsSequence (replacements is.entry) u.points each.sequences (replacement-of_part part is.entry u.points is.replaces) in
+      let one : IsSequence u.points = All-contains IsSequence (replacements is.entry) u.points each.sequences (Replaces-of_entry part table label place is.entry u.points is.replaces) in
       record {
         some = fit.0;
         within = omega (arith, fit.1, whole, length-uses_from part table label n (suc place));
@@ -87,14 +85,21 @@ module _ (part : Part) (table : TableValue) (label : List ℕ) (formed : IsWellF
   few_uses : (place : ℕ) → length (uses_at part table label place) ≤ 136
   few_uses place =
       let all : List Entry = entries_at table.entries label place in
-      let here : List Entry = inside_of all in
+      let here : List Entry = filter (may_stand table label place) all in
       let at : AreEntriesAt table.entries label place all = entries_are_at table.entries label place formed in
-      let of_entry : (e : Entry) → IsEntry e → length (uses_of_entry part e) ≤ 17 = λ (e : Entry) is.
-      omega (arith, length-map (replacements_in part e) (use_of e), replacements_in-few part e, length-map e.variants (λ (v : Variant). v.sequence), is.few) in
-      let each : (k : ℕ) (d : Entry) → k < length here → length (uses_of_entry part (get_or here k d)) ≤ 17 = λ (k : ℕ) (d : Entry) l.
+      let of_entry : (e : Entry) → IsEntry e → length (uses_of_entry part table label place e) ≤ 17 = λ (e : Entry) is.
+      (let kept : List Variant = filter (may_replace part table label place e) (marked e) in
+      omega (arith, length-map (sequences_in kept) (use_of e), length-map kept (λ (v : Variant). v.sequence), filter-few (may_replace part table label place e) (marked e), is.few)) in
+      let each : (k : ℕ) (d : Entry) → k < length here → length (uses_of_entry part table label place (get_or here k d)) ≤ 17 = λ (k : ℕ) (d : Entry) l.
       (let e : Entry = get_or here k d in
-      of_entry e (All-contains IsEntry table.entries e formed.entries ((at.members e).0 ((Contains-inside all e).0 (Contains-get_or here k d l)).0).0)) in
-      omega (arith, sum_by-le (λ (e : Entry). length (uses_of_entry part e)) 17 here each, length-of_flat_map (uses_of_entry part) (λ (e : Entry). length (uses_of_entry part e)) (λ (e : Entry). refl) here, inside-few all, at.few)
+      of_entry e (All-contains IsEntry table.entries e formed.entries ((at.members e).0 ((Contains-filter (may_stand table label place) all e).0 (Contains-get_or here k d l)).0).0)) in
+      omega (
+        arith,
+        sum_by-le (λ (e : Entry). length (uses_of_entry part table label place e)) 17 here each,
+        length-of_flat_map (uses_of_entry part table label place) (λ (e : Entry). length (uses_of_entry part table label place e)) (λ (e : Entry). refl) here,
+        filter-few (may_stand table label place) all,
+        at.few,
+      )
 
   AreUses-from : (place n : ℕ) → place + n ≡ length label → AreUses (uses_from part table label place n)
   AreUses-from place zero whole = tt

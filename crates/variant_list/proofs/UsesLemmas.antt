@@ -1,22 +1,24 @@
 -- What uses spell, and that the uses of a label under a part of a table spell what its segmentations spell.
-use Rattle.std.proofs.Common.{◌≡◌, ℕ, false, zero, suc, ◌+◌, ◌-◌, ◌≤◌, List, [], ◌∷◌, ◌++◌, length, drop, refl, sym, ap, ◌∙◌, subst, inl, inr, ◌↔◌, arith, length-append}
+use Rattle.std.proofs.Common.{◌≡◌, ℕ, true, false, zero, suc, ◌+◌, ◌-◌, ◌≤◌, List, [], ◌∷◌, ◌++◌, length, drop, refl, sym, ap, ◌∙◌, subst, inl, inr, ◌↔◌, arith, length-append}
+use Rattle.std.specs.Prelude.{not, filter}
 use Rattle.std.specs.List.{Contains}
 use Rattle.std.proofs.lemmas.List.{length-drop}
-use Rattle.variant_table.specs.Entries.{Entry, TableValue}
+use Rattle.label_patterns.specs.Conditions.{ConditionHolds}
+use Rattle.variant_table.specs.Entries.{Entry, TableValue, Variant, sequences_in}
 use Rattle.variant_table.specs.Places.{entries_at}
 use Rattle.variant_table.specs.WellFormed.{IsWellFormed}
 use Rattle.variant_table.proofs.BeginningLemmas.{entries_are_at}
-use Rattle.variant_list.specs.Segmentations.{inside_of}
+use Rattle.valid_labels.specs.Segmentations.{seen_under}
 use Rattle.variant_list.specs.declared.part.Part.{Part}
-use Rattle.variant_list.specs.Parts.{replacements_in}
-use Rattle.variant_list.specs.Spelling.{PartSpells}
+use Rattle.variant_list.specs.Parts.{marked, part_has}
+use Rattle.variant_list.specs.Spelling.{Replaces, PartSpells}
 use Rattle.variant_list.specs.inner.LabelSets.{SomeGives}
 use Rattle.variant_list.specs.inner.Layouts.{UseSpells}
 use Rattle.variant_list.specs.inner.Places.{SpellsFrom}
-use Rattle.variant_list.specs.Uses.{Use, IsCut, points_of, UsesSpell, use_of, uses_of_entry, uses_at, uses_from, uses_of}
-use Rattle.variant_list.proofs.ListMembers.{Contains-map, Contains-flat_map}
-use Rattle.variant_list.proofs.InsideLemmas.{Contains-inside}
-use Rattle.variant_list.proofs.SpellingLemmas.{FirstPiece, SpellsFrom-end, SpellsFrom-piece, SpellsFrom-cases, SpellsFrom-nothing, source_is_sequence}
+use Rattle.variant_list.specs.Uses.{Use, IsCut, points_of, UsesSpell, use_of, holds_for, may_stand, may_replace, uses_of_entry, uses_at, uses_from, uses_of}
+use Rattle.variant_list.proofs.ListMembers.{Contains-map, Contains-filter, Contains-flat_map}
+use Rattle.variant_list.proofs.HeldLemmas.{held_by, both-true, true-both, not-true}
+use Rattle.variant_list.proofs.SpellingLemmas.{FirstPiece, PartSpells-first, SpellsFrom-end, SpellsFrom-piece, SpellsFrom-cases, SpellsFrom-nothing, source_is_sequence}
 
 -- where the label has no place, only the empty label is spelled
 pub nothing_spelled : (cut : List Use) (v : List ℕ) → IsCut [] cut → points_of cut ≡ v → [] ≡ v
@@ -53,24 +55,9 @@ pub record IsUseOf (part : Part) (table : TableValue) (label : List ℕ) (place 
   pub entry : Entry
   pub at : Contains (entries_at table.entries label place) entry
   pub inside : entry.outside ≡ false
-  pub replaces : Contains (replacements_in part entry) u.points
+  pub held : ConditionHolds table.definitions.rules (seen_under table label) entry.condition place (place + length entry.source)
+  pub replaces : Replaces part table label place entry u.points
   pub covers : u.covers ≡ length entry.source
-
-pub uses_at-IsUseOf : (part : Part) (table : TableValue) (label : List ℕ) (place : ℕ) (u : Use) → Contains (uses_at part table label place) u ↔ IsUseOf part table label place u
-uses_at-IsUseOf part table label place u =
-    let here : List Entry = entries_at table.entries label place in (
-      λ c. let g = (Contains-flat_map (uses_of_entry part) (inside_of here) u).0 c in
-          let e : Entry = g.0 in
-          let stands = (Contains-inside here e).0 g.1 in
-          let h = (Contains-map (use_of e) (replacements_in part e) u).0 g.2 in
-          record { entry = e; at = stands.0; inside = stands.1; replaces = subst (Contains (replacements_in part e)) (sym (ap (λ (x : Use). x.points) h.2)) h.1; covers = ap (λ (x : Use). x.covers) h.2 },
-      λ i. let e : Entry = i.entry in
-          let same : u ≡ use_of e u.points = ap (λ n. use_with n u.points) i.covers in
-          (Contains-flat_map (uses_of_entry part) (inside_of here) u).1 (e, (Contains-inside here e).1 (i.at, i.inside), (Contains-map (use_of e) (replacements_in part e) u).1 (u.points, i.replaces, same)),
-    )
-  where
-    use_with : ℕ → List ℕ → Use
-    use_with n r = record { covers = n; points = r }
 
 -- the uses from a later place on
 pub drop-uses_from : (part : Part) (table : TableValue) (label : List ℕ) (k n place : ℕ) → k ≤ n → drop k (uses_from part table label place n) ≡ uses_from part table label (place + k) (n - k)
@@ -89,15 +76,66 @@ pub length-uses_from : (part : Part) (table : TableValue) (label : List ℕ) (n 
 length-uses_from part table label zero place = refl
 length-uses_from part table label (suc n) place = ap suc (length-uses_from part table label n (suc place))
 
+-- the place of a source in a label
+pub IsWithin-at : (table : TableValue) (label : List ℕ) (place : ℕ) (e : Entry) → IsWellFormed table.entries → Contains (entries_at table.entries label place) e
+    → (1 ≤ length e.source) × (place + length e.source ≤ length label)
+IsWithin-at table label place e formed at =
+    let here = ((entries_are_at table.entries label place formed).members e).0 at in
+    let some = source_is_sequence table.entries e formed.entries here.0 in (
+      omega (arith, some),
+      omega (arith, some, ap length here.1.1, length-append e.source here.1.0, length-drop place label),
+    )
+
 module _ (part : Part) (table : TableValue) (label : List ℕ) (formed : IsWellFormed table.entries) where
+  -- what may replace the source of an entry at a place
+  Contains-of_entry : (place : ℕ) (e : Entry) (u : Use) → place + length e.source ≤ length label
+      → Contains (uses_of_entry part table label place e) u ↔ (Replaces part table label place e u.points × (u.covers ≡ length e.source))
+  Contains-of_entry place e u within = (
+    λ c. (let g = (Contains-map (use_of e) (sequences_in kept) u).0 c in
+        let h = (Contains-map (λ (v : Variant). v.sequence) kept g.0).0 g.1 in
+        let v : Variant = h.0 in
+        let m = (Contains-filter (may_replace part table label place e) (marked e) v).0 h.1 in
+        let t = both-true (part_has part v) (holds_for table label place e v.condition) m.1 in (
+          record { replacement = v; of_entry = m.0; of_part = t.0; held = (held_by table label place e v.condition within).0 t.1; is = ap (λ (x : Use). x.points) g.2 ∙ h.2 },
+          ap (λ (x : Use). x.covers) g.2,
+        )),
+    λ g. (let r = g.0 in
+        let v : Variant = r.replacement in
+        let has : may_replace part table label place e v ≡ true = true-both (part_has part v) (holds_for table label place e v.condition) r.of_part ((held_by table label place e v.condition within).1 r.held) in
+        let m : Contains kept v = (Contains-filter (may_replace part table label place e) (marked e) v).1 (r.of_entry, has) in
+        let n : Contains (sequences_in kept) u.points = (Contains-map (λ (x : Variant). x.sequence) kept u.points).1 (v, m, r.is) in
+        (Contains-map (use_of e) (sequences_in kept) u).1 (u.points, n, ap (λ k. use_with k u.points) g.1)),
+  )
+    where
+      kept : List Variant
+      kept = filter (may_replace part table label place e) (marked e)
+
+      use_with : ℕ → List ℕ → Use
+      use_with n r = record { covers = n; points = r }
+
+  pub uses_at-IsUseOf : (place : ℕ) (u : Use) → Contains (uses_at part table label place) u ↔ IsUseOf part table label place u
+  uses_at-IsUseOf place u =
+      let here : List Entry = entries_at table.entries label place in
+      let standing : List Entry = filter (may_stand table label place) here in (
+        λ c. (let g = (Contains-flat_map (uses_of_entry part table label place) standing u).0 c in
+            let e : Entry = g.0 in
+            let m = (Contains-filter (may_stand table label place) here e).0 g.1 in
+            let within = IsWithin-at table label place e formed m.0 in
+            let t = both-true (not e.outside) (holds_for table label place e e.condition) m.1 in
+            let h = (Contains-of_entry place e u within.1).0 g.2 in
+            record { entry = e; at = m.0; inside = not-true e.outside t.0; held = (held_by table label place e e.condition within.1).0 t.1; replaces = h.0; covers = h.1 }),
+        λ i. (let e : Entry = i.entry in
+            let within = IsWithin-at table label place e formed i.at in
+            let stands : may_stand table label place e ≡ true = true-both (not e.outside) (holds_for table label place e e.condition) (ap not i.inside) ((held_by table label place e e.condition within.1).1 i.held) in
+            (Contains-flat_map (uses_of_entry part table label place) standing u).1
+            (e, (Contains-filter (may_stand table label place) here e).1 (i.at, stands), (Contains-of_entry place e u within.1).1 (i.replaces, i.covers))),
+      )
+
   -- a use of the table ends within the label
   pub IsUseOf-fits : (place : ℕ) (u : Use) → IsUseOf part table label place u → (1 ≤ u.covers) × (place + u.covers ≤ length label)
   IsUseOf-fits place u is =
-      let here = ((entries_are_at table.entries label place formed).members is.entry).0 is.at in
-      let some = source_is_sequence table.entries is.entry formed.entries here.0 in (
-        omega (arith, some, is.covers),
-        omega (arith, some, is.covers, ap length here.1.1, length-append is.entry.source here.1.0, length-drop place label),
-      )
+      let within = IsWithin-at table label place is.entry formed is.at in
+      (omega (arith, within.0, is.covers), omega (arith, within.1, is.covers))
 
   from_within : (bound place n : ℕ) (v : List ℕ) → n ≤ bound → place + n ≡ length label → UsesSpell (uses_from part table label place n) v ↔ SpellsFrom part table label place v
   from_within bound place zero v few whole =
@@ -111,7 +149,7 @@ module _ (part : Part) (table : TableValue) (label : List ℕ) (formed : IsWellF
       let later : List (List Use) = uses_from part table label (suc place) n in
       let count : length later ≡ n = length-uses_from part table label n (suc place) in
       let fits : (u : Use) → Contains here u → (1 ≤ u.covers) × (u.covers ≤ length later + 1) = λ (u : Use) m.
-      (let fit = IsUseOf-fits place u ((uses_at-IsUseOf part table label place u).0 m) in (fit.0, omega (arith, fit.1, whole, count))) in
+      (let fit = IsUseOf-fits place u ((uses_at-IsUseOf place u).0 m) in (fit.0, omega (arith, fit.1, whole, count))) in
       let first = UsesSpell-here here later fits v in
       let rest : (u : Use) (w : List ℕ) → Contains here u → UsesSpell (drop (u.covers - 1) later) w ↔ SpellsFrom part table label (place + u.covers) w = λ (u : Use) (w : List ℕ) m.
       (let fit = fits u m in
@@ -124,10 +162,10 @@ module _ (part : Part) (table : TableValue) (label : List ℕ) (formed : IsWellF
         λ s. (let g : SomeGives (UseSpells later) here v = first.1 s in
             let u : Use = g.0 in
             let w : List ℕ = g.2.0 in
-            let is = (uses_at-IsUseOf part table label place u).0 g.1 in
+            let is = (uses_at-IsUseOf place u).0 g.1 in
             let stands = ((entries_are_at table.entries label place formed).members is.entry).0 is.at in
             let goes_on : SpellsFrom part table label (place + length is.entry.source) w = subst (λ k. SpellsFrom part table label (place + k) w) is.covers ((rest u w g.1).0 g.2.2) in
-            subst (SpellsFrom part table label place) (sym g.2.1) (SpellsFrom-piece part table label place is.entry u.points w stands.0 is.inside stands.1 is.replaces goes_on)),
+            subst (SpellsFrom part table label place) (sym g.2.1) (SpellsFrom-piece part table label place is.entry u.points w stands.0 is.inside is.held stands.1 is.replaces goes_on)),
         λ s. elim (SpellsFrom-cases part table label place v s) [
           | inl none ↦ absurd (omega (arith, whole, ap length none.0, length-drop place label))
           | inr p ↦ first.0 (taken_up p (rest (use_of p.entry p.replacement) p.rest))
@@ -140,7 +178,7 @@ module _ (part : Part) (table : TableValue) (label : List ℕ) (formed : IsWellF
       taken_up p rest =
           let u : Use = use_of p.entry p.replacement in
           let there : Contains (entries_at table.entries label place) p.entry = ((entries_are_at table.entries label place formed).members p.entry).1 (p.in_table, p.begins) in
-          let m : Contains (uses_at part table label place) u = (uses_at-IsUseOf part table label place u).1 (record { entry = p.entry; at = there; inside = p.inside; replaces = p.replaces; covers = refl }) in
+          let m : Contains (uses_at part table label place) u = (uses_at-IsUseOf place u).1 (record { entry = p.entry; at = there; inside = p.inside; held = p.held; replaces = p.replaces; covers = refl }) in
           (u, m, (p.rest, p.joined, (rest m).1 p.goes_on))
 
   -- from each place on, the uses spell what the label spells
@@ -148,4 +186,7 @@ module _ (part : Part) (table : TableValue) (label : List ℕ) (formed : IsWellF
   UsesSpell-from place n v whole = from_within n place n v (omega arith) whole
 
   pub UsesSpell-label : (v : List ℕ) → UsesSpell (uses_of part table label) v ↔ PartSpells part table label v
-  UsesSpell-label v = UsesSpell-from 0 (length label) v (omega arith)
+  UsesSpell-label v =
+      let first = UsesSpell-from 0 (length label) v (omega arith) in
+      let whole = PartSpells-first part table label v in
+      (λ s. whole.0 (first.0 s), λ s. first.1 (whole.1 s))

@@ -1,14 +1,14 @@
 -- The parts of a table: a part has some of the replacements of its entries, and all of their sources.
-use Rattle.std.specs.Prelude.{ℕ, Bool, true, false, not, ◌&&◌, ◌||◌, ◌==◌, ◌≡◌, None, List, [], ◌∷◌, length, filter, All}
+use Rattle.std.specs.Prelude.{ℕ, Bool, true, not, ◌&&◌, ◌||◌, ◌==◌, ◌≡◌, List, [], ◌∷◌, length, All}
 use Rattle.std.specs.List.{list_any}
-use Rattle.variant_table.specs.Entries.{Entry, TableValue, Variant, sequences_in}
+use Rattle.variant_table.specs.Entries.{Entry, TableValue, Variant, itself}
 use Rattle.variant_list.specs.declared.part.Part.{Part}
 use Rattle.variant_list.specs.declared.part.Part.TheVariants.{Whole, Unblocked, Tagged}
 
--- the replacements of an entry: the source, which as a replacement of itself is never blocked and has no condition, then its variants
--- in their order
+-- the replacements of an entry with their marks, tags and conditions: the source, as a replacement of itself, then its variants in their
+-- order
 abbrev pub marked : Entry → List Variant
-marked e = record { sequence = e.source; blocked = false; tags = e.tags; condition = None } ∷ e.variants
+marked e = itself e ∷ e.variants
 
 -- what has these tags is in the sub-table of the tag of this number: the tag is among them, or there are none
 abbrev pub are_of : ℕ → List ℕ → Bool
@@ -19,10 +19,6 @@ abbrev pub part_has : Part → Variant → Bool
 part_has Whole r = true
 part_has Unblocked r = not r.blocked
 part_has (Tagged tag) r = not r.blocked && are_of tag r.tags
-
--- what may stand in the place of the source: those of its replacements that the part has
-abbrev pub replacements_in : Part → Entry → List (List ℕ)
-replacements_in part e = sequences_in (filter (part_has part) (marked e))
 
 -- neither a source nor a variant of the table has tags
 abbrev pub HasNoTags : TableValue → Type 0

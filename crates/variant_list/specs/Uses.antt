@@ -1,11 +1,13 @@
 -- The uses of a label: what may stand in the place of which of its code points. The net of a label is laid out from them.
-use Rattle.std.specs.Prelude.{◌≡◌, ℕ, zero, suc, ◌+◌, ◌-◌, ◌≤◌, List, [], ◌∷◌, ◌++◌, length, drop, map, sum_by, slice_index_or, Contains, All}
+use Rattle.std.specs.Prelude.{◌≡◌, ℕ, zero, suc, ◌+◌, ◌-◌, ◌≤◌, Bool, not, ◌&&◌, Option, List, [], ◌∷◌, ◌++◌, length, drop, map, filter, sum_by, slice_index_or, Contains, All}
 use Rattle.std.specs.List.{flat_map}
-use Rattle.variant_table.specs.Entries.{Entry, TableValue}
+use Rattle.label_patterns.specs.declared.condition.Condition.{Condition}
+use Rattle.label_patterns.specs.Tests.{condition_holds}
+use Rattle.variant_table.specs.Entries.{Entry, TableValue, Variant, sequences_in}
 use Rattle.variant_table.specs.Places.{entries_at}
+use Rattle.valid_labels.specs.Segmentations.{seen_under}
 use Rattle.variant_list.specs.declared.part.Part.{Part}
-use Rattle.variant_list.specs.Parts.{replacements_in}
-use Rattle.variant_list.specs.Segmentations.{inside_of}
+use Rattle.variant_list.specs.Parts.{marked, part_has}
 
 -- these code points may stand in the place of so many code points of a label
 pub record Use : Type 0 where
@@ -70,12 +72,26 @@ use_places uses = length uses + 1 + use_edges uses - use_count uses
 abbrev pub use_of : Entry → List ℕ → Use
 use_of e r = record { covers = length e.source; points = r }
 
-abbrev pub uses_of_entry : Part → Entry → List Use
-uses_of_entry part e = map (use_of e) (replacements_in part e)
+-- whether a condition holds in the label for the source of the entry, from the place on
+abbrev pub holds_for : TableValue → List ℕ → ℕ → Entry → Option Condition → Bool
+holds_for table label place e condition =
+    condition_holds table.definitions.rules (seen_under table label) condition place (place + length e.source)
 
--- those at a place of the label: of the entries there that are not outside
+-- whether the entry may be in a segmentation of the label, with its source at the place
+abbrev pub may_stand : TableValue → List ℕ → ℕ → Entry → Bool
+may_stand table label place e = not e.outside && holds_for table label place e e.condition
+
+-- whether the replacement may then be put in the place of the source
+abbrev pub may_replace : Part → TableValue → List ℕ → ℕ → Entry → Variant → Bool
+may_replace part table label place e r = part_has part r && holds_for table label place e r.condition
+
+abbrev pub uses_of_entry : Part → TableValue → List ℕ → ℕ → Entry → List Use
+uses_of_entry part table label place e = map (use_of e) (sequences_in (filter (may_replace part table label place e) (marked e)))
+
+-- those at a place of the label
 abbrev pub uses_at : Part → TableValue → List ℕ → ℕ → List Use
-uses_at part table label place = flat_map (uses_of_entry part) (inside_of (entries_at table.entries label place))
+uses_at part table label place =
+    flat_map (uses_of_entry part table label place) (filter (may_stand table label place) (entries_at table.entries label place))
 
 -- those at so many places, from this one on
 abbrev pub uses_from : Part → TableValue → List ℕ → ℕ → ℕ → List (List Use)

@@ -2,7 +2,7 @@
 ghost use Rattle.std.specs.Prelude.{◌≡◌, ◌≤◌, ◌↔◌, length, IsTrue, IfOk};
 ghost use Rattle.variant_table.specs.WellFormed.{IsWellFormed};
 ghost use Rattle.variant_list.specs.Furthest.{furthest};
-ghost use Rattle.variant_list.specs.Segmentations.{HasSegmentation};
+ghost use Rattle.valid_labels.specs.Segmentations.{HasSegmentation};
 
 use crate::net::{Net, NetFault};
 use std::alloc::{AllocError, Global};
@@ -36,7 +36,7 @@ fn is_segmented(alloc: Global, table: &Table, label: &[u32]) -> Result<bool, All
 {
     match Net::build(alloc, table, label) {
         Ok(_) => Ok(true),
-        Err(NetFault::NotInTable) => Ok(false),
+        Err(NetFault::NothingSpelled) => Ok(false),
         Err(NetFault::Memory) => Err(AllocError),
     }
 }

@@ -1,7 +1,7 @@
 //! The dispositions of variants: which may be allocated, and which are blocked (RFC 7940 section 7.3).
 
 ghost use Rattle.std.specs.Prelude.{◌≡◌, ◌≤◌, length, IfOk, Some};
-ghost use Rattle.variant_list.specs.Segmentations.{HasSegmentation};
+ghost use Rattle.valid_labels.specs.Segmentations.{HasSegmentation};
 ghost use Rattle.idn2_cli.specs.Answers.{allocation};
 ghost use Rattle.idn2_cli.specs.inner.Dispositions.{AreOfTable, AreOfLabel, field_by};
 
@@ -57,7 +57,7 @@ impl Dispositions<Part> {
                 Ok(net) => Ok(Dispositions::BySpelling(SpellingTest::new(alloc, net)?)),
                 Err(NetFault::Memory) => Err(AllocError),
                 // No source is blocked, so the label spells itself.
-                Err(NetFault::NotInTable) => unreachable!(),
+                Err(NetFault::NothingSpelled) => unreachable!(),
             },
         }
     }

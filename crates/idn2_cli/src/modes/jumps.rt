@@ -83,7 +83,7 @@ fn answer_least<W: Sink, E: Sink>(
     let (label, text) = parts_of(points);
     match Net::build(alloc, table, label) {
         Ok(net) => answered(write_least(alloc, asked, &net, text, console)),
-        Err(NetFault::NotInTable) => Served::Refused(Refusal::NotInTable),
+        Err(NetFault::NothingSpelled) => Served::Refused(Refusal::NotInTable),
         Err(NetFault::Memory) => Served::Stopped(Stop::Memory),
     }
 }

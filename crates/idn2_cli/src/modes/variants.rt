@@ -135,7 +135,7 @@ fn list<W: Sink, E: Sink>(
             }
             Err(_) => Served::Stopped(Stop::Memory),
         },
-        Err(NetFault::NotInTable) => Served::Refused(Refusal::NotInTable),
+        Err(NetFault::NothingSpelled) => Served::Refused(Refusal::NotInTable),
         Err(NetFault::Memory) => Served::Stopped(Stop::Memory),
     }
 }

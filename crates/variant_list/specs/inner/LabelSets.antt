@@ -1,10 +1,14 @@
 -- What sets of labels hold, and what a step of the plain lister adds to them.
-use Rattle.std.specs.Prelude.{◌≡◌, ℕ, false, ◌-◌, ◌<◌, ◌⊎◌, ◌↔◌, List, ◌++◌, length, Contains, slice_index_or, Vec}
+use Rattle.std.specs.Prelude.{◌≡◌, ℕ, false, ◌+◌, ◌-◌, ◌<◌, ◌⊎◌, ◌↔◌, List, ◌++◌, length, Contains, slice_index_or, Option, Vec}
 use Rattle.std.specs.declared.alloc.Global.{Global}
 use Rattle.std.specs.BTreeSet.{BTreeSet}
-use Rattle.variant_table.specs.Entries.{Entry, TableValue, replacements}
+use Rattle.label_patterns.specs.declared.condition.Condition.{Condition}
+use Rattle.label_patterns.specs.Conditions.{ConditionHolds}
+use Rattle.variant_table.specs.Entries.{Entry, TableValue, Variant}
+use Rattle.valid_labels.specs.Segmentations.{seen_under}
 use Rattle.variant_list.specs.Labels.{IsRising}
 use Rattle.variant_list.specs.declared.part.Part.TheVariants.{Whole}
+use Rattle.variant_list.specs.Parts.{marked}
 use Rattle.variant_list.specs.inner.Places.{SpellsFrom}
 use Rattle.variant_list.specs.LabelSet.{labels_of}
 
@@ -30,6 +34,16 @@ SomeGives {X} gives xs q = (x : X) × Contains xs x × gives x q
 abbrev pub JoinsEnding : List (List ℕ) → List ℕ → List ℕ → Type 0
 JoinsEnding endings beginning = SomeGives (λ ending q. q ≡ beginning ++ ending) endings
 
--- q is a replacement of the entry, which is not outside, and then one of the endings
-abbrev pub EntryGives : List (List ℕ) → Entry → List ℕ → Type 0
-EntryGives endings e q = (e.outside ≡ false) × SomeGives (JoinsEnding endings) (replacements e) q
+-- the condition holds in the label for the source of e, which stands there from the place on
+abbrev pub HoldsFor : TableValue → List ℕ → ℕ → Entry → Option Condition → Type 0
+HoldsFor table label place e condition =
+    ConditionHolds table.definitions.rules (seen_under table label) condition place (place + length e.source)
+
+-- q is this replacement of the entry, whose condition holds, and then one of the endings
+abbrev pub ReplacementGives : TableValue → List ℕ → ℕ → Entry → List (List ℕ) → Variant → List ℕ → Type 0
+ReplacementGives table label place e endings r q = HoldsFor table label place e r.condition × JoinsEnding endings r.sequence q
+
+-- q is a replacement of the entry, which is not outside and may stand there, and then one of the endings
+abbrev pub EntryGives : TableValue → List ℕ → ℕ → List (List ℕ) → Entry → List ℕ → Type 0
+EntryGives table label place endings e q =
+    (e.outside ≡ false) × HoldsFor table label place e e.condition × SomeGives (ReplacementGives table label place e endings) (marked e) q

@@ -1,5 +1,6 @@
+use Rattle.std.proofs.Common.{refl}
 use Rattle.variant_list.specs.declared.part.Part.TheVariants.{Unblocked}
-use Rattle.variant_list.proofs.PartLemmas.{PartSpells-Unblocked, PartSpells-Tagged, PartSpells-untagged, Spells-of_part, has_source-Unblocked}
+use Rattle.variant_list.proofs.PartLemmas.{PartSpells-Unblocked, PartSpells-Tagged, PartSpells-untagged, Spells-of_part}
 use Rattle.variant_list.proofs.SpellingLemmas.{PartSpells-itself}
 use Rattle.variant_list.proofs.laws.parts_agree.Goals as goal
 
@@ -7,7 +8,7 @@ pub returns : goal.returns
 returns c = record {
   unblocked = PartSpells-Unblocked;
   within = Spells-of_part;
-  itself = λ table label has. PartSpells-itself Unblocked has_source-Unblocked table has.0 label has.1;
+  itself = λ table label has. PartSpells-itself Unblocked (λ e. refl) table has.0 label has.1;
   tagged = PartSpells-Tagged;
   untagged = PartSpells-untagged;
 }

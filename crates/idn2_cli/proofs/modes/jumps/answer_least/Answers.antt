@@ -37,11 +37,11 @@ returns-in-Ok-clause-begun g c = λ memory. c.write_least.ensures.begun (answere
 pub returns-in-Err-Memory-clause-written : goal.returns-in-Err-Memory-clause-written
 returns-in-Err-Memory-clause-written g c = stops_first _ _
 
-pub returns-in-Err-NotInTable-clause-written : goal.returns-in-Err-NotInTable-clause-written
-returns-in-Err-NotInTable-clause-written g c =
-    rw (← c.parts_of.ensures.label, ← c.parts_of.ensures.text, unsegmented_answer c.args.table.now c.parts_of.result.0.now _ c.requires.table (c.in-Err-NotInTable.ensures.not_in_table c.in-Err-NotInTable.field-0-is))
+pub returns-in-Err-NothingSpelled-clause-written : goal.returns-in-Err-NothingSpelled-clause-written
+returns-in-Err-NothingSpelled-clause-written g c =
+    rw (← c.parts_of.ensures.label, ← c.parts_of.ensures.text, unsegmented_answer c.args.table.now c.parts_of.result.0.now _ c.requires.table (c.in-Err-NothingSpelled.ensures.nothing_spelled c.in-Err-NothingSpelled.field-0-is))
     (writes_nothing _)
 
-pub returns-in-Err-NotInTable-clause-refused : goal.returns-in-Err-NotInTable-clause-refused
-returns-in-Err-NotInTable-clause-refused g c =
-    rw (← c.parts_of.ensures.label, ← c.parts_of.ensures.text, unsegmented_answer c.args.table.now c.parts_of.result.0.now _ c.requires.table (c.in-Err-NotInTable.ensures.not_in_table c.in-Err-NotInTable.field-0-is)) refl
+pub returns-in-Err-NothingSpelled-clause-refused : goal.returns-in-Err-NothingSpelled-clause-refused
+returns-in-Err-NothingSpelled-clause-refused g c =
+    rw (← c.parts_of.ensures.label, ← c.parts_of.ensures.text, unsegmented_answer c.args.table.now c.parts_of.result.0.now _ c.requires.table (c.in-Err-NothingSpelled.ensures.nothing_spelled c.in-Err-NothingSpelled.field-0-is)) refl

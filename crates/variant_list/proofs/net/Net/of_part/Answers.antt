@@ -12,8 +12,8 @@ use Rattle.variant_list.proofs.SpellingLemmas.{PartSpells-scalar}
 use Rattle.variant_list.proofs.UsesLemmas.{UsesSpell-label, length-uses_from}
 use Rattle.variant_list.proofs.net.Net.of_part.Goals as goal
 
-pub returns-then-is_none-clause-not_in_table : goal.returns-then-is_none-clause-not_in_table
-returns-then-is_none-clause-not_in_table c e v s =
+pub returns-then-is_none-clause-nothing_spelled : goal.returns-then-is_none-clause-nothing_spelled
+returns-then-is_none-clause-nothing_spelled c e v s =
     let part : Part = c.args.part in
     let table : TableValue = c.args.table.now in
     let label : List ℕ = c.args.label.now in

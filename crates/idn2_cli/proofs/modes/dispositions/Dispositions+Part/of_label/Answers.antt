@@ -24,5 +24,5 @@ unreachable-requires c =
     let table : TableValue = c.args.table.now in
     let label : List ℕ = c.args.label.now in
     let is = subst (AreOfTable table) c.in-BySpelling.is c.requires.table in
-    c.in-Err-NotInTable.ensures.not_in_table c.in-Err-NotInTable.field-0-is label
+    c.in-Err-NothingSpelled.ensures.nothing_spelled c.in-Err-NothingSpelled.field-0-is label
     (subst (λ (part : Part). PartSpells part table label label) (sym is.1) (spells_itself table label c.requires.cut))

@@ -1,0 +1,108 @@
+-- Where conditions hold, as tests tell it.
+use Rattle.std.proofs.Common.{◌≡◌, ℕ, zero, suc, ◌+◌, ◌<◌, ◌≤◌, Bool, true, false, ◌&&◌, List, [], ◌∷◌, length, get_or, map, Option, None, Some, slice_get, refl, sym, ap, ◌∙◌, inl, inr, ◌↔◌, arith}
+use Rattle.std.specs.Prelude.{not, filter, if◌then◌else◌}
+use Rattle.std.specs.List.{Contains, All}
+use Rattle.std.specs.Option.{option_map}
+use Rattle.std.proofs.lemmas.List.{length-map}
+use Rattle.std.proofs.lemmas.List.Elements.{All-contains}
+use Rattle.std.proofs.lemmas.Option.{slice_get-map, slice_get-get_or}
+use Rattle.label_patterns.specs.declared.condition.Condition.{Condition}
+use Rattle.label_patterns.specs.Conditions.{ConditionHolds}
+use Rattle.label_patterns.proofs.TestLemmas.{condition-agrees}
+use Rattle.variant_table.specs.Entries.{Entry, TableValue, Variant, itself, source_of, whole, replacements, sequences_in}
+use Rattle.valid_labels.specs.Segmentations.{seen_under}
+use Rattle.variant_list.specs.declared.part.Part.{Part}
+use Rattle.variant_list.specs.declared.part.Part.TheVariants.{Whole}
+use Rattle.variant_list.specs.Parts.{marked, part_has}
+use Rattle.variant_list.specs.Uses.{use_of, holds_for, may_replace, uses_of_entry}
+use Rattle.variant_list.proofs.ListMembers.{Contains-head, Contains-later, Contains-cases}
+use Rattle.variant_list.proofs.PartLemmas.{mapped-at, mapped-same}
+
+pub both-true : (x y : Bool) → (x && y) ≡ true → (x ≡ true) × (y ≡ true)
+both-true true y e = (refl, e)
+both-true false y e = absurd (let clash : false ≡ true = e in cc)
+
+pub true-both : (x y : Bool) → x ≡ true → y ≡ true → (x && y) ≡ true
+true-both true y e f = f
+true-both false y e f = e
+
+pub not-true : (x : Bool) → not x ≡ true → x ≡ false
+not-true true e = absurd (let clash : false ≡ true = e in cc)
+not-true false e = refl
+
+pub held_by : (table : TableValue) (label : List ℕ) (place : ℕ) (e : Entry) (condition : Option Condition) → place + length e.source ≤ length label
+    → (holds_for table label place e condition ≡ true) ↔ ConditionHolds table.definitions.rules (seen_under table label) condition place (place + length e.source)
+held_by table label place e condition within =
+    condition-agrees table.definitions.rules (seen_under table label) condition place (place + length e.source) (omega (arith, within)) within
+
+-- ---- tests of the sequences of an entry, by their numbers
+
+-- two tests of one fact
+pub same_by : {P : Type 0} (a b : Bool) → (a ≡ true) ↔ P → (b ≡ true) ↔ P → a ≡ b
+same_by true b h g = sym (g.1 (h.0 refl))
+same_by false true h g = h.1 (g.0 refl)
+same_by false false h g = refl
+
+pub at-of : {X Y Z : Type 0} (f : X → Y) (g : Y → Z) (xs : List X) (i : ℕ) (y : Y) → slice_get (map f xs) i ≡ Some y → slice_get (map (λ x. g (f x)) xs) i ≡ Some (g y)
+at-of f g xs i y at =
+    let m = mapped-at f xs i y at in
+    slice_get-map (λ x. g (f x)) xs i ∙ ap (option_map (λ x. g (f x))) m.1 ∙ ap (λ z. Some (g z)) m.2
+
+-- where no sequence has a condition, each holds
+pub held-free : (table : TableValue) (label : List ℕ) (place : ℕ) (e : Entry) (i : ℕ) → All (λ (r : Variant). r.condition ≡ None) (whole e) → i < length (replacements e)
+    → slice_get (map (λ (r : Variant). holds_for table label place e r.condition) (whole e)) i ≡ Some true
+held-free table label place e i free inside =
+    let count : length (whole e) ≡ length (replacements e) = sym (length-map (whole e) (λ (r : Variant). r.sequence)) in
+    let at : slice_get (whole e) i ≡ Some (get_or (whole e) i (source_of e)) = slice_get-get_or (whole e) i (source_of e) (omega (arith, count, inside)) in
+    let none : (get_or (whole e) i (source_of e)).condition ≡ None = free i (source_of e) (omega (arith, count, inside)) in
+    slice_get-map (λ (r : Variant). holds_for table label place e r.condition) (whole e) i ∙ ap (option_map (λ (r : Variant). holds_for table label place e r.condition)) at ∙ ap (λ c. Some (holds_for table label place e c)) none
+
+-- the condition of a source is not asked of it as a replacement of itself, and that of a variant is
+pub held-marked : (table : TableValue) (label : List ℕ) (place : ℕ) (e : Entry) (i : ℕ) (held : Bool) → 0 < i → slice_get (map (λ (r : Variant). holds_for table label place e r.condition) (whole e)) i ≡ Some held
+    → slice_get (map (λ (r : Variant). holds_for table label place e r.condition) (marked e)) i ≡ Some held
+held-marked table label place e zero held l at = absurd (omega (arith, l))
+held-marked table label place e (suc i) held l at = at
+
+pub replace-held : (part : Part) (table : TableValue) (label : List ℕ) (place : ℕ) (e : Entry) (i : ℕ) (has held : Bool) → slice_get (map (part_has part) (marked e)) i ≡ Some has
+    → slice_get (map (λ (r : Variant). holds_for table label place e r.condition) (marked e)) i ≡ Some held → slice_get (map (may_replace part table label place e) (marked e)) i ≡ Some (has && held)
+replace-held part table label place e i has held at also =
+    let m = mapped-at (part_has part) (marked e) i has at in
+    let same = mapped-same (λ (r : Variant). holds_for table label place e r.condition) (marked e) i m.0 held m.1 also in
+    slice_get-map (may_replace part table label place e) (marked e) i ∙ ap (option_map (may_replace part table label place e)) m.1
+    ∙ ap (λ t. Some (t && holds_for table label place e (m.0).condition)) m.2 ∙ ap (λ t. Some (has && t)) same
+
+-- the source as a replacement of itself is asked nothing more
+pub replace-first : (part : Part) (table : TableValue) (label : List ℕ) (place : ℕ) (e : Entry) (i : ℕ) → slice_get (map (part_has part) (marked e)) i ≡ Some true → i ≡ 0
+    → slice_get (map (may_replace part table label place e) (marked e)) i ≡ Some true
+replace-first part table label place e zero at first = at-first (part_has part (itself e)) at
+  where
+    at-first : (b : Bool) → Some b ≡ Some true → Some (b && true) ≡ Some true
+    at-first true same = refl
+    at-first false same = same
+replace-first part table label place e (suc i) at first = absurd (omega (arith, first))
+
+-- what the part lacks is not asked about
+pub replace-lacking : (part : Part) (table : TableValue) (label : List ℕ) (place : ℕ) (e : Entry) (i : ℕ) → slice_get (map (part_has part) (marked e)) i ≡ Some false
+    → slice_get (map (may_replace part table label place e) (marked e)) i ≡ Some false
+replace-lacking part table label place e i at =
+    let m = mapped-at (part_has part) (marked e) i false at in
+    slice_get-map (may_replace part table label place e) (marked e) i ∙ ap (option_map (may_replace part table label place e)) m.1
+    ∙ ap (λ t. Some (t && holds_for table label place e (m.0).condition)) m.2
+
+-- in a whole table without conditions each replacement is taken
+all_pass : (p : Variant → Bool) (vs : List Variant) → ((v : Variant) → Contains vs v → p v ≡ true) → filter p vs ≡ vs
+all_pass p [] pass = refl
+all_pass p (v ∷ vs) pass = filter-first p v vs (pass v (Contains-head v vs)) ∙ ap (λ ws. v ∷ ws) (all_pass p vs (λ w m. pass w (Contains-later v vs w m)))
+  where
+    filter-first : (q : Variant → Bool) (w : Variant) (ws : List Variant) → q w ≡ true → filter q (w ∷ ws) ≡ w ∷ filter q ws
+    filter-first q w ws e = ap (λ (t : Bool). if t then w ∷ filter q ws else filter q ws) e
+
+pub uses-free : (table : TableValue) (label : List ℕ) (place : ℕ) (e : Entry) → All (λ (r : Variant). r.condition ≡ None) (whole e) → uses_of_entry Whole table label place e ≡ map (use_of e) (replacements e)
+uses-free table label place e free =
+    ap (λ vs. map (use_of e) (sequences_in vs)) (all_pass (may_replace Whole table label place e) (marked e) pass)
+  where
+    pass : (v : Variant) → Contains (marked e) v → may_replace Whole table label place e v ≡ true
+    pass v m = elim (Contains-cases (itself e) e.variants v m) [
+      | inl same ↦ ap (λ (w : Variant). holds_for table label place e w.condition) (sym same)
+      | inr later ↦ ap (holds_for table label place e) (All-contains (λ (r : Variant). r.condition ≡ None) (whole e) v free (Contains-later (source_of e) e.variants v later))
+    ]

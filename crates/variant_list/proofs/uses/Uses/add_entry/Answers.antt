@@ -1,0 +1,65 @@
+use Rattle.std.proofs.Common.{◌≡◌, ℕ, ◌<◌, ◌+◌, List, [], ◌∷◌, true, false, length, get_or, refl, sym, ap, subst, ◌∙◌, arith}
+use Rattle.std.specs.Prelude.{slice_get, Option, Some, None, map, not, All, OnOk}
+use Rattle.std.specs.Option.{is_some}
+use Rattle.std.proofs.lemmas.Option.{slice_get-get_or}
+use Rattle.std.proofs.lemmas.List.Elements.{All-contains}
+use Rattle.variant_table.specs.Entries.{Entry, TableValue, Variant, replacements, whole}
+use Rattle.variant_table.specs.WellFormed.{IsSequence}
+use Rattle.variant_list.specs.declared.part.Part.{Part}
+use Rattle.variant_list.specs.inner.Asking.{CanAsk}
+use Rattle.variant_list.specs.inner.Layouts.{Draft, HasTaken}
+use Rattle.variant_list.specs.Parts.{marked}
+use Rattle.variant_list.specs.Uses.{Use, may_replace, uses_of_entry}
+use Rattle.variant_list.proofs.PlanLemmas.{Contains-at}
+use Rattle.variant_list.proofs.DraftLemmas.{HasTaken-none}
+use Rattle.variant_list.proofs.HeldLemmas.{uses-free}
+use Rattle.variant_list.proofs.TakenUses.{uses_upto, HasTaken-next}
+use Rattle.variant_list.proofs.uses.Uses.add_entry.Goals.{then-may_replace+in_ok-add_use, else-may_replace, in-Whole, in_default}
+use Rattle.variant_list.proofs.uses.Uses.add_entry.Goals as goal
+
+pub returns-then-matches : goal.returns-then-matches
+returns-then-matches c =
+    let table : TableValue = c.args.self.now.table.now in
+    let label : List ℕ = c.args.self.now.label.now in
+    let place : ℕ = c.args.place in
+    let e : Entry = c.args.entry.now in
+    let unseen : c.args.self.now.seen ≡ None = none_of c.args.self.now.seen (c.is_none.ensures ∙ ap not c.if-is_none.true) in
+    let free : All (λ (x : Entry). All (λ (r : Variant). r.condition ≡ None) (whole x)) table.entries = subst (CanAsk table label) unseen c.requires.asked in
+    let same = uses-free table label place e (All-contains (λ (x : Entry). All (λ (r : Variant). r.condition ≡ None) (whole x)) table.entries e free c.requires.in_table) in
+    elim c.match-matches.branch [
+      | in-Whole w ↦
+          subst (λ (part : Part). OnOk c.add_all.result (HasTaken c.args.draft.now (uses_of_entry part table label place e) c.add_all.new.draft)) (sym w.in-Whole.is)
+          (subst (λ us. OnOk c.add_all.result (HasTaken c.args.draft.now us c.add_all.new.draft)) (sym same) c.add_all.ensures)
+      | in_default w ↦ absurd (let clash : false ≡ true = sym w.matches-is ∙ c.if-matches.true in cc)
+    ]
+  where
+    none_of : {X : Type 0} (o : Option X) → is_some o ≡ false → o ≡ None
+    none_of None is = refl
+    none_of (Some x) is = absurd (let clash : true ≡ false = is in cc)
+
+pub add_use-requires-clause-filled : goal.add_use-requires-clause-filled
+add_use-requires-clause-filled c =
+    let r : List ℕ = c.replacement.result.now in
+    let one : IsSequence r = All-contains IsSequence (replacements c.args.entry.now) r c.requires.sequences (Contains-at (replacements c.args.entry.now) c.loop-number.number r c.replacement.ensures) in
+    one.filled
+
+pub loop-number-preserved : goal.loop-number-preserved
+loop-number-preserved c =
+    let e : Entry = c.args.entry.now in
+    let test : Variant → _ = may_replace c.args.self.now.part c.args.self.now.table.now c.args.self.now.label.now c.args.place e in
+    let i : ℕ = c.loop-number.number in
+    let old : Draft = c.args.draft.now in
+    let mid : Draft = c.loop-number.draft in
+    let inside : i < length (replacements e) = omega (arith, c.loop-number-test.true, c.replacements-number-end.ensures) in
+    let covers : length c.source-covers.result.now ≡ length e.source = ap (λ (s : List ℕ). length s) c.source-covers.ensures in
+    let told : slice_get (map test (marked e)) i ≡ Some c.may_replace.result = c.may_replace.ensures in
+    elim c.if-may_replace.branch [
+      | then-may_replace+in_ok-add_use w ↦
+          (let made : ℕ → Use = λ (n : ℕ). record { covers = n; points = w.replacement.result.now } in
+          subst (HasTaken old (uses_upto test e (i + 1))) (sym w.draft-is)
+          (HasTaken-next test e i w.replacement.result.now true old mid w.add_use.new.self w.replacement.ensures (told ∙ ap Some w.if-may_replace.true) c.loop-number.invariant
+          (subst (λ n. HasTaken mid (made n ∷ []) w.add_use.new.self) covers w.in_ok-add_use.ensures)))
+      | else-may_replace w ↦
+          subst (HasTaken old (uses_upto test e (i + 1))) (sym w.draft-is)
+          (HasTaken-next test e i (get_or (replacements e) i []) false old mid mid (slice_get-get_or (replacements e) i [] inside) (told ∙ ap Some w.if-may_replace.false) c.loop-number.invariant (HasTaken-none mid c.loop-number.invariant.sound))
+    ]
