@@ -8,10 +8,12 @@ the exit status is 0 where nothing failed."""
 
 import itertools
 import os
+import pathlib
 import random
 import sys
 
-from converted_rows import FAULTS, LABELS, LIMITS, REFUSALS, ROWS, long_set, many_entries
+from converted_rows import (FAULTS, LABELS, LIMITS, NO_PROPERTIES, PROPERTIES, REFUSALS, ROWS, UNICODE_FILES, long_set,
+                            many_entries, refusing)
 from plain_ruleset import PlainRuleset
 from program import PROGRAM, ROOT, run_tests, table_file
 from rich_ruleset import RichRuleset
@@ -20,12 +22,13 @@ from version_3 import BY_PROGRAM
 
 sys.path += [os.path.join(ROOT, "conformance"), os.path.join(ROOT, "tables")]
 
+import unicode_data
 from lgr import command
 from lgr.joinings import Joinings
 from lgr.program import Program
 from lgr.ruleset import Fault
 from notation import reading
-from ruleset_labels import RulesetLabels, Unknown
+from ruleset_labels import NOT_VALID, RulesetLabels, Unknown
 
 UNSAYABLE = "refused: there is no such table\n"
 SEEDS = range(1, 51)
@@ -98,6 +101,32 @@ def refuses_what_no_table_says(folder):
     for data, rules, messages in REFUSALS:
         found = converted(ruleset(folder, data, rules))
         assert found == ("", messages + UNSAYABLE, 1), (data, rules, found)
+
+
+def knows_properties(folder):
+    """Those that RFC 7940 wants to be known, by Python and by Unicode's own data, here a part of it; else it tells what is missing."""
+    data = "".join(f'<char cp="{cp}"/>' for cp in ("0061", "0301", "0430", "0628", "0915", "094D"))
+    asked = lambda text: converted(ruleset(folder, data, refusing(f'<class property="{text}"/><end/>')))
+    refused = lambda text, reason: ("", f"line 4: action 'invalid': the property '{text}', {reason}\n{UNSAYABLE}", 1)
+    os.makedirs(os.path.join(folder, "data", "extracted"))
+    before = unicode_data.FOLDER
+    try:
+        unicode_data.FOLDER = pathlib.Path(folder) / "data"
+        for name, text in UNICODE_FILES.items():
+            missing = "which takes Unicode's own data: install Debian's package unicode-data, or name its folder in UNICODE_DATA"
+            assert asked("sc:Latn") == refused("sc:Latn", missing), name
+            (unicode_data.FOLDER / name).write_text(text, encoding="ascii")
+        for text, points in PROPERTIES.items():
+            labels = labels_under(asked(text)[0])
+            found = [f"{ord(letter):04X}" for letter in "a\u0301а\u0628\u0915\u094D" if labels.refusal(letter) == NOT_VALID]
+            assert found == points.split(), (text, found)
+        for text, reason in NO_PROPERTIES.items():
+            assert asked(text) == refused(text, reason), text
+        (unicode_data.FOLDER / "extracted/DerivedGeneralCategory.txt").write_text("0430 ; Cn\n", encoding="ascii")
+        reason = "and Unicode's data here lacks code points of the ruleset: newer data has them"
+        assert asked("sc:Latn") == refused("sc:Latn", reason)
+    finally:
+        unicode_data.FOLDER = before
 
 
 def refuses_faults(folder):
@@ -244,6 +273,7 @@ def says_untyped_variants(folder):
 TESTS = [
     says_each_part,
     refuses_what_no_table_says,
+    knows_properties,
     refuses_faults,
     tells_what_it_leaves_out,
     keeps_limits,

@@ -277,11 +277,9 @@ REFUSALS = [
     (char("0061", when="r"), rule("<look-behind><any/></look-behind>"),
      WITH_RULE + "a look-behind or look-ahead without an anchor beside it\n"),
     (char("0061", when="r"), rule("<choice/><anchor/>"), WITH_RULE + "a choice without a part\n"),
-    (char("0061", when="r"), rule('<class property="sc:Latn"/>'),
-     WITH_RULE + "the property 'sc:Latn', and only General_Category, Canonical_Combining_Class and Bidi_Class are known\n"),
+    (char("0061", when="r"), rule('<class property="gc:Xx"/>'), WITH_RULE + "the property 'gc:Xx', which has no such value\n"),
     (char("0061"), '<class name="letters" property="Alphabetic:Y"/>' + refusing('<union><class by-ref="letters"/></union>'),
-     "line 4: action 'invalid': the property 'Alphabetic:Y', and only General_Category, Canonical_Combining_Class and "
-     "Bidi_Class are known\n"),
+     "line 4: action 'invalid': the property 'Alphabetic:Y', which is none that RFC 7940 wants to be known\n"),
     *((char("0061"), refusing(f"<{name}>{'<class>0061</class>' * count}</{name}>"),
        "line 4: action 'invalid': a set operator that has too few sets, or too many\n")
       for name, count in (("union", 0), ("complement", 2), ("difference", 1), ("symmetric-difference", 3))),
@@ -292,6 +290,24 @@ REFUSALS = [
      "line 5: action 'no': a disposition that is none of RFC 7940, section 7.3\n"
      "lines 2, 3: char 0061 and 1 more: a null variant, which no table can have\n"),
 ]
+# A part of Unicode's data, and what properties say by it of the code points 0061, 0301, 0430, 0628, 0915, 094D and 0149.
+UNICODE_FILES = {
+    "Scripts.txt": "0061..007A ; Latin # a\n0149 ; Latin\n0300..036F ; Inherited\n0430..045F ; Cyrillic\n0628 ; Arabic\n"
+                   "0915..0939 ; Devanagari\n",
+    "IndicSyllabicCategory.txt": "0915..0939 ; Consonant\n094D ; Virama\n",
+    "PropList.txt": "0149 ; Deprecated\n0061 ; Hex_Digit\n",
+    "extracted/DerivedJoiningType.txt": "0628 ; D\n0301 ; T\n",
+    "extracted/DerivedGeneralCategory.txt": "0061 ; Ll\n0378..0379 ; Cn\n",
+    "PropertyValueAliases.txt": "gc ; Ll ; Lowercase_Letter\nsc ; Latn ; Latin\nsc ; Zinh ; Inherited ; Qaai\nsc ; Zzzz ; Unknown\n"
+                                "jt ; D ; Dual_Joining\njt ; U ; Non_Joining\nInSC; Virama ; Virama\nInSC; Other ; Other\n"
+                                "Dep; N ; No ; F ; False\nDep; Y ; Yes ; T ; True\n",
+}
+PROPERTIES = {
+    "sc:Latn": "0061", "Script:latin": "0061", "sc:Qaai": "0301", "sc:Unknown": "094D", "jt:D": "0628",
+    "Joining_Type:Non_Joining": "0061 0430 0915 094D", "InSC:Virama": "094D", "Indic_Syllabic_Category:Other": "0061 0301 0430 0628",
+    "Dep:N": "0061 0301 0430 0628 0915 094D", "gc:Ll": "0061 0430",
+}
+NO_PROPERTIES = {"sc:Grek": "which has no such value", "jt:X": "which has no such value"}
 # What the file itself has wrong.
 FAULTS = [
     (char("0061", when="r"), "", "line 2: no rule has the name 'r'\n"),

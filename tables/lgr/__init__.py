@@ -2,7 +2,7 @@
 
 rfc7940, rfc4290   read a file as a Ruleset (ruleset); xml_tree: its elements
 program            asks idn2 which code points it refuses
-classes            what the classes of a ruleset say; references: by their names
+classes            what the classes of a ruleset say; properties: of Unicode; references: by their names
 
 For tables of version 1 and 2, which accept no more than the ruleset:
 patterns           what the rules say, as far as it matters

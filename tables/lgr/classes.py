@@ -1,8 +1,6 @@
 """The classes of a ruleset as sets (RFC 7940, section 6.2): of the code points that its labels can have."""
 
-import re
-import unicodedata
-
+from .properties import Properties
 from .references import References
 from .ruleset import point_of
 
@@ -10,19 +8,6 @@ OPERATORS = {"union": "union", "intersection": "intersection", "difference": "di
              "symmetric-difference": "symmetric_difference"}
 # How many sets an operator has; any other has one or more.
 SETS_OF = {"complement": 1, "difference": 2, "symmetric-difference": 2}
-# The categories by their names, in lower case and without what stands between the words; a short name is its own.
-LETTERS, CASED = ("Lu", "Ll", "Lt", "Lm", "Lo"), ("Lu", "Ll", "Lt")
-MARKS, NUMBERS = ("Mn", "Mc", "Me"), ("Nd", "Nl", "No")
-CATEGORIES = {
-    "l": LETTERS, "letter": LETTERS, "lc": CASED, "casedletter": CASED, "uppercaseletter": ("Lu",),
-    "lowercaseletter": ("Ll",), "titlecaseletter": ("Lt",), "modifierletter": ("Lm",), "otherletter": ("Lo",),
-    "m": MARKS, "mark": MARKS, "combiningmark": MARKS, "nonspacingmark": ("Mn",), "spacingmark": ("Mc",),
-    "enclosingmark": ("Me",), "n": NUMBERS, "number": NUMBERS, "decimalnumber": ("Nd",), "digit": ("Nd",),
-    "letternumber": ("Nl",), "othernumber": ("No",),
-}
-SHORT_CATEGORY = re.compile(r"L[ulmto]|M[nce]|N[dlo]|P[cdseifo]|S[mcko]|Z[slp]|C[cfos]")
-
-BIDI_CLASSES = ("L", "R", "AL", "EN", "ES", "ET", "AN", "CS", "NSM", "BN", "B", "S", "WS", "ON")
 
 
 class Classes:
@@ -33,8 +18,7 @@ class Classes:
             for tag in entry.tags if len(entry.source) == 1 else ():
                 self.tagged.setdefault(tag, set()).add(entry.source[0])
         self.names = References([each for each in ruleset.definitions if each.name != "rule"], self.set_of)
-        # Python's data tells of properties only where it has all code points; it may be older than the program's.
-        self.are_all_known = all(unicodedata.category(chr(point)) != "Cn" for point in self.points)
+        self.properties = Properties(self.points)
 
     def set_of(self, element):
         """The code points of a class or of a set operator; None where they aren't known."""
@@ -56,7 +40,7 @@ class Classes:
         if "from-tag" in element.attributes:
             return self.points & self.tagged.get(element.attributes["from-tag"], set())
         if "property" in element.attributes:
-            return self.with_property(element.attributes["property"])
+            return self.properties.of(element.attributes["property"])
         points = set()
         for text in element.text.split():
             first, _, last = text.partition("-")
@@ -67,12 +51,9 @@ class Classes:
     def reason_of(self, element):
         """Why the code points of a class or of a set operator aren't known, in words."""
         properties = [each.attributes["property"] for each in self.all_within(element, set()) if "property" in each.attributes]
-        unknown = [text for text in properties if self.with_property(text) is None]
-        if not unknown:
-            return "a set operator that has too few sets, or too many"
-        if not self.are_all_known:
-            return f"the property '{unknown[0]}', and this Python lacks code points of the ruleset: a newer one has them"
-        return f"the property '{unknown[0]}', and only General_Category, Canonical_Combining_Class and Bidi_Class are known"
+        reasons = ((text, self.properties.reason_of(text)) for text in properties)
+        told = [f"the property '{text}', {reason}" for text, reason in reasons if reason]
+        return told[0] if told else "a set operator that has too few sets, or too many"
 
     def of_no_tag(self, elements):
         """The classes of these elements and within them that are of a tag which no code point of the ruleset has."""
@@ -89,20 +70,3 @@ class Classes:
         seen.add(name)
         for part in parts:
             yield from self.all_within(part, seen)
-
-    def with_property(self, text):
-        """The code points of a General_Category, a Canonical_Combining_Class or a Bidi_Class; no other is known."""
-        name, _, value = (re.sub(r"[\s_-]", "", part).lower() for part in text.partition(":"))
-        if not self.are_all_known:
-            return None
-        if name in ("ccc", "canonicalcombiningclass") and re.fullmatch("[0-9]{1,3}", value):
-            return self.where(lambda letter: unicodedata.combining(letter) == int(value))
-        if name in ("bc", "bidiclass") and value.upper() in BIDI_CLASSES:
-            return self.where(lambda letter: unicodedata.bidirectional(letter) == value.upper())
-        wanted = CATEGORIES.get(value, (value.capitalize(),))
-        if name not in ("gc", "generalcategory") or not all(map(SHORT_CATEGORY.fullmatch, wanted)):
-            return None
-        return self.where(lambda letter: unicodedata.category(letter) in wanted)
-
-    def where(self, has):
-        return frozenset(point for point in self.points if has(chr(point)))
