@@ -732,6 +732,19 @@ def joins_tables_so_that_nothing_is_missed(kit):
 
 
 @in_each_setting
+def joins_rulesets(kit):
+    """Of a ruleset its sources, outside ones among them, and its pairs, without tags and conditions."""
+    kit.write("ruleset.txt", "%version 3\n%tag as\n%tag BEEF\n%rule when _ 0062\n0061 as as , BEEF when when|0062 as BEEF:!0063\tunless when\n"
+              "!0430 unless when|! 0061\n0064 .. 0065 as BEEF when when\n0065-0066\n")
+    kit.write("other.txt", "0062|0067\n")
+    joined = ("0061", "0062", "0063", "0067", "0430")
+    lines = {each: f"{each}|" + ":".join(f"!{other}" for other in joined if other != each) for each in joined}
+    lines.update((each, each) for each in ("0064", "0065", "0065-0066"))
+    wanted = "%version 2\n" + "".join(lines[each] + "\n" for each in sorted(lines))
+    kit.expect(["combine.py", "ruleset.txt", "other.txt"], wanted.encode(), 0)
+
+
+@in_each_setting
 def joins_ranges_and_the_tables_that_come_with_the_program(kit):
     for name, entries in (("german", 42), ("han", 3602), ("arabic-digits", 73)):
         kit.write("zone.txt", kit.run("combine.py", f"tables/{name}.txt")[0])
@@ -1063,6 +1076,7 @@ TESTS = [
     refuses_a_database_in_another_order,
     finds_by_postgresql_what_sets_have,
     joins_tables_so_that_nothing_is_missed,
+    joins_rulesets,
     joins_ranges_and_the_tables_that_come_with_the_program,
     chooses_among_tables,
     refuses_a_call_without_a_table,
