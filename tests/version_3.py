@@ -6,6 +6,7 @@ exit status is 0 where nothing failed."""
 
 import functools
 import os
+import random
 import re
 import sys
 import textwrap
@@ -211,6 +212,50 @@ def devanagari_sets_are_as_unicode_has_them(folder):
     assert found == {name: {category} for name, category in CATEGORIES.items()}, found
 
 
+CONTEXTS = ("@A _", "_ @A", "^ _ / @A _", "_ @A? $", "@A .* _", "0061 _ / _ 0062", "_")
+DEMANDS = ("%never 0061 .* 0062", "%never @A @A $", "%always @A", "%never ^ 0063 $")
+
+
+def random_ruleset(chance):
+    """Sets of letters that are variants of each other, without gaps and conditions of variants; with conditions of sources, demands,
+    tags and outside sources."""
+    letters, sets = "abcdefgh", {}
+    for letter in letters:
+        sets.setdefault(chance.randrange(4), []).append(f"{ord(letter):04X}")
+    lines = ["%version 3", "%tag s", "%tag t", f"%set A 0061..{chance.choice(('0062', '0064'))}"]
+    lines += [f"%rule r{number} {chance.choice(CONTEXTS)}" for number in range(2)] + chance.sample(DEMANDS, chance.choice((0, 1, 1)))
+    tags = lambda: chance.choice(("", "", " as s", " as t", " as s,t"))
+    for members in sets.values():
+        for source in members:
+            variants = [chance.choice((f"!{each}", each + tags())) for each in members if each != source]
+            condition = chance.choice(("", "", "", " when r0", " unless r1"))
+            first = f"!{source}" if chance.random() < 0.15 else source + tags()
+            lines.append(first + condition + ("|" if variants else "") + ":".join(variants))
+    return "\n".join(lines).encode()
+
+
+def finds_collisions_by_least_variants(folder):
+    """Under random rulesets without gaps, of single code points and without conditions of variants, labels that aren't refused have
+    one least variant exactly if they collide, whichever of the two is asked about."""
+    chance, compared = random.Random(7940), 0
+    for _ in range(40):
+        path = table_file(folder, random_ruleset(chance))
+        checked = run(["--check-ruleset", path])
+        assert checked.stdout == b"#table 8 0\n", checked
+        labels = sorted({"".join(chance.choices("abcdefgh", k=chance.randint(1, 3))) for _ in range(25)})
+        done = run(["--ruleset", path], "\n".join(labels).encode())
+        refused = set(re.findall(r"^idn2: line (\d+): 4[01] ", done.stderr.decode(), re.MULTILINE))
+        accepted = [label for number, label in enumerate(labels, 1) if str(number) not in refused]
+        blocks = [[line.split("\t")[0] for line in block.splitlines()] for block in re.split(r"#end \d+\n", done.stdout.decode())]
+        assert len(blocks) == len(accepted) + 1, (labels, done)
+        listed = dict(zip(accepted, blocks))
+        for one in accepted:
+            for other in accepted:
+                assert (one in listed[other]) == (listed[one][0] == listed[other][0]), (path, one, other, listed)
+                compared += one < other
+    assert compared > 1_000, compared
+
+
 TESTS = [
     second_writing_answers,
     second_writing_spells,
@@ -219,6 +264,7 @@ TESTS = [
     notation_shows_a_ruleset,
     chinese_ruleset_is_as_others_have_it,
     devanagari_sets_are_as_unicode_has_them,
+    finds_collisions_by_least_variants,
 ]
 
 if __name__ == "__main__":
