@@ -130,7 +130,7 @@ def listing(options, folder):
 
 
 def hardest(options, folder):
-    table, source = write(folder, "hardest", conditions_at_every_limit().splitlines()), write(folder, "letters", ["a" * 63])
+    table, source = write(folder, "hardest", conditions_at_every_limit().splitlines()), write(folder, "letters", ["ab" * 31])
     few, many = (Run(options.ours, ["--ruleset", str(table), "--tries", str(count)], source) for count in (2, TESTED + 2))
     less, more = in_turn([few, many], options.rounds)
     print(f"\na test under the hardest conditions: {1000 * (more.processor - less.processor) / TESTED:.2f} ms")

@@ -409,9 +409,9 @@ def refuses_tables_over_a_limit(folder):
 
 
 def conditions_at_every_limit():
-    """A ruleset that is as hard on a label of 63 letters `a` as its limits allow: 4,096 atoms, of which most stand within two
-    stars, so that a label is followed through all of them and keeps the demands all the same; 166 rules are among them."""
-    stars = "((0061* @A?)* 0062)"
+    """A ruleset that is as hard on labels of `a` and `b` as its limits allow: 4,096 atoms, of which most stand within two stars.
+    Such a label is followed through all of them, and keeps the demands all the same; 166 rules are among them."""
+    stars = "((0061* @A?)* 0062?)"
     demand = "%never ^ " + " ".join([stars] * 130) + " 0063\n"
     rules = "".join(f"%rule r{number} @A* (0061 0061* / 0062) _ 0063 / ^ . _ 0063\n" for number in range(165))
     entries = "0061 unless r0|0062 unless r163:0063 when last\n0062 unless r164\n0063\n"
@@ -430,7 +430,7 @@ def serves_hostile_rulesets(folder):
     """Within a second: 4,096 atoms with stars within each other; 256 sets of thousands of spans; as many entries as there may be,
     in falling order, each with 8 tags."""
     table = table_file(folder, conditions_at_every_limit().encode())
-    for label in ("a" * 63, "a" * 62):
+    for label in ("a" * 63, "ab" * 31):
         done = within_a_second(["--ruleset", table, "--limit", "3", "--tries", "10", label])
         assert done.stdout.splitlines()[0].split(b"\t")[0] == label.encode() and not done.stderr, done
     table = table_file(folder, sets_at_their_limits().encode())
