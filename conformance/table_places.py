@@ -1,7 +1,7 @@
 """Where a line of a table has its fault, written a second time, from docs/idn2.1 and docs/NOTATION.md alone.
 
 `of_fault` gives what the message of a faulty line goes on with where causes are told, or None. A lexeme can't stand where it is if
-no entry and no range of the version begins with the lexemes up to it: whether one does is tried out by what may come after."""
+no entry, range or definition of the version begins with the lexemes up to it: whether one does is tried out by what may come after."""
 
 import collections
 import re
@@ -9,7 +9,7 @@ import re
 from notation.forms import Tokens, entry_of
 from notation.patterns import NoForm
 
-SYNTAX, SAME_SOURCE, SAME_VARIANT, BAD_CLASS, LIMIT = range(30, 35)
+SYNTAX, SAME_SOURCE, SAME_VARIANT, BAD_CLASS, LIMIT, NO_SUCH_NAME, SAME_NAME = range(30, 37)
 LINE_LIMITS = {1: 1024, 2: 1024, 3: 8192}
 
 LEXEME = re.compile(rb"[-|:!,/()?*^$]|\.+|[^ \t.|:!,/()?*^$-]+")
@@ -24,6 +24,11 @@ FORMS = {
 ENDS = [[], [b"0061"], [b"10FFFF"], [b"n" * 32]]
 # A name comes after each of these.
 BEFORE_NAMES = (b"as", b",", b"when", b"unless")
+NAME = re.compile(rb"[A-Za-z][A-Za-z0-9_]{0,31}")
+# What completes a beginning of a definition that is no pattern: a keyword, a name, what stands after it.
+DEFINITION_ENDS = ENDS + [[b"%tag", b"a"], [b"a"], [b"a", b"0061"], [b"a", b"_"]]
+# How many definitions there may be of a kind, by their keywords.
+MOST = {(b"%tag",): 8, (b"%set",): 256, (b"%rule", b"%never", b"%always"): 256}
 
 
 def of_fault(text, line_number, number, may_stand):
@@ -32,7 +37,7 @@ def of_fault(text, line_number, number, may_stand):
     line = lines[line_number - 1]
     head = lines[0].removesuffix(b"\r")
     version = {b"%version 2": 2, b"%version 3": 3}.get(head, 1)
-    return place_in(line, version, number, may_stand)
+    return place_in(line, version, number, may_stand, lines[: line_number - 1])
 
 
 def of_ruleset(text, line_number, number, may_stand):
@@ -49,17 +54,21 @@ def of_table(text, line_number, number, may_stand):
     return of_fault(text, line_number, number, may_stand)
 
 
-def place_in(line, version, number, may_stand):
+def place_in(line, version, number, may_stand, before=()):
     if len(line) > LINE_LIMITS[version]:
         return f"the line goes on at byte {LINE_LIMITS[version] + 1}"
     line = line.removesuffix(b"\r")
     found = [(match.start() + 1, match.group()) for match in LEXEME.finditer(line)]
+    if version == 3 and line.lstrip(b" \t").startswith(b"%"):
+        return definition_place(line, found, number, may_stand, [lexemes_of(each) for each in before])
     if number == SYNTAX:
-        return None if version == 3 and line.lstrip(b" \t").startswith(b"%") else wrong_place(line, version, found)
+        return wrong_place(line, found, lambda lexemes: begins_a_form(lexemes, version))
     if not is_whole([lexeme for _, lexeme in found], 3):
         return None
-    look = {BAD_CLASS: bad_class, SAME_VARIANT: same_variant, SAME_SOURCE: same_source, LIMIT: past_limit}.get(number)
-    return look and look(found, may_stand)
+    if number == NO_SUCH_NAME:
+        return unknown_name(found, [lexemes_of(each) for each in before])
+    look = {BAD_CLASS: bad_class, SAME_VARIANT: same_variant, SAME_SOURCE: same_source, LIMIT: past_limit}[number]
+    return look(found, may_stand)
 
 
 def point_of(lexeme):
@@ -101,13 +110,117 @@ def begins_a_form(lexemes, version):
     return any(is_whole(lexemes + end, version) for end in ENDS)
 
 
-def wrong_place(line, version, found):
+def quoted(byte, lexeme):
+    is_quoted = len(lexeme) <= 32 and all(0x21 <= each <= 0x7E for each in lexeme)
+    return f"'{lexeme.decode()}' at byte {byte}" if is_quoted else f"word at byte {byte}"
+
+
+def wrong_place(line, found, begins):
     lexemes = [lexeme for _, lexeme in found]
     for count, (byte, lexeme) in enumerate(found, 1):
-        if not begins_a_form(lexemes[:count], version):
-            is_quoted = len(lexeme) <= 32 and all(0x21 <= each <= 0x7E for each in lexeme)
-            return f"'{lexeme.decode()}' at byte {byte}" if is_quoted else f"word at byte {byte}"
+        if not begins(lexemes[:count]):
+            return quoted(byte, lexeme)
     return f"the line ends at byte {len(line) + 1}"
+
+
+def lexemes_of(line):
+    return LEXEME.findall(line.removesuffix(b"\r"))
+
+
+def definition_place(line, found, number, may_stand, before):
+    """`before` has the lexemes of each line before."""
+    lexemes = [lexeme for _, lexeme in found]
+    rest = found[1 if lexemes[0] in (b"%never", b"%always") else 2:]
+    if number == SYNTAX:
+        return None if is_definition(lexemes) else wrong_place(line, found, begins_a_definition)
+    if number == SAME_NAME:
+        return quoted(*found[1])
+    if number == NO_SUCH_NAME:
+        known = {each[1] for each in before if each[:1] == [b"%set"]}
+        return next(quoted(byte, lexeme) for byte, lexeme in found
+                    if lexeme[:1] == b"@" and NAME.fullmatch(lexeme[1:]) and lexeme[1:] not in known)
+    if number == BAD_CLASS:
+        points = [(byte, point_of(lexeme)) for byte, lexeme in rest if point_of(lexeme) is not None]
+        return next(f"U+{point:04X} at byte {byte}" for byte, point in points if not may_stand(point))
+    [(kind, most)] = [(kind, most) for kind, most in MOST.items() if lexemes[0] in kind]
+    if sum(each[0] in kind for each in before if each) >= most:
+        return quoted(*found[0])
+    groups = [lexemes[:count].count(b"(") - lexemes[:count].count(b")") for count in range(1, len(found) + 1)]
+    return next((quoted(*found[place]) for place, depth in enumerate(groups) if depth == 9), None)
+
+
+def begins_a_definition(lexemes):
+    depth = max(lexemes.count(b"(") - lexemes.count(b")"), 0)
+    closings = [[*item, *[b")"] * depth, *place] for item in ([], [b"."]) for place in ([], [b"_"])]
+    return any(is_definition(lexemes + end) for end in DEFINITION_ENDS + closings)
+
+
+def is_definition(lexemes):
+    keyword, rest = lexemes[:1], lexemes[1:]
+    if keyword in ([b"%never"], [b"%always"]):
+        return is_pattern(rest) and b"_" not in rest
+    if not rest or not NAME.fullmatch(rest[0]):
+        return False
+    if keyword == [b"%set"]:
+        return are_spans(rest[1:])
+    if keyword == [b"%rule"]:
+        return is_pattern(rest[1:]) and all(map(is_context, branches_of(rest[1:])))
+    return keyword == [b"%tag"] and len(rest) == 1
+
+
+def are_spans(lexemes):
+    kinds = "".join(map(kind_of, lexemes))
+    if not re.fullmatch("(?:P(?:RP)?)+", kinds):
+        return False
+    points = [point_of(lexeme) for lexeme in lexemes]
+    low = -1
+    for place, point in enumerate(points):
+        if point is not None:
+            is_last = place > 0 and points[place - 1] is None
+            if point < low + (0 if is_last else 1):
+                return False
+            low = point
+    return True
+
+
+def is_pattern(lexemes):
+    """Reduces groups to an atom, innermost first, and looks at what is left."""
+    kinds = "".join(map(pattern_kind, lexemes))
+    branches = "(?:(?:A[?*]?|E)+(?:/|(?=\\)|$)))+(?<!/)"
+    while True:
+        reduced = re.sub(rf"\((?:{branches})\)", "A", kinds)
+        if reduced == kinds:
+            return re.fullmatch(branches, kinds) is not None
+        kinds = reduced
+
+
+def pattern_kind(lexeme):
+    """A for an atom, E for '^', '$' and '_'."""
+    if point_of(lexeme) is not None or lexeme == b"." or lexeme[:1] == b"@" and NAME.fullmatch(lexeme[1:]):
+        return "A"
+    if lexeme in (b"^", b"$", b"_"):
+        return "E"
+    return lexeme.decode() if lexeme in (b"(", b")", b"?", b"*", b"/") else "x"
+
+
+def branches_of(lexemes):
+    depth, branches = 0, [[]]
+    for lexeme in lexemes:
+        depth += (lexeme == b"(") - (lexeme == b")")
+        if lexeme == b"/" and depth == 0:
+            branches.append([])
+        else:
+            branches[-1].append((lexeme, depth))
+    return branches
+
+
+def is_context(branch):
+    """One '_', in no group, with no "$" before it and no "^" after it."""
+    lexemes = [lexeme for lexeme, _ in branch]
+    if lexemes.count(b"_") != 1 or (b"_", 0) not in branch:
+        return False
+    place = lexemes.index(b"_")
+    return b"$" not in lexemes[:place] and b"^" not in lexemes[place:]
 
 
 def points_of(found):
@@ -143,6 +256,15 @@ def same_variant(found, may_stand):
 
 def same_source(found, may_stand):
     return f"source at byte {points_of(found)[0][0][0]}"
+
+
+def unknown_name(found, before):
+    """The first name of an entry or a range that no earlier line defines, of a tag or of a rule. `before` has the lexemes of each
+    line before."""
+    tags, rules = ({each[1] for each in before if each[:1] == [keyword]} for keyword in (b"%tag", b"%rule"))
+    names = zip([(0, b""), *found], found)
+    return next(quoted(byte, lexeme) for (_, after), (byte, lexeme) in names
+                if after in BEFORE_NAMES and lexeme not in (rules if after in (b"when", b"unless") else tags))
 
 
 def past_limit(found, may_stand):

@@ -164,6 +164,10 @@ CASES = [
          [("", "", "idn2: table line 2: 30 table syntax: the line ends at byte 6\n")], 2),
     Case(["--check-ruleset", "table", "--explain"], b"%version 3\n%tag t\n0061|0062-0041\n",
          [("", "", "idn2: table line 3: 33 code point not allowed in a table: U+0041 at byte 11\n")], 2),
+    Case(["--check-ruleset", "table", "--explain"], b"%version 3\n%set A 0061\n%rule r @A @B _\n",
+         [("", "", "idn2: table line 3: 35 name not defined: '@B' at byte 12\n")], 2),
+    Case(["--ruleset", "table", "--explain"], b"%version 3\n%rule r ^ $ _\n",
+         [("", "", "idn2: table line 2: 30 table syntax: '$' at byte 11\n")], 2),
     # Objects, refusals with their causes among them.
     Case(["-r", "--json"], b"",
          [("faß\n", '{"line":1,"input":"faß","ulabel":"faß","alabel":"xn--fa-hia"}\n', ""),
@@ -211,6 +215,9 @@ CASES = [
     Case(["--check-ruleset", "table", "--json"], b"%version 3\n%tag t\n0061|0062-0041\n",
          [("", '{"table_line":3,"refusal":{"number":33,"text":"code point not allowed in a table","code_point":"U+0041",'
            '"byte":11}}\n', "")], 2),
+    Case(["--check-ruleset", "table", "--json"], b"%version 3\n%set A 0024\n",
+         [("", '{"table_line":2,"refusal":{"number":33,"text":"code point not allowed in a table","code_point":"U+0024",'
+           '"byte":8}}\n', "")], 2),
     Case([*AMONG, "--json"], SHARP_S,
          [("sss\n", '{"line":1,"ulabel":"sss","alabel":"sss"}\n{"line":1,"ulabel":"ßs","alabel":"xn--s-pfa"}\n'
            '{"line":1,"input":"sss","count":2,"complete":true}\n', ""),

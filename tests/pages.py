@@ -234,7 +234,7 @@ def lists_each_form_of_a_cause(folder):
             assert found, (text, cause)
             told |= found
     listed = {(number, shown) for number, shown, _ in forms}
-    assert listed - {NEVER_TOLD} == told and len({number for number, _ in listed}) == 20, listed ^ told
+    assert listed - {NEVER_TOLD} == told and len({number for number, _ in listed}) == 22, listed ^ told
     named = re.findall(r'codes ": ((?:not )?RFC 5892 2\.[^"]*|outside the profile)"', text_of("crates/idn2_cli/specs/CauseTexts.antt"))
     page = text_of("docs", "idn2.1")
     assert len(named) == 8 and all(f"B {each}\n" in page or f'BR "{each}" ' in page for each in named), named

@@ -1,8 +1,8 @@
--- The disposition of a variant: which variants the part of the table that is not blocked spells.
+-- The disposition of a variant: whether it may be allocated.
 use Rattle.std.proofs.Common.{◌≡◌, ◌≢◌, ◌⊎◌, inl, inr, ℕ, Bool, true, false, ◌||◌, ◌&&◌, ◌↔◌, IsTrue, List, [], ◌∷◌, ◌++◌, Option, Some, None, map, length, refl, sym, ap, subst, ◌∙◌, if◌then◌else◌}
 use Rattle.std.specs.Prelude.{bytes_eq}
 use Rattle.std.specs.Ordering.{is_le}
-use Rattle.std.specs.List.{AllByRecursion, Contains, filter, list_any}
+use Rattle.std.specs.List.{AllByRecursion, Contains, filter}
 use Rattle.std.proofs.lemmas.Slice.Eq.{bytes_eq-Decides}
 use Rattle.variant_table.specs.declared.version.Version.{Version}
 use Rattle.variant_table.specs.declared.version.Version.TheVariants.{One, Two, Three}
@@ -11,16 +11,18 @@ use Rattle.variant_table.specs.WellFormed.{IsWellFormed}
 use Rattle.variant_table.proofs.UnblockedLemmas.{unblocked_none}
 use Rattle.variant_list.specs.Labels.{label_cmp}
 use Rattle.variant_list.specs.Positions.{Built}
+use Rattle.variant_list.proofs.NetLemmas.{Spells-itself}
+use Rattle.idn2_cli.specs.inner.Allocations.{Allowed, allows}
+use Rattle.idn2_cli.proofs.AllocationLemmas.{allocatable-test, true-or}
 use Rattle.valid_labels.specs.Segmentations.{HasSegmentation}
-use Rattle.variant_list.specs.Spelled.{part_spelled, spelled}
+use Rattle.variant_list.specs.Spelled.{spelled}
 use Rattle.variant_list.specs.declared.part.Part.TheVariants.{Unblocked}
 use Rattle.variant_list.specs.Laws.{without_blocked}
 use Rattle.variant_list.specs.Spelling.{PartSpells, Spells}
 use Rattle.variant_list.proofs.ListedLemmas.{variants-IsListed}
-use Rattle.variant_list.proofs.ListMembers.{Contains-head, Contains-later, Contains-none, Contains-cases}
+use Rattle.variant_list.proofs.ListMembers.{Contains-head, Contains-later}
 use Rattle.variant_list.proofs.PartLemmas.{PartSpells-Unblocked, Spells-of_part}
-use Rattle.variant_list.proofs.SpelledByLemmas.{part_spelled-PartSpells, spelled-Spells}
-use Rattle.variant_list.proofs.SpellingLemmas.{PartSpells-itself}
+use Rattle.variant_list.proofs.SpelledByLemmas.{spelled-Spells}
 use Rattle.idn2_options.specs.Settings.{Settings}
 use Rattle.variant_list.specs.Beginnings.{has_hope}
 use Rattle.variant_list.specs.Tested.{tested_among}
@@ -28,7 +30,7 @@ use Rattle.variant_list.specs.Variants.{candidates_among, fits_label, in_order, 
 use Rattle.variant_list.specs.Visited.{visited}
 use Rattle.variant_list.proofs.NetLabels.{among-in_order}
 use Rattle.variant_list.proofs.RisingLists.{Contains-filter}
-use Rattle.idn2_cli.specs.Answers.{Filter, block, block_to, filter_of, is_among, kept_to, lesser_label, nth, nth_if_given, unless_kept, is_allocatable, allocation, disposition_in, disposition, IsFieldOf, IsAllocation, IsDisposition, stop_of, up_to, variants_after}
+use Rattle.idn2_cli.specs.Answers.{Filter, block, block_to, filter_of, is_among, kept_to, lesser_label, nth, nth_if_given, unless_kept, IsAllocatable, is_allocatable, allocation, disposition_in, disposition, IsFieldOf, IsAllocation, IsDisposition, stop_of, up_to, variants_after}
 use Rattle.answer_json.specs.declared.block.Disposition.{Disposition}
 use Rattle.answer_json.specs.declared.block.Disposition.TheVariants.{Allocatable}
 use Rattle.idn2_cli.specs.Said.{Said, Listed, BlockEnd}
@@ -36,30 +38,6 @@ use Rattle.idn2_cli.specs.inner.Dispositions.{AreOfLabel, block_by, field_by}
 use Rattle.idn2_cli.specs.Transcript.{outputs}
 use Rattle.idn2_cli.specs.declared.modes.dispositions.Dispositions.{Dispositions}
 use Rattle.idn2_cli.specs.declared.modes.dispositions.Dispositions.TheVariants.{Unstated, AllAllocatable, BySpelling}
-
--- ---- a list has a label where the test finds it
-
-member-found : (v : List ℕ) (vs : List (List ℕ)) → Contains vs v → list_any (bytes_eq v) vs ≡ true
-member-found v [] h = absurd (Contains-none v h)
-member-found v (w ∷ vs) h = by_place (bytes_eq v w) refl (Contains-cases w vs v h) (member-found v vs)
-  where
-    by_place : (b : Bool) → bytes_eq v w ≡ b → (w ≡ v) ⊎ Contains vs v → (Contains vs v → list_any (bytes_eq v) vs ≡ true) → (b || list_any (bytes_eq v) vs) ≡ true
-    by_place true e at go = refl
-    by_place false e (inl same) go = absurd (let bad : false ≡ true = sym e ∙ (bytes_eq-Decides v w).1 (sym same) in cc)
-    by_place false e (inr later) go = go later
-
-found-member : (v : List ℕ) (vs : List (List ℕ)) → list_any (bytes_eq v) vs ≡ true → Contains vs v
-found-member v [] h = absurd cc
-found-member v (w ∷ vs) h = by_test (bytes_eq v w) refl h (found-member v vs)
-  where
-    by_test : (b : Bool) → bytes_eq v w ≡ b → (b || list_any (bytes_eq v) vs) ≡ true → (list_any (bytes_eq v) vs ≡ true → Contains vs v) → Contains (w ∷ vs) v
-    by_test true e found go = subst (Contains (w ∷ vs)) (sym ((bytes_eq-Decides v w).0 e)) (Contains-head w vs)
-    by_test false e found go = Contains-later w vs v (go found)
-
-spells-test : (table : TableValue) (label v : List ℕ) → IsWellFormed table.entries → (is_allocatable table label v ≡ true) ↔ PartSpells Unblocked table label v
-spells-test table label v formed =
-    let same = part_spelled-PartSpells Unblocked table label v formed in
-    (λ found. same.0 (found-member v (part_spelled Unblocked table label) found), λ spells. member-found v (part_spelled Unblocked table label) (same.1 spells))
 
 -- two tests of one fact
 same-test : {P : Type 0} (a b : Bool) → (a ≡ true → P) × (P → a ≡ true) → (b ≡ true → P) × (P → b ≡ true) → a ≡ b
@@ -73,15 +51,7 @@ disposition-marked One b other = absurd (other refl)
 disposition-marked Two b other = refl
 disposition-marked Three b other = refl
 
--- what a walk over a net tells
-pub spelled-told : (net : Built) (v : List ℕ) (told : Bool) → IsTrue told ↔ Contains net.spelled v → Some (allocation told) ≡ field_by (BySpelling net) v
-spelled-told net v told h = ap (λ (b : Bool). Some (allocation b)) (same-test told (is_among net.spelled v) h (found-member v net.spelled, member-found v net.spelled))
-
 -- ---- what is not blocked
-
--- a label may itself be allocated
-pub spells_itself : (table : TableValue) (label : List ℕ) → HasSegmentation table label → PartSpells Unblocked table label label
-spells_itself table label has = PartSpells-itself Unblocked (λ e. refl) table has.0 label has.1
 
 -- where no variant is blocked, all that is spelled may be
 all_unblocked : (table : TableValue) (label v : List ℕ) → unblocked table.entries ≡ table.entries → Spells table label v → PartSpells Unblocked table label v
@@ -91,16 +61,13 @@ all_unblocked table label v none spells =
 
 -- ---- the field that is told is that of the table
 
-field-is : (table : TableValue) (label v : List ℕ) (told : Dispositions Built) → IsWellFormed table.entries → AreOfLabel table label told → Contains (spelled table label) v → field_by told v ≡ disposition table label v
+field-is : (table : TableValue) (label v : List ℕ) (told : Dispositions Allowed) → IsWellFormed table.entries → AreOfLabel table label told → Contains (spelled table label) v → field_by told v ≡ disposition table label v
 field-is table label v Unstated well is h = ap (λ (n : Version). disposition_in n (is_allocatable table label v)) (sym is)
 field-is table label v AllAllocatable well is h =
-    ap (λ (b : Bool). Some (allocation b)) (sym ((spells-test table label v well).1 (all_unblocked table label v is.1 ((spelled-Spells table label v well).0 h))))
+    ap (λ (b : Bool). Some (allocation b)) (sym ((allocatable-test table label v well).1 (inr (Unblocked, is.1, all_unblocked table label v is.2 ((spelled-Spells table label v well).0 h)))))
     ∙ sym (disposition-marked table.version (is_allocatable table label v) is.0)
-field-is table label v (BySpelling net) well is h =
-    ap (λ (b : Bool). Some (allocation b))
-    (same-test (is_among net.spelled v) (is_allocatable table label v)
-    (λ found. (is.1 v).0 (found-member v net.spelled found), λ spells. member-found v net.spelled ((is.1 v).1 spells))
-    (spells-test table label v well))
+field-is table label v (BySpelling allowed) well is h =
+    ap (λ (b : Bool). Some (allocation b)) (same-test (allows allowed v) (is_allocatable table label v) (is.1 v) (allocatable-test table label v well))
     ∙ sym (disposition-marked table.version (is_allocatable table label v) is.0)
 
 map-same : (f g : List ℕ → Said) (vs : List (List ℕ)) → AllByRecursion (λ v. f v ≡ g v) vs → map f vs ≡ map g vs
@@ -129,7 +96,7 @@ kept-listed None vs v at = at
 kept-listed (Some registered) vs v at = ((Contains-filter (is_among registered) vs v).0 at).1
 
 -- the block by the fields that are told is the block
-told-block : (o : Settings) (table : TableValue) (label : List ℕ) (told : Dispositions Built) → IsWellFormed table.entries → AreOfLabel table label told
+told-block : (o : Settings) (table : TableValue) (label : List ℕ) (told : Dispositions Allowed) → IsWellFormed table.entries → AreOfLabel table label told
     → block_by (filter_of table) (field_by told) o (spelled table label) ≡ block_by (filter_of table) (disposition table label) o (spelled table label)
 told-block o table label told well is =
     let f : Filter = filter_of table in
@@ -154,7 +121,7 @@ block-same f field o labels others same =
         block_to field (lesser_label (nth_if_given kept o.limit) (lesser_label (nth (unless_kept o.registered ts) o.tries) (nth_if_given (visited f.hopeless None (unless_kept o.registered cs)) o.steps))) kept
 
 -- what is written of a net is the block
-pub written_block : (text : Said → List ℕ) (o : Settings) (table : TableValue) (label : List ℕ) (net : Built) (told : Dispositions Built) → IsWellFormed table.entries → in_order net.spelled ≡ in_order (spelled table label) → AreOfLabel table label told
+pub written_block : (text : Said → List ℕ) (o : Settings) (table : TableValue) (label : List ℕ) (net : Built) (told : Dispositions Allowed) → IsWellFormed table.entries → in_order net.spelled ≡ in_order (spelled table label) → AreOfLabel table label told
     → outputs text (block_by (filter_of table) (field_by told) o net.spelled) ≡ outputs text (block o table label)
 written_block text o table label net told well same is =
     ap (outputs text) (block-same (filter_of table) (field_by told) o net.spelled (spelled table label) same ∙ told-block o table label told well is)
@@ -164,14 +131,14 @@ written_block text o table label net told well same is =
 pub disposition-IsDisposition : (table : TableValue) (label v : List ℕ) → IsWellFormed table.entries → IsDisposition table label v (disposition table label v)
 disposition-IsDisposition table label v well = by_version table.version
   where
-    tests : (is_allocatable table label v ≡ true) ↔ PartSpells Unblocked table label v
-    tests = spells-test table label v well
+    tests : (is_allocatable table label v ≡ true) ↔ IsAllocatable table label v
+    tests = allocatable-test table label v well
 
-    by_test : (b : Bool) → is_allocatable table label v ≡ b → IsAllocation (PartSpells Unblocked table label v) (Some (allocation b))
+    by_test : (b : Bool) → is_allocatable table label v ≡ b → IsAllocation (IsAllocatable table label v) (Some (allocation b))
     by_test true e = inl (tests.0 e, refl)
-    by_test false e = inr (λ spells. (let bad : false ≡ true = sym e ∙ tests.1 spells in cc), refl)
+    by_test false e = inr (λ may. (let bad : false ≡ true = sym e ∙ tests.1 may in cc), refl)
 
-    by_version : (n : Version) → IsFieldOf n (PartSpells Unblocked table label v) (disposition_in n (is_allocatable table label v))
+    by_version : (n : Version) → IsFieldOf n (IsAllocatable table label v) (disposition_in n (is_allocatable table label v))
     by_version One = refl
     by_version Two = by_test (is_allocatable table label v) refl
     by_version Three = by_test (is_allocatable table label v) refl
@@ -184,13 +151,14 @@ disposition-one table label v is = ap (λ (n : Version). disposition_in n (is_al
 allocatable-field : (table : TableValue) (label v : List ℕ) → table.version ≢ One → is_allocatable table label v ≡ true → disposition table label v ≡ Some Allocatable
 allocatable-field table label v is told = disposition-marked table.version (is_allocatable table label v) is ∙ ap (λ (b : Bool). Some (allocation b)) told
 
-pub disposition-itself : (table : TableValue) (label : List ℕ) → table.version ≢ One → IsWellFormed table.entries → HasSegmentation table label → disposition table label label ≡ Some Allocatable
-disposition-itself table label is formed has = allocatable-field table label label is ((spells-test table label label formed).1 (spells_itself table label has))
+pub disposition-itself : (table : TableValue) (label : List ℕ) → table.version ≢ One → disposition table label label ≡ Some Allocatable
+disposition-itself table label is = allocatable-field table label label is (true-or (bytes_eq label label) _ (inl ((bytes_eq-Decides label label).1 refl)))
 
-pub disposition-none_blocked : (table : TableValue) (label v : List ℕ) → table.version ≢ One → IsWellFormed table.entries → has_blocked table.entries ≡ false → Spells table label v
+pub disposition-none_blocked : (table : TableValue) (label v : List ℕ) → table.version ≢ One → IsWellFormed table.entries → has_blocked table.entries ≡ false → table.definitions.tags ≡ [] → Spells table label v
     → disposition table label v ≡ Some Allocatable
-disposition-none_blocked table label v is formed none spells =
-    allocatable-field table label v is ((spells-test table label v formed).1 (all_unblocked table label v (unblocked_none table.entries none) spells))
+disposition-none_blocked table label v is formed none untagged spells =
+    allocatable-field table label v is ((allocatable-test table label v formed).1 (inr (Unblocked, untagged, all_unblocked table label v (unblocked_none table.entries none) spells)))
 
-pub spelled_still : (table : TableValue) (label v : List ℕ) → PartSpells Unblocked table label v → Spells table label v
-spelled_still = Spells-of_part Unblocked
+pub spelled_still : (table : TableValue) (label v : List ℕ) → HasSegmentation table label → IsAllocatable table label v → Spells table label v
+spelled_still table label v has (inl same) = subst (Spells table label) (sym same) (Spells-itself table label has)
+spelled_still table label v has (inr p) = Spells-of_part p.0 table label v p.2

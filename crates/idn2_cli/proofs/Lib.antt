@@ -26,6 +26,8 @@ pub mod DecodedLemmas
 pub mod ListingLemmas
 -- Labels that can be cut into sources of a table, and others.
 pub mod SegmentedLabels
+-- Which labels may be allocated, as tests tell it.
+pub mod AllocationLemmas
 -- The third field of a variant's line: which variants the table without its blocked variants spells.
 pub mod DispositionLemmas
 -- The block and the check that compute are those that are listed.

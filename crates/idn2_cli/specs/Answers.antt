@@ -1,5 +1,5 @@
 -- What a line of input is answered, or why it is refused.
-use Rattle.std.specs.Prelude.{◌≡◌, ◌⊎◌, ℕ, ◌≤◌, ◌==◌, Bool, bytes_eq, Contains, List, [], ◌∷◌, ◌++◌, length, chars, Option, Some, None, Result, Ok, Err, if◌then◌else◌, ◌-◌, map, filter}
+use Rattle.std.specs.Prelude.{◌≡◌, ◌⊎◌, ℕ, zero, suc, ◌<◌, ◌≤◌, ◌==◌, ◌||◌, Bool, bytes_eq, Contains, List, [], ◌∷◌, ◌++◌, length, chars, Option, Some, None, Result, Ok, Err, if◌then◌else◌, ◌-◌, map, filter}
 use Rattle.std.specs.Str.{is_utf8}
 use Rattle.std.specs.List.{list_any, slice_get, before_first, after_first}
 use Rattle.std.specs.Option.{is_none}
@@ -17,7 +17,8 @@ use Rattle.idn_label.specs.Lookup.{lookup_answer}
 use Rattle.variant_table.specs.declared.version.Version.{Version}
 use Rattle.variant_table.specs.declared.version.Version.TheVariants.{One, Two, Three}
 use Rattle.variant_table.specs.Entries.{TableValue}
-use Rattle.variant_list.specs.declared.part.Part.TheVariants.{Unblocked}
+use Rattle.variant_list.specs.declared.part.Part.{Part}
+use Rattle.variant_list.specs.declared.part.Part.TheVariants.{Whole, Unblocked, Tagged}
 use Rattle.variant_list.specs.Spelled.{part_spelled, spelled}
 use Rattle.idn2_options.specs.Settings.{Settings}
 use Rattle.idn2_options.specs.declared.command_line.mode.Mode.{Mode}
@@ -108,9 +109,19 @@ abbrev pub up_to : Option (List ℕ) → List (List ℕ) → List (List ℕ)
 up_to None labels = labels
 up_to (Some b) labels = filter (λ v. is_le (label_cmp v b)) labels
 
--- whether the part of the table that is not blocked spells v too, and v may so be allocated
+-- the sub-tables of the first so many tags
+abbrev pub sub_tables_below : ℕ → List Part
+sub_tables_below zero = []
+sub_tables_below (suc count) = sub_tables_below count ++ Tagged count ∷ []
+
+-- the sub-tables of a table with these tags: one for each of them; or, where there is none, what is not blocked
+abbrev pub sub_tables_of : List (List ℕ) → List Part
+sub_tables_of [] = Unblocked ∷ []
+sub_tables_of (tag ∷ tags) = sub_tables_below (length (tag ∷ tags))
+
+-- whether v may be allocated: it is the label itself, or some sub-table spells it, too
 abbrev pub is_allocatable : TableValue → List ℕ → List ℕ → Bool
-is_allocatable table label v = is_among (part_spelled Unblocked table label) v
+is_allocatable table label v = bytes_eq v label || list_any (λ part. is_among (part_spelled part table label) v) (sub_tables_of table.definitions.tags)
 
 -- the disposition of a variant (RFC 7940, section 7.3)
 abbrev pub allocation : Bool → Disposition
@@ -248,10 +259,19 @@ IsFieldOf One allocatable field = field ≡ None
 IsFieldOf Two allocatable field = IsAllocation allocatable field
 IsFieldOf Three allocatable field = IsAllocation allocatable field
 
--- the disposition of v: none in version 1; in others it says that v may be allocated exactly where the label spells v by the
--- part of the table that is not blocked
+-- a sub-table of the table: there is one for each tag, by its number; and where there are no tags, what is not blocked is one
+abbrev pub IsSubTable : TableValue → Part → Type 0
+IsSubTable table Whole = ⊥
+IsSubTable table Unblocked = table.definitions.tags ≡ []
+IsSubTable table (Tagged tag) = tag < length table.definitions.tags
+
+-- v may be allocated where the label was asked about: it is the label itself, or the label spells it under some sub-table
+abbrev pub IsAllocatable : TableValue → List ℕ → List ℕ → Type 0
+IsAllocatable table label v = (v ≡ label) ⊎ ((part : Part) × IsSubTable table part × PartSpells part table label v)
+
+-- the disposition of v: none in version 1; in others it says whether v may be allocated
 abbrev pub IsDisposition : TableValue → List ℕ → List ℕ → Option Disposition → Type 0
-IsDisposition table label v field = IsFieldOf table.version (PartSpells Unblocked table label v) field
+IsDisposition table label v field = IsFieldOf table.version (IsAllocatable table label v) field
 
 -- the stop is the least of the limit-th label that is listed, the tries-th that is tried and the steps-th that is visited, as far as
 -- they exist; up to it each label that is listed is said, with its disposition, and then the end

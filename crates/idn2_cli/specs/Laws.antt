@@ -1,5 +1,5 @@
 -- Laws of the definitions.
-use Rattle.std.specs.Prelude.{◌≡◌, ◌≢◌, ℕ, ◌≤◌, false, true, List, [], length, map, Option, Some, None, slice_index}
+use Rattle.std.specs.Prelude.{◌≡◌, ◌≢◌, ◌↔◌, ℕ, ◌≤◌, false, true, List, [], length, map, Option, Some, None, slice_index}
 use Rattle.std.specs.Str.{IsValidUpTo}
 use Rattle.idn_text.specs.declared.refusal.Refusal.{Refusal}
 use Rattle.idn_text.specs.declared.refusal.Refusal.TheVariants.{NotInTable}
@@ -15,21 +15,22 @@ use Rattle.answer_json.specs.declared.block.Disposition.TheVariants.{Allocatable
 use Rattle.idn_text.specs.Lines.{Numbered}
 use Rattle.idn2_options.specs.Settings.{Settings}
 use Rattle.idn2_options.specs.declared.command_line.form.Form.TheVariants.{Plain, Json}
-use Rattle.idn2_cli.specs.Answers.{disposition}
+use Rattle.idn2_cli.specs.Answers.{IsAllocatable, disposition}
 use Rattle.idn2_cli.specs.CauseTexts.{tail_text}
 use Rattle.idn2_cli.specs.Explained.{Unexplained, bad_byte, body_cause, table_cause}
 use Rattle.idn2_cli.specs.Transcript.{TableGiven, line_message, messages_of, piece_in, refused_message, statements, status_of, transcript}
 use Rattle.idn2_cli.specs.declared.refusals.cause.LineCause.TheVariants.{Byte}
 
 -- the disposition of a variant. Version 1 has none; a label may itself be allocated, whatever is blocked; where no variant is
--- blocked, each of a label's variants may be; and what may be allocated is a variant of the label
+-- blocked and there are no tags, each of a label's variants may be; what may be allocated is a variant of the label; and where there
+-- are no tags it is what the label spells by what is not blocked
 pub record DispositionsAreTold : Type 0 where
   pub unstated : (table : TableValue) (label v : List ℕ) → table.version ≡ One → disposition table label v ≡ None
-  pub itself : (table : TableValue) (label : List ℕ) → table.version ≢ One → IsWellFormed table.entries → HasSegmentation table label →
-      disposition table label label ≡ Some Allocatable
+  pub itself : (table : TableValue) (label : List ℕ) → table.version ≢ One → disposition table label label ≡ Some Allocatable
   pub none_blocked : (table : TableValue) (label v : List ℕ) → table.version ≢ One → IsWellFormed table.entries → has_blocked table.entries ≡ false →
-      Spells table label v → disposition table label v ≡ Some Allocatable
-  pub variants : (table : TableValue) (label v : List ℕ) → PartSpells Unblocked table label v → Spells table label v
+      table.definitions.tags ≡ [] → Spells table label v → disposition table label v ≡ Some Allocatable
+  pub variants : (table : TableValue) (label v : List ℕ) → HasSegmentation table label → IsAllocatable table label v → Spells table label v
+  pub untagged : (table : TableValue) (label v : List ℕ) → HasSegmentation table label → table.definitions.tags ≡ [] → IsAllocatable table label v ↔ PartSpells Unblocked table label v
 
 -- what messages go on with. Without the option nothing, so that they are as ever; of bytes that are no UTF-8 the first that no UTF-8
 -- goes on with (RFC 3629, section 3) is told, and of a label that can't be cut into sources the code point behind the furthest place

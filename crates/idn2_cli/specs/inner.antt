@@ -2,6 +2,7 @@
 pub mod Emitting
 pub mod LineAnswers
 pub mod TableFaults
+pub mod Allocations
 pub mod Dispositions
 pub mod GapSequences
 pub mod KeptLines

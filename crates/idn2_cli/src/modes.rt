@@ -1,5 +1,6 @@
 //! What each mode does with a line, or with the table.
 
+mod allocations;
 pub(crate) mod answering;
 mod block;
 mod check_table;

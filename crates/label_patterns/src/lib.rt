@@ -27,5 +27,5 @@ pub use laws::{
 pub use pattern_tree::PatternTree;
 pub use places::{either, has, with_place_if};
 pub use point_set::PointSet;
-pub use seen_label::SeenLabel;
+pub use seen_label::{SeenLabel, renew_masks};
 pub use span::Span;

@@ -76,3 +76,10 @@ pub fn either(left: u64, right: u64) -> u64
 {
     left | right
 }
+
+/// The places that are in both sets.
+pub fn both(left: u64, right: u64) -> u64
+    ensures { (p : _) → Has result p ↔ (Has left p × Has right p) }
+{
+    left & right
+}

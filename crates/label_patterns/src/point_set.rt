@@ -2,8 +2,9 @@
 ghost use Rattle.std.specs.Prelude.{◌≡◌, ◌≤◌, nat_lt, length, IfOk};
 ghost use Rattle.label_patterns.specs.Sets.{is_in, Rise};
 ghost use Rattle.label_patterns.specs.Places.{AreThePlaces};
+ghost use Rattle.label_patterns.specs.KeptPlaces.{AreThePlacesBelow};
 
-use crate::places::with_place_if;
+use crate::places::{both, point_places, with_place_if};
 use crate::span::Span;
 use std::alloc::{AllocError, Global};
 use std::marker::Model;
@@ -73,5 +74,19 @@ impl PointSet {
             places = with_place_if(places, place, self.contains(label[place]));
         }
         places
+    }
+
+    /// The same, where `places` tells it of the first `shared` code points.
+    pub fn places_after(&self, label: &[u32], shared: usize, places: u64) -> u64
+        requires short { length label.now ≤ 63 }
+        requires shared { shared ≤ length label.now }
+        requires kept { AreThePlacesBelow shared (is_in self.now) label.now places }
+        ensures { AreThePlaces (is_in self.now) label.now result }
+    {
+        let mut found = both(places, point_places(shared));
+        for place in shared..label.len() {
+            found = with_place_if(found, place, self.contains(label[place]));
+        }
+        found
     }
 }

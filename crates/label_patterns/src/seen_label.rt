@@ -1,5 +1,7 @@
 //! A label as patterns see it.
 ghost use Rattle.std.specs.Prelude.{◌≡◌, ◌≤◌, ◌<◌, ◌==◌, true, [], length, slice_index_or};
+ghost use Rattle.label_patterns.specs.inner.Masks.{AreMasks};
+ghost use Rattle.label_patterns.specs.KeptPlaces.{AreMasksBelow};
 ghost use Rattle.label_patterns.specs.Matches.{Seen};
 ghost use Rattle.label_patterns.specs.Places.{Has, AreThePlaces};
 ghost use Rattle.label_patterns.specs.Sets.{is_in};
@@ -42,6 +44,15 @@ impl<'a> SeenLabel<'a> {
         SeenLabel { sets, label, masks }
     }
 
+    /// A label of at most 63 code points under these sets, of each of which `masks` has the places.
+    pub fn of_masks(sets: &'a [PointSet], label: &'a [u32], masks: &'a [u64]) -> Self
+        requires short { length label.now ≤ 63 }
+        requires masks { AreMasks sets.now label.now masks.now }
+        ensures { result ≡ (let seen : Seen = record { sets = sets.now; label = label.now } in seen) }
+    {
+        SeenLabel { sets, label, masks }
+    }
+
     /// How many code points the label has.
     pub fn len(&self) -> usize
         ensures is { result ≡ length self.now.label }
@@ -74,5 +85,19 @@ impl<'a> SeenLabel<'a> {
         ensures below { Has result 63 → ⊥ }
     {
         point_places(self.label.len())
+    }
+}
+
+/// Makes the places of each set in a label of at most 63 code points of those that `masks` has of its first `shared`
+/// code points.
+pub fn renew_masks(sets: &[PointSet], label: &[u32], shared: usize, masks: &mut [u64])
+    requires short { length label.now ≤ 63 }
+    requires shared { shared ≤ length label.now }
+    requires room { length masks.old ≡ length sets.now }
+    requires kept { AreMasksBelow shared sets.now label.now masks.old }
+    ensures { AreMasks sets.now label.now masks.new }
+{
+    for number in 0..sets.len() {
+        masks[number] = sets[number].places_after(label, shared, masks[number]);
     }
 }

@@ -1,6 +1,7 @@
 -- What lines define has no fault.
-use Rattle.std.proofs.Common.{◌≡◌, ℕ, Bool, true, false, not, cond, List, [], ◌∷◌, ◌+◌, ◌<◌, ◌≤◌, length, length-append, Option, Some, None, Result, Ok, Err, refl, sym, ap, subst, ◌∙◌, arith}
+use Rattle.std.proofs.Common.{◌≡◌, ℕ, Bool, true, false, not, cond, List, [], ◌∷◌, ◌++◌, ◌+◌, ◌<◌, ◌≤◌, length, length-append, Option, Some, None, Result, Ok, Err, refl, sym, ap, subst, ◌∙◌, arith}
 use Rattle.std.specs.Option.{option_map}
+use Rattle.std.proofs.lemmas.List.{append-nil}
 use Rattle.label_patterns.specs.Patterns.{Pattern}
 use Rattle.ruleset_text.specs.declared.definition.DemandKind.{DemandKind}
 use Rattle.ruleset_text.specs.declared.definition.DemandKind.TheVariants as demand
@@ -201,3 +202,22 @@ without_demands limit d e keyword.Always words h none =
     let found = with_none limit d names (definition_of names keyword.Always words) e h in
     let read = mapped (definition.Demand demand.Always) (demand_in names words) found.0 found.1 in
     omega (arith, none, some_demand limit d e demand.Always read.0 (ap (added d) read.2 ∙ found.6))
+
+-- ---- names of tags and rules
+
+-- those that were there stay, with others behind them
+pub record NamesStay (d e : Definitions) : Type 0 where
+  pub tags : (more : List (List ℕ)) × (e.tags ≡ d.tags ++ more)
+  pub rules : (more : List (List ℕ)) × (e.rule_names ≡ d.rule_names ++ more)
+
+stays : (d : Definitions) (x : Definition) → NamesStay d (added d x)
+stays d (definition.Tag name) = record { tags = (name ∷ [], refl); rules = ([], sym (append-nil d.rule_names)) }
+stays d (definition.Set name spans) = record { tags = ([], sym (append-nil d.tags)); rules = ([], sym (append-nil d.rule_names)) }
+stays d (definition.Rule name contexts) = record { tags = ([], sym (append-nil d.tags)); rules = (name ∷ [], refl) }
+stays d (definition.Demand kind p) = record { tags = ([], sym (append-nil d.tags)); rules = ([], sym (append-nil d.rule_names)) }
+
+pub names_stay : (limit : ℕ) (d e : Definitions) (k : Keyword) (words : List (List ℕ)) → defined limit d k words ≡ Ok e → NamesStay d e
+names_stay limit d e k words h =
+    let names = names_on d.set_names words in
+    let found = with_none limit d names (definition_of names k words) e h in
+    subst (NamesStay d) found.6 (stays d found.0)

@@ -11,11 +11,12 @@ use Rattle.ruleset_text.specs.declared.entry_reading.EntryWord.{EntryWord}
 use Rattle.ruleset_text.specs.declared.entry_reading.EntryWord.TheVariants as word
 use Rattle.ruleset_text.specs.Entries.{Mapped, EntryForm}
 use Rattle.ruleset_text.specs.EntryParts.{has_tags, is_within, has_parts}
-use Rattle.ruleset_text.specs.EntryText.{IsSequence, IsMapped, IsForm}
+use Rattle.ruleset_text.specs.EntryText.{HasRule, IsSequence, IsMapped, IsForm, MayHaveTags}
 use Rattle.ruleset_text.specs.EntryWords as words
 use Rattle.ruleset_text.specs.EntryWords.{Word, IsWord, AreWords, point_of, mark_words, sequence_words, last_words, names_words, tags_words, kind_word, condition_words, mapped_words, variants_words, entry_words}
 use Rattle.ruleset_text.specs.inner.EntrySteps.{word_of}
 use Rattle.ruleset_text.specs.inner.WrongSteps.{is_lacking}
+use Rattle.ruleset_text.specs.Names.{AreNames, is_name}
 use Rattle.ruleset_text.proofs.EntryStateLemmas.{IsSpelled, spelled}
 
 -- no lexeme is one of a part that is lacking
@@ -32,10 +33,10 @@ marked_may parts false = parts.blocked
 abbrev has_word : Bool → EntryParts → Bool → Word → Bool
 has_word names parts first words.Mark = marked_may parts first
 has_word names parts first words.Range = parts.ranges
-has_word names parts first words.As = false
-has_word names parts first words.When = false
-has_word names parts first words.Unless = false
-has_word names parts first (words.Name name) = names
+has_word names parts first words.As = parts.named
+has_word names parts first words.When = parts.named
+has_word names parts first words.Unless = parts.named
+has_word names parts first (words.Name name) = names || (parts.named && is_name name)
 has_word names parts first x = true
 
 abbrev have_words : Bool → EntryParts → Bool → List Word → Bool
@@ -81,9 +82,39 @@ no_word_lacking parts first word.Unless is = absurd is
 spelled_as : (parts : EntryParts) (first : Bool) (text w : List ℕ) (b : Bool) → is_lacking parts first (word_of text) ≡ b → w ≡ text → is_lacking parts first (word_of w) ≡ b
 spelled_as parts first text w b e is = ap (λ v. is_lacking parts first (word_of v)) is ∙ e
 
+and_true : (a b : Bool) → (a && b) ≡ true → (a ≡ true) × (b ≡ true)
+and_true true b e = (refl, e)
+and_true false b e = absurd cc
+
+-- a name is no mark and no '..'
+no_name : (text w : List ℕ) → is_name text ≡ false → w ≡ text → is_name w ≡ true → ⊥
+no_name text w none is e = let bad : true ≡ false = sym e ∙ ap is_name is ∙ none in cc
+
+name_kept : (parts : EntryParts) (first : Bool) (w : List ℕ) (e : EntryWord) → parts.named ≡ true → is_name w ≡ true → IsSpelled e w → is_lacking parts first e ≡ false
+name_kept parts first w word.Mark named name is = absurd (no_name (codes "!") w refl is name)
+name_kept parts first w word.Range named name is = absurd (no_name (codes "..") w refl is name)
+name_kept parts true w word.As named name is = ap not named
+name_kept parts false w word.As named name is = ap not named
+name_kept parts true w word.When named name is = ap not named
+name_kept parts false w word.When named name is = ap not named
+name_kept parts true w word.Unless named name is = ap not named
+name_kept parts false w word.Unless named name is = ap not named
+name_kept parts true w word.Hyphen named name is = refl
+name_kept parts false w word.Hyphen named name is = refl
+name_kept parts true w word.Bar named name is = refl
+name_kept parts false w word.Bar named name is = refl
+name_kept parts true w word.Colon named name is = refl
+name_kept parts false w word.Colon named name is = refl
+name_kept parts true w word.Comma named name is = refl
+name_kept parts false w word.Comma named name is = refl
+name_kept parts true w word.Other named name is = refl
+name_kept parts false w word.Other named name is = refl
+
 word_kept : (parts : EntryParts) (first : Bool) (x : Word) (w : List ℕ) → has_word false parts first x ≡ true → IsWord x w → is_lacking parts first (word_of w) ≡ false
 word_kept parts first (words.Point c) w had is = no_word_lacking parts first (word_of w) (point_word w c (word_of w) (spelled w) is)
-word_kept parts first (words.Name name) w had is = absurd cc
+word_kept parts first (words.Name name) w had is =
+    let h = and_true parts.named (is_name name) had in
+    name_kept parts first w (word_of w) h.0 (ap is_name is ∙ h.1) (spelled w)
 word_kept parts true words.Mark w had is = spelled_as parts true (codes "!") w false (ap not had) is
 word_kept parts false words.Mark w had is = spelled_as parts false (codes "!") w false (ap not had) is
 word_kept parts true words.Hyphen w had is = spelled_as parts true (codes "-") w false refl is
@@ -96,13 +127,12 @@ word_kept parts true words.Comma w had is = spelled_as parts true (codes ",") w 
 word_kept parts false words.Comma w had is = spelled_as parts false (codes ",") w false refl is
 word_kept parts true words.Range w had is = spelled_as parts true (codes "..") w false (ap not had) is
 word_kept parts false words.Range w had is = spelled_as parts false (codes "..") w false (ap not had) is
-word_kept parts first words.As w had is = absurd cc
-word_kept parts first words.When w had is = absurd cc
-word_kept parts first words.Unless w had is = absurd cc
-
-and_true : (a b : Bool) → (a && b) ≡ true → (a ≡ true) × (b ≡ true)
-and_true true b e = (refl, e)
-and_true false b e = absurd cc
+word_kept parts true words.As w had is = spelled_as parts true (codes "as") w false (ap not had) is
+word_kept parts false words.As w had is = spelled_as parts false (codes "as") w false (ap not had) is
+word_kept parts true words.When w had is = spelled_as parts true (codes "when") w false (ap not had) is
+word_kept parts false words.When w had is = spelled_as parts false (codes "when") w false (ap not had) is
+word_kept parts true words.Unless w had is = spelled_as parts true (codes "unless") w false (ap not had) is
+word_kept parts false words.Unless w had is = spelled_as parts false (codes "unless") w false (ap not had) is
 
 words_kept : (parts : EntryParts) (xs : List Word) (ws : List (List ℕ)) (first : Bool) → have_words false parts first xs ≡ true → AreWords xs ws → AllHad parts first ws
 words_kept parts [] [] first had are = tt
@@ -126,12 +156,12 @@ word_had parts true words.Mark w had is = not_lacking parts.outside (lacking_of 
 word_had parts false words.Mark w had is = not_lacking parts.blocked (lacking_of parts false (codes "!") w (not parts.blocked) refl is had)
 word_had parts true words.Range w had is = not_lacking parts.ranges (lacking_of parts true (codes "..") w (not parts.ranges) refl is had)
 word_had parts false words.Range w had is = not_lacking parts.ranges (lacking_of parts false (codes "..") w (not parts.ranges) refl is had)
-word_had parts true words.As w had is = (let bad : true ≡ false = lacking_of parts true (codes "as") w true refl is had in cc)
-word_had parts false words.As w had is = (let bad : true ≡ false = lacking_of parts false (codes "as") w true refl is had in cc)
-word_had parts true words.When w had is = (let bad : true ≡ false = lacking_of parts true (codes "when") w true refl is had in cc)
-word_had parts false words.When w had is = (let bad : true ≡ false = lacking_of parts false (codes "when") w true refl is had in cc)
-word_had parts true words.Unless w had is = (let bad : true ≡ false = lacking_of parts true (codes "unless") w true refl is had in cc)
-word_had parts false words.Unless w had is = (let bad : true ≡ false = lacking_of parts false (codes "unless") w true refl is had in cc)
+word_had parts true words.As w had is = not_lacking parts.named (lacking_of parts true (codes "as") w (not parts.named) refl is had)
+word_had parts false words.As w had is = not_lacking parts.named (lacking_of parts false (codes "as") w (not parts.named) refl is had)
+word_had parts true words.When w had is = not_lacking parts.named (lacking_of parts true (codes "when") w (not parts.named) refl is had)
+word_had parts false words.When w had is = not_lacking parts.named (lacking_of parts false (codes "when") w (not parts.named) refl is had)
+word_had parts true words.Unless w had is = not_lacking parts.named (lacking_of parts true (codes "unless") w (not parts.named) refl is had)
+word_had parts false words.Unless w had is = not_lacking parts.named (lacking_of parts false (codes "unless") w (not parts.named) refl is had)
 word_had parts first (words.Name name) w had is = refl
 word_had parts first (words.Point c) w had is = refl
 word_had parts first words.Hyphen w had is = refl
@@ -150,6 +180,10 @@ module _ (n : Bool) (parts : EntryParts) where
   abbrev have : Bool → List Word → Bool
   have first xs = have_words n parts first xs
 
+  true_after : (a b : Bool) → ((a || true) && b) ≡ b
+  true_after true b = refl
+  true_after false b = refl
+
   sequence_have : (points : List ℕ) (c : ℕ) (first : Bool) (rest : List Word) → have first (sequence_words (c ∷ points) ++ rest) ≡ have false rest
   sequence_have [] c first rest = refl
   sequence_have (d ∷ points) c first rest = sequence_have points d false rest
@@ -166,17 +200,34 @@ module _ (n : Bool) (parts : EntryParts) where
       or_false true = refl
       or_false false = refl
 
-  tags_have : (tags : List (List ℕ)) (rest : List Word) → have false (tags_words tags ++ rest) ≡ (not (has_tags tags) && have false rest)
-  tags_have [] rest = refl
-  tags_have (tag ∷ tags) rest = refl
+  -- a name counts where names may stand
+  name_have : (name : List ℕ) (rest : List Word) → parts.named ≡ true → is_name name ≡ true → have false (words.Name name ∷ rest) ≡ have false rest
+  name_have name rest named is = ap (λ b. (n || b) && have false rest) (ap (λ b. b && is_name name) named ∙ is) ∙ true_after n (have false rest)
 
-  condition_have : (o : Option NamedCondition) (rest : List Word) → have false (condition_words o ++ rest) ≡ (not (is_some o) && have false rest)
-  condition_have None rest = refl
-  condition_have (Some c) rest = by c.kind
+  names_have : (names : List (List ℕ)) (name : List ℕ) (rest : List Word) → parts.named ≡ true → AreNames (name ∷ names) → have false (names_words (name ∷ names) ++ rest) ≡ have false rest
+  names_have [] name rest named are = name_have name rest named are.0
+  names_have (other ∷ names) name rest named are =
+      name_have name (words.Comma ∷ (names_words (other ∷ names) ++ rest)) named are.0 ∙ names_have names other rest named are.2
+
+  tags_have : (tags : List (List ℕ)) (marked : Bool) (rest : List Word) → MayHaveTags marked tags → have false (tags_words tags ++ rest) ≡ ((parts.named || not (has_tags tags)) && have false rest)
+  tags_have [] marked rest may = sym (true_after parts.named (have false rest))
+  tags_have (tag ∷ tags) marked rest may = by parts.named refl
     where
-      by : (kind : ConditionKind) → have false (kind_word kind ∷ words.Name c.rule ∷ rest) ≡ false
-      by condition.When = refl
-      by condition.Unless = refl
+      by : (named : Bool) → parts.named ≡ named → (named && have false (names_words (tag ∷ tags) ++ rest)) ≡ ((named || false) && have false rest)
+      by true e = names_have tags tag rest e may.1
+      by false e = refl
+
+  condition_have : (o : Option NamedCondition) (rest : List Word) → HasRule o → have false (condition_words o ++ rest) ≡ ((parts.named || not (is_some o)) && have false rest)
+  condition_have None rest is = sym (true_after parts.named (have false rest))
+  condition_have (Some c) rest is = kind c.kind ∙ by parts.named refl
+    where
+      kind : (k : ConditionKind) → have false (kind_word k ∷ words.Name c.rule ∷ rest) ≡ (parts.named && have false (words.Name c.rule ∷ rest))
+      kind condition.When = refl
+      kind condition.Unless = refl
+
+      by : (named : Bool) → parts.named ≡ named → (named && have false (words.Name c.rule ∷ rest)) ≡ ((named || false) && have false rest)
+      by true e = name_have c.rule rest e is
+      by false e = refl
 
   marks_have : (marked first : Bool) (points : List ℕ) (rest : List Word) → IsSequence points
       → have first (mark_words marked ++ (sequence_words points ++ rest)) ≡ ((marked_may parts first || not marked) && have false rest)
@@ -214,27 +265,23 @@ module _ (n : Bool) (parts : EntryParts) where
   regroup a b c d e rest = simp append_assoc
 
   mapped_have : (m : Mapped) (last : Option ℕ) (first : Bool) (rest : List Word) → IsMapped m
-      → have first (mapped_words m last ++ rest) ≡ (is_within (marked_may parts first) m && ((parts.ranges || not (is_some last)) && have false rest))
+      → have first (mapped_words m last ++ rest) ≡ (is_within parts.named (marked_may parts first) m && ((parts.ranges || not (is_some last)) && have false rest))
   mapped_have m last first rest is =
       let marks : Bool = marked_may parts first || not m.marked in
       let ranges : Bool = parts.ranges || not (is_some last) in
       ap (have first) (regroup (mark_words m.marked) (sequence_words m.points) (last_words last) (tags_words m.tags) (condition_words m.condition) rest)
       ∙ marks_have m.marked first m.points (last_words last ++ (tags_words m.tags ++ (condition_words m.condition ++ rest))) is.sequence
       ∙ ap (λ b. marks && b) (last_have last (tags_words m.tags ++ (condition_words m.condition ++ rest)))
-      ∙ ap (λ b. marks && (ranges && b)) (tags_have m.tags (condition_words m.condition ++ rest))
-      ∙ ap (λ b. marks && (ranges && (not (has_tags m.tags) && b))) (condition_have m.condition rest)
-      ∙ shuffle marks ranges (not (has_tags m.tags)) (not (is_some m.condition)) (have false rest)
+      ∙ ap (λ b. marks && (ranges && b)) (tags_have m.tags m.marked (condition_words m.condition ++ rest) is.tags)
+      ∙ ap (λ b. marks && (ranges && ((parts.named || not (has_tags m.tags)) && b))) (condition_have m.condition rest is.condition)
+      ∙ shuffle marks ranges (parts.named || not (has_tags m.tags)) (parts.named || not (is_some m.condition)) (have false rest)
 
-  true_after : (a b : Bool) → ((a || true) && b) ≡ b
-  true_after true b = refl
-  true_after false b = refl
-
-  variants_have : (variants : List Mapped) (m : Mapped) → AllByRecursion IsMapped (m ∷ variants) → have false (variants_words (m ∷ variants)) ≡ list_all (is_within parts.blocked) (m ∷ variants)
+  variants_have : (variants : List Mapped) (m : Mapped) → AllByRecursion IsMapped (m ∷ variants) → have false (variants_words (m ∷ variants)) ≡ list_all (is_within parts.named parts.blocked) (m ∷ variants)
   variants_have [] m are =
-      ap (have false) (sym (append-nil (mapped_words m None))) ∙ mapped_have m None false [] are.0 ∙ ap (λ b. is_within parts.blocked m && b) (true_after parts.ranges true)
+      ap (have false) (sym (append-nil (mapped_words m None))) ∙ mapped_have m None false [] are.0 ∙ ap (λ b. is_within parts.named parts.blocked m && b) (true_after parts.ranges true)
   variants_have (v ∷ variants) m are =
       mapped_have m None false (words.Colon ∷ variants_words (v ∷ variants)) are.0
-      ∙ ap (λ b. is_within parts.blocked m && b) (true_after parts.ranges (have false (variants_words (v ∷ variants))) ∙ variants_have variants v are.1)
+      ∙ ap (λ b. is_within parts.named parts.blocked m && b) (true_after parts.ranges (have false (variants_words (v ∷ variants))) ∙ variants_have variants v are.1)
 
   moved : (a b v : Bool) → (a && (b && v)) ≡ ((a && v) && b)
   moved true true v = true_right v
@@ -249,9 +296,9 @@ module _ (n : Bool) (parts : EntryParts) where
       false_right false = refl
   moved false b v = refl
 
-  alone : (m : Mapped) (last : Option ℕ) → IsMapped m → have true (mapped_words m last) ≡ ((is_within parts.outside m && true) && (parts.ranges || not (is_some last)))
+  alone : (m : Mapped) (last : Option ℕ) → IsMapped m → have true (mapped_words m last) ≡ ((is_within parts.named parts.outside m && true) && (parts.ranges || not (is_some last)))
   alone m last is =
-      ap (have true) (sym (append-nil (mapped_words m last))) ∙ mapped_have m last true [] is ∙ moved (is_within parts.outside m) (parts.ranges || not (is_some last)) true
+      ap (have true) (sym (append-nil (mapped_words m last))) ∙ mapped_have m last true [] is ∙ moved (is_within parts.named parts.outside m) (parts.ranges || not (is_some last)) true
 
   form_have : (mapped : List Mapped) (last : Option ℕ) → IsForm mapped last → have true (entry_words mapped last) ≡ has_parts parts (record { mapped = mapped; last = last })
   form_have [] last is = absurd is
@@ -259,8 +306,8 @@ module _ (n : Bool) (parts : EntryParts) where
   form_have (m ∷ []) (Some c) is = alone m (Some c) is.0
   form_have (m ∷ v ∷ variants) None is =
       mapped_have m None true (words.Bar ∷ variants_words (v ∷ variants)) is.0
-      ∙ ap (λ b. is_within parts.outside m && ((parts.ranges || true) && b)) (variants_have variants v is.1)
-      ∙ moved (is_within parts.outside m) (parts.ranges || true) (list_all (is_within parts.blocked) (v ∷ variants))
+      ∙ ap (λ b. is_within parts.named parts.outside m && ((parts.ranges || true) && b)) (variants_have variants v is.1)
+      ∙ moved (is_within parts.named parts.outside m) (parts.ranges || true) (list_all (is_within parts.named parts.blocked) (v ∷ variants))
   form_have (m ∷ v ∷ variants) (Some c) is = absurd is
 
 -- ---- its lexemes

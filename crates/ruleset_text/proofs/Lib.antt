@@ -30,3 +30,5 @@ pub mod LineBytes
 mod PlacedLemmas
 mod EntryPartLemmas
 pub mod WrongPlaceLemmas
+-- The same of a line that is to define something.
+pub mod DefinitionPlaceLemmas

@@ -8,14 +8,15 @@ abbrev pub has_tags : List (List ℕ) → Bool
 has_tags [] = false
 has_tags (tag ∷ tags) = true
 
--- neither tags nor a condition, and '!' only where it may stand
-abbrev pub is_within : Bool → Mapped → Bool
-is_within may_be_marked m = not (has_tags m.tags) && not (is_some m.condition) && (may_be_marked || not m.marked)
+-- tags, a condition and '!' only where they may stand
+abbrev pub is_within : Bool → Bool → Mapped → Bool
+is_within named may_be_marked m =
+    (named || not (has_tags m.tags)) && (named || not (is_some m.condition)) && (may_be_marked || not m.marked)
 
 -- a source and its variants
 abbrev pub are_within : EntryParts → List Mapped → Bool
 are_within parts [] = true
-are_within parts (source ∷ variants) = is_within parts.outside source && list_all (is_within parts.blocked) variants
+are_within parts (source ∷ variants) = is_within parts.named parts.outside source && list_all (is_within parts.named parts.blocked) variants
 
 -- the entry or the range has no other parts
 abbrev pub has_parts : EntryParts → EntryForm → Bool

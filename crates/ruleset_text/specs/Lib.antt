@@ -23,5 +23,7 @@ pub mod EntryWords
 pub mod PlacedLexemes
 pub mod EntryParts
 pub mod WrongPlaces
+pub mod DefinitionPlaces
+pub mod LineNames
 pub mod LinePoints
 pub mod inner

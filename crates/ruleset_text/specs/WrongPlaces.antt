@@ -1,5 +1,5 @@
 -- Where a line stops being an entry or a range that has no other parts than these. Places are bytes, counted from 0.
-use Rattle.std.specs.Prelude.{◌≡◌, ℕ, IsTrue, List, [], ◌∷◌, ◌++◌, length}
+use Rattle.std.specs.Prelude.{◌≡◌, ℕ, ◌≤◌, true, IsTrue, List, [], ◌∷◌, ◌++◌, length}
 use Rattle.ruleset_text.specs.declared.entry_place.EntryParts.{EntryParts}
 use Rattle.ruleset_text.specs.declared.entry_place.WrongPlace.{WrongPlace}
 use Rattle.ruleset_text.specs.declared.entry_place.WrongPlace.TheVariants.{Lexeme, End}
@@ -31,6 +31,10 @@ IsWhole parts line = (form : EntryForm) × IsEntryLine form line × IsTrue (has_
 -- each lexeme of the line can stand where it does, but the line ends before the entry or the range is whole
 abbrev pub EndsEarly : EntryParts → List ℕ → Type 0
 EndsEarly parts line = Begins parts (lexemes line) × (IsWhole parts line → ⊥)
+
+-- a line that may have tags has so few bytes that some name is none of them
+abbrev pub FitsNames : EntryParts → List ℕ → Type 0
+FitsNames parts line = parts.named ≡ true → length line ≤ 8192
 
 -- the first byte of the lexeme that can't stand there, and how many bytes it has; or the end of the line
 abbrev pub IsWrongPlace : EntryParts → List ℕ → WrongPlace → Type 0

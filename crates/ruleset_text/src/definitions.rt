@@ -1,5 +1,5 @@
 //! What the lines of a ruleset define.
-ghost use Rattle.std.specs.Prelude.{◌≡◌, ◌+◌, ◌<◌, ◌^◌, ◌||◌, length, map, IfOk, OnOk, OnErr};
+ghost use Rattle.std.specs.Prelude.{◌≡◌, ◌+◌, ◌<◌, ◌≤◌, ◌^◌, ◌||◌, length, map, IfOk, OnOk, OnErr};
 ghost use Rattle.std.specs.List.{AllByRecursion};
 ghost use Rattle.label_patterns.specs.Matches.{HasItsSets};
 ghost use Rattle.label_patterns.specs.Trees.{pattern};
@@ -118,7 +118,8 @@ impl Definitions {
 
     /// The names of the tags.
     pub fn tags(&self) -> &[Name]
-        ensures { result.now ≡ self.now.tags }
+        ensures is { result.now ≡ self.now.tags }
+        ensures few { length self.now.tags ≤ 8 }
     {
         &self.tags
     }
@@ -140,7 +141,9 @@ impl Definitions {
 
     /// The names of the rules.
     pub fn rule_names(&self) -> &[Name]
-        ensures { result.now ≡ self.now.rule_names }
+        ensures is { result.now ≡ self.now.rule_names }
+        ensures few { length self.now.rule_names ≤ 256 }
+        ensures each { length self.now.rules ≡ length self.now.rule_names }
     {
         &self.rule_names
     }

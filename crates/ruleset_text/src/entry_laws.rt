@@ -6,7 +6,7 @@ ghost use Rattle.ruleset_text.specs.EntryWords.{IsEntryLine};
 ghost use Rattle.ruleset_text.specs.inner.EntrySteps.{entry_in};
 ghost use Rattle.ruleset_text.specs.inner.WrongSteps.{wrong_place};
 ghost use Rattle.ruleset_text.specs.Lexemes.{lexemes};
-ghost use Rattle.ruleset_text.specs.WrongPlaces.{IsWhole, IsWrongPlace};
+ghost use Rattle.ruleset_text.specs.WrongPlaces.{FitsNames, IsWhole, IsWrongPlace};
 
 use crate::entry_place::{EntryParts, WrongPlace};
 
@@ -22,9 +22,10 @@ pub fn canonical_entries_are_read_back()
     ensures read { (mapped : List Mapped) (last : Option ℕ) → IsForm mapped last → entry_in (lexemes (entry_text mapped last)) ≡ Some (record { mapped = mapped; last = last }) }
 {}
 
-/// The place that is told of a line that is no entry and no range of some parts is the one that the grammar gives it; and none is
-/// told of one that is.
+/// The place that is told of a line that is no entry and no range of some parts is the one that the grammar gives it, if it has at
+/// most 8,192 bytes or no tags; and none is told of one that is.
 pub fn wrong_places_are_told()
-    ensures place { (parts : EntryParts) (line : List ℕ) (place : WrongPlace) → (wrong_place parts line ≡ Some place) ↔ IsWrongPlace parts line place }
+    ensures place { (parts : EntryParts) (line : List ℕ) (place : WrongPlace) → FitsNames parts line →
+        (wrong_place parts line ≡ Some place) ↔ IsWrongPlace parts line place }
     ensures whole { (parts : EntryParts) (line : List ℕ) → (wrong_place parts line ≡ None) ↔ IsWhole parts line }
 {}

@@ -8,7 +8,7 @@ use crate::entry_reading::{EntryState, EntryWord, word_of};
 use crate::placed::next_placed;
 use std::alloc::{AllocError, Global};
 
-/// The parts that entries and ranges may have besides their code points. None has tags or conditions.
+/// The parts that entries and ranges may have besides their code points.
 #[derive(Clone, Copy, Debug, PartialEq, Eq)]
 pub struct EntryParts {
     /// `!` before the source.
@@ -17,6 +17,8 @@ pub struct EntryParts {
     pub blocked: bool,
     /// Ranges.
     pub ranges: bool,
+    /// Tags and conditions.
+    pub named: bool,
 }
 
 /// Where a line stops being an entry or a range, in bytes of the line, counted from 0.
@@ -82,7 +84,7 @@ fn is_lacking(parts: EntryParts, first: bool, word: EntryWord) -> bool
             }
         }
         EntryWord::Range => !parts.ranges,
-        EntryWord::As | EntryWord::When | EntryWord::Unless => true,
+        EntryWord::As | EntryWord::When | EntryWord::Unless => !parts.named,
         _ => false,
     }
 }

@@ -1,5 +1,5 @@
 //! Laws of the definitions, each the contract of a function that does nothing.
-ghost use Rattle.std.specs.Prelude.{◌≡◌, ◌≤◌, ◌↔◌, Ok, Err, ℕ, [], ◌∷◌, length, List, Option, Some, None, true, false, codes};
+ghost use Rattle.std.specs.Prelude.{is_some, not, ◌≡◌, ◌≤◌, ◌↔◌, Ok, Err, ℕ, [], ◌∷◌, length, List, Option, Some, None, true, false, codes};
 ghost use Rattle.label_patterns.specs.Patterns.{Pattern};
 ghost use Rattle.ruleset_text.specs.declared.definition.DemandKind.TheVariants as demand;
 ghost use Rattle.label_patterns.specs.declared.condition.ConditionKind.TheVariants as condition;
@@ -11,8 +11,10 @@ ghost use Rattle.label_patterns.specs.Matches.{HasItsSets};
 ghost use Rattle.ruleset_text.specs.Canonical.{HasPoints, pattern_text};
 ghost use Rattle.ruleset_text.specs.Definition.{contexts_of, demand_of};
 ghost use Rattle.ruleset_text.specs.Definition as definition;
+ghost use Rattle.ruleset_text.specs.DefinitionPlaces.{IsWrongPlace, definition_in};
 ghost use Rattle.ruleset_text.specs.Definitions.{Definitions, added, canonical_lines, canonical_size, defined, nothing_defined, with_lines, with_words};
 ghost use Rattle.ruleset_text.specs.Grammar.{Is, Whole, SpellsPattern};
+ghost use Rattle.ruleset_text.specs.inner.DefinitionWrongSteps.{wrong_definition};
 ghost use Rattle.ruleset_text.specs.inner.EntrySteps.{entry_in};
 ghost use Rattle.ruleset_text.specs.inner.Examples.{some_defined, written};
 ghost use Rattle.ruleset_text.specs.Lexemes.{lexemes};
@@ -21,6 +23,8 @@ ghost use Rattle.ruleset_text.specs.Reading.{pattern_of};
 ghost use Rattle.ruleset_text.specs.Spans.{span, spans_of};
 ghost use Rattle.ruleset_text.specs.Tokens.{tokens_of};
 ghost use Rattle.ruleset_text.specs.WellFormed.{AreDefinitions};
+
+use crate::entry_place::WrongPlace;
 
 /// The function that reads a pattern tells exactly what the grammar says; so tokens spell one pattern at most.
 pub fn reading_a_pattern_is_exact()
@@ -164,4 +168,11 @@ pub fn definitions_compute_the_entries()
     ensures colon_first { entry_in (lexemes (codes "0061:0062")) ≡ None }
     ensures two_bars { entry_in (lexemes (codes "0061|0062|0063")) ≡ None }
     ensures nothing { entry_in (lexemes (codes "")) ≡ None }
+{}
+
+/// The place that is told of a line that defines nothing is the one that the grammar gives it. None is told of a line that defines
+/// something, however its sets are numbered, and of no other.
+pub fn wrong_definitions_are_told()
+    ensures place { (line : List ℕ) (place : WrongPlace) → (wrong_definition line ≡ Some place) ↔ IsWrongPlace line place }
+    ensures whole { (names : List (List ℕ)) (line : List ℕ) → is_some (wrong_definition line) ≡ not (is_some (definition_in names (lexemes line))) }
 {}

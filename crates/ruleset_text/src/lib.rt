@@ -6,6 +6,7 @@ mod classes;
 mod copies;
 mod definition;
 mod definition_line;
+mod definition_place;
 mod definition_reading;
 mod definitions;
 mod definitions_text;
@@ -18,6 +19,7 @@ mod keyword;
 mod laws;
 mod lexemes;
 mod limits;
+mod line_names;
 mod line_point;
 mod names;
 mod placed;
@@ -31,6 +33,7 @@ mod tokens;
 pub use canonical::{push_pattern, push_spans};
 pub use classes::{has_bad_end, has_bad_point};
 pub use definition::{Definition, DemandKind, push_definition};
+pub use definition_place::wrong_definition;
 pub use definition_reading::{read_contexts, read_definition, read_demand, read_name};
 pub use definitions::{Definitions, Demand};
 pub use entry_form::{EntryForm, Mapped, NamedCondition};
@@ -44,10 +47,13 @@ pub use keyword::{Keyword, keyword_of};
 pub use laws::{
     canonical_lines_are_read_back, canonical_text_is_read_back, definitions_compute_the_entries,
     definitions_compute_the_examples, definitions_compute_the_lines, reading_a_pattern_is_exact,
-    what_lines_define_has_no_fault,
+    what_lines_define_has_no_fault, wrong_definitions_are_told,
 };
 pub use lexemes::{next_lexeme, without_blanks};
 pub use limits::{has_its_sets, is_within, without_atoms};
-pub use line_point::{LinePoint, line_points};
+pub use line_names::{
+    defined_name, keyword_place, name_place, ninth_group, unknown_name, unknown_set,
+};
+pub use line_point::{LinePoint, definition_points, line_points};
 pub use names::{Name, is_name, number_of};
 pub use spans::read_spans;

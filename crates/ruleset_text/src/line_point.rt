@@ -1,8 +1,10 @@
 //! The code points that a line of an entry or of a range names, with their places.
-ghost use Rattle.std.specs.Prelude.{◌≡◌, ◌+◌, ◌<◌, ◌≤◌, ◌^◌, ◌∷◌, ◌++◌, List, IfOk, OnOk};
+ghost use Rattle.std.specs.Prelude.{◌≡◌, ◌+◌, ◌<◌, ◌≤◌, ◌^◌, ◌∷◌, ◌++◌, List, length, IfOk, OnOk};
 ghost use Rattle.ruleset_text.specs.LinePoints.{is_separator as is_separator_of, line_points as line_points_of, points_from};
-ghost use Rattle.ruleset_text.specs.PlacedLexemes.{Placed};
+ghost use Rattle.ruleset_text.specs.LineNames.{definition_points as definition_points_of};
+ghost use Rattle.ruleset_text.specs.PlacedLexemes.{Placed, placed_from};
 
+use crate::keyword::{Keyword, keyword_of};
 use crate::placed::next_placed;
 use crate::tokens::without_prefix;
 use idn_text::hex_point;
@@ -24,13 +26,38 @@ pub struct LinePoint {
 pub fn line_points(alloc: Global, line: &[u8]) -> Result<Vec<LinePoint>, AllocError>
     ensures { IfOk result (λ points. points.items ≡ line_points_of line.now) }
 {
+    rest_points(alloc, 0, line)
+}
+
+/// The code points that a line names which defines something, behind its keyword and, if it has one, its name.
+pub fn definition_points(alloc: Global, line: &[u8]) -> Result<Vec<LinePoint>, AllocError>
+    ensures { IfOk result (λ points. points.items ≡ definition_points_of line.now) }
+{
+    let Some((place, word, rest)) = next_placed(0, line) else {
+        return Ok(Vec::new(alloc));
+    };
+    let before = place + word.len();
+    match keyword_of(word) {
+        Some(Keyword::Never | Keyword::Always) => rest_points(alloc, before, rest),
+        _ => match next_placed(before, rest) {
+            Some((place, name, rest)) => rest_points(alloc, place + name.len(), rest),
+            None => Ok(Vec::new(alloc)),
+        },
+    }
+}
+
+/// The code points of what is left of a line, behind the `before` bytes that stand before that.
+fn rest_points(alloc: Global, start: usize, text: &[u8]) -> Result<Vec<LinePoint>, AllocError>
+    requires { start + length text.now < 2 ^ 63 }
+    ensures { IfOk result (λ points. points.items ≡ points_from 0 0 (placed_from start text.now)) }
+{
     let mut taken = Taken {
         points: Vec::new(alloc),
         sequence: 0,
         index: 0,
     };
-    let mut before = 0;
-    let mut rest = line;
+    let mut before = start;
+    let mut rest = text;
     while let Some((place, lexeme, others)) = next_placed(before, rest) {
         taken.take(place, lexeme)?;
         before = place + lexeme.len();

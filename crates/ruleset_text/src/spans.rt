@@ -14,7 +14,7 @@ use std::alloc::{AllocError, Global};
 
 /// What a lexeme is among spans.
 #[derive(Clone, Copy, Debug, PartialEq, Eq)]
-enum Part {
+pub(crate) enum Part {
     Point(u32),
     /// `..`
     Range,
@@ -23,7 +23,7 @@ enum Part {
 
 /// What is held behind the spans that are complete.
 #[derive(Clone, Copy, Debug, PartialEq, Eq)]
-enum Held {
+pub(crate) enum Held {
     /// Nothing: the next span begins with this number or above.
     Above(u64),
     /// A point that may begin a range.
@@ -109,7 +109,7 @@ fn ended(spans: Vec<Span>, held: Held) -> Result<Option<PointSet>, AllocError>
     }
 }
 
-fn part_of(lexeme: &[u8]) -> Part
+pub(crate) fn part_of(lexeme: &[u8]) -> Part
     ensures { result ≡ words.part_of lexeme.now }
 {
     match lexeme {

@@ -23,7 +23,7 @@ pub fn read_tokens(alloc: Global, names: &[Name], line: &[u8]) -> Result<Vec<Tok
 }
 
 /// The token of a lexeme.
-fn token_of(names: &[Name], lexeme: &[u8]) -> Token
+pub(crate) fn token_of(names: &[Name], lexeme: &[u8]) -> Token
     ensures { result ≡ tokens.token_of names.now lexeme.now }
 {
     match lexeme {

@@ -24,3 +24,11 @@ pub mod EndLemmas
 pub mod StepLemmas
 -- Labels that are made of sources, by their steps; how far sources reach.
 pub mod SourceLemmas
+-- The variants that are not made of sources, found one after the other; the longest piece.
+pub mod LoneLemmas
+-- Demands, one after the other.
+pub mod DemandLemmas
+-- Steps of the program as pieces that stand in a label.
+pub mod PieceSteps
+-- Which beginnings of a label are lost, by two places.
+pub mod LostPlaces

@@ -39,7 +39,7 @@ module _ (table : TableValue) (label more : List ℕ) (sound : IsSound table) wh
       (h.0, (h.1.0, l, subst (λ s. IsPiece table s h.0) (part-stays label more i j h.1.0 l) h.1.2), λ barred. h.2 (stays.0 barred))
 
   -- where the shorter label leads nowhere, all that may be reached in the longer one lies within it
-  within : LeadsNowhere table label → (j : ℕ) → MayReach table (label ++ more) j → (j ≤ length label) × MayReach table label j
+  pub within : LeadsNowhere table label → (j : ℕ) → MayReach table (label ++ more) j → (j ≤ length label) × MayReach table label j
   within nowhere _ no_round = (omega arith, no_round)
   within nowhere _ (one_more i j rounds step) =
       let before = within nowhere i rounds in

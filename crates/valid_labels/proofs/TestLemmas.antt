@@ -145,7 +145,7 @@ pieces-agree table p formed =
       ],
     )
 
-variant-filled : (table : TableValue) (s : List ℕ) → IsWellFormed table.entries → IsVariant table s → 0 < length s
+pub variant-filled : (table : TableValue) (s : List ℕ) → IsWellFormed table.entries → IsVariant table s → 0 < length s
 variant-filled table s formed v = sequence-filled table.entries v.0 s formed v.1 (Contains-later v.0.source (sequences_in v.0.variants) s v.2)
 
 pub piece-filled : (table : TableValue) (s : List ℕ) (c : Option Condition) → IsWellFormed table.entries → IsPiece table s c → 0 < length s

@@ -2,6 +2,7 @@ pub mod Segmentations
 pub mod Pieces
 pub mod Demands
 pub mod Validity
+pub mod Testing
 pub mod Tests
 pub mod Furthest
 pub mod Examples

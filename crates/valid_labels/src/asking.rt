@@ -1,13 +1,11 @@
 //! What is asked of a source that stands in a label.
-ghost use Rattle.std.specs.Prelude.{◌≡◌, ◌↔◌, ◌≤◌, ℕ, false, length, map, IsTrue};
-ghost use Rattle.std.specs.List.{AllByRecursion};
+ghost use Rattle.std.specs.Prelude.{◌≡◌, ◌↔◌, ◌≤◌, ℕ, false, length, IsTrue};
 ghost use Rattle.label_patterns.specs.Barring.{IsBarred};
 ghost use Rattle.label_patterns.specs.Conditions.{ConditionHolds};
-ghost use Rattle.label_patterns.specs.Matches.{HasItsSets};
-ghost use Rattle.label_patterns.specs.Trees.{pattern};
 ghost use Rattle.variant_table.specs.Places.{EntryValue};
 
-use label_patterns::{PatternTree, SeenLabel, condition_holds, is_barred};
+use label_patterns::{Condition, SeenLabel, condition_holds, is_barred};
+use ruleset_text::Definitions;
 use variant_table::Entry;
 
 /// Something that is asked of the entry of a source that stands in a label.
@@ -51,48 +49,82 @@ impl Asking for InsideSource {
 }
 
 /// Its condition holds where it stands.
+#[derive(Drop)]
 pub struct HoldingSource<'a> {
-    pub rules: &'a [PatternTree],
+    pub definitions: &'a Definitions,
     pub seen: &'a SeenLabel<'a>,
 }
 
 impl<'a> Asking for HoldingSource<'a> {
-    ghost asks = { λ s e i j. ConditionHolds (map pattern s.rules.now) s.seen.now e.condition i j };
+    ghost asks = { λ s e i j. ConditionHolds s.definitions.now.rules s.seen.now e.condition i j };
 
-    ghost can_ask = { λ s n. AllByRecursion (HasItsSets (length s.seen.now.sets)) (map pattern s.rules.now) × (n ≤ length s.seen.now.label) };
+    ghost can_ask = { λ s n. (s.seen.now.sets ≡ s.definitions.now.sets) × (n ≤ length s.seen.now.label) };
 
     fn is_so(&self, entry: &Entry<'_>, start: usize, end: usize) -> bool {
-        condition_holds(entry.condition(0), self.rules, self.seen, start, end)
+        holds(entry.condition(0), self.definitions, self.seen, start, end)
     }
 }
 
 /// It is not outside, and its condition holds where it stands.
+#[derive(Drop)]
 pub struct HoldingInside<'a> {
-    pub holding: HoldingSource<'a>,
+    pub definitions: &'a Definitions,
+    pub seen: &'a SeenLabel<'a>,
 }
 
 impl<'a> Asking for HoldingInside<'a> {
-    ghost asks = { λ s e i j. (e.outside ≡ false) × ConditionHolds (map pattern s.holding.rules.now) s.holding.seen.now e.condition i j };
+    ghost asks = { λ s e i j. (e.outside ≡ false) × ConditionHolds s.definitions.now.rules s.seen.now e.condition i j };
 
-    ghost can_ask = { λ s n. AllByRecursion (HasItsSets (length s.holding.seen.now.sets)) (map pattern s.holding.rules.now) × (n ≤ length s.holding.seen.now.label) };
+    ghost can_ask = { λ s n. (s.seen.now.sets ≡ s.definitions.now.sets) × (n ≤ length s.seen.now.label) };
 
     fn is_so(&self, entry: &Entry<'_>, start: usize, end: usize) -> bool {
-        !entry.is_outside() && self.holding.is_so(entry, start, end)
+        !entry.is_outside() && holds(entry.condition(0), self.definitions, self.seen, start, end)
     }
 }
 
 /// Its condition isn't barred where it begins.
+#[derive(Drop)]
 pub struct UnbarredSource<'a> {
-    pub rules: &'a [PatternTree],
+    pub definitions: &'a Definitions,
     pub seen: &'a SeenLabel<'a>,
 }
 
 impl<'a> Asking for UnbarredSource<'a> {
-    ghost asks = { λ s e i _. IsBarred (map pattern s.rules.now) s.seen.now e.condition i → ⊥ };
+    ghost asks = { λ s e i _. IsBarred s.definitions.now.rules s.seen.now e.condition i → ⊥ };
 
-    ghost can_ask = { λ s n. AllByRecursion (HasItsSets (length s.seen.now.sets)) (map pattern s.rules.now) × (n ≤ length s.seen.now.label) };
+    ghost can_ask = { λ s n. (s.seen.now.sets ≡ s.definitions.now.sets) × (n ≤ length s.seen.now.label) };
 
     fn is_so(&self, entry: &Entry<'_>, start: usize, _end: usize) -> bool {
-        !is_barred(entry.condition(0), self.rules, self.seen, start)
+        !barred(entry.condition(0), self.definitions, self.seen, start)
     }
+}
+
+/// Whether a condition holds for the part of a label from `start` to `end`.
+fn holds(
+    condition: Option<Condition>,
+    definitions: &Definitions,
+    seen: &SeenLabel,
+    start: usize,
+    end: usize,
+) -> bool
+    requires sets { seen.now.sets ≡ definitions.now.sets }
+    requires start { start ≤ length seen.now.label }
+    requires end { end ≤ length seen.now.label }
+    ensures { IsTrue result ↔ ConditionHolds definitions.now.rules seen.now condition start end }
+{
+    condition_holds(condition, definitions.rules(), seen, start, end)
+}
+
+/// Whether a condition is barred at a place of a label.
+fn barred(
+    condition: Option<Condition>,
+    definitions: &Definitions,
+    seen: &SeenLabel,
+    start: usize,
+) -> bool
+    requires sets { seen.now.sets ≡ definitions.now.sets }
+    requires start { start ≤ length seen.now.label }
+    ensures { IsTrue result ↔ IsBarred definitions.now.rules seen.now condition start }
+{
+    is_barred(condition, definitions.rules(), seen, start)
 }

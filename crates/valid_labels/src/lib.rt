@@ -3,11 +3,20 @@
 
 mod asking;
 mod cutting;
+mod demands;
 mod laws;
+mod lost;
+mod pieces;
 mod sources;
+mod testing;
+mod valid;
+mod validity;
 
 pub use laws::{
     admitted_are_valid, examples_hold, furthest_is_told, lost_for_good, nothing_is_asked,
     segmentations_agree, tests_agree,
 };
-pub use sources::{furthest, is_made_of_sources};
+pub use pieces::Pieces;
+pub use sources::{asks_nothing, furthest, is_made_of_sources};
+pub use testing::ValidityTest;
+pub use validity::{Admission, Validity};

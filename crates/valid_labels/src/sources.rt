@@ -3,8 +3,9 @@ ghost use Rattle.std.specs.Prelude.{◌≡◌, ◌↔◌, ◌<◌, ◌≤◌, �
 ghost use Rattle.label_patterns.specs.Places.{Has};
 ghost use Rattle.variant_table.specs.WellFormed.{IsWellFormed};
 ghost use Rattle.valid_labels.specs.Furthest.{furthest as furthest_place};
-ghost use Rattle.valid_labels.specs.Pieces.{IsCovered};
 ghost use Rattle.valid_labels.specs.Segmentations.{IsMadeOfSources};
+ghost use Rattle.valid_labels.specs.Tests.{is_covered as is_covered_by};
+ghost use Rattle.valid_labels.specs.Validity.{AsksNothing};
 
 use crate::asking::{AnySource, InsideSource};
 use crate::cutting::reached;
@@ -32,8 +33,10 @@ pub fn furthest(table: &Table, label: &[u32]) -> usize
 /// Whether a sequence is made of sources of a table, of outside ones too.
 pub(crate) fn is_covered(table: &Table, points: &[u32]) -> bool
     requires { length points.now ≤ 63 }
-    ensures { IsTrue result ↔ IsCovered table.now points.now }
+    ensures { result ≡ is_covered_by table.now points.now }
 {
+    // The length is read for its contract alone: a table is well-formed.
+    let _entries = table.len();
     let none: &[Vec<u32>] = &[];
     has(reached(table, none, points, &AnySource), points.len())
 }
@@ -63,4 +66,20 @@ pub(crate) fn last_place(places: u64, len: usize) -> usize
         place -= 1;
     }
     place
+}
+
+/// Whether a table asks nothing of its labels: no source has a condition, and there is no demand. Then each label that is
+/// made of sources may be asked about, and each label that it spells is valid.
+pub fn asks_nothing(table: &Table) -> bool
+    ensures { IsTrue result ↔ AsksNothing table.now }
+{
+    if !table.definitions().demands().is_empty() {
+        return false;
+    }
+    for number in 0..table.len() {
+        if table.entry(number).condition(0).is_some() {
+            return false;
+        }
+    }
+    true
 }

@@ -1,28 +1,35 @@
 -- The canonical text of a well-formed table spells that table.
-use Rattle.std.proofs.Common.{◌≡◌, ◌≢◌, ℕ, zero, suc, ◌+◌, ◌*◌, ◌-◌, ◌<◌, ◌≤◌, Bool, true, false, not, ◌&&◌, cond, eqb, Some, List, [], ◌∷◌, ◌++◌, length, map, get_or, take, inl, inr, Option, Result, Ok, Err, refl, sym, ap, subst, ◌∙◌, append_assoc, arith, length-append, eq-eqb}
-use Rattle.std.specs.List.{AllByRecursion, list_all}
+use Rattle.std.proofs.Common.{◌≡◌, ◌≢◌, ℕ, zero, suc, ◌+◌, ◌*◌, ◌-◌, ◌<◌, ◌≤◌, Bool, true, false, not, ◌&&◌, ◌||◌, cond, eqb, Some, List, [], ◌∷◌, ◌++◌, length, map, get_or, take, inl, inr, Option, Result, Ok, Err, refl, sym, ap, subst, ◌∙◌, append_assoc, arith, length-append, eq-eqb}
+use Rattle.std.specs.List.{All, AllByRecursion, AllPairs, list_all}
+use Rattle.std.specs.Option.{option_map}
 use Rattle.std.specs.Str.Lines.{strip_carriage_return}
-use Rattle.std.specs.Prelude.{bytes_eq, None}
-use Rattle.std.proofs.lemmas.List.{append-nil}
-use Rattle.std.proofs.lemmas.Bool.{leb-true, and_parts, false_from_ne_true}
+use Rattle.std.specs.Prelude.{bytes_eq, nat_le, is_some, None}
+use Rattle.std.proofs.lemmas.List.{append-nil, length-map}
+use Rattle.std.proofs.lemmas.Bool.{leb-true, eqb-true, and_parts, false_from_ne_true}
 use Rattle.std.proofs.lemmas.Slice.Eq.{bytes_eq-Decides}
 use Rattle.std.proofs.lemmas.List.Elements.{All-from_recursion, recursion_from_All, All-weaker}
+use Rattle.label_patterns.specs.declared.condition.Condition.{Condition}
+use Rattle.label_patterns.specs.declared.condition.ConditionKind.{ConditionKind}
+use Rattle.label_patterns.specs.declared.condition.ConditionKind.TheVariants.{When, Unless}
 use Rattle.idn_text.specs.Lines.{raw_lines, HasNoFeed}
 use Rattle.idn_text.proofs.NumberingLemmas.{raw_lines-then}
 use Rattle.idn_text.specs.Points.{is_hex_digit}
+use Rattle.ruleset_text.specs.declared.entry_form.NamedCondition.{NamedCondition}
 use Rattle.ruleset_text.specs.declared.fault.DefinitionFault.{DefinitionFault}
 use Rattle.ruleset_text.specs.declared.keyword.Keyword.{Keyword}
 use Rattle.ruleset_text.specs.declared.keyword.Keyword.TheVariants as keyword
 use Rattle.ruleset_text.specs.Canonical.{definition_text, point_text}
 use Rattle.ruleset_text.specs.Definition.{Definition, keyword_of}
 use Rattle.ruleset_text.specs.Definitions.{Definitions, after, all_definitions, canonical_lines, defined, definitions_text, lines_text, nothing_defined, with_keyword, with_lines, with_words}
+use Rattle.ruleset_text.specs.Entries.{Mapped}
 use Rattle.ruleset_text.specs.Lexemes.{lexemes}
+use Rattle.ruleset_text.specs.Names.{is_letter, is_name_byte, is_name, is_one_of, number_of, AreNames}
 use Rattle.ruleset_text.specs.WellFormed.{AreDefinitions, IsDefinition}
 use Rattle.ruleset_text.proofs.DefinedLemmas.{NamesNoDemand, demands_grow, without_demands}
 use Rattle.ruleset_text.proofs.DefinitionsBackLemmas.{definitions_back}
 use Rattle.ruleset_text.proofs.DefinitionsTextLemmas.{definitions_text-length}
 use Rattle.ruleset_text.proofs.LineBytes.{IsInLine, AreInLine, joined, lines_in_line, point_in_line}
-use Rattle.ruleset_text.specs.EntryText.{mark_text, sequence_text, IsSequence, IsMapped, IsForm}
+use Rattle.ruleset_text.specs.EntryText.{mark_text, sequence_text, names_text, tags_text, condition_word, condition_text, IsSequence, MayHaveTags, HasRule, IsMapped, IsForm}
 use Rattle.ruleset_text.specs.EntryWords.{IsEntryLine}
 use Rattle.ruleset_text.proofs.EntryBackLemmas.{form_back}
 use Rattle.ruleset_text.proofs.EntryExactLemmas.{entry_spelled}
@@ -33,17 +40,19 @@ use Rattle.variant_table.specs.declared.version.Notation.TheVariants.{Table, Rul
 use Rattle.variant_table.specs.declared.version.Version.TheVariants.{One, Two, Three}
 use Rattle.variant_table.specs.DefinitionLines.{if_read, keyword_in, with_behind}
 use Rattle.variant_table.specs.Entries.{Variant, Entry, IsOfVersion, IsPlain, TableValue, empty_table, entry_from, source_of, table_of, whole, sequences_in, replacements}
-use Rattle.variant_table.specs.Forms.{is_plain, is_bare, has_form, variant_of, mapped_of}
+use Rattle.variant_table.specs.Forms.{has_tags, is_plain, is_bare, has_form, knows_rule, knows_all, numbered, name_at, named, variant_of, mapped_of, as_written}
 use Rattle.variant_table.specs.Canonical.{canonical_line, canonical_text, version_line, head_text, table_text}
-use Rattle.variant_table.specs.WellFormed.{AreOfVersion, IsSequence as IsTableSequence, IsEntry, IsTable}
+use Rattle.variant_table.specs.WellFormed.{AreOfVersion, IsSequence as IsTableSequence, IsEntry, HasItsRule, HasItsNames, IsNamed, IsTable}
 use Rattle.variant_table.specs.Limits.{line_limit, text_limit}
 use Rattle.variant_table.specs.Versions.{version_of, head_of, body_of, size_of, is_version_line, notation_of}
 use Rattle.variant_table.specs.Texts.{LineSpells, LineAdds, LinesSpell, AreLinesOf, IsTextOf}
 use Rattle.variant_table.proofs.ConditionLemmas.{AreScalars, sequences_scalar, sequences_filled}
 use Rattle.variant_table.proofs.EntryLemmas.{same_variant}
-use Rattle.variant_table.proofs.LimitLemmas.{line_limit-least}
+use Rattle.variant_table.proofs.FormSteps.{tags_named}
+use Rattle.variant_table.proofs.LengthLemmas.{names_size, length-tags_text, pieces_size, length-piece, length-entry_text}
+use Rattle.variant_table.proofs.NumberLemmas.{number_back, numbers_back, is_name-at, one_of-at, few_numbers, names-front, names-behind, pairs_head, pairs_tail}
 use Rattle.variant_table.proofs.SizeLemmas.{size_of-cons}
-use Rattle.variant_table.proofs.WritingLemmas.{further_text, sequence_text-is, length-sequence_text, variant_text, further_variants_text, variants_text, canonical_line-is}
+use Rattle.variant_table.proofs.WritingLemmas.{further_text, sequence_text-is, length-sequence_text, piece_text, further_pieces, pieces_text, canonical_line-is}
 
 -- ---- the form of an entry
 
@@ -51,43 +60,104 @@ scalar_sequence : (s : List ℕ) → 0 < length s → AreScalars s → IsSequenc
 scalar_sequence [] l h = absurd (omega (arith, l))
 scalar_sequence (c ∷ s) l h = h
 
-forms : (variants : List Variant) → AllByRecursion (λ s. 0 < length s) (sequences_in variants) → AllByRecursion AreScalars (sequences_in variants) → AllByRecursion IsMapped (map mapped_of variants)
-forms [] f h = tt
-forms (v ∷ variants) f h = (record { sequence = scalar_sequence v.sequence f.0 h.0; tags = tt; condition = tt }, forms variants f.1 h.1)
+module _ (d : Definitions) (are : AreDefinitions d) where
+  tag_names : AreNames d.tags
+  tag_names = names-front d.tags (d.set_names ++ d.rule_names) are.names
 
-entry_form : (e : Entry) → IsEntry e → IsForm (map mapped_of (whole e)) None
-entry_form e h =
-    let all = recursion_from_All IsTableSequence (replacements e) h.sequences in
-    forms (whole e) (sequences_filled (replacements e) all) (sequences_scalar (replacements e) all)
+  rule_names : AreNames d.rule_names
+  rule_names = names-behind d.set_names d.rule_names (names-behind d.tags (d.set_names ++ d.rule_names) are.names)
 
--- the canonical line of an entry spells it
-pub canonical_line_spells : (e : Entry) → IsEntry e → IsEntryLine (record { mapped = map mapped_of (whole e); last = None }) (canonical_line e)
-canonical_line_spells e h = entry_spelled (record { mapped = map mapped_of (whole e); last = None }) (canonical_line e) (form_back (map mapped_of (whole e)) None (entry_form e h))
+  names_of : (ns : List ℕ) → AllByRecursion (λ n. n < length d.tags) ns → AllPairs (λ m n. m ≢ n) ns → AreNames (map (name_at d.tags) ns)
+  names_of [] h apart = tt
+  names_of (n ∷ ns) h apart = (
+    is_name-at d.tags n tag_names h.0,
+    others n ns h.0 h.1 (recursion_from_All (λ k. n ≢ k) ns (pairs_head (λ k m. k ≢ m) n ns apart)),
+    names_of ns h.1 (pairs_tail (λ k m. k ≢ m) n ns apart),
+  )
+    where
+      others : (n : ℕ) (ns : List ℕ) → n < length d.tags → AllByRecursion (λ k. k < length d.tags) ns → AllByRecursion (λ k. n ≢ k) ns → AllByRecursion (λ other. name_at d.tags n ≡ other → ⊥) (map (name_at d.tags) ns)
+      others n [] l h apart = tt
+      others n (k ∷ ns) l h apart = (
+        λ same. apart.0 (sym (number_back d.tags n tag_names l) ∙ ap (number_of d.tags) same ∙ number_back d.tags k tag_names h.0),
+        others n ns l h.1 apart.1,
+      )
 
-variants_back : (variants : List Variant) → AllByRecursion IsPlain variants → map variant_of (map mapped_of variants) ≡ variants
-variants_back [] h = refl
-variants_back (v ∷ variants) h =
-    ap (λ w. w ∷ map variant_of (map mapped_of variants)) (same_variant (variant_of (mapped_of v)) v refl refl (sym h.0.0) (sym h.0.1)) ∙ ap (λ vs. v ∷ vs) (variants_back variants h.1)
+  may_have : (marked : Bool) (ns : List ℕ) → (marked ≡ true → ns ≡ []) → AreNames (map (name_at d.tags) ns) → MayHaveTags marked (map (name_at d.tags) ns)
+  may_have marked [] h names = tt
+  may_have true (n ∷ ns) h names = absurd (let x = h refl in cc)
+  may_have false (n ∷ ns) h names = (refl, names)
 
-all_plain_of : (v : Version) (e : Entry) → IsOfVersion v e → AllByRecursion IsPlain (whole e)
-all_plain_of One e h = recursion_from_All IsPlain (whole e) h.2
-all_plain_of Two e h = recursion_from_All IsPlain (whole e) h.1
-all_plain_of Three e h = recursion_from_All IsPlain (whole e) h
+  has_rule : (c : Option Condition) → HasItsRule d c → HasRule (option_map (named d) c)
+  has_rule None h = tt
+  has_rule (Some c) h = is_name-at d.rule_names c.rule rule_names h
+
+  mapped_form : (v : Variant) → 0 < length v.sequence → AreScalars v.sequence → HasItsNames d v → IsMapped (mapped_of d v)
+  mapped_form v l s h = record {
+    sequence = scalar_sequence v.sequence l s;
+    tags = may_have v.blocked v.tags h.unmarked (names_of v.tags (recursion_from_All (λ n. n < length d.tags) v.tags h.tags) h.distinct);
+    condition = has_rule v.condition h.condition;
+  }
+
+  forms : (variants : List Variant) → AllByRecursion (λ s. 0 < length s) (sequences_in variants) → AllByRecursion AreScalars (sequences_in variants) → AllByRecursion (HasItsNames d) variants → AllByRecursion IsMapped (map (mapped_of d) variants)
+  forms [] f h n = tt
+  forms (v ∷ variants) f h n = (mapped_form v f.0 h.0 n.0, forms variants f.1 h.1 n.1)
+
+  entry_form : (e : Entry) → IsEntry e → IsNamed d e → IsForm (as_written d e) None
+  entry_form e h n =
+      let all = recursion_from_All IsTableSequence (replacements e) h.sequences in
+      forms (whole e) (sequences_filled (replacements e) all) (sequences_scalar (replacements e) all) (recursion_from_All (HasItsNames d) (whole e) n)
+
+  -- the canonical line of an entry spells it
+  pub canonical_line_spells : (e : Entry) → IsEntry e → IsNamed d e → IsEntryLine (record { mapped = as_written d e; last = None }) (canonical_line d e)
+  canonical_line_spells e h n = entry_spelled (record { mapped = as_written d e; last = None }) (canonical_line d e) (form_back (as_written d e) None (entry_form e h n))
+
+  -- what is written is what is read
+
+  rule_read : (c : Option Condition) → HasItsRule d c → option_map (numbered d) (option_map (named d) c) ≡ c
+  rule_read None h = refl
+  rule_read (Some c) h = ap (λ n. Some (record c { rule = n })) (number_back d.rule_names c.rule rule_names h)
+
+  variant_read : (v : Variant) → HasItsNames d v → variant_of d (mapped_of d v) ≡ v
+  variant_read v h =
+      same_variant (variant_of d (mapped_of d v)) v refl refl (numbers_back d.tags v.tags tag_names (recursion_from_All (λ n. n < length d.tags) v.tags h.tags)) (rule_read v.condition h.condition)
+
+  variants_back : (variants : List Variant) → AllByRecursion (HasItsNames d) variants → map (variant_of d) (map (mapped_of d) variants) ≡ variants
+  variants_back [] h = refl
+  variants_back (v ∷ variants) h = ap (λ w. w ∷ map (variant_of d) (map (mapped_of d) variants)) (variant_read v h.0) ∙ ap (λ vs. v ∷ vs) (variants_back variants h.1)
+
+  tags_known : (ns : List ℕ) → AllByRecursion (λ n. n < length d.tags) ns → list_all (is_one_of d.tags) (map (name_at d.tags) ns) ≡ true
+  tags_known [] h = refl
+  tags_known (n ∷ ns) h = ap (λ b. b && list_all (is_one_of d.tags) (map (name_at d.tags) ns)) (one_of-at d.tags n h.0) ∙ tags_known ns h.1
+
+  rule_known : (c : Option Condition) → HasItsRule d c → knows_rule d (option_map (named d) c) ≡ true
+  rule_known None h = refl
+  rule_known (Some c) h = one_of-at d.rule_names c.rule h
+
+  all_known : (variants : List Variant) → AllByRecursion (HasItsNames d) variants → knows_all d (map (mapped_of d) variants) ≡ true
+  all_known [] h = refl
+  all_known (v ∷ variants) h =
+      ap (λ b. (b && knows_rule d (option_map (named d) v.condition)) && knows_all d (map (mapped_of d) variants)) (tags_known v.tags (recursion_from_All (λ n. n < length d.tags) v.tags (h.0).tags))
+      ∙ ap (λ b. b && knows_all d (map (mapped_of d) variants)) (rule_known v.condition (h.0).condition) ∙ all_known variants h.1
 
 -- ---- its version
 
-all_unmarked : (variants : List Variant) → AllByRecursion (λ v. v.blocked ≡ false) variants → list_all is_bare (map mapped_of variants) ≡ true
-all_unmarked [] h = refl
-all_unmarked (v ∷ variants) h = ap (λ b. not b && list_all is_bare (map mapped_of variants)) h.0 ∙ all_unmarked variants h.1
+plain_mapped : (d : Definitions) (v : Variant) → IsPlain v → is_plain (mapped_of d v) ≡ true
+plain_mapped d v h =
+    ap (λ t. not (has_tags (map (name_at d.tags) t)) && not (is_some (option_map (named d) v.condition))) h.0 ∙ ap (λ c. not (is_some (option_map (named d) c))) h.1
 
-all_plain : (variants : List Variant) → list_all is_plain (map mapped_of variants) ≡ true
-all_plain [] = refl
-all_plain (v ∷ variants) = all_plain variants
+all_plain : (d : Definitions) (variants : List Variant) → AllByRecursion IsPlain variants → list_all is_plain (map (mapped_of d) variants) ≡ true
+all_plain d [] h = refl
+all_plain d (v ∷ variants) h = ap (λ b. b && list_all is_plain (map (mapped_of d) variants)) (plain_mapped d v h.0) ∙ all_plain d variants h.1
 
-of_version : (v : Version) (e : Entry) → IsOfVersion v e → has_form v (record { mapped = map mapped_of (whole e); last = None }) ≡ true
-of_version One e h = ap (λ b. b && true) (all_unmarked (whole e) (h.0, recursion_from_All (λ v. v.blocked ≡ false) e.variants h.1))
-of_version Two e h = ap (λ b. b && not e.outside) (all_plain (whole e)) ∙ ap not h.0
-of_version Three e h = all_plain (whole e)
+all_unmarked : (d : Definitions) (variants : List Variant) → AllByRecursion IsPlain variants → AllByRecursion (λ v. v.blocked ≡ false) variants → list_all is_bare (map (mapped_of d) variants) ≡ true
+all_unmarked d [] p h = refl
+all_unmarked d (v ∷ variants) p h =
+    ap (λ b. (b && not v.blocked) && list_all is_bare (map (mapped_of d) variants)) (plain_mapped d v p.0) ∙ ap (λ b. not b && list_all is_bare (map (mapped_of d) variants)) h.0 ∙ all_unmarked d variants p.1 h.1
+
+of_version : (v : Version) (d : Definitions) (e : Entry) → IsOfVersion v e → has_form v (record { mapped = as_written d e; last = None }) ≡ true
+of_version One d e h = ap (λ b. b && true) (all_unmarked d (whole e) (recursion_from_All IsPlain (whole e) h.2) (h.0, recursion_from_All (λ v. v.blocked ≡ false) e.variants h.1))
+of_version Two d e h = ap (λ b. b && not e.outside) (all_plain d (whole e) (recursion_from_All IsPlain (whole e) h.1)) ∙ ap not h.0
+of_version Three d e h = all_plain d (whole e) (recursion_from_All IsPlain (whole e) h)
 
 -- ---- the bytes of a line: no line feed, no carriage return
 
@@ -100,21 +170,63 @@ mark_in_line : (marked : Bool) → AreInLine (mark_text marked)
 mark_in_line true = ((refl, refl), tt)
 mark_in_line false = tt
 
-variant_in_line : (v : Variant) → AreInLine (variant_text v)
-variant_in_line v = joined (mark_text v.blocked) (sequence_text v.sequence) (mark_in_line v.blocked) (sequence_in_line v.sequence)
+names_in_line : (names : List (List ℕ)) → AllByRecursion AreInLine names → AreInLine (names_text names)
+names_in_line [] h = tt
+names_in_line (name ∷ []) h = h.0
+names_in_line (name ∷ other ∷ names) h = joined name (44 ∷ names_text (other ∷ names)) h.0 ((refl, refl), names_in_line (other ∷ names) h.1)
 
-further_in_line : (variants : List Variant) → AreInLine (further_variants_text variants)
-further_in_line [] = tt
-further_in_line (v ∷ variants) = ((refl, refl), joined (variant_text v) (further_variants_text variants) (variant_in_line v) (further_in_line variants))
+tags_in_line : (tags : List (List ℕ)) → AllByRecursion AreInLine tags → AreInLine (tags_text tags)
+tags_in_line [] h = tt
+tags_in_line (tag ∷ tags) h = ((refl, refl), ((refl, refl), ((refl, refl), ((refl, refl), names_in_line (tag ∷ tags) h))))
 
-variants_in_line : (variants : List Variant) → AreInLine (variants_text variants)
-variants_in_line [] = tt
-variants_in_line (v ∷ variants) = ((refl, refl), joined (variant_text v) (further_variants_text variants) (variant_in_line v) (further_in_line variants))
+word_in_line : (kind : ConditionKind) → AreInLine (condition_word kind)
+word_in_line When = ((refl, refl), ((refl, refl), ((refl, refl), ((refl, refl), ((refl, refl), ((refl, refl), tt))))))
+word_in_line Unless = ((refl, refl), ((refl, refl), ((refl, refl), ((refl, refl), ((refl, refl), ((refl, refl), ((refl, refl), ((refl, refl), tt))))))))
 
-line_in_line : (e : Entry) → AreInLine (canonical_line e)
-line_in_line e =
-    subst AreInLine (sym (canonical_line-is e))
-    (joined (mark_text e.outside ++ sequence_text e.source) (variants_text e.variants) (variant_in_line (source_of e)) (variants_in_line e.variants))
+name_in_line : (name : List ℕ) → is_name name ≡ true → AreInLine name
+name_in_line [] h = absurd cc
+name_in_line (c ∷ cs) h =
+    let p = and_parts (is_letter c && nat_le (length cs) 31) (list_all is_name_byte cs) h in
+    let q = and_parts (is_letter c) (nat_le (length cs) 31) p.0 in
+    (byte_in_line c (ap (λ b. b || nat_le 48 c && nat_le c 57 || eqb c 95) q.0), bytes_in_line cs p.1)
+  where
+    byte_in_line : (c : ℕ) → is_name_byte c ≡ true → IsInLine c
+    byte_in_line c h = (other c 10 h refl, other c 13 h refl)
+      where
+        other : (c k : ℕ) → is_name_byte c ≡ true → is_name_byte k ≡ false → eqb c k ≡ false
+        other c k h n = false_from_ne_true (eqb c k) (λ e. (let x : true ≡ false = sym h ∙ ap is_name_byte (eqb-true c k e) ∙ n in cc))
+
+    bytes_in_line : (cs : List ℕ) → list_all is_name_byte cs ≡ true → AreInLine cs
+    bytes_in_line [] h = tt
+    bytes_in_line (c ∷ cs) h = let p = and_parts (is_name_byte c) (list_all is_name_byte cs) h in (byte_in_line c p.0, bytes_in_line cs p.1)
+
+each_name_in_line : (tags : List (List ℕ)) → AreNames tags → AllByRecursion AreInLine tags
+each_name_in_line [] h = tt
+each_name_in_line (tag ∷ tags) h = (name_in_line tag h.0, each_name_in_line tags h.2)
+
+condition_in_line : (c : Option NamedCondition) → HasRule c → AreInLine (condition_text c)
+condition_in_line None h = tt
+condition_in_line (Some c) h = joined (condition_word c.kind) c.rule (word_in_line c.kind) (name_in_line c.rule h)
+
+piece_in_line : (m : Mapped) → IsMapped m → AreInLine (piece_text m)
+piece_in_line m h =
+    joined (mark_text m.marked) (sequence_text m.points ++ ([] ++ (tags_text m.tags ++ condition_text m.condition))) (mark_in_line m.marked)
+    (joined (sequence_text m.points) ([] ++ (tags_text m.tags ++ condition_text m.condition)) (sequence_in_line m.points)
+    (joined (tags_text m.tags) (condition_text m.condition) (tags_in_line m.tags (each_name_in_line m.tags (tags_named m.marked m.tags h.tags))) (condition_in_line m.condition h.condition)))
+
+further_in_line : (ms : List Mapped) → AllByRecursion IsMapped ms → AreInLine (further_pieces ms)
+further_in_line [] h = tt
+further_in_line (m ∷ ms) h = ((refl, refl), joined (piece_text m) (further_pieces ms) (piece_in_line m h.0) (further_in_line ms h.1))
+
+pieces_in_line : (ms : List Mapped) → AllByRecursion IsMapped ms → AreInLine (pieces_text ms)
+pieces_in_line [] h = tt
+pieces_in_line (m ∷ ms) h = ((refl, refl), joined (piece_text m) (further_pieces ms) (piece_in_line m h.0) (further_in_line ms h.1))
+
+line_in_line : (d : Definitions) (e : Entry) → AreDefinitions d → IsEntry e → IsNamed d e → AreInLine (canonical_line d e)
+line_in_line d e are h n =
+    let form : AllByRecursion IsMapped (as_written d e) = entry_form d are e h n in
+    subst AreInLine (sym (canonical_line-is d e))
+    (joined (piece_text (mapped_of d (source_of e))) (pieces_text (map (mapped_of d) e.variants)) (piece_in_line (mapped_of d (source_of e)) form.0) (pieces_in_line (map (mapped_of d) e.variants) form.1))
 
 no_feed_line : (line : List ℕ) → AreInLine line → HasNoFeed line
 no_feed_line line h = All-weaker IsInLine (λ b. b ≢ 10) (λ b other is. cc (eq-eqb b 10 is, other.0)) line (All-from_recursion IsInLine line h)
@@ -129,31 +241,29 @@ strip_nothing line h = ap (λ b. cond b (take (length line - 1) line) line) (no_
 
 -- ---- the length of a line
 
-abbrev AreShort : List (List ℕ) → Type 0
-AreShort ss = AllByRecursion (λ s. length s ≤ 8) ss
-
-short_sequences : (ss : List (List ℕ)) → AllByRecursion IsTableSequence ss → AreShort ss
-short_sequences [] h = tt
-short_sequences (s ∷ ss) h = (h.0.short, short_sequences ss h.1)
-
 one_mark : (marked : Bool) → length (mark_text marked) ≤ 1
 one_mark true = omega arith
 one_mark false = omega arith
 
--- how many variants are blocked
+plain_piece : (d : Definitions) (v : Variant) → IsTableSequence v.sequence → IsPlain v → length (piece_text (mapped_of d v)) ≤ 55 + length (mark_text v.blocked)
+plain_piece d v s h =
+    omega (
+      arith,
+      length-piece (mapped_of d v),
+      length-sequence_text v.sequence (omega (arith, s.filled)) s.short,
+      ap (λ t. length (tags_text (map (name_at d.tags) t) ++ condition_text (option_map (named d) v.condition))) h.0,
+      ap (λ c. length (condition_text (option_map (named d) c))) h.1,
+    )
+
+-- how many are blocked
 marked : List Variant → ℕ
 marked [] = 0
 marked (v ∷ variants) = length (mark_text v.blocked) + marked variants
 
-length-further : (variants : List Variant) → AllByRecursion (λ s. 0 < length s) (sequences_in variants) → AreShort (sequences_in variants) → length (further_variants_text variants) ≤ 56 * length variants + marked variants
+plain_pieces : (d : Definitions) (variants : List Variant) → AllByRecursion IsTableSequence (sequences_in variants) → AllByRecursion IsPlain variants → pieces_size (map (mapped_of d) variants) ≤ 56 * length variants + marked variants
 unfolding marked
-length-further [] f h = omega arith
-length-further (v ∷ variants) f h =
-    omega (arith, length-append (variant_text v) (further_variants_text variants), length-append (mark_text v.blocked) (sequence_text v.sequence), length-sequence_text v.sequence f.0 h.0, length-further variants f.1 h.1)
-
-length-variants : (variants : List Variant) → length (variants_text variants) ≡ length (further_variants_text variants)
-length-variants [] = refl
-length-variants (v ∷ variants) = refl
+plain_pieces d [] s h = omega arith
+plain_pieces d (v ∷ variants) s h = omega (arith, plain_piece d v s.0 h.0, plain_pieces d variants s.1 h.1)
 
 marked-few : (variants : List Variant) → marked variants ≤ length variants
 unfolding marked
@@ -165,34 +275,87 @@ unfolding marked
 marked-none [] h = refl
 marked-none (v ∷ variants) h = omega (arith, ap (λ b. length (mark_text b)) h.0, marked-none variants h.1)
 
--- a canonical line has at most 951 bytes and one more for each mark
-length-by_marks : (e : Entry) → IsEntry e → length (canonical_line e) ≤ 951 + length (mark_text e.outside) + marked e.variants
-length-by_marks e h =
+-- without tags and conditions a canonical line has at most 951 bytes and one more for each mark
+length-by_marks : (d : Definitions) (e : Entry) → IsEntry e → All IsPlain (whole e) → length (canonical_line d e) ≤ 951 + length (mark_text e.outside) + marked e.variants
+unfolding marked
+length-by_marks d e h p =
     let all = recursion_from_All IsTableSequence (replacements e) h.sequences in
-    let filled = sequences_filled (replacements e) all in
-    let short = short_sequences (replacements e) all in
-    omega (
-      arith,
-      h.few,
-      ap length (canonical_line-is e),
-      length-append (mark_text e.outside ++ sequence_text e.source) (variants_text e.variants),
-      length-append (mark_text e.outside) (sequence_text e.source),
-      length-sequence_text e.source filled.0 short.0,
-      length-variants e.variants,
-      length-further e.variants filled.1 short.1,
-    )
+    let plain = recursion_from_All IsPlain (whole e) p in
+    omega (arith, h.few, length-entry_text (mapped_of d (source_of e)) (map (mapped_of d) e.variants), plain_piece d (source_of e) all.0 plain.0, plain_pieces d e.variants all.1 plain.1)
 
 -- with all its marks it has at most 968 bytes
-pub length-marked_line : (e : Entry) → IsEntry e → length (canonical_line e) ≤ 968
-length-marked_line e h = omega (arith, h.few, length-by_marks e h, one_mark e.outside, marked-few e.variants)
+pub length-marked_line : (d : Definitions) (e : Entry) → IsEntry e → All IsPlain (whole e) → length (canonical_line d e) ≤ 968
+length-marked_line d e h p = omega (arith, h.few, length-by_marks d e h p, one_mark e.outside, marked-few e.variants)
 
 -- in version 2 it has at most 967
-pub length-blocked_line : (e : Entry) → IsEntry e → IsOfVersion Two e → length (canonical_line e) ≤ 967
-length-blocked_line e h of = omega (arith, h.few, length-by_marks e h, ap (λ b. length (mark_text b)) of.0, marked-few e.variants)
+pub length-blocked_line : (d : Definitions) (e : Entry) → IsEntry e → IsOfVersion Two e → length (canonical_line d e) ≤ 967
+length-blocked_line d e h of = omega (arith, h.few, length-by_marks d e h of.1, ap (λ b. length (mark_text b)) of.0, marked-few e.variants)
 
 -- in version 1 it has at most 951
-pub length-canonical_line : (e : Entry) → IsEntry e → IsOfVersion One e → length (canonical_line e) ≤ 951
-length-canonical_line e h of = omega (arith, length-by_marks e h, ap (λ b. length (mark_text b)) of.0, marked-none e.variants (recursion_from_All (λ v. v.blocked ≡ false) e.variants of.1))
+pub length-canonical_line : (d : Definitions) (e : Entry) → IsEntry e → IsOfVersion One e → length (canonical_line d e) ≤ 951
+length-canonical_line d e h of = omega (arith, length-by_marks d e h of.2, ap (λ b. length (mark_text b)) of.0, marked-none e.variants (recursion_from_All (λ v. v.blocked ≡ false) e.variants of.1))
+
+-- ---- with tags and conditions
+
+length-name : (name : List ℕ) → is_name name ≡ true → length name ≤ 32
+length-name [] h = absurd cc
+length-name (c ∷ cs) h =
+    let p = and_parts (is_letter c && nat_le (length cs) 31) (list_all is_name_byte cs) h in
+    omega (arith, leb-true (length cs) 31 (and_parts (is_letter c) (nat_le (length cs) 31) p.0).1)
+
+length-names : (tags : List (List ℕ)) → AreNames tags → names_size tags ≤ 33 * length tags
+length-names [] h = omega arith
+length-names (tag ∷ tags) h = omega (arith, length-name tag h.0, length-names tags h.2)
+
+length-tags : (tags : List (List ℕ)) → AreNames tags → length tags ≤ 8 → length (tags_text tags) ≤ 267
+length-tags [] h l = omega arith
+length-tags (tag ∷ tags) h l = omega (arith, l, length-tags_text (tag ∷ tags) (omega arith), length-names (tag ∷ tags) h)
+
+length-word : (kind : ConditionKind) → length (condition_word kind) ≤ 8
+length-word When = omega arith
+length-word Unless = omega arith
+
+length-condition : (c : Option NamedCondition) → HasRule c → length (condition_text c) ≤ 40
+length-condition None h = omega arith
+length-condition (Some c) h = omega (arith, length-append (condition_word c.kind) c.rule, length-word c.kind, length-name c.rule h)
+
+-- what is marked has no tags
+marked_or_tagged : (marked : Bool) (tags : List (List ℕ)) → MayHaveTags marked tags → AreNames tags → length tags ≤ 8 → length (mark_text marked) + length (tags_text tags) ≤ 267
+marked_or_tagged marked [] h names l = omega (arith, one_mark marked)
+marked_or_tagged marked (tag ∷ tags) h names l = omega (arith, ap (λ b. length (mark_text b)) h.0, length-tags (tag ∷ tags) names l)
+
+few_tags : (d : Definitions) (v : Variant) → AreDefinitions d → HasItsNames d v → length v.tags ≤ 8
+few_tags d v are h = omega (arith, are.few_tags, few_numbers (length d.tags) v.tags (recursion_from_All (λ n. n < length d.tags) v.tags h.tags) h.distinct)
+
+named_piece : (d : Definitions) (v : Variant) → AreDefinitions d → IsTableSequence v.sequence → HasItsNames d v → IsMapped (mapped_of d v) → length (piece_text (mapped_of d v)) ≤ 362
+named_piece d v are s h m =
+    let tags : List (List ℕ) = map (name_at d.tags) v.tags in
+    let condition : Option NamedCondition = option_map (named d) v.condition in
+    omega (
+      arith,
+      length-piece (mapped_of d v),
+      length-sequence_text v.sequence (omega (arith, s.filled)) s.short,
+      length-append (tags_text tags) (condition_text condition),
+      marked_or_tagged v.blocked tags m.tags (tags_named v.blocked tags m.tags) (omega (arith, few_tags d v are h, length-map v.tags (name_at d.tags))),
+      length-condition condition m.condition,
+    )
+
+named_pieces : (d : Definitions) (variants : List Variant) → AreDefinitions d → AllByRecursion IsTableSequence (sequences_in variants) → AllByRecursion (HasItsNames d) variants → AllByRecursion IsMapped (map (mapped_of d) variants)
+    → pieces_size (map (mapped_of d) variants) ≤ 363 * length variants
+named_pieces d [] are s h m = omega arith
+named_pieces d (v ∷ variants) are s h m = omega (arith, named_piece d v are s.0 h.0 m.0, named_pieces d variants are s.1 h.1 m.1)
+
+-- a canonical line has at most 6,170 bytes
+pub length-named_line : (d : Definitions) (e : Entry) → AreDefinitions d → IsEntry e → IsNamed d e → length (canonical_line d e) ≤ 6170
+length-named_line d e are h n =
+    let all = recursion_from_All IsTableSequence (replacements e) h.sequences in
+    let form : AllByRecursion IsMapped (as_written d e) = entry_form d are e h n in
+    omega (arith, h.few, length-entry_text (mapped_of d (source_of e)) (map (mapped_of d) e.variants), named_pieces d (whole e) are all (recursion_from_All (HasItsNames d) (whole e) n) form)
+
+length-by_version : (v : Version) (d : Definitions) (e : Entry) → AreDefinitions d → IsEntry e → IsNamed d e → IsOfVersion v e → length (canonical_line d e) ≤ line_limit v
+length-by_version One d e are h n of = omega (arith, length-canonical_line d e h of)
+length-by_version Two d e are h n of = omega (arith, length-blocked_line d e h of)
+length-by_version Three d e are h n of = omega (arith, length-named_line d e are h n)
 
 -- ---- the text
 
@@ -203,44 +366,50 @@ cut_lines (line ∷ lines) rest h =
     ap raw_lines (append_assoc (line ++ 10 ∷ []) (lines_text lines) rest ∙ append_assoc line (10 ∷ []) (lines_text lines ++ rest))
     ∙ raw_lines-then line (lines_text lines ++ rest) (no_feed_line line h.0) ∙ ap (λ ls. line ∷ ls) (cut_lines lines rest h.1)
 
-lines_in_line_of : (table : List Entry) → AllByRecursion AreInLine (map canonical_line table)
-lines_in_line_of [] = tt
-lines_in_line_of (e ∷ table) = (line_in_line e, lines_in_line_of table)
+-- entries whose names are defined
+abbrev AreNamed : Definitions → List Entry → Type 0
+AreNamed d table = AllByRecursion (IsNamed d) table
 
-text_of_lines : (table : List Entry) → canonical_text table ≡ lines_text (map canonical_line table)
-text_of_lines [] = refl
-text_of_lines (e ∷ table) = ap (λ t. (canonical_line e ++ 10 ∷ []) ++ t) (text_of_lines table)
+lines_in_line_of : (d : Definitions) (table : List Entry) → AreDefinitions d → AllByRecursion IsEntry table → AreNamed d table → AllByRecursion AreInLine (map (canonical_line d) table)
+lines_in_line_of d [] are h n = tt
+lines_in_line_of d (e ∷ table) are h n = (line_in_line d e are h.0 n.0, lines_in_line_of d table are h.1 n.1)
 
-raw_lines-canonical : (table : List Entry) → raw_lines (canonical_text table) ≡ map canonical_line table
-raw_lines-canonical table =
-    ap raw_lines (text_of_lines table ∙ sym (append-nil (lines_text (map canonical_line table))))
-    ∙ cut_lines (map canonical_line table) [] (lines_in_line_of table) ∙ append-nil (map canonical_line table)
+text_of_lines : (d : Definitions) (table : List Entry) → canonical_text d table ≡ lines_text (map (canonical_line d) table)
+text_of_lines d [] = refl
+text_of_lines d (e ∷ table) = ap (λ t. (canonical_line d e ++ 10 ∷ []) ++ t) (text_of_lines d table)
+
+raw_lines-canonical : (d : Definitions) (table : List Entry) → AreDefinitions d → AllByRecursion IsEntry table → AreNamed d table → raw_lines (canonical_text d table) ≡ map (canonical_line d) table
+raw_lines-canonical d table are h n =
+    ap raw_lines (text_of_lines d table ∙ sym (append-nil (lines_text (map (canonical_line d) table))))
+    ∙ cut_lines (map (canonical_line d) table) [] (lines_in_line_of d table are h n) ∙ append-nil (map (canonical_line d) table)
 
 -- the lines of a table's canonical text behind its version line
 table_lines : Definitions → List Entry → List (List ℕ)
-table_lines d table = canonical_lines d ++ map canonical_line table
+table_lines d table = canonical_lines d ++ map (canonical_line d) table
 
-raw_lines-table : (d : Definitions) (table : List Entry) → AreDefinitions d → raw_lines (definitions_text d ++ canonical_text table) ≡ table_lines d table
+raw_lines-table : (d : Definitions) (table : List Entry) → AreDefinitions d → AllByRecursion IsEntry table → AreNamed d table → raw_lines (definitions_text d ++ canonical_text d table) ≡ table_lines d table
 unfolding table_lines
-raw_lines-table d table are = cut_lines (canonical_lines d) (canonical_text table) (lines_in_line d are) ∙ ap (λ ls. canonical_lines d ++ ls) (raw_lines-canonical table)
+raw_lines-table d table are h n = cut_lines (canonical_lines d) (canonical_text d table) (lines_in_line d are) ∙ ap (λ ls. canonical_lines d ++ ls) (raw_lines-canonical d table are h n)
 
 -- ---- what the lines spell
 
-spells_entry : (v : Version) (e : Entry) → IsEntry e → IsOfVersion v e → LineSpells v (strip_carriage_return (canonical_line e)) (e ∷ [])
-spells_entry v e h of = inr (inr (
-  record { mapped = map mapped_of (whole e); last = None },
-  subst (IsEntryLine (record { mapped = map mapped_of (whole e); last = None })) (sym (strip_nothing (canonical_line e) (line_in_line e))) (canonical_line_spells e h),
-  of_version v e of,
-  ap (λ vs. entry_from vs ∷ []) (sym (variants_back (whole e) (all_plain_of v e of))),
-))
+spells_entry : (v : Version) (d : Definitions) (e : Entry) → AreDefinitions d → IsEntry e → IsNamed d e → IsOfVersion v e → LineSpells v d (strip_carriage_return (canonical_line d e)) (e ∷ [])
+spells_entry v d e are h n of =
+    let all = recursion_from_All (HasItsNames d) (whole e) n in
+    inr (inr (
+      record { mapped = as_written d e; last = None },
+      (subst (IsEntryLine (record { mapped = as_written d e; last = None })) (sym (strip_nothing (canonical_line d e) (line_in_line d e are h n))) (canonical_line_spells d are e h n), of_version v d e of),
+      all_known d are (whole e) all,
+      ap (λ vs. entry_from vs ∷ []) (sym (variants_back d are (whole e) all)),
+    ))
 
-entries_spell : (v : Version) (d : Definitions) (done table : List Entry) → AllByRecursion IsEntry table → AllByRecursion (IsOfVersion v) table
-    → LinesSpell (table_of v d done) (map canonical_line table) (table_of v d (done ++ table))
-entries_spell v d done [] h of = ap (table_of v d) (append-nil done)
-entries_spell v d done (e ∷ table) h of = (
+entries_spell : (v : Version) (d : Definitions) (done table : List Entry) → AreDefinitions d → AllByRecursion IsEntry table → AreNamed d table → AllByRecursion (IsOfVersion v) table
+    → LinesSpell (table_of v d done) (map (canonical_line d) table) (table_of v d (done ++ table))
+entries_spell v d done [] are h n of = ap (table_of v d) (append-nil done)
+entries_spell v d done (e ∷ table) are h n of = (
   table_of v d (done ++ e ∷ []),
-  inl (e ∷ [], spells_entry v e h.0 of.0, refl),
-  subst (λ es. LinesSpell (table_of v d (done ++ e ∷ [])) (map canonical_line table) (table_of v d es)) (append_assoc done (e ∷ []) table) (entries_spell v d (done ++ e ∷ []) table h.1 of.1),
+  inl (e ∷ [], spells_entry v d e are h.0 n.0 of.0, refl),
+  subst (λ es. LinesSpell (table_of v d (done ++ e ∷ [])) (map (canonical_line d) table) (table_of v d es)) (append_assoc done (e ∷ []) table) (entries_spell v d (done ++ e ∷ []) table are h.1 n.1 of.1),
 )
 
 -- what reading gives for the lexemes of a definition
@@ -310,22 +479,23 @@ behind_one_another t m u (line ∷ a) b (n, adds, rest) k = (n, adds, behind_one
 table_spelled : (v : Version) (d : Definitions) (table : List Entry) → IsTable (table_of v d table) → LinesSpell (empty_table v) (table_lines d table) (table_of v d table)
 unfolding table_lines
 table_spelled v d table h =
-    behind_one_another (empty_table v) (table_of v d []) (table_of v d table) (canonical_lines d) (map canonical_line table)
+    behind_one_another (empty_table v) (table_of v d []) (table_of v d table) (canonical_lines d) (map (canonical_line d) table)
     (definitions_spell v d h.defined h.without_fault (omega (
       arith,
       h.short,
-      length-append (head_text v) (definitions_text d ++ canonical_text table),
-      length-append (definitions_text d) (canonical_text table),
+      length-append (head_text v) (definitions_text d ++ canonical_text d table),
+      length-append (definitions_text d) (canonical_text d table),
       length-append (head_text v) (definitions_text d ++ []),
       length-append (definitions_text d) [],
     )))
-    (entries_spell v d [] table (recursion_from_All IsEntry table h.well_formed.entries) (recursion_from_All (IsOfVersion v) table h.of_version))
+    (entries_spell v d [] table h.without_fault (recursion_from_All IsEntry table h.well_formed.entries) (recursion_from_All (IsNamed d) table h.named) (recursion_from_All (IsOfVersion v) table h.of_version))
 
 -- ---- how long they are
 
-canonical_short : (v : Version) (table : List Entry) → AllByRecursion IsEntry table → AllByRecursion (λ line. length line ≤ line_limit v) (map canonical_line table)
-canonical_short v [] h = tt
-canonical_short v (e ∷ table) h = (omega (arith, length-marked_line e h.0, line_limit-least v), canonical_short v table h.1)
+canonical_short : (v : Version) (d : Definitions) (table : List Entry) → AreDefinitions d → AllByRecursion IsEntry table → AreNamed d table → AllByRecursion (IsOfVersion v) table
+    → AllByRecursion (λ line. length line ≤ line_limit v) (map (canonical_line d) table)
+canonical_short v d [] are h n of = tt
+canonical_short v d (e ∷ table) are h n of = (length-by_version v d e are h.0 n.0 of.0, canonical_short v d table are h.1 n.1 of.1)
 
 size_of-lines : (lines : List (List ℕ)) → size_of lines ≡ length (lines_text lines)
 size_of-lines [] = refl
@@ -335,10 +505,10 @@ size_of-append : (a b : List (List ℕ)) → size_of (a ++ b) ≡ size_of a + si
 size_of-append [] b = omega arith
 size_of-append (line ∷ a) b = omega (arith, size_of-cons line (a ++ b), size_of-cons line a, size_of-append a b)
 
-size_of-table : (d : Definitions) (table : List Entry) → size_of (table_lines d table) ≡ length (definitions_text d) + length (canonical_text table)
+size_of-table : (d : Definitions) (table : List Entry) → size_of (table_lines d table) ≡ length (definitions_text d) + length (canonical_text d table)
 unfolding table_lines
 size_of-table d table =
-    omega (arith, size_of-append (canonical_lines d) (map canonical_line table), size_of-lines (canonical_lines d), size_of-lines (map canonical_line table), ap length (text_of_lines table))
+    omega (arith, size_of-append (canonical_lines d) (map (canonical_line d) table), size_of-lines (canonical_lines d), size_of-lines (map (canonical_line d) table), ap length (text_of_lines d table))
 
 short_definitions : (names : List (List ℕ)) (xs : List Definition) → AllByRecursion (IsDefinition names) xs → AllByRecursion (λ line. length line ≤ 8192) (map (definition_text names) xs)
 short_definitions names [] h = tt
@@ -348,9 +518,10 @@ all_short : (P : List ℕ → Type 0) (a b : List (List ℕ)) → AllByRecursion
 all_short P [] b h k = k
 all_short P (x ∷ a) b h k = (h.0, all_short P a b h.1 k)
 
-short_lines : (v : Version) (d : Definitions) (table : List Entry) → AreOfVersion v d → AreDefinitions d → AllByRecursion IsEntry table → AllByRecursion (λ line. length line ≤ line_limit v) (table_lines d table)
+short_lines : (v : Version) (d : Definitions) (table : List Entry) → AreOfVersion v d → AreDefinitions d → AllByRecursion IsEntry table → AreNamed d table → AllByRecursion (IsOfVersion v) table
+    → AllByRecursion (λ line. length line ≤ line_limit v) (table_lines d table)
 unfolding table_lines
-short_lines v d table of are h = all_short (λ line. length line ≤ line_limit v) (canonical_lines d) (map canonical_line table) (by_version v of) (canonical_short v table h)
+short_lines v d table of are h n each = all_short (λ line. length line ≤ line_limit v) (canonical_lines d) (map (canonical_line d) table) (by_version v of) (canonical_short v d table are h n each)
   where
     by_version : (w : Version) → AreOfVersion w d → AllByRecursion (λ line. length line ≤ line_limit w) (canonical_lines d)
     by_version One of = subst (λ x. AllByRecursion (λ line. length line ≤ 1024) (canonical_lines x)) (sym of) tt
@@ -358,12 +529,12 @@ short_lines v d table of are h = all_short (λ line. length line ≤ line_limit 
     by_version Three of = short_definitions d.set_names (all_definitions d) are.each
 
 -- the lines of a table
-lines_of_table : (head : List (List ℕ)) (v : Version) (d : Definitions) (entries : List Entry) → IsTable (table_of v d entries) → size_of head + (length (definitions_text d) + length (canonical_text entries)) ≤ text_limit v
+lines_of_table : (head : List (List ℕ)) (v : Version) (d : Definitions) (entries : List Entry) → IsTable (table_of v d entries) → size_of head + (length (definitions_text d) + length (canonical_text d entries)) ≤ text_limit v
     → AreLinesOf head (table_lines d entries) (table_of v d entries)
 lines_of_table head v d entries h size =
     record {
       spelled = table_spelled v d entries h;
-      short = All-from_recursion (λ line. length line ≤ line_limit v) (table_lines d entries) (short_lines v d entries h.defined h.without_fault (recursion_from_All IsEntry entries h.well_formed.entries));
+      short = All-from_recursion (λ line. length line ≤ line_limit v) (table_lines d entries) (short_lines v d entries h.defined h.without_fault (recursion_from_All IsEntry entries h.well_formed.entries) (recursion_from_All (IsNamed d) entries h.named) (recursion_from_All (IsOfVersion v) entries h.of_version));
       size = omega (arith, size_of-table d entries, size);
       well_formed = h;
     }
@@ -387,18 +558,23 @@ begins_by_digit (c ∷ points) rest l h e =
     let text : sequence_text (c ∷ points) ++ rest ≡ point_text c ++ (further_text points ++ rest) = ap (λ t. t ++ rest) (sequence_text-is c points) ∙ append_assoc (point_text c) (further_text points) rest in
     no_percent (point_text c) (further_text points ++ rest) hex.digit (omega (arith, long)) (ap (λ t. bytes_eq t (version_line Table)) (sym text) ∙ e)
 
-begins_by_mark : (outside : Bool) (source rest : List ℕ) → 0 < length source → AreScalars source → bytes_eq ((mark_text outside ++ sequence_text source) ++ rest) (version_line Table) ≡ true → ⊥
+begins_by_mark : (outside : Bool) (source rest : List ℕ) → 0 < length source → AreScalars source → bytes_eq (mark_text outside ++ (sequence_text source ++ rest)) (version_line Table) ≡ true → ⊥
 begins_by_mark true source rest l h e =
     let none : 33 ≡ 37 = ap (λ s. get_or s 0 0) ((bytes_eq-Decides (33 ∷ (sequence_text source ++ rest)) (version_line Table)).0 e) in
     omega (arith, none)
 begins_by_mark false source rest l h e = begins_by_digit source rest l h e
 
-no_version_line : (e : Entry) → IsEntry e → is_version_line Table (canonical_line e) ≡ false
-no_version_line e h =
+no_version_line : (d : Definitions) (e : Entry) → AreDefinitions d → IsEntry e → IsNamed d e → is_version_line Table (canonical_line d e) ≡ false
+no_version_line d e are h n =
     let all = recursion_from_All IsTableSequence (replacements e) h.sequences in
-    ap (λ l. bytes_eq l (version_line Table)) (strip_nothing (canonical_line e) (line_in_line e) ∙ canonical_line-is e)
-    ∙ false_from_ne_true (bytes_eq ((mark_text e.outside ++ sequence_text e.source) ++ variants_text e.variants) (version_line Table))
-    (begins_by_mark e.outside e.source (variants_text e.variants) (sequences_filled (replacements e) all).0 (sequences_scalar (replacements e) all).0)
+    let m : Mapped = mapped_of d (source_of e) in
+    let behind : List ℕ = [] ++ (tags_text m.tags ++ condition_text m.condition) in
+    let others : List ℕ = pieces_text (map (mapped_of d) e.variants) in
+    let line : canonical_line d e ≡ mark_text e.outside ++ (sequence_text e.source ++ (behind ++ others)) =
+    canonical_line-is d e ∙ append_assoc (mark_text e.outside) (sequence_text e.source ++ behind) others ∙ ap (λ t. mark_text e.outside ++ t) (append_assoc (sequence_text e.source) behind others) in
+    ap (λ l. bytes_eq l (version_line Table)) (strip_nothing (canonical_line d e) (line_in_line d e are h n) ∙ line)
+    ∙ false_from_ne_true (bytes_eq (mark_text e.outside ++ (sequence_text e.source ++ (behind ++ others))) (version_line Table))
+    (begins_by_mark e.outside e.source (behind ++ others) (sequences_filled (replacements e) all).0 (sequences_scalar (replacements e) all).0)
 
 -- lines of which the first is no version line
 record AreBody (lines : List (List ℕ)) : Type 0 where
@@ -406,32 +582,35 @@ record AreBody (lines : List (List ℕ)) : Type 0 where
   head : head_of Table lines ≡ []
   body : body_of Table lines ≡ lines
 
-body_alone : (table : List Entry) → AllByRecursion IsEntry table → AreBody (map canonical_line table)
-body_alone [] h = record { version = refl; head = refl; body = refl }
-body_alone (e ∷ table) h =
-    let none : is_version_line Table (canonical_line e) ≡ false = no_version_line e h.0 in
-    let line : List ℕ = canonical_line e in
-    let lines : List (List ℕ) = map canonical_line table in
+body_alone : (d : Definitions) (table : List Entry) → AreDefinitions d → AllByRecursion IsEntry table → AreNamed d table → AreBody (map (canonical_line d) table)
+body_alone d [] are h n = record { version = refl; head = refl; body = refl }
+body_alone d (e ∷ table) are h n =
+    let none : is_version_line Table (canonical_line d e) ≡ false = no_version_line d e are h.0 n.0 in
+    let line : List ℕ = canonical_line d e in
+    let lines : List (List ℕ) = map (canonical_line d) table in
     record {
       version = ap (λ b. cond b (Some Two) (Some One)) none;
       head = ap (λ b. cond b (line ∷ []) []) none;
       body = ap (λ b. cond b lines (line ∷ lines)) none;
     }
 
-no_definitions : (entries : List Entry) → table_lines nothing_defined entries ≡ map canonical_line entries
+no_definitions : (entries : List Entry) → table_lines nothing_defined entries ≡ map (canonical_line nothing_defined) entries
 unfolding table_lines
 no_definitions entries = refl
 
 spelled_one : (entries : List Entry) → IsTable (table_of One nothing_defined entries) → IsTextOf Table (table_text One nothing_defined entries) (table_of One nothing_defined entries)
 spelled_one entries h =
     let table : TableValue = table_of One nothing_defined entries in
-    let cut : raw_lines (canonical_text entries) ≡ map canonical_line entries = raw_lines-canonical entries in
-    let alone = body_alone entries (recursion_from_All IsEntry entries h.well_formed.entries) in
-    let lines : AreLinesOf [] (map canonical_line entries) table = subst (λ ls. AreLinesOf [] ls table) (no_definitions entries) (lines_of_table [] One nothing_defined entries h (omega (arith, h.short))) in
+    let d : Definitions = nothing_defined in
+    let sound = recursion_from_All IsEntry entries h.well_formed.entries in
+    let named = recursion_from_All (IsNamed d) entries h.named in
+    let cut : raw_lines (canonical_text d entries) ≡ map (canonical_line d) entries = raw_lines-canonical d entries h.without_fault sound named in
+    let alone = body_alone d entries h.without_fault sound named in
+    let lines : AreLinesOf [] (map (canonical_line d) entries) table = subst (λ ls. AreLinesOf [] ls table) (no_definitions entries) (lines_of_table [] One nothing_defined entries h (omega (arith, h.short))) in
     record {
       version = ap (version_of Table) cut ∙ alone.version;
       lines = subst (λ ls. AreLinesOf (head_of Table ls) (body_of Table ls) table) (sym cut)
-          (subst (λ b. AreLinesOf (head_of Table (map canonical_line entries)) b table) (sym alone.body) (subst (λ d. AreLinesOf d (map canonical_line entries) table) (sym alone.head) lines));
+          (subst (λ b. AreLinesOf (head_of Table (map (canonical_line d) entries)) b table) (sym alone.body) (subst (λ x. AreLinesOf x (map (canonical_line d) entries) table) (sym alone.head) lines));
     }
 
 -- in version 2 and 3 the first line is the version line
@@ -444,22 +623,22 @@ module _ (d : Definitions) (entries : List Entry) where
   spelled_two h =
       let table : TableValue = table_of Two d entries in
       let cut : raw_lines (table_text Two d entries) ≡ version_line Table ∷ table_lines d entries =
-      cut_head Table (definitions_text d ++ canonical_text entries) ∙ ap (λ ls. version_line Table ∷ ls) (raw_lines-table d entries h.without_fault) in
+      cut_head Table (definitions_text d ++ canonical_text d entries) ∙ ap (λ ls. version_line Table ∷ ls) (raw_lines-table d entries h.without_fault (recursion_from_All IsEntry entries h.well_formed.entries) (recursion_from_All (IsNamed d) entries h.named)) in
       record {
         version = ap (version_of Table) cut;
         lines = subst (λ ls. AreLinesOf (head_of Table ls) (body_of Table ls) table) (sym cut)
-            (lines_of_table (version_line Table ∷ []) Two d entries h (omega (arith, h.short, length-append (head_text Two) (definitions_text d ++ canonical_text entries), length-append (definitions_text d) (canonical_text entries), size_of-cons (version_line Table) [])));
+            (lines_of_table (version_line Table ∷ []) Two d entries h (omega (arith, h.short, length-append (head_text Two) (definitions_text d ++ canonical_text d entries), length-append (definitions_text d) (canonical_text d entries), size_of-cons (version_line Table) [])));
       }
 
   spelled_three : IsTable (table_of Three d entries) → IsTextOf Ruleset (table_text Three d entries) (table_of Three d entries)
   spelled_three h =
       let table : TableValue = table_of Three d entries in
       let cut : raw_lines (table_text Three d entries) ≡ version_line Ruleset ∷ table_lines d entries =
-      cut_head Ruleset (definitions_text d ++ canonical_text entries) ∙ ap (λ ls. version_line Ruleset ∷ ls) (raw_lines-table d entries h.without_fault) in
+      cut_head Ruleset (definitions_text d ++ canonical_text d entries) ∙ ap (λ ls. version_line Ruleset ∷ ls) (raw_lines-table d entries h.without_fault (recursion_from_All IsEntry entries h.well_formed.entries) (recursion_from_All (IsNamed d) entries h.named)) in
       record {
         version = ap (version_of Ruleset) cut;
         lines = subst (λ ls. AreLinesOf (head_of Ruleset ls) (body_of Ruleset ls) table) (sym cut)
-            (lines_of_table (version_line Ruleset ∷ []) Three d entries h (omega (arith, h.short, length-append (head_text Three) (definitions_text d ++ canonical_text entries), length-append (definitions_text d) (canonical_text entries), size_of-cons (version_line Ruleset) [])));
+            (lines_of_table (version_line Ruleset ∷ []) Three d entries h (omega (arith, h.short, length-append (head_text Three) (definitions_text d ++ canonical_text d entries), length-append (definitions_text d) (canonical_text d entries), size_of-cons (version_line Ruleset) [])));
       }
 
 spelled_by : (v : Version) (d : Definitions) (entries : List Entry) → IsTable (table_of v d entries) → IsTextOf (notation_of v) (table_text v d entries) (table_of v d entries)

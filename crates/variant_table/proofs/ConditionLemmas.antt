@@ -1,6 +1,6 @@
 -- Entries without a fault are those of a well-formed table.
-use Rattle.std.proofs.Common.{◌≡◌, ℕ, zero, suc, ◌+◌, ◌<◌, Bool, true, false, not, ◌||◌, cond, List, [], ◌∷◌, ◌++◌, length, map, get_or, Ok, Err, refl, sym, ap, subst, ◌∙◌, arith, append_assoc, length-append}
-use Rattle.std.specs.Prelude.{nat_lt, bytes_eq, ◌≢◌, ◌≤◌, Option, Some, None, slice_index}
+use Rattle.std.proofs.Common.{◌≡◌, ℕ, zero, suc, ◌+◌, ◌<◌, Bool, true, false, not, ◌||◌, ◌&&◌, cond, List, [], ◌∷◌, ◌++◌, length, map, get_or, Ok, Err, refl, sym, ap, subst, ◌∙◌, arith, append_assoc, length-append}
+use Rattle.std.specs.Prelude.{nat_lt, bytes_eq, ◌≢◌, ◌≤◌, Option, Some, None, is_some, slice_index}
 use Rattle.std.specs.List.{AllByRecursion, All, AllPairs, list_all, list_any, range_with_len}
 use Rattle.std.proofs.lemmas.Bool.Decides.{nat_tests}
 use Rattle.std.proofs.lemmas.Bool.{and_parts, ltb-false, le-ltb, or_parts, or_from, not-false, not_from_true, false_from_ne_true}
@@ -15,21 +15,29 @@ use Rattle.idn_text.specs.Points.{is_scalar_value}
 use Rattle.variant_table.specs.WellFormed.{is_table_class, IsTablePoint, IsSequence as IsTableSequence, IsEntry}
 use Rattle.idn_class.specs.Class.{class_of, is_scalar}
 use Rattle.idn_class.proofs.ClassNumbers.{class_of-no_scalar, is_scalar-out}
-use Rattle.variant_table.specs.Faults.{Limit, BadClass, SameVariant, SameSource}
+use Rattle.std.proofs.lemmas.List.{length-map}
+use Rattle.std.proofs.lemmas.List.Concat.{flat_map-append}
+use Rattle.std.specs.Option.{option_map}
+use Rattle.ruleset_text.specs.declared.entry_form.NamedCondition.{NamedCondition}
+use Rattle.ruleset_text.specs.Definitions.{Definitions, definitions_text}
+use Rattle.ruleset_text.specs.Entries.{Mapped, EntryForm}
+use Rattle.ruleset_text.specs.EntryText.{IsSequence, IsMapped, IsForm, MayHaveTags, entry_text}
+use Rattle.ruleset_text.specs.Names.{is_one_of, number_of}
 use Rattle.variant_table.specs.declared.version.Version.{Version}
 use Rattle.variant_table.specs.declared.version.Version.TheVariants.{One, Two, Three}
-use Rattle.variant_table.specs.Entries.{Entry, replacements, sequences_in, IsOfVersion, IsPlain, itself, whole}
+use Rattle.variant_table.specs.Canonical.{canonical_line, canonical_text, head_text, table_text, written_text}
+use Rattle.variant_table.specs.Entries.{Variant, Entry, replacements, sequences_in, IsOfVersion, IsPlain, itself, whole}
 use Rattle.variant_table.specs.inner.Held.{HasNoEmptySequence}
 use Rattle.variant_table.specs.Limits.{entry_limit}
-use Rattle.variant_table.specs.Ranges.{point_entry, range_size}
+use Rattle.variant_table.specs.Ranges.{entry_in_range, range_size}
 use Rattle.variant_table.specs.Conditions.{is_too_large, is_text_too_long, is_over_limit, has_bad_point, has_bad_class, has_repeat, has_source_in}
-use Rattle.variant_table.specs.Reading.{with_entries}
-use Rattle.ruleset_text.specs.Definitions.{Definitions}
-use Rattle.variant_table.proofs.ExampleLemmas.{with_entries-by}
+use Rattle.variant_table.specs.Forms.{has_tags, is_plain, is_bare, begins_marked, has_form, HasForm, with_point, written_to, written_out, knows_rule, knows_names, knows_all, numbered, variant_of, entry_of, entries_of, SpellsEntries, as_written}
+use Rattle.variant_table.specs.Reading.{with_form}
+use Rattle.variant_table.specs.WellFormed.{HasItsRule, HasItsNames, IsNamed}
+use Rattle.variant_table.proofs.FormSteps.{tags_named}
+use Rattle.variant_table.proofs.NumberLemmas.{all_back, number_below, numbers_below, numbers_apart}
 use Rattle.variant_table.proofs.RepeatLemmas.{distinct_from, no_repeats}
-use Rattle.ruleset_text.specs.Entries.{Mapped}
-use Rattle.ruleset_text.specs.EntryText.{IsSequence, IsMapped, IsForm}
-use Rattle.variant_table.specs.Forms.{is_plain, is_bare, begins_marked, has_form, variant_of, entry_of, entries_to, SpellsEntries}
+use Rattle.variant_table.proofs.TestLemmas.{told_by, with_form-by}
 
 -- ---- scalar values
 
@@ -89,20 +97,33 @@ pub sequences_scalar : (ss : List (List ℕ)) → AllByRecursion IsTableSequence
 sequences_scalar [] h = tt
 sequences_scalar (s ∷ ss) h = (points_scalars s (recursion_from_All IsTablePoint s h.0.points), sequences_scalar ss h.1)
 
+-- ---- an entry as it is written
+
+filled_of : (d : Definitions) (ms : List Mapped) → HasNoEmptySequence ms → AllByRecursion (λ s. 0 < length s) (sequences_in (map (variant_of d) ms))
+filled_of d [] h = tt
+filled_of d (m ∷ ms) h = (h.0, filled_of d ms h.1)
+
+short_of : (d : Definitions) (ms : List Mapped) → list_any (λ m. nat_lt 8 (length m.points)) ms ≡ list_any (λ s. nat_lt 8 (length s)) (sequences_in (map (variant_of d) ms))
+short_of d [] = refl
+short_of d (m ∷ ms) = ap (λ b. nat_lt 8 (length m.points) || b) (short_of d ms)
+
 -- an entry without a fault of its own
-pub entry_from_tests : (e : Entry) → HasNoEmptySequence e → is_too_large e ≡ false → has_bad_class e ≡ false → has_repeat e ≡ false → IsEntry e
-entry_from_tests e h a b d =
-    let p = or_parts (nat_lt 16 (length e.variants)) (list_any (λ s. nat_lt 8 (length s)) (replacements e)) a in
+pub entry_from_tests : (d : Definitions) (ms : List Mapped) → 0 < length ms → HasNoEmptySequence ms → is_too_large ms ≡ false → has_bad_class (entry_of d ms) ≡ false → has_repeat (entry_of d ms) ≡ false → IsEntry (entry_of d ms)
+entry_from_tests d [] l h a b r = absurd (omega (arith, l))
+entry_from_tests d (m ∷ ms) l h a b r =
+    let e : Entry = entry_of d (m ∷ ms) in
+    let p = or_parts (nat_lt 17 (length (m ∷ ms))) (list_any (λ n. nat_lt 8 (length n.points)) (m ∷ ms)) a in
     record {
-      sequences = All-from_recursion IsTableSequence (replacements e) (sequences_table (replacements e) h p.1 b);
-      few = ltb-false 16 (length e.variants) p.0;
-      distinct = distinct_from (itself e ∷ e.variants) d;
+      sequences = All-from_recursion IsTableSequence (replacements e) (sequences_table (replacements e) (filled_of d (m ∷ ms) h) (sym (short_of d (m ∷ ms)) ∙ p.1) b);
+      few = omega (arith, ltb-false 17 (length (m ∷ ms)) p.0, length-map ms (variant_of d));
+      distinct = distinct_from (itself e ∷ e.variants) r;
     }
 
-pub small_from_entry : (e : Entry) → IsEntry e → is_too_large e ≡ false
-small_from_entry e h =
-    or_from (nat_lt 16 (length e.variants)) (list_any (λ s. nat_lt 8 (length s)) (replacements e)) (le-ltb 16 (length e.variants) h.few)
-    (sequences_short (replacements e) (recursion_from_All IsTableSequence (replacements e) h.sequences))
+pub small_from_entry : (d : Definitions) (ms : List Mapped) → 0 < length ms → IsEntry (entry_of d ms) → is_too_large ms ≡ false
+small_from_entry d [] l h = absurd (omega (arith, l))
+small_from_entry d (m ∷ ms) l h =
+    or_from (nat_lt 17 (length (m ∷ ms))) (list_any (λ n. nat_lt 8 (length n.points)) (m ∷ ms)) (le-ltb 17 (length (m ∷ ms)) (omega (arith, h.few, length-map ms (variant_of d))))
+    (short_of d (m ∷ ms) ∙ sequences_short (replacements (entry_of d (m ∷ ms))) (recursion_from_All IsTableSequence (replacements (entry_of d (m ∷ ms))) h.sequences))
 
 pub good_from_entry : (e : Entry) → IsEntry e → has_bad_class e ≡ false
 good_from_entry e h = sequences_good (replacements e) (recursion_from_All IsTableSequence (replacements e) h.sequences)
@@ -150,28 +171,56 @@ new_sources before (e ∷ table) h = (
   new_sources (before ++ e ∷ []) table (subst (AllPairs Apart) (sym (append_assoc before (e ∷ []) table)) h),
 )
 
--- ---- the entries of a line
+-- ---- the sources and variants of a line
 
-filled_points : (o : Bool) (cs : List ℕ) → AllByRecursion HasNoEmptySequence (map (point_entry o) cs)
-filled_points o [] = tt
-filled_points o (c ∷ cs) = ((omega arith, tt), filled_points o cs)
+filled_points : (m : Mapped) (cs : List ℕ) → AllByRecursion HasNoEmptySequence (map (λ c. with_point m c ∷ []) cs)
+filled_points m [] = tt
+filled_points m (c ∷ cs) = ((omega arith, tt), filled_points m cs)
 
 sequence_filled : (points : List ℕ) → IsSequence points → 0 < length points
 sequence_filled [] h = absurd h
 sequence_filled (c ∷ points) h = omega arith
 
-filled_mapped : (mapped : List Mapped) → AllByRecursion IsMapped mapped → AllByRecursion (λ s. 0 < length s) (sequences_in (map variant_of mapped))
+pub filled_mapped : (mapped : List Mapped) → AllByRecursion IsMapped mapped → HasNoEmptySequence mapped
 filled_mapped [] h = tt
 filled_mapped (m ∷ mapped) h = (sequence_filled m.points h.0.sequence, filled_mapped mapped h.1)
 
-pub filled_form : (last : Option ℕ) (mapped : List Mapped) → IsForm mapped last → AllByRecursion HasNoEmptySequence (entries_to last mapped)
-filled_form None [] h = absurd h
-filled_form None (m ∷ mapped) h = (filled_mapped (m ∷ mapped) h, tt)
-filled_form (Some last) [] h = tt
-filled_form (Some last) (m ∷ mapped) h = filled_points m.marked (range_with_len (slice_index m.points 0) (range_size (slice_index m.points 0) last))
+-- each of a form
+pub all_mapped : (last : Option ℕ) (mapped : List Mapped) → IsForm mapped last → AllByRecursion IsMapped mapped
+all_mapped last [] h = absurd h
+all_mapped None (m ∷ mapped) h = h
+all_mapped (Some c) (m ∷ []) h = (h.0, tt)
+all_mapped (Some c) (m ∷ n ∷ mapped) h = absurd h
 
-pub filled_spelled : (v : Version) (line : List ℕ) (es : List Entry) → SpellsEntries v line es → AllByRecursion HasNoEmptySequence es
-filled_spelled v line es h = subst (AllByRecursion HasNoEmptySequence) (sym h.3) (filled_form h.0.last h.0.mapped h.1.0)
+filled_form : (last : Option ℕ) (mapped : List Mapped) → IsForm mapped last → AllByRecursion HasNoEmptySequence (written_to last mapped)
+filled_form None mapped h = (filled_mapped mapped (all_mapped None mapped h), tt)
+filled_form (Some last) [] h = absurd h
+filled_form (Some last) (m ∷ mapped) h = filled_points m (range_with_len (slice_index m.points 0) (range_size (slice_index m.points 0) last))
+
+-- an entry as it is written: a source, and its names are defined
+pub record IsKnown (d : Definitions) (ms : List Mapped) : Type 0 where
+  pub some : 0 < length ms
+  pub names : knows_all d ms ≡ true
+
+known_points : (d : Definitions) (m : Mapped) (cs : List ℕ) → knows_all d (m ∷ []) ≡ true → AllByRecursion (IsKnown d) (map (λ c. with_point m c ∷ []) cs)
+known_points d m [] h = tt
+known_points d m (c ∷ cs) h = (record { some = omega arith; names = h }, known_points d m cs h)
+
+pub known_form : (d : Definitions) (last : Option ℕ) (mapped : List Mapped) → IsForm mapped last → knows_all d mapped ≡ true → AllByRecursion (IsKnown d) (written_to last mapped)
+known_form d last [] h k = absurd h
+known_form d None (m ∷ mapped) h k = (record { some = omega arith; names = k }, tt)
+known_form d (Some last) (m ∷ []) h k = known_points d m (range_with_len (slice_index m.points 0) (range_size (slice_index m.points 0) last)) k
+known_form d (Some last) (m ∷ n ∷ mapped) h k = absurd h
+
+line_back : (d : Definitions) (ms : List Mapped) → IsKnown d ms → as_written d (entry_of d ms) ≡ ms
+line_back d [] h = absurd (omega (arith, h.some))
+line_back d (m ∷ ms) h = all_back d (m ∷ ms) h.names
+
+-- the canonical text of entries is what they are written as
+pub text_back : (d : Definitions) (es : List (List Mapped)) → AllByRecursion (IsKnown d) es → canonical_text d (map (entry_of d) es) ≡ written_text es
+text_back d [] h = refl
+text_back d (ms ∷ es) h =
+    ap (λ m. (entry_text m None ++ 10 ∷ []) ++ canonical_text d (map (entry_of d) es)) (line_back d ms h.0) ∙ ap (λ t. (entry_text ms None ++ 10 ∷ []) ++ t) (text_back d es h.1)
 
 -- ---- the forms of a version
 
@@ -179,65 +228,143 @@ true_not : (b : Bool) → not b ≡ true → b ≡ false
 true_not true e = absurd cc
 true_not false e = refl
 
-bare_unmarked : (mapped : List Mapped) → list_all is_bare mapped ≡ true → AllByRecursion (λ v. v.blocked ≡ false) (map variant_of mapped)
-bare_unmarked [] h = tt
-bare_unmarked (m ∷ mapped) h =
+bare_unmarked : (d : Definitions) (mapped : List Mapped) → list_all is_bare mapped ≡ true → AllByRecursion (λ v. v.blocked ≡ false) (map (variant_of d) mapped)
+bare_unmarked d [] h = tt
+bare_unmarked d (m ∷ mapped) h =
     let p = and_parts (is_bare m) (list_all is_bare mapped) h in
-    (true_not m.marked (and_parts (is_plain m) (not m.marked) p.0).1, bare_unmarked mapped p.1)
+    (true_not m.marked (and_parts (is_plain m) (not m.marked) p.0).1, bare_unmarked d mapped p.1)
 
--- what a line makes has neither tags nor a condition
-plain_variants : (mapped : List Mapped) → AllByRecursion IsPlain (map variant_of mapped)
-plain_variants [] = tt
-plain_variants (m ∷ mapped) = ((refl, refl), plain_variants mapped)
+pub bare_plain : (mapped : List Mapped) → list_all is_bare mapped ≡ true → list_all is_plain mapped ≡ true
+bare_plain [] h = refl
+bare_plain (m ∷ mapped) h =
+    let p = and_parts (is_bare m) (list_all is_bare mapped) h in
+    ap (λ b. b && list_all is_plain mapped) (and_parts (is_plain m) (not m.marked) p.0).0 ∙ bare_plain mapped p.1
 
-plain_entry : (mapped : List Mapped) → All IsPlain (whole (entry_of mapped))
-plain_entry [] = All-from_recursion IsPlain (whole (entry_of [])) ((refl, refl), tt)
-plain_entry (m ∷ mapped) = All-from_recursion IsPlain (whole (entry_of (m ∷ mapped))) (plain_variants (m ∷ mapped))
+no_tags : (tags : List (List ℕ)) → not (has_tags tags) ≡ true → tags ≡ []
+no_tags [] h = refl
+no_tags (tag ∷ tags) h = absurd cc
 
-plain_point : (o : Bool) (c : ℕ) → All IsPlain (whole (point_entry o c))
-plain_point o c = All-from_recursion IsPlain (whole (point_entry o c)) ((refl, refl), tt)
+no_condition : (c : Option NamedCondition) → not (is_some c) ≡ true → c ≡ None
+no_condition None h = refl
+no_condition (Some c) h = absurd cc
 
-bare_entry : (mapped : List Mapped) → list_all is_bare mapped ≡ true → IsOfVersion One (entry_of mapped)
-bare_entry [] h = (refl, All-from_recursion (λ v. v.blocked ≡ false) [] tt, plain_entry [])
-bare_entry (m ∷ mapped) h = let all = bare_unmarked (m ∷ mapped) h in (all.0, All-from_recursion (λ v. v.blocked ≡ false) (map variant_of mapped) all.1, plain_entry (m ∷ mapped))
+pub plain_is : (m : Mapped) → is_plain m ≡ true → (m.tags ≡ []) × (m.condition ≡ None)
+plain_is m h = let p = and_parts (not (has_tags m.tags)) (not (is_some m.condition)) h in (no_tags m.tags p.0, no_condition m.condition p.1)
 
-inside_entry : (mapped : List Mapped) → begins_marked mapped ≡ false → IsOfVersion Two (entry_of mapped)
-inside_entry [] h = (refl, plain_entry [])
-inside_entry (m ∷ mapped) h = (h, plain_entry (m ∷ mapped))
+plain_variant_of : (d : Definitions) (m : Mapped) → is_plain m ≡ true → IsPlain (variant_of d m)
+plain_variant_of d m h = let p = plain_is m h in (ap (map (number_of d.tags)) p.0, ap (option_map (numbered d)) p.1)
 
-points_inside : (o : Bool) (cs : List ℕ) → o ≡ false → AllByRecursion (IsOfVersion Two) (map (point_entry o) cs)
-points_inside o [] h = tt
-points_inside o (c ∷ cs) h = ((h, plain_point o c), points_inside o cs h)
+-- what is plain makes what has neither tags nor a condition
+plain_variants : (d : Definitions) (mapped : List Mapped) → list_all is_plain mapped ≡ true → AllByRecursion IsPlain (map (variant_of d) mapped)
+plain_variants d [] h = tt
+plain_variants d (m ∷ mapped) h = let p = and_parts (is_plain m) (list_all is_plain mapped) h in (plain_variant_of d m p.0, plain_variants d mapped p.1)
 
-points_of_three : (o : Bool) (cs : List ℕ) → AllByRecursion (IsOfVersion Three) (map (point_entry o) cs)
-points_of_three o [] = tt
-points_of_three o (c ∷ cs) = (plain_point o c, points_of_three o cs)
+-- and its names are defined
+pub plain_known : (d : Definitions) (mapped : List Mapped) → list_all is_plain mapped ≡ true → knows_all d mapped ≡ true
+plain_known d [] h = refl
+plain_known d (m ∷ mapped) h =
+    let p = and_parts (is_plain m) (list_all is_plain mapped) h in
+    let q = plain_is m p.0 in
+    ap (λ t. (list_all (is_one_of d.tags) t && knows_rule d m.condition) && knows_all d mapped) q.0 ∙ ap (λ c. knows_rule d c && knows_all d mapped) q.1 ∙ plain_known d mapped p.1
 
-all_of_three : (last : Option ℕ) (mapped : List Mapped) → AllByRecursion (IsOfVersion Three) (entries_to last mapped)
-all_of_three None mapped = (plain_entry mapped, tt)
-all_of_three (Some last) [] = tt
-all_of_three (Some last) (m ∷ mapped) = points_of_three m.marked (range_with_len (slice_index m.points 0) (range_size (slice_index m.points 0) last))
+plain_entry : (d : Definitions) (mapped : List Mapped) → list_all is_plain mapped ≡ true → All IsPlain (whole (entry_of d mapped))
+plain_entry d [] h = All-from_recursion IsPlain (whole (entry_of d [])) ((refl, refl), tt)
+plain_entry d (m ∷ mapped) h = All-from_recursion IsPlain (whole (entry_of d (m ∷ mapped))) (plain_variants d (m ∷ mapped) h)
 
-version_form : (v : Version) (last : Option ℕ) (mapped : List Mapped) → has_form v (record { mapped = mapped; last = last }) ≡ true → AllByRecursion (IsOfVersion v) (entries_to last mapped)
-version_form One None mapped h = (bare_entry mapped (and_parts (list_all is_bare mapped) true h).0, tt)
-version_form One (Some last) mapped h = absurd (let p = (and_parts (list_all is_bare mapped) false h).1 in cc)
-version_form Two None mapped h = (inside_entry mapped (true_not (begins_marked mapped) (and_parts (list_all is_plain mapped) (not (begins_marked mapped)) h).1), tt)
-version_form Two (Some last) [] h = tt
-version_form Two (Some last) (m ∷ mapped) h =
-    points_inside m.marked (range_with_len (slice_index m.points 0) (range_size (slice_index m.points 0) last))
-    (true_not m.marked (and_parts (list_all is_plain (m ∷ mapped)) (not m.marked) h).1)
-version_form Three last mapped h = all_of_three last mapped
+bare_entry : (d : Definitions) (mapped : List Mapped) → list_all is_bare mapped ≡ true → IsOfVersion One (entry_of d mapped)
+bare_entry d [] h = (refl, All-from_recursion (λ v. v.blocked ≡ false) [] tt, plain_entry d [] refl)
+bare_entry d (m ∷ mapped) h =
+    let all = bare_unmarked d (m ∷ mapped) h in
+    (all.0, All-from_recursion (λ v. v.blocked ≡ false) (map (variant_of d) mapped) all.1, plain_entry d (m ∷ mapped) (bare_plain (m ∷ mapped) h))
 
-pub version_spelled : (v : Version) (line : List ℕ) (es : List Entry) → SpellsEntries v line es → AllByRecursion (IsOfVersion v) es
-version_spelled v line es h = subst (AllByRecursion (IsOfVersion v)) (sym h.3) (version_form v h.0.last h.0.mapped h.2)
+inside_entry : (d : Definitions) (mapped : List Mapped) → list_all is_plain mapped ≡ true → begins_marked mapped ≡ false → IsOfVersion Two (entry_of d mapped)
+inside_entry d [] p h = (refl, plain_entry d [] refl)
+inside_entry d (m ∷ mapped) p h = (h, plain_entry d (m ∷ mapped) p)
 
-pub entries_from_tests : (es : List Entry) → AllByRecursion HasNoEmptySequence es → list_any is_too_large es ≡ false → list_any has_bad_class es ≡ false → list_any has_repeat es ≡ false → AllByRecursion IsEntry es
-entries_from_tests [] h a b d = tt
-entries_from_tests (e ∷ es) h a b d =
-    let p = or_parts (is_too_large e) (list_any is_too_large es) a in
-    let q = or_parts (has_bad_class e) (list_any has_bad_class es) b in
-    let r = or_parts (has_repeat e) (list_any has_repeat es) d in
-    (entry_from_tests e h.0 p.0 q.0 r.0, entries_from_tests es h.1 p.1 q.1 r.1)
+-- in a range
+each_point : (P : Entry → Type 0) (d : Definitions) (m : Mapped) (cs : List ℕ) → ((c : ℕ) → P (entry_of d (with_point m c ∷ []))) → AllByRecursion P (map (entry_of d) (map (λ c. with_point m c ∷ []) cs))
+each_point P d m [] h = tt
+each_point P d m (c ∷ cs) h = (h c, each_point P d m cs h)
+
+plain_point : (m : Mapped) (mapped : List Mapped) → list_all is_plain (m ∷ mapped) ≡ true → list_all is_plain (m ∷ []) ≡ true
+plain_point m mapped h = ap (λ b. b && true) (and_parts (is_plain m) (list_all is_plain mapped) h).0
+
+version_form : (v : Version) (d : Definitions) (last : Option ℕ) (mapped : List Mapped) → has_form v (record { mapped = mapped; last = last }) ≡ true → AllByRecursion (IsOfVersion v) (map (entry_of d) (written_to last mapped))
+version_form One d None mapped h = (bare_entry d mapped (and_parts (list_all is_bare mapped) true h).0, tt)
+version_form One d (Some last) mapped h = absurd (let p = (and_parts (list_all is_bare mapped) false h).1 in cc)
+version_form Two d None mapped h =
+    let p = and_parts (list_all is_plain mapped) (not (begins_marked mapped)) h in (inside_entry d mapped p.0 (true_not (begins_marked mapped) p.1), tt)
+version_form Two d (Some last) [] h = tt
+version_form Two d (Some last) (m ∷ mapped) h =
+    let p = and_parts (list_all is_plain (m ∷ mapped)) (not m.marked) h in
+    each_point (IsOfVersion Two) d m (range_with_len (slice_index m.points 0) (range_size (slice_index m.points 0) last))
+    (λ c. (true_not m.marked p.1, plain_entry d (with_point m c ∷ []) (plain_point m mapped p.0)))
+version_form Three d None mapped h = (plain_entry d mapped h, tt)
+version_form Three d (Some last) [] h = tt
+version_form Three d (Some last) (m ∷ mapped) h =
+    each_point (IsOfVersion Three) d m (range_with_len (slice_index m.points 0) (range_size (slice_index m.points 0) last)) (λ c. plain_entry d (with_point m c ∷ []) (plain_point m mapped h))
+
+-- ---- names
+
+marked_tags : (marked : Bool) (tags : List (List ℕ)) → MayHaveTags marked tags → marked ≡ true → tags ≡ []
+marked_tags marked [] h e = refl
+marked_tags marked (tag ∷ tags) h e = absurd (let x : true ≡ false = sym e ∙ h.0 in cc)
+
+rule_named : (d : Definitions) (c : Option NamedCondition) → knows_rule d c ≡ true → HasItsRule d (option_map (numbered d) c)
+rule_named d None h = tt
+rule_named d (Some c) h = number_below d.rule_names c.rule h
+
+-- the numbers of what is known
+pub named_variant : (d : Definitions) (m : Mapped) → IsMapped m → knows_names d m ≡ true → HasItsNames d (variant_of d m)
+named_variant d m h k =
+    let p = and_parts (list_all (is_one_of d.tags) m.tags) (knows_rule d m.condition) k in
+    record {
+      tags = All-from_recursion (λ n. n < length d.tags) (map (number_of d.tags) m.tags) (numbers_below d.tags m.tags p.0);
+      distinct = numbers_apart d.tags m.tags (tags_named m.marked m.tags h.tags) p.0;
+      unmarked = λ e. ap (map (number_of d.tags)) (marked_tags m.marked m.tags h.tags e);
+      condition = rule_named d m.condition p.1;
+    }
+
+named_variants : (d : Definitions) (ms : List Mapped) → AllByRecursion IsMapped ms → knows_all d ms ≡ true → AllByRecursion (HasItsNames d) (map (variant_of d) ms)
+named_variants d [] h k = tt
+named_variants d (m ∷ ms) h k = let p = and_parts (knows_names d m) (knows_all d ms) k in (named_variant d m h.0 p.0, named_variants d ms h.1 p.1)
+
+named_entry : (d : Definitions) (m : Mapped) (ms : List Mapped) → AllByRecursion IsMapped (m ∷ ms) → knows_all d (m ∷ ms) ≡ true → IsNamed d (entry_of d (m ∷ ms))
+named_entry d m ms h k = All-from_recursion (HasItsNames d) (whole (entry_of d (m ∷ ms))) (named_variants d (m ∷ ms) h k)
+
+named_point : (d : Definitions) (m : Mapped) (c : ℕ) → IsMapped m → knows_all d (m ∷ []) ≡ true → IsNamed d (entry_of d (with_point m c ∷ []))
+named_point d m c h k =
+    let one : HasItsNames d (variant_of d m) = named_variant d m h (and_parts (knows_names d m) true k).0 in
+    All-from_recursion (HasItsNames d) (whole (entry_of d (with_point m c ∷ []))) (record { tags = one.tags; distinct = one.distinct; unmarked = one.unmarked; condition = one.condition }, tt)
+
+pub named_form : (d : Definitions) (last : Option ℕ) (mapped : List Mapped) → IsForm mapped last → knows_all d mapped ≡ true → AllByRecursion (IsNamed d) (map (entry_of d) (written_to last mapped))
+named_form d last [] h k = absurd h
+named_form d None (m ∷ mapped) h k = (named_entry d m mapped h k, tt)
+named_form d (Some last) (m ∷ []) h k =
+    each_point (IsNamed d) d m (range_with_len (slice_index m.points 0) (range_size (slice_index m.points 0) last)) (λ c. named_point d m c h.0 k)
+named_form d (Some last) (m ∷ n ∷ mapped) h k = absurd h
+
+pub named_spelled : (v : Version) (d : Definitions) (line : List ℕ) (es : List Entry) → SpellsEntries v d line es → AllByRecursion (IsNamed d) es
+named_spelled v d line es h = subst (AllByRecursion (IsNamed d)) (sym h.3) (named_form d h.0.last h.0.mapped h.1.0.0 h.2)
+
+-- ---- the entries of a line
+
+entries_from_tests : (d : Definitions) (es : List (List Mapped)) → AllByRecursion (λ ms. 0 < length ms) es → AllByRecursion HasNoEmptySequence es → list_any is_too_large es ≡ false
+    → list_any has_bad_class (map (entry_of d) es) ≡ false → list_any has_repeat (map (entry_of d) es) ≡ false → AllByRecursion IsEntry (map (entry_of d) es)
+entries_from_tests d [] l h a b r = tt
+entries_from_tests d (ms ∷ es) l h a b r =
+    let p = or_parts (is_too_large ms) (list_any is_too_large es) a in
+    let q = or_parts (has_bad_class (entry_of d ms)) (list_any has_bad_class (map (entry_of d) es)) b in
+    let s = or_parts (has_repeat (entry_of d ms)) (list_any has_repeat (map (entry_of d) es)) r in
+    (entry_from_tests d ms l.0 h.0 p.0 q.0 s.0, entries_from_tests d es l.1 h.1 p.1 q.1 s.1)
+
+pub small_entries : (d : Definitions) (es : List (List Mapped)) → AllByRecursion (IsKnown d) es → AllByRecursion IsEntry (map (entry_of d) es) → list_any is_too_large es ≡ false
+small_entries d [] k h = refl
+small_entries d (ms ∷ es) k h = or_from (is_too_large ms) (list_any is_too_large es) (small_from_entry d ms k.0.some h.0) (small_entries d es k.1 h.1)
+
+some_of : (d : Definitions) (es : List (List Mapped)) → AllByRecursion (IsKnown d) es → AllByRecursion (λ ms. 0 < length ms) es
+some_of d [] h = tt
+some_of d (ms ∷ es) h = (h.0.some, some_of d es h.1)
 
 -- the sources of a range are new to one another
 
@@ -251,58 +378,74 @@ other_points : (a b : ℕ) → a < b → bytes_eq (a ∷ []) (b ∷ []) ≡ fals
 other_points a b l = false_from_ne_true (bytes_eq (a ∷ []) (b ∷ [])) (λ t.
     (let same : a ≡ b = ap (λ s. get_or s 0 0) ((bytes_eq-Decides (a ∷ []) (b ∷ [])).0 t) in omega (arith, same, l)))
 
-range_push : (o : Bool) (t : List Entry) (a b n : ℕ) → a < b → list_any (has_source_in t) (map (point_entry o) (range_with_len b n)) ≡ false → list_any (has_source_in (t ++ point_entry o a ∷ [])) (map (point_entry o) (range_with_len b n)) ≡ false
-range_push o t a b zero l h = refl
-range_push o t a b (suc n) l h =
-    let p = or_parts (has_source_in t (point_entry o b)) (list_any (has_source_in t) (map (point_entry o) (range_with_len (b + 1) n))) h in
-    or_from (has_source_in (t ++ point_entry o a ∷ []) (point_entry o b)) (list_any (has_source_in (t ++ point_entry o a ∷ [])) (map (point_entry o) (range_with_len (b + 1) n)))
-    (source_push t (point_entry o a) (point_entry o b) p.0 (other_points a b l)) (range_push o t a (b + 1) n (omega (arith, l)) p.1)
+range_push : (v : Variant) (t : List Entry) (a b n : ℕ) → a < b → list_any (has_source_in t) (map (entry_in_range v) (range_with_len b n)) ≡ false → list_any (has_source_in (t ++ entry_in_range v a ∷ [])) (map (entry_in_range v) (range_with_len b n)) ≡ false
+range_push v t a b zero l h = refl
+range_push v t a b (suc n) l h =
+    let p = or_parts (has_source_in t (entry_in_range v b)) (list_any (has_source_in t) (map (entry_in_range v) (range_with_len (b + 1) n))) h in
+    or_from (has_source_in (t ++ entry_in_range v a ∷ []) (entry_in_range v b)) (list_any (has_source_in (t ++ entry_in_range v a ∷ [])) (map (entry_in_range v) (range_with_len (b + 1) n)))
+    (source_push t (entry_in_range v a) (entry_in_range v b) p.0 (other_points a b l)) (range_push v t a (b + 1) n (omega (arith, l)) p.1)
 
-pub new_range : (o : Bool) (t : List Entry) (a n : ℕ) → list_any (has_source_in t) (map (point_entry o) (range_with_len a n)) ≡ false → AreNewSources t (map (point_entry o) (range_with_len a n))
-new_range o t a zero h = tt
-new_range o t a (suc n) h =
-    let p = or_parts (has_source_in t (point_entry o a)) (list_any (has_source_in t) (map (point_entry o) (range_with_len (a + 1) n))) h in
-    (p.0, new_range o (t ++ point_entry o a ∷ []) (a + 1) n (range_push o t a (a + 1) n (omega arith) p.1))
+pub new_range : (v : Variant) (t : List Entry) (a n : ℕ) → list_any (has_source_in t) (map (entry_in_range v) (range_with_len a n)) ≡ false → AreNewSources t (map (entry_in_range v) (range_with_len a n))
+new_range v t a zero h = tt
+new_range v t a (suc n) h =
+    let p = or_parts (has_source_in t (entry_in_range v a)) (list_any (has_source_in t) (map (entry_in_range v) (range_with_len (a + 1) n))) h in
+    (p.0, new_range v (t ++ entry_in_range v a ∷ []) (a + 1) n (range_push v t a (a + 1) n (omega arith) p.1))
 
-new_form : (t : List Entry) (last : Option ℕ) (mapped : List Mapped) → list_any (has_source_in t) (entries_to last mapped) ≡ false → AreNewSources t (entries_to last mapped)
-new_form t None mapped h = ((or_parts (has_source_in t (entry_of mapped)) false h).0, tt)
-new_form t (Some last) [] h = tt
-new_form t (Some last) (m ∷ mapped) h = new_range m.marked t (slice_index m.points 0) (range_size (slice_index m.points 0) last) h
+-- the entries of a range
+pub points_are : (d : Definitions) (m : Mapped) (cs : List ℕ) → map (entry_of d) (map (λ c. with_point m c ∷ []) cs) ≡ map (entry_in_range (variant_of d m)) cs
+points_are d m [] = refl
+points_are d m (c ∷ cs) = ap (λ es. entry_in_range (variant_of d m) c ∷ es) (points_are d m cs)
 
-pub new_spelled : (v : Version) (t : List Entry) (line : List ℕ) (es : List Entry) → SpellsEntries v line es → list_any (has_source_in t) es ≡ false → AreNewSources t es
-new_spelled v t line es h k = subst (AreNewSources t) (sym h.3) (new_form t h.0.last h.0.mapped (ap (list_any (has_source_in t)) (sym h.3) ∙ k))
+new_form : (d : Definitions) (t : List Entry) (last : Option ℕ) (mapped : List Mapped) → list_any (has_source_in t) (map (entry_of d) (written_to last mapped)) ≡ false → AreNewSources t (map (entry_of d) (written_to last mapped))
+new_form d t None mapped h = ((or_parts (has_source_in t (entry_of d mapped)) false h).0, tt)
+new_form d t (Some last) [] h = tt
+new_form d t (Some last) (m ∷ mapped) h =
+    let first : ℕ = slice_index m.points 0 in
+    let size : ℕ = range_size first last in
+    let are = points_are d m (range_with_len first size) in
+    subst (AreNewSources t) (sym are) (new_range (variant_of d m) t first size (ap (list_any (has_source_in t)) (sym are) ∙ h))
 
 -- ---- a line without a fault
 
-pub record Sound (v : Version) (d : Definitions) (t t' es : List Entry) : Type 0 where
-  pub is : t' ≡ t ++ es
-  pub sound : AllByRecursion IsEntry es
-  pub of_version : AllByRecursion (IsOfVersion v) es
-  pub new : AreNewSources t es
-  pub few : length t + length es ≤ entry_limit v
-  pub fits : is_text_too_long v d (t ++ es) ≡ false
+pub record Sound (v : Version) (d : Definitions) (t t' : List Entry) (form : EntryForm) : Type 0 where
+  pub is : t' ≡ t ++ entries_of d form
+  pub known : knows_all d form.mapped ≡ true
+  pub sound : AllByRecursion IsEntry (entries_of d form)
+  pub of_version : AllByRecursion (IsOfVersion v) (entries_of d form)
+  pub named : AllByRecursion (IsNamed d) (entries_of d form)
+  pub new : AreNewSources t (entries_of d form)
+  pub few : length t + length (entries_of d form) ≤ entry_limit v
+  pub fits : is_text_too_long v (table_text v d (t ++ entries_of d form)) ≡ false
 
-sound_by : (v : Version) (d : Definitions) (t t' es : List Entry) → AllByRecursion HasNoEmptySequence es → AllByRecursion (IsOfVersion v) es → (list_any (has_source_in t) es ≡ false → AreNewSources t es)
-    → with_entries v d t es ≡ Ok t' → Sound v d t t' es
-sound_by v d t t' es filled of new e = by_cases _ _ _ _ refl refl refl refl (sym (with_entries-by v d t es _ _ _ _ refl refl refl refl) ∙ e)
+-- the text with further entries
+pub text_with : (v : Version) (d : Definitions) (t : List Entry) (es : List (List Mapped)) → AllByRecursion (IsKnown d) es → table_text v d (t ++ map (entry_of d) es) ≡ table_text v d t ++ written_text es
+text_with v d t es h =
+    ap (λ c. head_text v ++ (definitions_text d ++ c)) (flat_map-append (λ e. canonical_line d e ++ 10 ∷ []) t (map (entry_of d) es) ∙ ap (λ c. canonical_text d t ++ c) (text_back d es h))
+    ∙ ap (λ c. head_text v ++ c) (sym (append_assoc (definitions_text d) (canonical_text d t) (written_text es)))
+    ∙ sym (append_assoc (head_text v) (definitions_text d ++ canonical_text d t) (written_text es))
+
+pub sound_spelled : (v : Version) (d : Definitions) (t t' : List Entry) (line : List ℕ) (form : EntryForm) → HasForm v line form → with_form v d t form ≡ Ok t' → Sound v d t t' form
+sound_spelled v d t t' line form h e = by_cases _ _ _ _ _ refl refl refl refl refl (sym (with_form-by v d t form _ _ _ _ _ refl refl refl refl refl) ∙ e)
   where
-    by_cases : (o b r s : Bool) → is_over_limit v d t es ≡ o → list_any has_bad_class es ≡ b → list_any has_repeat es ≡ r → list_any (has_source_in t) es ≡ s
-        → cond o (Err Limit) (cond b (Err BadClass) (cond r (Err SameVariant) (cond s (Err SameSource) (Ok (t ++ es))))) ≡ Ok t' → Sound v d t t' es
-    by_cases true b r s f g i j k = absurd cc
-    by_cases false true r s f g i j k = absurd cc
-    by_cases false false true s f g i j k = absurd cc
-    by_cases false false false true f g i j k = absurd cc
-    by_cases false false false false f g i j k =
-        let p = or_parts (nat_lt (entry_limit v) (length t + length es) || list_any is_too_large es) (is_text_too_long v d (t ++ es)) f in
+    by_cases : (o k b r s : Bool) → is_over_limit v d t (written_out form) ≡ o → knows_all d form.mapped ≡ k → list_any has_bad_class (entries_of d form) ≡ b → list_any has_repeat (entries_of d form) ≡ r
+        → list_any (has_source_in t) (entries_of d form) ≡ s → told_by t (entries_of d form) o k b r s ≡ Ok t' → Sound v d t t' form
+    by_cases true k b r s f n g i j is = absurd cc
+    by_cases false false b r s f n g i j is = absurd cc
+    by_cases false true true r s f n g i j is = absurd cc
+    by_cases false true false true s f n g i j is = absurd cc
+    by_cases false true false false true f n g i j is = absurd cc
+    by_cases false true false false false f n g i j is =
+        let es : List (List Mapped) = written_out form in
+        let known : AllByRecursion (IsKnown d) es = known_form d form.last form.mapped h.0.0 n in
+        let p = or_parts (nat_lt (entry_limit v) (length t + length es) || list_any is_too_large es) (is_text_too_long v (table_text v d t ++ written_text es)) f in
         let q = or_parts (nat_lt (entry_limit v) (length t + length es)) (list_any is_too_large es) p.0 in
         record {
           is = cc;
-          sound = entries_from_tests es filled q.1 g i;
-          of_version = of;
-          new = new j;
-          few = ltb-false (entry_limit v) (length t + length es) q.0;
-          fits = p.1;
+          known = n;
+          sound = entries_from_tests d es (some_of d es known) (filled_form form.last form.mapped h.0.0) q.1 g i;
+          of_version = version_form v d form.last form.mapped h.1;
+          named = named_form d form.last form.mapped h.0.0 n;
+          new = new_form d t form.last form.mapped j;
+          few = omega (arith, ltb-false (entry_limit v) (length t + length es) q.0, length-map es (entry_of d));
+          fits = ap (is_text_too_long v) (text_with v d t es known) ∙ p.1;
         }
-
-pub sound_spelled : (v : Version) (d : Definitions) (t t' : List Entry) (line : List ℕ) (es : List Entry) → SpellsEntries v line es → with_entries v d t es ≡ Ok t' → Sound v d t t' es
-sound_spelled v d t t' line es h e = sound_by v d t t' es (filled_spelled v line es h) (version_spelled v line es h) (new_spelled v t line es h) e

@@ -6,7 +6,7 @@ use Rattle.ruleset_text.specs.declared.keyword.Keyword.{Keyword}
 use Rattle.ruleset_text.specs.Definitions.{Definitions, canonical_size, defined}
 use Rattle.ruleset_text.specs.WellFormed.{AreDefinitions}
 use Rattle.ruleset_text.specs.inner.DefinitionSteps as steps
-use Rattle.ruleset_text.proofs.DefinedLemmas.{Grown, defined_grows}
+use Rattle.ruleset_text.proofs.DefinedLemmas.{Grown, defined_grows, NamesStay, names_stay}
 use Rattle.variant_table.specs.declared.version.Version.{Version}
 use Rattle.variant_table.specs.declared.version.Version.TheVariants.{One, Two, Three}
 use Rattle.variant_table.specs.Canonical.{canonical_text, head_text, table_text}
@@ -17,29 +17,30 @@ use Rattle.variant_table.specs.Reading.{defining, with_definition}
 use Rattle.variant_table.specs.inner.Held.{counted, IsCounted}
 use Rattle.variant_table.specs.inner.ReadingSteps.{Fails, told_in}
 use Rattle.variant_table.proofs.FaultlessLemmas.{length-text}
+use Rattle.variant_table.proofs.GrownLemmas.{named_on, text_stays}
 
 -- the bytes of a ruleset's canonical text: its version line, its definitions, its entries
-counted_of : (v : Version) (d : Definitions) (t : List Entry) → v ≡ Three → counted v (table_text v d t) ≡ length (head_text v ++ canonical_text t) + canonical_size d
+counted_of : (v : Version) (d : Definitions) (t : List Entry) → v ≡ Three → counted v (table_text v d t) ≡ length (head_text v ++ canonical_text d t) + canonical_size d
 counted_of One d t is = absurd cc
 counted_of Two d t is = absurd cc
-counted_of Three d t is = omega (arith, length-text Three d t, length-append (head_text Three) (canonical_text t))
+counted_of Three d t is = omega (arith, length-text Three d t, length-append (head_text Three) (canonical_text d t))
 
-module _ (v : Version) (d : Definitions) (t : List Entry) (written len limit : ℕ) (is : v ≡ Three) (so_far : IsCounted v d written t) (size : len ≡ canonical_size d) (limit-is : limit ≡ text_limit v) where
-  sum : written ≡ length (head_text v ++ canonical_text t) + canonical_size d
-  sum = so_far.count ∙ counted_of v d t is
+module _ (v : Version) (d : Definitions) (t : List Entry) (left len : ℕ) (is : v ≡ Three) (so_far : IsCounted v d left t) (size : len ≡ canonical_size d) where
+  sum : length (head_text v ++ canonical_text d t) + canonical_size d + left ≡ text_limit v
+  sum = omega (arith, so_far.count, counted_of v d t is)
 
-  pub part_of_text : len ≤ written
-  part_of_text = omega (arith, sum, size)
+  pub room_within : left + len ≤ text_limit v
+  room_within = omega (arith, sum, size)
 
-  room : limit - (written - len) ≡ room_for_definitions (table_of v d t)
-  room = omega (arith, sum, size, limit-is)
+  room : left + len ≡ room_for_definitions (table_of v d t)
+  room = omega (arith, sum, size)
 
   module _ (k : Keyword) (words : List (List ℕ)) where
-    with_definition-is : with_definition (table_of v d t) k words ≡ defining (table_of v d t) (defined (limit - (written - len)) d k words)
+    with_definition-is : with_definition (table_of v d t) k words ≡ defining (table_of v d t) (defined (left + len) d k words)
     unfolding with_definition
     with_definition-is = ap (λ n. defining (table_of v d t) (defined n d k words)) (sym room)
 
-    pub definition_read : (e : Definitions) → defined (limit - (written - len)) d k words ≡ Ok e → with_definition (table_of v d t) k words ≡ Ok (table_of v e t)
+    pub definition_read : (e : Definitions) → defined (left + len) d k words ≡ Ok e → with_definition (table_of v d t) k words ≡ Ok (table_of v e t)
     definition_read e h = with_definition-is ∙ ap (defining (table_of v d t)) h
 
     fault_told : (number : ℕ) (fault : DefinitionFault) (new : Definitions) (read : Result Definitions DefinitionFault) → steps.Leaves {X = Unit {0}} (Err fault) new read
@@ -51,17 +52,23 @@ module _ (v : Version) (d : Definitions) (t : List Entry) (written len limit : �
     fault_told number definitions.BadClass new read h = (refl, ap (defining (table_of v d t)) h)
     fault_told number definitions.SameName new read h = (refl, ap (defining (table_of v d t)) h)
 
-    pub definition_fails : (number : ℕ) (fault : DefinitionFault) (new : Definitions) → steps.Leaves {X = Unit {0}} (Err fault) new (defined (limit - (written - len)) d k words)
+    pub definition_fails : (number : ℕ) (fault : DefinitionFault) (new : Definitions) → steps.Leaves {X = Unit {0}} (Err fault) new (defined (left + len) d k words)
         → Fails number (told_in number fault) (with_definition (table_of v d t) k words)
     definition_fails number fault new h =
-        subst (Fails number (told_in number fault)) (sym with_definition-is) (fault_told number fault new (defined (limit - (written - len)) d k words) h)
+        subst (Fails number (told_in number fault)) (sym with_definition-is) (fault_told number fault new (defined (left + len) d k words) h)
 
-    module _ (e : Definitions) (more : ℕ) (are : AreDefinitions d) (read : defined (limit - (written - len)) d k words ≡ Ok e) (its : more ≡ canonical_size e) where
-      grown : Grown (limit - (written - len)) d e
-      grown = defined_grows (limit - (written - len)) d e k words are read
+    module _ (e : Definitions) (more : ℕ) (are : AreDefinitions d) (read : defined (left + len) d k words ≡ Ok e) (its : more ≡ canonical_size e) where
+      grown : Grown (left + len) d e
+      grown = defined_grows (left + len) d e k words are read
 
-      pub definitions_fit : written - len + more ≤ limit
-      definitions_fit = omega (arith, sum, size, limit-is, its, grown.room, so_far.within)
+      stay : NamesStay d e
+      stay = names_stay (left + len) d e k words read
 
-      pub definitions_counted : IsCounted v e (written - len + more) t
-      definitions_counted = record { count = omega (arith, sum, size, its, counted_of v e t is); within = omega (arith, limit-is, definitions_fit) }
+      pub definitions_fit : more ≤ left + len
+      definitions_fit = omega (arith, its, grown.room)
+
+      pub definitions_counted : IsCounted v e (left + len - more) t
+      definitions_counted = record {
+        count = omega (arith, sum, size, its, definitions_fit, counted_of v e t is, length-append (head_text v) (canonical_text e t), length-append (head_text v) (canonical_text d t), ap length (text_stays d e t stay so_far.named));
+        named = named_on d e t stay so_far.named;
+      }

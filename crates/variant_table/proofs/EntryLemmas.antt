@@ -6,7 +6,7 @@ use Rattle.std.proofs.lemmas.List.{map-append, length-map, take-append-drop}
 use Rattle.std.proofs.lemmas.List.Elements.{recursion_from_All}
 use Rattle.label_patterns.specs.declared.condition.Condition.{Condition}
 use Rattle.variant_table.specs.declared.sequences.Span.{Span}
-use Rattle.variant_table.specs.Entries.{Variant, sequences_in, replacements, marks, entry_from, whole}
+use Rattle.variant_table.specs.Entries.{Variant, sequences_in, replacements, marks, entry_from, source_of, whole}
 use Rattle.variant_table.specs.inner.Held.{entry_at, entries_of, IsEntryBelow}
 use Rattle.variant_table.proofs.ListLemmas.{drop_next}
 use Rattle.variant_table.proofs.PartLemmas.{slice_range-append, slice_range-end}
@@ -166,3 +166,12 @@ entries_of-push sequences more spans a b h e f =
     map-append (entry_at (sequences ++ more)) spans ((record { start = a; end = b }) ∷ [])
     ∙ ap (λ es. es ++ entry_from (slice_range (sequences ++ more) a b) ∷ []) (entries_of-append sequences more spans h)
     ∙ ap (λ part. entries_of sequences spans ++ entry_from part ∷ []) (slice_range-end sequences more a b e f)
+
+-- what stands at the first of them, with another sequence
+pub of_source : (vs : List Variant) (s : List ℕ) (b : Bool) (t : List ℕ) (c : Option Condition) → slice_get (map (λ v. v.blocked) vs) 0 ≡ Some b → slice_get (map (λ v. v.tags) vs) 0 ≡ Some t → slice_get (map (λ v. v.condition) vs) 0 ≡ Some c
+    → record { sequence = s; blocked = b; tags = t; condition = c } ≡ record (source_of (entry_from vs)) { sequence = s }
+of_source [] s b t c e f g = absurd cc
+of_source (v ∷ vs) s b t c e f g =
+    let w : Variant = record { sequence = s; blocked = b; tags = t; condition = c } in
+    let u : Variant = record v { sequence = s } in
+    same_variant w u refl (cc) (cc) (cc)

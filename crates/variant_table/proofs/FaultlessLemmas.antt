@@ -4,7 +4,7 @@ use Rattle.std.specs.Prelude.{nat_lt, bytes_eq}
 use Rattle.std.specs.List.{All, AllByRecursion, list_any}
 use Rattle.std.specs.Str.Lines.{strip_carriage_return}
 use Rattle.std.proofs.lemmas.Bool.{ltb-false, le-ltb, or_parts, or_from, false_from_ne_true}
-use Rattle.std.proofs.lemmas.List.{append-nil}
+use Rattle.std.proofs.lemmas.List.{append-nil, length-map}
 use Rattle.std.proofs.lemmas.List.Concat.{flat_map-append}
 use Rattle.std.proofs.lemmas.List.Elements.{All-from_recursion, recursion_from_All}
 use Rattle.std.proofs.lemmas.Slice.Eq.{bytes_eq-Decides}
@@ -14,10 +14,12 @@ use Rattle.ruleset_text.specs.declared.keyword.Keyword.{Keyword}
 use Rattle.ruleset_text.specs.declared.keyword.Keyword.TheVariants as keyword
 use Rattle.ruleset_text.specs.Definition.{keyword_of}
 use Rattle.ruleset_text.specs.Definitions.{Definitions, canonical_size, defined, definitions_text, nothing_defined}
+use Rattle.ruleset_text.specs.Entries.{Mapped, EntryForm}
+use Rattle.ruleset_text.specs.EntryText.{IsForm}
 use Rattle.ruleset_text.specs.Lexemes.{lexemes}
 use Rattle.ruleset_text.specs.WellFormed.{AreDefinitions}
 use Rattle.ruleset_text.proofs.AddedLemmas.{nothing_counted}
-use Rattle.ruleset_text.proofs.DefinedLemmas.{Grown, defined_grows, NamesNoDemand, demands_stay}
+use Rattle.ruleset_text.proofs.DefinedLemmas.{Grown, defined_grows, NamesNoDemand, demands_stay, NamesStay, names_stay}
 use Rattle.ruleset_text.proofs.DefinitionsTextLemmas.{definitions_text-length}
 use Rattle.variant_table.specs.Faults.{LineFault, Limit, Syntax}
 use Rattle.variant_table.specs.declared.version.Notation.{Notation}
@@ -26,17 +28,18 @@ use Rattle.variant_table.specs.declared.version.Version.{Version}
 use Rattle.variant_table.specs.declared.version.Version.TheVariants.{One, Two, Three}
 use Rattle.variant_table.specs.DefinitionLines.{if_read, with_behind, keyword_in, room_for_definitions, Defines}
 use Rattle.variant_table.specs.Entries.{Entry, IsOfVersion, TableValue, empty_table}
-use Rattle.variant_table.specs.Canonical.{canonical_line, canonical_text, head_text, table_text, version_line}
+use Rattle.variant_table.specs.Canonical.{canonical_line, canonical_text, head_text, table_text, version_line, written_text}
 use Rattle.variant_table.specs.Limits.{line_limit, text_limit, entry_limit}
 use Rattle.variant_table.specs.Versions.{version_of, head_of, body_of, size_of, is_version_line}
-use Rattle.variant_table.specs.WellFormed.{AreOfVersion, IsEntry, IsTable}
+use Rattle.variant_table.specs.WellFormed.{AreOfVersion, IsEntry, IsNamed, IsTable}
 use Rattle.variant_table.specs.Conditions.{is_too_long, is_too_large, is_text_too_long, has_bad_class, has_repeat, has_source_in}
-use Rattle.variant_table.specs.Forms.{SpellsEntries}
+use Rattle.variant_table.specs.Forms.{HasForm, written_out, knows_all, entry_of, entries_of}
 use Rattle.variant_table.specs.Texts.{LineSpells, LineAdds, LinesSpell, AreLinesOf, IsTextOf}
-use Rattle.variant_table.specs.Reading.{◌>>=◌, is_skipped, in_line, defining, with_definition, with_entries, with_entries_of, with_line, with_raw_line, with_lines, table_in, table_of_lines, table_of_text}
-use Rattle.variant_table.proofs.FormLemmas.{skipped, defines, of_entries, formless, form_of, with_line-skipped, with_line-defines, with_line-entries, with_line-formless, skipped-no_definition, LineSpells-skipped, none, some, spelling_of}
-use Rattle.variant_table.proofs.ConditionLemmas.{small_from_entry, good_from_entry, single_from_entry, AreNewSources, distinct_sources, new_sources, no_sources, sound_spelled}
-use Rattle.variant_table.proofs.ExampleLemmas.{with_entries-by}
+use Rattle.variant_table.specs.Reading.{◌>>=◌, is_skipped, in_line, defining, with_definition, with_form, with_form_of, with_line, with_raw_line, with_lines, table_in, table_of_lines, table_of_text}
+use Rattle.variant_table.proofs.FormLemmas.{skipped, defines, of_entries, formless, form_of, with_line-skipped, with_line-defines, with_line-form, with_line-formless, skipped-no_definition, LineSpells-skipped, none, some, spelling_of}
+use Rattle.variant_table.proofs.ConditionLemmas.{good_from_entry, single_from_entry, small_entries, IsKnown, known_form, text_with, named_spelled, AreNewSources, distinct_sources, new_sources, no_sources, sound_spelled}
+use Rattle.variant_table.proofs.GrownLemmas.{named_on, text_stays}
+use Rattle.variant_table.proofs.TestLemmas.{with_form-by}
 use Rattle.variant_table.proofs.LimitLemmas.{text_limit-least, text_limit-most, entry_limit-most}
 use Rattle.variant_table.proofs.SizeLemmas.{length-stripped, adds_version, canonical_text_long, length-one, size_of-cons}
 
@@ -45,33 +48,30 @@ WholeTable = Result TableValue (ℕ × LineFault)
 
 -- ---- the canonical text is within the limit
 
-pub length-text : (v : Version) (d : Definitions) (t : List Entry) → length (table_text v d t) ≡ length (head_text v) + canonical_size d + length (canonical_text t)
+pub length-text : (v : Version) (d : Definitions) (t : List Entry) → length (table_text v d t) ≡ length (head_text v) + canonical_size d + length (canonical_text d t)
 length-text v d t =
-    omega (arith, length-append (head_text v) (definitions_text d ++ canonical_text t), length-append (definitions_text d) (canonical_text t), definitions_text-length d)
+    omega (arith, length-append (head_text v) (definitions_text d ++ canonical_text d t), length-append (definitions_text d) (canonical_text d t), definitions_text-length d)
 
-length-more : (v : Version) (d : Definitions) (a b : List Entry) → length (table_text v d (a ++ b)) ≡ length (table_text v d a) + length (canonical_text b)
+length-more : (v : Version) (d : Definitions) (a b : List Entry) → length (table_text v d (a ++ b)) ≡ length (table_text v d a) + length (canonical_text d b)
 length-more v d a b =
-    let cut : canonical_text (a ++ b) ≡ canonical_text a ++ canonical_text b = flat_map-append (λ e. canonical_line e ++ 10 ∷ []) a b in
-    omega (arith, length-text v d (a ++ b), length-text v d a, ap length cut, length-append (canonical_text a) (canonical_text b))
+    let cut : canonical_text d (a ++ b) ≡ canonical_text d a ++ canonical_text d b = flat_map-append (λ e. canonical_line d e ++ 10 ∷ []) a b in
+    omega (arith, length-text v d (a ++ b), length-text v d a, ap length cut, length-append (canonical_text d a) (canonical_text d b))
 
 -- a text is within the limit if it is no longer than one that is
-fits_shorter : (v : Version) (c d : Definitions) (a b : List Entry) → length (table_text v c a) ≤ length (table_text v d b) → is_text_too_long v d b ≡ false → is_text_too_long v c a ≡ false
-fits_shorter One c d a b l h = refl
-fits_shorter Two c d a b l h = le-ltb 1048576 (length (table_text Two c a)) (omega (arith, l, ltb-false 1048576 (length (table_text Two d b)) h))
-fits_shorter Three c d a b l h = le-ltb 8388608 (length (table_text Three c a)) (omega (arith, l, ltb-false 8388608 (length (table_text Three d b)) h))
+fits_shorter : (v : Version) (a b : List ℕ) → length a ≤ length b → is_text_too_long v b ≡ false → is_text_too_long v a ≡ false
+fits_shorter One a b l h = refl
+fits_shorter Two a b l h = le-ltb 1048576 (length a) (omega (arith, l, ltb-false 1048576 (length b) h))
+fits_shorter Three a b l h = le-ltb 8388608 (length a) (omega (arith, l, ltb-false 8388608 (length b) h))
 
-fits_within : (v : Version) (d : Definitions) (es : List Entry) → length (table_text v d es) ≤ text_limit v → is_text_too_long v d es ≡ false
-fits_within One d es l = refl
-fits_within Two d es l = le-ltb 1048576 (length (table_text Two d es)) l
-fits_within Three d es l = le-ltb 8388608 (length (table_text Three d es)) l
+fits_within : (v : Version) (text : List ℕ) → length text ≤ text_limit v → is_text_too_long v text ≡ false
+fits_within One text l = refl
+fits_within Two text l = le-ltb 1048576 (length text) l
+fits_within Three text l = le-ltb 8388608 (length text) l
 
-fits_none : (v : Version) → is_text_too_long v nothing_defined [] ≡ false
+fits_none : (v : Version) → is_text_too_long v (table_text v nothing_defined []) ≡ false
 fits_none One = refl
 fits_none Two = refl
 fits_none Three = refl
-
-pub fits_table : (table : TableValue) → IsTable table → is_text_too_long table.version table.definitions table.entries ≡ false
-fits_table table h = fits_within table.version table.definitions table.entries h.short
 
 -- ---- entries behind one another
 
@@ -95,10 +95,6 @@ all-join P (e ∷ a) b h k = (h.0, all-join P a b h.1 k)
 
 -- ---- entries without a fault
 
-all_small : (es : List Entry) → AllByRecursion IsEntry es → list_any is_too_large es ≡ false
-all_small [] h = refl
-all_small (e ∷ es) h = or_from (is_too_large e) (list_any is_too_large es) (small_from_entry e h.0) (all_small es h.1)
-
 all_good : (es : List Entry) → AllByRecursion IsEntry es → list_any has_bad_class es ≡ false
 all_good [] h = refl
 all_good (e ∷ es) h = or_from (has_bad_class e) (list_any has_bad_class es) (good_from_entry e h.0) (all_good es h.1)
@@ -120,13 +116,16 @@ new_any t u (e ∷ es) h =
     or_from (has_source_in t e) (list_any (has_source_in t) es) (source_front t u e h.0)
     (new_any t (u ++ e ∷ []) es (subst (λ x. AreNewSources x es) (append_assoc t u (e ∷ [])) h.1))
 
-entries_added : (v : Version) (d : Definitions) (t es : List Entry) → AllByRecursion IsEntry es → AreNewSources t es → length t + length es ≤ entry_limit v → is_text_too_long v d (t ++ es) ≡ false
-    → with_entries v d t es ≡ Ok (t ++ es)
-entries_added v d t es sound new few fits =
-    with_entries-by v d t es false false false false
-    (or_from (nat_lt (entry_limit v) (length t + length es) || list_any is_too_large es) (is_text_too_long v d (t ++ es))
-    (or_from (nat_lt (entry_limit v) (length t + length es)) (list_any is_too_large es) (le-ltb (entry_limit v) (length t + length es) few) (all_small es sound)) fits)
-    (all_good es sound) (all_single es sound) (new_any t [] es (subst (λ x. AreNewSources x es) (sym (append-nil t)) new))
+entries_added : (v : Version) (d : Definitions) (t : List Entry) (form : EntryForm) → IsForm form.mapped form.last → knows_all d form.mapped ≡ true → AllByRecursion IsEntry (entries_of d form) → AreNewSources t (entries_of d form)
+    → length t + length (entries_of d form) ≤ entry_limit v → is_text_too_long v (table_text v d (t ++ entries_of d form)) ≡ false → with_form v d t form ≡ Ok (t ++ entries_of d form)
+entries_added v d t form is known sound new few fits =
+    let es : List (List Mapped) = written_out form in
+    let all : AllByRecursion (IsKnown d) es = known_form d form.last form.mapped is known in
+    with_form-by v d t form false true false false false
+    (or_from (nat_lt (entry_limit v) (length t + length es) || list_any is_too_large es) (is_text_too_long v (table_text v d t ++ written_text es))
+    (or_from (nat_lt (entry_limit v) (length t + length es)) (list_any is_too_large es) (le-ltb (entry_limit v) (length t + length es) (omega (arith, few, length-map es (entry_of d)))) (small_entries d es all sound))
+    (ap (is_text_too_long v) (sym (text_with v d t es all)) ∙ fits))
+    known (all_good (entries_of d form) sound) (all_single (entries_of d form) sound) (new_any t [] (entries_of d form) (subst (λ x. AreNewSources x (entries_of d form)) (sym (append-nil t)) new))
 
 -- ---- the table so far
 
@@ -135,12 +134,13 @@ pub record HasSoundEntries (t : TableValue) : Type 0 where
   pub sound : AllByRecursion IsEntry t.entries
   pub new : AreNewSources [] t.entries
   pub few : length t.entries ≤ entry_limit t.version
-  pub fits : is_text_too_long t.version t.definitions t.entries ≡ false
+  pub fits : is_text_too_long t.version (table_text t.version t.definitions t.entries) ≡ false
 
 pub record IsSound (t : TableValue) : Type 0 where
   pub without_fault : AreDefinitions t.definitions
   pub defined : AreOfVersion t.version t.definitions
   pub of_version : AllByRecursion (IsOfVersion t.version) t.entries
+  pub named : AllByRecursion (IsNamed t.definitions) t.entries
   pub entries : HasSoundEntries t
 
 nothing_of : (v : Version) → AreOfVersion v nothing_defined
@@ -153,6 +153,7 @@ empty_sound v = record {
   without_fault = nothing_counted.without_fault;
   defined = nothing_of v;
   of_version = tt;
+  named = tt;
   entries = record { sound = tt; new = tt; few = omega arith; fits = fits_none v };
 }
 
@@ -187,27 +188,30 @@ of_ruleset Two d e is same h = absurd cc
 of_ruleset Three d e is same h = same ∙ h
 
 -- a text with what a line defines
-fits_defined : (v : Version) (d e : Definitions) (es : List Entry) → v ≡ Three → is_text_too_long v d es ≡ false → Grown (text_limit v - length (head_text v ++ canonical_text es)) d e → is_text_too_long v e es ≡ false
-fits_defined One d e es is fits g = absurd cc
-fits_defined Two d e es is fits g = absurd cc
-fits_defined Three d e es is fits g =
+fits_defined : (v : Version) (d e : Definitions) (es : List Entry) → v ≡ Three → is_text_too_long v (table_text v d es) ≡ false → Grown (text_limit v - length (head_text v ++ canonical_text d es)) d e → canonical_text e es ≡ canonical_text d es
+    → is_text_too_long v (table_text v e es) ≡ false
+fits_defined One d e es is fits g same = absurd cc
+fits_defined Two d e es is fits g same = absurd cc
+fits_defined Three d e es is fits g same =
     le-ltb 8388608 (length (table_text Three e es))
-    (omega (arith, ltb-false 8388608 (length (table_text Three d es)) fits, length-text Three d es, length-text Three e es, g.room, length-append (head_text Three) (canonical_text es)))
+    (omega (arith, ltb-false 8388608 (length (table_text Three d es)) fits, length-text Three d es, length-text Three e es, g.room, length-append (head_text Three) (canonical_text d es), ap length same))
 
 defined_sound : (t : TableValue) (k : Keyword) (words behind : List (List ℕ)) (d : Definitions) → IsSound t → keyword_in t.version words ≡ Some (k, behind)
     → defined (room_for_definitions t) t.definitions k behind ≡ Ok d → IsSound (record t { definitions = d })
 defined_sound t k words behind d h n e =
     let read = is_read t.version words behind k n in
     let g : Grown (room_for_definitions t) t.definitions d = defined_grows (room_for_definitions t) t.definitions d k behind h.without_fault e in
+    let stay : NamesStay t.definitions d = names_stay (room_for_definitions t) t.definitions d k behind e in
     record {
       without_fault = g.without_fault;
       defined = of_ruleset t.version t.definitions d read.of_three (demands_stay (room_for_definitions t) t.definitions d k behind read.no_demand e) h.defined;
       of_version = h.of_version;
+      named = named_on t.definitions d t.entries stay h.named;
       entries = record {
         sound = h.entries.sound;
         new = h.entries.new;
         few = h.entries.few;
-        fits = fits_defined t.version t.definitions d t.entries read.of_three h.entries.fits g;
+        fits = fits_defined t.version t.definitions d t.entries read.of_three h.entries.fits g (text_stays t.definitions d t.entries stay h.named);
       };
     }
 
@@ -250,7 +254,7 @@ ok_entries t u (Err f) e = absurd cc
 module _ (bytes : ℕ) (t u : TableValue) (line : List ℕ) (h : IsSound t) (l : length line ≤ line_limit t.version) (m : bytes + length line + 1 ≤ text_limit t.version) where
   added_nothing : is_skipped (strip_carriage_return line) ≡ true → u ≡ t → Added bytes t line u
   added_nothing s is = record {
-    spelled = inl ([], LineSpells-skipped t.version (strip_carriage_return line) s, is ∙ ap (λ es. record t { entries = es }) (sym (append-nil t.entries)));
+    spelled = inl ([], LineSpells-skipped t.version t.definitions (strip_carriage_return line) s, is ∙ ap (λ es. record t { entries = es }) (sym (append-nil t.entries)));
     short = l;
     within = m;
     version = ap (λ x. x.version) is;
@@ -268,13 +272,14 @@ module _ (bytes : ℕ) (t u : TableValue) (line : List ℕ) (h : IsSound t) (l :
         sound = subst IsSound (sym d.2) (defined_sound t k (lexemes (strip_carriage_return line)) behind d.0 h n d.1);
       }
 
-  added_entries : (es : List Entry) → SpellsEntries t.version (strip_carriage_return line) es → with_entries_of t es ≡ Ok u → Added bytes t line u
-  added_entries es s e =
-      let all = ok_entries t u (with_entries t.version t.definitions t.entries es) e in
-      let r = sound_spelled t.version t.definitions t.entries all.0 (strip_carriage_return line) es s all.1 in
+  added_entries : (form : EntryForm) → HasForm t.version (strip_carriage_return line) form → with_form_of t form ≡ Ok u → Added bytes t line u
+  added_entries form s e =
+      let es : List Entry = entries_of t.definitions form in
+      let all = ok_entries t u (with_form t.version t.definitions t.entries form) e in
+      let r = sound_spelled t.version t.definitions t.entries all.0 (strip_carriage_return line) form s all.1 in
       let is : u ≡ record t { entries = t.entries ++ es } = all.2 ∙ ap (λ x. record t { entries = x }) r.is in
       record {
-        spelled = inl (es, inr (inr s), is);
+        spelled = inl (es, inr (inr (form, s, r.known, refl)), is);
         short = l;
         within = m;
         version = ap (λ x. x.version) is;
@@ -282,6 +287,7 @@ module _ (bytes : ℕ) (t u : TableValue) (line : List ℕ) (h : IsSound t) (l :
           without_fault = h.without_fault;
           defined = h.defined;
           of_version = all-join (IsOfVersion t.version) t.entries es h.of_version r.of_version;
+          named = all-join (IsNamed t.definitions) t.entries es h.named r.named;
           entries = record {
             sound = all-join IsEntry t.entries es h.entries.sound r.sound;
             new = new-join [] t.entries es h.entries.new r.new;
@@ -295,7 +301,7 @@ module _ (bytes : ℕ) (t u : TableValue) (line : List ℕ) (h : IsSound t) (l :
   line_step e = elim (form_of t.version (strip_carriage_return line)) [
     | skipped s ↦ added_nothing s (ok_is u t (with_line t (strip_carriage_return line)) e (with_line-skipped t (strip_carriage_return line) s))
     | defines k behind s n ↦ added_definition k behind n (sym (with_line-defines t (strip_carriage_return line) k behind s n) ∙ e)
-    | of_entries es s ↦ added_entries es s (sym (with_line-entries t (strip_carriage_return line) es s) ∙ e)
+    | of_entries form s ↦ added_entries form s (sym (with_line-form t (strip_carriage_return line) form s) ∙ e)
     | formless s n never ↦ no_ok Syntax u (with_line t (strip_carriage_return line)) (with_line-formless t (strip_carriage_return line) s n never) e
   ]
 
@@ -313,14 +319,22 @@ raw_line_step bytes t u line h e = by_cases (is_too_long t.version bytes line) r
 no_keyword : (k : Keyword) (behind : List (List ℕ)) → (let o : Option (Keyword × List (List ℕ)) = None in o) ≡ Some (k, behind) → ⊥
 no_keyword k behind e = cc
 
-read_entries : (t : TableValue) (line : List ℕ) (es : List Entry) → LineSpells t.version line es → HasSoundEntries (record t { entries = t.entries ++ es }) → with_line t line ≡ Ok (record t { entries = t.entries ++ es })
-read_entries t line es s h = elim (spelling_of t.version line es s) [
+-- entries that are spelled are read
+spelled_read : (t : TableValue) (line : List ℕ) (form : EntryForm) (es : List Entry) → HasForm t.version line form → knows_all t.definitions form.mapped ≡ true → es ≡ entries_of t.definitions form
+    → HasSoundEntries (record t { entries = t.entries ++ es }) → with_line t line ≡ Ok (record t { entries = t.entries ++ es })
+spelled_read t line form es s known is h =
+    let k : HasSoundEntries (record t { entries = t.entries ++ entries_of t.definitions form }) = subst (λ x. HasSoundEntries (record t { entries = t.entries ++ x })) is h in
+    let new = new-append [] t.entries (entries_of t.definitions form) k.new in
+    with_line-form t line form s
+    ∙ ap (λ r. r >>= λ all. Ok (record t { entries = all }))
+    (entries_added t.version t.definitions t.entries form s.0.0 known (all-append IsEntry t.entries (entries_of t.definitions form) k.sound).1 new.1
+    (omega (arith, k.few, length-append t.entries (entries_of t.definitions form))) k.fits)
+    ∙ ap (λ x. Ok (record t { entries = t.entries ++ x })) (sym is)
+
+read_entries : (t : TableValue) (line : List ℕ) (es : List Entry) → LineSpells t.version t.definitions line es → HasSoundEntries (record t { entries = t.entries ++ es }) → with_line t line ≡ Ok (record t { entries = t.entries ++ es })
+read_entries t line es s h = elim (spelling_of t.version t.definitions line es s) [
   | none k is ↦ with_line-skipped t line k ∙ ap (λ x. Ok (record t { entries = x })) (sym (append-nil t.entries)) ∙ ap (λ x. Ok (record t { entries = t.entries ++ x })) (sym is)
-  | some k ↦
-      let new = new-append [] t.entries es h.new in
-      with_line-entries t line es k
-      ∙ ap (λ r. r >>= λ all. Ok (record t { entries = all }))
-      (entries_added t.version t.definitions t.entries es (all-append IsEntry t.entries es h.sound).1 new.1 (omega (arith, h.few, length-append t.entries es)) h.fits)
+  | some k ↦ spelled_read t line k.0 es k.1 k.2 k.3 h
 ]
 
 read_definition : (t : TableValue) (line : List ℕ) (d : Definitions) → Defines t line d → with_line t line ≡ Ok (record t { definitions = d })
@@ -340,36 +354,55 @@ raw_line_added bytes t u line s l m h =
 
 -- ---- what stands before a line of a table without a fault has none
 
-adds_definitions : (t u : TableValue) (line : List ℕ) → LineAdds t line u → AreDefinitions t.definitions → AreDefinitions u.definitions
-adds_definitions t u line (inl (es, s, is)) h = subst (λ x. AreDefinitions x.definitions) (sym is) h
-adds_definitions t u line (inr (d, (k, behind, n, e), is)) h =
-    subst (λ x. AreDefinitions x.definitions) (sym is) (defined_grows (room_for_definitions t) t.definitions d k behind h e).without_fault
+-- what is defined has no fault, and the names of the entries are defined
+pub record IsKept (t : TableValue) : Type 0 where
+  pub without_fault : AreDefinitions t.definitions
+  pub named : AllByRecursion (IsNamed t.definitions) t.entries
+
+kept_entries : (t : TableValue) (line : List ℕ) (es : List Entry) → LineSpells t.version t.definitions line es → IsKept t → IsKept (record t { entries = t.entries ++ es })
+kept_entries t line es s h = record {
+  without_fault = h.without_fault;
+  named = all-join (IsNamed t.definitions) t.entries es h.named (elim (spelling_of t.version t.definitions line es s) [
+    | none k is ↦ subst (AllByRecursion (IsNamed t.definitions)) (sym is) tt
+    | some k ↦ named_spelled t.version t.definitions line es k
+  ]);
+}
+
+adds_kept : (t u : TableValue) (line : List ℕ) → LineAdds t line u → IsKept t → IsKept u
+adds_kept t u line (inl (es, s, is)) h = subst IsKept (sym is) (kept_entries t line es s h)
+adds_kept t u line (inr (d, (k, behind, n, e), is)) h =
+    subst IsKept (sym is) (record {
+      without_fault = (defined_grows (room_for_definitions t) t.definitions d k behind h.without_fault e).without_fault;
+      named = named_on t.definitions d t.entries (names_stay (room_for_definitions t) t.definitions d k behind e) h.named;
+    })
 
 without_entries : (t : TableValue) (es : List Entry) → HasSoundEntries (record t { entries = t.entries ++ es }) → HasSoundEntries t
 without_entries t es h = record {
   sound = (all-append IsEntry t.entries es h.sound).0;
   new = (new-append [] t.entries es h.new).0;
   few = omega (arith, h.few, length-append t.entries es);
-  fits = fits_shorter t.version t.definitions t.definitions t.entries (t.entries ++ es) (omega (arith, length-more t.version t.definitions t.entries es)) h.fits;
+  fits = fits_shorter t.version (table_text t.version t.definitions t.entries) (table_text t.version t.definitions (t.entries ++ es)) (omega (arith, length-more t.version t.definitions t.entries es)) h.fits;
 }
 
-without_definition : (t : TableValue) (d : Definitions) → canonical_size t.definitions ≤ canonical_size d → HasSoundEntries (record t { definitions = d }) → HasSoundEntries t
-without_definition t d l h = record {
+without_definition : (t : TableValue) (d : Definitions) → canonical_size t.definitions ≤ canonical_size d → canonical_text d t.entries ≡ canonical_text t.definitions t.entries → HasSoundEntries (record t { definitions = d }) → HasSoundEntries t
+without_definition t d l same h = record {
   sound = h.sound;
   new = h.new;
   few = h.few;
-  fits = fits_shorter t.version t.definitions d t.entries t.entries (omega (arith, l, length-text t.version t.definitions t.entries, length-text t.version d t.entries)) h.fits;
+  fits = fits_shorter t.version (table_text t.version t.definitions t.entries) (table_text t.version d t.entries)
+      (omega (arith, l, length-text t.version t.definitions t.entries, length-text t.version d t.entries, ap length same)) h.fits;
 }
 
-sound_before : (t u : TableValue) (line : List ℕ) → LineAdds t line u → AreDefinitions t.definitions → HasSoundEntries u → HasSoundEntries t
+sound_before : (t u : TableValue) (line : List ℕ) → LineAdds t line u → IsKept t → HasSoundEntries u → HasSoundEntries t
 sound_before t u line (inl (es, s, is)) a h = without_entries t es (subst HasSoundEntries is h)
 sound_before t u line (inr (d, (k, behind, n, e), is)) a h =
-    without_definition t d (defined_grows (room_for_definitions t) t.definitions d k behind a e).longer (subst HasSoundEntries is h)
+    without_definition t d (defined_grows (room_for_definitions t) t.definitions d k behind a.without_fault e).longer
+    (text_stays t.definitions d t.entries (names_stay (room_for_definitions t) t.definitions d k behind e) a.named) (subst HasSoundEntries is h)
 
-sound_at : (t u : TableValue) (lines : List (List ℕ)) → LinesSpell t lines u → AreDefinitions t.definitions → HasSoundEntries u → HasSoundEntries t
+sound_at : (t u : TableValue) (lines : List (List ℕ)) → LinesSpell t lines u → IsKept t → HasSoundEntries u → HasSoundEntries t
 sound_at t u [] s a h = subst HasSoundEntries s h
 sound_at t u (line ∷ lines) (m, adds, rest) a h =
-    sound_before t m (strip_carriage_return line) adds a (sound_at m u lines rest (adds_definitions t m (strip_carriage_return line) adds a) h)
+    sound_before t m (strip_carriage_return line) adds a (sound_at m u lines rest (adds_kept t m (strip_carriage_return line) adds a) h)
 
 -- ---- lines without a fault
 
@@ -384,13 +417,13 @@ no_lines n bytes t = refl
 
 -- reading faultless lines, with others behind them
 pub lines_on : (v : Version) (n bytes : ℕ) (t u : TableValue) (lines behind : List (List ℕ)) → t.version ≡ v → LinesSpell t lines u → AllByRecursion (λ line. length line ≤ line_limit v) lines
-    → bytes + size_of lines ≤ text_limit v → AreDefinitions t.definitions → HasSoundEntries u → with_lines n bytes t (lines ++ behind) ≡ with_lines (n + length lines) (bytes + size_of lines) u behind
+    → bytes + size_of lines ≤ text_limit v → IsKept t → HasSoundEntries u → with_lines n bytes t (lines ++ behind) ≡ with_lines (n + length lines) (bytes + size_of lines) u behind
 lines_on v n bytes t u [] behind is s short size a h =
     ap (λ x. with_lines n bytes x behind) (sym s)
     ∙ ap (λ x. with_lines x bytes u behind) (let z : n ≡ n + 0 = omega arith in z)
     ∙ ap (λ x. with_lines (n + 0) x u behind) (let z : bytes ≡ bytes + 0 = omega arith in z)
 lines_on v n bytes t u (line ∷ lines) behind is (m, adds, rest) short size a h =
-    let more : AreDefinitions m.definitions = adds_definitions t m (strip_carriage_return line) adds a in
+    let more : IsKept m = adds_kept t m (strip_carriage_return line) adds a in
     let sum : size_of (line ∷ lines) ≡ length line + 1 + size_of lines = size_of-cons line lines in
     step_of n bytes t line (lines ++ behind) (Ok m)
     (raw_line_added bytes t m line adds (subst (λ w. length line ≤ line_limit w) (sym is) short.0) (subst (λ w. bytes + length line + 1 ≤ text_limit w) (sym is) (omega (arith, size, sum))) (sound_at m u lines rest more h))
@@ -512,13 +545,13 @@ short_text One lines u is s size h =
     (omega (arith, size, length-one u is h.defined, canonical_text_long lines (empty_table One) u refl s))
 short_text Two lines u is s size h = within u.version is h.entries.fits
   where
-    within : (w : Version) → w ≡ Two → is_text_too_long w u.definitions u.entries ≡ false → length (table_text w u.definitions u.entries) ≤ text_limit w
+    within : (w : Version) → w ≡ Two → is_text_too_long w (table_text w u.definitions u.entries) ≡ false → length (table_text w u.definitions u.entries) ≤ text_limit w
     within One e f = absurd cc
     within Two e f = ltb-false 1048576 (length (table_text Two u.definitions u.entries)) f
     within Three e f = absurd cc
 short_text Three lines u is s size h = within u.version is h.entries.fits
   where
-    within : (w : Version) → w ≡ Three → is_text_too_long w u.definitions u.entries ≡ false → length (table_text w u.definitions u.entries) ≤ text_limit w
+    within : (w : Version) → w ≡ Three → is_text_too_long w (table_text w u.definitions u.entries) ≡ false → length (table_text w u.definitions u.entries) ≤ text_limit w
     within One e f = absurd cc
     within Two e f = absurd cc
     within Three e f = ltb-false 8388608 (length (table_text Three u.definitions u.entries)) f
@@ -539,9 +572,9 @@ well_formed_lines v head lines u small h =
           entries = All-from_recursion IsEntry u.entries k.sound;
           sources = distinct_sources [] u.entries no_sources k.new;
           few = omega (arith, k.few, entry_limit-most u.version);
-          short = omega (arith, short, text_limit-most u.version, length-text u.version u.definitions u.entries);
         };
         of_version = All-from_recursion (IsOfVersion u.version) u.entries h.sound.of_version;
+        named = All-from_recursion (IsNamed u.definitions) u.entries h.sound.named;
         few = k.few;
         short = short;
       };
@@ -552,7 +585,7 @@ sound_table table h = record {
   sound = recursion_from_All IsEntry table.entries h.well_formed.entries;
   new = new_sources [] table.entries h.well_formed.sources;
   few = h.few;
-  fits = fits_table table h;
+  fits = fits_within table.version (table_text table.version table.definitions table.entries) h.short;
 }
 
 -- faultless lines are read
@@ -560,7 +593,7 @@ pub lines_read : (n : ℕ) (head lines behind : List (List ℕ)) (table : TableV
     → with_lines n (size_of head) (empty_table table.version) (lines ++ behind) ≡ with_lines (n + length lines) (size_of head + size_of lines) table behind
 lines_read n head lines behind table h =
     lines_on table.version n (size_of head) (empty_table table.version) table lines behind refl h.spelled (recursion_from_All (λ line. length line ≤ line_limit table.version) lines h.short) h.size
-    nothing_counted.without_fault (sound_table table h.well_formed)
+    (record { without_fault = nothing_counted.without_fault; named = tt }) (sound_table table h.well_formed)
 
 pub read_by : (n : Notation) (lines : List (List ℕ)) (o : Option Version) → version_of n lines ≡ o → table_of_lines n lines ≡ table_in o (head_of n lines) (body_of n lines)
 unfolding table_of_lines

@@ -8,6 +8,7 @@ use Rattle.idn_text.specs.Points.{is_hex_digit, point_of_hex}
 use Rattle.ruleset_text.specs.declared.keyword.Keyword.{Keyword}
 use Rattle.ruleset_text.specs.declared.keyword.Keyword.TheVariants.{Tag, Set, Rule, Never, Always}
 use Rattle.ruleset_text.specs.Definition.{keyword_of}
+use Rattle.ruleset_text.specs.Definitions.{Definitions}
 use Rattle.ruleset_text.specs.Entries.{Mapped, EntryForm}
 use Rattle.ruleset_text.specs.inner.EntrySteps.{entry_in}
 use Rattle.ruleset_text.specs.EntryText.{IsSequence, IsMapped, IsForm}
@@ -21,9 +22,9 @@ use Rattle.variant_table.specs.declared.version.Version.TheVariants.{One, Two, T
 use Rattle.variant_table.specs.Faults.{LineFault, Syntax}
 use Rattle.variant_table.specs.DefinitionLines.{if_read, keyword_in, with_behind}
 use Rattle.variant_table.specs.Entries.{Entry, TableValue}
-use Rattle.variant_table.specs.Forms.{has_form, entries_of, SpellsEntries}
-use Rattle.variant_table.specs.Reading.{◌>>=◌, is_skipped, entries_by, entries_in, with_definition, with_entries_of, with_line, with_words}
-use Rattle.variant_table.specs.Texts.{AreBlanks, IsComment, LineSpells}
+use Rattle.variant_table.specs.Forms.{has_form, HasForm, entries_of, SpellsEntries}
+use Rattle.variant_table.specs.Reading.{◌>>=◌, is_skipped, form_by, form_in, with_definition, with_form_of, with_line, with_words}
+use Rattle.variant_table.specs.Texts.{AreBlanks, IsComment, HasSomeForm, LineSpells}
 
 -- ---- skipped lines
 
@@ -128,8 +129,8 @@ module _ (k : ℕ) (no_digit : is_hex_digit k ≡ false) (no_prefix : (eqb k 85 
   other_entry (m ∷ []) (Some c) words h w = other_alone m (Some c) words h.0 w
   other_entry (m ∷ n ∷ mapped) (Some c) words h w = absurd h
 
-pub spells-not_skipped : (v : Version) (line : List ℕ) (es : List Entry) → SpellsEntries v line es → is_skipped line ≡ false
-spells-not_skipped v line es h = skipped_by_words line ∙ other_entry 35 refl refl refl h.0.mapped h.0.last (lexemes line) h.1.0 h.1.1
+pub form-not_skipped : (v : Version) (line : List ℕ) (form : EntryForm) → HasForm v line form → is_skipped line ≡ false
+form-not_skipped v line form h = skipped_by_words line ∙ other_entry 35 refl refl refl form.mapped form.last (lexemes line) h.0.0 h.0.1
 
 -- ---- a definition begins with '%'
 
@@ -145,8 +146,8 @@ none_in Three [] h = refl
 none_in Three (word ∷ words) h = ap (λ o. with_behind words (if_read o)) (no_keyword word words h)
 
 -- an entry is no definition
-pub spells-no_definition : (v : Version) (line : List ℕ) (es : List Entry) → SpellsEntries v line es → keyword_in v (lexemes line) ≡ None
-spells-no_definition v line es h = none_in v (lexemes line) (other_entry 37 refl refl refl h.0.mapped h.0.last (lexemes line) h.1.0 h.1.1)
+pub form-no_definition : (v : Version) (line : List ℕ) (form : EntryForm) → HasForm v line form → keyword_in v (lexemes line) ≡ None
+form-no_definition v line form h = none_in v (lexemes line) (other_entry 37 refl refl refl form.mapped form.last (lexemes line) h.0.0 h.0.1)
 
 skips_none : (v : Version) (words : List (List ℕ)) → skips words ≡ true → keyword_in v words ≡ None
 skips_none One [] h = refl
@@ -159,57 +160,56 @@ skips_none v ((c ∷ cs) ∷ words) h = none_in v ((c ∷ cs) ∷ words) (ap (λ
 pub skipped-no_definition : (v : Version) (line : List ℕ) → is_skipped line ≡ true → keyword_in v (lexemes line) ≡ None
 skipped-no_definition v line s = skips_none v (lexemes line) (sym (skipped_by_words line) ∙ s)
 
--- ---- what is spelled is read, and what is read is spelled
+-- ---- a form is read, and what is read is the form
 
-pub spells_read : (v : Version) (line : List ℕ) (es : List Entry) → SpellsEntries v line es → entries_in v (lexemes line) ≡ Ok es
-spells_read v line es h =
-    ap (entries_by v) (entry_read h.0 line h.1) ∙ ap (λ b. cond b (Ok (entries_of h.0)) (Err Syntax)) h.2 ∙ ap (λ x. Ok x) (sym h.3)
+pub form_read : (v : Version) (line : List ℕ) (form : EntryForm) → HasForm v line form → form_in v (lexemes line) ≡ Ok form
+form_read v line form h = ap (form_by v) (entry_read form line h.0) ∙ ap (λ b. cond b (Ok form) (Err Syntax)) h.1
 
-same_entries : (a b : List Entry) (r : Result (List Entry) LineFault) → r ≡ Ok a → r ≡ Ok b → a ≡ b
-same_entries a b r e f = cc
+same_forms : (a b : EntryForm) (r : Result EntryForm LineFault) → r ≡ Ok a → r ≡ Ok b → a ≡ b
+same_forms a b r e f = cc
 
-form_spelled : (v : Version) (line : List ℕ) (es : List Entry) (form : EntryForm) (b : Bool) → entry_in (lexemes line) ≡ Some form → has_form v form ≡ b → cond b (Ok (entries_of form)) (Err Syntax) ≡ Ok es → SpellsEntries v line es
-form_spelled v line es form true e h is = (form, entry_spelled form line e, h, same_entries es (entries_of form) (Ok es) refl (sym is))
-form_spelled v line es form false e h is = absurd cc
+form_had : (v : Version) (line : List ℕ) (form other : EntryForm) (b : Bool) → entry_in (lexemes line) ≡ Some other → has_form v other ≡ b → cond b (Ok other) (Err Syntax) ≡ Ok form → HasForm v line form
+form_had v line form other true e h is = subst (HasForm v line) (same_forms other form (Ok other) refl is) (entry_spelled other line e, h)
+form_had v line form other false e h is = absurd cc
 
-by_form : (v : Version) (line : List ℕ) (es : List Entry) (o : Option EntryForm) → entry_in (lexemes line) ≡ o → entries_by v o ≡ Ok es → SpellsEntries v line es
-by_form v line es None e is = absurd cc
-by_form v line es (Some form) e is = form_spelled v line es form (has_form v form) e refl is
+by_form : (v : Version) (line : List ℕ) (form : EntryForm) (o : Option EntryForm) → entry_in (lexemes line) ≡ o → form_by v o ≡ Ok form → HasForm v line form
+by_form v line form None e is = absurd cc
+by_form v line form (Some other) e is = form_had v line form other (has_form v other) e refl is
 
-pub read_spells : (v : Version) (line : List ℕ) (es : List Entry) → entries_in v (lexemes line) ≡ Ok es → SpellsEntries v line es
-read_spells v line es e = by_form v line es (entry_in (lexemes line)) refl e
+pub read_form : (v : Version) (line : List ℕ) (form : EntryForm) → form_in v (lexemes line) ≡ Ok form → HasForm v line form
+read_form v line form e = by_form v line form (entry_in (lexemes line)) refl e
 
 -- ---- the four forms
 
 pub data Form (v : Version) (line : List ℕ) : Type 0 where
   skipped : is_skipped line ≡ true → Form v line
   defines : (keyword : Keyword) (behind : List (List ℕ)) → is_skipped line ≡ false → keyword_in v (lexemes line) ≡ Some (keyword, behind) → Form v line
-  of_entries : (es : List Entry) → SpellsEntries v line es → Form v line
-  formless : is_skipped line ≡ false → keyword_in v (lexemes line) ≡ None → ((es : List Entry) → SpellsEntries v line es → ⊥) → Form v line
+  of_entries : (form : EntryForm) → HasForm v line form → Form v line
+  formless : is_skipped line ≡ false → keyword_in v (lexemes line) ≡ None → ((form : EntryForm) → HasForm v line form → ⊥) → Form v line
 
-form_step : (v : Version) (line : List ℕ) (r : Result (List Entry) LineFault) → entries_in v (lexemes line) ≡ r → is_skipped line ≡ false → keyword_in v (lexemes line) ≡ None → Form v line
-form_step v line (Ok es) e s n = of_entries es (read_spells v line es e)
-form_step v line (Err f) e s n = formless s n (λ es h. (let a : entries_in v (lexemes line) ≡ Ok es = spells_read v line es h in cc))
+form_step : (v : Version) (line : List ℕ) (r : Result EntryForm LineFault) → form_in v (lexemes line) ≡ r → is_skipped line ≡ false → keyword_in v (lexemes line) ≡ None → Form v line
+form_step v line (Ok form) e s n = of_entries form (read_form v line form e)
+form_step v line (Err f) e s n = formless s n (λ form h. (let a : form_in v (lexemes line) ≡ Ok form = form_read v line form h in cc))
 
-form_by : (v : Version) (line : List ℕ) (o : Option (Keyword × List (List ℕ))) → keyword_in v (lexemes line) ≡ o → is_skipped line ≡ false → Form v line
-form_by v line None n s = form_step v line (entries_in v (lexemes line)) refl s n
-form_by v line (Some (keyword, behind)) n s = defines keyword behind s n
+form_or_none : (v : Version) (line : List ℕ) (o : Option (Keyword × List (List ℕ))) → keyword_in v (lexemes line) ≡ o → is_skipped line ≡ false → Form v line
+form_or_none v line None n s = form_step v line (form_in v (lexemes line)) refl s n
+form_or_none v line (Some (keyword, behind)) n s = defines keyword behind s n
 
 pub form_of : (v : Version) (line : List ℕ) → Form v line
 form_of v line = by_cases (is_skipped line) refl
   where
     by_cases : (b : Bool) → is_skipped line ≡ b → Form v line
     by_cases true e = skipped e
-    by_cases false e = form_by v line (keyword_in v (lexemes line)) refl e
+    by_cases false e = form_or_none v line (keyword_in v (lexemes line)) refl e
 
 -- the only fault of lexemes is their syntax
-syntax_form : (m : Bool) (es : List Entry) (f : LineFault) → cond m (Ok es) (Err Syntax) ≡ Err f → f ≡ Syntax
-syntax_form false es f e = cc
-syntax_form true es f e = absurd cc
+syntax_form : (m : Bool) (form : EntryForm) (f : LineFault) → cond m (Ok form) (Err Syntax) ≡ Err f → f ≡ Syntax
+syntax_form false form f e = cc
+syntax_form true form f e = absurd cc
 
-syntax_by : (v : Version) (o : Option EntryForm) (f : LineFault) → entries_by v o ≡ Err f → f ≡ Syntax
+syntax_by : (v : Version) (o : Option EntryForm) (f : LineFault) → form_by v o ≡ Err f → f ≡ Syntax
 syntax_by v None f e = cc
-syntax_by v (Some form) f e = syntax_form (has_form v form) (entries_of form) f e
+syntax_by v (Some form) f e = syntax_form (has_form v form) form f e
 
 -- ---- what a line of each form adds
 
@@ -226,75 +226,77 @@ pub with_line-defines : (t : TableValue) (line : List ℕ) (keyword : Keyword) (
     → with_line t line ≡ with_definition t keyword behind
 with_line-defines t line keyword behind s n = with_line-words t line (Some (keyword, behind)) s n
 
-pub with_line-plain : (t : TableValue) (line : List ℕ) → is_skipped line ≡ false → keyword_in t.version (lexemes line) ≡ None → with_line t line ≡ (entries_in t.version (lexemes line) >>= with_entries_of t)
+pub with_line-plain : (t : TableValue) (line : List ℕ) → is_skipped line ≡ false → keyword_in t.version (lexemes line) ≡ None → with_line t line ≡ (form_in t.version (lexemes line) >>= with_form_of t)
 with_line-plain t line s n = with_line-words t line None s n
 
-pub with_line-entries : (t : TableValue) (line : List ℕ) (es : List Entry) → SpellsEntries t.version line es → with_line t line ≡ with_entries_of t es
-with_line-entries t line es h =
-    with_line-plain t line (spells-not_skipped t.version line es h) (spells-no_definition t.version line es h)
-    ∙ ap (λ r. r >>= with_entries_of t) (spells_read t.version line es h)
+pub with_line-form : (t : TableValue) (line : List ℕ) (form : EntryForm) → HasForm t.version line form → with_line t line ≡ with_form_of t form
+with_line-form t line form h =
+    with_line-plain t line (form-not_skipped t.version line form h) (form-no_definition t.version line form h)
+    ∙ ap (λ r. r >>= with_form_of t) (form_read t.version line form h)
 
 -- what has no form has a fault of syntax
-pub formless_entries : (v : Version) (line : List ℕ) → ((es : List Entry) → SpellsEntries v line es → ⊥) → entries_in v (lexemes line) ≡ Err Syntax
-formless_entries v line none = by_result (entries_in v (lexemes line)) refl
+pub formless_words : (v : Version) (line : List ℕ) → ((form : EntryForm) → HasForm v line form → ⊥) → form_in v (lexemes line) ≡ Err Syntax
+formless_words v line none = by_result (form_in v (lexemes line)) refl
   where
-    by_result : (r : Result (List Entry) LineFault) → entries_in v (lexemes line) ≡ r → entries_in v (lexemes line) ≡ Err Syntax
-    by_result (Ok es) e = absurd (none es (read_spells v line es e))
+    by_result : (r : Result EntryForm LineFault) → form_in v (lexemes line) ≡ r → form_in v (lexemes line) ≡ Err Syntax
+    by_result (Ok form) e = absurd (none form (read_form v line form e))
     by_result (Err f) e = e ∙ ap (λ x. Err x) (syntax_by v (entry_in (lexemes line)) f e)
 
-pub with_line-formless : (t : TableValue) (line : List ℕ) → is_skipped line ≡ false → keyword_in t.version (lexemes line) ≡ None → ((es : List Entry) → SpellsEntries t.version line es → ⊥) → with_line t line ≡ Err Syntax
-with_line-formless t line s n none = with_line-plain t line s n ∙ ap (λ r. r >>= with_entries_of t) (formless_entries t.version line none)
+pub with_line-formless : (t : TableValue) (line : List ℕ) → is_skipped line ≡ false → keyword_in t.version (lexemes line) ≡ None → ((form : EntryForm) → HasForm t.version line form → ⊥) → with_line t line ≡ Err Syntax
+with_line-formless t line s n none = with_line-plain t line s n ∙ ap (λ r. r >>= with_form_of t) (formless_words t.version line none)
 
--- a line of a form that the version doesn't have spells nothing
-pub other_version : (v : Version) (line : List ℕ) (form : EntryForm) → IsEntryLine form line → has_form v form ≡ false → (es : List Entry) → SpellsEntries v line es → ⊥
-other_version v line form is lacks es h = let both : true ≡ false = sym h.2 ∙ ap (has_form v) (one_form h.0 form line h.1 is) ∙ lacks in cc
+-- a line of a form that the version doesn't have is none of the version
+pub other_version : (v : Version) (line : List ℕ) (form : EntryForm) → IsEntryLine form line → has_form v form ≡ false → (other : EntryForm) → HasForm v line other → ⊥
+other_version v line form is lacks other h = let both : true ≡ false = sym h.1 ∙ ap (has_form v) (one_form other form line h.0 is) ∙ lacks in cc
 
-pub entries_of_form : (v : Version) (line : List ℕ) (form : EntryForm) → IsEntryLine form line → has_form v form ≡ true → entries_in v (lexemes line) ≡ Ok (entries_of form)
-entries_of_form v line form is has = spells_read v line (entries_of form) (form, is, has, refl)
+-- it has one form at most
+pub one_form_of : (v : Version) (line : List ℕ) (a b : EntryForm) → HasForm v line a → HasForm v line b → a ≡ b
+one_form_of v line a b h k = one_form a b line h.0 k.0
+
+-- ---- whether it has a form
+
+pub some_form-skipped : (v : Version) (line : List ℕ) → is_skipped line ≡ true → HasSomeForm v line
+some_form-skipped v line s = elim (skipped_cases line s) [ inl a ↦ inl a | inr k ↦ inr (inl k) ]
+
+pub some_form-none : (v : Version) (line : List ℕ) → is_skipped line ≡ false → keyword_in v (lexemes line) ≡ None → ((form : EntryForm) → HasForm v line form → ⊥) → HasSomeForm v line → ⊥
+some_form-none v line s n none (inl a) = let x : true ≡ false = sym (blank_skipped line a) ∙ s in cc
+some_form-none v line s n none (inr (inl k)) = let x : true ≡ false = sym (comment_skipped line k) ∙ s in cc
+some_form-none v line s n none (inr (inr (inl h))) = none h.0 h.1
+some_form-none v line s n none (inr (inr (inr h))) = no_pair h.0 h.1 (sym n ∙ h.2)
+  where
+    no_pair : (keyword : Keyword) (behind : List (List ℕ)) → (let o : Option (Keyword × List (List ℕ)) = None in o) ≡ Some (keyword, behind) → ⊥
+    no_pair keyword behind e = cc
 
 -- ---- the entries of a line
 
-pub LineSpells-skipped : (v : Version) (line : List ℕ) → is_skipped line ≡ true → LineSpells v line []
-LineSpells-skipped v line s = elim (skipped_cases line s) [ inl a ↦ inl (a, refl) | inr k ↦ inr (inl (k, refl)) ]
+pub LineSpells-skipped : (v : Version) (d : Definitions) (line : List ℕ) → is_skipped line ≡ true → LineSpells v d line []
+LineSpells-skipped v d line s = elim (skipped_cases line s) [ inl a ↦ inl (a, refl) | inr k ↦ inr (inl (k, refl)) ]
 
-pub data Spelling (v : Version) (line : List ℕ) (entries : List Entry) : Type 0 where
-  none : is_skipped line ≡ true → entries ≡ [] → Spelling v line entries
-  some : SpellsEntries v line entries → Spelling v line entries
+pub data Spelling (v : Version) (d : Definitions) (line : List ℕ) (entries : List Entry) : Type 0 where
+  none : is_skipped line ≡ true → entries ≡ [] → Spelling v d line entries
+  some : SpellsEntries v d line entries → Spelling v d line entries
 
-pub spelling_of : (v : Version) (line : List ℕ) (entries : List Entry) → LineSpells v line entries → Spelling v line entries
-spelling_of v line entries (inl a) = none (blank_skipped line a.0) a.1
-spelling_of v line entries (inr (inl k)) = none (comment_skipped line k.0) k.1
-spelling_of v line entries (inr (inr h)) = some h
+pub spelling_of : (v : Version) (d : Definitions) (line : List ℕ) (entries : List Entry) → LineSpells v d line entries → Spelling v d line entries
+spelling_of v d line entries (inl a) = none (blank_skipped line a.0) a.1
+spelling_of v d line entries (inr (inl k)) = none (comment_skipped line k.0) k.1
+spelling_of v d line entries (inr (inr h)) = some h
 
--- it defines nothing
-pub spelling-none : (v : Version) (line : List ℕ) (entries : List Entry) → LineSpells v line entries → keyword_in v (lexemes line) ≡ None
-spelling-none v line entries s = elim (spelling_of v line entries s) [
-  | none k is ↦ skipped-no_definition v line k
-  | some h ↦ spells-no_definition v line entries h
-]
+both_spelled : (v : Version) (d : Definitions) (line : List ℕ) (a b : List Entry) → SpellsEntries v d line a → SpellsEntries v d line b → a ≡ b
+both_spelled v d line a b h k = h.3 ∙ ap (entries_of d) (one_form_of v line h.0 k.0 h.1 k.1) ∙ sym k.3
 
--- the entries of such a line
-pub spelling-entries : (v : Version) (line : List ℕ) (entries es : List Entry) → SpellsEntries v line es → LineSpells v line entries → entries ≡ es
-spelling-entries v line entries es h s = elim (spelling_of v line entries s) [
-  | none k is ↦ absurd (let a : true ≡ false = sym k ∙ spells-not_skipped v line es h in cc)
-  | some k ↦ same_entries entries es (entries_in v (lexemes line)) (spells_read v line entries k) (spells_read v line es h)
-]
-
-pub spelling-skipped : (v : Version) (line : List ℕ) (entries : List Entry) → is_skipped line ≡ true → LineSpells v line entries → entries ≡ []
-spelling-skipped v line entries k s = elim (spelling_of v line entries s) [
-  | none l is ↦ is
-  | some h ↦ absurd (let a : true ≡ false = sym k ∙ spells-not_skipped v line entries h in cc)
-]
-
-pub spelling-formless : (v : Version) (line : List ℕ) (entries : List Entry) → is_skipped line ≡ false → ((es : List Entry) → SpellsEntries v line es → ⊥) → LineSpells v line entries → ⊥
-spelling-formless v line entries k nothing s = elim (spelling_of v line entries s) [
-  | none l is ↦ (let a : true ≡ false = sym l ∙ k in cc)
-  | some h ↦ nothing entries h
-]
+-- what is skipped spells nothing else
+spelled-not_skipped : (v : Version) (d : Definitions) (line : List ℕ) (es : List Entry) → SpellsEntries v d line es → is_skipped line ≡ true → ⊥
+spelled-not_skipped v d line es h s = let a : true ≡ false = sym s ∙ form-not_skipped v line h.0 h.1 in cc
 
 -- a line spells one list of entries at most
-pub one_line : (v : Version) (line : List ℕ) (a b : List Entry) → LineSpells v line a → LineSpells v line b → a ≡ b
-one_line v line a b h k = elim (spelling_of v line a h) [
-  | none s is ↦ is ∙ sym (spelling-skipped v line b s k)
-  | some spelled ↦ sym (spelling-entries v line b a spelled k)
+pub one_line : (v : Version) (d : Definitions) (line : List ℕ) (a b : List Entry) → LineSpells v d line a → LineSpells v d line b → a ≡ b
+one_line v d line a b h k = elim (spelling_of v d line a h) [
+  | none s is ↦ elim (spelling_of v d line b k) [
+    | none t also ↦ is ∙ sym also
+    | some spelled ↦ absurd (spelled-not_skipped v d line b spelled s)
+  ]
+  | some spelled ↦ elim (spelling_of v d line b k) [
+    | none t also ↦ absurd (spelled-not_skipped v d line a spelled t)
+    | some other ↦ both_spelled v d line a b spelled other
+  ]
 ]

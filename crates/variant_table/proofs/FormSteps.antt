@@ -1,18 +1,21 @@
 -- Sources and variants of a form, one after another.
-use Rattle.std.proofs.Common.{◌≡◌, ℕ, ◌+◌, ◌-◌, ◌<◌, ◌≤◌, Bool, true, false, ◌&&◌, List, [], ◌∷◌, ◌++◌, length, map, take, drop, get_or, sym, ap, subst, ◌∙◌, arith}
+use Rattle.std.proofs.Common.{◌≡◌, ℕ, zero, suc, ◌+◌, ◌-◌, ◌<◌, ◌≤◌, Bool, true, false, ◌&&◌, List, [], ◌∷◌, ◌++◌, length, length-append, map, take, drop, get_or, refl, sym, ap, subst, ◌∙◌, arith}
 use Rattle.std.specs.Prelude.{slice_index, slice_index_or, Option, Some, None}
-use Rattle.std.specs.List.{list_all, range_with_len}
+use Rattle.std.specs.List.{AllByRecursion, list_all}
+use Rattle.std.proofs.lemmas.Bool.{and_parts}
 use Rattle.std.proofs.lemmas.List.{map-append, take_more}
 use Rattle.ruleset_text.specs.declared.entry_form.EntryForm as declared
 use Rattle.ruleset_text.specs.declared.entry_form.Mapped as held
+use Rattle.ruleset_text.specs.Definitions.{Definitions}
 use Rattle.ruleset_text.specs.Entries.{Mapped, EntryForm}
 use Rattle.ruleset_text.specs.EntryForms.{mapped, entry_form}
 use Rattle.ruleset_text.specs.EntryWords.{IsEntryLine}
+use Rattle.ruleset_text.specs.Names.{AreNames, is_one_of, number_of}
 use Rattle.ruleset_text.proofs.EntryExactLemmas.{Spells}
-use Rattle.ruleset_text.specs.EntryText.{IsForm}
-use Rattle.variant_table.specs.Forms.{variant_of, entries_to}
-use Rattle.variant_table.specs.Ranges.{point_entry, range_entries}
+use Rattle.ruleset_text.specs.EntryText.{IsForm, MayHaveTags}
+use Rattle.variant_table.specs.Forms.{variant_of}
 use Rattle.variant_table.proofs.ListLemmas.{drop_item, drop_all}
+use Rattle.variant_table.proofs.NumberLemmas.{few_numbers, numbers_below, numbers_apart, number_behind, one_of}
 
 -- ---- a test of each
 
@@ -32,26 +35,98 @@ module _ (test : Mapped → Bool) (xs : List held.Mapped) (i : ℕ) where
 
 -- ---- their sequences
 
-pub one_taken : (xs : List held.Mapped) (i : ℕ) (x : held.Mapped) → i < length xs → x ≡ get_or xs i x
-    → map variant_of (map mapped (take (i + 1) xs)) ≡ map variant_of (map mapped (take i xs)) ++ variant_of (mapped x) ∷ []
-one_taken xs i x l e =
-    ap (λ t. map variant_of (map mapped t)) (take_more xs i x l ∙ ap (λ y. take i xs ++ y ∷ []) (sym e))
-    ∙ ap (map variant_of) (map-append mapped (take i xs) (x ∷ [])) ∙ map-append variant_of (map mapped (take i xs)) (mapped x ∷ [])
+pub one_taken : (d : Definitions) (xs : List held.Mapped) (i : ℕ) (x : held.Mapped) → i < length xs → x ≡ get_or xs i x
+    → map (variant_of d) (map mapped (take (i + 1) xs)) ≡ map (variant_of d) (map mapped (take i xs)) ++ variant_of d (mapped x) ∷ []
+one_taken d xs i x l e =
+    ap (λ t. map (variant_of d) (map mapped t)) (take_more xs i x l ∙ ap (λ y. take i xs ++ y ∷ []) (sym e))
+    ∙ ap (map (variant_of d)) (map-append mapped (take i xs) (x ∷ [])) ∙ map-append (variant_of d) (map mapped (take i xs)) (mapped x ∷ [])
 
--- ---- the first code point of a range
+-- what is known of each is known of one
+pub one_of_all : (P : Mapped → Type 0) (xs : List held.Mapped) (i : ℕ) (x : held.Mapped) → i < length xs → x ≡ get_or xs i x → AllByRecursion P (map mapped xs) → P (mapped x)
+one_of_all P [] i x l e h = absurd (omega (arith, l))
+one_of_all P (y ∷ xs) zero x l e h = subst (λ z. P (mapped z)) (sym e) h.0
+one_of_all P (y ∷ xs) (suc i) x l e h = one_of_all P xs i x (omega (arith, l)) e h.1
 
-pub first_is : (points : List ℕ) (c : ℕ) → 0 < length points → c ≡ slice_index_or points 0 c → c ≡ slice_index points 0
-first_is [] c l e = absurd (omega (arith, l))
-first_is (d ∷ points) c l e = e
+-- the names of tags
+pub tags_named : (marked : Bool) (tags : List (List ℕ)) → MayHaveTags marked tags → AreNames tags
+tags_named marked [] h = tt
+tags_named marked (tag ∷ tags) h = h.1
 
-pub range_is : (outside : Bool) (first c last : ℕ) → c ≡ first → first ≤ last → map (point_entry outside) (range_with_len c (last - c + 1)) ≡ range_entries outside first last
-range_is outside first c last e l =
-    ap (λ n. map (point_entry outside) (range_with_len n (last - n + 1))) e
-    ∙ ap (λ n. map (point_entry outside) (range_with_len first n)) (let same : last - first + 1 ≡ last + 1 - first = omega (arith, l) in same)
+names-take : (tags : List (List ℕ)) (i : ℕ) → AreNames tags → AreNames (take i tags)
+names-take [] zero h = tt
+names-take [] (suc i) h = tt
+names-take (tag ∷ tags) zero h = tt
+names-take (tag ∷ tags) (suc i) h = (h.0, apart-take tag tags i h.1, names-take tags i h.2)
+  where
+    apart-take : (tag : List ℕ) (tags : List (List ℕ)) (i : ℕ) → AllByRecursion (λ other. tag ≡ other → ⊥) tags → AllByRecursion (λ other. tag ≡ other → ⊥) (take i tags)
+    apart-take tag [] zero h = tt
+    apart-take tag [] (suc i) h = tt
+    apart-take tag (other ∷ tags) zero h = tt
+    apart-take tag (other ∷ tags) (suc i) h = (h.0, apart-take tag tags i h.1)
 
-pub range_of : (items : List held.Mapped) (x : held.Mapped) (last : ℕ) → 0 < length items → x ≡ slice_index_or items 0 x → entries_to (Some last) (map mapped items) ≡ range_entries x.marked (slice_index x.points.items 0) last
-range_of [] x last l e = absurd (omega (arith, l))
-range_of (y ∷ items) x last l e = ap (λ z. range_entries z.marked (slice_index z.points.items 0) last) (sym e)
+-- ---- the numbers of tags, one after another
+
+-- so far: the tags are known, and these are their numbers
+pub record AreFound (names tags : List (List ℕ)) (i : ℕ) (found : List ℕ) : Type 0 where
+  pub known : list_all (is_one_of names) (take i tags) ≡ true
+  pub numbers : found ≡ map (number_of names) (take i tags)
+
+all-push : (test : List ℕ → Bool) (xs : List (List ℕ)) (x : List ℕ) → list_all test xs ≡ true → test x ≡ true → list_all test (xs ++ x ∷ []) ≡ true
+all-push test [] x h t = ap (λ b. b && true) t
+all-push test (y ∷ xs) x h t = let p = and_parts (test y) (list_all test xs) h in ap (λ b. b && list_all test (xs ++ x ∷ [])) p.0 ∙ all-push test xs x p.1 t
+
+module _ (names tags : List (List ℕ)) (i : ℕ) (found : List ℕ) (tag : List ℕ) (n : ℕ) (is : n ≡ number_of names tag) (so_far : AreFound names tags i found) (l : i < length tags) (at : tag ≡ get_or tags i tag) where
+  next : take (i + 1) tags ≡ take i tags ++ tag ∷ []
+  next = take_more tags i tag l ∙ ap (λ y. take i tags ++ y ∷ []) (sym at)
+
+  pub tag_found : n < length names → AreFound names tags (i + 1) (found ++ n ∷ [])
+  tag_found below = record {
+    known = ap (list_all (is_one_of names)) next ∙ all-push (is_one_of names) (take i tags) tag so_far.known (one_of names tag (omega (arith, is, below)));
+    numbers = ap (λ ns. ns ++ n ∷ []) so_far.numbers ∙ ap (λ m. map (number_of names) (take i tags) ++ m ∷ []) is ∙ sym (map-append (number_of names) (take i tags) (tag ∷ [])) ∙ ap (map (number_of names)) (sym next);
+  }
+
+  -- there is room for it
+  pub tag_fits : AreNames tags → n < length names → length names ≤ 8 → length found < 8
+  tag_fits are below few =
+      let all : AreFound names tags (i + 1) (found ++ n ∷ []) = tag_found below in
+      let kept : AreNames (take (i + 1) tags) = names-take tags (i + 1) are in
+      let most : length (map (number_of names) (take (i + 1) tags)) ≤ length names =
+      few_numbers (length names) (map (number_of names) (take (i + 1) tags)) (numbers_below names (take (i + 1) tags) all.known) (numbers_apart names (take (i + 1) tags) kept all.known) in
+      omega (arith, most, few, ap length all.numbers, length-append found (n ∷ []))
+
+  -- a tag that isn't known
+  pub tag_unknown : n ≡ length names → list_all (is_one_of names) tags ≡ false
+  tag_unknown none = fails_at (is_one_of names) tags i tag l at (number_behind names tag (sym is ∙ none))
+    where
+      fails_at : (test : List ℕ → Bool) (xs : List (List ℕ)) (i : ℕ) (x : List ℕ) → i < length xs → x ≡ get_or xs i x → test x ≡ false → list_all test xs ≡ false
+      fails_at test [] i x l e f = absurd (omega (arith, l))
+      fails_at test (y ∷ xs) zero x l e f = ap (λ z. test z && list_all test xs) (sym e) ∙ ap (λ b. b && list_all test xs) f
+      fails_at test (y ∷ xs) (suc i) x l e f = by_first (test y) (fails_at test xs i x (omega (arith, l)) e f)
+        where
+          by_first : (b : Bool) → list_all test xs ≡ false → (b && list_all test xs) ≡ false
+          by_first true h = h
+          by_first false h = refl
+
+-- ---- the source of a range
+
+-- a range has one source, of one code point, which is not above the last
+pub record IsRange (items : List held.Mapped) (x : held.Mapped) (first last : ℕ) : Type 0 where
+  pub one : items ≡ x ∷ []
+  pub first_is : slice_index x.points.items 0 ≡ first
+  pub rises : first ≤ last
+
+pub range_of : (items : List held.Mapped) (x : held.Mapped) (first last : ℕ) → IsForm (map mapped items) (Some last) → x ≡ slice_index_or items 0 x → first ≡ slice_index_or x.points.items 0 first → IsRange items x first last
+range_of [] x first last h e f = absurd h
+range_of (y ∷ z ∷ items) x first last h e f = absurd h
+range_of (y ∷ []) x first last h e f =
+    let point : y.points.items ≡ (h.2).0 ∷ [] = (h.2).1 in
+    let same : x.points.items ≡ (h.2).0 ∷ [] = ap (λ m. m.points.items) e ∙ point in
+    let is : first ≡ (h.2).0 = f ∙ ap (λ ps. slice_index_or ps 0 first) same in
+    record {
+      one = ap (λ m. m ∷ []) (sym e);
+      first_is = ap (λ ps. slice_index ps 0) same ∙ sym is;
+      rises = omega (arith, is, (h.2).2);
+    }
 
 -- ---- what was found
 

@@ -1,17 +1,20 @@
 -- How long canonical lines are.
-use Rattle.std.proofs.Common.{◌≡◌, ℕ, zero, suc, ◌+◌, ◌-◌, ◌<◌, ◌≤◌, Bool, true, false, List, [], ◌∷◌, ◌++◌, length, take, get_or, Some, ap, ◌∙◌, arith, length-append}
-use Rattle.std.specs.Prelude.{slice_get, nat_lt}
-use Rattle.std.specs.List.{AllByRecursion, list_any}
+use Rattle.std.proofs.Common.{◌≡◌, ℕ, zero, suc, ◌+◌, ◌-◌, ◌<◌, ◌≤◌, Bool, true, false, List, [], ◌∷◌, ◌++◌, length, map, take, drop, get_or, Option, Some, None, refl, sym, ap, subst, ◌∙◌, arith, length-append}
+use Rattle.std.specs.Prelude.{nat_lt}
+use Rattle.std.specs.List.{AllByRecursion, list_any, range_with_len}
 use Rattle.std.proofs.lemmas.Bool.{ltb-false, or_parts}
-use Rattle.variant_table.specs.Entries.{Variant, Entry, sequences_in, replacements, entry_from}
-use Rattle.variant_table.specs.Canonical.{separator, canonical_line, canonical_text}
-use Rattle.variant_table.specs.Conditions.{is_too_large}
-use Rattle.variant_table.proofs.WritingLemmas.{further_text, sequence_text-is, further_more, variant_text, variants_text, variants_more, canonical_line-is, slice_get-within}
-use Rattle.variant_table.proofs.EntryLemmas.{replacements-entry_from}
-use Rattle.variant_table.specs.inner.Held.{HasNoEmptySequence}
+use Rattle.ruleset_text.specs.declared.entry_form.Mapped as held
 use Rattle.ruleset_text.specs.Canonical.{point_text}
-use Rattle.ruleset_text.specs.EntryText.{sequence_text}
-use Rattle.ruleset_text.specs.EntryText.{mark_text}
+use Rattle.ruleset_text.specs.Entries.{Mapped}
+use Rattle.ruleset_text.specs.EntryForms.{mapped}
+use Rattle.ruleset_text.specs.EntryText.{mark_text, sequence_text, names_text, tags_text, condition_text, entry_text}
+use Rattle.variant_table.specs.Canonical.{written_text}
+use Rattle.variant_table.specs.Conditions.{is_too_large}
+use Rattle.variant_table.specs.Forms.{with_point}
+use Rattle.variant_table.specs.inner.Held.{HasNoEmptySequence, IsLeft}
+use Rattle.variant_table.proofs.ListLemmas.{drop_item, drop_all}
+use Rattle.variant_table.proofs.RangeLemmas.{range_next}
+use Rattle.variant_table.proofs.WritingLemmas.{further_text, sequence_text-is, further_more, piece_text, further_pieces, pieces_text, entry_text-is}
 
 -- ---- a sequence
 
@@ -23,67 +26,85 @@ pub length-further : (s : List ℕ) → 0 < length s → length (further_text s)
 length-further [] l = absurd (omega (arith, l))
 length-further (c ∷ points) l = omega (arith, ap length (sequence_text-is c points), length-append (point_text c) (further_text points))
 
+-- ---- a source or a variant
+
+pub length-piece : (m : Mapped) → length (piece_text m) ≡ length (mark_text m.marked) + length (sequence_text m.points) + length (tags_text m.tags ++ condition_text m.condition)
+length-piece m =
+    omega (
+      arith,
+      length-append (mark_text m.marked) (sequence_text m.points ++ ([] ++ (tags_text m.tags ++ condition_text m.condition))),
+      length-append (sequence_text m.points) ([] ++ (tags_text m.tags ++ condition_text m.condition)),
+    )
+
+-- names, each with one byte more
+abbrev pub names_size : List (List ℕ) → ℕ
+names_size [] = 0
+names_size (name ∷ names) = length name + 1 + names_size names
+
+length-names_text : (name : List ℕ) (names : List (List ℕ)) → length (names_text (name ∷ names)) + 1 ≡ names_size (name ∷ names)
+length-names_text name [] = omega arith
+length-names_text name (other ∷ names) = omega (arith, length-append name (44 ∷ names_text (other ∷ names)), length-names_text other names)
+
+pub length-tags_text : (tags : List (List ℕ)) → 0 < length tags → length (tags_text tags) ≡ 3 + names_size tags
+length-tags_text [] l = absurd (omega (arith, l))
+length-tags_text (tag ∷ tags) l = omega (arith, length-names_text tag tags)
+
+pub names_left : (names : List (List ℕ)) (i : ℕ) (x : List ℕ) → i < length names → x ≡ get_or names i x → names_size (drop i names) ≡ length x + 1 + names_size (drop (i + 1) names)
+names_left names i x l e = ap names_size (drop_item names i x l e)
+
 -- ---- an entry
 
-filled_at : (ss : List (List ℕ)) (i : ℕ) (s : List ℕ) → AllByRecursion (λ s. 0 < length s) ss → slice_get ss i ≡ Some s → 0 < length s
-filled_at [] i s h e = absurd cc
-filled_at (x ∷ ss) zero s h e = (let same : x ≡ s = cc in omega (arith, h.0, ap length same))
-filled_at (x ∷ ss) (suc i) s h e = filled_at ss i s h.1 e
+-- sources and variants, each with one byte more
+abbrev pub pieces_size : List Mapped → ℕ
+pieces_size [] = 0
+pieces_size (m ∷ ms) = length (piece_text m) + 1 + pieces_size ms
 
-short_at : (ss : List (List ℕ)) (i : ℕ) (s : List ℕ) → list_any (λ s. nat_lt 8 (length s)) ss ≡ false → slice_get ss i ≡ Some s → length s ≤ 8
-short_at [] i s h e = absurd cc
-short_at (x ∷ ss) zero s h e =
-    let same : x ≡ s = cc in
-    let p = or_parts (nat_lt 8 (length x)) (list_any (λ s. nat_lt 8 (length s)) ss) h in
-    omega (arith, ltb-false 8 (length x) p.0, ap length same)
-short_at (x ∷ ss) (suc i) s h e = short_at ss i s (or_parts (nat_lt 8 (length x)) (list_any (λ s. nat_lt 8 (length s)) ss) h).1 e
+length-further_pieces : (ms : List Mapped) → length (further_pieces ms) ≡ pieces_size ms
+length-further_pieces [] = refl
+length-further_pieces (m ∷ ms) = omega (arith, length-append (piece_text m) (further_pieces ms), length-further_pieces ms)
 
-module _ (ss : List Variant) (some : 0 < length ss) (i : ℕ) (s : List ℕ) (at : slice_get (sequences_in ss) i ≡ Some s) where
-  here : slice_get (replacements (entry_from ss)) i ≡ Some s
-  here = ap (λ r. slice_get r i) (replacements-entry_from ss some) ∙ at
+length-pieces_text : (ms : List Mapped) → length (pieces_text ms) ≡ pieces_size ms
+length-pieces_text [] = refl
+length-pieces_text (m ∷ ms) = omega (arith, length-append (piece_text m) (further_pieces ms), length-further_pieces ms)
 
-  pub sequence_filled : HasNoEmptySequence (entry_from ss) → 0 < length s
-  sequence_filled h = filled_at (replacements (entry_from ss)) i s h here
+pub length-entry_text : (m : Mapped) (ms : List Mapped) → length (entry_text (m ∷ ms) None) + 1 ≡ pieces_size (m ∷ ms)
+length-entry_text m ms = omega (arith, ap length (entry_text-is m ms), length-append (piece_text m) (pieces_text ms), length-pieces_text ms)
 
-  pub sequence_short : is_too_large (entry_from ss) ≡ false → length s ≤ 8
-  sequence_short h = short_at (replacements (entry_from ss)) i s (or_parts (nat_lt 16 (length (entry_from ss).variants)) (list_any (λ s. nat_lt 8 (length s)) (replacements (entry_from ss))) h).1 here
+pub length-written : (ms : List Mapped) → 0 < length ms → length (written_text (ms ∷ [])) ≡ pieces_size ms
+length-written [] l = absurd (omega (arith, l))
+length-written (m ∷ ms) l =
+    omega (arith, length-append (entry_text (m ∷ ms) None ++ 10 ∷ []) [], length-append (entry_text (m ∷ ms) None) (10 ∷ []), length-entry_text m ms)
 
-pub few_variants : (ss : List Variant) → is_too_large (entry_from ss) ≡ false → length (entry_from ss).variants ≤ 16
-few_variants ss h =
-    ltb-false 16 (length (entry_from ss).variants) (or_parts (nat_lt 16 (length (entry_from ss).variants)) (list_any (λ s. nat_lt 8 (length s)) (replacements (entry_from ss))) h).0
+pub pieces_left : (xs : List held.Mapped) (i : ℕ) (x : held.Mapped) → i < length xs → x ≡ get_or xs i x → pieces_size (map mapped (drop i xs)) ≡ length (piece_text (mapped x)) + 1 + pieces_size (map mapped (drop (i + 1) xs))
+pieces_left xs i x l e = ap (λ d. pieces_size (map mapped d)) (drop_item xs i x l e)
 
-variant_before : (ss : List Variant) (n : ℕ) (v : Variant) → 1 ≤ n → slice_get ss n ≡ Some v → slice_get (entry_from ss).variants (n - 1) ≡ Some v
-variant_before [] n v l e = absurd cc
-variant_before (x ∷ ss) zero v l e = absurd (omega (arith, l))
-variant_before (x ∷ ss) (suc n) v l e = ap (slice_get ss) (let same : suc n - 1 ≡ n = omega arith in same) ∙ e
+pub pieces_none : (xs : List held.Mapped) (i : ℕ) → length xs ≤ i → pieces_size (map mapped (drop i xs)) ≡ 0
+pieces_none xs i l = ap (λ d. pieces_size (map mapped d)) (drop_all xs i l)
 
-pub one_mark : (blocked : Bool) → length (mark_text blocked) ≤ 1
-one_mark true = omega arith
-one_mark false = omega arith
+pub short_of : (ms : List Mapped) → is_too_large ms ≡ false → AllByRecursion (λ m. length m.points ≤ 8) ms
+short_of ms h = by ms (or_parts (nat_lt 17 (length ms)) (list_any (λ m. nat_lt 8 (length m.points)) ms) h).1
+  where
+    by : (ms : List Mapped) → list_any (λ m. nat_lt 8 (length m.points)) ms ≡ false → AllByRecursion (λ m. length m.points ≤ 8) ms
+    by [] h = tt
+    by (m ∷ ms) h = let p = or_parts (nat_lt 8 (length m.points)) (list_any (λ m. nat_lt 8 (length m.points)) ms) h in (ltb-false 8 (length m.points) p.0, by ms p.1)
 
--- each variant has its mark, and one byte more of the separator before it
-pub length-variants_next : (ss : List Variant) (n : ℕ) (v : Variant) → 1 ≤ n → slice_get ss n ≡ Some v
-    → length (variants_text (take (n + 1 - 1) (entry_from ss).variants))
-    ≡ length (variants_text (take (n - 1) (entry_from ss).variants)) + (length (sequence_text v.sequence) + 1 + length (mark_text v.blocked))
-length-variants_next ss n v l e =
-    let vs : List Variant = (entry_from ss).variants in
-    let at : slice_get vs (n - 1) ≡ Some v = variant_before ss n v l e in
-    let count : n + 1 - 1 ≡ n - 1 + 1 = omega (arith, l) in
+-- ---- a range
+
+-- the lines of so many code points
+abbrev pub range_lines : Mapped → ℕ → ℕ → List (List Mapped)
+range_lines m first count = map (λ c. with_point m c ∷ []) (range_with_len first count)
+
+pub range_lines_left : (m : Mapped) (first count i : ℕ) → i < count
+    → length (written_text (range_lines m (first + i) (count - i))) ≡ length (piece_text (with_point m (first + i))) + 1 + length (written_text (range_lines m (first + (i + 1)) (count - (i + 1))))
+range_lines_left m first count i l =
     omega (
       arith,
-      ap (λ k. length (variants_text (take k vs))) count,
-      ap length (variants_more vs (n - 1) v at (slice_get-within vs (n - 1) v at)),
-      length-append (variants_text (take (n - 1) vs)) (separator (n - 1) ∷ variant_text v),
-      length-append (mark_text v.blocked) (sequence_text v.sequence),
+      ap (λ es. length (written_text es)) (range_next (λ c. with_point m c ∷ []) first count i l),
+      length-append (piece_text (with_point m (first + i)) ++ 10 ∷ []) (written_text (range_lines m (first + (i + 1)) (count - (i + 1)))),
+      length-append (piece_text (with_point m (first + i))) (10 ∷ []),
     )
 
-pub length-one_line : (e : Entry) → length (canonical_text (e ∷ [])) ≡ length (mark_text e.outside) + length (sequence_text e.source) + 1 + length (variants_text e.variants)
-length-one_line e =
-    omega (
-      arith,
-      length-append (canonical_line e ++ 10 ∷ []) [],
-      length-append (canonical_line e) (10 ∷ []),
-      ap length (canonical_line-is e),
-      length-append (mark_text e.outside ++ sequence_text e.source) (variants_text e.variants),
-      length-append (mark_text e.outside) (sequence_text e.source),
-    )
+-- ---- what is left
+
+pub IsLeft-of : (left n m : ℕ) (o : Option ℕ) → n ≡ m → IsLeft left n o → IsLeft left m o
+IsLeft-of left n m o e h = subst (λ k. IsLeft left k o) e h

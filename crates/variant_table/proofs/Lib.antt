@@ -42,21 +42,29 @@ pub mod WritingLemmas
 pub mod GapLemmas
 -- The gaps of a table rise.
 pub mod RisingLemmas
+-- What is told of a form, by what is tested of it in turn.
+pub mod TestLemmas
 -- Examples of entries that are taken or refused, computed.
 pub mod ExampleLemmas
 -- The entries of a range, one by one.
 pub mod RangeLemmas
 -- How long canonical lines are.
 pub mod LengthLemmas
+-- Names and their numbers.
+pub mod NumberLemmas
 -- Variants of an entry that stand again, and those that are apart.
 pub mod RepeatLemmas
 -- The table without its blocked variants.
 pub mod UnblockedLemmas
 -- What the entries of a line add.
 pub mod AddingLemmas
+-- What is defined later changes no entry and no line of one.
+pub mod GrownLemmas
 -- What a line that defines something makes of a table.
 pub mod DefiningLemmas
 -- The first of a list that a test is true of.
 pub mod FindLemmas
 -- The places that are told are those that are defined.
 pub mod PlaceLawLemmas
+-- What the lines before a faulty line define.
+mod PlaceNameLemmas

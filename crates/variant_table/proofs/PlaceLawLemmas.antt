@@ -1,5 +1,5 @@
 -- The places that are told are those that are defined.
-use Rattle.std.proofs.Common.{◌≡◌, ℕ, Bool, true, false, cond, not, ◌&&◌, List, [], ◌∷◌, ◌++◌, Option, Some, None, refl, sym, ap, subst, ◌∙◌}
+use Rattle.std.proofs.Common.{◌≡◌, inl, inr, ℕ, Bool, true, false, cond, not, ◌&&◌, List, [], ◌∷◌, ◌++◌, Option, Some, None, refl, sym, ap, subst, ◌∙◌}
 use Rattle.std.specs.Prelude.{◌↔◌, find, is_some, option_map}
 use Rattle.std.specs.List.{AllByRecursion, list_all}
 use Rattle.ruleset_text.specs.declared.entry_place.WrongPlace.{WrongPlace}
@@ -7,15 +7,18 @@ use Rattle.ruleset_text.specs.declared.entry_place.WrongPlace.TheVariants as wro
 use Rattle.ruleset_text.specs.declared.line_point.LinePoint.{LinePoint}
 use Rattle.ruleset_text.specs.Entries.{Mapped, EntryForm}
 use Rattle.ruleset_text.specs.EntryParts.{is_within, are_within, has_parts, has_tags}
+use Rattle.ruleset_text.specs.WrongPlaces.{FitsNames}
 use Rattle.ruleset_text.specs.inner.WrongSteps.{wrong_place}
+use Rattle.ruleset_text.specs.inner.DefinitionWrongSteps.{wrong_definition}
+use Rattle.ruleset_text.proofs.DefinitionPlaceLemmas.{the_wrong_place as of_definition}
 use Rattle.ruleset_text.proofs.WrongPlaceLemmas.{the_wrong_place}
 use Rattle.variant_table.specs.declared.place.FaultPlace.{FaultPlace}
 use Rattle.variant_table.specs.declared.place.FaultPlace.TheVariants.{Lexeme, End, Point, InRange, Variant, Source, Byte, NinthPoint, SeventeenthVariant}
 use Rattle.variant_table.specs.declared.version.Version.{Version}
 use Rattle.variant_table.specs.declared.version.Version.TheVariants.{One, Two, Three}
-use Rattle.variant_table.specs.FaultPlaces.{as_fault, is_bad_point, is_no_entry, parts_of, point_place, syntax_place}
+use Rattle.variant_table.specs.FaultPlaces.{as_fault, is_bad_point, defines, parts_of, point_place, syntax_place}
 use Rattle.variant_table.specs.Forms.{is_plain, is_bare, begins_marked, has_form}
-use Rattle.variant_table.specs.ToldPlaces.{IsFirstBad, IsFirstBadPoint, IsSyntaxPlace}
+use Rattle.variant_table.specs.ToldPlaces.{IsFirstBad, IsFirstBadPoint, IsSyntaxPlace, IsWrongIn}
 
 -- ---- the parts of a version
 
@@ -23,21 +26,21 @@ and_true : (b : Bool) → (b && true) ≡ b
 and_true true = refl
 and_true false = refl
 
-plain_within : (tags : List (List ℕ)) (m : Mapped) → m.tags ≡ tags → is_within true m ≡ is_plain m
+plain_within : (tags : List (List ℕ)) (m : Mapped) → m.tags ≡ tags → is_within false true m ≡ is_plain m
 plain_within [] m e = ap (λ (l : List (List ℕ)). not (has_tags l) && not (is_some m.condition) && true) e ∙ and_true (true && not (is_some m.condition)) ∙ sym (ap (λ (l : List (List ℕ)). is_plain (record m { tags = l })) e)
 plain_within (tag ∷ tags) m e = ap (λ (l : List (List ℕ)). not (has_tags l) && not (is_some m.condition) && true) e ∙ sym (ap (λ (l : List (List ℕ)). is_plain (record m { tags = l })) e)
 
-bare_within : (tags : List (List ℕ)) (m : Mapped) → m.tags ≡ tags → is_within false m ≡ (is_plain m && not m.marked)
+bare_within : (tags : List (List ℕ)) (m : Mapped) → m.tags ≡ tags → is_within false false m ≡ (is_plain m && not m.marked)
 bare_within [] m e = ap (λ (l : List (List ℕ)). not (has_tags l) && not (is_some m.condition) && not m.marked) e ∙ sym (ap (λ (l : List (List ℕ)). is_plain (record m { tags = l }) && not m.marked) e)
 bare_within (tag ∷ tags) m e = ap (λ (l : List (List ℕ)). not (has_tags l) && not (is_some m.condition) && not m.marked) e ∙ sym (ap (λ (l : List (List ℕ)). is_plain (record m { tags = l }) && not m.marked) e)
 
-all_plain : (ms : List Mapped) → list_all (is_within true) ms ≡ list_all is_plain ms
+all_plain : (ms : List Mapped) → list_all (is_within false true) ms ≡ list_all is_plain ms
 all_plain [] = refl
-all_plain (m ∷ ms) = ap (λ b. b && list_all (is_within true) ms) (plain_within m.tags m refl) ∙ ap (λ b. is_plain m && b) (all_plain ms)
+all_plain (m ∷ ms) = ap (λ b. b && list_all (is_within false true) ms) (plain_within m.tags m refl) ∙ ap (λ b. is_plain m && b) (all_plain ms)
 
-all_bare : (ms : List Mapped) → list_all (is_within false) ms ≡ list_all is_bare ms
+all_bare : (ms : List Mapped) → list_all (is_within false false) ms ≡ list_all is_bare ms
 all_bare [] = refl
-all_bare (m ∷ ms) = ap (λ b. b && list_all (is_within false) ms) (bare_within m.tags m refl) ∙ ap (λ b. is_bare m && b) (all_bare ms)
+all_bare (m ∷ ms) = ap (λ b. b && list_all (is_within false false) ms) (bare_within m.tags m refl) ∙ ap (λ b. is_bare m && b) (all_bare ms)
 
 moved : (a b c : Bool) → ((a && c) && b) ≡ ((a && b) && c)
 moved true true true = refl
@@ -58,7 +61,7 @@ form_parts Two form = by form.mapped ∙ sym (and_true (are_within (parts_of Two
     by [] = refl
     by (m ∷ ms) =
         moved (is_plain m) (not m.marked) (list_all is_plain ms)
-        ∙ ap (λ b. (is_plain m && not m.marked) && b) (sym (all_plain ms)) ∙ ap (λ b. b && list_all (is_within true) ms) (sym (bare_within m.tags m refl))
+        ∙ ap (λ b. (is_plain m && not m.marked) && b) (sym (all_plain ms)) ∙ ap (λ b. b && list_all (is_within false true) ms) (sym (bare_within m.tags m refl))
 form_parts Three form = by form.mapped ∙ sym (and_true (are_within (parts_of Three) form.mapped))
   where
     by : (ms : List Mapped) → list_all is_plain ms ≡ are_within (parts_of Three) ms
@@ -67,8 +70,20 @@ form_parts Three form = by form.mapped ∙ sym (and_true (are_within (parts_of T
 
 -- ---- syntax
 
-told_at : (version : Version) (line : List ℕ) → is_no_entry version line ≡ false → syntax_place version line ≡ option_map as_fault (wrong_place (parts_of version) line)
-told_at version line e = ap (λ b. cond b None (option_map as_fault (wrong_place (parts_of version) line))) e
+-- the lexeme or the end where a line stops being one of the version
+abbrev wrong_in : Version → List ℕ → Option WrongPlace
+wrong_in version line = cond (defines version line) (wrong_definition line) (wrong_place (parts_of version) line)
+
+wrong_is : (version : Version) (line : List ℕ) (place : WrongPlace) → FitsNames (parts_of version) line → (wrong_in version line ≡ Some place) ↔ IsWrongIn version line place
+wrong_is version line place fits = by (defines version line) refl
+  where
+    by : (b : Bool) → defines version line ≡ b → (cond b (wrong_definition line) (wrong_place (parts_of version) line) ≡ Some place) ↔ IsWrongIn version line place
+    by true e =
+        let is = of_definition line place in
+        (λ h. inl (e, is.0 h), λ has. elim has [ inl defined ↦ is.1 defined.1 | inr other ↦ absurd (let clash : true ≡ false = sym e ∙ other.0 in cc) ])
+    by false e =
+        let is = the_wrong_place (parts_of version) line place fits in
+        (λ h. inr (e, is.0 h), λ has. elim has [ inl defined ↦ absurd (let clash : true ≡ false = sym defined.0 ∙ e in cc) | inr other ↦ is.1 other.1 ])
 
 lexeme_from : (place n : ℕ) (o : Option WrongPlace) → option_map as_fault o ≡ Some (Lexeme place n) → o ≡ Some (wrong.Lexeme place n)
 lexeme_from place n None e = absurd cc
@@ -91,30 +106,30 @@ of_syntax place None e = absurd cc
 of_syntax place (Some (wrong.Lexeme p m)) e = let same : Lexeme p m ≡ place = cc in subst IsOfSyntax same tt
 of_syntax place (Some (wrong.End p)) e = let same : End p ≡ place = cc in subst IsOfSyntax same tt
 
-syntax_is : (version : Version) (line : List ℕ) (place : FaultPlace) → option_map as_fault (wrong_place (parts_of version) line) ≡ Some place → IsSyntaxPlace version line place
-syntax_is version line (Lexeme place n) e = (the_wrong_place (parts_of version) line (wrong.Lexeme place n)).0 (lexeme_from place n (wrong_place (parts_of version) line) e)
-syntax_is version line (End place) e = (the_wrong_place (parts_of version) line (wrong.End place)).0 (end_from place (wrong_place (parts_of version) line) e)
-syntax_is version line (Point place c) e = of_syntax (Point place c) (wrong_place (parts_of version) line) e
-syntax_is version line (InRange place c) e = of_syntax (InRange place c) (wrong_place (parts_of version) line) e
-syntax_is version line (Variant place) e = of_syntax (Variant place) (wrong_place (parts_of version) line) e
-syntax_is version line (Source place) e = of_syntax (Source place) (wrong_place (parts_of version) line) e
-syntax_is version line (Byte place) e = of_syntax (Byte place) (wrong_place (parts_of version) line) e
-syntax_is version line (NinthPoint place c) e = of_syntax (NinthPoint place c) (wrong_place (parts_of version) line) e
-syntax_is version line (SeventeenthVariant place c) e = of_syntax (SeventeenthVariant place c) (wrong_place (parts_of version) line) e
+syntax_is : (version : Version) (line : List ℕ) (place : FaultPlace) → FitsNames (parts_of version) line → option_map as_fault (wrong_in version line) ≡ Some place → IsSyntaxPlace version line place
+syntax_is version line (Lexeme place n) fits e = (wrong_is version line (wrong.Lexeme place n) fits).0 (lexeme_from place n (wrong_in version line) e)
+syntax_is version line (End place) fits e = (wrong_is version line (wrong.End place) fits).0 (end_from place (wrong_in version line) e)
+syntax_is version line (Point place c) fits e = of_syntax (Point place c) (wrong_in version line) e
+syntax_is version line (InRange place c) fits e = of_syntax (InRange place c) (wrong_in version line) e
+syntax_is version line (Variant place) fits e = of_syntax (Variant place) (wrong_in version line) e
+syntax_is version line (Source place) fits e = of_syntax (Source place) (wrong_in version line) e
+syntax_is version line (Byte place) fits e = of_syntax (Byte place) (wrong_in version line) e
+syntax_is version line (NinthPoint place c) fits e = of_syntax (NinthPoint place c) (wrong_in version line) e
+syntax_is version line (SeventeenthVariant place c) fits e = of_syntax (SeventeenthVariant place c) (wrong_in version line) e
 
-is_syntax : (version : Version) (line : List ℕ) (place : FaultPlace) → IsSyntaxPlace version line place → option_map as_fault (wrong_place (parts_of version) line) ≡ Some place
-is_syntax version line (Lexeme place n) is = ap (option_map as_fault) ((the_wrong_place (parts_of version) line (wrong.Lexeme place n)).1 is)
-is_syntax version line (End place) is = ap (option_map as_fault) ((the_wrong_place (parts_of version) line (wrong.End place)).1 is)
-is_syntax version line (Point place c) is = absurd is
-is_syntax version line (InRange place c) is = absurd is
-is_syntax version line (Variant place) is = absurd is
-is_syntax version line (Source place) is = absurd is
-is_syntax version line (Byte place) is = absurd is
-is_syntax version line (NinthPoint place c) is = absurd is
-is_syntax version line (SeventeenthVariant place c) is = absurd is
+is_syntax : (version : Version) (line : List ℕ) (place : FaultPlace) → FitsNames (parts_of version) line → IsSyntaxPlace version line place → option_map as_fault (wrong_in version line) ≡ Some place
+is_syntax version line (Lexeme place n) fits is = ap (option_map as_fault) ((wrong_is version line (wrong.Lexeme place n) fits).1 is)
+is_syntax version line (End place) fits is = ap (option_map as_fault) ((wrong_is version line (wrong.End place) fits).1 is)
+is_syntax version line (Point place c) fits is = absurd is
+is_syntax version line (InRange place c) fits is = absurd is
+is_syntax version line (Variant place) fits is = absurd is
+is_syntax version line (Source place) fits is = absurd is
+is_syntax version line (Byte place) fits is = absurd is
+is_syntax version line (NinthPoint place c) fits is = absurd is
+is_syntax version line (SeventeenthVariant place c) fits is = absurd is
 
-pub syntax_told : (version : Version) (line : List ℕ) (place : FaultPlace) → is_no_entry version line ≡ false → (syntax_place version line ≡ Some place) ↔ IsSyntaxPlace version line place
-syntax_told version line place e = (λ h. syntax_is version line place (sym (told_at version line e) ∙ h), λ is. told_at version line e ∙ is_syntax version line place is)
+pub syntax_told : (version : Version) (line : List ℕ) (place : FaultPlace) → FitsNames (parts_of version) line → (syntax_place version line ≡ Some place) ↔ IsSyntaxPlace version line place
+syntax_told version line place fits = (syntax_is version line place fits, is_syntax version line place fits)
 
 -- ---- code points
 

@@ -1,59 +1,52 @@
 -- The entries of a range, one by one.
-use Rattle.std.proofs.Common.{◌≡◌, ℕ, suc, ◌+◌, ◌-◌, ◌<◌, ◌≤◌, Bool, true, false, ◌||◌, cond, List, [], ◌∷◌, ◌++◌, length, map, Ok, Err, refl, sym, ap, ◌∙◌, arith, append_assoc, length-append}
+use Rattle.std.proofs.Common.{◌≡◌, ℕ, suc, ◌+◌, ◌-◌, ◌<◌, ◌≤◌, Bool, true, false, ◌||◌, cond, List, [], ◌∷◌, ◌++◌, length, map, Ok, Err, refl, sym, ap, ◌∙◌, arith, append_assoc}
 use Rattle.std.specs.Prelude.{bytes_eq}
 use Rattle.std.specs.List.{range_with_len, list_any}
 use Rattle.std.proofs.lemmas.List.{append-nil}
+use Rattle.ruleset_text.specs.Entries.{Mapped}
 use Rattle.variant_table.specs.Faults.{SameSource}
-use Rattle.variant_table.specs.Entries.{Entry}
-use Rattle.variant_table.specs.Canonical.{canonical_line, canonical_text}
+use Rattle.variant_table.specs.Entries.{Variant, Entry}
 use Rattle.variant_table.specs.Conditions.{is_too_large, has_repeat, has_source_in}
-use Rattle.variant_table.specs.Ranges.{point_entry}
+use Rattle.variant_table.specs.Forms.{with_point}
+use Rattle.variant_table.specs.Ranges.{entry_in_range}
 use Rattle.variant_table.specs.Reading.{◌>>=◌}
 use Rattle.variant_table.specs.inner.ReadingSteps.{with_new_source, with_new_sources}
 use Rattle.variant_table.proofs.ConditionLemmas.{AreNewSources, new_range}
-use Rattle.ruleset_text.specs.Canonical.{point_text}
-use Rattle.ruleset_text.specs.EntryText.{mark_text}
+
+same_range : {X : Type 0} (f : ℕ → X) (a b m n : ℕ) → a ≡ b → m ≡ n → map f (range_with_len a m) ≡ map f (range_with_len b n)
+same_range f a b m n e g = ap (λ x. map f (range_with_len x m)) e ∙ ap (λ k. map f (range_with_len b k)) g
+
+-- what is made of the code points from a place on is that of its code point and of those behind it
+pub range_next : {X : Type 0} (f : ℕ → X) (first count i : ℕ) → i < count → map f (range_with_len (first + i) (count - i)) ≡ f (first + i) ∷ map f (range_with_len (first + (i + 1)) (count - (i + 1)))
+range_next f first count i l =
+    same_range f (first + i) (first + i) (count - i) (suc (count - (i + 1))) refl (omega arith)
+    ∙ ap (λ es. f (first + i) ∷ es) (same_range f (first + i + 1) (first + (i + 1)) (count - (i + 1)) (count - (i + 1)) (omega arith) refl)
 
 -- so many entries from a code point on
-abbrev pub points_from : Bool → ℕ → ℕ → List Entry
-points_from o first count = map (point_entry o) (range_with_len first count)
+abbrev pub points_from : Variant → ℕ → ℕ → List Entry
+points_from v first count = map (entry_in_range v) (range_with_len first count)
 
-same_points : (o : Bool) (a b m n : ℕ) → a ≡ b → m ≡ n → points_from o a m ≡ points_from o b n
-same_points o a b m n e f = ap (λ x. points_from o x m) e ∙ ap (points_from o b) f
+pub points_next : (v : Variant) (first count i : ℕ) → i < count → points_from v (first + i) (count - i) ≡ entry_in_range v (first + i) ∷ points_from v (first + (i + 1)) (count - (i + 1))
+points_next v first count i l = range_next (entry_in_range v) first count i l
 
--- the entries from a place on are that of its code point and those behind it
-pub points_next : (o : Bool) (first count i : ℕ) → i < count → points_from o (first + i) (count - i) ≡ point_entry o (first + i) ∷ points_from o (first + (i + 1)) (count - (i + 1))
-points_next o first count i l =
-    same_points o (first + i) (first + i) (count - i) (suc (count - (i + 1))) refl (omega arith)
-    ∙ ap (λ es. point_entry o (first + i) ∷ es) (same_points o (first + i + 1) (first + (i + 1)) (count - (i + 1)) (count - (i + 1)) (omega arith) refl)
+pub points_start : (v : Variant) (first count : ℕ) → points_from v (first + 0) (count - 0) ≡ points_from v first count
+points_start v first count = same_range (entry_in_range v) (first + 0) first (count - 0) count (omega arith) (omega arith)
 
-pub points_start : (o : Bool) (first count : ℕ) → points_from o (first + 0) (count - 0) ≡ points_from o first count
-points_start o first count = same_points o (first + 0) first (count - 0) count (omega arith) (omega arith)
-
-pub points_end : (o : Bool) (first count i : ℕ) → count ≤ i → points_from o (first + i) (count - i) ≡ []
-points_end o first count i l = same_points o (first + i) (first + i) (count - i) 0 refl (omega (arith, l))
-
-pub length-points_text : (o : Bool) (c : ℕ) (es : List Entry) → length (canonical_text (point_entry o c ∷ es)) ≡ length (mark_text o) + length (point_text c) + 1 + length (canonical_text es)
-length-points_text true c es =
-    omega (arith, length-append (canonical_line (point_entry true c) ++ 10 ∷ []) (canonical_text es), length-append (canonical_line (point_entry true c)) (10 ∷ []), length-append (point_text c) [])
-length-points_text false c es =
-    omega (arith, length-append (canonical_line (point_entry false c) ++ 10 ∷ []) (canonical_text es), length-append (canonical_line (point_entry false c)) (10 ∷ []), length-append (point_text c) [])
+pub points_end : (v : Variant) (first count i : ℕ) → count ≤ i → points_from v (first + i) (count - i) ≡ []
+points_end v first count i l = same_range (entry_in_range v) (first + i) (first + i) (count - i) 0 refl (omega (arith, l))
 
 -- ---- such entries have no fault of their own but a bad class
 
-points_small : (o : Bool) (cs : List ℕ) → list_any is_too_large (map (point_entry o) cs) ≡ false
-points_small o [] = refl
-points_small o (c ∷ cs) = points_small o cs
+pub range_small : (m : Mapped) (cs : List ℕ) → list_any is_too_large (map (λ c. with_point m c ∷ []) cs) ≡ false
+range_small m [] = refl
+range_small m (c ∷ cs) = range_small m cs
 
-points_single : (o : Bool) (cs : List ℕ) → list_any has_repeat (map (point_entry o) cs) ≡ false
-points_single o [] = refl
-points_single o (c ∷ cs) = points_single o cs
+points_single : (v : Variant) (cs : List ℕ) → list_any has_repeat (map (entry_in_range v) cs) ≡ false
+points_single v [] = refl
+points_single v (c ∷ cs) = points_single v cs
 
-pub range_small : (o : Bool) (first count : ℕ) → list_any is_too_large (points_from o first count) ≡ false
-range_small o first count = points_small o (range_with_len first count)
-
-pub range_single : (o : Bool) (first count : ℕ) → list_any has_repeat (points_from o first count) ≡ false
-range_single o first count = points_single o (range_with_len first count)
+pub range_single : (v : Variant) (first count : ℕ) → list_any has_repeat (points_from v first count) ≡ false
+range_single v first count = points_single v (range_with_len first count)
 
 -- ---- new sources, one after another
 
@@ -101,9 +94,9 @@ some_known t [] h = absurd cc
 some_known t (e ∷ es) h = some_step t e es (has_source_in t e) refl h (λ k. some_known (t ++ e ∷ []) es k)
 
 -- the table with the entries of a range, by whether it has one of their sources
-pub with_range : (o : Bool) (t : List Entry) (first count : ℕ) → with_new_sources t (points_from o first count) ≡ cond (list_any (has_source_in t) (points_from o first count)) (Err SameSource) (Ok (t ++ points_from o first count))
-with_range o t first count = by_cases (list_any (has_source_in t) (points_from o first count)) refl
+pub with_range : (v : Variant) (t : List Entry) (first count : ℕ) → with_new_sources t (points_from v first count) ≡ cond (list_any (has_source_in t) (points_from v first count)) (Err SameSource) (Ok (t ++ points_from v first count))
+with_range v t first count = by_cases (list_any (has_source_in t) (points_from v first count)) refl
   where
-    by_cases : (b : Bool) → list_any (has_source_in t) (points_from o first count) ≡ b → with_new_sources t (points_from o first count) ≡ cond b (Err SameSource) (Ok (t ++ points_from o first count))
-    by_cases true h = some_known t (points_from o first count) h
-    by_cases false h = all_new t (points_from o first count) (new_range o t first count h)
+    by_cases : (b : Bool) → list_any (has_source_in t) (points_from v first count) ≡ b → with_new_sources t (points_from v first count) ≡ cond b (Err SameSource) (Ok (t ++ points_from v first count))
+    by_cases true h = some_known t (points_from v first count) h
+    by_cases false h = all_new t (points_from v first count) (new_range v t first count h)

@@ -29,10 +29,10 @@ use Rattle.variant_table.proofs.SizeLemmas.{adds_version}
 
 -- ---- a table of version 2 is a ruleset once its first line says so
 
-line_three : (line : List ℕ) (entries : List Entry) → LineSpells Two line entries → LineSpells Three line entries
-line_three line entries (inl h) = inl h
-line_three line entries (inr (inl h)) = inr (inl h)
-line_three line entries (inr (inr h)) = inr (inr (h.0, h.1, (and_parts (list_all is_plain h.0.mapped) (not (begins_marked h.0.mapped)) h.2).0, h.3))
+line_three : (d : Definitions) (line : List ℕ) (entries : List Entry) → LineSpells Two d line entries → LineSpells Three d line entries
+line_three d line entries (inl h) = inl h
+line_three d line entries (inr (inl h)) = inr (inl h)
+line_three d line entries (inr (inr h)) = inr (inr (h.0, (h.1.0, (and_parts (list_all is_plain h.0.mapped) (not (begins_marked h.0.mapped)) h.1.1).0), h.2, h.3))
 
 -- a table as a ruleset
 abbrev three : TableValue → TableValue
@@ -47,7 +47,7 @@ no_definition t line d is (k, behind, n, e) = by_version t.version is n
     by_version Three is n = cc
 
 added_three : (t u : TableValue) (line : List ℕ) → t.version ≡ Two → LineAdds t line u → LineAdds (three t) line (three u)
-added_three t u line two (inl (es, s, is)) = inl (es, line_three line es (subst (λ v. LineSpells v line es) two s), ap three is)
+added_three t u line two (inl (es, s, is)) = inl (es, line_three t.definitions line es (subst (λ v. LineSpells v t.definitions line es) two s), ap three is)
 added_three t u line two (inr (d, s, is)) = absurd (no_definition t line d two s)
 
 lines_three : (t u : TableValue) (lines : List (List ℕ)) → t.version ≡ Two → LinesSpell t lines u → LinesSpell (three t) lines (three u)
@@ -65,8 +65,9 @@ as_ruleset entries h = record {
   defined = refl;
   well_formed = h.well_formed;
   of_version = λ k d l. (h.of_version k d l).1;
+  named = h.named;
   few = omega (arith, h.few);
-  short = omega (arith, h.short, length-append (head_text Two) (canonical_text entries), length-append (head_text Three) (canonical_text entries));
+  short = omega (arith, h.short, length-append (head_text Two) (canonical_text nothing_defined entries), length-append (head_text Three) (canonical_text nothing_defined entries));
 }
 
 pub as_three : (lines : List ℕ) (entries : List Entry) → IsTextOf Table (head_text Two ++ lines) (table_of Two nothing_defined entries) → IsTextOf Ruleset (head_text Three ++ lines) (table_of Three nothing_defined entries)

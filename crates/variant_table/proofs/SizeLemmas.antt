@@ -1,8 +1,8 @@
 -- In version 1 canonical text is never longer than what was read.
 use Rattle.std.proofs.Common.{◌≡◌, inl, inr, ℕ, ◌+◌, ◌/◌, ◌%◌, ◌-◌, ◌<◌, ◌≤◌, Bool, true, false, not, ◌||◌, ◌&&◌, cond, eqb, List, [], ◌∷◌, ◌++◌, map, length, take, refl, sym, ap, subst, ◌∙◌, arith, length-append, length-take}
-use Rattle.std.specs.Prelude.{nat_lt, slice_index, is_some, Option, Some, None}
+use Rattle.std.specs.Prelude.{nat_lt, slice_index, Option, Some, None}
 use Rattle.std.specs.Char.{digit_value}
-use Rattle.std.specs.List.{flat_map, list_all, onto_first}
+use Rattle.std.specs.List.{AllByRecursion, flat_map, list_all, onto_first}
 use Rattle.idn_text.specs.Lines.{raw_lines, joined_lines, with_last_feed}
 use Rattle.std.specs.Str.Lines.{strip_carriage_return}
 use Rattle.std.specs.Str.Parse.{digits_value}
@@ -12,7 +12,6 @@ use Rattle.std.proofs.lemmas.List.Concat.{flat_map-append}
 use Rattle.std.proofs.lemmas.List.Sums.{sum_by-cons}
 use Rattle.idn_text.proofs.LawLemmas.{joined-raw_lines}
 use Rattle.idn_text.specs.Points.{is_hex_digit, point_of_hex}
-use Rattle.ruleset_text.specs.declared.entry_form.NamedCondition.{NamedCondition}
 use Rattle.ruleset_text.specs.Canonical.{four_digits, hex_digit, point_text}
 use Rattle.ruleset_text.specs.Definitions.{Definitions}
 use Rattle.ruleset_text.specs.Entries.{Mapped}
@@ -24,12 +23,13 @@ use Rattle.variant_table.specs.declared.version.Notation.{Notation}
 use Rattle.variant_table.specs.declared.version.Version.{Version}
 use Rattle.variant_table.specs.declared.version.Version.TheVariants.{One, Two, Three}
 use Rattle.variant_table.specs.DefinitionLines.{keyword_in, Defines}
-use Rattle.variant_table.specs.Entries.{Variant, Entry, TableValue, empty_table}
-use Rattle.variant_table.specs.Forms.{has_tags, is_plain, is_bare, has_form, variant_of, entry_of, entries_to, SpellsEntries, mapped_of}
+use Rattle.variant_table.specs.Entries.{Entry, TableValue, empty_table}
+use Rattle.variant_table.specs.Forms.{is_plain, is_bare, has_form, written_to, entry_of, SpellsEntries}
 use Rattle.variant_table.specs.Canonical.{canonical_line, canonical_text, table_text}
 use Rattle.variant_table.specs.Versions.{size_of, body_of, is_version_line}
 use Rattle.variant_table.specs.Texts.{LineSpells, LineAdds, LinesSpell}
 use Rattle.variant_table.specs.WellFormed.{AreOfVersion}
+use Rattle.variant_table.proofs.ConditionLemmas.{plain_is, bare_plain, plain_known, IsKnown, known_form, text_back}
 use Rattle.variant_table.proofs.FormLemmas.{none, some, spelling_of}
 
 -- ---- a point
@@ -153,27 +153,31 @@ unfolding word_text
 mark_words-text true = refl
 mark_words-text false = refl
 
-plain_words-text : (v : Variant) → words_text (mapped_words (mapped_of v) None) ≡ mapped_text (mapped_of v) None
-plain_words-text v =
-    flat_map-append word_text (mark_words v.blocked) (sequence_words v.sequence ++ [])
-    ∙ ap (λ t. t ++ words_text (sequence_words v.sequence ++ [])) (mark_words-text v.blocked)
-    ∙ ap (λ t. mark_text v.blocked ++ t) (flat_map-append word_text (sequence_words v.sequence) [] ∙ ap (λ t. t ++ []) (sequence_words-text v.sequence))
+-- without tags and without a condition
+abbrev plain_form : Mapped → Mapped
+plain_form m = record { marked = m.marked; points = m.points; tags = []; condition = None }
 
-variants_words-text : (v : Variant) (variants : List Variant) → words_text (variants_words (map mapped_of (v ∷ variants))) ≡ variants_text (map mapped_of (v ∷ variants))
+plain_words-text : (m : Mapped) → words_text (mapped_words (plain_form m) None) ≡ mapped_text (plain_form m) None
+plain_words-text m =
+    flat_map-append word_text (mark_words m.marked) (sequence_words m.points ++ [])
+    ∙ ap (λ t. t ++ words_text (sequence_words m.points ++ [])) (mark_words-text m.marked)
+    ∙ ap (λ t. mark_text m.marked ++ t) (flat_map-append word_text (sequence_words m.points) [] ∙ ap (λ t. t ++ []) (sequence_words-text m.points))
+
+variants_words-text : (m : Mapped) (ms : List Mapped) → words_text (variants_words (map plain_form (m ∷ ms))) ≡ variants_text (map plain_form (m ∷ ms))
 unfolding word_text
-variants_words-text v [] = plain_words-text v
-variants_words-text v (u ∷ variants) =
-    flat_map-append word_text (mapped_words (mapped_of v) None) (Colon ∷ variants_words (map mapped_of (u ∷ variants)))
-    ∙ ap (λ t. t ++ 58 ∷ words_text (variants_words (map mapped_of (u ∷ variants)))) (plain_words-text v)
-    ∙ ap (λ t. mapped_text (mapped_of v) None ++ 58 ∷ t) (variants_words-text u variants)
+variants_words-text m [] = plain_words-text m
+variants_words-text m (n ∷ ms) =
+    flat_map-append word_text (mapped_words (plain_form m) None) (Colon ∷ variants_words (map plain_form (n ∷ ms)))
+    ∙ ap (λ t. t ++ 58 ∷ words_text (variants_words (map plain_form (n ∷ ms)))) (plain_words-text m)
+    ∙ ap (λ t. mapped_text (plain_form m) None ++ 58 ∷ t) (variants_words-text n ms)
 
-entry_words-text : (source : Variant) (variants : List Variant) → words_text (entry_words (map mapped_of (source ∷ variants)) None) ≡ entry_text (map mapped_of (source ∷ variants)) None
+entry_words-text : (source : Mapped) (ms : List Mapped) → words_text (entry_words (map plain_form (source ∷ ms)) None) ≡ entry_text (map plain_form (source ∷ ms)) None
 unfolding word_text
 entry_words-text source [] = plain_words-text source
-entry_words-text source (v ∷ variants) =
-    flat_map-append word_text (mapped_words (mapped_of source) None) (Bar ∷ variants_words (map mapped_of (v ∷ variants)))
-    ∙ ap (λ t. t ++ 124 ∷ words_text (variants_words (map mapped_of (v ∷ variants)))) (plain_words-text source)
-    ∙ ap (λ t. mapped_text (mapped_of source) None ++ 124 ∷ t) (variants_words-text v variants)
+entry_words-text source (m ∷ ms) =
+    flat_map-append word_text (mapped_words (plain_form source) None) (Bar ∷ variants_words (map plain_form (m ∷ ms)))
+    ∙ ap (λ t. t ++ 124 ∷ words_text (variants_words (map plain_form (m ∷ ms)))) (plain_words-text source)
+    ∙ ap (λ t. mapped_text (plain_form source) None ++ 124 ∷ t) (variants_words-text m ms)
 
 -- ---- a line
 
@@ -184,52 +188,43 @@ length-stripped line = by_cases (eqb (slice_index line (length line - 1)) 13)
     by_cases true = let count = length-take (length line - 1) line in (omega (arith, count), omega (arith, count))
     by_cases false = (omega arith, omega arith)
 
-no_tags : (tags : List (List ℕ)) → not (has_tags tags) ≡ true → tags ≡ []
-no_tags [] h = refl
-no_tags (tag ∷ tags) h = absurd cc
-
-no_condition : (c : Option NamedCondition) → not (is_some c) ≡ true → c ≡ None
-no_condition None h = refl
-no_condition (Some c) h = absurd cc
-
--- what is plain is written as its variant
-plain_is : (m : Mapped) → is_bare m ≡ true → mapped_of (variant_of m) ≡ m
-plain_is m h =
-    let p = and_parts (not (has_tags m.tags)) (not (is_some m.condition)) (and_parts (is_plain m) (not m.marked) h).0 in
-    ap (λ t. record { marked = m.marked; points = m.points; tags = t; condition = None }) (sym (no_tags m.tags p.0))
-    ∙ ap (λ c. record { marked = m.marked; points = m.points; tags = m.tags; condition = c }) (sym (no_condition m.condition p.1))
-
-all_plain : (mapped : List Mapped) → list_all is_bare mapped ≡ true → map mapped_of (map variant_of mapped) ≡ mapped
+-- what is plain is its plain form
+all_plain : (mapped : List Mapped) → list_all is_plain mapped ≡ true → map plain_form mapped ≡ mapped
 all_plain [] h = refl
 all_plain (m ∷ mapped) h =
-    let p = and_parts (is_bare m) (list_all is_bare mapped) h in
-    ap (λ x. x ∷ map mapped_of (map variant_of mapped)) (plain_is m p.0) ∙ ap (λ xs. m ∷ xs) (all_plain mapped p.1)
+    let p = and_parts (is_plain m) (list_all is_plain mapped) h in
+    let q = plain_is m p.0 in
+    ap (λ t. record { marked = m.marked; points = m.points; tags = t; condition = None } ∷ map plain_form mapped) (sym q.0)
+    ∙ ap (λ c. record { marked = m.marked; points = m.points; tags = m.tags; condition = c } ∷ map plain_form mapped) (sym q.1) ∙ ap (λ xs. m ∷ xs) (all_plain mapped p.1)
 
 -- the canonical text of an entry that a line spells is no longer than the line
-bare_long : (last : Option ℕ) (mapped : List Mapped) (line : List ℕ) → IsForm mapped last → AreWords (entry_words mapped last) (lexemes line) → has_form One (record { mapped = mapped; last = last }) ≡ true
-    → length (canonical_text (entries_to last mapped)) ≤ length line + 1
-bare_long (Some c) mapped line f w h = absurd (let p = (and_parts (list_all is_bare mapped) false h).1 in cc)
-bare_long None [] line f w h = absurd f
-bare_long None (m ∷ mapped) line f w h =
-    let plain = all_plain (m ∷ mapped) (and_parts (list_all is_bare (m ∷ mapped)) true h).0 in
-    let text : words_text (entry_words (m ∷ mapped) None) ≡ canonical_line (entry_of (m ∷ mapped)) =
-    ap (λ ms. words_text (entry_words ms None)) (sym plain) ∙ entry_words-text (variant_of m) (map variant_of mapped) in
+bare_long : (d : Definitions) (last : Option ℕ) (mapped : List Mapped) (line : List ℕ) → IsForm mapped last → AreWords (entry_words mapped last) (lexemes line) → has_form One (record { mapped = mapped; last = last }) ≡ true
+    → length (canonical_text d (map (entry_of d) (written_to last mapped))) ≤ length line + 1
+bare_long d (Some c) mapped line f w h = absurd (let p = (and_parts (list_all is_bare mapped) false h).1 in cc)
+bare_long d None [] line f w h = absurd f
+bare_long d None (m ∷ mapped) line f w h =
+    let bare = bare_plain (m ∷ mapped) (and_parts (list_all is_bare (m ∷ mapped)) true h).0 in
+    let plain = all_plain (m ∷ mapped) bare in
+    let text : words_text (entry_words (m ∷ mapped) None) ≡ entry_text (m ∷ mapped) None =
+    ap (λ ms. words_text (entry_words ms None)) (sym plain) ∙ entry_words-text m mapped ∙ ap (λ ms. entry_text ms None) plain in
+    let known : AllByRecursion (IsKnown d) ((m ∷ mapped) ∷ []) = known_form d None (m ∷ mapped) f (plain_known d (m ∷ mapped) bare) in
     omega (
       arith,
       ap length text,
+      ap length (text_back d ((m ∷ mapped) ∷ []) known),
       words_long (entry_words (m ∷ mapped) None) (lexemes line) w,
       lexemes_fit line,
-      length-append (canonical_line (entry_of (m ∷ mapped)) ++ 10 ∷ []) [],
-      length-append (canonical_line (entry_of (m ∷ mapped))) (10 ∷ []),
+      length-append (entry_text (m ∷ mapped) None ++ 10 ∷ []) [],
+      length-append (entry_text (m ∷ mapped) None) (10 ∷ []),
     )
 
 -- in version 1 no line spells a range
-spelled_long : (line : List ℕ) (entries : List Entry) → SpellsEntries One (strip_carriage_return line) entries → length (canonical_text entries) ≤ length line + 1
-spelled_long line entries h =
-    omega (arith, ap (λ es. length (canonical_text es)) h.3, bare_long h.0.last h.0.mapped (strip_carriage_return line) h.1.0 h.1.1 h.2, (length-stripped line).0)
+spelled_long : (d : Definitions) (line : List ℕ) (entries : List Entry) → SpellsEntries One d (strip_carriage_return line) entries → length (canonical_text d entries) ≤ length line + 1
+spelled_long d line entries h =
+    omega (arith, ap (λ es. length (canonical_text d es)) h.3, bare_long d h.0.last h.0.mapped (strip_carriage_return line) h.1.0.0 h.1.0.1 h.1.1, (length-stripped line).0)
 
-line_long : (line : List ℕ) (entries : List Entry) → LineSpells One (strip_carriage_return line) entries → length (canonical_text entries) ≤ length line + 1
-line_long line entries s = elim (spelling_of One (strip_carriage_return line) entries s) [ none k is ↦ omega (arith, ap (λ es. length (canonical_text es)) is) | some h ↦ spelled_long line entries h ]
+line_long : (d : Definitions) (line : List ℕ) (entries : List Entry) → LineSpells One d (strip_carriage_return line) entries → length (canonical_text d entries) ≤ length line + 1
+line_long d line entries s = elim (spelling_of One d (strip_carriage_return line) entries s) [ none k is ↦ omega (arith, ap (λ es. length (canonical_text d es)) is) | some h ↦ spelled_long d line entries h ]
 
 -- ---- a text
 
@@ -246,15 +241,16 @@ no_definition t line d is (k, behind, n, e) = by_version t.version is n
     by_version Three is n = cc
 
 -- and canonical text is at most as long as the lines that spelled it
-line_longer : (line : List ℕ) (t u : TableValue) → t.version ≡ One → LineAdds t (strip_carriage_return line) u → length (canonical_text u.entries) ≤ length (canonical_text t.entries) + (length line + 1)
+line_longer : (line : List ℕ) (t u : TableValue) → t.version ≡ One → LineAdds t (strip_carriage_return line) u → length (canonical_text u.definitions u.entries) ≤ length (canonical_text t.definitions t.entries) + (length line + 1)
 line_longer line t u one (inl (es, s, is)) =
-    let cut : canonical_text (t.entries ++ es) ≡ canonical_text t.entries ++ canonical_text es = flat_map-append (λ e. canonical_line e ++ 10 ∷ []) t.entries es in
+    let d : Definitions = t.definitions in
+    let cut : canonical_text d (t.entries ++ es) ≡ canonical_text d t.entries ++ canonical_text d es = flat_map-append (λ e. canonical_line d e ++ 10 ∷ []) t.entries es in
     omega (
       arith,
-      ap (λ x. length (canonical_text x.entries)) is,
+      ap (λ x. length (canonical_text x.definitions x.entries)) is,
       ap length cut,
-      length-append (canonical_text t.entries) (canonical_text es),
-      line_long line es (subst (λ v. LineSpells v (strip_carriage_return line) es) one s),
+      length-append (canonical_text d t.entries) (canonical_text d es),
+      line_long d line es (subst (λ v. LineSpells v d (strip_carriage_return line) es) one s),
     )
 line_longer line t u one (inr (d, s, is)) = absurd (no_definition t (strip_carriage_return line) d one s)
 
@@ -262,17 +258,17 @@ pub adds_version : (t u : TableValue) (line : List ℕ) → LineAdds t line u �
 adds_version t u line (inl (es, s, is)) = ap (λ x. x.version) is
 adds_version t u line (inr (d, s, is)) = ap (λ x. x.version) is
 
-pub canonical_text_long : (lines : List (List ℕ)) (t u : TableValue) → t.version ≡ One → LinesSpell t lines u → length (canonical_text u.entries) ≤ length (canonical_text t.entries) + size_of lines
-canonical_text_long [] t u one s = omega (arith, ap (λ x. length (canonical_text x.entries)) s)
+pub canonical_text_long : (lines : List (List ℕ)) (t u : TableValue) → t.version ≡ One → LinesSpell t lines u → length (canonical_text u.definitions u.entries) ≤ length (canonical_text t.definitions t.entries) + size_of lines
+canonical_text_long [] t u one s = omega (arith, ap (λ x. length (canonical_text x.definitions x.entries)) s)
 canonical_text_long (line ∷ lines) t u one (m, adds, rest) =
     omega (arith, line_longer line t m one adds, canonical_text_long lines m u (adds_version t m (strip_carriage_return line) adds ∙ one) rest, size_of-cons line lines)
 
 -- its canonical text is that of its entries
-pub length-one : (u : TableValue) → u.version ≡ One → AreOfVersion u.version u.definitions → length (table_text u.version u.definitions u.entries) ≡ length (canonical_text u.entries)
+pub length-one : (u : TableValue) → u.version ≡ One → AreOfVersion u.version u.definitions → length (table_text u.version u.definitions u.entries) ≡ length (canonical_text u.definitions u.entries)
 length-one u is of = by_version u.version is of
   where
-    by_version : (v : Version) → v ≡ One → AreOfVersion v u.definitions → length (table_text v u.definitions u.entries) ≡ length (canonical_text u.entries)
-    by_version One is of = ap (λ d. length (table_text One d u.entries)) of
+    by_version : (v : Version) → v ≡ One → AreOfVersion v u.definitions → length (table_text v u.definitions u.entries) ≡ length (canonical_text u.definitions u.entries)
+    by_version One is of = ap (λ d. length (table_text One d u.entries)) of ∙ sym (ap (λ d. length (canonical_text d u.entries)) of)
     by_version Two is of = absurd cc
     by_version Three is of = absurd cc
 

@@ -11,7 +11,7 @@ use Rattle.variant_table.specs.Texts.{IsTextOf, IsFirstFaulty, IsFaultOf, IsTold
 use Rattle.variant_table.specs.Versions.{version_of, head_of, body_of, size_of}
 use Rattle.variant_table.specs.Reading.{with_lines, table_of_text}
 use Rattle.variant_table.specs.inner.ReadingSteps.{FailsIn}
-use Rattle.variant_table.proofs.FaultlessLemmas.{WholeTable, fits_table, step_of, empty_sound, outcome, head_within, well_formed_lines, lines_read, read_by, text_read, whole_ok, whole_no, whole_err, read_text}
+use Rattle.variant_table.proofs.FaultlessLemmas.{WholeTable, step_of, empty_sound, outcome, head_within, well_formed_lines, lines_read, read_by, text_read, whole_ok, whole_no, whole_err, read_text}
 use Rattle.variant_table.proofs.FaultLemmas.{line_fault_is, told}
 
 -- ---- the fault of a text
@@ -25,7 +25,7 @@ first_faulty_read n text number kind f =
     read_by n (raw_lines text) (Some f.table.version) f.version
     ∙ ap (with_lines k bytes (empty_table f.table.version)) f.cut ∙ lines_read k head f.before (f.line ∷ f.behind) f.table read
     ∙ step_of (k + length f.before) (bytes + size_of f.before) f.table f.line f.behind (Err kind)
-    (told (bytes + size_of f.before) f.table f.line read.well_formed.few (fits_table f.table read.well_formed) kind f.faulty)
+    (told (bytes + size_of f.before) f.table f.line kind f.faulty)
     ∙ ap (λ m. Err (m, kind)) (let z : k + length f.before ≡ number = omega (arith, f.numbered) in z)
 
 pub fault_read : (n : Notation) (text : List ℕ) (number : ℕ) (kind : LineFault) → IsFaultOf n text number kind → table_of_text n text ≡ Err (number, kind)

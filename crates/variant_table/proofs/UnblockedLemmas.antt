@@ -13,16 +13,15 @@ use Rattle.variant_table.specs.declared.version.Version.TheVariants.{One, Two, T
 use Rattle.variant_table.specs.Canonical.{canonical_line, canonical_text, head_text}
 use Rattle.variant_table.specs.Conditions.{is_again, repeats, has_source_in}
 use Rattle.ruleset_text.specs.Definitions.{Definitions, definitions_text}
-use Rattle.variant_table.specs.Entries.{Variant, Entry, IsOfVersion, IsPlain, table_of, sequences_in, replacements, unblocked_entry, unblocked, has_blocked, entry_from, itself, whole}
+use Rattle.variant_table.specs.Entries.{Variant, Entry, IsOfVersion, IsPlain, table_of, sequences_in, replacements, unblocked_entry, unblocked, has_blocked, entry_from, itself, source_of, whole}
 use Rattle.variant_table.specs.inner.Order.{IsOrderOf}
-use Rattle.variant_table.specs.WellFormed.{IsSequence, IsEntry, IsTable}
+use Rattle.variant_table.specs.Forms.{mapped_of}
+use Rattle.variant_table.specs.WellFormed.{IsSequence, IsEntry, HasItsNames, IsNamed, IsTable}
 use Rattle.variant_table.proofs.ConditionLemmas.{AreNewSources, distinct_sources, new_sources, no_sources}
 use Rattle.variant_table.proofs.RepeatLemmas.{distinct_from, no_repeats}
 use Rattle.variant_table.proofs.ListLemmas.{take_next}
 use Rattle.variant_table.proofs.EntryLemmas.{variant_marked}
-use Rattle.variant_table.proofs.WritingLemmas.{variant_text, further_variants_text, variants_text, canonical_line-is}
-use Rattle.ruleset_text.specs.EntryText.{sequence_text}
-use Rattle.ruleset_text.specs.EntryText.{mark_text}
+use Rattle.variant_table.proofs.LengthLemmas.{pieces_size, length-entry_text}
 
 -- the variants that are not blocked
 abbrev pub free : List Variant → List Variant
@@ -142,6 +141,12 @@ each_free P (v ∷ variants) h = by_mark v.blocked (each_free P variants h.1)
     by_mark true rest = rest
     by_mark false rest = (h.0, rest)
 
+named_free : (d : Definitions) (t : List Entry) → AllByRecursion (IsNamed d) t → AllByRecursion (IsNamed d) (unblocked t)
+named_free d [] h = tt
+named_free d (e ∷ t) h =
+    let all = recursion_from_All (HasItsNames d) (whole e) h.0 in
+    (All-from_recursion (HasItsNames d) (whole (unblocked_entry e)) (all.0, each_free (HasItsNames d) e.variants all.1), named_free d t h.1)
+
 plain_free : (e : Entry) → All IsPlain (whole e) → All IsPlain (whole (unblocked_entry e))
 plain_free e h = let all = recursion_from_All IsPlain (whole e) h in All-from_recursion IsPlain (whole (unblocked_entry e)) (all.0, each_free IsPlain e.variants all.1)
 
@@ -164,47 +169,35 @@ new_kept before (e ∷ t) h = (has_kept before e ∙ h.0, subst (λ x. AreNewSou
 
 -- ---- the canonical text is no longer
 
-length-further_variants : (v : Variant) (variants : List Variant) → length (further_variants_text (v ∷ variants)) ≡ length (variant_text v) + 1 + length (further_variants_text variants)
-length-further_variants v variants = omega (arith, length-append (variant_text v) (further_variants_text variants))
-
-further_free : (variants : List Variant) → length (further_variants_text (free variants)) ≤ length (further_variants_text variants)
-further_free [] = omega arith
-further_free (v ∷ variants) = by_mark v.blocked (further_free variants)
+further_free : (d : Definitions) (variants : List Variant) → pieces_size (map (mapped_of d) (free variants)) ≤ pieces_size (map (mapped_of d) variants)
+further_free d [] = omega arith
+further_free d (v ∷ variants) = by_mark v.blocked (further_free d variants)
   where
-    by_mark : (b : Bool) → length (further_variants_text (free variants)) ≤ length (further_variants_text variants)
-        → length (further_variants_text (cond (not b) (v ∷ free variants) (free variants))) ≤ length (further_variants_text (v ∷ variants))
-    by_mark true rest = omega (arith, rest, length-further_variants v variants)
-    by_mark false rest = omega (arith, rest, length-further_variants v variants, length-further_variants v (free variants))
+    by_mark : (b : Bool) → pieces_size (map (mapped_of d) (free variants)) ≤ pieces_size (map (mapped_of d) variants)
+        → pieces_size (map (mapped_of d) (cond (not b) (v ∷ free variants) (free variants))) ≤ pieces_size (map (mapped_of d) (v ∷ variants))
+    by_mark true rest = omega (arith, rest)
+    by_mark false rest = omega (arith, rest)
 
--- '|' and ':' have one byte each
-length-variants_text : (variants : List Variant) → length (variants_text variants) ≡ length (further_variants_text variants)
-length-variants_text [] = refl
-length-variants_text (v ∷ variants) = refl
-
-line_kept : (e : Entry) → length (canonical_line (unblocked_entry e)) ≤ length (canonical_line e)
-line_kept e =
+line_kept : (d : Definitions) (e : Entry) → length (canonical_line d (unblocked_entry e)) ≤ length (canonical_line d e)
+line_kept d e =
     omega (
       arith,
-      ap length (canonical_line-is (unblocked_entry e)),
-      ap length (canonical_line-is e),
-      length-append (mark_text e.outside ++ sequence_text e.source) (variants_text (free e.variants)),
-      length-append (mark_text e.outside ++ sequence_text e.source) (variants_text e.variants),
-      length-variants_text (free e.variants),
-      length-variants_text e.variants,
-      further_free e.variants,
+      length-entry_text (mapped_of d (source_of e)) (map (mapped_of d) (free e.variants)),
+      length-entry_text (mapped_of d (source_of e)) (map (mapped_of d) e.variants),
+      further_free d e.variants,
     )
 
-text_kept : (t : List Entry) → length (canonical_text (unblocked t)) ≤ length (canonical_text t)
-text_kept [] = omega arith
-text_kept (e ∷ t) =
+text_kept : (d : Definitions) (t : List Entry) → length (canonical_text d (unblocked t)) ≤ length (canonical_text d t)
+text_kept d [] = omega arith
+text_kept d (e ∷ t) =
     omega (
       arith,
-      line_kept e,
-      text_kept t,
-      length-append (canonical_line (unblocked_entry e) ++ 10 ∷ []) (canonical_text (unblocked t)),
-      length-append (canonical_line (unblocked_entry e)) (10 ∷ []),
-      length-append (canonical_line e ++ 10 ∷ []) (canonical_text t),
-      length-append (canonical_line e) (10 ∷ []),
+      line_kept d e,
+      text_kept d t,
+      length-append (canonical_line d (unblocked_entry e) ++ 10 ∷ []) (canonical_text d (unblocked t)),
+      length-append (canonical_line d (unblocked_entry e)) (10 ∷ []),
+      length-append (canonical_line d e ++ 10 ∷ []) (canonical_text d t),
+      length-append (canonical_line d e) (10 ∷ []),
     )
 
 -- ---- the table
@@ -219,17 +212,17 @@ table_kept version d t h =
         entries = well_formed_kept t well.entries;
         sources = distinct_sources [] (unblocked t) no_sources (new_kept [] t (new_sources [] t well.sources));
         few = omega (arith, well.few, length-map t unblocked_entry);
-        short = omega (arith, well.short, text_kept t);
       };
       of_version = All-from_recursion (IsOfVersion version) (unblocked t) (version_kept version t (recursion_from_All (IsOfVersion version) t h.of_version));
+      named = All-from_recursion (IsNamed d) (unblocked t) (named_free d t (recursion_from_All (IsNamed d) t h.named));
       few = omega (arith, h.few, length-map t unblocked_entry);
       short = omega (
         arith,
         h.short,
-        text_kept t,
-        length-append (head_text version) (definitions_text d ++ canonical_text t),
-        length-append (definitions_text d) (canonical_text t),
-        length-append (head_text version) (definitions_text d ++ canonical_text (unblocked t)),
-        length-append (definitions_text d) (canonical_text (unblocked t)),
+        text_kept d t,
+        length-append (head_text version) (definitions_text d ++ canonical_text d t),
+        length-append (definitions_text d) (canonical_text d t),
+        length-append (head_text version) (definitions_text d ++ canonical_text d (unblocked t)),
+        length-append (definitions_text d) (canonical_text d (unblocked t)),
       );
     }

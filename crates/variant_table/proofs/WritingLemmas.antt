@@ -1,6 +1,6 @@
 -- The text of a sequence, point by point, and of an entry, variant by variant.
 use Rattle.std.proofs.Common.{◌≡◌, ℕ, zero, suc, ◌+◌, ◌-◌, ◌*◌, ◌≤◌, ◌<◌, arith, cond, List, [], ◌∷◌, ◌++◌, length, map, None, take, drop, get_or, Some, sym, ap, subst, ◌∙◌, append_assoc, length-append}
-use Rattle.std.specs.Prelude.{slice_get}
+use Rattle.std.specs.Prelude.{slice_get, codes}
 use Rattle.std.specs.List.{All}
 use Rattle.std.proofs.lemmas.List.Elements.{All-head, All-tail}
 use Rattle.std.proofs.lemmas.Bool.{ne_eqb}
@@ -9,10 +9,12 @@ use Rattle.std.proofs.lemmas.List.Concat.{flat_map-append}
 use Rattle.std.specs.List.{flat_map}
 use Rattle.ruleset_text.specs.Canonical.{point_text}
 use Rattle.ruleset_text.specs.EntryText as entries
-use Rattle.ruleset_text.specs.EntryText.{mark_text, sequence_text, mapped_text, entry_text}
+use Rattle.ruleset_text.specs.EntryText.{sequence_text, names_text, tags_text, mapped_text, entry_text}
+use Rattle.ruleset_text.specs.Definitions.{Definitions}
+use Rattle.ruleset_text.specs.Entries.{Mapped}
 use Rattle.ruleset_text.proofs.HexLemmas.{length-point_text}
-use Rattle.variant_table.specs.Entries.{Variant, Entry, source_of}
-use Rattle.variant_table.specs.Forms.{mapped_of}
+use Rattle.variant_table.specs.Entries.{Entry, source_of}
+use Rattle.variant_table.specs.Forms.{name_at, mapped_of}
 use Rattle.variant_table.specs.Canonical.{separator, canonical_line, canonical_text}
 use Rattle.variant_table.proofs.ListLemmas.{take_next}
 
@@ -47,58 +49,75 @@ pub length-sequence_text : (s : List ℕ) → 0 < length s → length s ≤ 8 �
 length-sequence_text [] l k = absurd (omega (arith, l))
 length-sequence_text (c ∷ points) l k = omega (arith, ap length (sequence_text-is c points), length-append (point_text c) (further_text points), length-point_text c, length-further_text points, k)
 
+-- ---- names
+
+-- ',' before each name
+abbrev pub further_names : List (List ℕ) → List ℕ → List ℕ
+further_names names ns = flat_map (λ n. 44 ∷ name_at names n) ns
+
+names_text-is : (names : List (List ℕ)) (n : ℕ) (ns : List ℕ) → names_text (map (name_at names) (n ∷ ns)) ≡ name_at names n ++ further_names names ns
+names_text-is names n [] = sym (append-nil (name_at names n))
+names_text-is names n (k ∷ ns) = ap (λ t. name_at names n ++ 44 ∷ t) (names_text-is names k ns)
+
+pub further_name : (names : List (List ℕ)) (ns : List ℕ) (i : ℕ) → i < length ns → further_names names (take (i + 1) ns) ≡ further_names names (take i ns) ++ 44 ∷ name_at names (get_or ns i 0)
+further_name names ns i l =
+    ap (further_names names) (take_more ns i 0 l) ∙ flat_map-append (λ n. 44 ∷ name_at names n) (take i ns) (get_or ns i 0 ∷ [])
+    ∙ ap (λ t. further_names names (take i ns) ++ 44 ∷ t) (append-nil (name_at names (get_or ns i 0)))
+
+pub whole_names : (names : List (List ℕ)) (ns : List ℕ) → 1 ≤ length ns → codes " as " ++ (name_at names (get_or ns 0 0) ++ further_names names (take (length ns - 1) (drop 1 ns))) ≡ tags_text (map (name_at names) ns)
+whole_names names [] l = absurd (omega (arith, l))
+whole_names names (n ∷ ns) l = ap (λ t. codes " as " ++ (name_at names n ++ further_names names t)) (take_rest (n ∷ ns) 1) ∙ ap (λ t. codes " as " ++ t) (sym (names_text-is names n ns))
+
 -- ---- an entry
 
-abbrev pub variant_text : Variant → List ℕ
-variant_text v = mark_text v.blocked ++ sequence_text v.sequence
+-- a source or a variant of an entry
+abbrev pub piece_text : Mapped → List ℕ
+piece_text m = mapped_text m None
 
 -- ':' before each variant
-abbrev pub further_variants_text : List Variant → List ℕ
-further_variants_text variants = flat_map (λ v. 58 ∷ variant_text v) variants
+abbrev pub further_pieces : List Mapped → List ℕ
+further_pieces variants = flat_map (λ m. 58 ∷ piece_text m) variants
 
 -- '|' before the first variant, ':' before each other one
-abbrev pub variants_text : List Variant → List ℕ
-variants_text [] = []
-variants_text (v ∷ variants) = 124 ∷ (variant_text v ++ further_variants_text variants)
+abbrev pub pieces_text : List Mapped → List ℕ
+pieces_text [] = []
+pieces_text (m ∷ variants) = 124 ∷ (piece_text m ++ further_pieces variants)
 
-further_variant : (variants : List Variant) (v : Variant) → further_variants_text (variants ++ v ∷ []) ≡ further_variants_text variants ++ 58 ∷ variant_text v
-further_variant variants v = flat_map-append (λ v. 58 ∷ variant_text v) variants (v ∷ []) ∙ ap (λ t. further_variants_text variants ++ 58 ∷ t) (append-nil (variant_text v))
+further_piece : (variants : List Mapped) (m : Mapped) → further_pieces (variants ++ m ∷ []) ≡ further_pieces variants ++ 58 ∷ piece_text m
+further_piece variants m = flat_map-append (λ m. 58 ∷ piece_text m) variants (m ∷ []) ∙ ap (λ t. further_pieces variants ++ 58 ∷ t) (append-nil (piece_text m))
 
 separator-later : (n : ℕ) → separator (suc n) ≡ 58
 separator-later n = ap (λ b. cond b 124 58) (ne_eqb (suc n) 0 (λ e. omega (arith, e)))
 
-variants_push : (variants : List Variant) (v : Variant) → variants_text (variants ++ v ∷ []) ≡ variants_text variants ++ separator (length variants) ∷ variant_text v
-variants_push [] v = ap (λ t. 124 ∷ t) (append-nil (variant_text v))
-variants_push (u ∷ variants) v =
-    ap (λ t. 124 ∷ (variant_text u ++ t)) (further_variant variants v)
-    ∙ ap (λ t. 124 ∷ t) (sym (append_assoc (variant_text u) (further_variants_text variants) (58 ∷ variant_text v)))
-    ∙ ap (λ s. variants_text (u ∷ variants) ++ s ∷ variant_text v) (sym (separator-later (length variants)))
+pieces_push : (variants : List Mapped) (m : Mapped) → pieces_text (variants ++ m ∷ []) ≡ pieces_text variants ++ separator (length variants) ∷ piece_text m
+pieces_push [] m = ap (λ t. 124 ∷ t) (append-nil (piece_text m))
+pieces_push (n ∷ variants) m =
+    ap (λ t. 124 ∷ (piece_text n ++ t)) (further_piece variants m)
+    ∙ ap (λ t. 124 ∷ t) (sym (append_assoc (piece_text n) (further_pieces variants) (58 ∷ piece_text m)))
+    ∙ ap (λ s. pieces_text (n ∷ variants) ++ s ∷ piece_text m) (sym (separator-later (length variants)))
 
-pub variants_more : (variants : List Variant) (i : ℕ) (v : Variant) → slice_get variants i ≡ Some v → i < length variants → variants_text (take (i + 1) variants) ≡ variants_text (take i variants) ++ separator i ∷ variant_text v
-variants_more variants i v e l =
-    ap variants_text (take_next variants i v e) ∙ variants_push (take i variants) v
-    ∙ ap (λ n. variants_text (take i variants) ++ separator n ∷ variant_text v) (length-take-le i variants (omega (arith, l)))
+pub pieces_more : (variants : List Mapped) (i : ℕ) (m : Mapped) → slice_get variants i ≡ Some m → i < length variants → pieces_text (take (i + 1) variants) ≡ pieces_text (take i variants) ++ separator i ∷ piece_text m
+pieces_more variants i m e l =
+    ap pieces_text (take_next variants i m e) ∙ pieces_push (take i variants) m
+    ∙ ap (λ n. pieces_text (take i variants) ++ separator n ∷ piece_text m) (length-take-le i variants (omega (arith, l)))
 
-plain_text : (v : Variant) → mapped_text (mapped_of v) None ≡ variant_text v
-plain_text v = ap (λ t. mark_text v.blocked ++ t) (append-nil (sequence_text v.sequence))
+pub further_from : (m : Mapped) (variants : List Mapped) → entries.variants_text (m ∷ variants) ≡ piece_text m ++ further_pieces variants
+further_from m [] = sym (append-nil (piece_text m))
+further_from m (n ∷ variants) = ap (λ t. piece_text m ++ 58 ∷ t) (further_from n variants)
 
-further_plain : (v : Variant) (variants : List Variant) → entries.variants_text (map mapped_of (v ∷ variants)) ≡ variant_text v ++ further_variants_text variants
-further_plain v [] = plain_text v ∙ sym (append-nil (variant_text v))
-further_plain v (u ∷ variants) = ap (λ t. t ++ 58 ∷ entries.variants_text (map mapped_of (u ∷ variants))) (plain_text v) ∙ ap (λ t. variant_text v ++ 58 ∷ t) (further_plain u variants)
+pub entry_text-is : (source : Mapped) (variants : List Mapped) → entry_text (source ∷ variants) None ≡ piece_text source ++ pieces_text variants
+entry_text-is source [] = sym (append-nil (piece_text source))
+entry_text-is source (m ∷ variants) = ap (λ t. piece_text source ++ 124 ∷ t) (further_from m variants)
 
-line_of : (source : Variant) (variants : List Variant) → entry_text (map mapped_of (source ∷ variants)) None ≡ variant_text source ++ variants_text variants
-line_of source [] = plain_text source ∙ sym (append-nil (variant_text source))
-line_of source (v ∷ variants) = ap (λ t. t ++ 124 ∷ entries.variants_text (map mapped_of (v ∷ variants))) (plain_text source) ∙ ap (λ t. variant_text source ++ 124 ∷ t) (further_plain v variants)
-
-pub canonical_line-is : (e : Entry) → canonical_line e ≡ (mark_text e.outside ++ sequence_text e.source) ++ variants_text e.variants
-canonical_line-is e = line_of (source_of e) e.variants
+pub canonical_line-is : (d : Definitions) (e : Entry) → canonical_line d e ≡ piece_text (mapped_of d (source_of e)) ++ pieces_text (map (mapped_of d) e.variants)
+canonical_line-is d e = entry_text-is (mapped_of d (source_of e)) (map (mapped_of d) e.variants)
 
 -- ---- a table
 
-pub canonical_more : (table : List Entry) (i : ℕ) (e : Entry) → slice_get table i ≡ Some e → canonical_text (take (i + 1) table) ≡ canonical_text (take i table) ++ (canonical_line e ++ 10 ∷ [])
-canonical_more table i e h =
-    ap canonical_text (take_next table i e h) ∙ flat_map-append (λ e. canonical_line e ++ 10 ∷ []) (take i table) (e ∷ [])
-    ∙ ap (λ t. canonical_text (take i table) ++ t) (append-nil (canonical_line e ++ 10 ∷ []))
+pub canonical_more : (d : Definitions) (table : List Entry) (i : ℕ) (e : Entry) → slice_get table i ≡ Some e → canonical_text d (take (i + 1) table) ≡ canonical_text d (take i table) ++ (canonical_line d e ++ 10 ∷ [])
+canonical_more d table i e h =
+    ap (canonical_text d) (take_next table i e h) ∙ flat_map-append (λ e. canonical_line d e ++ 10 ∷ []) (take i table) (e ∷ [])
+    ∙ ap (λ t. canonical_text d (take i table) ++ t) (append-nil (canonical_line d e ++ 10 ∷ []))
 
 -- ---- elements
 

@@ -1,26 +1,31 @@
--- The canonical text of a table: after the version line that version 2 and 3 have, one definition on each line, then one entry on each line, with nothing between its words.
-use Rattle.std.specs.Prelude.{ℕ, ◌==◌, None, List, [], ◌∷◌, ◌++◌, map, codes, if◌then◌else◌}
+-- The canonical text of a table: after the version line that version 2 and 3 have, one definition on each line, then one entry on each line.
+use Rattle.std.specs.Prelude.{ℕ, ◌==◌, None, List, [], ◌∷◌, ◌++◌, codes, if◌then◌else◌}
 use Rattle.std.specs.List.{flat_map}
 use Rattle.ruleset_text.specs.Definitions.{Definitions, definitions_text}
+use Rattle.ruleset_text.specs.Entries.{Mapped}
 use Rattle.ruleset_text.specs.EntryText.{entry_text}
 use Rattle.variant_table.specs.declared.version.Notation.{Notation}
 use Rattle.variant_table.specs.declared.version.Notation.TheVariants.{Table, Ruleset}
 use Rattle.variant_table.specs.declared.version.Version.{Version}
 use Rattle.variant_table.specs.declared.version.Version.TheVariants.{One, Two, Three}
-use Rattle.variant_table.specs.Entries.{Entry, whole}
-use Rattle.variant_table.specs.Forms.{mapped_of}
+use Rattle.variant_table.specs.Entries.{Entry}
+use Rattle.variant_table.specs.Forms.{as_written}
 
 -- what stands before the variant of this number, from 0: '|' before the first, ':' before each other one
 abbrev pub separator : ℕ → ℕ
 separator variant = if variant == 0 then 124 else 58
 
--- the canonical line of an entry, without its line feed
-abbrev pub canonical_line : Entry → List ℕ
-canonical_line e = entry_text (map mapped_of (whole e)) None
+-- the canonical line of an entry, without its line feed; its tags and its conditions go by the names that are defined
+abbrev pub canonical_line : Definitions → Entry → List ℕ
+canonical_line definitions e = entry_text (as_written definitions e) None
 
 -- the canonical text of entries: for each its line and a line feed
-abbrev pub canonical_text : List Entry → List ℕ
-canonical_text table = flat_map (λ e. canonical_line e ++ 10 ∷ []) table
+abbrev pub canonical_text : Definitions → List Entry → List ℕ
+canonical_text definitions table = flat_map (λ e. canonical_line definitions e ++ 10 ∷ []) table
+
+-- that of entries with their names
+abbrev pub written_text : List (List Mapped) → List ℕ
+written_text entries = flat_map (λ e. entry_text e None ++ 10 ∷ []) entries
 
 -- the line that begins a text of version 2, and that of a ruleset
 abbrev pub version_line : Notation → List ℕ
@@ -35,4 +40,4 @@ head_text Three = version_line Ruleset ++ 10 ∷ []
 
 -- the canonical text of a table of this version, with these definitions
 abbrev pub table_text : Version → Definitions → List Entry → List ℕ
-table_text version definitions table = head_text version ++ (definitions_text definitions ++ canonical_text table)
+table_text version definitions table = head_text version ++ (definitions_text definitions ++ canonical_text definitions table)

@@ -6,10 +6,11 @@ use Rattle.label_patterns.specs.declared.condition.Condition.{Condition}
 use Rattle.label_patterns.specs.declared.condition.ConditionKind.{ConditionKind}
 use Rattle.label_patterns.specs.declared.condition.ConditionKind.TheVariants.{When, Unless}
 use Rattle.ruleset_text.specs.Definitions.{Definitions}
+use Rattle.ruleset_text.specs.Entries.{Mapped}
 use Rattle.variant_table.specs.declared.version.Version.{Version}
 use Rattle.variant_table.specs.declared.version.Version.TheVariants.{One, Two, Three}
 use Rattle.variant_table.specs.Entries.{Variant, Entry, replacements, itself}
-use Rattle.variant_table.specs.Canonical.{table_text}
+use Rattle.variant_table.specs.Canonical.{table_text, written_text}
 use Rattle.variant_table.specs.Limits.{line_limit, text_limit, entry_limit}
 use Rattle.variant_table.specs.WellFormed.{is_table_class}
 
@@ -17,20 +18,21 @@ use Rattle.variant_table.specs.WellFormed.{is_table_class}
 abbrev pub is_too_long : Version → ℕ → List ℕ → Bool
 is_too_long version bytes line = nat_lt (line_limit version) (length line) || nat_lt (text_limit version) (bytes + length line + 1)
 
--- more than 16 variants, or a sequence of more than 8 code points
-abbrev pub is_too_large : Entry → Bool
-is_too_large e = nat_lt 16 (length e.variants) || list_any (λ s. nat_lt 8 (length s)) (replacements e)
+-- a source with more than 16 variants, or a sequence of more than 8 code points
+abbrev pub is_too_large : List Mapped → Bool
+is_too_large entry = nat_lt 17 (length entry) || list_any (λ m. nat_lt 8 (length m.points)) entry
 
--- a table whose canonical text is past the limit of a text; in version 1 it is no longer than what was read
-abbrev pub is_text_too_long : Version → Definitions → List Entry → Bool
-is_text_too_long One definitions entries = false
-is_text_too_long Two definitions entries = nat_lt (text_limit Two) (length (table_text Two definitions entries))
-is_text_too_long Three definitions entries = nat_lt (text_limit Three) (length (table_text Three definitions entries))
+-- a canonical text that is past the limit of a text; in version 1 it is no longer than what was read
+abbrev pub is_text_too_long : Version → List ℕ → Bool
+is_text_too_long One text = false
+is_text_too_long Two text = nat_lt (text_limit Two) (length text)
+is_text_too_long Three text = nat_lt (text_limit Three) (length text)
 
--- an entry that is too large; or, with those of the table, too many entries or too long a canonical text
-abbrev pub is_over_limit : Version → Definitions → List Entry → List Entry → Bool
+-- an entry that is too large; or, with those of the table, too many entries or too long a canonical text. Names are not looked up for it
+abbrev pub is_over_limit : Version → Definitions → List Entry → List (List Mapped) → Bool
 is_over_limit version definitions table entries =
-    nat_lt (entry_limit version) (length table + length entries) || list_any is_too_large entries || is_text_too_long version definitions (table ++ entries)
+    nat_lt (entry_limit version) (length table + length entries) || list_any is_too_large entries
+    || is_text_too_long version (table_text version definitions table ++ written_text entries)
 
 -- a code point of another class than PVALID, CONTEXTJ and CONTEXTO
 abbrev pub has_bad_point : List ℕ → Bool

@@ -36,7 +36,7 @@ keyword_in Three (word ∷ behind) = with_behind behind (if_read (keyword_of wor
 
 -- how many bytes the canonical text of the definitions may have beside that of the entries
 abbrev pub room_for_definitions : TableValue → ℕ
-room_for_definitions t = text_limit t.version - length (head_text t.version ++ canonical_text t.entries)
+room_for_definitions t = text_limit t.version - length (head_text t.version ++ canonical_text t.definitions t.entries)
 
 -- the line defines something, without a fault: with it the definitions are these
 abbrev pub Defines : TableValue → List ℕ → Definitions → Type 0

@@ -1,5 +1,5 @@
 -- Where a line of a table has its fault. Places are bytes of the line, counted from 0.
-use Rattle.std.specs.Prelude.{ℕ, ◌-◌, nat_lt, ◌==◌, Bool, true, false, ◌||◌, not, Option, Some, None, List, [], ◌∷◌, ◌++◌, length, map, find, bytes_eq, slice_get, if◌then◌else◌}
+use Rattle.std.specs.Prelude.{ℕ, ◌-◌, nat_lt, ◌==◌, Bool, true, false, ◌||◌, not, Option, Some, None, List, [], ◌∷◌, ◌++◌, length, map, take, codes, find, bytes_eq, slice_get, if◌then◌else◌}
 use Rattle.std.specs.List.{list_any, range_with_len}
 use Rattle.std.specs.Option.{option_map}
 use Rattle.std.specs.Str.Lines.{strip_carriage_return}
@@ -11,13 +11,17 @@ use Rattle.ruleset_text.specs.declared.entry_place.WrongPlace.TheVariants as wro
 use Rattle.ruleset_text.specs.declared.line_point.LinePoint.{LinePoint}
 use Rattle.ruleset_text.specs.Entries.{EntryForm}
 use Rattle.ruleset_text.specs.inner.EntrySteps.{entry_in}
+use Rattle.ruleset_text.specs.inner.DefinitionWrongSteps.{wrong_definition}
 use Rattle.ruleset_text.specs.inner.WrongSteps.{wrong_place}
 use Rattle.ruleset_text.specs.Lexemes.{is_blank, lexemes}
+use Rattle.ruleset_text.specs.LineNames.{definition_points, second_place, unknown_name, unknown_set}
 use Rattle.ruleset_text.specs.LinePoints.{line_points}
+use Rattle.ruleset_text.specs.PlacedLexemes.{placed_lexemes}
 use Rattle.variant_table.specs.declared.fault.TableFault.{TableFault}
 use Rattle.variant_table.specs.declared.fault.TableFault.TheVariants as tables
 use Rattle.variant_table.specs.declared.place.FaultPlace.{FaultPlace}
 use Rattle.variant_table.specs.declared.place.FaultPlace.TheVariants.{Lexeme, End, Point, InRange, Variant, Source, Byte, NinthPoint, SeventeenthVariant}
+use Rattle.variant_table.specs.DefinitionPlaces.{definition_limit, names_defined}
 use Rattle.variant_table.specs.declared.version.Notation.{Notation}
 use Rattle.variant_table.specs.declared.version.Version.{Version}
 use Rattle.variant_table.specs.declared.version.Version.TheVariants.{One, Two, Three}
@@ -28,22 +32,22 @@ use Rattle.variant_table.specs.WellFormed.{is_table_class}
 
 -- ---- syntax
 
--- version 1 has no '!' and no ranges, version 2 no outside sources
+-- version 1 has no '!' and no ranges, version 2 no outside sources; tags and conditions are read in none yet
 abbrev pub parts_of : Version → EntryParts
-parts_of One = record { outside = false; blocked = false; ranges = false }
-parts_of Two = record { outside = false; blocked = true; ranges = true }
-parts_of Three = record { outside = true; blocked = true; ranges = true }
+parts_of One = record { outside = false; blocked = false; ranges = false; named = false }
+parts_of Two = record { outside = false; blocked = true; ranges = true; named = false }
+parts_of Three = record { outside = true; blocked = true; ranges = true; named = false }
 
 -- '%' is the first byte that is no blank
 abbrev pub begins_in_percent : List ℕ → Bool
 begins_in_percent [] = false
 begins_in_percent (c ∷ cs) = if is_blank c then begins_in_percent cs else c == 37
 
--- a line of version 3 that would be none of an entry: no place is told
-abbrev pub is_no_entry : Version → List ℕ → Bool
-is_no_entry One line = false
-is_no_entry Two line = false
-is_no_entry Three line = begins_in_percent line
+-- a line of version 3 that is to define something
+abbrev pub defines : Version → List ℕ → Bool
+defines One line = false
+defines Two line = false
+defines Three line = begins_in_percent line
 
 abbrev pub as_fault : WrongPlace → FaultPlace
 as_fault (wrong.Lexeme place len) = Lexeme place len
@@ -51,7 +55,7 @@ as_fault (wrong.End place) = End place
 
 -- the lexeme that can't stand there, or the end
 abbrev pub syntax_place : Version → List ℕ → Option FaultPlace
-syntax_place version line = if is_no_entry version line then None else option_map as_fault (wrong_place (parts_of version) line)
+syntax_place version line = option_map as_fault (if defines version line then wrong_definition line else wrong_place (parts_of version) line)
 
 -- ---- classes
 
@@ -121,13 +125,33 @@ form_place tables.Memory (Some form) points = None
 abbrev pub entry_place : TableFault → List ℕ → Option FaultPlace
 entry_place fault line = form_place fault (entry_in (lexemes line)) (line_points line)
 
-abbrev pub body_place : Version → TableFault → List ℕ → Option FaultPlace
-body_place version (tables.Syntax number) line = syntax_place version line
-body_place version fault line = entry_place fault line
+-- a tag or a rule of an entry that none of the lines before defines
+abbrev pub unknown_place : List (List ℕ) → List ℕ → Option FaultPlace
+unknown_place before line =
+    option_map as_fault (unknown_name (names_defined (codes "%tag") before) (names_defined (codes "%rule") before) (placed_lexemes line))
+
+-- of a line that is to define something: the name that none of the lines before has, or that one has; the first code point that is
+-- bad; what is past a limit
+abbrev pub definition_place : List (List ℕ) → TableFault → List ℕ → Option FaultPlace
+definition_place before (tables.NoSuchName number) line = option_map as_fault (unknown_set (names_defined (codes "%set") before) (placed_lexemes line))
+definition_place before (tables.SameName number) line = option_map as_fault (second_place (placed_lexemes line))
+definition_place before (tables.BadClass number) line = point_place (definition_points line)
+definition_place before (tables.Limit number) line = option_map as_fault (definition_limit before line)
+definition_place before fault line = None
+
+-- of an entry or a range
+abbrev pub other_place : List (List ℕ) → TableFault → List ℕ → Option FaultPlace
+other_place before (tables.NoSuchName number) line = unknown_place before line
+other_place before fault line = entry_place fault line
+
+abbrev pub body_place : Version → List (List ℕ) → TableFault → List ℕ → Option FaultPlace
+body_place version before (tables.Syntax number) line = syntax_place version line
+body_place version before fault line = if defines version line then definition_place before fault line else other_place before fault line
 
 -- of a line as it stands in the text: the first byte past its limit, or what is within it, less one carriage return at its end
-abbrev pub line_place : Version → TableFault → List ℕ → Option FaultPlace
-line_place version fault line = if nat_lt (line_limit version) (length line) then Some (Byte (line_limit version)) else body_place version fault (strip_carriage_return line)
+abbrev pub line_place : Version → List (List ℕ) → TableFault → List ℕ → Option FaultPlace
+line_place version before fault line =
+    if nat_lt (line_limit version) (length line) then Some (Byte (line_limit version)) else body_place version before fault (strip_carriage_return line)
 
 -- the line of a fault, from 1
 abbrev pub line_number : TableFault → Option ℕ
@@ -149,12 +173,17 @@ line_at lines (Some number) = slice_get lines (number - 1)
 abbrev pub faulty_line : List ℕ → TableFault → Option (List ℕ)
 faulty_line text fault = line_at (raw_lines text) (line_number fault)
 
+-- the lines before the one of this number
+abbrev pub lines_before : List (List ℕ) → Option ℕ → List (List ℕ)
+lines_before lines None = []
+lines_before lines (Some number) = take (number - 1) lines
+
 -- none of a text that lacks its version
-abbrev pub place_in : Option Version → Option (List ℕ) → TableFault → Option FaultPlace
-place_in None line fault = None
-place_in (Some version) None fault = None
-place_in (Some version) (Some line) fault = line_place version fault line
+abbrev pub place_in : Option Version → List (List ℕ) → Option (List ℕ) → TableFault → Option FaultPlace
+place_in None before line fault = None
+place_in (Some version) before None fault = None
+place_in (Some version) before (Some line) fault = line_place version before fault line
 
 -- where the line of the fault has it, if a place is told
 unfoldable pub fault_place : Notation → List ℕ → TableFault → Option FaultPlace
-fault_place notation text fault = place_in (version_of notation (raw_lines text)) (faulty_line text fault) fault
+fault_place notation text fault = place_in (version_of notation (raw_lines text)) (lines_before (raw_lines text) (line_number fault)) (faulty_line text fault) fault

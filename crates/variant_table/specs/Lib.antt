@@ -12,6 +12,7 @@ pub mod Texts
 pub mod Places
 pub mod Reading
 pub mod Faults
+pub mod DefinitionPlaces
 pub mod FaultPlaces
 pub mod ToldPlaces
 pub mod PlaceExamples

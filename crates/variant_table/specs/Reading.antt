@@ -13,8 +13,8 @@ use Rattle.variant_table.specs.declared.version.Notation.{Notation}
 use Rattle.variant_table.specs.declared.version.Version.{Version}
 use Rattle.variant_table.specs.Entries.{Entry, TableValue, empty_table}
 use Rattle.variant_table.specs.DefinitionLines.{keyword_in, line_fault, room_for_definitions}
-use Rattle.variant_table.specs.Faults.{LineFault, Limit, Syntax, BadClass, SameVariant, SameSource}
-use Rattle.variant_table.specs.Forms.{has_form, entries_of}
+use Rattle.variant_table.specs.Faults.{LineFault, Limit, Syntax, BadClass, SameVariant, SameSource, NoSuchName}
+use Rattle.variant_table.specs.Forms.{has_form, written_out, knows_all, entries_of}
 use Rattle.variant_table.specs.Versions.{version_of, head_of, body_of, size_of}
 use Rattle.variant_table.specs.Conditions.{is_too_long, is_over_limit, has_bad_class, has_repeat, has_source_in}
 
@@ -33,32 +33,41 @@ abbrev pub is_skipped : List ℕ → Bool
 is_skipped [] = true
 is_skipped (c ∷ cs) = if is_blank c then is_skipped cs else c == 35
 
--- the entries of a form, if there is one and the version has it
-abbrev pub entries_by : Version → Option EntryForm → Result (List Entry) LineFault
-entries_by version None = Err Syntax
-entries_by version (Some form) = if has_form version form then Ok (entries_of form) else Err Syntax
+-- the form, if there is one and the version has it
+abbrev pub form_by : Version → Option EntryForm → Result EntryForm LineFault
+form_by version None = Err Syntax
+form_by version (Some form) = if has_form version form then Ok form else Err Syntax
 
--- the entries of a line's lexemes
-abbrev pub entries_in : Version → List (List ℕ) → Result (List Entry) LineFault
-entries_in version words = entries_by version (entry_in words)
+-- that of a line's lexemes
+abbrev pub form_in : Version → List (List ℕ) → Result EntryForm LineFault
+form_in version words = form_by version (entry_in words)
+
+-- the entries of a form, if its names are defined
+abbrev pub named_entries : Definitions → EntryForm → Result (List Entry) LineFault
+named_entries definitions form = if knows_all definitions form.mapped then Ok (entries_of definitions form) else Err NoSuchName
 
 -- ---- the table so far
 
--- the entries of a table with those of a line
-unfoldable pub with_entries : Version → Definitions → List Entry → List Entry → Result (List Entry) LineFault
-with_entries version definitions table entries =
-    if is_over_limit version definitions table entries then Err Limit else
+-- the entries of a table with further ones
+unfoldable pub with_entries : List Entry → List Entry → Result (List Entry) LineFault
+with_entries table entries =
     if list_any has_bad_class entries then Err BadClass else
     if list_any has_repeat entries then Err SameVariant else
     if list_any (has_source_in table) entries then Err SameSource else
     Ok (table ++ entries)
 
+-- the same with those of a form
+unfoldable pub with_form : Version → Definitions → List Entry → EntryForm → Result (List Entry) LineFault
+with_form version definitions table form =
+    if is_over_limit version definitions table (written_out form) then Err Limit else
+    named_entries definitions form >>= with_entries table
+
 -- the same with those of a line's lexemes
 abbrev pub with_entry_words : Version → Definitions → List Entry → List (List ℕ) → Result (List Entry) LineFault
-with_entry_words version definitions table words = entries_in version words >>= with_entries version definitions table
+with_entry_words version definitions table words = form_in version words >>= with_form version definitions table
 
-abbrev pub with_entries_of : TableValue → List Entry → Result TableValue LineFault
-with_entries_of t entries = with_entries t.version t.definitions t.entries entries >>= λ all. Ok (record t { entries = all })
+abbrev pub with_form_of : TableValue → EntryForm → Result TableValue LineFault
+with_form_of t form = with_form t.version t.definitions t.entries form >>= λ all. Ok (record t { entries = all })
 
 -- the table with these definitions, or with their fault
 abbrev pub defining : TableValue → Result Definitions DefinitionFault → Result TableValue LineFault
@@ -71,7 +80,7 @@ with_definition t keyword words = defining t (defined (room_for_definitions t) t
 
 -- the table with what lexemes say: a definition, if they begin with a keyword, or else entries
 abbrev pub with_words : TableValue → Option (Keyword × List (List ℕ)) → List (List ℕ) → Result TableValue LineFault
-with_words t None words = entries_in t.version words >>= with_entries_of t
+with_words t None words = form_in t.version words >>= with_form_of t
 with_words t (Some (keyword, behind)) words = with_definition t keyword behind
 
 -- the table with what a line adds

@@ -1,20 +1,22 @@
 -- What a text spells: one table, or one first fault.
-use Rattle.std.specs.Prelude.{◌≡◌, ◌⊎◌, ℕ, ◌+◌, ◌≤◌, ◌<◌, Bool, false, IsTrue, Some, None, List, [], ◌∷◌, ◌++◌, length, All}
+use Rattle.std.specs.Prelude.{◌≡◌, ◌⊎◌, ℕ, ◌+◌, ◌≤◌, ◌<◌, Bool, false, not, IsTrue, Some, None, List, [], ◌∷◌, ◌++◌, length, All}
 use Rattle.std.specs.List.{AllByRecursion, list_any}
 use Rattle.std.specs.Str.Lines.{strip_carriage_return}
 use Rattle.idn_text.specs.Lines.{raw_lines}
-use Rattle.variant_table.specs.Faults.{LineFault, Limit, Syntax, BadClass, SameVariant, SameSource, table_fault}
+use Rattle.variant_table.specs.Faults.{LineFault, Limit, Syntax, BadClass, SameVariant, SameSource, NoSuchName, table_fault}
 use Rattle.variant_table.specs.declared.fault.TableFault.{TableFault}
 use Rattle.variant_table.specs.declared.fault.TableFault.TheVariants.{Memory}
 use Rattle.variant_table.specs.declared.version.Notation.{Notation}
 use Rattle.variant_table.specs.declared.version.Version.{Version}
+use Rattle.ruleset_text.specs.declared.keyword.Keyword.{Keyword}
 use Rattle.ruleset_text.specs.Definitions.{Definitions}
+use Rattle.ruleset_text.specs.Entries.{EntryForm}
 use Rattle.ruleset_text.specs.Lexemes.{is_blank, lexemes}
 use Rattle.variant_table.specs.DefinitionLines.{keyword_in, Defines, DefinesWrong}
 use Rattle.variant_table.specs.Entries.{Entry, TableValue, empty_table}
 use Rattle.variant_table.specs.Limits.{line_limit, text_limit}
 use Rattle.variant_table.specs.Versions.{version_of, head_of, body_of, size_of}
-use Rattle.variant_table.specs.Forms.{SpellsEntries}
+use Rattle.variant_table.specs.Forms.{HasForm, written_out, knows_all, entries_of, SpellsEntries}
 use Rattle.variant_table.specs.WellFormed.{IsTable}
 use Rattle.variant_table.specs.Conditions.{is_too_long, is_over_limit, has_bad_class, has_repeat, has_source_in}
 
@@ -28,16 +30,16 @@ AreBlanks line = AllByRecursion (λ c. IsTrue (is_blank c)) line
 abbrev pub IsComment : List ℕ → Type 0
 IsComment line = (blanks : List ℕ) × (rest : List ℕ) × AreBlanks blanks × (line ≡ blanks ++ 35 ∷ rest)
 
--- the entries that a line spells: none by a blank line or a comment, and those of an entry or a range
-abbrev pub LineSpells : Version → List ℕ → List Entry → Type 0
-LineSpells version line entries = (AreBlanks line × (entries ≡ [])) ⊎ (IsComment line × (entries ≡ [])) ⊎ SpellsEntries version line entries
+-- the entries that a line spells, after these definitions: none by a blank line or a comment, and those of an entry or a range
+abbrev pub LineSpells : Version → Definitions → List ℕ → List Entry → Type 0
+LineSpells version definitions line entries = (AreBlanks line × (entries ≡ [])) ⊎ (IsComment line × (entries ≡ [])) ⊎ SpellsEntries version definitions line entries
 
 -- ---- a text without a fault
 
 -- after lines that spell the table t the line leads to the table u: it spells further entries, or it defines something
 abbrev pub LineAdds : TableValue → List ℕ → TableValue → Type 0
 LineAdds t line u =
-    ((entries : List Entry) × LineSpells t.version line entries × (u ≡ record t { entries = t.entries ++ entries }))
+    ((entries : List Entry) × LineSpells t.version t.definitions line entries × (u ≡ record t { entries = t.entries ++ entries }))
     ⊎ ((definitions : Definitions) × Defines t line definitions × (u ≡ record t { definitions = definitions }))
 
 -- the lines lead from the table t to this one, in their order
@@ -64,6 +66,7 @@ pub data Condition : Type 0 where
   too_long : Condition
   no_form : Condition
   over_limit : Condition
+  no_such_name : Condition
   bad_class : Condition
   same_variant : Condition
   same_source : Condition
@@ -73,32 +76,40 @@ abbrev pub order_of : Condition → ℕ
 order_of too_long = 1
 order_of no_form = 2
 order_of over_limit = 3
-order_of bad_class = 4
-order_of same_variant = 5
-order_of same_source = 6
+order_of no_such_name = 4
+order_of bad_class = 5
+order_of same_variant = 6
+order_of same_source = 7
 
 -- what is told of a line for which the condition holds
 abbrev pub fault_of : Condition → LineFault
 fault_of too_long = Limit
 fault_of no_form = Syntax
 fault_of over_limit = Limit
+fault_of no_such_name = NoSuchName
 fault_of bad_class = BadClass
 fault_of same_variant = SameVariant
 fault_of same_source = SameSource
 
--- the line spells entries of which the test is true
-abbrev pub SpellsSuch : Version → List ℕ → (List Entry → Bool) → Type 0
-SpellsSuch version line test = (entries : List Entry) × LineSpells version (strip_carriage_return line) entries × IsTrue (test entries)
+-- the line is blank, a comment, an entry or a range, or it begins with the keyword of a definition
+abbrev pub HasSomeForm : Version → List ℕ → Type 0
+HasSomeForm version line =
+    AreBlanks line ⊎ IsComment line ⊎ ((form : EntryForm) × HasForm version line form)
+    ⊎ ((keyword : Keyword) × (behind : List (List ℕ)) × (keyword_in version (lexemes line) ≡ Some (keyword, behind)))
+
+-- the line is an entry or a range of which the test is true
+abbrev pub IsSuch : Version → List ℕ → (EntryForm → Bool) → Type 0
+IsSuch version line test = (form : EntryForm) × HasForm version (strip_carriage_return line) form × IsTrue (test form)
 
 -- the condition holds for a line; the lines before it have so many bytes and spell the table
 abbrev pub Holds : ℕ → TableValue → List ℕ → Condition → Type 0
 Holds bytes table line too_long = IsTrue (is_too_long table.version bytes line)
-Holds bytes table line no_form =
-    (keyword_in table.version (lexemes (strip_carriage_return line)) ≡ None) × ((entries : List Entry) → LineSpells table.version (strip_carriage_return line) entries → ⊥)
-Holds bytes table line over_limit = SpellsSuch table.version line (is_over_limit table.version table.definitions table.entries)
-Holds bytes table line bad_class = SpellsSuch table.version line (list_any has_bad_class)
-Holds bytes table line same_variant = SpellsSuch table.version line (list_any has_repeat)
-Holds bytes table line same_source = SpellsSuch table.version line (list_any (has_source_in table.entries))
+Holds bytes table line no_form = HasSomeForm table.version (strip_carriage_return line) → ⊥
+Holds bytes table line over_limit = IsSuch table.version line (λ form. is_over_limit table.version table.definitions table.entries (written_out form))
+Holds bytes table line no_such_name = IsSuch table.version line (λ form. not (knows_all table.definitions form.mapped))
+Holds bytes table line bad_class = IsSuch table.version line (λ form. list_any has_bad_class (entries_of table.definitions form))
+Holds bytes table line same_variant = IsSuch table.version line (λ form. list_any has_repeat (entries_of table.definitions form))
+Holds bytes table line same_source = IsSuch table.version line (λ form. list_any (has_source_in table.entries) (entries_of table.definitions form))
 
 -- the fault of the first condition that holds
 abbrev pub IsFirstTold : ℕ → TableValue → List ℕ → LineFault → Type 0

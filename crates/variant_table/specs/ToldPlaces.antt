@@ -1,18 +1,25 @@
 -- What the places are that are told of a faulty line.
-use Rattle.std.specs.Prelude.{◌≡◌, ℕ, false, List, ◌∷◌, ◌++◌, IsTrue}
+use Rattle.std.specs.Prelude.{◌≡◌, ◌⊎◌, ℕ, true, false, List, ◌∷◌, ◌++◌, IsTrue}
 use Rattle.std.specs.List.{AllByRecursion}
+use Rattle.ruleset_text.specs.declared.entry_place.WrongPlace.{WrongPlace}
 use Rattle.ruleset_text.specs.declared.entry_place.WrongPlace.TheVariants as wrong
+use Rattle.ruleset_text.specs.DefinitionPlaces as definitions
 use Rattle.ruleset_text.specs.declared.line_point.LinePoint.{LinePoint}
 use Rattle.ruleset_text.specs.WrongPlaces.{IsWrongPlace}
 use Rattle.variant_table.specs.declared.place.FaultPlace.{FaultPlace}
 use Rattle.variant_table.specs.declared.place.FaultPlace.TheVariants.{Lexeme, End, Point}
 use Rattle.variant_table.specs.declared.version.Version.{Version}
-use Rattle.variant_table.specs.FaultPlaces.{is_bad_point, parts_of}
+use Rattle.variant_table.specs.FaultPlaces.{defines, is_bad_point, parts_of}
 
--- no form of the version goes on with the lexeme; or each goes on, and the line ends
+-- no form of the version goes on with the lexeme, or no definition does; or each goes on, and the line ends
+abbrev pub IsWrongIn : Version → List ℕ → WrongPlace → Type 0
+IsWrongIn version line place =
+    ((defines version line ≡ true) × definitions.IsWrongPlace line place)
+    ⊎ ((defines version line ≡ false) × IsWrongPlace (parts_of version) line place)
+
 abbrev pub IsSyntaxPlace : Version → List ℕ → FaultPlace → Type 0
-IsSyntaxPlace version line (Lexeme place len) = IsWrongPlace (parts_of version) line (wrong.Lexeme place len)
-IsSyntaxPlace version line (End place) = IsWrongPlace (parts_of version) line (wrong.End place)
+IsSyntaxPlace version line (Lexeme place len) = IsWrongIn version line (wrong.Lexeme place len)
+IsSyntaxPlace version line (End place) = IsWrongIn version line (wrong.End place)
 IsSyntaxPlace version line other = ⊥
 
 -- a code point of the line is bad, and none before it is

@@ -1,5 +1,5 @@
 -- Which tables are well-formed.
-use Rattle.std.specs.Prelude.{◌≡◌, ◌≢◌, ℕ, ◌≤◌, Bool, true, false, IsTrue, Option, None, List, [], ◌∷◌, length, All, AllPairs}
+use Rattle.std.specs.Prelude.{◌≡◌, ◌≢◌, ℕ, ◌<◌, ◌≤◌, Bool, true, false, IsTrue, Option, Some, None, List, [], ◌∷◌, length, All, AllPairs}
 use Rattle.idn_text.specs.Points.{IsScalarValue}
 use Rattle.idn_class.specs.declared.class.Class.{Class}
 use Rattle.idn_class.specs.declared.class.Class.TheVariants.{Pvalid, Contextj, Contexto}
@@ -9,8 +9,8 @@ use Rattle.ruleset_text.specs.Definitions.{Definitions, nothing_defined}
 use Rattle.ruleset_text.specs.WellFormed.{AreDefinitions}
 use Rattle.variant_table.specs.declared.version.Version.{Version}
 use Rattle.variant_table.specs.declared.version.Version.TheVariants.{One, Two, Three}
-use Rattle.variant_table.specs.Entries.{Variant, Entry, replacements, itself, IsOfVersion, TableValue}
-use Rattle.variant_table.specs.Canonical.{canonical_text, table_text}
+use Rattle.variant_table.specs.Entries.{Variant, Entry, replacements, itself, whole, IsOfVersion, TableValue}
+use Rattle.variant_table.specs.Canonical.{table_text}
 use Rattle.variant_table.specs.Limits.{text_limit, entry_limit}
 
 -- PVALID, CONTEXTJ or CONTEXTO (RFC 5892, section 3)
@@ -45,12 +45,27 @@ pub record IsEntry (e : Entry) : Type 0 where
   pub few : length e.variants ≤ 16
   pub distinct : AllPairs AreApart (itself e ∷ e.variants)
 
--- at most 65,536 entries with different sources, whose canonical text has at most 8,388,608 bytes: the largest limits of any version
+-- at most 65,536 entries with different sources: the largest limit of any version
 pub record IsWellFormed (table : List Entry) : Type 0 where
   pub entries : All IsEntry table
   pub sources : AllPairs (λ e f. e.source ≢ f.source) table
   pub few : length table ≤ 65536
-  pub short : length (canonical_text table) ≤ 8388608
+
+-- the rule of a condition is one of those that are defined
+abbrev pub HasItsRule : Definitions → Option Condition → Type 0
+HasItsRule definitions None = Unit {0}
+HasItsRule definitions (Some c) = c.rule < length definitions.rule_names
+
+-- different tags that are defined, and none at what is blocked or outside; and a condition whose rule is defined
+pub record HasItsNames (definitions : Definitions) (v : Variant) : Type 0 where
+  pub tags : All (λ n. n < length definitions.tags) v.tags
+  pub distinct : AllPairs (λ m n. m ≢ n) v.tags
+  pub unmarked : v.blocked ≡ true → v.tags ≡ []
+  pub condition : HasItsRule definitions v.condition
+
+-- the source and the variants have
+abbrev pub IsNamed : Definitions → Entry → Type 0
+IsNamed definitions e = All (HasItsNames definitions) (whole e)
 
 -- versions 1 and 2 define nothing, and version 3 has no demands yet
 abbrev pub AreOfVersion : Version → Definitions → Type 0
@@ -58,11 +73,12 @@ AreOfVersion One definitions = definitions ≡ nothing_defined
 AreOfVersion Two definitions = definitions ≡ nothing_defined
 AreOfVersion Three definitions = definitions.demands ≡ []
 
--- definitions without a fault and well-formed entries, as the version has them, within its limits, the version line counted
+-- definitions without a fault and well-formed entries, as the version has them, whose tags and rules are defined; within its limits, the version line counted
 pub record IsTable (table : TableValue) : Type 0 where
   pub without_fault : AreDefinitions table.definitions
   pub defined : AreOfVersion table.version table.definitions
   pub well_formed : IsWellFormed table.entries
   pub of_version : All (IsOfVersion table.version) table.entries
+  pub named : All (IsNamed table.definitions) table.entries
   pub few : length table.entries ≤ entry_limit table.version
   pub short : length (table_text table.version table.definitions table.entries) ≤ text_limit table.version

@@ -1,15 +1,20 @@
 //! The canonical text of sequences and tables.
-ghost use Rattle.std.specs.Prelude.{◌≡◌, ◌+◌, ◌<◌, ◌≤◌, [], ◌∷◌, ◌++◌, length, OnOk};
+ghost use Rattle.std.specs.Prelude.{◌≡◌, ◌+◌, ◌<◌, ◌≤◌, [], ◌∷◌, ◌++◌, length, map, OnOk};
+ghost use Rattle.std.specs.Option.{option_map};
 ghost use Rattle.arrayvec.specs.ArrayVec.{array_vec_len};
 ghost use Rattle.idn_text.specs.Points.{AreScalarValues, IsScalarValue};
 ghost use Rattle.ruleset_text.specs.Canonical as points;
 ghost use Rattle.ruleset_text.specs.EntryText as entries;
 ghost use Rattle.variant_table.specs.Canonical as text;
-ghost use Rattle.variant_table.specs.WellFormed.{IsEntry};
+ghost use Rattle.variant_table.specs.Forms as forms;
+ghost use Rattle.variant_table.specs.inner.Held.{named_in};
+ghost use Rattle.variant_table.specs.WellFormed.{IsEntry, IsSequence};
 
 use crate::entry::Entry;
 use crate::version::Version;
 use arrayvec::ArrayVec;
+use label_patterns::{Condition, ConditionKind};
+use ruleset_text::{Definitions, Name};
 use std::alloc::AllocError;
 
 /// Writes the canonical text of a sequence of 1 to 8 scalar values, in place of what was in `out`:
@@ -92,22 +97,106 @@ pub fn push_head(out: &mut Vec<u8>, version: Version) -> Result<(), AllocError>
     Ok(())
 }
 
-/// Appends the canonical line of an entry and its line feed.
-pub fn push_entry(out: &mut Vec<u8>, entry: &Entry) -> Result<(), AllocError>
+/// Appends the canonical line of an entry and its line feed, with the names of its tags and rules.
+pub fn push_entry(
+    out: &mut Vec<u8>,
+    definitions: &Definitions,
+    entry: &Entry,
+) -> Result<(), AllocError>
     requires { IsEntry entry.now }
-    ensures { OnOk result (out.new.items ≡ out.old.items ++ (text.canonical_line entry.now ++ 10 ∷ [])) }
+    ensures { OnOk result (out.new.items ≡ out.old.items ++ (text.canonical_line definitions.now entry.now ++ 10 ∷ [])) }
 {
-    let mut sequence = ArrayVec::new();
     push_mark(out, entry.is_outside())?;
-    write_sequence(entry.source(), &mut sequence);
-    out.extend_from_slice(&sequence)?;
+    push_sequence(out, entry.source())?;
+    push_names(out, definitions, entry.tags(0), entry.condition(0))?;
     for number in 1..entry.replacements() {
         out.push(separator_before(number - 1))?;
         push_mark(out, entry.blocked(number))?;
-        write_sequence(entry.replacement(number), &mut sequence);
-        out.extend_from_slice(&sequence)?;
+        push_sequence(out, entry.replacement(number))?;
+        push_names(
+            out,
+            definitions,
+            entry.tags(number),
+            entry.condition(number),
+        )?;
     }
     out.push(b'\n')?;
+    Ok(())
+}
+
+/// Appends a sequence.
+fn push_sequence(out: &mut Vec<u8>, sequence: &[u32]) -> Result<(), AllocError>
+    requires { IsSequence sequence.now }
+    ensures { OnOk result (out.new.items ≡ out.old.items ++ entries.sequence_text sequence.now) }
+{
+    let mut text = ArrayVec::new();
+    write_sequence(sequence, &mut text);
+    out.extend_from_slice(&text)?;
+    Ok(())
+}
+
+/// Appends what stands behind a sequence: its tags and its condition, by their names.
+fn push_names(
+    out: &mut Vec<u8>,
+    definitions: &Definitions,
+    tags: &[u8],
+    condition: Option<Condition>,
+) -> Result<(), AllocError>
+    ensures { OnOk result (out.new.items ≡ out.old.items ++ (entries.tags_text (map (forms.name_at definitions.now.tags) tags.now)
+        ++ entries.condition_text (option_map (forms.named definitions.now) condition))) }
+{
+    push_tags(out, definitions.tags(), tags)?;
+    push_condition(out, definitions.rule_names(), condition)
+}
+
+/// Appends ` as ` and the names of tags, with commas between them.
+fn push_tags(out: &mut Vec<u8>, names: &[Name], tags: &[u8]) -> Result<(), AllocError>
+    ensures { OnOk result (out.new.items ≡ out.old.items ++ entries.tags_text (map (forms.name_at names.now) tags.now)) }
+{
+    let [first, others @ ..] = tags else {
+        return Ok(());
+    };
+    out.extend_from_slice(b" as ")?;
+    push_name(out, names, *first)?;
+    for tag in others {
+        out.push(b',')?;
+        push_name(out, names, *tag)?;
+    }
+    Ok(())
+}
+
+/// Appends a condition.
+fn push_condition(
+    out: &mut Vec<u8>,
+    names: &[Name],
+    condition: Option<Condition>,
+) -> Result<(), AllocError>
+    ensures { OnOk result (out.new.items ≡ out.old.items ++ entries.condition_text (option_map (named_in names.now) condition)) }
+{
+    let Some(condition) = condition else {
+        return Ok(());
+    };
+    out.extend_from_slice(condition_word(condition.kind))?;
+    push_name(out, names, condition.rule)
+}
+
+/// The word of a condition, with the blanks around it.
+fn condition_word(kind: ConditionKind) -> &'static [u8]
+    ensures { result.now ≡ entries.condition_word kind }
+{
+    match kind {
+        ConditionKind::When => b" when ",
+        ConditionKind::Unless => b" unless ",
+    }
+}
+
+/// Appends the name of this number; nothing if there is none.
+fn push_name(out: &mut Vec<u8>, names: &[Name], number: u8) -> Result<(), AllocError>
+    ensures { OnOk result (out.new.items ≡ out.old.items ++ forms.name_at names.now number) }
+{
+    if (number as usize) < names.len() {
+        out.extend_from_slice(names[number as usize].as_slice())?;
+    }
     Ok(())
 }
 

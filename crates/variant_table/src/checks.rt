@@ -1,14 +1,16 @@
 //! What may be wrong with an entry by itself.
-ghost use Rattle.std.specs.Prelude.{◌≡◌, ◌+◌, ◌<◌, Bool, ◌≤◌, ◌^◌, length, map, drop, slice_get, Some, IfOk};
+ghost use Rattle.std.specs.Prelude.{◌≡◌, ◌+◌, ◌<◌, ◌≤◌, ◌^◌, length, map, drop, slice_get, Some, IfOk};
 ghost use Rattle.std.specs.List.{list_any, range_with_len};
+ghost use Rattle.ruleset_text.specs.EntryForms.{mapped as form_of};
 ghost use Rattle.variant_table.specs.Conditions as conditions;
 ghost use Rattle.variant_table.specs.Entries.{Variant, entry_from};
-ghost use Rattle.variant_table.specs.Ranges.{point_entry};
+ghost use Rattle.variant_table.specs.Ranges.{entry_in_range};
 ghost use Rattle.variant_table.specs.WellFormed.{is_table_class};
 
 use crate::sequences::Sequences;
 use idn_class::{Class, class_of};
 use label_patterns::Condition;
+use ruleset_text::Mapped;
 use std::alloc::{AllocError, Global};
 
 /// The most sequences of an entry: a source and 16 variants.
@@ -17,12 +19,11 @@ const REPLACEMENT_LIMIT: usize = 17;
 /// The most code points of a sequence.
 const SEQUENCE_LIMIT: usize = 8;
 
-/// Whether an entry has too many variants, or one of its sequences too many code points.
-pub fn is_too_large(sequences: &Sequences) -> bool
-    requires { 0 < length sequences.now }
-    ensures { result ≡ conditions.is_too_large (entry_from sequences.now) }
+/// Whether a source has too many variants, or one of the sequences too many code points.
+pub fn is_too_large(entry: &[Mapped]) -> bool
+    ensures { result ≡ conditions.is_too_large (map form_of entry.now) }
 {
-    sequences.len() > REPLACEMENT_LIMIT || sequences.iter().any(|s| s.len() > SEQUENCE_LIMIT)
+    entry.len() > REPLACEMENT_LIMIT || entry.iter().any(|m| m.points.len() > SEQUENCE_LIMIT)
 }
 
 /// Whether some code point has a class that no table may hold.
@@ -41,7 +42,7 @@ pub fn has_bad_class(alloc: Global, sequences: &Sequences) -> Result<bool, Alloc
 /// Whether one of `count` code points, from `first` on, has such a class.
 pub fn has_bad_class_in(alloc: Global, first: u32, count: usize) -> Result<bool, AllocError>
     requires { first + count ≤ 2 ^ 32 }
-    ensures { IfOk result (λ bad. (outside : Bool) → bad ≡ list_any conditions.has_bad_class (map (point_entry outside) (range_with_len first count))) }
+    ensures { IfOk result (λ bad. (v : Variant) → bad ≡ list_any conditions.has_bad_class (map (entry_in_range v) (range_with_len first count))) }
 {
     for offset in 0..count {
         if has_bad_point(alloc, &[first + offset as u32])? {

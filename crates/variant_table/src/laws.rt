@@ -1,17 +1,19 @@
 //! Laws of the definitions, each the contract of a function that does nothing.
-ghost use Rattle.std.specs.Prelude.{◌≡◌, ◌↔◌, ◌⊎◌, ◌≤◌, ℕ, true, false, List, [], ◌∷◌, ◌++◌, length, Ok, Err, codes};
+ghost use Rattle.std.specs.Prelude.{◌≡◌, ◌↔◌, ◌⊎◌, ◌≤◌, ℕ, true, false, List, [], ◌∷◌, ◌++◌, length, All, Ok, Err, codes};
 ghost use Rattle.idn_text.specs.Lines.{raw_lines, with_last_feed};
 ghost use Rattle.variant_table.specs.Faults.{LineFault};
 ghost use Rattle.variant_table.specs.Canonical.{canonical_line, head_text, table_text};
-ghost use Rattle.ruleset_text.specs.Definitions.{nothing_defined};
-ghost use Rattle.variant_table.specs.Entries.{Entry, TableValue, IsOfVersion, entry_from, plain_variant, table_of, unblocked};
+ghost use Rattle.ruleset_text.specs.Definitions.{Definitions, nothing_defined};
+ghost use Rattle.ruleset_text.specs.Entries.{EntryForm};
+ghost use Rattle.ruleset_text.specs.WellFormed.{AreDefinitions};
+ghost use Rattle.variant_table.specs.Entries.{Entry, TableValue, IsOfVersion, IsPlain, entry_from, plain_variant, table_of, unblocked, whole};
 ghost use Rattle.ruleset_text.specs.Lexemes.{lexemes};
-ghost use Rattle.variant_table.specs.Forms.{SpellsEntries};
-ghost use Rattle.variant_table.specs.Reading.{entries_in, table_of_text};
+ghost use Rattle.variant_table.specs.Forms.{HasForm};
+ghost use Rattle.variant_table.specs.Reading.{form_in, table_of_text};
 ghost use Rattle.variant_table.specs.Texts.{IsTextOf, IsFaultOf, LineSpells};
 ghost use Rattle.variant_table.specs.declared.version.Version.{Version};
 ghost use Rattle.variant_table.specs.Versions.{notation_of, size_of};
-ghost use Rattle.variant_table.specs.inner.Examples.{two_tags};
+ghost use Rattle.variant_table.specs.inner.Examples.{entries_in, two_tags};
 ghost use Rattle.variant_table.specs.Ranges.{point_entry, point_variant};
 ghost use Rattle.variant_table.specs.declared.version.Notation.{Notation};
 ghost use Rattle.variant_table.specs.declared.version.Notation.TheVariants as notations;
@@ -19,17 +21,20 @@ ghost use Rattle.variant_table.specs.declared.version.Version.TheVariants as ver
 ghost use Rattle.variant_table.specs.Gaps.{AreGapsOf, gaps_of};
 ghost use Rattle.variant_table.specs.Places.{entries_at};
 ghost use Rattle.variant_table.specs.Faults as faults;
-ghost use Rattle.variant_table.specs.WellFormed.{IsEntry, IsWellFormed, IsTable};
+ghost use Rattle.variant_table.specs.WellFormed.{IsEntry, IsNamed, IsWellFormed, IsTable};
 
-/// The entries that are read from the lexemes of a line are those that it spells, and where it spells none, none are read.
+/// The form that is read from the lexemes of a line is the one that it has in the version, and where it has none, none is
+/// read.
 pub fn reading_a_line_is_exact()
-    ensures { (version : Version) (line : List ℕ) (entries : List Entry) →
-        (entries_in version (lexemes line) ≡ Ok entries) ↔ SpellsEntries version line entries }
+    ensures { (version : Version) (line : List ℕ) (form : EntryForm) →
+        (form_in version (lexemes line) ≡ Ok form) ↔ HasForm version line form }
 {}
 
 /// A line has the entries of one entry or range at most.
 pub fn a_line_has_one_form()
-    ensures { (version : Version) (line : List ℕ) (a b : List Entry) → LineSpells version line a → LineSpells version line b → a ≡ b }
+    ensures form { (version : Version) (line : List ℕ) (a b : EntryForm) → HasForm version line a → HasForm version line b → a ≡ b }
+    ensures entries { (version : Version) (definitions : Definitions) (line : List ℕ) (a b : List Entry) →
+        LineSpells version definitions line a → LineSpells version definitions line b → a ≡ b }
 {}
 
 /// The function that reads a text tells exactly what the definitions say of it.
@@ -73,14 +78,15 @@ pub fn canonical_text_is_read_back()
 
 /// The canonical text of a table of version 1 is at most as long as any text that spells the table, a
 /// line feed added where the last line has none. A canonical line has at most 951 bytes in version 1, 967 in
-/// version 2 and 968 in version 3.
+/// version 2, and in version 3 968 without tags and conditions, 6,170 with them.
 pub fn canonical_text_is_never_longer()
     ensures text { (notation : Notation) (text : List ℕ) (table : TableValue) →
         IsTextOf notation text table → table.version ≡ versions.One →
         length (table_text table.version table.definitions table.entries) ≤ size_of (raw_lines text) }
-    ensures line { (e : Entry) → IsEntry e → IsOfVersion versions.One e → length (canonical_line e) ≤ 951 }
-    ensures blocked { (e : Entry) → IsEntry e → IsOfVersion versions.Two e → length (canonical_line e) ≤ 967 }
-    ensures marked { (e : Entry) → IsEntry e → length (canonical_line e) ≤ 968 }
+    ensures line { (d : Definitions) (e : Entry) → IsEntry e → IsOfVersion versions.One e → length (canonical_line d e) ≤ 951 }
+    ensures blocked { (d : Definitions) (e : Entry) → IsEntry e → IsOfVersion versions.Two e → length (canonical_line d e) ≤ 967 }
+    ensures marked { (d : Definitions) (e : Entry) → IsEntry e → All IsPlain (whole e) → length (canonical_line d e) ≤ 968 }
+    ensures named { (d : Definitions) (e : Entry) → AreDefinitions d → IsEntry e → IsNamed d e → length (canonical_line d e) ≤ 6170 }
     ensures feeds { (text : List ℕ) → size_of (raw_lines text) ≡ length (with_last_feed text) }
 {}
 
@@ -91,9 +97,9 @@ pub fn gaps_of_are_the_gaps()
 
 /// Examples of version 1, which the definitions compute.
 pub fn definitions_compute_the_examples()
-    ensures read { entries_in versions.One (lexemes (codes "u+0061 | 0062 : 0063-0064")) ≡ Ok (entry_from (point_variant false 97 ∷ point_variant false 98 ∷ plain_variant false (99 ∷ 100 ∷ []) ∷ []) ∷ []) }
+    ensures read { entries_in versions.One nothing_defined (lexemes (codes "u+0061 | 0062 : 0063-0064")) ≡ Ok (entry_from (point_variant false 97 ∷ point_variant false 98 ∷ plain_variant false (99 ∷ 100 ∷ []) ∷ []) ∷ []) }
     ensures written { table_text versions.One nothing_defined (entry_from (point_variant false 97 ∷ point_variant false 98 ∷ plain_variant false (99 ∷ 100 ∷ []) ∷ []) ∷ []) ≡ codes "0061|0062:0063-0064" ++ 10 ∷ [] }
-    ensures six { canonical_line (entry_from (plain_variant false (0x10FFFF ∷ 0x4E2D ∷ []) ∷ [])) ≡ codes "10FFFF-4E2D" }
+    ensures six { canonical_line nothing_defined (entry_from (plain_variant false (0x10FFFF ∷ 0x4E2D ∷ []) ∷ [])) ≡ codes "10FFFF-4E2D" }
     ensures syntax { table_of_text notations.Table (codes "0061|") ≡ Err (1, faults.Syntax) }
     ensures range { table_of_text notations.Table (codes "0061..0063") ≡ Err (1, faults.Syntax) }
     ensures blocked { table_of_text notations.Table (codes "0061|!0062") ≡ Err (1, faults.Syntax) }
@@ -153,9 +159,9 @@ pub fn definitions_compute_the_examples_of_rulesets()
     ensures demand { table_of_text notations.Ruleset (codes "%version 3" ++ 10 ∷ codes "%never ^ .") ≡ Err (2, faults.Syntax) }
     ensures set { table_of_text notations.Ruleset (codes "%version 3" ++ 10 ∷ codes "% set C 0061") ≡ Err (2, faults.Syntax) }
     ensures later { table_of_text notations.Table (codes "%version 2" ++ 10 ∷ codes "%version 3") ≡ Err (2, faults.Syntax) }
-    ensures outside { entries_in versions.Three (lexemes (codes "! 0061|!0062")) ≡ Ok (entry_from (point_variant true 0x61 ∷ point_variant true 0x62 ∷ []) ∷ []) }
-    ensures outside_range { entries_in versions.Three (lexemes (codes "!0062..0063")) ≡ Ok (point_entry true 0x62 ∷ point_entry true 0x63 ∷ []) }
-    ensures outside_in_version_2 { entries_in versions.Two (lexemes (codes "!0062..0063")) ≡ Err faults.Syntax }
+    ensures outside { entries_in versions.Three nothing_defined (lexemes (codes "! 0061|!0062")) ≡ Ok (entry_from (point_variant true 0x61 ∷ point_variant true 0x62 ∷ []) ∷ []) }
+    ensures outside_range { entries_in versions.Three nothing_defined (lexemes (codes "!0062..0063")) ≡ Ok (point_entry true 0x62 ∷ point_entry true 0x63 ∷ []) }
+    ensures outside_in_version_2 { form_in versions.Two (lexemes (codes "!0062..0063")) ≡ Err faults.Syntax }
     ensures two_marks { table_of_text notations.Ruleset (codes "%version 3" ++ 10 ∷ codes "!!0061") ≡ Err (2, faults.Syntax) }
     ensures no_source { table_of_text notations.Ruleset (codes "%version 3" ++ 10 ∷ codes "!|0061") ≡ Err (2, faults.Syntax) }
     ensures limit { table_of_text notations.Ruleset (codes "%version 3" ++ 10 ∷ codes "0041-0041-0041-0041-0041-0041-0041-0041-0041") ≡ Err (2, faults.Limit) }

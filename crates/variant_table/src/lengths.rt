@@ -1,50 +1,105 @@
-//! How many bytes canonical lines have, each with its line feed, if the version limits the canonical text.
-ghost use Rattle.std.specs.Prelude.{◌≡◌, ◌+◌, ◌<◌, ◌≤◌, ◌^◌, [], ◌∷◌, false, length, map};
+//! How many bytes of a canonical text are left behind further lines, if the version limits them.
+ghost use Rattle.std.specs.Prelude.{◌≡◌, ◌+◌, ◌<◌, ◌≤◌, ◌^◌, [], ◌∷◌, ◌++◌, None, false, length, map};
 ghost use Rattle.std.specs.List.{range_with_len};
 ghost use Rattle.ruleset_text.specs.Canonical.{point_text};
-ghost use Rattle.ruleset_text.specs.EntryText.{mark_text, sequence_text};
-ghost use Rattle.variant_table.specs.Canonical.{canonical_text};
+ghost use Rattle.ruleset_text.specs.EntryForms.{mapped as form_of};
+ghost use Rattle.ruleset_text.specs.EntryText.{condition_text, condition_word, mapped_text, mark_text, sequence_text, tags_text};
+ghost use Rattle.variant_table.specs.Canonical.{written_text};
 ghost use Rattle.variant_table.specs.Conditions.{is_too_large};
-ghost use Rattle.variant_table.specs.Entries.{entry_from};
-ghost use Rattle.variant_table.specs.inner.Held.{counted, HasNoEmptySequence};
-ghost use Rattle.variant_table.specs.Ranges.{point_entry};
+ghost use Rattle.variant_table.specs.Forms.{with_point};
+ghost use Rattle.variant_table.specs.inner.Held.{counted, HasNoEmptySequence, IsLeft};
 
-use crate::sequences::Sequences;
 use crate::version::Version;
+use label_patterns::ConditionKind;
+use ruleset_text::{Mapped, Name, NamedCondition};
 
-/// How many bytes the entry of these sequences, the source first, adds to the canonical text; 0 in version 1,
-/// which doesn't limit it.
-pub fn entry_len(version: Version, sequences: &Sequences) -> usize
-    requires some { 0 < length sequences.now }
-    requires filled { HasNoEmptySequence (entry_from sequences.now) }
-    requires small { is_too_large (entry_from sequences.now) ≡ false }
-    ensures count { result ≡ counted version (canonical_text (entry_from sequences.now ∷ [])) }
-    ensures few { result ≤ 1024 }
+/// How many of `left` bytes are left behind the canonical line of a source and its variants, with its line feed: none
+/// if they are too few. Version 1 doesn't limit the canonical text.
+pub fn left_after_entry(version: Version, entry: &[Mapped], left: usize) -> Option<usize>
+    requires some { 0 < length entry.now }
+    requires filled { HasNoEmptySequence (map form_of entry.now) }
+    requires small { is_too_large (map form_of entry.now) ≡ false }
+    ensures { IsLeft left (counted version (written_text (map form_of entry.now ∷ []))) result }
 {
     match version {
-        Version::One => 0,
-        Version::Two | Version::Three => line_len(sequences),
+        Version::One => Some(left),
+        Version::Two | Version::Three => left_after_line(entry, left),
     }
 }
 
-/// How many bytes the canonical line of the entry of these sequences has, with its line feed.
-fn line_len(sequences: &Sequences) -> usize
-    requires some { 0 < length sequences.now }
-    requires filled { HasNoEmptySequence (entry_from sequences.now) }
-    requires small { is_too_large (entry_from sequences.now) ≡ false }
-    ensures count { result ≡ length (canonical_text (entry_from sequences.now ∷ [])) }
-    ensures few { result ≤ 1024 }
+/// The same where the canonical text is limited.
+fn left_after_line(entry: &[Mapped], left: usize) -> Option<usize>
+    requires some { 0 < length entry.now }
+    requires filled { HasNoEmptySequence (map form_of entry.now) }
+    requires small { is_too_large (map form_of entry.now) ≡ false }
+    ensures { IsLeft left (length (written_text (map form_of entry.now ∷ []))) result }
 {
-    let mut len = mark_len(sequences.is_blocked(0)) + sequence_len(sequences.get(0));
-    for number in 1..sequences.len() {
-        len += sequence_len(sequences.get(number)) + mark_len(sequences.is_blocked(number));
+    let mut rest = left;
+    for mapped in entry {
+        rest = left_after_mapped(mapped, rest)?;
     }
-    len
+    Some(rest)
+}
+
+/// How many bytes are left behind a source or a variant, and one byte more: that of what follows it.
+fn left_after_mapped(mapped: &Mapped, left: usize) -> Option<usize>
+    requires some { 0 < length mapped.now.points.items }
+    requires short { length mapped.now.points.items ≤ 8 }
+    ensures { IsLeft left (length (mapped_text (form_of mapped.now) None) + 1) result }
+{
+    let rest = left.checked_sub(mark_len(mapped.marked) + sequence_len(&mapped.points))?;
+    left_after_names(mapped, rest)
+}
+
+/// How many bytes are left behind its tags and its condition.
+fn left_after_names(mapped: &Mapped, left: usize) -> Option<usize>
+    ensures { IsLeft left (length (tags_text (form_of mapped.now).tags ++ condition_text (form_of mapped.now).condition)) result }
+{
+    let rest = left_after_tags(&mapped.tags, left)?;
+    left_after_condition(&mapped.condition, rest)
+}
+
+/// How many bytes are left behind tags: ` as ` and their names, with commas between them.
+fn left_after_tags(tags: &[Name], left: usize) -> Option<usize>
+    ensures { IsLeft left (length (tags_text tags.now)) result }
+{
+    if tags.is_empty() {
+        return Some(left);
+    }
+    let mut rest = left.checked_sub(3)?;
+    for tag in tags {
+        rest = rest.checked_sub(tag.as_slice().len() + 1)?;
+    }
+    Some(rest)
+}
+
+/// How many bytes are left behind a condition.
+fn left_after_condition(condition: &Option<NamedCondition>, left: usize) -> Option<usize>
+    ensures { IsLeft left (length (condition_text condition.now)) result }
+{
+    match condition {
+        None => Some(left),
+        Some(condition) => {
+            let rest = left.checked_sub(word_len(condition.kind))?;
+            rest.checked_sub(condition.rule.as_slice().len())
+        }
+    }
+}
+
+/// How many bytes the word of a condition has, with the blanks around it.
+fn word_len(kind: ConditionKind) -> usize
+    ensures { result ≡ length (condition_word kind) }
+{
+    match kind {
+        ConditionKind::When => 6,
+        ConditionKind::Unless => 8,
+    }
 }
 
 /// How many bytes the mark of a blocked variant or an outside source has: none if it is neither.
 fn mark_len(marked: bool) -> usize
-    ensures { result ≡ length (mark_text marked) }
+    ensures is { result ≡ length (mark_text marked) }
+    ensures few { result ≤ 1 }
 {
     if marked { 1 } else { 0 }
 }
@@ -63,32 +118,42 @@ fn sequence_len(sequence: &[u32]) -> usize
     len
 }
 
-/// How many bytes the entries of `count` code points, from `first` on, outside or not, add to the canonical text;
-/// 0 in version 1, which doesn't limit it.
-pub fn range_len(version: Version, outside: bool, first: u32, count: usize) -> usize
-    requires few { count ≤ 65536 }
+/// How many of `left` bytes are left behind the canonical lines of a range of `count` code points from `first` on, with
+/// what stands at its source: none if they are too few. Version 1 doesn't limit the canonical text.
+pub fn left_after_range(
+    version: Version,
+    source: &Mapped,
+    first: u32,
+    count: usize,
+    left: usize,
+) -> Option<usize>
     requires last { first + count ≤ 2 ^ 32 }
-    ensures count { result ≡ counted version (canonical_text (map (point_entry outside) (range_with_len first count))) }
-    ensures few { result ≤ 524288 }
+    ensures { IsLeft left (counted version (written_text (map (λ c. with_point (form_of source.now) c ∷ []) (range_with_len first count)))) result }
 {
     match version {
-        Version::One => 0,
-        Version::Two | Version::Three => lines_len(outside, first, count),
+        Version::One => Some(left),
+        Version::Two | Version::Three => left_after_points(source, first, count, left),
     }
 }
 
-/// How many bytes the canonical lines of these entries have, with their line feeds.
-fn lines_len(outside: bool, first: u32, count: usize) -> usize
-    requires few { count ≤ 65536 }
+/// The same where the canonical text is limited.
+fn left_after_points(source: &Mapped, first: u32, count: usize, left: usize) -> Option<usize>
     requires last { first + count ≤ 2 ^ 32 }
-    ensures count { result ≡ length (canonical_text (map (point_entry outside) (range_with_len first count))) }
-    ensures few { result ≤ 524288 }
+    ensures { IsLeft left (length (written_text (map (λ c. with_point (form_of source.now) c ∷ []) (range_with_len first count)))) result }
 {
-    let mut len = 0;
+    let mut rest = left;
     for offset in 0..count {
-        len += mark_len(outside) + point_len(first + offset as u32) + 1;
+        rest = left_after_point(source, first + offset as u32, rest)?;
     }
-    len
+    Some(rest)
+}
+
+/// How many bytes are left behind a source with this code point, and one byte more: that of the line feed.
+fn left_after_point(source: &Mapped, point: u32, left: usize) -> Option<usize>
+    ensures { IsLeft left (length (mapped_text (with_point (form_of source.now) point) None) + 1) result }
+{
+    let rest = left.checked_sub(mark_len(source.marked) + point_len(point) + 1)?;
+    left_after_names(source, rest)
 }
 
 /// How many bytes a code point has.

@@ -14,6 +14,7 @@ pub mod laws;
 mod lengths;
 mod place;
 pub mod place_laws;
+mod place_names;
 mod places;
 mod reading;
 mod rows;

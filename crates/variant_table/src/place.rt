@@ -7,14 +7,16 @@ ghost use Rattle.idn_text.specs.Lines.{raw_lines};
 ghost use Rattle.variant_table.specs.FaultPlaces as places;
 ghost use Rattle.variant_table.specs.FaultPlaces.{is_bad_point as is_bad, line_at as line_of};
 ghost use Rattle.variant_table.specs.Ranges.{range_size};
-ghost use Rattle.variant_table.specs.inner.PlaceSteps.{sequences_of};
+ghost use Rattle.variant_table.specs.inner.PlaceSteps.{lines_of, sequences_of};
 
 use crate::fault::TableFault;
+use crate::place_names::LinesBefore;
 use crate::version::{Notation, Version, head_of};
 use idn_class::{Class, class_of};
 use idn_text::{TextLines, without_carriage_return};
 use ruleset_text::{
-    EntryForm, EntryParts, LinePoint, Mapped, WrongPlace, line_points, read_entry, without_blanks,
+    EntryForm, EntryParts, LinePoint, Mapped, WrongPlace, definition_points, line_points,
+    name_place, read_entry, unknown_name, unknown_set, without_blanks, wrong_definition,
     wrong_place,
 };
 use std::alloc::{AllocError, Global};
@@ -42,8 +44,8 @@ pub enum FaultPlace {
     SeventeenthVariant(usize, u32),
 }
 
-/// Where the line of a fault of this text has it, if a place is told: none in a text that lacks its version, in a line of version
-/// 3 that begins with `%` and isn't too long, or where the line goes past no limit of its own, as the one entry too many.
+/// Where the line of a fault of this text has it, if a place is told: none in a text that lacks its version, and where no part of
+/// the line goes past a limit, as of an entry too many, of a text that is too long, or of atoms and `*` in a pattern.
 #[tactic(auto, unfolding(crate::specs::FaultPlaces::fault_place))]
 pub fn fault_place(
     alloc: Global,
@@ -57,7 +59,7 @@ pub fn fault_place(
         return Ok(None);
     };
     match faulty_line(text, fault) {
-        Some(line) => line_place(alloc, head.version, fault, line),
+        Some(line) => line_place(alloc, head.version, &before_fault(text, fault), fault, line),
         None => Ok(None),
     }
 }
@@ -93,32 +95,51 @@ fn line_at(text: &[u8], number: Option<u64>) -> Option<&[u8]>
     TextLines::new(text).nth(number.saturating_sub(1) as usize)
 }
 
+/// The lines before that of a fault.
+fn before_fault(text: &[u8], fault: TableFault) -> LinesBefore<'_>
+    ensures { lines_of result ≡ places.lines_before (raw_lines text.now) (places.line_number fault) }
+{
+    let count = match line_number(fault) {
+        Some(number) => number.saturating_sub(1),
+        None => 0,
+    };
+    LinesBefore { text, count }
+}
+
 /// The place in a line as it stands in the text.
 fn line_place(
     alloc: Global,
     version: Version,
+    before: &LinesBefore<'_>,
     fault: TableFault,
     line: &[u8],
 ) -> Result<Option<FaultPlace>, AllocError>
-    ensures { IfOk result (λ place. place ≡ places.line_place version fault line.now) }
+    ensures { IfOk result (λ place. place ≡ places.line_place version (lines_of before.now) fault line.now) }
 {
     if line.len() > version.line_limit() {
         return Ok(Some(FaultPlace::Byte(version.line_limit())));
     }
-    body_place(alloc, version, fault, without_carriage_return(line))
+    body_place(alloc, version, before, fault, without_carriage_return(line))
 }
 
 fn body_place(
     alloc: Global,
     version: Version,
+    before: &LinesBefore<'_>,
     fault: TableFault,
     line: &[u8],
 ) -> Result<Option<FaultPlace>, AllocError>
-    ensures { IfOk result (λ place. place ≡ places.body_place version fault line.now) }
+    ensures { IfOk result (λ place. place ≡ places.body_place version (lines_of before.now) fault line.now) }
 {
     match fault {
         TableFault::Syntax { line: _ } => syntax_place(alloc, version, line),
-        _ => entry_place(alloc, fault, line),
+        _ => {
+            if defines(version, line) {
+                definition_place(alloc, before, fault, line)
+            } else {
+                other_place(alloc, before, fault, line)
+            }
+        }
     }
 }
 
@@ -130,10 +151,51 @@ fn syntax_place(
 ) -> Result<Option<FaultPlace>, AllocError>
     ensures { IfOk result (λ place. place ≡ places.syntax_place version line.now) }
 {
-    if is_no_entry(version, line) {
-        return Ok(None);
+    if defines(version, line) {
+        return Ok(as_fault(wrong_definition(line)));
     }
     Ok(as_fault(wrong_place(alloc, parts_of(version), line)?))
+}
+
+/// The place in a line that is to define something: the name that none of the lines before has, or that one has; the first code
+/// point that no table may hold; what is past a limit.
+fn definition_place(
+    alloc: Global,
+    before: &LinesBefore<'_>,
+    fault: TableFault,
+    line: &[u8],
+) -> Result<Option<FaultPlace>, AllocError>
+    ensures { IfOk result (λ place. place ≡ places.definition_place (lines_of before.now) fault line.now) }
+{
+    match fault {
+        TableFault::NoSuchName { line: _ } => {
+            let sets = before.names_defined(alloc, b"%set")?;
+            Ok(as_fault(unknown_set(&sets, line)))
+        }
+        TableFault::SameName { line: _ } => Ok(as_fault(name_place(line))),
+        TableFault::BadClass { line: _ } => point_place(alloc, &definition_points(alloc, line)?),
+        TableFault::Limit { line: _ } => Ok(as_fault(before.limit_place(line))),
+        _ => Ok(None),
+    }
+}
+
+/// The place in the line of an entry or of a range.
+fn other_place(
+    alloc: Global,
+    before: &LinesBefore<'_>,
+    fault: TableFault,
+    line: &[u8],
+) -> Result<Option<FaultPlace>, AllocError>
+    ensures { IfOk result (λ place. place ≡ places.other_place (lines_of before.now) fault line.now) }
+{
+    match fault {
+        TableFault::NoSuchName { line: _ } => {
+            let tags = before.names_defined(alloc, b"%tag")?;
+            let rules = before.names_defined(alloc, b"%rule")?;
+            Ok(as_fault(unknown_name(&tags, &rules, line)))
+        }
+        _ => entry_place(alloc, fault, line),
+    }
 }
 
 fn as_fault(place: Option<WrongPlace>) -> Option<FaultPlace>
@@ -159,12 +221,13 @@ fn parts_of(version: Version) -> EntryParts
         outside,
         blocked,
         ranges,
+        named: false,
     }
 }
 
-/// Whether a line begins with `%` in version 3: it would be none of an entry.
-fn is_no_entry(version: Version, line: &[u8]) -> bool
-    ensures { result ≡ places.is_no_entry version line.now }
+/// Whether a line begins with `%` in version 3: it is to define something.
+fn defines(version: Version, line: &[u8]) -> bool
+    ensures { result ≡ places.defines version line.now }
 {
     match version {
         Version::One | Version::Two => false,
@@ -181,7 +244,7 @@ fn begins_in_percent(line: &[u8]) -> bool
     }
 }
 
-/// The place in the line of an entry or of a range.
+/// The same of a fault that goes by no name.
 fn entry_place(
     alloc: Global,
     fault: TableFault,

@@ -1,23 +1,23 @@
 //! Reading the definitions and entries of a text, line by line.
-ghost use Rattle.std.specs.Prelude.{◌≡◌, ◌+◌, ◌<◌, ◌≤◌, ◌^◌, [], ◌∷◌, length, map, OnOk, slice_index};
+ghost use Rattle.std.specs.Prelude.{◌≡◌, ◌+◌, ◌<◌, ◌≤◌, ◌^◌, [], Some, None, length, map, OnOk};
 ghost use Rattle.std.specs.List.{range_with_len};
-ghost use Rattle.variant_table.specs.inner.Held.{HasNoEmptySequence, IsCounted};
+ghost use Rattle.variant_table.specs.inner.Held.{IsCounted};
 ghost use Rattle.ruleset_text.specs.EntryForms.{mapped as form_of};
-ghost use Rattle.variant_table.specs.Forms.{entry_of};
+ghost use Rattle.ruleset_text.specs.EntryText.{IsForm};
 ghost use Rattle.variant_table.specs.Limits.{text_limit};
-ghost use Rattle.variant_table.specs.Ranges.{point_entry, range_entries};
+ghost use Rattle.variant_table.specs.Ranges.{entry_in_range};
 ghost use Rattle.ruleset_text.specs.Definitions.{nothing_defined};
 ghost use Rattle.ruleset_text.specs.Lexemes.{lexemes};
 ghost use Rattle.variant_table.specs.declared.version.Version.TheVariants.{Three};
-ghost use Rattle.variant_table.specs.Entries.{TableValue, table_of};
-ghost use Rattle.variant_table.specs.Reading.{with_definition, with_entries, with_entry_words, with_line, with_raw_line, table_of_text, is_skipped as is_skipped_line};
+ghost use Rattle.variant_table.specs.Entries.{entry_from, source_of, table_of};
+ghost use Rattle.variant_table.specs.Reading.{with_definition, with_form, with_entry_words, with_line, with_raw_line, table_of_text, is_skipped as is_skipped_line};
 ghost use Rattle.variant_table.specs.inner.ReadingSteps.{Leaves, Reads, with_new_sources};
 
 use crate::checks::{has_bad_class, has_bad_class_in, has_repeat, is_too_large};
 use crate::definition_lines::{fault_in, keyword_in};
 use crate::fault::TableFault;
 use crate::forms::{has_form, take_sequences};
-use crate::lengths::{entry_len, range_len};
+use crate::lengths::{left_after_entry, left_after_range};
 use crate::rows::Rows;
 use crate::sequences::Sequences;
 use crate::version::{Notation, Version, head_of};
@@ -65,8 +65,8 @@ struct Reader {
     sequences: Sequences,
     definitions: Definitions,
     rows: Rows,
-    /// The bytes of the canonical text so far, where the version limits them.
-    written: usize,
+    /// How many bytes the canonical text may have more, where the version limits them.
+    left: usize,
 }
 
 impl Reader {
@@ -75,7 +75,7 @@ impl Reader {
         ensures version { result.version ≡ version }
         ensures definitions { result.definitions ≡ nothing_defined }
         ensures rows { result.rows ≡ [] }
-        ensures counted { IsCounted result.version result.definitions result.written result.rows }
+        ensures counted { IsCounted result.version result.definitions result.left result.rows }
     {
         Reader {
             alloc,
@@ -83,7 +83,7 @@ impl Reader {
             sequences: Sequences::new(alloc),
             definitions: Definitions::new(alloc),
             rows: Rows::new(alloc),
-            written: version.head().len(),
+            left: left_behind_head(version),
         }
     }
 
@@ -91,10 +91,10 @@ impl Reader {
     #[tactic(auto, unfolding(crate::specs::Reading::with_raw_line))]
     fn add_raw_line(&mut self, number: u64, bytes: usize, line: &[u8]) -> Result<(), TableFault>
         requires bytes { bytes ≤ text_limit self.old.version }
-        requires counted { IsCounted self.old.version self.old.definitions self.old.written self.old.rows }
+        requires counted { IsCounted self.old.version self.old.definitions self.old.left self.old.rows }
         ensures read { Leaves number result (table_of self.old.version self.new.definitions self.new.rows) (with_raw_line bytes (table_of self.old.version self.old.definitions self.old.rows) line.now) }
         ensures within { OnOk result (bytes + length line.now + 1 ≤ text_limit self.old.version) }
-        ensures counted { OnOk result (IsCounted self.old.version self.new.definitions self.new.written self.new.rows) }
+        ensures counted { OnOk result (IsCounted self.old.version self.new.definitions self.new.left self.new.rows) }
         ensures version { self.new.version ≡ self.old.version }
     {
         let version = self.version;
@@ -107,9 +107,9 @@ impl Reader {
     /// Adds what the line of this number says.
     #[tactic(auto, unfolding(crate::specs::Reading::with_line))]
     fn add_line(&mut self, number: u64, line: &[u8]) -> Result<(), TableFault>
-        requires { IsCounted self.old.version self.old.definitions self.old.written self.old.rows }
+        requires { IsCounted self.old.version self.old.definitions self.old.left self.old.rows }
         ensures read { Leaves number result (table_of self.old.version self.new.definitions self.new.rows) (with_line (table_of self.old.version self.old.definitions self.old.rows) line.now) }
-        ensures counted { OnOk result (IsCounted self.old.version self.new.definitions self.new.written self.new.rows) }
+        ensures counted { OnOk result (IsCounted self.old.version self.new.definitions self.new.left self.new.rows) }
         ensures version { self.new.version ≡ self.old.version }
     {
         if is_skipped(line) {
@@ -130,16 +130,15 @@ impl Reader {
         behind: &[u8],
     ) -> Result<(), TableFault>
         requires ruleset { self.old.version ≡ Three }
-        requires counted { IsCounted self.old.version self.old.definitions self.old.written self.old.rows }
+        requires counted { IsCounted self.old.version self.old.definitions self.old.left self.old.rows }
         ensures read { Leaves number result (table_of self.old.version self.new.definitions self.new.rows) (with_definition (table_of self.old.version self.old.definitions self.old.rows) keyword (lexemes behind.now)) }
-        ensures counted { OnOk result (IsCounted self.old.version self.new.definitions self.new.written self.new.rows) }
+        ensures counted { OnOk result (IsCounted self.old.version self.new.definitions self.new.left self.new.rows) }
         ensures version { self.new.version ≡ self.old.version }
     {
-        let others = self.written - self.definitions.canonical_len();
-        let room = self.version.text_limit() - others;
+        let room = self.left + self.definitions.canonical_len();
         match self.definitions.define(self.alloc, room, keyword, behind) {
             Ok(()) => {
-                self.written = others + self.definitions.canonical_len();
+                self.left = room - self.definitions.canonical_len();
                 Ok(())
             }
             Err(fault) => Err(fault_in(number, fault)),
@@ -148,9 +147,9 @@ impl Reader {
 
     /// Adds the entries that the line of this number spells, if they are without a fault.
     fn add_entries(&mut self, number: u64, line: &[u8]) -> Result<(), TableFault>
-        requires { IsCounted self.old.version self.old.definitions self.old.written self.old.rows }
+        requires { IsCounted self.old.version self.old.definitions self.old.left self.old.rows }
         ensures read { Leaves number result self.new.rows (with_entry_words self.old.version self.old.definitions self.old.rows (lexemes line.now)) }
-        ensures counted { OnOk result (IsCounted self.old.version self.new.definitions self.new.written self.new.rows) }
+        ensures counted { OnOk result (IsCounted self.old.version self.new.definitions self.new.left self.new.rows) }
         ensures version { self.new.version ≡ self.old.version }
         ensures definitions { self.new.definitions ≡ self.old.definitions }
     {
@@ -162,30 +161,29 @@ impl Reader {
         }
         match form.last {
             None => self.add_entry(number, &form.mapped),
-            Some(last) => self.add_range(number, &form.mapped[0], last),
+            Some(last) => self.add_range(number, &form.mapped, last),
         }
     }
 
     /// Adds the entry of a source and its variants, unless it has a fault.
-    #[tactic(auto, unfolding(crate::specs::Reading::with_entries))]
     fn add_entry(&mut self, number: u64, mapped: &[Mapped]) -> Result<(), TableFault>
-        requires some { 0 < length mapped.now }
-        requires filled { HasNoEmptySequence (entry_of (map form_of mapped.now)) }
-        requires counted { IsCounted self.old.version self.old.definitions self.old.written self.old.rows }
-        ensures read { Leaves number result self.new.rows (with_entries self.old.version self.old.definitions self.old.rows (entry_of (map form_of mapped.now) ∷ [])) }
-        ensures counted { OnOk result (IsCounted self.old.version self.new.definitions self.new.written self.new.rows) }
+        requires form { IsForm (map form_of mapped.now) None }
+        requires counted { IsCounted self.old.version self.old.definitions self.old.left self.old.rows }
+        ensures read { Leaves number result self.new.rows (with_form self.old.version self.old.definitions self.old.rows (record { mapped = map form_of mapped.now; last = None })) }
+        ensures counted { OnOk result (IsCounted self.old.version self.new.definitions self.new.left self.new.rows) }
         ensures version { self.new.version ≡ self.old.version }
         ensures definitions { self.new.definitions ≡ self.old.definitions }
     {
-        take_sequences(&mut self.sequences, mapped)?;
+        if self.rows.len() >= self.version.entry_limit() || is_too_large(mapped) {
+            return Err(TableFault::Limit { line: number });
+        }
+        let Some(left) = left_after_entry(self.version, mapped, self.left) else {
+            return Err(TableFault::Limit { line: number });
+        };
+        if !take_sequences(&mut self.sequences, &self.definitions, mapped)? {
+            return Err(TableFault::NoSuchName { line: number });
+        }
         let sequences = &self.sequences;
-        if self.rows.len() >= self.version.entry_limit() || is_too_large(sequences) {
-            return Err(TableFault::Limit { line: number });
-        }
-        let written = self.written + entry_len(self.version, sequences);
-        if written > self.version.text_limit() {
-            return Err(TableFault::Limit { line: number });
-        }
         if has_bad_class(self.alloc, sequences)? {
             return Err(TableFault::BadClass { line: number });
         }
@@ -193,75 +191,79 @@ impl Reader {
             return Err(TableFault::SameVariant { line: number });
         }
         self.rows.push(number, sequences)?;
-        self.written = written;
+        self.left = left;
         Ok(())
     }
 
     /// Adds the entries of a range from its source, one code point, to the last code point, unless one has a fault.
-    #[tactic(auto, unfolding(crate::specs::Reading::with_entries))]
-    fn add_range(&mut self, number: u64, source: &Mapped, last: u32) -> Result<(), TableFault>
-        requires first { slice_index source.now.points.items 0 ≤ last }
-        requires some { 0 < length source.now.points.items }
-        requires counted { IsCounted self.old.version self.old.definitions self.old.written self.old.rows }
-        ensures read { Leaves number result self.new.rows (with_entries self.old.version self.old.definitions self.old.rows (range_entries source.now.marked (slice_index source.now.points.items 0) last)) }
-        ensures counted { OnOk result (IsCounted self.old.version self.new.definitions self.new.written self.new.rows) }
+    fn add_range(&mut self, number: u64, mapped: &[Mapped], last: u32) -> Result<(), TableFault>
+        requires form { IsForm (map form_of mapped.now) (Some last) }
+        requires counted { IsCounted self.old.version self.old.definitions self.old.left self.old.rows }
+        ensures read { Leaves number result self.new.rows (with_form self.old.version self.old.definitions self.old.rows (record { mapped = map form_of mapped.now; last = Some last })) }
+        ensures counted { OnOk result (IsCounted self.old.version self.new.definitions self.new.left self.new.rows) }
         ensures version { self.new.version ≡ self.old.version }
         ensures definitions { self.new.definitions ≡ self.old.definitions }
     {
+        let source = &mapped[0];
         let first = source.points[0];
-        self.add_points(number, source.marked, first, (last - first) as usize + 1)
-    }
-
-    /// Adds the entries of `count` code points, from `first` on, outside or not, unless one has a fault.
-    #[tactic(auto, unfolding(crate::specs::Reading::with_entries))]
-    fn add_points(
-        &mut self,
-        number: u64,
-        outside: bool,
-        first: u32,
-        count: usize,
-    ) -> Result<(), TableFault>
-        requires last { first + count ≤ 2 ^ 32 }
-        requires counted { IsCounted self.old.version self.old.definitions self.old.written self.old.rows }
-        ensures read { Leaves number result self.new.rows (with_entries self.old.version self.old.definitions self.old.rows (map (point_entry outside) (range_with_len first count))) }
-        ensures counted { OnOk result (IsCounted self.old.version self.new.definitions self.new.written self.new.rows) }
-        ensures version { self.new.version ≡ self.old.version }
-        ensures definitions { self.new.definitions ≡ self.old.definitions }
-    {
+        let count = (last - first) as usize + 1;
         let limit = self.version.entry_limit();
         if count > limit || self.rows.len() > limit - count {
             return Err(TableFault::Limit { line: number });
         }
-        let written = self.written + range_len(self.version, outside, first, count);
-        if written > self.version.text_limit() {
+        let Some(left) = left_after_range(self.version, source, first, count, self.left) else {
             return Err(TableFault::Limit { line: number });
+        };
+        if !take_sequences(&mut self.sequences, &self.definitions, mapped)? {
+            return Err(TableFault::NoSuchName { line: number });
         }
         if has_bad_class_in(self.alloc, first, count)? {
             return Err(TableFault::BadClass { line: number });
         }
-        push_points(self.alloc, &mut self.rows, number, outside, first, count)?;
-        self.written = written;
+        push_points(
+            self.alloc,
+            &mut self.rows,
+            number,
+            &self.sequences,
+            first,
+            count,
+        )?;
+        self.left = left;
         Ok(())
     }
 }
 
-/// Adds the entries of `count` code points, from `first` on, outside or not, if their sources are new.
+/// How many bytes a canonical text may have behind its version line, where the version limits them.
+fn left_behind_head(version: Version) -> usize
+    ensures { IsCounted version nothing_defined result [] }
+{
+    version.text_limit() - version.head().len()
+}
+
+/// Adds the entries of `count` code points, from `first` on, with the mark, the tags and the condition of the first of the
+/// sequences, if their sources are new.
 fn push_points(
     alloc: Global,
     rows: &mut Rows,
     number: u64,
-    outside: bool,
+    range: &Sequences,
     first: u32,
     count: usize,
 ) -> Result<(), TableFault>
+    requires some { 0 < length range.now }
     requires last { first + count ≤ 2 ^ 32 }
     requires room { length rows.old + count ≤ 65536 }
-    ensures { Leaves number result rows.new (with_new_sources rows.old (map (point_entry outside) (range_with_len first count))) }
+    ensures { Leaves number result rows.new (with_new_sources rows.old (map (entry_in_range (source_of (entry_from range.now))) (range_with_len first count))) }
 {
     let mut sequences = Sequences::new(alloc);
     for offset in 0..count {
         sequences.clear();
-        sequences.push(&[first + offset as u32], outside, &[], None)?;
+        sequences.push(
+            &[first + offset as u32],
+            range.is_blocked(0),
+            range.tags(0),
+            range.condition(0),
+        )?;
         rows.push(number, &sequences)?;
     }
     Ok(())

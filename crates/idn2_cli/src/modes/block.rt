@@ -23,6 +23,7 @@ ghost use Rattle.idn2_cli.specs.inner.LineAnswers.{reaches};
 ghost use Rattle.idn2_cli.specs.inner.Emitting.{Emits, StopsForMemory};
 ghost use Rattle.idn2_cli.specs.declared.output.stop.Stop.TheVariants as stop;
 
+use crate::modes::allocations::Allocations;
 use crate::modes::dispositions::Dispositions;
 use crate::modes::kept_line::KeptLine;
 use crate::output::asked::Asked;
@@ -38,7 +39,7 @@ use idn_text::{MAX_LINE_LEN, Refusal, Sink};
 use idn2_options::{Form, Options};
 use itoa::Buffer;
 use std::alloc::{AllocError, Global};
-use variant_list::{Cursor, Judge, Net, Outcome, SpellingTest, Verdict};
+use variant_list::{Cursor, Judge, Net, Outcome, Verdict};
 
 /// Writes the block of a net's label, with all its variants.
 pub(crate) fn write_block<W: Sink, E: Sink>(
@@ -46,7 +47,7 @@ pub(crate) fn write_block<W: Sink, E: Sink>(
     asked: &Asked<'_>,
     options: &Options,
     net: &Net,
-    dispositions: &mut Dispositions<SpellingTest>,
+    dispositions: &mut Dispositions<Allocations>,
     console: &mut Console<'_, '_, W, E>,
 ) -> Result<(), Stop>
     requires few { length asked.now.text.now ≤ MAX_LINE_LEN }

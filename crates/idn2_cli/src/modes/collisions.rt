@@ -11,6 +11,7 @@ ghost use Rattle.idn2_cli.specs.inner.Dispositions.{block_by, field_by};
 ghost use Rattle.idn2_cli.specs.inner.Emitting.{Emits};
 ghost use Rattle.idn2_cli.specs.declared.output.stop.Stop.TheVariants as stop;
 
+use crate::modes::allocations::Allocations;
 use crate::modes::block::{is_reached, write_end, write_stop, write_variant};
 use crate::modes::dispositions::Dispositions;
 use crate::modes::kept_line::KeptLine;
@@ -22,7 +23,7 @@ use idn_text::{MAX_LINE_LEN, Sink};
 use idn2_options::Options;
 use registered_labels::{Collisions, RegisteredLabels};
 use std::alloc::Global;
-use variant_list::{Net, SpellingTest};
+use variant_list::Net;
 
 /// Writes the block of a net's label, with those of its variants that are registered. It goes from one of them to the next
 /// and tests no candidate, since what is registered may be.
@@ -32,7 +33,7 @@ pub(crate) fn write_collisions<W: Sink, E: Sink>(
     options: &Options,
     net: &Net,
     registered: &RegisteredLabels<'_>,
-    dispositions: &mut Dispositions<SpellingTest>,
+    dispositions: &mut Dispositions<Allocations>,
     console: &mut Console<'_, '_, W, E>,
 ) -> Result<(), Stop>
     requires few { length asked.now.text.now ≤ MAX_LINE_LEN }

@@ -5,24 +5,24 @@ ghost use Rattle.valid_labels.specs.Segmentations.{HasSegmentation};
 ghost use Rattle.idn2_cli.specs.Answers.{allocation};
 ghost use Rattle.idn2_cli.specs.inner.Dispositions.{AreOfTable, AreOfLabel, field_by};
 
+use crate::modes::allocations::{Allocations, SubTables};
 use answer_json::Disposition;
 use std::alloc::{AllocError, Global};
-use variant_list::{Net, NetFault, Part, SpellingTest};
 use variant_table::Table;
 
-/// What tells the dispositions of variants, where need be by the part of a table that is not blocked, or by the test of
-/// what a label spells under it.
+/// What tells the dispositions of variants, where need be by the sub-tables of a table, or by the tests of what a label
+/// spells under them.
 #[derive(Drop)]
 pub(crate) enum Dispositions<T> {
     /// None is told: the table is of version 1.
     Unstated,
-    /// Each variant may be allocated: the table has no blocked one.
+    /// Each variant may be allocated: the table has no blocked one, and no tags.
     AllAllocatable,
-    /// What is spelled by this may be allocated, and nothing else.
+    /// What is spelled under one of these may be allocated, and the label itself, and nothing else.
     BySpelling(T),
 }
 
-impl Dispositions<Part> {
+impl Dispositions<SubTables> {
     /// What tells the dispositions of a table's variants.
     pub fn of_table(table: &Table) -> Self
         ensures { AreOfTable table.now result }
@@ -30,10 +30,10 @@ impl Dispositions<Part> {
         if table.version() == 1 {
             return Dispositions::Unstated;
         }
-        if !table.has_blocked() {
+        if table.tag_count() == 0 && !table.has_blocked() {
             return Dispositions::AllAllocatable;
         }
-        Dispositions::BySpelling(Part::Unblocked)
+        Dispositions::BySpelling(SubTables::of_table(table))
     }
 
     /// What tells those of the variants of a label that can be cut into sources of the table. It takes the memory for
@@ -43,7 +43,7 @@ impl Dispositions<Part> {
         alloc: Global,
         table: &Table,
         label: &[u32],
-    ) -> Result<Dispositions<SpellingTest>, AllocError>
+    ) -> Result<Dispositions<Allocations>, AllocError>
         requires some { 1 ≤ length label.now }
         requires short { length label.now ≤ 63 }
         requires table { AreOfTable table.now self.now }
@@ -53,17 +53,15 @@ impl Dispositions<Part> {
         match self {
             Dispositions::Unstated => Ok(Dispositions::Unstated),
             Dispositions::AllAllocatable => Ok(Dispositions::AllAllocatable),
-            Dispositions::BySpelling(part) => match Net::of_part(alloc, table, *part, label) {
-                Ok(net) => Ok(Dispositions::BySpelling(SpellingTest::new(alloc, net)?)),
-                Err(NetFault::Memory) => Err(AllocError),
-                // No source is blocked, so the label spells itself.
-                Err(NetFault::NothingSpelled) => unreachable!(),
-            },
+            Dispositions::BySpelling(sub_tables) => {
+                let allowed = Allocations::of_label(alloc, table, *sub_tables, label)?;
+                Ok(Dispositions::BySpelling(allowed))
+            }
         }
     }
 }
 
-impl Dispositions<SpellingTest> {
+impl Dispositions<Allocations> {
     /// The disposition of a variant, if any is told. Takes no memory.
     #[inline]
     pub fn of_variant(&mut self, variant: &[u32]) -> Option<Disposition>
@@ -73,7 +71,7 @@ impl Dispositions<SpellingTest> {
         match self {
             Dispositions::Unstated => None,
             Dispositions::AllAllocatable => Some(disposition_of(true)),
-            Dispositions::BySpelling(test) => Some(disposition_of(test.spells(variant))),
+            Dispositions::BySpelling(allowed) => Some(disposition_of(allowed.allow(variant))),
         }
     }
 }

@@ -18,6 +18,7 @@ ghost use Rattle.idn2_cli.specs.inner.Emitting.{Emits, StopsForMemory};
 ghost use Rattle.idn2_cli.specs.inner.LineAnswers.{KeepsIfRefused, refusal_in, reply_pieces};
 ghost use Rattle.idn2_cli.specs.inner.ServedLines.{result_of};
 
+use crate::modes::allocations::{Allocations, SubTables};
 use crate::modes::answering::{Served, answered, refused};
 use crate::modes::block::write_block;
 use crate::modes::code_points::PointAnswering;
@@ -31,7 +32,7 @@ use idn_text::{MAX_LINE_LEN, Refusal, Sink};
 use idn2_options::Options;
 use registered_labels::RegisteredLabels;
 use std::alloc::Global;
-use variant_list::{Net, NetFault, Part, SpellingTest};
+use variant_list::{Net, NetFault};
 use variant_table::Table;
 
 /// The listing of variants by a table (RFC 7940 section 8). The options say after which text it
@@ -39,7 +40,7 @@ use variant_table::Table;
 #[derive(Drop)]
 pub(crate) struct Variants<'t, 'r, 'b> {
     pub table: &'t Table,
-    pub dispositions: &'t Dispositions<Part>,
+    pub dispositions: &'t Dispositions<SubTables>,
     pub options: &'t Options,
     pub registered: Option<&'r RegisteredLabels<'b>>,
 }
@@ -76,7 +77,7 @@ fn write_lines<W: Sink, E: Sink>(
     mode: &Variants<'_, '_, '_>,
     asked: &Asked<'_>,
     net: &Net,
-    dispositions: &mut Dispositions<SpellingTest>,
+    dispositions: &mut Dispositions<Allocations>,
     console: &mut Console<'_, '_, W, E>,
 ) -> Result<(), Stop>
     requires few { length asked.now.text.now ≤ MAX_LINE_LEN }

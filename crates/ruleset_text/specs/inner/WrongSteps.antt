@@ -14,9 +14,9 @@ abbrev pub is_lacking : EntryParts → Bool → EntryWord → Bool
 is_lacking parts true word.Mark = not parts.outside
 is_lacking parts false word.Mark = not parts.blocked
 is_lacking parts first word.Range = not parts.ranges
-is_lacking parts first word.As = true
-is_lacking parts first word.When = true
-is_lacking parts first word.Unless = true
+is_lacking parts first word.As = not parts.named
+is_lacking parts first word.When = not parts.named
+is_lacking parts first word.Unless = not parts.named
 is_lacking parts first e = false
 
 -- the state with a lexeme more, if it may stand there

@@ -1,14 +1,19 @@
 -- How a table lies in memory: sequences are parts of one vector of code points, entries are parts of the sequences.
-use Rattle.std.specs.Prelude.{◌≡◌, ℕ, ◌<◌, ◌≤◌, List, length, map, All}
+use Rattle.std.specs.Prelude.{◌≡◌, ℕ, ◌+◌, ◌<◌, ◌≤◌, Option, Some, None, List, length, map, All}
 use Rattle.std.specs.List.{AllByRecursion, slice_range}
+use Rattle.label_patterns.specs.declared.condition.Condition.{Condition}
+use Rattle.ruleset_text.specs.declared.entry_form.NamedCondition.{NamedCondition}
 use Rattle.ruleset_text.specs.Definitions.{Definitions}
+use Rattle.ruleset_text.specs.Entries.{Mapped}
 use Rattle.variant_table.specs.declared.sequences.Span.{Span}
 use Rattle.variant_table.specs.declared.sequences.Part.{Part}
-use Rattle.variant_table.specs.Entries.{Variant, Entry, entry_from, replacements}
+use Rattle.variant_table.specs.Entries.{Variant, Entry, entry_from}
 use Rattle.variant_table.specs.declared.version.Version.{Version}
 use Rattle.variant_table.specs.declared.version.Version.TheVariants.{One, Two, Three}
 use Rattle.variant_table.specs.Canonical.{table_text}
+use Rattle.variant_table.specs.Forms.{name_at}
 use Rattle.variant_table.specs.Limits.{text_limit}
+use Rattle.variant_table.specs.WellFormed.{IsNamed}
 
 -- the part of a list that a span names
 abbrev pub part_at : {X : Type 0} → List X → Span → List X
@@ -42,9 +47,9 @@ entry_at sequences s = entry_from (part_at sequences s)
 abbrev pub entries_of : List Variant → List Span → List Entry
 entries_of sequences spans = map (entry_at sequences) spans
 
--- no sequence of the entry is empty
-abbrev pub HasNoEmptySequence : Entry → Type 0
-HasNoEmptySequence e = AllByRecursion (λ s. 0 < length s) (replacements e)
+-- none of the sequences is empty
+abbrev pub HasNoEmptySequence : List Mapped → Type 0
+HasNoEmptySequence entry = AllByRecursion (λ m. 0 < length m.points) entry
 
 -- how many bytes of a canonical text are counted: none in version 1, which doesn't limit them
 abbrev pub counted : Version → List ℕ → ℕ
@@ -52,7 +57,16 @@ counted One text = 0
 counted Two text = length text
 counted Three text = length text
 
--- so many bytes are counted of the canonical text of a table, and they are within the limit
-pub record IsCounted (version : Version) (definitions : Definitions) (written : ℕ) (table : List Entry) : Type 0 where
-  pub count : written ≡ counted version (table_text version definitions table)
-  pub within : written ≤ text_limit version
+-- the canonical text of a table may have so many bytes more, where the version limits them; and the names of its entries are defined
+pub record IsCounted (version : Version) (definitions : Definitions) (left : ℕ) (table : List Entry) : Type 0 where
+  pub count : counted version (table_text version definitions table) + left ≡ text_limit version
+  pub named : AllByRecursion (IsNamed definitions) table
+
+-- what is left of so many bytes behind others: nothing, if these are more
+abbrev pub IsLeft : ℕ → ℕ → Option ℕ → Type 0
+IsLeft left count None = left < count
+IsLeft left count (Some rest) = count + rest ≡ left
+
+-- a condition by the name of its rule, which is one of these
+abbrev pub named_in : List (List ℕ) → Condition → NamedCondition
+named_in names c = record { kind = c.kind; rule = name_at names c.rule }

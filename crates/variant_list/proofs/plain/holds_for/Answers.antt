@@ -14,7 +14,7 @@ use Rattle.variant_list.proofs.plain.holds_for.Goals as goal
 pub condition_holds-requires-clause-known : goal.condition_holds-requires-clause-known
 condition_holds-requires-clause-known c =
     let d : Definitions = c.definitions.result.now in
-    let sets : d.sets ≡ c.args.seen.now.sets = ap (λ (x : Definitions). x.sets) c.definitions.ensures ∙ sym (ap (λ (s : Seen). s.sets) c.requires.seen) in
+    let sets : d.sets ≡ c.args.seen.now.sets = ap (λ (x : Definitions). x.sets) c.definitions.ensures.is ∙ sym (ap (λ (s : Seen). s.sets) c.requires.seen) in
     subst (AllByRecursion (HasItsSets (length c.args.seen.now.sets))) (sym c.rules-rules.ensures.is)
     (subst (λ n. AllByRecursion (HasItsSets n) d.rules) (ap length sets) c.rules-rules.ensures.known)
 
@@ -26,7 +26,7 @@ returns c = λ r at.
     let place : ℕ = c.args.place in
     let asked : Option Condition = c.condition.result in
     let told : Bool = c.condition_holds.result in
-    let rules = c.rules-rules.ensures.is ∙ ap (λ (x : Definitions). x.rules) c.definitions.ensures in
+    let rules = c.rules-rules.ensures.is ∙ ap (λ (x : Definitions). x.rules) c.definitions.ensures.is in
     let holds : IsTrue told ↔ ConditionHolds table.definitions.rules (seen_under table label) asked place (place + length e.source) =
     subst (λ (s : List ℕ). IsTrue told ↔ ConditionHolds table.definitions.rules (seen_under table label) asked place (place + length s)) c.source.ensures
     (subst (λ (s : Seen). IsTrue told ↔ ConditionHolds table.definitions.rules s asked place (place + length c.source.result.now)) c.requires.seen

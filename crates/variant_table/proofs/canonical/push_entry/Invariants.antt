@@ -1,9 +1,10 @@
-use Rattle.std.proofs.Common.{◌≡◌, ◌++◌, ◌-◌, take}
-use Rattle.variant_table.proofs.WritingLemmas.{variants_text}
+use Rattle.std.proofs.Common.{◌≡◌, ◌++◌, ◌-◌, map, take}
+use Rattle.variant_table.specs.Entries.{source_of}
+use Rattle.variant_table.specs.Forms.{mapped_of}
+use Rattle.variant_table.proofs.WritingLemmas.{piece_text, pieces_text}
 use Rattle.variant_table.proofs.canonical.push_entry.Given as goal
-use Rattle.ruleset_text.specs.EntryText.{sequence_text}
-use Rattle.ruleset_text.specs.EntryText.{mark_text}
 
 -- the source and the variants so far
 abbrev pub invariant-loop-number : goal.invariant-loop-number
-invariant-loop-number l = l.out.items ≡ l.fn.out.items ++ ((mark_text l.entry.outside ++ sequence_text l.entry.source) ++ variants_text (take (l.number - 1) l.entry.variants))
+invariant-loop-number l =
+    l.out.items ≡ l.fn.out.items ++ (piece_text (mapped_of l.definitions (source_of l.entry)) ++ pieces_text (take (l.number - 1) (map (mapped_of l.definitions) l.entry.variants)))

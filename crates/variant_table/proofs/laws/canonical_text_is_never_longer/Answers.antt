@@ -1,5 +1,5 @@
 use Rattle.idn_text.specs.Lines.{raw_lines}
-use Rattle.variant_table.proofs.CanonicalLemmas.{length-canonical_line, length-blocked_line, length-marked_line}
+use Rattle.variant_table.proofs.CanonicalLemmas.{length-canonical_line, length-blocked_line, length-marked_line, length-named_line}
 use Rattle.variant_table.proofs.SizeLemmas.{never_longer, size_of-raw_lines}
 use Rattle.variant_table.proofs.laws.canonical_text_is_never_longer.Goals as goal
 
@@ -14,6 +14,9 @@ returns-clause-blocked c = length-blocked_line
 
 pub returns-clause-marked : goal.returns-clause-marked
 returns-clause-marked c = length-marked_line
+
+pub returns-clause-named : goal.returns-clause-named
+returns-clause-named c = length-named_line
 
 pub returns-clause-feeds : goal.returns-clause-feeds
 returns-clause-feeds c = size_of-raw_lines

@@ -1,38 +1,47 @@
 use Rattle.std.proofs.Common.{◌≡◌, ◌+◌, ◌-◌, ◌++◌, ◌∷◌, [], rules, ℕ, List, Ok, length, refl, ap, sym, subst, ◌∙◌, arith, length-append}
 use Rattle.variant_table.specs.Conditions.{has_source_in}
-use Rattle.variant_table.specs.Entries.{Entry, entry_from}
-use Rattle.variant_table.specs.Ranges.{point_entry, point_variant}
+use Rattle.variant_table.specs.Entries.{Variant, Entry, entry_from, source_of}
+use Rattle.variant_table.specs.Ranges.{entry_in_range}
 use Rattle.variant_table.specs.Reading.{◌>>=◌}
 use Rattle.variant_table.specs.inner.ReadingSteps.{Fails, with_new_source, with_new_sources}
 use Rattle.variant_table.proofs.AddingLemmas.{fails_then}
+use Rattle.variant_table.proofs.EntryLemmas.{of_source}
 use Rattle.variant_table.proofs.RangeLemmas.{points_from, points_next, added_new}
 use Rattle.variant_table.proofs.reading.push_points.Goals as goal
 
 pub returns-in_err-push-2 : goal.returns-in_err-push-2
 returns-in_err-push-2 c =
     let first : ℕ = c.args.first in
+    let v : Variant = source_of (entry_from c.args.range.now) in
+    let w : Variant = record { sequence = (first + c.loop-offset.offset) ∷ []; blocked = c.is_blocked.result; tags = c.tags.result.now; condition = c.condition.result } in
+    let here : w ≡ record v { sequence = (first + c.loop-offset.offset) ∷ [] } =
+    of_source c.args.range.now ((first + c.loop-offset.offset) ∷ []) c.is_blocked.result c.tags.result.now c.condition.result c.is_blocked.ensures c.tags.ensures.tags c.condition.ensures in
     let i : ℕ = c.loop-offset.offset in
     let t : List Entry = c.loop-offset.rows in
-    let e : Entry = point_entry c.args.outside (first + i) in
+    let e : Entry = entry_in_range v (first + i) in
     let fault = c.in_err-push-2.field-0.0 in
-    let rest : List Entry = points_from c.args.outside (first + (i + 1)) (c.args.count - (i + 1)) in
-    let is : entry_from c.push.new.self ≡ e = ap entry_from (c.in_ok-push.ensures.ok ∙ ap (λ ss. ss ++ point_variant c.args.outside (first + i) ∷ []) c.clear.ensures) in
+    let rest : List Entry = points_from v (first + (i + 1)) (c.args.count - (i + 1)) in
+    let is : entry_from c.push.new.self ≡ e = ap entry_from (c.in_ok-push.ensures.ok ∙ ap (λ ss. ss ++ w ∷ []) c.clear.ensures ∙ ap (λ x. x ∷ []) here) in
     let failed : Fails c.args.number fault (with_new_source t e) = subst (λ x. Fails c.args.number fault (with_new_source t x)) is c.in_err-push-2.ensures.read in
-    let fails : Fails c.args.number fault (with_new_sources c.args.rows.now (points_from c.args.outside first c.args.count)) =
-    subst (Fails c.args.number fault) (sym (ap (with_new_sources t) (points_next c.args.outside first c.args.count i c.loop-offset-test.true)) ∙ c.loop-offset.invariant.same) (fails_then c.args.number fault (with_new_source t e) (λ x. with_new_sources x rest) failed) in
+    let fails : Fails c.args.number fault (with_new_sources c.args.rows.now (points_from v first c.args.count)) =
+    subst (Fails c.args.number fault) (sym (ap (with_new_sources t) (points_next v first c.args.count i c.loop-offset-test.true)) ∙ c.loop-offset.invariant.same) (fails_then c.args.number fault (with_new_source t e) (λ x. with_new_sources x rest) failed) in
     search rules
 
 pub loop-offset-preserved : goal.loop-offset-preserved
 loop-offset-preserved c =
     let first : ℕ = c.args.first in
+    let v : Variant = source_of (entry_from c.args.range.now) in
+    let w : Variant = record { sequence = (first + c.loop-offset.offset) ∷ []; blocked = c.is_blocked.result; tags = c.tags.result.now; condition = c.condition.result } in
+    let here : w ≡ record v { sequence = (first + c.loop-offset.offset) ∷ [] } =
+    of_source c.args.range.now ((first + c.loop-offset.offset) ∷ []) c.is_blocked.result c.tags.result.now c.condition.result c.is_blocked.ensures c.tags.ensures.tags c.condition.ensures in
     let i : ℕ = c.loop-offset.offset in
     let t : List Entry = c.loop-offset.rows in
     let t' : List Entry = c.push-in-loop-offset.new.self in
-    let e : Entry = point_entry c.args.outside (first + i) in
-    let rest : List Entry = points_from c.args.outside (first + (i + 1)) (c.args.count - (i + 1)) in
-    let is : entry_from c.push.new.self ≡ e = ap entry_from (c.in_ok-push.ensures.ok ∙ ap (λ ss. ss ++ point_variant c.args.outside (first + i) ∷ []) c.clear.ensures) in
+    let e : Entry = entry_in_range v (first + i) in
+    let rest : List Entry = points_from v (first + (i + 1)) (c.args.count - (i + 1)) in
+    let is : entry_from c.push.new.self ≡ e = ap entry_from (c.in_ok-push.ensures.ok ∙ ap (λ ss. ss ++ w ∷ []) c.clear.ensures ∙ ap (λ x. x ∷ []) here) in
     let added : with_new_source t e ≡ Ok t' = ap (with_new_source t) (sym is) ∙ c.in_ok-push-2.ensures.read in
     record {
-      same = sym (ap (with_new_sources t) (points_next c.args.outside first c.args.count i c.loop-offset-test.true) ∙ ap (λ r. r >>= λ x. with_new_sources x rest) added) ∙ c.loop-offset.invariant.same;
+      same = sym (ap (with_new_sources t) (points_next v first c.args.count i c.loop-offset-test.true) ∙ ap (λ r. r >>= λ x. with_new_sources x rest) added) ∙ c.loop-offset.invariant.same;
       room = omega (arith, c.loop-offset.invariant.room, c.loop-offset-test.true, ap length (added_new t e (has_source_in t e) refl t' added), length-append t (e ∷ []));
     }

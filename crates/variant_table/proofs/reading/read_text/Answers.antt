@@ -25,7 +25,7 @@ loop-line-init c =
           c.new-reader.ensures.definitions c.new-reader.ensures.rows (search rules);
       within = omega (arith, c.in-Some.ensures.bytes, head_within c.args.notation c.new-reader.result.version lines);
       counted = omega (arith, c.in-Some.ensures.lines, c.in-Some.ensures.bytes, lines_counted (head_of c.args.notation lines));
-      written = c.new-reader.ensures.counted;
+      left = c.new-reader.ensures.counted;
     }
 
 pub returns-in_err-add_raw_line : goal.returns-in_err-add_raw_line
@@ -46,7 +46,7 @@ loop-line-preserved c =
           c.in-Some-line.ensures.steps c.loop-line.invariant.same u c.in_ok-add_raw_line.ensures.read;
       within = subst (λ v. c.loop-line.bytes + (length c.in-Some-line.line.now + 1) ≤ text_limit v) (sym version) (omega (arith, c.in_ok-add_raw_line.ensures.within));
       counted = omega (arith, c.loop-line.invariant.counted);
-      written = subst (λ v. IsCounted v c.add_raw_line.new.self.definitions c.add_raw_line.new.self.written c.add_raw_line.new.self.rows) (sym version) c.in_ok-add_raw_line.ensures.counted;
+      left = subst (λ v. IsCounted v c.add_raw_line.new.self.definitions c.add_raw_line.new.self.left c.add_raw_line.new.self.rows) (sym version) c.in_ok-add_raw_line.ensures.counted;
     }
 
 pub returns : goal.returns

@@ -11,5 +11,5 @@ invariant-loop-line l = record {
   same : with_lines (l.number + 1) l.bytes (table_of l.reader.version l.reader.definitions l.reader.rows) l.line-iterator ≡ table_of_text l.fn.notation l.text;
   within : l.bytes ≤ text_limit l.reader.version;
   counted : l.number ≤ l.bytes;
-  written : IsCounted l.reader.version l.reader.definitions l.reader.written l.reader.rows;
+  left : IsCounted l.reader.version l.reader.definitions l.reader.left l.reader.rows;
 }

@@ -15,6 +15,7 @@ use Rattle.answer_json.specs.declared.block.Disposition.{Disposition}
 use Rattle.idn2_cli.specs.Answers.{registrable_labels}
 use Rattle.idn2_cli.specs.Said.{Said, Listed, said_text}
 use Rattle.idn2_cli.specs.inner.Asked.{asked_line}
+use Rattle.idn2_cli.specs.inner.Allocations.{Allowed}
 use Rattle.idn2_cli.specs.inner.Dispositions.{field_by}
 use Rattle.idn2_cli.specs.inner.LineAnswers.{reaches}
 use Rattle.idn2_cli.specs.Transcript.{Output}
@@ -29,8 +30,8 @@ decided-as : (P : Type 0) (r : Result Outcome AllocError) (o x : Outcome) → r 
 decided-as P r o x is same h = subst (λ (y : Outcome). IfDecided (Ok y) P) same (subst (λ (a : Result Outcome AllocError). IfDecided a P) is h)
 
 -- the disposition is told by what does not change
-told : {field : Option Disposition} {now first : Dispositions Built} (v : List ℕ) → field ≡ field_by now v → now ≡ first → field ≡ field_by first v
-told v is same = is ∙ ap (λ (d : Dispositions Built). field_by d v) same
+told : {field : Option Disposition} {now first : Dispositions Allowed} (v : List ℕ) → field ≡ field_by now v → now ≡ first → field ≡ field_by first v
+told v is same = is ∙ ap (λ (d : Dispositions Allowed). field_by d v) same
 
 -- what is said with the same disposition
 line_is : (text : Said → List ℕ) (v : List ℕ) {f g : Option Disposition} → f ≡ g → text (Listed f v) ≡ text (Listed g v)

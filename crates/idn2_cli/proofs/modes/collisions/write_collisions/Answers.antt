@@ -9,6 +9,7 @@ use Rattle.answer_json.specs.declared.block.Disposition.{Disposition}
 use Rattle.idn2_cli.specs.Answers.{registrable_labels}
 use Rattle.idn2_cli.specs.Said.{Said, Listed, said_text}
 use Rattle.idn2_cli.specs.inner.Asked.{asked_line}
+use Rattle.idn2_cli.specs.inner.Allocations.{Allowed}
 use Rattle.idn2_cli.specs.inner.Dispositions.{field_by}
 use Rattle.idn2_cli.specs.inner.KeptLines.{IsBegun}
 use Rattle.idn2_cli.specs.declared.modes.dispositions.Dispositions.{Dispositions}
@@ -20,8 +21,8 @@ use Rattle.idn2_cli.proofs.CollisionSteps.{under_way-start, under_way-ended, und
 use Rattle.idn2_cli.proofs.modes.collisions.write_collisions.Goals as goal
 
 -- the disposition is told by what does not change
-told : {field : Option Disposition} {now first : Dispositions Built} (v : List ℕ) → field ≡ field_by now v → now ≡ first → field ≡ field_by first v
-told v is same = is ∙ ap (λ (d : Dispositions Built). field_by d v) same
+told : {field : Option Disposition} {now first : Dispositions Allowed} (v : List ℕ) → field ≡ field_by now v → now ≡ first → field ≡ field_by first v
+told v is same = is ∙ ap (λ (d : Dispositions Allowed). field_by d v) same
 
 -- what is said with the same disposition
 line_is : (text : Said → List ℕ) (v : List ℕ) {f g : Option Disposition} → f ≡ g → text (Listed f v) ≡ text (Listed g v)

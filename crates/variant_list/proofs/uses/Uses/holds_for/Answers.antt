@@ -28,7 +28,7 @@ condition_holds-requires-clause-known c =
     let label : List ℕ = c.args.self.now.label.now in
     let d : Definitions = c.definitions.result.now in
     let same : c.in-Some.seen ≡ seen_under table label = subst (CanAsk table label) c.in-Some.is c.requires.asked in
-    let sets : d.sets ≡ c.in-Some.seen.sets = ap (λ (x : Definitions). x.sets) c.definitions.ensures ∙ sym (ap (λ (s : Seen). s.sets) same) in
+    let sets : d.sets ≡ c.in-Some.seen.sets = ap (λ (x : Definitions). x.sets) c.definitions.ensures.is ∙ sym (ap (λ (s : Seen). s.sets) same) in
     subst (AllByRecursion (HasItsSets (length c.in-Some.seen.sets))) (sym c.rules-rules.ensures.is)
     (subst (λ n. AllByRecursion (HasItsSets n) d.rules) (ap length sets) c.rules-rules.ensures.known)
 
@@ -41,7 +41,7 @@ returns c =
     let asked : Option Condition = c.condition.result in
     let told : Bool = c.condition_holds.result in
     let same : c.in-Some.seen ≡ seen_under table label = subst (CanAsk table label) c.in-Some.is c.requires.asked in
-    let rules = c.rules-rules.ensures.is ∙ ap (λ (x : Definitions). x.rules) c.definitions.ensures in
+    let rules = c.rules-rules.ensures.is ∙ ap (λ (x : Definitions). x.rules) c.definitions.ensures.is in
     let holds : IsTrue told ↔ ConditionHolds table.definitions.rules (seen_under table label) asked place (place + length e.source) =
     subst (λ (s : List ℕ). IsTrue told ↔ ConditionHolds table.definitions.rules (seen_under table label) asked place (place + length s)) c.source.ensures
     (subst (λ (s : Seen). IsTrue told ↔ ConditionHolds table.definitions.rules s asked place (place + length c.source.result.now)) same

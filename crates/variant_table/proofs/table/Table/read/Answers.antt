@@ -1,4 +1,5 @@
-use Rattle.std.proofs.Common.{rules, ◌≡◌}
+use Rattle.std.proofs.Common.{rules, ◌≡◌, Err, sym, subst}
+use Rattle.std.specs.Prelude.{IfErr}
 use Rattle.variant_table.specs.declared.fault.TableFault.TheVariants.{Memory}
 use Rattle.variant_table.specs.Entries.{TableValue, table_of}
 use Rattle.variant_table.specs.Texts.{IsToldOf}
@@ -9,7 +10,8 @@ use Rattle.variant_table.proofs.table.Table.read.Goals as goal
 
 pub returns-in_err-spelled-clause-fault : goal.returns-in_err-spelled-clause-fault
 returns-in_err-spelled-clause-fault c =
-    let told : IsToldOf c.args.notation c.args.text.now c.in_err-spelled.field-0.0 = told_of c.args.notation c.args.text.now c.in_err-spelled.field-0.0 c.in_err-spelled.ensures in search rules
+    let is : c.from_residual.result ≡ Err c.in_err-spelled.field-0.0 = search rules in
+    subst (λ r. IfErr r (IsToldOf c.args.notation c.args.text.now)) (sym is) (told_of c.args.notation c.args.text.now c.in_err-spelled.field-0.0 c.in_err-spelled.ensures)
 
 pub returns-in_err-spelled-clause-canonical : goal.returns-in_err-spelled-clause-canonical
 returns-in_err-spelled-clause-canonical c = λ table h named is.

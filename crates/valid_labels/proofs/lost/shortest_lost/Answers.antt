@@ -1,0 +1,26 @@
+use Rattle.std.proofs.Common.{ℕ, subst}
+use Rattle.std.specs.Prelude.{MatchOption}
+use Rattle.label_patterns.specs.Matches.{no_round}
+use Rattle.variant_table.specs.Entries.{TableValue}
+use Rattle.valid_labels.specs.Segmentations.{seen_under}
+use Rattle.valid_labels.specs.inner.Ends.{IsRefusedAt, NoneRefuses}
+use Rattle.valid_labels.specs.inner.Pieces.{items_of}
+use Rattle.valid_labels.proofs.LostPlaces.{shortest-lost}
+use Rattle.valid_labels.proofs.PieceSteps.{unbarred-pieces}
+use Rattle.valid_labels.proofs.lost.shortest_lost.Goals as goal
+
+pub last_place-requires : goal.last_place-requires
+last_place-requires c = record { start = (c.reached-places.ensures 0).1 no_round }
+
+pub returns : goal.returns
+returns c =
+    let table = c.args.pieces.now in
+    let label = c.args.label.now in
+    let D = c.definitions-definitions.result.now in
+    let same = λ (j : ℕ). unbarred-pieces table c.table-table.result.now D c.args.seen.now (items_of c.lone.result.now) label c.table-table.ensures c.definitions-definitions.ensures.is c.requires.seen c.lone.ensures.lone j in
+    let refused : MatchOption c.refused_by-refused.result (NoneRefuses (seen_under table label) table.definitions.demands) (IsRefusedAt (seen_under table label) table.definitions.demands) =
+    subst (λ s. MatchOption c.refused_by-refused.result (NoneRefuses s table.definitions.demands) (IsRefusedAt s table.definitions.demands)) c.requires.seen
+    (subst (λ (t : TableValue). MatchOption c.refused_by-refused.result (NoneRefuses c.args.seen.now t.definitions.demands) (IsRefusedAt c.args.seen.now t.definitions.demands)) c.table-table.ensures c.refused_by-refused.ensures) in
+    shortest-lost table label c.be_sound.ensures c.refused_by-refused.result c.last_place.result c.longest.result refused
+    ((same c.last_place.result).0 ((c.reached-places.ensures c.last_place.result).0 c.last_place.ensures.member))
+    (λ p l m may. c.last_place.ensures.greatest p l m ((c.reached-places.ensures p).1 ((same p).1 may))) c.longest.ensures.longest c.shortest.result c.shortest.ensures

@@ -1,0 +1,11 @@
+use Rattle.std.proofs.Common.{length}
+use Rattle.valid_labels.specs.inner.Pieces.{items_of}
+use Rattle.valid_labels.proofs.PieceSteps.{holding-pieces}
+use Rattle.valid_labels.proofs.valid.is_made_of_pieces.Goals as goal
+
+pub returns : goal.returns
+returns c =
+    let s = holding-pieces c.args.pieces.now c.table-table.result.now c.definitions-definitions.result.now c.args.seen.now (items_of c.lone.result.now) c.args.label.now
+    c.table-table.ensures c.definitions-definitions.ensures.is c.requires.seen c.lone.ensures.lone (length c.args.label.now) in
+    let r = c.reached-places.ensures (length c.args.label.now) in
+    (λ h. s.0 (r.0 (c.has.ensures.0 h)), λ h. c.has.ensures.1 (r.1 (s.1 h)))

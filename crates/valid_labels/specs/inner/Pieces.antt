@@ -1,0 +1,27 @@
+-- What is kept of the pieces of a table.
+use Rattle.std.specs.Prelude.{◌≡◌, ◌⊎◌, ◌↔◌, ℕ, ◌<◌, ◌≤◌, List, length, map, Option, Contains, Vec}
+use Rattle.std.specs.Global.{Global}
+use Rattle.std.specs.List.{AllByRecursion}
+use Rattle.label_patterns.specs.declared.condition.Condition.{Condition}
+use Rattle.variant_table.specs.Entries.{TableValue}
+use Rattle.valid_labels.specs.Pieces.{IsCovered, IsPiece, IsVariant}
+
+-- the code points of sequences in memory
+abbrev pub items_of : List (Vec ℕ Global) → List (List ℕ)
+items_of sequences = map (λ v. v.items) sequences
+
+-- exactly the variants that are not made of sources
+abbrev pub AreLone : TableValue → List (List ℕ) → Type 0
+AreLone table sequences = (s : List ℕ) → Contains sequences s ↔ (IsVariant table s × (¬ IsCovered table s))
+
+-- no piece has more code points, and one has so many, if there is one
+pub record IsLongest (table : TableValue) (longest : ℕ) : Type 0 where
+  pub most : (s : List ℕ) (c : Option Condition) → IsPiece table s c → length s ≤ longest
+  pub one : (longest ≡ 0) ⊎ ((s : List ℕ) × ((c : Option Condition) × IsPiece table s c × (length s ≡ longest)))
+
+-- the variants that are not made of sources, none of them empty, and how long the longest piece is
+pub record ArePieces (table : TableValue) (sequences : List (Vec ℕ Global)) (most : ℕ) : Type 0 where
+  pub lone : AreLone table (items_of sequences)
+  pub filled : AllByRecursion (λ v. 0 < length v.items) sequences
+  pub longest : IsLongest table most
+  pub short : most ≤ 8

@@ -1,0 +1,52 @@
+//! Beginnings of labels with which no valid label begins.
+ghost use Rattle.std.specs.Prelude.{◌≡◌, ◌≤◌, length, MatchOption};
+ghost use Rattle.valid_labels.specs.Segmentations.{seen_under};
+ghost use Rattle.valid_labels.specs.Validity.{HasNoLostBeginning, IsShortestLost};
+ghost use Rattle.valid_labels.specs.inner.Ends.{IsLeastLost, IsRefusedAt, NoneIsLost, NoneRefuses};
+
+use crate::asking::UnbarredSource;
+use crate::cutting::reached;
+use crate::demands::refused_end;
+use crate::pieces::Pieces;
+use crate::sources::last_place;
+use label_patterns::SeenLabel;
+use variant_table::Table;
+
+/// How many code points the shortest lost beginning of a label has. `None` where neither a beginning nor the whole label
+/// is lost.
+pub fn shortest_lost(pieces: &Pieces<'_>, seen: &SeenLabel<'_>, label: &[u32]) -> Option<usize>
+    requires short { length label.now ≤ 63 }
+    requires seen { seen.now ≡ seen_under pieces.now label.now }
+    ensures { MatchOption result (HasNoLostBeginning pieces.now label.now) (IsShortestLost pieces.now label.now) }
+{
+    pieces.be_sound();
+    let table = pieces.table();
+    let definitions = table.definitions();
+    let asking = UnbarredSource { definitions, seen };
+    let places = reached(table, pieces.lone(), label, &asking);
+    // No piece leads from the last of these places past this one, and none from another place.
+    let nowhere = last_place(places, label.len()) + pieces.longest();
+    let refused = refused_by(table, seen);
+    shortest(refused, nowhere, label.len())
+}
+
+/// The least place where a part of a label ends that no label may have, whatever follows.
+fn refused_by(table: &Table, seen: &SeenLabel<'_>) -> Option<usize>
+    requires { seen.now.sets ≡ table.now.definitions.sets }
+    ensures { MatchOption result (NoneRefuses seen.now table.now.definitions.demands) (IsRefusedAt seen.now table.now.definitions.demands) }
+{
+    let demands = table.definitions().demands();
+    refused_end(demands, seen)
+}
+
+/// The least number from 1 to `len` that is no less than one of these two.
+fn shortest(refused: Option<usize>, nowhere: usize, len: usize) -> Option<usize>
+    ensures { MatchOption result (NoneIsLost refused nowhere len) (IsLeastLost refused nowhere len) }
+{
+    let end = match refused {
+        Some(end) if end < nowhere => end,
+        _ => nowhere,
+    };
+    let count = if end == 0 { 1 } else { end };
+    if count <= len { Some(count) } else { None }
+}

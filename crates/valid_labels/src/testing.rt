@@ -1,0 +1,120 @@
+//! Tests of labels under a table.
+
+use crate::pieces::Pieces;
+use crate::sources::is_made_of_sources;
+use crate::valid::{is_admitted, validity};
+use crate::validity::{Admission, Validity};
+use idn_class::KeptLabel;
+use label_patterns::renew_masks;
+use std::alloc::{AllocError, Global};
+use std::marker::Model;
+
+/// A test of labels under a table. It keeps what it found of the last label, so that the next one costs less where both
+/// begin alike. That changes no answer.
+#[derive(Drop)]
+pub struct ValidityTest<'a> {
+    pieces: &'a Pieces<'a>,
+    /// The label that was tested last.
+    kept: KeptLabel,
+    /// For each set its places in that label.
+    masks: Vec<u64>,
+}
+
+impl<'a> Model for ValidityTest<'a> {
+    ghost use Rattle.label_patterns.specs.inner.Masks.{AreMasks};
+    ghost use Rattle.valid_labels.specs.Testing.{Testing, testing_code};
+
+    ghost Value = { Testing };
+
+    ghost coded = { testing_code };
+
+    ghost view = { λ t. record { table = t.pieces.now; kept = t.kept } };
+
+    ghost invariant = { λ t. AreMasks t.pieces.now.definitions.sets t.kept t.masks.items };
+}
+
+impl<'a> ValidityTest<'a> {
+    ghost use Rattle.std.specs.Prelude.{◌≡◌, ◌≤◌, [], length, IfOk};
+    ghost use Rattle.valid_labels.specs.Testing.{IsAdmission, IsValidity, SharesKept};
+
+    /// A test of labels under the table of these pieces. It is an `Err` only where memory was refused.
+    pub fn new(alloc: Global, pieces: &'a Pieces<'a>) -> Result<Self, AllocError>
+        ensures table { IfOk result (λ test. test.table ≡ pieces.now) }
+        ensures kept { IfOk result (λ test. test.kept ≡ []) }
+    {
+        let sets = pieces.table().definitions().sets();
+        let mut masks = Vec::new(alloc);
+        for _ in 0..sets.len() {
+            masks.push(0)?;
+        }
+        Ok(ValidityTest {
+            pieces,
+            kept: KeptLabel::new(),
+            masks,
+        })
+    }
+
+    /// Whether a label of at most 63 code points may be asked about. It has the first `shared` code points
+    /// of the label that was tested last, or all of them if that has fewer. It takes no memory.
+    pub fn admission(&mut self, label: &[u32], shared: usize) -> Admission
+        requires short { length label.now ≤ 63 }
+        requires kept { SharesKept shared self.old.kept label.now }
+        ensures admission { IsAdmission self.old.table label.now result }
+        ensures kept { self.new.kept ≡ label.now }
+        ensures same_table { self.new.table ≡ self.old.table }
+    {
+        self.see(label, shared);
+        let table = self.pieces.table();
+        if !is_made_of_sources(table, label) {
+            return Admission::NotMade;
+        }
+        let sets = table.definitions().sets();
+        let masks: &[u64] = &self.masks;
+        if is_admitted(table, sets, label, masks) {
+            Admission::Admitted
+        } else {
+            Admission::NotValid
+        }
+    }
+
+    /// Whether a label of at most 63 code points is valid, and if it isn't, how long its shortest lost beginning is. It
+    /// has the first `shared` code points of the label that was tested last, or all of them if that has fewer. It takes no
+    /// memory.
+    pub fn judge(&mut self, label: &[u32], shared: usize) -> Validity
+        requires short { length label.now ≤ 63 }
+        requires kept { SharesKept shared self.old.kept label.now }
+        ensures validity { IsValidity self.old.table label.now result }
+        ensures kept { self.new.kept ≡ label.now }
+        ensures same_table { self.new.table ≡ self.old.table }
+    {
+        self.see(label, shared);
+        let sets = self.pieces.table().definitions().sets();
+        let masks: &[u64] = &self.masks;
+        validity(self.pieces, sets, label, masks)
+    }
+
+    /// Keeps nothing of the label that was tested last.
+    pub fn forget(&mut self)
+        ensures kept { self.new.kept ≡ [] }
+        ensures same_table { self.new.table ≡ self.old.table }
+    {
+        let empty: &[u32] = &[];
+        self.see(empty, 0);
+    }
+
+    /// Keeps this label in place of the last one.
+    fn see(&mut self, label: &[u32], shared: usize)
+        requires short { length label.now ≤ 63 }
+        requires kept { SharesKept shared self.old.kept label.now }
+        ensures kept { self.new.kept ≡ label.now }
+        ensures same_table { self.new.table ≡ self.old.table }
+    {
+        let shared = shared.min(label.len()).min(self.kept.len());
+        self.kept.keep(shared);
+        for place in shared..label.len() {
+            self.kept.push(label[place]);
+        }
+        let sets = self.pieces.table().definitions().sets();
+        renew_masks(sets, label, shared, &mut self.masks);
+    }
+}
