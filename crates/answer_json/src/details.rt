@@ -3,7 +3,7 @@ ghost use Rattle.std.specs.Prelude.{◌≡◌, ◌≤◌, ◌+◌, ◌*◌, ◌+
 ghost use Rattle.std.specs.Option.{option_copied};
 ghost use Rattle.arrayvec.specs.ArrayVec.{array_vec_len};
 ghost use Rattle.answer_json.specs.Answers.{count, if_given, text};
-ghost use Rattle.answer_json.specs.Details.{HasShortTexts, decoded_field, details_of, given_len, length_fields, point, rule_fields, where_fields};
+ghost use Rattle.answer_json.specs.Details.{HasShortTexts, decoded_field, demand_fields, details_of, given_len, length_fields, point, rule_fields, where_fields};
 ghost use Rattle.answer_json.specs.inner.Openings.{IsOpening, name_in};
 ghost use Rattle.answer_json.specs.inner.Texts.{fields_text};
 
@@ -29,9 +29,21 @@ pub(crate) fn put_rule(out: &mut ObjectLine, members: &RefusalMembers)
     ensures fields { out.new.items ≡ out.old.items ++ fields_text (rule_fields (details_of members.now)) [] }
     ensures space { array_vec_len out.new ≤ array_vec_len out.old + 1024 }
 {
+    put_text_if(out, ",\"condition\":", members.condition);
     put_text_if(out, ",\"rule\":", members.rule);
     put_text_if(out, ",\"bidi_class\":", members.bidi_class);
     put_point_if(out, ",\"nfc\":", members.nfc);
+}
+
+/// Appends which demand is broken.
+pub(crate) fn put_demand(out: &mut ObjectLine, members: &RefusalMembers)
+    requires texts { HasShortTexts (details_of members.now) }
+    requires room { array_vec_len out.old + 128 ≤ MAX_OBJECT_LEN }
+    ensures fields { out.new.items ≡ out.old.items ++ fields_text (demand_fields (details_of members.now)) [] }
+    ensures space { array_vec_len out.new ≤ array_vec_len out.old + 128 }
+{
+    put_number_if(out, ",\"demand\":", members.demand);
+    put_text_if(out, ",\"kind\":", members.kind);
 }
 
 /// Appends how long what is refused is, and which other A-label or byte it has.

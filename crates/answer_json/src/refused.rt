@@ -7,7 +7,7 @@ ghost use Rattle.answer_json.specs.Inputs.{told, told_len};
 ghost use Rattle.answer_json.specs.Objects.{refused, registered_fault, table_fault};
 ghost use Rattle.answer_json.specs.inner.Texts.{refusal_text};
 
-use crate::details::{put_lengths, put_rule, put_where};
+use crate::details::{put_demand, put_lengths, put_rule, put_where};
 use crate::ends::{begin_line, end_line};
 use crate::input::Input;
 use crate::member::{MAX_OBJECT_LEN, ObjectLine, put_number, put_opening, put_text};
@@ -75,6 +75,7 @@ fn put_refusal(out: &mut ObjectLine, refusal: Refusal, members: &RefusalMembers)
     put_text(out, ",\"text\":", refusal.text().as_bytes());
     put_where(out, members);
     put_rule(out, members);
+    put_demand(out, members);
     put_lengths(out, members);
     out.push(b'}');
 }
