@@ -74,13 +74,29 @@ class RulesetLabels:
         pieces.update((variant, None) for variant in variants if not is_cut(variant, self.entries))
         return pieces
 
+    def cause(self, label):
+        """Why a label that is made of sources may not be asked about: the furthest place to which sources that may stand reach
+        and where one may not, after which the rest is made of sources, with the condition of the longest such source there; or the
+        number of the first demand that is broken, from 1, and that demand."""
+        holds = lambda source, start: self.holds(self.pieces[source], label, start, start + len(source))
+        fits = reached(label, self.inside, holds)
+        if len(label) not in fits:
+            ends_well = lambda end: len(label) - end in reached(label[end:], self.inside, lambda source, start: True)
+            misplaced = [(start, len(source), source) for start in fits for source in self.inside if label.startswith(source, start)
+                         and not holds(source, start) and ends_well(start + len(source))]
+            start, _, source = max(misplaced)
+            return start, self.pieces[source]
+        return next((number, demand) for number, demand in enumerate(self.ruleset.demands, 1) if not self.keeps(demand, label))
+
     def is_valid(self, label):
         holds = lambda piece, start: self.holds(self.pieces[piece], label, start, start + len(piece))
         return self.keeps_demands(label) and len(label) in reached(label, self.pieces, holds)
 
     def keeps_demands(self, label):
-        return all(self.is_somewhere(demand.pattern, label) == (demand.word == "%always")
-                   for demand in self.ruleset.demands)
+        return all(self.keeps(demand, label) for demand in self.ruleset.demands)
+
+    def keeps(self, demand, label):
+        return self.is_somewhere(demand.pattern, label) == (demand.word == "%always")
 
     def is_somewhere(self, branches, label):
         return bool(self.ends(branches, label, set(range(len(label) + 1))))
