@@ -25,6 +25,7 @@ pub mod EntryParts
 pub mod WrongPlaces
 pub mod DefinitionPlaces
 pub mod LineNames
+pub mod LineLimits
 pub mod ExpectedNames
 pub mod LinePoints
 pub mod inner

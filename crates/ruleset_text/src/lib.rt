@@ -20,6 +20,7 @@ mod keyword;
 mod laws;
 mod lexemes;
 mod limits;
+mod line_limits;
 mod line_names;
 mod line_point;
 mod names;
@@ -52,6 +53,7 @@ pub use laws::{
 };
 pub use lexemes::{next_lexeme, without_blanks};
 pub use limits::{has_its_sets, is_within, without_atoms};
+pub use line_limits::{atoms_on, past_limit};
 pub use line_names::{
     defined_name, keyword_place, name_place, ninth_group, unknown_name, unknown_set,
 };
