@@ -8,8 +8,8 @@ refusal of its own there is tried again by itself. So is one that edits anything
 
 What refuses an edit is told after it: a goal in the code; or a proof that was written for the right code and no longer
 serves, which says less of the contract. An edit that is refused only since a proof names what it takes away says little:
-of wrong-bodies it counts as a failure; the gate tells it and goes on, as rt does for must-fail. One that is proved and one
-that doesn't compile are failures everywhere. Each check begins with what that of the right
+of wrong-bodies it counts as a failure; the gate tells it and goes on, as rt does for must-fail, and so where something else
+refuses the crate. One that is proved and one that doesn't compile are failures everywhere. Each check begins with what that of the right
 code kept; LANES is how many crates are tried side by side. The last line is 'N passed, M failed', and the exit status is 0
 where nothing failed."""
 
@@ -205,7 +205,8 @@ def verdicts(copy, batch):
         else:
             # what the prover says of code that it can't take, if it does
             told = next((line for line in lines if ": no proof: " in line), lines[-1] if lines else "")
-            yield edit, bool(named) and not STRICT, f"refused by a name alone: {': '.join(named)[:160]}" if named else f"no verdict: {told[:300]}"
+            is_refused = not STRICT and any(line.startswith("logic=not-proved") for line in lines)
+            yield edit, is_refused, f"refused by a name alone: {': '.join(named)[:160]}" if named else f"no verdict: {told[:300]}"
 
 
 def try_crate(crate, folder):
