@@ -12,7 +12,7 @@ DIST ?= dist
 LANES ?= $(shell awk -v processors="$$(nproc)" '/MemAvailable/ { lanes = int($$2 / 3000000) } \
     END { print (lanes < 1 ? 1 : lanes < processors ? lanes : processors) }' /proc/meminfo)
 
-.PHONY: all try run test test-crate wrong-bodies install program-name dist check-tables bench conformance fuzz \
+.PHONY: all try run test test-crate wrong-bodies install program-name dist check-tables bench conformance evaluator fuzz \
     class-table changed-answers clean
 
 # Proves every function that the program uses, the first time with several crates at once, and builds and tries the program.
@@ -41,7 +41,7 @@ test-crate:
 	python3 tests/layers.py
 	python3 tests/words.py
 	cd crates/$(CRATE) && $(RT) check
-	$(RT) must-fail $(CRATE)
+	[ ! -d crates/$(CRATE)/must-fail ] || $(RT) must-fail $(CRATE)
 	[ ! -d crates/$(CRATE)/planted ] || RT=$(RT) python3 tests/planted.py planted $(CRATE)
 	cd crates/idn2_rows && $(RT) try --test
 
@@ -84,10 +84,10 @@ dist:
 	cd $(DIST) && sha256sum $(PACKED).tar.gz > $(PACKED).tar.gz.sha256
 	rm -rf $(DIST)/$(PACKED)
 
-# The gaps of the example tables, and of the ruleset that the program reads: none.
+# The gaps of the example tables and rulesets: none.
 check-tables: all
 	for table in tables/*.txt; do $(PROGRAM) --check-table $$table || exit 1; done
-	$(PROGRAM) --check-ruleset tables/rulesets/latin.txt
+	for ruleset in tables/rulesets/*.txt; do $(PROGRAM) --check-ruleset $$ruleset || exit 1; done
 
 # Times the program against libidn2's, and prints one table of ratios. Then what a million registered labels take, and
 # what one of what a limit bounds takes at worst.
@@ -104,6 +104,12 @@ conformance: all
 	python3 conformance/worked_rows.py
 	python3 conformance/check_tables.py
 	python3 conformance/idna_test.py
+
+# Converts the rulesets of a folder, and compares what the program lists under them with the answers of another evaluator of
+# RFC 7940, which the folder has in answers.txt: make evaluator RULESETS=FOLDER
+evaluator: all
+	@test -f '$(RULESETS)/answers.txt' || { echo 'RULESETS names no folder with answers.txt: make evaluator RULESETS=FOLDER' >&2; exit 2; }
+	python3 conformance/evaluator_answers.py '$(RULESETS)'
 
 # Compares the program with a second writing of its rules on random input, for so many seconds: make fuzz SECONDS=600
 SECONDS := 60

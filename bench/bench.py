@@ -18,15 +18,16 @@ table compares:
                           bench/listing_peer.cpp, a program over libidn2 that makes all spellings of a label by an index
                           of the table, puts them in order, and tests and encodes each
     start                 `idn2 -l` of both with an empty input
-    objects               ours alone: each of the modes before, A-labels that are registered, registered labels and jumps under
-                          tables/han.txt, with `--json`, with `--explain` and without, side by side in one run. Wanted are
-                          objects at least half as fast as lines
+    objects               ours alone: each of the modes before, labels in ASCII and A-labels that are registered, registered
+                          labels and jumps under tables/han.txt, with `--json`, with `--explain` and without, side by side
+                          in one run. Wanted are objects at least half as fast as lines
     memory                the peak of resident memory: of `idn2 -l -N` on few and on all mixed names; and of a listing
                           of ten and of a million of the 2^62 variants of a label, where the peer can do neither
 
 Before anything is timed the answers are compared, and they must be the same. libidn2's idn2 ends at the first line
 that it refuses, so every line is one that both accept. With `--instructions` callgrind counts the instructions a line
-too, less those of the start, also with `--explain` and with `--json`; of a listing, those of a variant.
+too, less those of the start, also with `--explain` and with `--json`, beside which stands again how fast objects are, of the
+speed of lines; of a listing, those of a variant.
 
 To be installed (Debian's names), each left out with a word where it is missing: idn2 for the comparison, g++ and
 libidn2-dev for the peer, time for the memory, valgrind for the instructions.
@@ -101,6 +102,7 @@ def rows_of_ours(options, folder, files, lines):
     requests = write(folder, "requests", [f"{label}\t{text}" for label, text in zip(labels, labels[1:] + labels[:1])])
     listing = ["--variants", str(TABLE)]
     return [
+        Row("register, ASCII", Run(options.ours, ["-r"], files["ascii-labels"]), None, 0),
         Row("register, A-labels", Run(options.ours, ["-r"], files["a-labels"]), None, 0),
         Row("registered labels", Run(options.ours, [*listing, "--among", str(kept)], kept), None, 0),
         Row("jump", Run(options.ours, [*listing, "--jump"], requests), None, 0),
@@ -188,13 +190,14 @@ def show_instructions(rows, counts):
         print("\ninstructions: no valgrind here (Debian's package valgrind)")
         return
     print("\ninstructions a line, less those of the start")
-    cells("", "ours", *MORE, "libidn2", "ratio")
+    cells("", "ours", *MORE, "of a line", "wanted", "libidn2", "ratio")
     for source, row in rows.items():
         counted = counts[source] if source == "sources" else LINES_COUNTED
         runs = [row.ours, *(with_option(row.ours, option) for option in MORE), *row.runs()[1:]]
-        ours, *others = (run.instructions_a_line(LINES_COUNTED, counted) for run in runs)
-        ratio = f"{others[-1] / ours:.1f}" if row.theirs else "-"
-        cells(row.name, *[f"{figure:,.0f}" for figure in (ours, *others)], *([] if row.theirs else ["-"]), ratio)
+        ours, explained, objects, *theirs = (run.instructions_a_line(LINES_COUNTED, counted) for run in runs)
+        beside = [f"{theirs[0]:,.0f}", f"{theirs[0] / ours:.1f}"] if theirs else ["-", "-"]
+        figures = [f"{figure:,.0f}" for figure in (ours, explained, objects)]
+        cells(row.name, *figures, f"{ours / objects:.2f}", OBJECTS_WANTED, *beside)
 
 
 def words():

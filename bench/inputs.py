@@ -1,4 +1,4 @@
-"""The inputs of the measurements, made anew from a seed: names and labels in 17 scripts, and labels with variants."""
+"""The inputs of the measurements, made from a seed: names and labels in 17 scripts, and labels with variants."""
 
 import math
 import pathlib
@@ -65,11 +65,13 @@ def mixed_name(chance):
     return ".".join([*labels, chance.choice(TOP_LABELS)])
 
 
+def ascii_label(chance):
+    label = "".join(chance.choices(ASCII_LETTERS, k=chance.randint(3, 14)))
+    return label + chance.choice(("", "", "-x", "24"))
+
+
 def ascii_name(chance):
-    labels = []
-    for _ in range(chance.choice((1, 1, 2))):
-        label = "".join(chance.choices(ASCII_LETTERS, k=chance.randint(3, 14)))
-        labels.append(capitals(chance, label + chance.choice(("", "", "-x", "24"))))
+    labels = [capitals(chance, ascii_label(chance)) for _ in range(chance.choice((1, 1, 2)))]
     return ".".join([*labels, chance.choice(TOP_LABELS[:4])])
 
 
@@ -127,6 +129,7 @@ def write_inputs(folder, lines):
         "mixed": (mixed_name, lines),
         "ascii": (ascii_name, 10 * lines),
         "labels": (label_to_register, lines),
+        "ascii-labels": (ascii_label, 10 * lines),
         "coded": (coded_name, lines),
     }
     files, counts = {"nothing": write(folder, "nothing", [])}, {}

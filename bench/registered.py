@@ -1,4 +1,4 @@
-"""Files of registered labels for the measurements, made anew from a seed, and the tables that go with them."""
+"""Files of registered labels for the measurements, made from a seed, and the tables that go with them."""
 
 import random
 

@@ -21,7 +21,7 @@ _idn2() {
     esac
 }
 
-# The options that may still be given: one mode at most, each option once, none behind '--'.
+# The options that may still be given: one mode at most, each option once, none after '--'.
 _idn2_options() {
     local given=" ${COMP_WORDS[*]:1:COMP_CWORD-1} "
     local modes="-l --lookup -r --register -d --decode --variants --check-table --ruleset --check-ruleset"

@@ -10,7 +10,7 @@ from registration import (BAD_A_LABEL, BIDI, CONTEXT_J, CONTEXT_O, HYPHEN, IS_DI
 from rules import stands_between_joining
 from unicode_data import DISALLOWED, EXCEPTIONS, IGNORABLE_BLOCKS, LEFT_OUT, OLD_HANGUL_JAMO, UNASSIGNED, is_in
 
-NOT_UTF8, LINE_TOO_LONG, OUT_OF_ORDER, FILE_TOO_LONG, INVALID, BAD_LENGTH, NOT_IN_TABLE = 1, 2, 4, 5, 20, 21, 40
+NOT_UTF8, LINE_TOO_LONG, OUT_OF_ORDER, FILE_TOO_LONG, INVALID, BAD_LENGTH, NOT_IN_TABLE, NOT_VALID = 1, 2, 4, 5, 20, 21, 40, 41
 # RFC 1035, section 2.3.4, without the last full stop and the lengths of labels.
 MOST_OCTETS_OF_A_NAME = 253
 APPENDICES = {0x200C: 1, 0x200D: 2, 0xB7: 3, 0x375: 4, 0x5F3: 5, 0x5F4: 6, 0x30FB: 7}
@@ -31,8 +31,8 @@ class Causes:
         self.ignorable = classes.set_of("DerivedCoreProperties.txt", "Default_Ignorable_Code_Point")
         self.ignorable |= classes.set_of("PropList.txt", "White_Space") | classes.noncharacters
 
-    def of_body(self, mode, body, refusal, sources=()):
-        """The cause of the refusal of a line's bytes, or of 2 where it is too long, in a mode, with the sources of its table."""
+    def of_body(self, mode, body, refusal, table=None):
+        """The cause of the refusal of a line's bytes, or of 2 where it is too long, in a mode, with what its table says of labels."""
         if refusal == LINE_TOO_LONG:
             return "more than 1024 bytes"
         if refusal == NOT_UTF8:
@@ -43,7 +43,9 @@ class Causes:
         if mode == "decode":
             return self.of_name(text, refusal)
         label = text.partition("\t")[0] if mode == "jump" else text
-        return self.outside(label, sources) if refusal == NOT_IN_TABLE else self.of_label(label, refusal)
+        if refusal == NOT_VALID:
+            return self.invalid(label, *table.cause(label))
+        return self.outside(label, table.inside) if refusal == NOT_IN_TABLE else self.of_label(label, refusal)
 
     def of_registered(self, bodies, number, refusal):
         """The cause of the refusal of a line of registered labels, by the bodies of all up to it."""
@@ -197,6 +199,13 @@ class Causes:
             return f"label {number + 1}: {len(labels[number])} octets"
         octets = len(".".join(labels))
         return f"name of {octets} octets" if octets > MOST_OCTETS_OF_A_NAME else None
+
+    @staticmethod
+    def invalid(label, where, broken):
+        """The condition that is broken at a place, or the demand of a number."""
+        if broken.word.startswith("%"):
+            return f"demand {where}, {broken.word[1:]}"
+        return f"{at(where, ord(label[where]))}: {broken.word} {broken.rule}"
 
     @staticmethod
     def outside(label, sources):

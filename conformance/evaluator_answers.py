@@ -3,15 +3,16 @@
 
 FOLDER has rulesets in XML, and answers.txt with a line for each label: the ruleset's file, a tab, the label, a tab, and
 'invalid' or the variants that the ruleset finds valid, the label itself among them, each with '=allocatable' or '=blocked',
-parted by blanks. Labels are written as code points in hexadecimal, joined by hyphens. Each ruleset is converted by
-tables/from_lgr.py --version 3, and what it says is told by the second writing, ruleset_labels.py. What RFC 5891 refuses is
-left out on both sides. The status is 0 where all answers agree."""
+parted by blanks. Labels are written as code points in hexadecimal, joined by hyphens. tables/from_lgr.py converts each
+ruleset, and the program lists its labels; the second writing, ruleset_labels.py, tells the same without it. What RFC 5891
+refuses is left out on all sides. The status is 0 where all answers agree."""
 
 import collections
 import pathlib
 import re
 import subprocess
 import sys
+import tempfile
 
 from compare import HERE, PROGRAM
 from notation import reading
@@ -37,44 +38,77 @@ def answers_of(folder):
 
 
 def converted(path):
-    """The ruleset that the converter makes of a file; None if it is refused, which is told."""
-    words = [sys.executable, SCRIPT, "--version", "3", "--idn2", PROGRAM, path]
-    done = subprocess.run(words, capture_output=True, check=False)
+    """The text that the converter makes of a ruleset; None if it is refused, which is told."""
+    done = subprocess.run([sys.executable, SCRIPT, "--idn2", PROGRAM, path], capture_output=True, check=False)
     if done.returncode:
         print(done.stderr.decode().strip())
         return None
-    return reading.read(done.stdout, lambda point: True)
+    return done.stdout
+
+
+def run(words, labels):
+    """The output, the messages as pairs of a line and a number, and the status of the program."""
+    given = "".join(label + "\n" for label in labels)
+    done = subprocess.run([PROGRAM, *words], input=given, capture_output=True, encoding="utf-8", check=False)
+    return done.stdout, dict(re.findall(r"^idn2: line (\d+): (\d+) ", done.stderr, re.MULTILINE)), done.returncode
 
 
 def registrable(labels):
     labels = sorted(labels)
-    given = "".join(label + "\n" for label in labels)
-    told = subprocess.run([PROGRAM, "--register"], input=given, capture_output=True, encoding="utf-8", check=False).stderr
-    refused = {int(number) for number in re.findall(r"^idn2: line (\d+): ", told, re.MULTILINE)}
-    return {label for number, label in enumerate(labels, 1) if number not in refused}
+    refused = run(["--register"], labels)[1]
+    return {label for number, label in enumerate(labels, 1) if str(number) not in refused}
 
 
-def differences(wanted, labels):
+def answers_of_second_writing(text, labels):
+    ruleset = RulesetLabels(reading.read(text, lambda point: True), MOST_SPELLED)
+    return {label: ruleset.answer(label) for label in labels}
+
+
+def answers_of_program(text, labels):
+    """The same of labels that may be registered; nothing of any, where the run doesn't end as it should."""
+    with tempfile.NamedTemporaryFile(suffix=".txt") as file:
+        file.write(text)
+        file.flush()
+        output, refused, status = run(["--ruleset", file.name], labels)
+    blocks = [block.splitlines() for block in re.split(r"^#end \d+\n", output, flags=re.MULTILINE)]
+    listed = [label for number, label in enumerate(labels, 1) if str(number) not in refused]
+    if len(blocks) != len(listed) + 1 or blocks[-1] or status not in (0, 1):
+        return {}
+    fields = [[line.split("\t") for line in block] for block in blocks]
+    variants = {label: {variant: kind for variant, _, kind in lines} for label, lines in zip(listed, fields)}
+    return {label: variants.get(label) for label in labels}
+
+
+def differences(wanted, found):
     """The labels that are answered in another way."""
-    found = {label: labels.answer(label) for label in wanted}
-    every = set(wanted).union(*(answers or () for answers in (*wanted.values(), *found.values())))
-    known = registrable(every)
-    asked = lambda label, answers: answers and label in known and {
-        variant: kind for variant, kind in answers.items() if variant in known}
-    return [label for label in wanted if (asked(label, wanted[label]) or None) != (asked(label, found[label]) or None)]
+    each = [*wanted.values(), *found.values()]
+    known = registrable(set(wanted).union(*(variants or () for variants in each)))
+    asked = lambda variants: variants and {variant: kind for variant, kind in variants.items() if variant in known}
+    return [label for label in known.intersection(wanted) if label not in found or asked(wanted[label]) != asked(found[label])]
+
+
+def differing(name, text, wanted):
+    """The labels of a file that the second writing or the program answers in another way; each is told."""
+    labels, found = sorted(wanted), set()
+    known = sorted(registrable(labels))
+    for who, answers in (("the second writing", answers_of_second_writing(text, labels)),
+                         ("the program", answers_of_program(text, known))):
+        different = differences(wanted, answers)
+        found.update(different)
+        for label in different:
+            print(f"{name}: {who} says something else of {'-'.join(f'{ord(letter):04X}' for letter in label)}")
+    return found
 
 
 def main(folder):
     total = agreeing = 0
     for name, wanted in answers_of(folder).items():
         total += len(wanted)
-        ruleset = converted(folder / name)
-        if ruleset:
-            different = differences(wanted, RulesetLabels(ruleset, MOST_SPELLED))
-            agreeing += len(wanted) - len(different)
-            print(f"{name}: {len(wanted) - len(different)} of {len(wanted)} answers agree")
-            for label in different:
-                print(f"{name}: not the same: {'-'.join(f'{ord(letter):04X}' for letter in label)}")
+        text = converted(folder / name)
+        if text:
+            count = len(wanted) - len(differing(name, text, wanted))
+            agreeing += count
+            print(f"{name}: {count} of {len(wanted)} answers agree", flush=True)
     print(f"{agreeing} of {total} answers agree")
     return agreeing != total
 

@@ -23,9 +23,11 @@ import unicodedata
 
 from compare import PROGRAM, our_answers
 
+import drawn_rulesets
 import kinds
 import names
 from causes import BAD_LENGTH, INVALID, Causes
+from drawn_rulesets import DrawnRuleset, spelled
 from libidn2 import LibIdn2
 from registration import EMPTY, LABEL_TOO_LONG, Registration, a_label
 from rules import UnicodeProperties
@@ -47,30 +49,26 @@ PIECES = [b"a", b"b", b".", b"-", b"--", b"xn--", b"XN--", b"\0", b"\r", b"\r\n"
           b"\xf4\x90\x80\x80", b"\xc0\x80", "ß".encode(), "\u0301".encode(), "\U00010ffff".encode(), b"a" * 62, b"b" * 1000]
 WORDS = ["-l", "--lookup", "-r", "--register", "-d", "--decode", "-N", "--tr46nt", "--quiet", "--usestd3asciirules",
          "--explain",
-         "-h", "--help", "-V", "--version", "--variants", "--check-table", "--after", "--limit", "--tries", "--steps", "--",
+         "-h", "--help", "-V", "--version", "--variants", "--check-table", "--ruleset", "--check-ruleset", "--after", "--limit", "--tries", "--steps", "--",
          "--among", "--among=registered", "--among=absent", "--among=table", "--jump", "--jump=1", "registered",
          "-", "-rN", "-lr", "-hx", "-xh", "-r=1", "--register=1", "--bogus", "--after=", "--after=-a", "--limit=1",
          "--limit=0", "--tries=2", "--tries=0000000002", "--steps=1", "--steps=2", "--steps=0000000000000000003",
          "--steps=00000000000000000004", "--steps=1000000000000000000", "--steps=1000000000000000001", "--limit=00000000001", "--limit=+1", "--limit= 1", "table", "absent",
-         "", "a", "aß", "1", "2", "1000000000", "1000000001", "--variants=table", "--check-table=table", "a\nb"]
+         "", "a", "aß", "1", "2", "1000000000", "1000000001", "--variants=table", "--check-table=table",
+         "--ruleset=table", "--check-ruleset=table", "a\nb"]
 
 
 LIMITS = ("1", "2", "3", "7")
+MOST_PAGES = 12
 # Where ranges begin: the three code points after each are letters or digits, too.
 RANGES = (0x30, 0x61, 0x62, 0x6B, 0xDF, 0x0430, 0x05D0, 0x0627, 0x0660, 0x06F0, 0x4E2D, 0x56FD)
-# No line for version 1, which is drawn twice as often as each of the others.
-VERSION_LINES = ((), (), ("%version 2",), ("%version 3",))
+# No line for version 1. Rulesets, which say the most, are drawn twice as often as tables of the other versions.
+VERSION_LINES = ((), ("%version 2",), ("%version 3",), ("%version 3",))
 RULESET = b"%version 3"
-# Lines of rulesets that define something; some name what others define, and some have a fault of their own. Demands are not
-# read yet.
-DEFINITIONS = ("%tag t", "%tag simp", "%set A 0061..0063", "%set B u+0061 0065 .. 0069", "%rule r @A _ / _ $", "%rule all _",
-               " %rule\tend _$", "%rule q ^(@B?/0061)*_", "%set t 0061", "%set C 0063..0061", "%rule s @C _", "%rule s 0041 _",
-               "%set C 0041", "%tag", "% tag t", "%Tag t", "%rule s _ _", "%rule s ((0061*)*)* _")
-GOOD_DEFINITIONS = DEFINITIONS[:8]
 FAULTY_LINES = ("0061|", "0041", "0061-0061-0061|0061-0061-0061", "%version 2", "%version 3", "%", "0063..0061", "!0061|0062",
                 "0061..0063|0064", "0061|0062..0063", "0061-0062..0063", "0061...0063", "0061. .0063", "0061..D800",
                 "005A..0061", "D7FF..E000", "4E00..5E00", "4E00..5DFF", "0061|!!0062", "0061|!", "0061|0062:!0062",
-                "0061|!0061", "0061|!0041", "0061..0063", "0061|!0062")
+                "0061|!0061", "0061|!0041", "0061..0063", "0061|!0062", *drawn_rulesets.FAULTY_LINES)
 
 
 class Fuzz:
@@ -89,7 +87,7 @@ class Fuzz:
             ("register", self.register), ("decode", self.decode), ("lookup", self.lookup), ("variants", self.variants),
             ("variants", self.variants), ("check of a table", self.check_table), ("words", self.words),
             ("variants among registered labels", self.among), ("variants among registered labels", self.among),
-            ("jump", self.jump), ("lengths of names", self.lengths)))
+            ("jump", self.jump), ("pages of a listing", self.pages), ("lengths of names", self.lengths)))
         difference = make()
         if difference is not Unknown:
             self.counts[kind] += 1
@@ -224,49 +222,62 @@ class Fuzz:
         return "".join(self.chance.choices(letters, k=self.chance.choice((1, 1, 1, 2, longest))))
 
     def table(self, letters):
-        """The text of a table or a ruleset, and the variants of each source. Now and then it has a fault. Of what only rulesets
-        have it has outside sources, which no label may have: these are among the sources now and then."""
+        """The text of a table or a ruleset, and the variants of each source. Now and then it has a fault. An outside source, which
+        no label may have, is among the sources now and then."""
+        entries = self.entries(letters)
+        lines = list(self.chance.choice(VERSION_LINES))
+        if lines == [RULESET.decode()]:
+            lines, entries = self.ruleset(letters, entries)
+        else:
+            self.add_entries(lines, entries)
+        if self.chance.random() < 0.05:
+            lines.insert(self.chance.randint(0, len(lines)), self.chance.choice((*FAULTY_LINES, lines[-1])))
+        return self.chance.choice(("\n", "\n", "\r\n")).join(lines).encode(), entries
+
+    def entries(self, letters):
         entries = {}
         for _ in range(self.chance.randint(1, 6)):
             source = self.sequence(letters)
             variants = {self.sequence(letters) for _ in range(self.chance.choice((0, 1, 1, 2, 3)))} - {source}
             if source not in entries:
                 entries[source] = sorted(variants, key=lambda _: self.chance.random())
-        lines = list(self.chance.choice(VERSION_LINES))
-        is_marked, is_ruleset = bool(lines), lines == [RULESET.decode()]
-        marks = ("", "!", "! ") if is_marked else ("",)
-        outside = {source for source in list(entries)[1:] if is_ruleset and self.chance.random() < 0.4}
-        for source, variants in entries.items():
+        return entries
+
+    def add_entries(self, lines, entries):
+        """Puts entries into the lines of a table; of version 2 they have marks, and at times there is a range among them."""
+        marks = ("", "!", "! ") if lines else ("",)
+        for source, variants in list(entries.items()):
             marked = ":".join(self.chance.choice(marks) + spelled(variant) for variant in variants)
-            lines.append(("!" if source in outside else "") + spelled(source) + ("|" if variants else "") + marked)
-        if is_marked and self.chance.random() < 0.5:
-            entries.update(dict.fromkeys(self.range(entries, lines, is_ruleset and self.chance.random() < 0.3), ()))
-        if is_ruleset and self.chance.random() < 0.4:
-            self.define(lines)
+            lines.append(spelled(source) + ("|" if variants else "") + marked)
+        if len(marks) > 1 and self.chance.random() < 0.5:
+            entries.update(dict.fromkeys(self.range(entries, lines, str), ()))
+
+    def ruleset(self, letters, entries):
+        """The lines of a ruleset, and the variants of its sources, most often without those that are outside."""
+        outside = {source for source in list(entries)[1:] if self.chance.random() < 0.3}
+        drawn = DrawnRuleset(self.chance, letters, entries, outside)
+        lines = [RULESET.decode(), *drawn.lines]
+        if self.chance.random() < 0.3:
+            is_outside = self.chance.random() < 0.3
+            sources = self.range(entries, lines, lambda text: drawn.source(text, is_outside))
+            entries.update({} if is_outside else dict.fromkeys(sources, ()))
+        if self.chance.random() < 0.05:
+            first = lines.pop(self.chance.randrange(len(lines)))
+            lines.insert(self.chance.randint(0, len(lines)), first)
         if self.chance.random() < 0.9:
             entries = {source: variants for source, variants in entries.items() if source not in outside}
-        if self.chance.random() < 0.05:
-            lines.insert(self.chance.randint(0, len(lines)), self.chance.choice((*FAULTY_LINES, lines[-1])))
-        return self.chance.choice(("\n", "\n", "\r\n")).join(lines).encode(), entries
+        return lines, entries
 
-    def define(self, lines):
-        """Puts definitions into the lines of a ruleset, now and then one with a fault."""
-        for line in sorted(self.chance.sample(GOOD_DEFINITIONS, self.chance.randint(1, 4)), key=GOOD_DEFINITIONS.index):
-            lines.insert(self.chance.randint(1, len(lines)), line)
-        if self.chance.random() < 0.2:
-            lines.insert(self.chance.randint(1, len(lines)), self.chance.choice(DEFINITIONS))
-
-    def range(self, entries, lines, is_outside):
-        """Puts a range without any of the sources into the lines, and answers its sources, or none if they are outside."""
+    def range(self, entries, lines, marked):
+        """Puts a range without any of the sources after the lines, with its marks, and answers its sources."""
         first = self.chance.choice(RANGES)
         last = first + self.chance.randint(0, 3)
         sources = [chr(point) for point in range(first, last + 1)]
         if any(source in entries for source in sources):
             return []
         space = self.chance.choice(("", "", " ", "\t"))
-        mark = "!" if is_outside else ""
-        lines.insert(self.chance.randint(1, len(lines)), f"{mark}{first:04X}{space}..{space}{last:04X}")
-        return [] if is_outside else sources
+        lines.append(marked(f"{first:04X}{space}..{space}{last:04X}"))
+        return sources
 
     def variants(self):
         letters = self.chance.choice(ALPHABETS)
@@ -276,6 +287,24 @@ class Fuzz:
         words = [listing_of(table), "table", *self.some_of(options)]
         longest = self.chance.choice((3, 5, 8, 8, 70))
         return self.compare(words, self.lines(lambda: "".join(self.sources(entries, longest))), table=table)
+
+    def pages(self):
+        """A listing page by page, each of which goes on after the last line of the one before."""
+        letters = self.chance.choice(ALPHABETS)
+        table, entries = self.table(letters)
+        label = "".join(self.requested(entries))
+        words, given = [listing_of(table), "table", "--limit=" + self.chance.choice(LIMITS)], label.encode() + b"\n"
+        after = []
+        for _ in range(MOST_PAGES):
+            difference = self.compare([*words, *after], given, table=table)
+            if difference is not None:
+                return difference
+            stop = re.search(r"^#stop \d+ (.+)\n\Z", self.second.answer([*words, *after], given, {"table": table})[0].decode(),
+                             re.MULTILINE)
+            if not stop:
+                break
+            after = ["--after=" + stop.group(1)]
+        return None
 
     def some_of(self, values):
         """Some of the options, each with one of its values."""
@@ -358,7 +387,7 @@ class Fuzz:
         return self.compare([check, "table"], b"", table=table)
 
     def words(self):
-        words = self.chance.choice(([], ["--variants", "table"]))
+        words = self.chance.choice(([], ["--variants", "table"], ["--ruleset", "table"]))
         words = words + self.chance.choices(WORDS, k=self.chance.randint(0, 6))
         table, _ = self.table("ab")
         registered = self.registered([self.sequence("ab") for _ in range(4)])
@@ -386,10 +415,6 @@ def obeys(name, answer, strict):
 def listing_of(table):
     """The option by which variants are listed under a table or a ruleset."""
     return "--ruleset" if table.startswith(RULESET) else "--variants"
-
-
-def spelled(sequence):
-    return "-".join(f"{ord(letter):04X}" for letter in sequence)
 
 
 def cut(answer):

@@ -124,7 +124,7 @@ REGISTER = (
     Kind("joining types or viramas past this profile's lists", is_joined_otherwise),
     Kind("Bidi classes past this profile's lists", has_other_bidi_classes),
     Kind("a code point whose properties have changed since libidn2's tables", has_changed),
-    Kind("libidn2 passes two kinds of digits in a right-to-left label, and marks at its end behind a hyphen or sign",
+    Kind("libidn2 passes two kinds of digits in a right-to-left label, and marks at its end after a hyphen or sign",
          breaks_bidi_in_part),
 )
 

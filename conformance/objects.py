@@ -31,6 +31,8 @@ def placed(refusal):
         return f"{text}: NFC " + (f"has {refusal['nfc']}" if "nfc" in refusal else "ends")
     if number == BAD_A_LABEL:
         return f"{text}: not ASCII"
+    if "condition" in refusal:
+        return f"{text}: {refusal['condition']} {refusal['rule']}"
     if "bidi_class" in refusal:
         text += f" is {refusal['bidi_class']}"
     return f"{text}: {rule_of(refusal['rule'])}" if "rule" in refusal else text
@@ -45,6 +47,8 @@ def cause_of(refusal):
         return "more than 1024 bytes"
     if number == HYPHEN:
         return f"place {refusal['place']}"
+    if "demand" in refusal:
+        return f"demand {refusal['demand']}, {refusal['kind']}"
     if "code_point" in refusal:
         return placed(refusal)
     if number == OUT_OF_ORDER:

@@ -84,9 +84,9 @@ def passes_context_j(label, known):
     """RFC 5892, appendices A.1 and A.2."""
     for place, point in enumerate(label):
         if point in (ZERO_WIDTH_NON_JOINER, ZERO_WIDTH_JOINER):
-            behind_virama = place > 0 and known.is_virama(label[place - 1])
+            after_virama = place > 0 and known.is_virama(label[place - 1])
             joins = point == ZERO_WIDTH_NON_JOINER and stands_between_joining(label, place, known)
-            if not behind_virama and not joins:
+            if not after_virama and not joins:
                 return False
     return True
 

@@ -61,8 +61,8 @@ class RulesetLabels:
         """Whether a condition, or none, holds in the label for the part between two places."""
         if condition is None:
             return True
-        is_there = any(start in self.matches_up_to(before, label) and self.ends_of_branch(behind, label, {end})
-                       for before, behind in self.ruleset.rules[condition.rule])
+        is_there = any(start in self.matches_up_to(before, label) and self.ends_of_branch(after, label, {end})
+                       for before, after in self.ruleset.rules[condition.rule])
         return is_there == (condition.word == "when")
 
     # Valid labels.
@@ -74,13 +74,29 @@ class RulesetLabels:
         pieces.update((variant, None) for variant in variants if not is_cut(variant, self.entries))
         return pieces
 
+    def cause(self, label):
+        """Why a label that is made of sources may not be asked about: the furthest place to which sources that may stand reach
+        and where one may not, after which the rest is made of sources, with the condition of the longest such source there; or the
+        number of the first demand that is broken, from 1, and that demand."""
+        holds = lambda source, start: self.holds(self.pieces[source], label, start, start + len(source))
+        fits = reached(label, self.inside, holds)
+        if len(label) not in fits:
+            ends_well = lambda end: len(label) - end in reached(label[end:], self.inside, lambda source, start: True)
+            misplaced = [(start, len(source), source) for start in fits for source in self.inside if label.startswith(source, start)
+                         and not holds(source, start) and ends_well(start + len(source))]
+            start, _, source = max(misplaced)
+            return start, self.pieces[source]
+        return next((number, demand) for number, demand in enumerate(self.ruleset.demands, 1) if not self.meets(demand, label))
+
     def is_valid(self, label):
         holds = lambda piece, start: self.holds(self.pieces[piece], label, start, start + len(piece))
-        return self.keeps_demands(label) and len(label) in reached(label, self.pieces, holds)
+        return self.meets_demands(label) and len(label) in reached(label, self.pieces, holds)
 
-    def keeps_demands(self, label):
-        return all(self.is_somewhere(demand.pattern, label) == (demand.word == "%always")
-                   for demand in self.ruleset.demands)
+    def meets_demands(self, label):
+        return all(self.meets(demand, label) for demand in self.ruleset.demands)
+
+    def meets(self, demand, label):
+        return self.is_somewhere(demand.pattern, label) == (demand.word == "%always")
 
     def is_somewhere(self, branches, label):
         return bool(self.ends(branches, label, set(range(len(label) + 1))))
@@ -89,7 +105,7 @@ class RulesetLabels:
         """The number by which the ruleset refuses a label, or None."""
         if not is_cut(label, self.inside):
             return NOT_MADE_OF_ENTRIES
-        return None if label in self.spelled(label) and self.keeps_demands(label) else NOT_VALID
+        return None if label in self.spelled(label) and self.meets_demands(label) else NOT_VALID
 
     # What a label spells.
 
@@ -153,11 +169,11 @@ class RulesetLabels:
         """Whether the condition can't hold of a part that begins there, whatever follows."""
         if condition is None:
             return False
-        contexts = [(start in self.matches_up_to(before, label), behind)
-                    for before, behind in self.ruleset.rules[condition.rule]]
+        contexts = [(start in self.matches_up_to(before, label), after)
+                    for before, after in self.ruleset.rules[condition.rule]]
         if condition.word == "when":
             return not any(is_there for is_there, _ in contexts)
-        return any(is_there and not behind for is_there, behind in contexts)
+        return any(is_there and not after for is_there, after in contexts)
 
 
 def text_of(points):

@@ -209,6 +209,8 @@ FAULTS = [
     ("%never " + "(0061)" * 1170 + "\n", 2, 34), ("%never " + "(" * 2000 + "0061" + ")" * 2000 + "\n", 2, 34),
     (FULL + "0061\n", 5, 34), ("0000..10FFFF\n", 2, 34), ("#" * 8193 + "\n", 2, 34),
     (("#" * 8191 + "\n") * 1024, 1025, 34),
+    # The last line ends one byte past what a text may have, so that byte has to be read.
+    (("#" * 8191 + "\n") * 1023 + "#" * 8180 + "\n\n", 1026, 34),
 ]
 
 # A text as it stands, the option that names its file, and the line with the fault of syntax.

@@ -176,8 +176,7 @@ class Run:
         if "explain" not in options.given:
             return ""
         mode = "jump" if "jump" in options.given else options.mode
-        sources = table[0].inside if table else ()
-        cause = self.causes.of_body(mode, body, refusal, sources)
+        cause = self.causes.of_body(mode, body, refusal, table[0] if table else None)
         return "" if cause is None else f": {cause}"
 
     def tail_of_registered(self, options, files, number, refusal):

@@ -3,7 +3,11 @@
 `of_fault` gives what the message of a faulty line goes on with where causes are told, or None. A lexeme can't stand where it is if
 no entry, range or definition of the version begins with the lexemes up to it: whether one does is tried out by what may come after."""
 
+import collections
 import re
+
+from notation.forms import Tokens, entry_of
+from notation.patterns import NoForm
 
 SYNTAX, SAME_SOURCE, SAME_VARIANT, BAD_CLASS, LIMIT, NO_SUCH_NAME, SAME_NAME = range(30, 37)
 LINE_LIMITS = {1: 1024, 2: 1024, 3: 8192}
@@ -11,14 +15,15 @@ LINE_LIMITS = {1: 1024, 2: 1024, 3: 8192}
 LEXEME = re.compile(rb"[-|:!,/()?*^$]|\.+|[^ \t.|:!,/()?*^$-]+")
 POINT = re.compile(rb"(?:[Uu]\+)?([0-9A-Fa-f]{4,6})")
 SEQUENCE = "P(?:-P)*"
-# The forms of each version over the kinds of lexemes: P for a code point, R for '..'.
+# The forms of tables over the kinds of lexemes: P for a code point, R for '..'. Those of a ruleset are in notation/forms.py.
 FORMS = {
     1: re.compile(rf"{SEQUENCE}(?:\|{SEQUENCE}(?::{SEQUENCE})*)?"),
     2: re.compile(rf"PRP|{SEQUENCE}(?:\|!?{SEQUENCE}(?::!?{SEQUENCE})*)?"),
-    3: re.compile(rf"!?PRP|!?{SEQUENCE}(?:\|!?{SEQUENCE}(?::!?{SEQUENCE})*)?"),
 }
-# What completes each beginning of a form: nothing, a code point, or the greatest one.
-ENDS = [[], [b"0061"], [b"10FFFF"]]
+# What completes each beginning of a form: nothing, a code point, the greatest one, or a name that no line has.
+ENDS = [[], [b"0061"], [b"10FFFF"], [b"n" * 32]]
+# A name comes after each of these.
+BEFORE_NAMES = (b"as", b",", b"when", b"unless")
 NAME = re.compile(rb"[A-Za-z][A-Za-z0-9_]{0,31}")
 # What completes a beginning of a definition that is no pattern: a keyword, a name, what stands after it.
 DEFINITION_ENDS = ENDS + [[b"%tag", b"a"], [b"a"], [b"a", b"0061"], [b"a", b"_"]]
@@ -60,6 +65,8 @@ def place_in(line, version, number, may_stand, before=()):
         return wrong_place(line, found, lambda lexemes: begins_a_form(lexemes, version))
     if not is_whole([lexeme for _, lexeme in found], 3):
         return None
+    if number == NO_SUCH_NAME:
+        return unknown_name(found, [lexemes_of(each) for each in before])
     look = {BAD_CLASS: bad_class, SAME_VARIANT: same_variant, SAME_SOURCE: same_source, LIMIT: past_limit}[number]
     return look(found, may_stand)
 
@@ -78,11 +85,25 @@ def kind_of(lexeme):
 
 def is_whole(lexemes, version):
     """Whether the lexemes are an entry or a range."""
+    if version == 3:
+        return entry_in(lexemes) is not None
     kinds = "".join(map(kind_of, lexemes))
     if not FORMS[version].fullmatch(kinds):
         return False
     points = [point_of(lexeme) for lexeme in lexemes if kind_of(lexeme) == "P"]
     return "R" not in kinds or points[0] <= points[1]
+
+
+def entry_in(lexemes):
+    """What the lexemes say, if they are an entry or a range of a ruleset."""
+    rest = Tokens(b"")
+    rest.rest = collections.deque(lexemes)
+    try:
+        form = entry_of(rest)
+        rest.end()
+    except NoForm:
+        return None
+    return form
 
 
 def begins_a_form(lexemes, version):
@@ -203,12 +224,12 @@ def is_context(branch):
 
 
 def points_of(found):
-    """For each sequence its code points, each with the byte at which it stands."""
+    """For each sequence its code points, each with the byte at which it stands. A name may look like a code point."""
     sequences = [[]]
-    for byte, lexeme in found:
+    for (_, before), (byte, lexeme) in zip([(0, b""), *found], found):
         if lexeme in (b"|", b":"):
             sequences.append([])
-        elif point_of(lexeme) is not None:
+        elif before not in BEFORE_NAMES and point_of(lexeme) is not None:
             sequences[-1].append((byte, point_of(lexeme)))
     return sequences
 
@@ -223,13 +244,27 @@ def bad_class(found, may_stand):
 
 
 def same_variant(found, may_stand):
+    """The first variant that is equal to the source, or to one before it, unless both have conditions, and other ones."""
     sequences = points_of(found)
-    values = [[point for _, point in sequence] for sequence in sequences]
-    return next(f"variant at byte {sequences[number][0][0]}" for number, value in enumerate(values) if value in values[:number])
+    source, *variants = entry_in([lexeme for _, lexeme in found]).entry.mapped()
+    for number, variant in enumerate(variants):
+        equal = [each.condition for each in variants[:number] if each.points == variant.points]
+        if variant.points == source.points or (equal and (None in equal or variant.condition in (None, *equal))):
+            return f"variant at byte {sequences[number + 1][0][0]}"
+    return None
 
 
 def same_source(found, may_stand):
     return f"source at byte {points_of(found)[0][0][0]}"
+
+
+def unknown_name(found, before):
+    """The first name of an entry or a range that no earlier line defines, of a tag or of a rule. `before` has the lexemes of each
+    line before."""
+    tags, rules = ({each[1] for each in before if each[:1] == [keyword]} for keyword in (b"%tag", b"%rule"))
+    names = zip([(0, b""), *found], found)
+    return next(quoted(byte, lexeme) for (_, after), (byte, lexeme) in names
+                if after in BEFORE_NAMES and lexeme not in (rules if after in (b"when", b"unless") else tags))
 
 
 def past_limit(found, may_stand):

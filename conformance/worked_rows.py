@@ -7,7 +7,6 @@ tables/check.py) must answer so, and so must the program, where it is built.
 
 import argparse
 import collections
-import functools
 import pathlib
 import subprocess
 import sys
@@ -23,7 +22,6 @@ from registration import Registration
 from second_run import TEXTS, Run, Unknown
 from unicode_data import Classes
 
-RULESET_MODES = {"--ruleset", "--check-ruleset"}
 SHARP_S = "0061\n0065\n0072\n0073\n0074\n0073-0073|00DF\n00DF|0073-0073\n"
 
 # The words before the table's file, the table, the label, and what is printed.
@@ -223,21 +221,14 @@ def program_answer(program, words, given, files):
     return done.stdout.decode(), done.stderr.decode(), done.returncode
 
 
-@functools.cache
-def knows_rulesets(program):
-    """Whether the program is there and reads rulesets."""
-    return program.exists() and b"--ruleset" in subprocess.run([program.resolve(), "--help"], capture_output=True).stdout
-
-
 def answers(run, program, words, given, files):
-    """Who was asked, and the answer: the second writing where it can tell, and the program where it is built and knows the
-    words."""
+    """Who was asked, and the answer: the second writing where it can tell, and the program where it is built."""
     try:
         output, messages, status = run.answer(words, given, files)
         yield "the second writing", (output.decode(), messages.decode(), status)
     except Unknown:
         pass
-    if knows_rulesets(program) if words[0] in RULESET_MODES else program.exists():
+    if program.exists():
         yield "the program", program_answer(program.resolve(), words, given, files)
 
 
@@ -271,8 +262,6 @@ def main():
             print(f"{table!r}: canonical text {found!r}, expected {wanted!r}")
     if not program.exists():
         print(f"{program} is not there, so the second writing alone was asked")
-    elif not knows_rulesets(program):
-        print(f"{program} has no --ruleset yet, so of rulesets the second writing alone was asked")
     print(f"{asked['worked rows']} worked rows and {asked['canonical texts']} canonical texts, {wrong} answered otherwise; "
           f"asked of the second writing {asked['the second writing']}, of the program {asked['the program']}")
     return 1 if wrong else 0

@@ -16,7 +16,7 @@ HEAD = """\
 # Made by tables/make.py from the sets of tables/han.txt, and from the character sets in the Unihan database of Unicode
 # {version}: a character that has variants is simplified if it is in GB 2312 alone (kGB0), traditional if it is in Big Five
 # alone (kBigFive), and both if it is in both. So the holder of a label may have the one that is simplified throughout,
-# and the one that is traditional throughout, and a mixture of both is for nobody else. {pairs:,} characters have variants,
+# and the one that is traditional throughout, and nobody else can have a mixture of both. {pairs:,} characters have variants,
 # {others:,} have none.
 #
 # Compared with the directions of Unihan's pairs (kSimplifiedVariant, kTraditionalVariant): of {tagged:,} characters of one

@@ -2,9 +2,9 @@
 """Makes a variant table from what others publish: python3 tables/from_lgr.py [OPTIONS] FILE > table.txt
 
 It needs Python 3.10 or later and the program idn2. FILE is a Label Generation Ruleset in XML (RFC 7940), or a table in
-the line format of RFC 4290. The table that is printed is in the notation of docs/NOTATION.md, and accepts no label that
-FILE refuses, unless --accept-more is given. docs/GUIDE.md, under 'Start from what others publish', says what is left
-out, what is blocked and what is refused.
+the line format of RFC 4290. What is printed is a ruleset in the notation of docs/NOTATION.md, which says exactly what FILE
+says; with --version 1 or 2 a table that accepts no label that FILE refuses, unless --accept-more is given. docs/GUIDE.md,
+under 'From a published ruleset to a service', says what is left out and what is refused.
 
 Status: 0 the table is printed; 1 FILE can't be said as a table, and nothing is printed; 2 the options, FILE or idn2
 can't be used.

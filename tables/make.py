@@ -1,5 +1,5 @@
 #!/usr/bin/env python3
-"""Makes the example tables of this folder anew from Unicode's data: python3 tables/make.py
+"""Makes the example tables of this folder from Unicode's data: python3 tables/make.py
 
 It reads these files of Debian's package unicode-data (/usr/share/unicode, or the folder named in UNICODE_DATA):
 
@@ -52,7 +52,7 @@ ARABIC = """\
 # Made by tables/make.py from Unicode {version}: the digits of equal value in UnicodeData.txt; the letters that
 # NamesList.txt has under 'Based on ISO 8859-6', for Arabic, and those that it marks as used for Persian or Urdu.
 # A label never mixes the two kinds of digits (RFC 5892, appendices A.8 and A.9). So a label of letters and then
-# digits has two variants, however many digits it has. The one in the other digits is for nobody: most of the digits of
+# digits has two variants, however many digits it has. Nobody can have the one in the other digits, since most digits of
 # equal value look the same.
 """
 

@@ -2,9 +2,9 @@
 """Makes rulesets of version 3 of the table notation with tables/from_lgr.py, and asks them for labels.
 
 Each part of RFC 7940 has a small ruleset here (converted_rows.py), with the text that it becomes and with answers that the RFC
-gives. Random rulesets (rich_ruleset.py) are asked beside a plain reading of the RFC (plain_ruleset.py). The program doesn't
-read such rulesets yet, so their answers are those of the second writing, conformance/ruleset_labels.py. The last line is
-'N passed, M failed', and the exit status is 0 where nothing failed."""
+gives. Random rulesets (rich_ruleset.py) are asked beside a plain reading of the RFC (plain_ruleset.py). The second writing
+(conformance/ruleset_labels.py) answers, and the program, which has to say the same. The last line is 'N passed, M failed', and
+the exit status is 0 where nothing failed."""
 
 import itertools
 import os
@@ -17,7 +17,7 @@ from converted_rows import (FAULTS, LABELS, LIMITS, NO_PROPERTIES, PROPERTIES, R
 from plain_ruleset import PlainRuleset
 from program import PROGRAM, ROOT, run_tests, table_file
 from rich_ruleset import RichRuleset
-from rulesets import comments_of, entries_of, made, ruleset, stored
+from rulesets import comments_of, converted as by_script, entries_of, listings, registrable, ruleset, stored
 from version_3 import BY_PROGRAM
 
 sys.path += [os.path.join(ROOT, "conformance"), os.path.join(ROOT, "tables")]
@@ -52,7 +52,7 @@ def converted(path):
     """What is made of a file, without a process: the text, the messages and the status."""
     told, command.Program = [], KnownProgram
     try:
-        text = command.made(command.options_of(["--version", "3", "--idn2", PROGRAM, path]), told.append)
+        text = command.made(command.options_of(["--idn2", PROGRAM, path]), told.append)
     except Fault as fault:
         text, told = None, [str(fault)]
     messages = "".join(line + "\n" for line in told)
@@ -70,6 +70,15 @@ def wanted(text):
     return {word.lstrip("!"): "blocked" if word.startswith("!") else "allocatable" for word in text.split()}
 
 
+def program_says(folder, text, answers):
+    """The program says of labels what these answers say, as far as labels and variants may be registered."""
+    known = registrable(set(answers).union(*(variants or () for variants in answers.values())))
+    found = listings(folder, text, known.intersection(answers))
+    for label in known.intersection(answers):
+        expected = {variant: kind for variant, kind in (answers[label] or {}).items() if variant in known}
+        assert found.get(label, {}) == expected, (label.encode("unicode_escape"), found.get(label), expected)
+
+
 # What each part of the standard becomes.
 
 
@@ -84,6 +93,7 @@ def says_each_part(folder):
         for label, row in answers.items():
             found = labels.answer(label), plain.variants(label)
             assert found == (wanted(row), wanted(row)), (name, label, row, found)
+        program_says(folder, text, {label: wanted(row) for label, row in answers.items()})
 
 
 def refuses_what_no_table_says(folder):
@@ -149,8 +159,10 @@ def says_large_rulesets(folder):
     assert (status, sets) == (0, ["many", "many_2"]), (told, sets)
     assert "%rule r (@many / @many_2) _\n" in text, text[:400]
     labels = labels_under(text)
-    behind = {letter: labels.refusal(letter + "a") is None for letter in "一丁丂寀寁"}
-    assert behind == {"一": True, "丁": False, "丂": True, "寀": True, "寁": False}, behind
+    answers = {f"{letter}a": labels.answer(f"{letter}a") for letter in "一丁丂寀寁"}
+    accepted = [label[0] for label in answers if answers[label]]
+    assert accepted == ["一", "丂", "寀"], accepted
+    program_says(folder, text, answers)
 
 
 def joins_in_two_ways(folder):
@@ -179,16 +191,16 @@ def says_what_stored_rulesets_say(folder):
         if status:
             refused.append((name, told.splitlines()[0]))
         else:
-            assert compared(stored(name), text, random.Random(name), 60) > 10, name
+            assert compared(folder, stored(name), text, random.Random(name), 60) > 10, name
     assert refused == [
         ("rfc4290.txt", "no entry of it can stand in a table"),
         ("standard-rules.xml", "line 50: action 'invalid': the action on line 49 goes first, and is 'blocked'"),
     ], refused
 
 
-def compared(path, text, chosen, count):
+def compared(folder, path, text, chosen, count):
     """Some labels of up to four parts have the answers of a plain reading. How many of them were accepted is the answer."""
-    plain, labels, accepted = PlainRuleset(path), labels_under(text), 0
+    plain, labels, answers = PlainRuleset(path), labels_under(text), {}
     parts = sorted(part for part in plain.parts if all(map(BY_PROGRAM.may_stand, map(ord, part))))
     each = sorted({"".join(some) for size in (1, 2, 3) for some in itertools.product(parts, repeat=size)})
     each = chosen.sample(each, min(len(each), count)) + ["".join(chosen.choices(parts, k=4))]
@@ -202,8 +214,9 @@ def compared(path, text, chosen, count):
             expected = {variant: kind for variant, kind in expected.items()
                         if all(map(BY_PROGRAM.may_stand, map(ord, variant)))}
         assert found == expected, (label.encode("unicode_escape"), found, expected)
-        accepted += found is not None
-    return accepted
+        answers[label] = found
+    program_says(folder, text, answers)
+    return sum(map(bool, answers.values()))
 
 
 def says_what_random_rulesets_say(folder):
@@ -216,7 +229,7 @@ def says_what_random_rulesets_say(folder):
         if text:
             count += 1
             try:
-                accepted += compared(path, text, random.Random(seed), 25)
+                accepted += compared(folder, path, text, random.Random(seed), 25)
             except AssertionError as reason:
                 raise AssertionError(f"seed {seed}: {reason}: {one.data} {one.rules} {text}") from reason
     assert count >= LEAST_CONVERTED and accepted >= LEAST_ACCEPTED, (count, accepted)
@@ -228,9 +241,18 @@ def says_what_random_rulesets_say(folder):
 def has_no_options_that_say_less(folder):
     path = stored("hyphen-rule.xml")
     for options in (["--accept-more"], ["--close-gaps"]):
-        output, told, status = made(path, "--version", "3", *options)
-        assert (output, status) == ("", 2) and "version 3" in told, (options, told)
-    assert entries_of(made(path)[0]).startswith("%version 2\n")
+        for version in ([], ["--version", "3"]):
+            output, told, status = by_script(path, *version, *options)
+            assert (output, status) == ("", 2) and "name --version 2" in told, (options, told)
+
+
+def writes_version_3_unless_one_is_named(folder):
+    path = stored("hyphen-rule.xml")
+    without, named = by_script(path), by_script(path, "--version", "3")
+    assert without == named and without[1:] == ("", 0), (without, named)
+    for version in ("1", "2", "3"):
+        text = entries_of(by_script(path, "--version", version)[0])
+        assert text.startswith(f"%version {version}\n") == (version != "1"), text
 
 
 def says_untyped_variants(folder):
@@ -244,7 +266,7 @@ def says_untyped_variants(folder):
         (lines, [], "0061|!0062\n0062|!0061\n"),
         (lines, ["--untyped", "allocatable"], "0061|0062\n0062|0061\n"),
     ):
-        text, told, status = made(file, "--version", "3", *options)
+        text, told, status = by_script(file, *options)
         assert (entries_of(text), told, status) == ("%version 3\n" + entries, "", 0), (file, options, text, told)
 
 
@@ -260,6 +282,7 @@ TESTS = [
     says_what_stored_rulesets_say,
     says_what_random_rulesets_say,
     has_no_options_that_say_less,
+    writes_version_3_unless_one_is_named,
     says_untyped_variants,
 ]
 

@@ -362,7 +362,7 @@ LABELS = [
      "line 2: type 'typo': no action names it, so that it refuses and blocks no label\n"
      "line 4: action 'invalid': no label of these entries triggers it\n"
      "line 4: rule 'r' and 1 more: it makes no difference\n"
-     "the table has 1 gap: tables/check.py prints them\n"),
+     "the table has 1 gap: idn2 --check-ruleset prints them\n"),
 ]
 # Each limit of the notation.
 TOO_LONG = "it is too long, or has too many parts within each other\n"

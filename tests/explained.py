@@ -113,6 +113,37 @@ MORE_ROWS = [
 ]
 
 
+# Rulesets, and the labels that they refuse by 41: why each isn't valid. A ruleset stands without its version line.
+CONSONANTS = "%set C 0915..0939\n%rule sign @C 093C? _\n0915..0939\n093C when sign\n093E..0940 when sign\n"
+DIGITS = "%set ascii 0030..0039\n%set deva 0966..096F\n%never @ascii .* @deva / @deva .* @ascii\n0030|!0966\n0966|!0030\n0031|!0967\n0967|!0031\n"
+RULESET_ROWS = [
+    (CONSONANTS, "काा", "U+093E at place 3: when sign"),
+    ("%set C 0E01..0E2E\n%rule lead _ @C\n0E01..0E2E\n0E40..0E44 when lead\n", "\u0E01\u0E40", "U+0E40 at place 2: when lead"),
+    ("%set C 0E01..0E2E\n%rule lead _ @C\n0E01..0E2E\n0E40..0E44 when lead\n", "\u0E40\u0E40\u0E01", "U+0E40 at place 1: when lead"),
+    ("%rule edge ^ _ / _ $ / ^ . . _\n0061..007A\n002D unless edge\n", "ab-c", "U+002D at place 3: unless edge"),
+    (DIGITS, "0\u0967", "demand 1, never"),
+    ("%set kana 3041..3096 30A1..30FA\n%always @kana\n3041..3096\n4E00..9FFF\n", "日本", "demand 1, always"),
+    ("%never 0061 .* 0061\n0061..007A\n", "aba", "demand 1, never"),
+    ("%rule ya _ 092F\n%rule halant 0915 _\n0915\n092F\n0931-094D when ya\n094D when halant\n", "\u0915\u0931\u094D\u0915",
+     "U+0931 at place 2: when ya"),
+    ("%set C 0061..0063\n%rule x ^ (@C 0068)* @C _\n0061..0063\n0068\n0065 when x\n", "aabe", "U+0065 at place 4: when x"),
+    ("%rule always _\n0061 when always\n0062 unless always\n", "ab", "U+0062 at place 2: unless always"),
+    ("%rule r 0061 _\n0061\n0062..0063 when r\n", "ca", "U+0063 at place 1: when r"),
+    # the first of the demands that are broken, and a condition before any demand
+    ("%never 007A\n%always 0061\n%never 0062\n0062..0063\n", "bc", "demand 2, always"),
+    ("%always 0062\n%never 0061\n%always 0063\n0061\n0062\n", "ab", "demand 2, never"),
+    ("%rule r 0061 _\n%never 0062\n0061\n0062 when r\n0063 when r\n", "abc", "U+0063 at place 3: when r"),
+    # of the sources that are misplaced the last; of those at one place the longest
+    ("%rule no 0078 _\n%rule nor 0079 _\n0061\n0061-0062\n0062-0063 when no\n0063 when nor\n", "abc", "U+0063 at place 3: when nor"),
+    ("%rule no 0078 _\n%rule nor 0079 _\n0061\n0062 when no\n0062-0063 when nor\n0063\n", "abc", "U+0062 at place 2: when nor"),
+    ("%rule no 0078 _\n%rule nor 0079 _\n0061\n0062 when no\n0062-0063 when nor\n0063\n0064\n", "abd", "U+0062 at place 2: when no"),
+    # a source that may stand, and one after it that may not
+    ("%rule b 0062 _\n0061\n0062\n0063 when b\n", "bcac", "U+0063 at place 4: when b"),
+    ("%rule abcdefghijklmnopqrstuvwxyz_01234 0061 _\n0061..007A unless abcdefghijklmnopqrstuvwxyz_01234\n", "ba" + "z" * 61,
+     "U+007A at place 3: unless abcdefghijklmnopqrstuvwxyz_01234"),
+]
+
+
 # Files of registered labels: the number of the wrong line, its message, and the cause after it. Out of order a label is told by
 # the first code point at which it differs from the line before, or by where it ends.
 REGISTERED_ROWS = [
@@ -162,7 +193,14 @@ TABLE_ROWS = [
     (VERSION_2 + "0061|0062 when r\n", 2, SYNTAX, "'when' at byte 11"),
     (VERSION_2 + "%version 2\n", 2, SYNTAX, "'%version' at byte 1"),
     (VERSION_3 + "!!0061\n", 2, SYNTAX, "'!' at byte 2"),
-    (VERSION_3 + "0061 as t\n", 2, SYNTAX, "'as' at byte 6"),
+    (VERSION_3 + "!0061 as t\n", 2, SYNTAX, "'as' at byte 7"),
+    (VERSION_3 + "0061 as t,t\n", 2, SYNTAX, "'t' at byte 11"),
+    (VERSION_3 + "0061 when r x\n", 2, SYNTAX, "'x' at byte 13"),
+    (VERSION_3 + "0061..0063 unless\n", 2, SYNTAX, "the line ends at byte 18"),
+    (VERSION_3 + "0061 when r\n", 2, "35 name not defined", "'r' at byte 11"),
+    (VERSION_3 + "%tag t\n0061 as t , v|0062 when t\n", 3, "35 name not defined", "'v' at byte 13"),
+    (VERSION_3 + "%never @C\n", 2, "35 name not defined", "'@C' at byte 8"),
+    (VERSION_3 + "%never 0061 / 0041\n", 2, CLASS, "U+0041 at byte 15"),
     (VERSION_3 + "%version 3\n", 2, SYNTAX, "'%version' at byte 1"),
     (VERSION_3 + "%\n", 2, SYNTAX, "'%' at byte 1"),
     (VERSION_3 + "%tag\n", 2, SYNTAX, "the line ends at byte 5"),
@@ -198,11 +236,13 @@ TABLE_ROWS = [
     (VERSION_3 + "%rule r ((0061*)*)* _\n", 2, OVER, None),
     ("0061\n0041\n", 2, CLASS, "U+0041 at byte 1"),
     ("0061|0062-U+0640:0041\n", 1, CLASS, "U+0640 at byte 11"),
+    (VERSION_3 + "%tag abcd\n0061 as abcd|0041\n", 3, CLASS, "U+0041 at byte 14"),
     (VERSION_2 + "005A..0061\n", 2, CLASS, "U+005A in the range at byte 1"),
     (VERSION_2 + "\t0061..0100\n", 2, CLASS, "U+007B in the range at byte 2"),
     (VERSION_2 + "10FFFE..10FFFF\n", 2, CLASS, "U+10FFFE in the range at byte 1"),
     ("0061|0061\n", 1, TWICE, "variant at byte 6"),
     (VERSION_2 + "0061|0062:0063:!0062:0063\n", 2, TWICE, "variant at byte 17"),
+    (VERSION_3 + "%rule r _\n%rule s 0061 _\n0061|0062 when r:0062 when s:0063:0063\n", 4, TWICE, "variant at byte 35"),
     ("0061\n0062\n  0061|0063\n", 3, AGAIN, "source at byte 3"),
     (VERSION_2 + "0062\n0061..0063\n", 3, AGAIN, "source at byte 1"),
     ("0061" + " " * 1021 + "\n", 1, OVER, "the line goes on at byte 1025"),
@@ -248,6 +288,14 @@ def tells_the_causes_of_the_rows(folder):
 def tells_the_causes_of_more_rows(folder):
     for row in MORE_ROWS:
         expect_row(folder, *row)
+
+
+def tells_why_a_label_is_not_valid(folder):
+    """With --jump, too, of the label of a request."""
+    for text, label, cause in RULESET_ROWS:
+        file = table_file(folder, (VERSION_3 + text).encode(), "ruleset.txt")
+        expect_row(folder, label, ["--ruleset", file], "41 not valid under the table", cause)
+        expect_row(folder, label + "\tx", ["--ruleset", file, "--jump"], "41 not valid under the table", cause)
 
 
 def tells_each_line_its_own_cause(folder):
@@ -322,6 +370,7 @@ def changes_nothing_else(folder):
 TESTS = [
     tells_the_causes_of_the_rows,
     tells_the_causes_of_more_rows,
+    tells_why_a_label_is_not_valid,
     tells_each_line_its_own_cause,
     answers_the_same_with_the_option,
     tells_the_cause_of_a_wrong_registered_line,

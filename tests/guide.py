@@ -330,6 +330,64 @@ def takes_what_it_cannot_read_for_unknown(kit):
         kit.expect_unknown(["change.sh", GERMAN, GERMAN, bad], b"not all variants are known: ")
 
 
+SIGMA = "%version 3\n%rule end _ $\n03B1..03C1\n03C3|03C2 when end\n03C2|03C3\n03C4..03C9\n"
+
+
+@in_each_setting
+def takes_rulesets_as_tables(kit):
+    """What a table of version 2 says a ruleset of the same lines says, whatever the script, and however its first line ends."""
+    lines = {"german": kit.read(GERMAN).split(b"\n"), "han": [b"%version 2", *kit.read(HAN).split(b"\n")]}
+    for name, (_, *others) in lines.items():
+        kit.write(f"{name}.txt", b"\n".join([b"%version 2", *others]))
+        kit.write(f"{name}3.txt", b"\n".join([b"%version 3\r" if name == "german" else b"%version 3", *others]))
+    kit.write("registered.txt", "haus\nmaß\n")
+    kit.write("names.txt", "haus\nmaß\n")
+    kit.write("keys.txt", "xn--fiqs8s\n")
+    labels = "strasse\nsss\n".encode()
+    for words in (*QUESTIONS, ["taken.sh", GERMAN, "registered.txt", "laus"], ["keys.sh", GERMAN, "maus"], ["ask.py", GERMAN],
+                  ["combine.py", GERMAN, HAN], ["list_all.sh", HAN, "中国"], ["accept.sh", GERMAN, GERMAN, "registered.txt", "m"]):
+        if words[0] == "registered.sh":
+            continue
+        found = []
+        for kind in ("", "3"):
+            shutil.rmtree(os.path.join(kit.folder, "pages"), ignore_errors=True)
+            kit.write("names.txt", "haus\nmaß\n")
+            changed = [{GERMAN: f"german{kind}.txt", HAN: f"han{kind}.txt"}.get(word, word) for word in words]
+            output, message, status = kit.run(*changed, given=labels)
+            found.append((output.replace(b"3.txt", b".txt"), message.replace(b"3.txt", b".txt"), status))
+        assert found[0] == found[1], (words, found)
+
+
+@in_each_setting
+def finds_what_a_ruleset_hides(kit):
+    """A registered label that has the new one as a variant, and not the other way round: by a condition of a variant, by one of
+    a source that is within a longer one, and by a longer outside source. The ways that would miss it refuse the ruleset."""
+    hidden = b"a registered label has it as a variant\n"
+    within = "%version 3\n%rule after_a 0061 _\n0061|0078 \n0078 unless after_a|0061\n0061-0078\n"
+    outside = "%version 3\n0061\n0062|0061-0061\n!0061-0061|0062\n"
+    for text, label, registered in ((SIGMA, "σα", "ςα"), (within, "ax", "aa"), (outside, "aa", "b")):
+        kit.write("ruleset.txt", text)
+        for others in ("", "b\nc\n"):
+            kit.write("registered.txt", "".join(sorted({f"{registered}\n", *others.splitlines(keepends=True)})))
+            kit.expect(["taken.sh", "ruleset.txt", "registered.txt", label], b"", 1, hidden)
+        kit.expect(["taken.sh", "ruleset.txt", "registered.txt", registered],
+                   f"{registered}\t".encode() + a_label_of(registered) + b"\tallocatable\n", 1)
+        kit.write("registered.txt", "c\n")
+        kit.expect(["taken.sh", "ruleset.txt", "registered.txt", label], b"", 0)
+        reason = b"a variant has a condition: " if text == SIGMA else b"a sequence has several code points: "
+        kit.expect_unknown(["keys.sh", "ruleset.txt", label], reason)
+        kit.write("registered.txt", f"{registered}\n")
+        with open(os.path.join(kit.folder, "registered.txt"), "rb") as file:
+            kit.run("fill.py", "registered.db", given=file.read())
+        kit.expect_unknown(["collisions.py", "ruleset.txt", "registered.db"], b"collisions may be hidden: ruleset.txt",
+                           given=f"{label}\n".encode())
+        os.remove(os.path.join(kit.folder, "registered.db"))
+
+
+def a_label_of(label):
+    return label.encode() if label.isascii() else b"xn--" + label.encode("punycode")
+
+
 @in_each_setting
 def takes_a_full_disk_for_unknown(kit):
     kit.write("registered.txt", "haus\n")
@@ -376,7 +434,8 @@ def makes_each_file_of_an_output_by_its_status(folder):
 @in_each_setting
 def leaves_a_file_as_it_was_where_its_recipe_fails(kit):
     """What is read is missing; the program or Python fails or is killed; the disk is full. Else it is made."""
-    os.remove(os.path.join(kit.folder, "published.xml"))
+    for name in ("published.xml", "plain.xml"):
+        os.remove(os.path.join(kit.folder, name))
 
     def run_recipe(command, **more):
         return subprocess.run(["sh", "-c", command], cwd=kit.folder, env=kit.environment, stdin=subprocess.DEVNULL,
@@ -393,8 +452,10 @@ def leaves_a_file_as_it_was_where_its_recipe_fails(kit):
             expect_failure("nothing to read", command, name)
     for name in ("cyrillic.txt", "alike.txt"):
         kit.write(name, "0061\n")
-    for name in ("published.xml", "latin.xml"):
+    for name in ("published.xml", "own.xml", "newer.xml"):
         kit.write(name, SCRIPTS["published.xml"])
+    for name in ("plain.xml", "latin.xml"):
+        kit.write(name, SCRIPTS["plain.xml"])
     failing = "echo 0061\necho lost >&2\n"
     for command, name in RECIPES:
         # The script that converts takes the program beside it.
@@ -440,12 +501,13 @@ def takes_a_lost_program_for_unknown(kit):
     kit.write("registered.txt", "maß\n")
     kit.write("names.txt", "maß\nabc\n")
     kit.write("keys.txt", "xn--fiqs8s\n")
-    part = ("#!/bin/sh\ncase $* in *--check-table* | --version) exec {0} \"$@\" ;; esac\n"
+    kit.write("sigma.txt", SIGMA)
+    part = ("#!/bin/sh\ncase $* in *--check-table* | *--check-ruleset* | --version) exec {0} \"$@\" ;; esac\n"
             "{0} \"$@\" | head -c {1}\n{2}\n")
     for end in ("kill -9 $$", "exit 3", "exit 4"):
         for count in (0, 7, 30):
             kit.instead_of("idn2", part.format(PROGRAM, count, end))
-            for words in QUESTIONS:
+            for words in (*QUESTIONS, ["taken.sh", "sigma.txt", "registered.txt", "σα"]):
                 output, message, status = kit.run(*words)
                 assert status == NOT_KNOWN, (words, output, message, status)
     assert glob.glob(kit.folder + "/pages/[0-9]") == []
@@ -667,6 +729,19 @@ def joins_tables_so_that_nothing_is_missed(kit):
             listed = kit.run("list_all.sh", "zone.txt", label)[0].decode().splitlines()[:-1]
             assert wanted <= {line.split("\t")[0] for line in listed}, (tables, label, listed)
             assert all(line.endswith("\tblocked") for line in listed if line.split("\t")[0] != label), listed
+
+
+@in_each_setting
+def joins_rulesets(kit):
+    """Of a ruleset its sources, outside ones among them, and its pairs, without tags and conditions."""
+    kit.write("ruleset.txt", "%version 3\n%tag as\n%tag BEEF\n%rule when _ 0062\n0061 as as , BEEF when when|0062 as BEEF:!0063\tunless when\n"
+              "!0430 unless when|! 0061\n0064 .. 0065 as BEEF when when\n0065-0066\n")
+    kit.write("other.txt", "0062|0067\n")
+    joined = ("0061", "0062", "0063", "0067", "0430")
+    lines = {each: f"{each}|" + ":".join(f"!{other}" for other in joined if other != each) for each in joined}
+    lines.update((each, each) for each in ("0064", "0065", "0065-0066"))
+    wanted = "%version 2\n" + "".join(lines[each] + "\n" for each in sorted(lines))
+    kit.expect(["combine.py", "ruleset.txt", "other.txt"], wanted.encode(), 0)
 
 
 @in_each_setting
@@ -990,6 +1065,8 @@ TESTS = [
     keeps_runs_at_once_apart,
     takes_a_stop_for_unknown,
     takes_what_it_cannot_read_for_unknown,
+    takes_rulesets_as_tables,
+    finds_what_a_ruleset_hides,
     takes_a_full_disk_for_unknown,
     takes_a_lost_program_for_unknown,
     takes_a_lost_end_of_the_lines_for_unknown,
@@ -999,6 +1076,7 @@ TESTS = [
     refuses_a_database_in_another_order,
     finds_by_postgresql_what_sets_have,
     joins_tables_so_that_nothing_is_missed,
+    joins_rulesets,
     joins_ranges_and_the_tables_that_come_with_the_program,
     chooses_among_tables,
     refuses_a_call_without_a_table,

@@ -27,6 +27,10 @@ ALLOCATING = b"%version 2\n0061..0063\n0073-0073|00DF\n00DF|0073-0073\n"
 DEFINING = b"%version 3\n%tag t\n%set A 0061..0063 0065\n%rule r ^ (@A / 0062)* _ / _ $\n0061|!0062\n0062\n"
 # A ruleset with two outside sources.
 OUTSIDE = b"%version 3\n0061|!0430\n!0430|!0061\n0062\n!0063|!0062\n"
+# A ruleset with two tags, a demand, and conditions of sources and of variants: after a letter of A comes no `c`, and an `e`
+# comes nowhere else; a `c` stands in place of `a` and `d` there alone, so it is a variant that is never valid.
+CONDITIONS = (b"%version 3\n%tag s\n%tag t\n%set A 0061..0063\n%rule r @A _\n%never 0064 0064\n0061 as s|0062 as t:!0063 when r\n"
+              b"0062 as t|0061 as s\n0063 unless r\n0064|0063 when r\n0065 when r\n")
 
 
 class Case(NamedTuple):
@@ -99,7 +103,28 @@ CASES = [
     Case(["--variants", "table"], b"%version 2\n0063..0061\n", [("", "", "idn2: table line 2: 30 table syntax\n")], 2),
     Case(["--ruleset", "table"], OUTSIDE, [("ab\n", "ab\tab\tallocatable\nаb\txn--b-7sb\tblocked\n#end 2\n", ""),
                                            ("аb\n", "", "idn2: line 2: 40 not made of table entries\n")], 1),
-    Case(["--ruleset", "table"], b"%version 3\n0061 when r\n", [("", "", "idn2: table line 2: 30 table syntax\n")], 2),
+    Case(["--ruleset", "table"], CONDITIONS,
+         [("aae\n", "aae\taae\tallocatable\nabe\tabe\tblocked\nbae\tbae\tblocked\nbbe\tbbe\tallocatable\n#end 4\n", ""),
+          ("ea\n", "", "idn2: line 2: 41 not valid under the table\n"),
+          ("dd\n", "", "idn2: line 3: 41 not valid under the table\n"),
+          ("ad\n", "ad\tad\tallocatable\nbd\tbd\tallocatable\n#end 2\n", ""),
+          ("f\n", "", "idn2: line 5: 40 not made of table entries\n")], 1),
+    Case(["--ruleset", "table", "--tries", "3", "--after", "aae"], CONDITIONS,
+         [("aae\n", "abe\tabe\tblocked\nbae\tbae\tblocked\nbbe\tbbe\tallocatable\n#stop 3 bbe\n", "")], 0),
+    Case(["--ruleset", "table", "--among", "registered"], CONDITIONS,
+         [("aae\n", "abe\tabe\tblocked\nbbe\tbbe\tallocatable\n#end 2\n", "")], 0, b"abe\nace\nbbe\n"),
+    # What a jump answers need not be valid.
+    Case(["--ruleset", "table", "--jump"], CONDITIONS, [("aae\tabf\n", "ace\n", "")], 0),
+    Case(["--ruleset", "table", "--json"], CONDITIONS,
+         [("ad\n", '{"line":1,"ulabel":"ad","alabel":"ad","disposition":"allocatable"}\n'
+           '{"line":1,"ulabel":"bd","alabel":"bd","disposition":"allocatable"}\n'
+           '{"line":1,"input":"ad","count":2,"complete":true}\n', "")], 0),
+    Case(["--check-ruleset", "table"], CONDITIONS,
+         [("", "missing 0062|0063\nmissing 0063|0061\nmissing 0063|0064\n#table 5 3\n", "")], 1),
+    Case(["--ruleset", "table"], b"%version 3\n%rule r _\n0061 when r\n0062 when s\n",
+         [("", "", "idn2: table line 4: 35 name not defined\n")], 2),
+    Case(["--check-ruleset", "table", "--explain"], b"%version 3\n!0061 as t\n",
+         [("", "", "idn2: table line 2: 30 table syntax: 'as' at byte 7\n")], 2),
     Case(["--ruleset", "table"], DEFINING, [("ab\n", "ab\tab\tallocatable\nbb\tbb\tblocked\n#end 2\n", "")], 0),
     Case(["--check-ruleset", "table"], DEFINING, [("", "missing 0062|0061\n#table 2 1\n", "")], 1),
     Case(["--ruleset", "table"], b"%version 3\n%set A 0061\n%rule r @A @B _\n",
@@ -390,6 +415,58 @@ def refuses_tables_over_a_limit(folder):
     expect(["--check-table", table_file(folder, b"%version 2\n4E00..5DFF")], b"", b"#table 4096 0\n", b"", 0)
 
 
+def conditions_at_every_limit():
+    """A ruleset that is as hard on labels of `a` and `b` as its limits allow: 4,096 atoms, of which most stand within two stars.
+    Such a label is followed through all of them, and meets the demands all the same; 166 rules are among them."""
+    stars = "((0061* @A?)* 0062?)"
+    demand = "%never ^ " + " ".join([stars] * 130) + " 0063\n"
+    rules = "".join(f"%rule r{number} @A* (0061 0061* / 0062) _ 0063 / ^ . _ 0063\n" for number in range(165))
+    entries = "0061 unless r0|0062 unless r163:0063 when last\n0062 unless r164\n0063\n"
+    return f"%version 3\n%set A 0061..0062\n{demand * 4}{rules}%rule last 0061 0061 0061 _\n{entries}"
+
+
+def sets_at_their_limits():
+    """256 sets, each of as many spans as its line has room for, all asked in one demand for each label."""
+    points = " ".join(f"{point:04X}" for point in range(0x4E00, 0x4E00 + 2 * 1600, 2))
+    names = [f"s{number}" for number in range(256)]
+    sets = "".join(f"%set {name} {points}\n" for name in names)
+    return f"%version 3\n{sets}%never {' / '.join(f'@{name} @{name} 0061' for name in names)}\n4E00..5FFF\n0061|0062\n0062|0061\n"
+
+
+def serves_hostile_rulesets(folder):
+    """Within a second: 4,096 atoms with stars within each other; 256 sets of thousands of spans; as many entries as there may be,
+    in falling order, each with 8 tags."""
+    table = table_file(folder, conditions_at_every_limit().encode())
+    for label in ("a" * 63, "ab" * 31):
+        done = within_a_second(["--ruleset", table, "--limit", "3", "--tries", "10", label])
+        assert done.stdout.splitlines()[0].split(b"\t")[0] == label.encode() and not done.stderr, done
+    table = table_file(folder, sets_at_their_limits().encode())
+    label = "".join(map(chr, range(0x4E01, 0x4E01 + 2 * 20, 2))) + "a"
+    done = within_a_second(["--ruleset", table, label])
+    assert done.stdout.decode().splitlines()[-1] == "#end 2" and not done.stderr, done
+    done = within_a_second(["--ruleset", table, "\u4e00\u4e02a"])
+    assert (done.stdout, done.returncode) == (b"", 1) and b": 41 not valid under the table" in done.stderr, done
+    spans = (range(0x4E00, 0xA000), range(0xAC00, 0xD7A4), range(0x20000, 0x2825C))
+    points = [f"{point:04X}" for span in spans for point in span]
+    tags = "abcdefgh"
+    lines = ["%version 3", *(f"%tag {tag}" for tag in tags), *(f"{point} as {','.join(tags)}" for point in reversed(points))]
+    table = table_file(folder, "\n".join(lines).encode())
+    assert within_a_second(["--check-ruleset", table]).stdout == b"#table 65536 0\n"
+    assert within_a_second(["--ruleset", table, "\u4e2d"]).stdout.decode() == "中\txn--fiq\tallocatable\n#end 1\n"
+
+
+def lists_in_the_largest_nets_of_rulesets(folder):
+    """One net for each of 8 tags: eight sources begin at each place, each with sixteen variants of eight code points."""
+    tags = "stuvwxyz"
+    with open(table_of_the_largest_nets(folder), encoding="ascii") as file:
+        entries = [line.replace(":", f" as {','.join(tags)}:") for line in file.read().splitlines()]
+    table = table_file(folder, "\n".join(["%version 3", *(f"%tag {tag}" for tag in tags), *entries]).encode())
+    done = within_a_second(["--ruleset", table, "--limit", "100"], b"a" * 63)
+    variants = done.stdout.splitlines()
+    assert (len(variants), variants[-1].split()[:2]) == (101, [b"#stop", b"100"]), variants[-1]
+    assert variants[:-1] == sorted(set(variants[:-1])) and all(line.endswith(b"\tallocatable") for line in variants[:-1])
+
+
 def serves_a_table_cut_in_its_last_line(folder):
     start = SHARP_S[:SHARP_S.rindex(b"00DF")]
     for end in (b"00D", b"00DF|", b"00DF|0073-"):
@@ -541,6 +618,7 @@ def tells_of_memory_within_any_address_space(folder):
     """In each mode the whole answer, or what stands of it in whole lines before refusal 70."""
     table = table_file(folder, sets_of_seventeen(4096, 1))
     blocking = table_file(folder, b"%version 2\n" + sets_of_seventeen(4096, 1, "!"), "blocking.txt")
+    conditions = table_file(folder, CONDITIONS + sets_of_seventeen(4096, 1), "conditions.txt")
     lines = "faß\nq\u0301\nFaß\nxn--fa-hia\nxn--abc-\na\u0301\n".encode() * 40
     labels = ("\u4e10" * 9 + "\n").encode() * 3
     listing = lambda table: ["--variants", table, "--limit", "5"]
@@ -549,7 +627,9 @@ def tells_of_memory_within_any_address_space(folder):
     for words, given in ((["-l"], lines), (["-r"], lines), (["-d"], lines), (["--check-table", table], b""),
                          (listing(table), labels), (listing(blocking), labels), (["--variants", table, "--jump"], requests),
                          (["--variants", blocking, "--among", registered], labels), (["-r", "--json"], lines),
-                         (["-d", "--explain"], lines), ([*listing(blocking), "--json"], labels)):
+                         (["-d", "--explain"], lines), ([*listing(blocking), "--json"], labels),
+                         (["--ruleset", conditions, "--limit", "5"], b"aaeddb\nea\nabab\n" * 3),
+                         (["--check-ruleset", conditions], b"")):
         whole, refused = run(words, given), 0
         assert whole.returncode in (0, 1), whole
         for space in range(2 << 20, 14 << 20, 32 << 10):
@@ -568,18 +648,24 @@ def tells_of_memory_within_any_address_space(folder):
 
 def collides_in_pages_as_at_once(folder):
     """With every second variant registered, each a neighbour of labels that are no variants: these variants, and no other."""
-    for text, label in ((DOUBLED, "a" * 5), (SHARP_S, "ssssss"), (BLOCKING, "ssaß"), (b"0071|0061\n0301\n", "qqq\u0301")):
-        table = table_file(folder, text)
-        *whole, _ = run(["--variants", table], label.encode()).stdout.splitlines()
+    for text, label in ((DOUBLED, "a" * 5), (SHARP_S, "ssssss"), (BLOCKING, "ssaß"), (b"0071|0061\n0301\n", "qqq\u0301"),
+                        (CONDITIONS, "aaadaae")):
+        words = listing_of(table_file(folder, text), text)
+        *whole, _ = run(words, label.encode()).stdout.splitlines()
         wanted = whole[::2]
         labels = [line.split(b"\t")[0] for line in wanted]
         near = [each + b"0" for each in labels] + [b"0", b"zz"]
         registered = table_file(folder, b"\n".join(sorted(labels + near)), "registered.txt")
-        words = ["--variants", table, "--among", registered]
+        words += ["--among", registered]
         *lines, end = run(words, label.encode()).stdout.splitlines()
         assert (lines, end) == (wanted, b"#end %d" % len(wanted)), (label, lines, end, wanted)
         for limit in ("1", "2"):
             assert pages([*words, "--limit", limit], label)[0] == wanted, (label, limit, wanted)
+
+
+def listing_of(table, text):
+    """The words by which variants are listed under a table or a ruleset with this text."""
+    return ["--ruleset" if text.startswith(b"%version 3\n") else "--variants", table]
 
 
 def pages(words, label):
@@ -597,9 +683,9 @@ def pages(words, label):
 def lists_in_pages_what_it_lists_at_once(folder):
     rows = [(DOUBLED, "a" * 5), (HYPHENS, "a" * 6), (SHARP_S, "ssssss"), (b"0061-0062|0063\n0061|0062\n", "ababab"),
             ("4E2D|4E2A\n56FD|570B\n570B|56FD\n4E2A|4E2D\n".encode(), "中国中国"), (b"0071|0061\n0301\n", "qqq\u0301"),
-            (BLOCKING, "ssaß")]
+            (BLOCKING, "ssaß"), (CONDITIONS, "aaadaae")]
     for text, label in rows:
-        words = ["--variants", table_file(folder, text)]
+        words = listing_of(table_file(folder, text), text)
         *whole, end = run(words, label.encode()).stdout.splitlines()
         assert end == b"#end %d" % len(whole) and whole == sorted(set(whole)), (label, end)
         for stop in (["--limit", "1"], ["--limit", "3"], ["--tries", "1"], ["--tries", "4"], ["--limit", "2", "--tries", "3"]):
@@ -638,9 +724,11 @@ TESTS = [
     answers_labels_of_every_length,
     passes_over_candidates_that_are_too_long,
     serves_the_largest_tables,
+    serves_hostile_rulesets,
     refuses_tables_over_a_limit,
     serves_a_table_cut_in_its_last_line,
     lists_in_the_largest_nets,
+    lists_in_the_largest_nets_of_rulesets,
     collides_and_jumps_in_the_largest_nets,
     jumps_to_texts_that_fill_their_lines,
     reads_registered_labels_from_anywhere,

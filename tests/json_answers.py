@@ -26,7 +26,8 @@ except ImportError:
 
 HAN = ["--variants", os.path.join(TABLES, "han.txt")]
 DIGITS = ["--variants", os.path.join(TABLES, "arabic-digits.txt")]
-LATIN = ["--ruleset", os.path.join(TABLES, "rulesets", "latin.txt")]
+LATIN, CHINESE, DEVANAGARI = (["--ruleset", os.path.join(TABLES, "rulesets", f"{name}.txt")]
+                              for name in ("latin", "chinese", "devanagari"))
 
 with open(os.path.join(ROOT, "docs", "answers.schema.json"), encoding="utf-8") as file:
     SCHEMA = json.load(file)
@@ -125,6 +126,17 @@ ROWS = [
       {"line": 1, "ulabel": "a\u0441", "alabel": "xn--a-7tb", "disposition": "blocked"},
       {"line": 1, "input": "ac", "count": 2, "complete": False, "after": "a\u0441"}], 0),
     ("\u0430c", LATIN, [refused("\u0430c", 40, "not made of table entries", **point("U+0430", 1))], 1),
+    ("काा", DEVANAGARI,
+     [refused("काा", 41, "not valid under the table", code_point="U+093E", place=3, condition="when", rule="after_consonant")], 1),
+    ("कअ्", DEVANAGARI,
+     [refused("कअ्", 41, "not valid under the table", code_point="U+094D", place=3, condition="when", rule="after_consonant")], 1),
+    ("क्अ", DEVANAGARI,
+     [refused("क्अ", 41, "not valid under the table", code_point="U+0905", place=3, condition="unless", rule="after_virama")], 1),
+    ("क1१", DEVANAGARI, [refused("क1१", 41, "not valid under the table", demand=1, kind="never")], 1),
+    ("国學", CHINESE + ["--after", "国学", "--limit", "2"],
+     [{"line": 1, "ulabel": "国學", "alabel": "xn--vcs27h", "disposition": "allocatable"},
+      {"line": 1, "ulabel": "國学", "alabel": "xn--9cs44h", "disposition": "blocked"},
+      {"line": 1, "input": "国學", "count": 2, "complete": False, "after": "國学"}], 0),
     ("mañana", GERMAN, [refused("mañana", 40, "not made of table entries", **point("U+00F1", 3))], 1),
     ("maus", GERMAN + ["--after", "z"], [{"line": 1, "input": "maus", "count": 0, "complete": True}], 0),
     ("strasse\tstrasz", GERMAN + ["--jump"], [{"line": 1, "input": "strasse\tstrasz", "ulabel": "straße"}], 0),
@@ -421,12 +433,13 @@ SHAPES = {
     19: [shape | more for shape in OF_A_LABELS for more in (set(), {"label"})],
     20: [set()], 21: [{"octets"}, {"label", "octets"}], 30: [set(), {"byte"}], 31: [{"byte"}], 32: [{"byte"}],
     33: [{"code_point", "byte"}], 34: [set(), {"byte"}, {"code_point", "byte"}], 35: [{"byte"}], 36: [{"byte"}], 40: [PLACED],
+    41: [PLACED | {"condition", "rule"}, {"demand", "kind"}],
 }
 # A value of each member of a refusal.
 MEMBERS = {"label": 2, "decoded": True, "code_point": "U+200C", "place": 1, "rule": None, "bidi_class": "AL", "nfc": "U+00E1",
-           "code_points": 64, "octets": 64, "alabel": "a", "byte": 1}
+           "code_points": 64, "octets": 64, "alabel": "a", "byte": 1, "condition": "when", "demand": 1, "kind": "never"}
 RULES = {10: "RFC 5892 2.2", 11: "RFC 5892 2.10", 15: "RFC 5892 A.1", 16: "RFC 5892 A.3", 17: "RFC 5893 2 condition 1",
-         19: "RFC 3492 6.2"}
+         19: "RFC 3492 6.2", 41: "after_consonant"}
 OF_NO_TYPE = (None, True, 1.5, [], {})
 
 
@@ -487,7 +500,8 @@ def describes_refusals_by_their_members(folder):
 # What no schema of a member should let through.
 WRONG = (("line", 0), ("line", 2 ** 32 + 1), ("table_line", 0), ("count", -1), ("input_hex", "ff"), ("input_hex", "F"), ("place", 0),
          ("byte", 0), ("label", 0), ("octets", -1), ("code_point", "U+00FG"), ("code_point", "u+0041"), ("code_point", "U+110000"),
-         ("alabel", "É"), ("rule", "RFC 5892 2.5"), ("nfc", ""), ("after", ""), ("disposition", "valid"), ("source", "61"))
+         ("alabel", "É"), ("rule", "RFC 5892 2.5"), ("nfc", ""), ("after", ""), ("disposition", "valid"), ("source", "61"),
+         ("condition", "if"), ("demand", 0), ("demand", 257), ("kind", "sometimes"))
 
 
 def changed(each):

@@ -1,7 +1,8 @@
 #!/usr/bin/env python3
 """Tests that crates and modules stand in layers, as docs/ARCHITECTURE.md draws them: no `use` goes up, and none goes in a
-circle. It reads the source alone, in less than a second. The last line is 'N passed, M failed', and the exit status is 0
-where nothing failed. `--draw` draws the layers in that document as the source has them now."""
+circle; and that the functions through which it leads a line stand where it says. It reads the source alone, in less than a
+second. The last line is 'N passed, M failed', and the exit status is 0 where nothing failed. `--draw` draws the layers in that
+document as the source has them now."""
 
 import collections
 import functools
@@ -156,7 +157,16 @@ def says_what_each_crate_stands_on(folder):
             assert said[crate] == set(below), (crate, said[crate] ^ set(below))
 
 
-def drawn_anew(graph):
+def leads_a_line_through_functions_that_are_there(folder):
+    """Each function of the tables that follow a line stands in the file beside it."""
+    rows = re.findall(r"^\| \d+ \| (.*?) \| `(\w+)/([\w/]+\.rt)` \|", text_of("docs", "ARCHITECTURE.md"), re.MULTILINE)
+    named = [(name, text_of("crates", crate, "src", file), file) for names, crate, file in rows
+             for name in re.findall(r"`(?:\w+::)?(\w+)`", names)]
+    absent = [(name, file) for name, text, file in named if not re.search(rf"\bfn {name}\b", text)]
+    assert len(named) > 90 and not absent, (len(named), absent)
+
+
+def drawn_again(graph):
     """The layers of what is drawn, each module as low as what it uses allows."""
     @functools.cache
     def layer(module):
@@ -176,7 +186,7 @@ def draw():
             graphlib.TopologicalSorter(graph).prepare()
         except graphlib.CycleError as circle:
             sys.exit(f"{name}: no layers, since these use each other: {', '.join(circle.args[1])}")
-        lines += [f"    {name}", *(f"      {' '.join(layer)}" for layer in drawn_anew(graph))]
+        lines += [f"    {name}", *(f"      {' '.join(layer)}" for layer in drawn_again(graph))]
     text = text_of("docs", "ARCHITECTURE.md").replace(drawn_block(), "".join(line + "\n" for line in lines))
     with open(os.path.join(ROOT, "docs", "ARCHITECTURE.md"), "w", encoding="utf-8") as document:
         document.write(text)
@@ -189,6 +199,7 @@ TESTS = [
     names_no_laws,
     lists_the_lowest_crate_first,
     says_what_each_crate_stands_on,
+    leads_a_line_through_functions_that_are_there,
 ]
 
 

@@ -189,7 +189,7 @@ def has_the_options_of_the_help_in_each_page(folder):
 
 # What stands for each word in italics in a form of a cause, and what has no form of its own.
 PLACEHOLDERS = {"n": r"\d+", "k": r"\d+", "XXXX": "[0-9A-F]{4,6}", "FF": "[0-9A-F]{2}", "class": "[A-Z]+", "label": "[a-z0-9-]+",
-                "text": r"\S+"}
+                "text": r"\S+", "rule": r"[A-Za-z]\w*"}
 # Normalization Form C never ends where a label goes on.
 NEVER_TOLD = ("12", "NFC ends")
 
@@ -227,14 +227,15 @@ def lists_each_form_of_a_cause(folder):
     """Each cause of the rows of explained.py has a form under its number in the manual page, and each form is that of a row. Each
     line of RFC 5892 that bars a code point stands there, too."""
     forms, told = list(causes_of_the_manual()), set()
-    for *_, text, cause in explained.ROWS + explained.MORE_ROWS + explained.REGISTERED_ROWS + explained.TABLE_ROWS:
+    rulesets = [("41", cause) for _, _, cause in explained.RULESET_ROWS]
+    for *_, text, cause in explained.ROWS + explained.MORE_ROWS + rulesets + explained.REGISTERED_ROWS + explained.TABLE_ROWS:
         if cause is not None:
             cause = re.sub(r"^(label \d+, )?decoded: |^label \d+: (?!\d+ octets)", "", cause)
             found = {(number, shown) for number, shown, pattern in forms if number == text.split()[0] and re.fullmatch(pattern, cause)}
             assert found, (text, cause)
             told |= found
     listed = {(number, shown) for number, shown, _ in forms}
-    assert listed - {NEVER_TOLD} == told and len({number for number, _ in listed}) == 22, listed ^ told
+    assert listed - {NEVER_TOLD} == told and len({number for number, _ in listed}) == 23, listed ^ told
     named = re.findall(r'codes ": ((?:not )?RFC 5892 2\.[^"]*|outside the profile)"', text_of("crates/idn2_cli/specs/CauseTexts.antt"))
     page = text_of("docs", "idn2.1")
     assert len(named) == 8 and all(f"B {each}\n" in page or f'BR "{each}" ' in page for each in named), named

@@ -2,7 +2,7 @@
 """Tries wrong bodies, many in one check: python3 tests/planted.py FOLDER [CRATE..], with FOLDER must-fail, planted or wrong-bodies.
 
 Each edit below crates/*/FOLDER must be refused at a goal of a function that it edits. To read a crate costs more than to
-prove a function anew, so edits of different functions are planted in one copy of the crate and checked at once. All that
+prove a function again, so edits of different functions are planted in one copy of the crate and checked at once. All that
 one function knows of another is its contract, so no body is refused for what is planted in another one. An edit that has no
 refusal of its own there is tried again by itself. So is one that edits anything but bodies, as a constant.
 
@@ -15,6 +15,7 @@ where nothing failed."""
 
 import collections
 import concurrent.futures
+import contextlib
 import glob
 import os
 import re
@@ -27,9 +28,11 @@ from edits import replacements, text_of
 from program import ROOT
 
 CRATES = os.path.join(ROOT, "crates")
-# How many edits are planted at once, at most, 16 if MOST doesn't say: where one of them doesn't compile, all are tried again
+# How many edits are planted at once, at most, 32 if MOST doesn't say: where one of them doesn't compile, all are tried again
 # one by one.
-MOST = int(os.environ.get("MOST", "16"))
+MOST = int(os.environ.get("MOST", "32"))
+# Whether all crates were proved right before, as the gate does: what that kept is then what each check begins with.
+IS_PROVED = bool(os.environ.get("IS_PROVED"))
 # Whether a refusal by a name alone is a failure: before a release, but not in the gate.
 STRICT = sys.argv[1:2] == ["wrong-bodies"]
 
@@ -107,8 +110,11 @@ def needed_by(crate):
 
 
 def link_or_copy(source, target):
-    """A check replaces a module's file that it kept, and changes none, so these are linked."""
-    return os.link(source, target) if source.endswith(".oantt") else shutil.copy2(source, target)
+    """A check replaces a module's file that it kept, and changes none, so these are linked, where the folders are of one disk."""
+    if source.endswith(".oantt"):
+        with contextlib.suppress(OSError):
+            return os.link(source, target)
+    return shutil.copy2(source, target)
 
 
 class Copy:
@@ -121,7 +127,7 @@ class Copy:
         with open(os.path.join(self.folder, "crates.txt"), "w", encoding="utf-8") as file:
             file.writelines(line + "\n" for line in needed.values())
         for name in needed:
-            shutil.copytree(os.path.join(CRATES, name), os.path.join(self.folder, "crates", name))
+            shutil.copytree(os.path.join(CRATES, name), os.path.join(self.folder, "crates", name), copy_function=link_or_copy)
         self.home = os.path.join(self.folder, "crates", crate)
         self.work = os.path.join(self.home, "out", "incremental")
         self.kept = os.path.join(self.folder, "kept")
@@ -214,7 +220,7 @@ def try_crate(crate, folder):
     edits = [read_edit(crate, path) for path in sorted(glob.glob(os.path.join(CRATES, crate, folder, "*.edit")))]
     passed = failed = 0
     with Copy(crate) as copy:
-        if copy.check()[0] != 0:
+        if not IS_PROVED and copy.check()[0] != 0:
             print(f"planted {crate}: it isn't proved as it stands", flush=True)
             return 0, len(edits)
         copy.keep_work()

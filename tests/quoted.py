@@ -41,13 +41,13 @@ def block_of(file, names):
     return f"*{file}*\n\n```antt\n{body}\n```"
 
 
-def written_anew(text):
+def written_again(text):
     return BLOCK.sub(lambda block: block_of(block.group(1), map(name_of, paragraphs(block.group(2)))), text)
 
 
 if __name__ == "__main__":
     if sys.argv[1:] != ["--write"]:
         sys.exit("usage: python3 tests/quoted.py --write")
-    quoted = written_anew(text_of(DOCUMENT))
+    quoted = written_again(text_of(DOCUMENT))
     with open(DOCUMENT, "w", encoding="utf-8") as document:
         document.write(quoted)

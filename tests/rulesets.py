@@ -1,5 +1,5 @@
 #!/usr/bin/env python3
-"""Makes tables from rulesets, with tables/from_lgr.py, and lets the built program read them.
+"""Makes tables of version 1 and 2 from rulesets, with tables/from_lgr.py, and lets the built program read them.
 
 tests/rulesets/ has the rulesets of RFC 7940, appendix A, and the model table of RFC 4290, as they stand there, and
 others that were written for what their first comments say. Each table is asked of every label of up to three entries,
@@ -34,11 +34,16 @@ REFUSED = "refused: without what a table can't say, labels would be accepted tha
 UNSAYABLE = "refused: there is no such table\n"
 
 
-def made(path, *options):
+def converted(path, *options):
     """What the script prints for a file, its messages without the file's name, and its status."""
     words = [sys.executable, SCRIPT, "--idn2", PROGRAM, *options, path]
     done = subprocess.run(words, capture_output=True, text=True, timeout=LIMIT)
     return done.stdout, done.stderr.replace(f"{path}: ", ""), done.returncode
+
+
+def made(path, *options):
+    """The same, with a table of version 2 where no version is named."""
+    return converted(path, *(() if "--version" in options else ("--version", "2")), *options)
 
 
 def stored(name):
@@ -92,12 +97,12 @@ def registrable(labels):
 
 
 def listings(folder, text, labels):
-    """For each label that the table covers its variants, with what becomes of them."""
+    """For each label that a table or a ruleset covers its variants, with what becomes of them."""
     labels = sorted(labels)
-    words = ["--variants", table_file(folder, text.encode())]
+    words = ["--ruleset" if text.startswith("%version 3\n") else "--variants", table_file(folder, text.encode())]
     done = run(words, "".join(label + "\n" for label in labels).encode())
     told = done.stderr.decode().splitlines()
-    refused = {int(re.fullmatch(r"idn2: line (\d+): 40 .*", line).group(1)) for line in told}
+    refused = {int(re.fullmatch(r"idn2: line (\d+): 4[01] .*", line).group(1)) for line in told}
     covered = [label for number, label in enumerate(labels, 1) if number not in refused]
     blocks = re.split(r"^#end \d+\n", done.stdout.decode(), flags=re.MULTILINE)
     assert (len(blocks), blocks[-1]) == (len(covered) + 1, ""), (len(blocks), len(covered))
@@ -595,13 +600,13 @@ def files_and_words_that_cannot_be_used(folder):
     expect_refusal(folder, [], "Is a directory\n", 2)
     path = stored("letters-digits-hyphen.xml")
     for options in (["--leave-out"], ["--version", "4"], ["--version", "1", "--close-gaps"], ["--accept"], ["x.xml"]):
-        output, told, status = made(path, *options)
+        output, told, status = converted(path, *options)
         assert (output, status) == ("", 2) and "Traceback" not in told, (options, told, status)
     # Another program of the same name, and none.
     told = "/bin/true is not the idn2 of these scripts: name it with --idn2\n"
     expect_refusal(path, ["--idn2", "/bin/true"], told, 2)
     expect_refusal(path, ["--idn2", "/none"], "/none: No such file or directory\n", 2)
-    words = [sys.executable, SCRIPT, "--idn2", PROGRAM, path]
+    words = [sys.executable, SCRIPT, "--version", "2", "--idn2", PROGRAM, path]
     with open("/dev/full", "wb") as full:
         done = subprocess.run(words, stdout=full, stderr=subprocess.PIPE, text=True, timeout=LIMIT)
     told = f"{path}: the table could not be written: No space left on device\n"
@@ -649,7 +654,7 @@ def works_from_the_archive(folder):
     subprocess.run(words, capture_output=True, check=True, timeout=LIMIT)
     subprocess.run("tar xf idn2-*.tar.gz && rm *.tar.gz*", shell=True, cwd=folder, check=True, timeout=LIMIT)
     [packed] = os.listdir(folder)
-    words = [sys.executable, os.path.join(packed, "tables", "from_lgr.py"), stored("hyphen-rule.xml")]
+    words = [sys.executable, os.path.join(packed, "tables", "from_lgr.py"), "--version", "2", stored("hyphen-rule.xml")]
     environment = {**os.environ, "PATH": "", "PYTHONDONTWRITEBYTECODE": "1"}
     done = subprocess.run(words, capture_output=True, text=True, cwd=folder, env=environment, timeout=LIMIT)
     assert (entries_of(done.stdout), done.stderr, done.returncode) == (RANGES, "", 0), done

@@ -1,12 +1,15 @@
 #!/usr/bin/env python3
-"""Asks the second writing of rulesets (conformance/ruleset_labels.py, tables/notation/) for the worked rows of version 3, and
-the program, where it reads rulesets. Which labels may be registered, and which code points may stand in a table, is told by
-the built program. The last line is 'N passed, M failed', and the exit status is 0 where nothing failed."""
+"""Asks the second writing of rulesets (conformance/ruleset_labels.py, tables/notation/) and the program for the worked rows of
+version 3, and for what the rulesets of tables/rulesets/ and of docs/NOTATION.md say. Which labels may be registered, and
+which code points may stand in a table, the program tells the second writing. The last line is 'N passed, M failed', and the
+exit status is 0 where nothing failed."""
 
 import functools
 import os
+import random
 import re
 import sys
+import textwrap
 
 from program import ROOT, run, run_tests, table_file
 
@@ -83,33 +86,13 @@ def second_writing_spells(folder):
         assert again == ruleset, (text, again)
 
 
-# A line that the program doesn't read in a ruleset yet: a demand, a condition, or an entry with tags.
-NOT_YET = re.compile(r"[ \t]*(?:%(?:never|always)\b.*|[^#%\s][^#]*\b(?:when|unless|as)\b.*)", re.ASCII)
-
-
-def not_read_yet(text):
-    """The number of the first line that the program doesn't read yet, or None."""
-    lines = enumerate(text.split("\n")[1:], 2)
-    return next((number for number, line in lines if NOT_YET.fullmatch(line.rstrip("\r"))), None)
-
-
 def program_answers(folder):
-    """What the program reads it answers as the rows say. A line that it doesn't read yet is refused, so that no condition is
-    passed over, unless a line before it is faulty."""
-    read = 0
+    """Each row, as the program answers it."""
     for words, given, files, wanted in ruleset_rows.rows():
-        text = files["table"]
-        words = [table_file(folder, text.encode()) if word == "table" else word for word in words]
+        words = [table_file(folder, files["table"].encode()) if word == "table" else word for word in words]
         done = run(words, given.encode())
         found = done.stdout.decode(), done.stderr.decode(), done.returncode
-        line = not_read_yet(text) if {"--ruleset", "--check-ruleset"}.intersection(words) else None
-        before = re.fullmatch(r"idn2: table line (\d+): .*\n", wanted[1])
-        if line and not (before and int(before.group(1)) < line):
-            wanted = "", f"idn2: table line {line}: 30 table syntax\n", 2
-        else:
-            read += 1
-        assert found == wanted, (words, given, text[:400], told(found), told(wanted))
-    assert read >= 85, read
+        assert found == wanted, (words, given, files["table"][:400], told(found), told(wanted))
 
 
 # The rulesets of tables/rulesets/: words that are to be accepted, labels that are not, each with its number, and variants that
@@ -134,35 +117,59 @@ EXAMPLES = {
 }
 
 
+def answer_of_program(path, label):
+    """The number by which the program refuses the label under a ruleset, or for each variant whether it is allocatable."""
+    done = run(["--ruleset", path, "--", label])
+    message = re.fullmatch(r"idn2: line 1: (\d+) .*\n", done.stderr.decode())
+    if message:
+        return int(message.group(1))
+    variants = [line.split("\t") for line in done.stdout.decode().splitlines()[:-1]]
+    return {variant: disposition == "allocatable" for variant, _, disposition in variants}
+
+
 def example_rulesets_hold(folder):
     """Each is read, lacks no pair, and says of words what its script or its head says. What can't be registered isn't asked."""
     names = os.listdir(os.path.join(ROOT, "tables", "rulesets"))
     assert sorted(names) == sorted(EXAMPLES), names
     for name, wanted in EXAMPLES.items():
-        with open(os.path.join(ROOT, "tables", "rulesets", name), "rb") as file:
+        path = os.path.join(ROOT, "tables", "rulesets", name)
+        with open(path, "rb") as file:
             ruleset = reading.read(file.read(), BY_PROGRAM.may_stand)
         assert gaps(ruleset.variants_of()) == [], name
+        checked = run(["--check-ruleset", path])
+        assert (checked.stdout.decode(), checked.returncode) == (f"#table {len(ruleset.entries)} 0\n", 0), checked
         labels = RulesetLabels(ruleset)
         refused = {word: labels.refusal(word) for word in wanted["accepted"].split()} | {
             word: labels.refusal(word) for word in wanted["refused"]}
         assert {word: number for word, number in refused.items() if number} == wanted["refused"], (name, refused)
         assert not any(BY_PROGRAM.first_fault(word) for word in wanted["accepted"].split()), name
+        answers = {word: answer_of_program(path, word) for word in refused}
+        assert all((answers[word] == number) if number else answers[word][word] for word, number in refused.items()), answers
         for label, variants in wanted["variants"].items():
             allocatable, valid = labels.allocatable(label), set(filter(labels.is_valid, labels.spelled(label)))
             found = {variant: variant in allocatable if variant in valid else None for variant in variants}
             assert found == variants, (name, label, found)
+            listed = answer_of_program(path, label)
+            assert {variant: listed.get(variant) for variant in variants} == variants, (name, label, listed)
 
 
 def notation_shows_a_ruleset(folder):
     """The example of docs/NOTATION.md is read, and says of labels what stands there."""
     with open(os.path.join(ROOT, "docs", "NOTATION.md"), encoding="utf-8") as file:
-        [text] = re.findall(r"(?:^    .*\n)+", file.read().split("\n## Version 3\n")[1].split("\n###")[0], re.MULTILINE)
-    ruleset = reading.read(text.replace("\n    ", "\n").lstrip().encode(), BY_PROGRAM.may_stand)
+        [text, *_] = re.findall(r"(?:^    .*\n)+", file.read().split("\nA ruleset with something of each kind:\n")[1], re.MULTILINE)
+    text = textwrap.dedent(text).encode()
+    ruleset = reading.read(text, BY_PROGRAM.may_stand)
     labels = RulesetLabels(ruleset)
     refused = {label: labels.refusal(label) for label in ("काa", "का", "ा", "क1", "क०", "1०", "a-1", "-a", "aa-a", "аa")}
     assert refused == {"काa": None, "का": None, "ा": 41, "क1": None, "क०": None, "1०": 41, "a-1": None, "-a": 41,
                        "aa-a": None, "аa": 40}, refused
     assert labels.allocatable("国0") == {"国0", "國0"} and "國०" in labels.spelled("国0"), labels.allocatable("国0")
+    path = table_file(folder, text)
+    for label, number in refused.items():
+        number = BY_PROGRAM.first_fault(label) or number
+        answer = answer_of_program(path, label)
+        assert answer == number if number else answer[label], (label, answer)
+    assert answer_of_program(path, "国0") == {"国0": True, "國0": True, "国०": False, "國०": False}
 
 
 def chinese_ruleset_is_as_others_have_it(folder):
@@ -205,6 +212,50 @@ def devanagari_sets_are_as_unicode_has_them(folder):
     assert found == {name: {category} for name, category in CATEGORIES.items()}, found
 
 
+CONTEXTS = ("@A _", "_ @A", "^ _ / @A _", "_ @A? $", "@A .* _", "0061 _ / _ 0062", "_")
+DEMANDS = ("%never 0061 .* 0062", "%never @A @A $", "%always @A", "%never ^ 0063 $")
+
+
+def random_ruleset(chance):
+    """Sets of letters that are variants of each other, without gaps and conditions of variants; with conditions of sources, demands,
+    tags and outside sources."""
+    letters, sets = "abcdefgh", {}
+    for letter in letters:
+        sets.setdefault(chance.randrange(4), []).append(f"{ord(letter):04X}")
+    lines = ["%version 3", "%tag s", "%tag t", f"%set A 0061..{chance.choice(('0062', '0064'))}"]
+    lines += [f"%rule r{number} {chance.choice(CONTEXTS)}" for number in range(2)] + chance.sample(DEMANDS, chance.choice((0, 1, 1)))
+    tags = lambda: chance.choice(("", "", " as s", " as t", " as s,t"))
+    for members in sets.values():
+        for source in members:
+            variants = [chance.choice((f"!{each}", each + tags())) for each in members if each != source]
+            condition = chance.choice(("", "", "", " when r0", " unless r1"))
+            first = f"!{source}" if chance.random() < 0.15 else source + tags()
+            lines.append(first + condition + ("|" if variants else "") + ":".join(variants))
+    return "\n".join(lines).encode()
+
+
+def finds_collisions_by_least_variants(folder):
+    """Under random rulesets without gaps, of single code points and without conditions of variants, labels that aren't refused have
+    one least variant exactly if they collide, whichever of the two is asked about."""
+    chance, compared = random.Random(7940), 0
+    for _ in range(40):
+        path = table_file(folder, random_ruleset(chance))
+        checked = run(["--check-ruleset", path])
+        assert checked.stdout == b"#table 8 0\n", checked
+        labels = sorted({"".join(chance.choices("abcdefgh", k=chance.randint(1, 3))) for _ in range(25)})
+        done = run(["--ruleset", path], "\n".join(labels).encode())
+        refused = set(re.findall(r"^idn2: line (\d+): 4[01] ", done.stderr.decode(), re.MULTILINE))
+        accepted = [label for number, label in enumerate(labels, 1) if str(number) not in refused]
+        blocks = [[line.split("\t")[0] for line in block.splitlines()] for block in re.split(r"#end \d+\n", done.stdout.decode())]
+        assert len(blocks) == len(accepted) + 1, (labels, done)
+        listed = dict(zip(accepted, blocks))
+        for one in accepted:
+            for other in accepted:
+                assert (one in listed[other]) == (listed[one][0] == listed[other][0]), (path, one, other, listed)
+                compared += one < other
+    assert compared > 1_000, compared
+
+
 TESTS = [
     second_writing_answers,
     second_writing_spells,
@@ -213,6 +264,7 @@ TESTS = [
     notation_shows_a_ruleset,
     chinese_ruleset_is_as_others_have_it,
     devanagari_sets_are_as_unicode_has_them,
+    finds_collisions_by_least_variants,
 ]
 
 if __name__ == "__main__":

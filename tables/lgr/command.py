@@ -4,8 +4,6 @@ import argparse
 import contextlib
 import os
 
-from notation.gaps import gaps as pairs_missing
-
 from . import gaps, rfc4290, rfc7940
 from .convert import ALLOCATABLE, Converter
 from .exact import Exact
@@ -17,6 +15,8 @@ from .table import check_limits, check_size, check_versions
 from .writing import text_of
 
 BLOCKED = "blocked"
+# The version that says all of a ruleset.
+RULESET = 3
 CONVERTED, UNSAYABLE, UNUSABLE = 0, 1, 2
 MOST_FILE_BYTES = 67_108_864
 STANDARD_OUTPUT, STANDARD_ERROR = 1, 2
@@ -27,21 +27,23 @@ def options_of(words):
     parser = argparse.ArgumentParser(description="Makes a variant table from a ruleset of RFC 7940 or RFC 4290.",
                                      allow_abbrev=False)
     parser.add_argument("file", metavar="FILE")
-    parser.add_argument("--version", type=int, choices=(1, 2, 3), default=2,
-                        help="of the table's notation; version 1 can't say that a variant is blocked, and of "
-                             "version 3 idn2 reads the forms that docs/NOTATION.md names [default: 2]")
+    parser.add_argument("--version", type=int, choices=(1, 2, 3), default=RULESET,
+                        help="of the table's notation; version 3 is a ruleset, which says exactly what FILE says, version 2 "
+                             "has no conditions, and version 1 can't say either that a variant is blocked [default: 3]")
     parser.add_argument("--untyped", choices=(BLOCKED, ALLOCATABLE),
-                        help="what variants without a type are [default: blocked; in version 3 by the actions, for RFC 7940]")
+                        help="what variants without a type are [default: by the actions in version 3, for RFC 7940; "
+                             "else blocked]")
     parser.add_argument("--close-gaps", action="store_true",
-                        help="add the reverse and transitive pairs that are missing, each blocked")
+                        help="with --version 2: add the reverse and transitive pairs that are missing, each blocked")
     parser.add_argument("--accept-more", action="store_true",
-                        help="drop conditions and rules that a table can't say: LABELS THAT FILE REFUSES ARE ACCEPTED")
+                        help="with --version 1 or 2: drop conditions and rules that a table can't say: LABELS THAT FILE "
+                             "REFUSES ARE ACCEPTED")
     parser.add_argument("--idn2", metavar="PROGRAM", help="the program [default: beside the scripts, or on the path]")
     options = parser.parse_args(words)
     if options.close_gaps and options.version == 1:
         parser.error("--close-gaps adds blocked variants, which version 1 can't say")
-    if options.version == 3 and (options.close_gaps or options.accept_more):
-        parser.error("version 3 says what the ruleset says: it has no --close-gaps and no --accept-more")
+    if options.version == RULESET and (options.close_gaps or options.accept_more):
+        parser.error("version 3 says what FILE says: for --close-gaps or --accept-more name --version 2")
     return options
 
 
@@ -82,7 +84,7 @@ def head_of(ruleset, options):
 
 
 def ruleset_of(ruleset, program, options, losses):
-    """The text of a ruleset of version 3, and how many gaps it has; what no ruleset says is among the losses."""
+    """The text of a ruleset of version 3, where it can be said; what no ruleset says is among the losses."""
     refusals = program.refusals(ruleset.points())
     untyped = options.untyped or (None if ruleset.is_closed else BLOCKED)
     exact = Exact(ruleset, refusals, untyped, losses)
@@ -91,10 +93,10 @@ def ruleset_of(ruleset, program, options, losses):
     except Unsayable as error:
         losses.refuse(error.line, "the ruleset", error.reason)
     if losses.count(Loss.UNSAYABLE):
-        return b"", 0
+        return b""
     text = RulesetText(head_of(ruleset, options) + losses.lines(Loss.NARROWER), exact.definitions, entries)
-    read_again = text.read(exact.repertoire.possible.__contains__, losses)
-    return text.encoded(), len(pairs_missing(read_again.variants_of())) if read_again else 0
+    text.check(exact.repertoire.possible.__contains__, losses)
+    return text.encoded()
 
 
 def refusal_of(losses, options):
@@ -112,23 +114,22 @@ def made(options, tell):
     """The text of the table; None if there is no such table, which is told."""
     ruleset = read(options.file)
     program, losses, added = Program(options.idn2), Losses(), 0
-    if options.version == 3:
-        text, open_gaps = ruleset_of(ruleset, program, options, losses)
+    if options.version == RULESET:
+        text = ruleset_of(ruleset, program, options, losses)
     else:
         text, added = table_of(ruleset, program, options, losses)
     refusal = refusal_of(losses, options)
     if refusal:
         tell("\n".join(refusal))
         return None
-    if options.version != 3:
-        open_gaps = program.gaps(text)
+    check = "--check-ruleset" if options.version == RULESET else "--check-table"
+    open_gaps = program.gaps(text, check)
     if options.close_gaps and open_gaps:
         raise Unusable(f"{program.path} finds {counted(open_gaps, 'gap')} in the table")
     for line in losses.lines(Loss.NARROWER, Loss.CONDITION, Loss.RULE):
         tell(line)
     if open_gaps:
-        printing = "tables/check.py" if options.version == 3 else "idn2 --check-table"
-        tell(f"the table has {counted(open_gaps, 'gap')}: {printing} prints them")
+        tell(f"the table has {counted(open_gaps, 'gap')}: idn2 {check} prints them")
     if options.close_gaps:
         tell(f"{counted(added, 'pair')} added, each blocked")
     if losses.warning():

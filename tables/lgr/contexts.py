@@ -1,7 +1,7 @@
-"""The conditions of entries and variants (RFC 7940, sections 5.2 and 6.4): what stands before and behind a sequence.
+"""The conditions of entries and variants (RFC 7940, sections 5.2 and 6.4): what stands before and after a sequence.
 
 A condition holds always, or never, or where one of its contexts does. A context is two expressions: what ends before the
-sequence, and what begins behind it.
+sequence, and what begins after it.
 """
 
 import dataclasses
@@ -60,14 +60,14 @@ class Contexts:
         if not expressions.has(expression, ANCHOR):
             return self.anywhere(expression, is_within, line)
         contexts = contexts_of(expression, line)
-        for before, behind in contexts:
-            if expressions.has(before, END) or expressions.has(behind, START):
+        for before, after in contexts:
+            if expressions.has(before, END) or expressions.has(after, START):
                 raise Unsayable(line, "the end of a label before the anchor, or its start behind it, which no label has")
         return contexts
 
     def anywhere(self, expression, is_within, line):
         """The contexts of a rule without an anchor. It holds at each place of a label that matches it: where it is about
-        one code point, this stands somewhere before or behind the source, or within."""
+        one code point, this stands somewhere before or after the source, or within."""
         if is_within or expressions.is_everywhere(expression):
             return [(EMPTY, EMPTY)]
         one = self.one_anywhere(expression)
@@ -97,7 +97,7 @@ class Contexts:
 
 
 def contexts_of(expression, line):
-    """What stands before and behind the anchor, for each way in which an expression has one."""
+    """What stands before and after the anchor, for each way in which an expression has one."""
     if expression == ANCHOR:
         return [(EMPTY, EMPTY)]
     parts = expressions.parts_of(expression)
@@ -109,6 +109,6 @@ def contexts_of(expression, line):
     if len(anchored) > 1:
         raise Unsayable(line, "two anchors one behind the other")
     [at] = anchored
-    return [(expressions.sequence([*parts[:at], before]), expressions.sequence([behind, *parts[at + 1:]]))
-            for before, behind in contexts_of(parts[at], line)]
+    return [(expressions.sequence([*parts[:at], before]), expressions.sequence([after, *parts[at + 1:]]))
+            for before, after in contexts_of(parts[at], line)]
 

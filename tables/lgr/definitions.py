@@ -12,7 +12,7 @@ from . import expressions
 from .expressions import EMPTY, END, START
 
 MOST_NAME_CHARACTERS = 32
-# Room for a number behind a name.
+# Room for a number after a name.
 MOST_STEM_CHARACTERS = 27
 SIGNS = {START: Sign.START, END: Sign.END}
 
@@ -70,7 +70,7 @@ class Definitions:
 
     def condition(self, word, contexts, origin):
         """The condition that asks for these contexts; each rule is written once."""
-        written = tuple((self.items(before, origin), self.items(behind, origin)) for before, behind in contexts)
+        written = tuple((self.items(before, origin), self.items(after, origin)) for before, after in contexts)
         if written not in self.rules:
             self.rules[written] = self.names.new(origin.stem), origin
         return Condition(word, self.rules[written][0])
@@ -141,7 +141,7 @@ def atom_of(items):
 
 
 def spans_of(points):
-    """The runs of code points one behind the other, each by its first and its last."""
+    """The runs of code points one after the other, each by its first and its last."""
     spans = []
     for point in sorted(points):
         if spans and spans[-1][1] + 1 == point:

@@ -53,7 +53,7 @@ def one_of(points, name=None):
 
 
 def sequence(parts):
-    """The parts one behind the other."""
+    """The parts one after the other."""
     flat = []
     for part in parts:
         flat += part.parts if isinstance(part, Sequence) else [part]

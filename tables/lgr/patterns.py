@@ -49,7 +49,7 @@ class Patterns:
             return None
 
     def sequences(self, element):
-        """The sequences of a rule or of a look-around: those of its parts, one behind the other."""
+        """The sequences of a rule or of a look-around: those of its parts, one after the other."""
         parts = [self.part(child) for child in element.children]
         if math.prod(map(len, parts)) > MOST_SEQUENCES:
             raise Unknown

@@ -45,12 +45,12 @@ class Program:
         numbers = {point: None if str(at) not in told else int(told[str(at)]) for at, point in enumerate(lines, 1)}
         return dict.fromkeys(points, DISALLOWED) | numbers
 
-    def gaps(self, table):
-        """How many gaps the text of a table has."""
+    def gaps(self, table, check):
+        """How many gaps the text of a table or a ruleset has, by the option that checks it."""
         with tempfile.NamedTemporaryFile(suffix=".txt") as file:
             file.write(table)
             file.flush()
-            done = self.run("--check-table", file.name)
+            done = self.run(check, file.name)
         summary = re.search(r"^#table \d+ (\d+)\n\Z", done.stdout, re.MULTILINE)
         if not summary:
             raise Unusable(f"{self.path} refuses the table: {done.stderr.strip()}")

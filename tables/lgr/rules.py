@@ -49,7 +49,7 @@ class Rules:
         return found
 
     def whole(self, element):
-        """The parts of a rule or of a look-around, one behind the other."""
+        """The parts of a rule or of a look-around, one after the other."""
         made = expressions.sequence(self.part(child) for child in element.children)
         is_looking = any(child.name in LOOKS for child in element.children)
         if is_looking and not any(child.name == "anchor" for child in element.children):

@@ -20,17 +20,16 @@ class RulesetText:
     def encoded(self):
         return "".join(line for line, _ in self.lines).encode("utf-8", "surrogateescape")
 
-    def read(self, may_stand, losses):
-        """The ruleset that the text spells; None where it passes a limit, which is told. Nothing else can be wrong with it. It
-        is called where no number of things is too great."""
+    def check(self, may_stand, losses):
+        """Tells where the text passes a limit. Nothing else can be wrong with it. It is called where no number of things is
+        too great."""
         try:
-            return reading.read(self.encoded(), may_stand)
+            reading.read(self.encoded(), may_stand)
         except TableFault as fault:
             origin = self.lines[fault.line - 1][1]
             if fault.number != LIMIT or origin is None:
                 raise Unusable(f"the ruleset that was made can't be read: {fault}") from fault
             losses.refuse(origin.line, origin.name, "it is too long, or has too many parts within each other")
-            return None
 
 
 def groups_of(entries):

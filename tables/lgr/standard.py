@@ -14,7 +14,7 @@ ARABIC_DIGITS, EXTENDED_DIGITS = frozenset(range(0x660, 0x66A)), frozenset(range
 # By these the program refuses each label that begins with a code point which by itself is refused so.
 NEVER_FIRST = {NOT_NFC, HYPHEN, LEADING_MARK}
 
-# RFC 5892, appendix A: what has to stand before and behind these code points, as the program enforces it; None where it
+# RFC 5892, appendix A: what has to stand before and after these code points, as the program enforces it; None where it
 # asks nothing. The viramas are those of docs/PROFILE.md.
 VIRAMAS = frozenset({0x94D, 0x9CD, 0xA4D, 0xACD, 0xB4D, 0xBCD, 0xC4D, 0xCCD, 0xD4D, 0xDCA})
 CONTEXTS = {0x00B7: (frozenset({0x6C}), frozenset({0x6C})), 0x200D: (VIRAMAS, None)}

@@ -42,8 +42,8 @@ def rule_line(name, contexts):
     return f"%rule {name} " + " / ".join(context_text(*context) for context in contexts)
 
 
-def context_text(before, behind):
-    return " ".join(filter(None, (branch_text(before), Sign.PLACE.value, branch_text(behind))))
+def context_text(before, after):
+    return " ".join(filter(None, (branch_text(before), Sign.ANCHOR.value, branch_text(after))))
 
 
 def demand_line(demand):

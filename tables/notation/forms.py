@@ -148,12 +148,12 @@ def set_of(rest, _):
 
 
 def rule_of(rest, _):
-    name, pattern = rest.name(), PatternReader(has_places=True)
+    name, pattern = rest.name(), PatternReader(has_anchors=True)
     return Definition(RULE, name, contexts_of(pattern.read(rest.all())), pattern)
 
 
 def demand_of(rest, word):
-    pattern = PatternReader(has_places=False)
+    pattern = PatternReader(has_anchors=False)
     return DemandLine(Demand(word.decode(), pattern.read(rest.all())), pattern)
 
 
@@ -188,7 +188,7 @@ def mapped_of(rest, takes_range=False):
 
 
 def tags_of(rest):
-    """The names behind 'as', none of them twice."""
+    """The names after 'as', none of them twice."""
     if not rest.takes(b"as"):
         return ()
     names = [rest.name()]

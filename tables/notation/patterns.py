@@ -1,7 +1,7 @@
 """Patterns of code points, and the contexts of a rule, read from tokens.
 
 A pattern is a tuple of branches, a branch a tuple of items. A context is two branches, which may be empty here: what stands
-before the place, and what behind it.
+before the anchor, and what after it.
 """
 
 import dataclasses
@@ -16,7 +16,7 @@ class Sign(enum.Enum):
     ANY = "."
     START = "^"
     END = "$"
-    PLACE = "_"
+    ANCHOR = "_"
 
 
 @dataclasses.dataclass(frozen=True)
@@ -84,8 +84,8 @@ class PatternReader:
     counted as the limits of the notation count them, `groups` are those within each other; `names` and `points` stand in the
     pattern."""
 
-    def __init__(self, has_places):
-        self.has_places, self.has_place, self.has_end = has_places, False, False
+    def __init__(self, has_anchors):
+        self.has_anchors, self.has_anchor, self.has_end = has_anchors, False, False
         self.frames = [Frame()]
         self.atoms = self.groups = 0
         self.names, self.points = [], []
@@ -114,7 +114,7 @@ class PatternReader:
         elif token == b"/":
             self.end_branch()
         elif token == b"_":
-            self.take_place()
+            self.take_anchor()
         elif token in (b"^", b"$"):
             self.take_edge(Sign(token.decode()))
         else:
@@ -143,20 +143,20 @@ class PatternReader:
 
     def end_branch(self):
         if len(self.frames) == 1:
-            if self.has_places and not self.has_place:
+            if self.has_anchors and not self.has_anchor:
                 raise NoForm
-            self.has_place = self.has_end = False
+            self.has_anchor = self.has_end = False
         self.frames[-1].end_branch()
 
-    def take_place(self):
-        if not self.has_places or len(self.frames) > 1 or self.has_place or self.has_end:
+    def take_anchor(self):
+        if not self.has_anchors or len(self.frames) > 1 or self.has_anchor or self.has_end:
             raise NoForm
-        self.has_place = True
-        self.frames[-1].add(Sign.PLACE, is_atom=False)
+        self.has_anchor = True
+        self.frames[-1].add(Sign.ANCHOR, is_atom=False)
 
     def take_edge(self, sign):
-        """Nothing is behind the end of a label, also not a place, and nothing before its beginning."""
-        if sign is Sign.START and self.has_place:
+        """Nothing is after the end of a label, also no anchor, and nothing before its beginning."""
+        if sign is Sign.START and self.has_anchor:
             raise NoForm
         self.has_end = self.has_end or sign is Sign.END
         self.frames[-1].add(sign, is_atom=False)
@@ -165,5 +165,5 @@ class PatternReader:
 
 def contexts_of(branches):
     """The contexts of a rule's branches."""
-    places = [branch.index(Sign.PLACE) for branch in branches]
-    return tuple((branch[:at], branch[at + 1:]) for branch, at in zip(branches, places))
+    anchors = [branch.index(Sign.ANCHOR) for branch in branches]
+    return tuple((branch[:at], branch[at + 1:]) for branch, at in zip(branches, anchors))

@@ -6,6 +6,8 @@ pub mod OneLine
 pub mod Plain
 -- The same, window by window.
 pub mod Windows
+-- The same, all bytes of a window at once.
+pub mod Lanes
 -- What the laws of answers need.
 pub mod Written
 -- What is written of UTF-8 is UTF-8.

@@ -33,7 +33,7 @@ field_then field after tokens =
     ap (λ ts. (quoted field.0 ++ 58 ∷ []) ++ print_from false ts) (append_assoc (json_tokens (json_of_value field.1)) after tokens)
     ∙ named_value field.0 field.1 (after ++ tokens)
 
--- members, each behind a comma
+-- members, each after a comma
 more : (fields : List Field) (rest : Members) (tokens : List Token)
     → print_from true (members_tokens (members_before fields rest) ++ tokens) ≡ fields_text fields (print_from true (members_tokens rest ++ tokens))
 unfolding print_from
@@ -49,7 +49,7 @@ unfolding print_from
 braced field fields rest tokens =
     ap (λ l. 123 ∷ l) (field_then field (members_tokens (members_before fields rest)) tokens ∙ ap (λ l. field_text field ++ l) (more fields rest tokens))
 
--- the object of a refusal, and the brace behind it
+-- the object of a refusal, and the brace after it
 inner_object : (fields : List Field)
     → print_from false (begin_object ∷ (members_tokens (members_before fields no_members) ++ end_object ∷ [])) ≡ object_text fields (125 ∷ [])
 unfolding print_from

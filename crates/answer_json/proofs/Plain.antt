@@ -5,7 +5,8 @@ use Rattle.std.proofs.lemmas.Bool.{and_parts, and_from}
 use Rattle.std.proofs.lemmas.Bool.Decides.{nat_tests}
 use Rattle.json.specs.Print.{escape, escape_byte, quoted}
 use Rattle.json.proofs.Printed.Strings.{escape_byte_plain}
-use Rattle.answer_json.specs.Hexadecimal.{hex_digit, hex_of, hex_of_byte, leading_digit, four_digits, point_text}
+use Rattle.answer_json.specs.Hexadecimal.{hex_of, hex_of_byte, leading_digit, point_text}
+use Rattle.idn_text.specs.Points.{hex_digit, four_digits}
 use Rattle.answer_json.specs.inner.Openings.{IsOpening, name_in}
 use Rattle.answer_json.specs.inner.Texts.{is_plain, is_plain_byte}
 

@@ -29,7 +29,7 @@ abbrev pub if_given : {A : Type 0} → List ℕ → (A → Value) → Option A �
 if_given name value None = []
 if_given name value (Some a) = (name, value a) ∷ []
 
--- members, and behind them those of a refusal, where there is one
+-- members, and after them those of a refusal, where there is one
 pub record Answer : Type 0 where
   pub fields : List Field
   pub refusal : Option (List Field)

@@ -16,11 +16,17 @@ pub record Details : Type 0 where
   pub code_point : Option ℕ
   -- in code points, from 1
   pub place : Option ℕ
-  -- the rule that is broken, by its document and section
+  -- what a ruleset asks of a rule: 'when' or 'unless'
+  pub condition : Option (List ℕ)
+  -- the rule that is broken, by its document and section; that of a ruleset by its name
   pub rule : Option (List ℕ)
   pub bidi_class : Option (List ℕ)
   -- the code point that Normalization Form C has at the place
   pub nfc : Option ℕ
+  -- the number of the demand of a ruleset that is broken, from 1
+  pub demand : Option ℕ
+  -- its kind: 'never' or 'always'
+  pub kind : Option (List ℕ)
   -- how many code points the label has
   pub code_points : Option ℕ
   -- how many octets the A-label has, or the label of a name, or the name
@@ -38,9 +44,12 @@ no_details =
       decoded = false;
       code_point = None;
       place = None;
+      condition = None;
       rule = None;
       bidi_class = None;
       nfc = None;
+      demand = None;
+      kind = None;
       code_points = None;
       octets = None;
       alabel = None;
@@ -62,8 +71,11 @@ where_fields details =
 
 abbrev pub rule_fields : Details → List Field
 rule_fields details =
-    if_given (codes "rule") text details.rule ++ if_given (codes "bidi_class") text details.bidi_class
+    if_given (codes "condition") text details.condition ++ if_given (codes "rule") text details.rule ++ if_given (codes "bidi_class") text details.bidi_class
     ++ if_given (codes "nfc") point details.nfc
+
+abbrev pub demand_fields : Details → List Field
+demand_fields details = if_given (codes "demand") count details.demand ++ if_given (codes "kind") text details.kind
 
 abbrev pub length_fields : Details → List Field
 length_fields details =
@@ -71,7 +83,7 @@ length_fields details =
     ++ if_given (codes "alabel") text details.alabel ++ if_given (codes "byte") count details.byte
 
 abbrev pub details_fields : Details → List Field
-details_fields details = where_fields details ++ rule_fields details ++ length_fields details
+details_fields details = where_fields details ++ rule_fields details ++ demand_fields details ++ length_fields details
 
 -- {"number":10,"text":"disallowed code point","code_point":"U+0046","place":1,"rule":"RFC 5892 2.2"}
 abbrev pub refusal_fields : Refusal → Details → List Field
@@ -84,8 +96,10 @@ given_len told = length (unwrap_or told [])
 
 -- for these there is space
 pub record HasShortTexts (details : Details) : Type 0 where
+  pub condition : given_len details.condition ≤ 8
   pub rule : given_len details.rule ≤ 64
   pub bidi_class : given_len details.bidi_class ≤ 64
+  pub kind : given_len details.kind ≤ 8
   pub alabel : given_len details.alabel ≤ 252
 
 -- ---- the same of the values of Rust
@@ -97,9 +111,12 @@ details_of members =
       decoded = members.decoded;
       code_point = members.code_point;
       place = members.place;
+      condition = option_copied members.condition;
       rule = option_copied members.rule;
       bidi_class = option_copied members.bidi_class;
       nfc = members.nfc;
+      demand = members.demand;
+      kind = option_copied members.kind;
       code_points = members.code_points;
       octets = members.octets;
       alabel = option_copied members.alabel;

@@ -1,7 +1,6 @@
 //! The objects of the block of a label: one for each of its variants, and a trailer.
-ghost use Rattle.std.specs.Prelude.{◌≡◌, ◌≤◌, ◌+◌, ◌++◌, [], length, codes};
+ghost use Rattle.std.specs.Prelude.{◌≡◌, ◌≤◌, ◌+◌, ◌++◌, [], length, codes, take};
 ghost use Rattle.std.specs.Option.{option_copied};
-ghost use Rattle.arrayvec.specs.ArrayVec.{array_vec_len};
 ghost use Rattle.answer_json.specs.Answers.{if_given, line_of, text};
 ghost use Rattle.answer_json.specs.Inputs.{told, told_len};
 ghost use Rattle.answer_json.specs.Objects.{disposition_text, end_fields, trailer, variant};
@@ -10,7 +9,8 @@ ghost use Rattle.answer_json.specs.inner.Texts.{fields_text};
 
 use crate::ends::{begin_line, end_line};
 use crate::input::Input;
-use crate::member::{MAX_OBJECT_LEN, ObjectLine, put_flag, put_number, put_text};
+use crate::member::{put_flag, put_number, put_text};
+use crate::room::{MAX_OBJECT_LEN, ObjectRoom};
 
 /// Whether a variant may be allocated (RFC 7940, section 7.3).
 #[derive(Clone, Copy, Debug, PartialEq, Eq)]
@@ -34,68 +34,68 @@ impl Disposition {
     }
 }
 
-/// Writes, in place of what was in `out`, the object of a variant with its A-label, and a line feed. A table of version 1
-/// gives no disposition.
-pub fn write_variant(
-    out: &mut ObjectLine,
+/// Writes the object of a variant with its A-label, and a line feed. A table of version 1 gives no disposition.
+pub fn write_variant<'a>(
+    out: &'a mut ObjectRoom,
     line: u64,
     u_label: &[u8],
     a_label: &[u8],
     disposition: Option<Disposition>,
-)
+) -> &'a [u8]
     requires u_label { length u_label.now ≤ 252 }
     requires a_label { length a_label.now ≤ 63 }
-    ensures { out.new.items ≡ line_of (variant line u_label.now a_label.now disposition) }
+    ensures { result.now ≡ line_of (variant line u_label.now a_label.now disposition) }
 {
-    out.clear();
-    put_number(out, "{\"line\":", line);
-    put_text(out, ",\"ulabel\":", u_label);
-    put_text(out, ",\"alabel\":", a_label);
-    put_disposition(out, disposition);
-    end_line(out);
+    let at = put_number(out, 0, "{\"line\":", line);
+    let next = put_text(out, at, ",\"ulabel\":", u_label);
+    let last = put_text(out, next, ",\"alabel\":", a_label);
+    let end = put_disposition(out, last, disposition);
+    end_line(out, end)
 }
 
-/// Appends a disposition as a member, where there is one.
+/// Writes a disposition as a member, where there is one.
 #[tactic(auto, using(crate::proofs::Members::one_field))]
-fn put_disposition(out: &mut ObjectLine, disposition: Option<Disposition>)
-    requires { array_vec_len out.old + 100 ≤ MAX_OBJECT_LEN }
-    ensures field { out.new.items ≡ out.old.items
+fn put_disposition(out: &mut ObjectRoom, at: usize, disposition: Option<Disposition>) -> usize
+    requires { at + 100 ≤ MAX_OBJECT_LEN }
+    ensures field { take result out.new ≡ take at out.old
         ++ fields_text (if_given (codes "disposition") (λ d. text (disposition_text d)) disposition) [] }
-    ensures space { array_vec_len out.new ≤ array_vec_len out.old + 100 }
+    ensures end { result ≤ at + 100 }
 {
-    if let Some(disposition) = disposition {
-        put_text(out, ",\"disposition\":", disposition.text().as_bytes());
+    match disposition {
+        Some(disposition) => put_text(out, at, ",\"disposition\":", disposition.text().as_bytes()),
+        None => at,
     }
 }
 
-/// Writes, in place of what was in `out`, the trailer of a block, and a line feed: how many variants it has, and the label
-/// after which there may be more, where it was stopped.
-pub fn write_trailer(
-    out: &mut ObjectLine,
+/// Writes the trailer of a block, and a line feed: how many variants it has, and the label after which there may be more,
+/// where it was stopped.
+pub fn write_trailer<'a>(
+    out: &'a mut ObjectRoom,
     line: u64,
     input: &Input,
     count: u64,
     stop: Option<&[u8]>,
-)
+) -> &'a [u8]
     requires input { told_len input.now ≤ 1024 }
     requires stop { given_len (option_copied stop) ≤ 252 }
-    ensures { out.new.items ≡ line_of (trailer line (told input.now) count (option_copied stop.entry)) }
+    ensures { result.now ≡ line_of (trailer line (told input.now) count (option_copied stop.entry)) }
 {
-    begin_line(out, line, input);
-    put_number(out, ",\"count\":", count);
-    put_end(out, stop);
-    end_line(out);
+    let at = begin_line(out, line, input);
+    let next = put_number(out, at, ",\"count\":", count);
+    let end = put_end(out, next, stop);
+    end_line(out, end)
 }
 
-/// Appends whether a block is complete, and where it was stopped.
-fn put_end(out: &mut ObjectLine, stop: Option<&[u8]>)
+/// Writes whether a block is complete, and where it was stopped.
+fn put_end(out: &mut ObjectRoom, at: usize, stop: Option<&[u8]>) -> usize
     requires short { given_len (option_copied stop) ≤ 252 }
-    requires room { array_vec_len out.old + 1600 ≤ MAX_OBJECT_LEN }
-    ensures fields { out.new.items ≡ out.old.items ++ fields_text (end_fields (option_copied stop.entry)) [] }
-    ensures space { array_vec_len out.new ≤ array_vec_len out.old + 1600 }
+    requires room { at + 1600 ≤ MAX_OBJECT_LEN }
+    ensures fields { take result out.new ≡ take at out.old ++ fields_text (end_fields (option_copied stop.entry)) [] }
+    ensures end { result ≤ at + 1600 }
 {
-    put_flag(out, ",\"complete\":", stop.is_none());
-    if let Some(label) = stop {
-        put_text(out, ",\"after\":", label);
+    let next = put_flag(out, at, ",\"complete\":", stop.is_none());
+    match stop {
+        Some(label) => put_text(out, next, ",\"after\":", label),
+        None => next,
     }
 }

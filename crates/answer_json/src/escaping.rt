@@ -1,82 +1,115 @@
-//! Texts as strings of JSON (RFC 8259, section 7), in a buffer of a fixed size.
-ghost use Rattle.std.specs.Prelude.{◌≡◌, ◌≤◌, ◌<◌, ◌+◌, ◌*◌, ◌++◌, length};
+//! Texts as strings of JSON (RFC 8259, section 7).
+ghost use Rattle.std.specs.Prelude.{◌≡◌, ◌≤◌, ◌<◌, ◌+◌, ◌*◌, ◌++◌, length, take, true};
 ghost use Rattle.std.specs.Char.{digit_char};
-ghost use Rattle.arrayvec.specs.ArrayVec.{array_vec_len};
 ghost use Rattle.json.specs.Print.{escape, escape_byte};
 ghost use Rattle.answer_json.specs.inner.Texts.{is_plain, is_plain_byte};
 
-use arrayvec::ArrayVec;
+use crate::room::{MAX_OBJECT_LEN, ObjectRoom, put_byte, put_bytes};
+use std::simd::Simd;
+use std::simd::prelude::*;
 
-/// How many bytes are looked at at once.
+/// How many bytes are copied and looked at at once.
 const WINDOW_LEN: usize = 16;
 
-/// Appends a text, for which there is space, with the shortest escape of each byte that needs one: the quotation mark, the
-/// backslash, and what is below the space.
+/// Writes a text with the shortest escape of each byte that needs one: the quotation mark, the backslash, and what is below
+/// the space.
 #[tactic(auto, using(crate::proofs::Plain::escape_plain))]
-pub fn append_escaped<const N: usize>(out: &mut ArrayVec<u8, N>, text: &[u8])
-    requires { array_vec_len out.old + 6 * length text.now ≤ N }
-    ensures escaped { out.new.items ≡ out.old.items ++ escape text.now }
-    ensures space { array_vec_len out.new ≤ array_vec_len out.old + 6 * length text.now }
+pub(crate) fn put_escaped(out: &mut ObjectRoom, at: usize, text: &[u8]) -> usize
+    requires { at + 6 * length text.now ≤ MAX_OBJECT_LEN }
+    ensures escaped { take result out.new ≡ take at out.old ++ escape text.now }
+    ensures end { result ≤ at + 6 * length text.now }
 {
+    let end = at + text.len();
     // Few texts have a byte that needs an escape.
-    if is_plain(text) {
-        append(out, text);
+    if copy_plain(&mut out[at..end], text) {
+        end
     } else {
-        append_each(out, text);
+        put_each(out, at, text)
     }
 }
 
-/// Whether each byte of a text stands as it is. Windows of one length are looked at, the last of which may share bytes with the
-/// one before it: all bytes of a window are looked at at once.
-fn is_plain(text: &[u8]) -> bool
-    ensures { result ≡ is_plain text.now }
+/// Copies a text, and tells whether each of its bytes stands as it is. Windows of one length are copied and looked at, the
+/// last of which may share bytes with the one before it.
+#[inline(always)]
+fn copy_plain(copy: &mut [u8], text: &[u8]) -> bool
+    requires { length copy.old ≡ length text.now }
+    ensures plain { result ≡ is_plain text.now }
+    ensures copied { copy.new ≡ text.now }
 {
     if text.len() < WINDOW_LEN {
-        return is_plain_if_short(text);
+        return copy_short(copy, text);
     }
     let last = text.len() - WINDOW_LEN;
+    let mut plain = true;
     let mut at = 0;
     while at < last {
-        if !each_is_plain(&text[at..at + WINDOW_LEN]) {
-            return false;
-        }
-        at += WINDOW_LEN;
+        let end = at + WINDOW_LEN;
+        plain &= copy_window::<WINDOW_LEN>(&mut copy[at..end], &text[at..end]);
+        at = end;
     }
-    each_is_plain(&text[last..])
+    plain & copy_window::<WINDOW_LEN>(&mut copy[last..], &text[last..])
 }
 
 /// The same of a text that is shorter than a window.
-fn is_plain_if_short(text: &[u8]) -> bool
-    requires { length text.now < WINDOW_LEN }
-    ensures { result ≡ is_plain text.now }
+#[inline(always)]
+fn copy_short(copy: &mut [u8], text: &[u8]) -> bool
+    requires short { length text.now < WINDOW_LEN }
+    requires same_length { length copy.old ≡ length text.now }
+    ensures plain { result ≡ is_plain text.now }
+    ensures copied { copy.new ≡ text.now }
 {
-    if text.len() >= WINDOW_LEN / 2 {
-        ends_are_plain(text, WINDOW_LEN / 2)
-    } else if text.len() >= WINDOW_LEN / 4 {
-        ends_are_plain(text, WINDOW_LEN / 4)
+    if text.len() >= 8 {
+        copy_ends::<8>(copy, text)
+    } else if text.len() >= 4 {
+        copy_ends::<4>(copy, text)
     } else {
-        each_is_plain(text)
+        copy_few(copy, text)
     }
 }
 
 /// The same of a text that its first and its last bytes, so many of each, are all of.
 #[inline(always)]
-fn ends_are_plain(text: &[u8], count: usize) -> bool
-    requires shorter { count ≤ length text.now }
-    requires all { length text.now ≤ 2 * count }
-    ensures { result ≡ is_plain text.now }
+fn copy_ends<const N: usize>(copy: &mut [u8], text: &[u8]) -> bool
+    requires few { N ≤ 64 }
+    requires shorter { N ≤ length text.now }
+    requires all { length text.now ≤ 2 * N }
+    requires same_length { length copy.old ≡ length text.now }
+    ensures plain { result ≡ is_plain text.now }
+    ensures copied { copy.new ≡ text.now }
 {
-    each_is_plain(&text[..count]) & each_is_plain(&text[text.len() - count..])
+    let last = text.len() - N;
+    copy_window::<N>(&mut copy[..N], &text[..N])
+        & copy_window::<N>(&mut copy[last..], &text[last..])
 }
 
-/// The same, byte by byte. Where the length is known, the compiler takes all bytes at once.
+/// The same of a text of `N` bytes, which are copied at once, and looked at at once.
 #[inline(always)]
-fn each_is_plain(text: &[u8]) -> bool
-    ensures { result ≡ is_plain text.now }
+fn copy_window<const N: usize>(copy: &mut [u8], text: &[u8]) -> bool
+    requires few { N ≤ 64 }
+    requires window { length text.now ≡ N }
+    requires same_length { length copy.old ≡ N }
+    ensures plain { result ≡ is_plain text.now }
+    ensures copied { copy.new ≡ text.now }
+{
+    let bytes = Simd::<u8, N>::from_slice(text);
+    bytes.copy_to_slice(copy);
+    let escaped = bytes.simd_eq(Simd::splat(b'"'))
+        | bytes.simd_eq(Simd::splat(b'\\'))
+        | bytes.simd_lt(Simd::splat(b' '));
+    escaped.to_bitmask() == 0
+}
+
+/// The same, byte by byte.
+#[inline(always)]
+fn copy_few(copy: &mut [u8], text: &[u8]) -> bool
+    requires { length copy.old ≡ length text.now }
+    ensures plain { result ≡ is_plain text.now }
+    ensures copied { copy.new ≡ text.now }
 {
     let mut plain = true;
-    for byte in text {
-        plain &= is_plain_byte(*byte);
+    for at in 0..text.len() {
+        copy[at] = text[at];
+        plain &= is_plain_byte(text[at]);
     }
     plain
 }
@@ -87,24 +120,28 @@ fn is_plain_byte(byte: u8) -> bool
     (byte >= b' ') & (byte != b'"') & (byte != b'\\')
 }
 
-/// Appends a text, with what stands for each byte.
-fn append_each<const N: usize>(out: &mut ArrayVec<u8, N>, text: &[u8])
-    requires { array_vec_len out.old + 6 * length text.now ≤ N }
-    ensures escaped { out.new.items ≡ out.old.items ++ escape text.now }
-    ensures space { array_vec_len out.new ≤ array_vec_len out.old + 6 * length text.now }
+/// Writes a text with what stands for each byte.
+#[cold]
+#[inline(never)]
+fn put_each(out: &mut ObjectRoom, at: usize, text: &[u8]) -> usize
+    requires { at + 6 * length text.now ≤ MAX_OBJECT_LEN }
+    ensures escaped { take result out.new ≡ take at out.old ++ escape text.now }
+    ensures end { result ≤ at + 6 * length text.now }
 {
+    let mut end = at;
     for byte in text {
-        append_byte(out, *byte);
+        end = put_escape(out, end, *byte);
     }
+    end
 }
 
-/// Appends what stands for a byte.
+/// Writes what stands for a byte.
 #[inline]
 #[tactic(auto, unfolding(json::specs::Print::escape_byte))]
-fn append_byte<const N: usize>(out: &mut ArrayVec<u8, N>, byte: u8)
-    requires { array_vec_len out.old + 6 ≤ N }
-    ensures bytes { out.new.items ≡ out.old.items ++ escape_byte byte }
-    ensures space { array_vec_len out.new ≤ array_vec_len out.old + 6 }
+fn put_escape(out: &mut ObjectRoom, at: usize, byte: u8) -> usize
+    requires { at + 6 ≤ MAX_OBJECT_LEN }
+    ensures bytes { take result out.new ≡ take at out.old ++ escape_byte byte }
+    ensures end { result ≤ at + 6 }
 {
     let letter = match byte {
         b'"' | b'\\' => byte,
@@ -114,21 +151,14 @@ fn append_byte<const N: usize>(out: &mut ArrayVec<u8, N>, byte: u8)
         b'\r' => b'r',
         b'\t' => b't',
         0..32 => {
-            out.push(b'\\');
-            out.push(b'u');
-            out.push(b'0');
-            out.push(b'0');
-            out.push(hex_digit(byte / 16));
-            out.push(hex_digit(byte % 16));
-            return;
+            let digits = put_bytes(out, at, b"\\u00");
+            let last = put_byte(out, digits, hex_digit(byte / 16));
+            return put_byte(out, last, hex_digit(byte % 16));
         }
-        _ => {
-            out.push(byte);
-            return;
-        }
+        _ => return put_byte(out, at, byte),
     };
-    out.push(b'\\');
-    out.push(letter);
+    let end = put_byte(out, at, b'\\');
+    put_byte(out, end, letter)
 }
 
 /// The hexadecimal digit of a number, in lower case.
@@ -141,14 +171,4 @@ fn hex_digit(number: u8) -> u8
     } else {
         b'a' + (number - 10)
     }
-}
-
-/// Appends bytes as they are, for which there is space.
-pub(crate) fn append<const N: usize>(out: &mut ArrayVec<u8, N>, bytes: &[u8])
-    requires { array_vec_len out.old + length bytes.now ≤ N }
-    ensures { out.new.items ≡ out.old.items ++ bytes.now }
-{
-    let Ok(()) = out.try_extend_from_slice(bytes) else {
-        unreachable!()
-    };
 }

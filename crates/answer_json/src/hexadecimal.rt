@@ -1,59 +1,62 @@
 //! Bytes and code points in hexadecimal digits.
-ghost use Rattle.std.specs.Prelude.{◌≡◌, ◌≤◌, ◌<◌, ◌+◌, ◌*◌, ◌++◌, length};
-ghost use Rattle.arrayvec.specs.ArrayVec.{array_vec_len};
-ghost use Rattle.answer_json.specs.Hexadecimal.{four_digits, hex_digit, hex_of, leading_digit, point_text};
+ghost use Rattle.std.specs.Prelude.{◌≡◌, ◌≤◌, ◌<◌, ◌+◌, ◌*◌, ◌++◌, length, take};
+ghost use Rattle.answer_json.specs.Hexadecimal.{hex_of, leading_digit, point_text};
+ghost use Rattle.idn_text.specs.Points.{four_digits, hex_digit};
 
-use arrayvec::ArrayVec;
+use crate::room::{MAX_OBJECT_LEN, ObjectRoom, put_byte, put_bytes};
 
-/// Appends two digits for each byte.
+/// Writes two digits for each byte.
 #[tactic(auto, unfolding(crate::specs::Hexadecimal::hex_of_byte))]
-pub(crate) fn append_octets<const N: usize>(out: &mut ArrayVec<u8, N>, bytes: &[u8])
-    requires { array_vec_len out.old + 2 * length bytes.now ≤ N }
-    ensures digits { out.new.items ≡ out.old.items ++ hex_of bytes.now }
-    ensures space { array_vec_len out.new ≤ array_vec_len out.old + 2 * length bytes.now }
+pub(crate) fn put_hex(out: &mut ObjectRoom, at: usize, bytes: &[u8]) -> usize
+    requires { at + 2 * length bytes.now ≤ MAX_OBJECT_LEN }
+    ensures digits { take result out.new ≡ take at out.old ++ hex_of bytes.now }
+    ensures end { result ≤ at + 2 * length bytes.now }
 {
+    let mut end = at;
     for byte in bytes {
-        out.push(hex_digit(*byte / 16 % 16));
-        out.push(hex_digit(*byte % 16));
+        let low = put_byte(out, end, hex_digit(*byte / 16 % 16));
+        end = put_byte(out, low, hex_digit(*byte % 16));
     }
+    end
 }
 
-/// Appends a code point as the Unicode Standard writes it.
+/// Writes a code point as the Unicode Standard writes it.
 #[tactic(auto, unfolding(crate::specs::Hexadecimal::point_text))]
-pub(crate) fn append_point<const N: usize>(out: &mut ArrayVec<u8, N>, point: u32)
-    requires { array_vec_len out.old + 10 ≤ N }
-    ensures text { out.new.items ≡ out.old.items ++ point_text point }
-    ensures space { array_vec_len out.new ≤ array_vec_len out.old + 10 }
+pub(crate) fn put_point_text(out: &mut ObjectRoom, at: usize, point: u32) -> usize
+    requires { at + 10 ≤ MAX_OBJECT_LEN }
+    ensures text { take result out.new ≡ take at out.old ++ point_text point }
+    ensures end { result ≤ at + 10 }
 {
-    out.push(b'U');
-    out.push(b'+');
-    append_leading_digit(out, point, 0x1000_0000);
-    append_leading_digit(out, point, 0x100_0000);
-    append_leading_digit(out, point, 0x10_0000);
-    append_leading_digit(out, point, 0x1_0000);
-    append_four_digits(out, point);
+    let first = put_bytes(out, at, b"U+");
+    let second = put_leading_digit(out, first, point, 0x1000_0000);
+    let third = put_leading_digit(out, second, point, 0x100_0000);
+    let fourth = put_leading_digit(out, third, point, 0x10_0000);
+    let last = put_leading_digit(out, fourth, point, 0x1_0000);
+    put_four_digits(out, last, point)
 }
 
-/// Appends the digit that counts so many, unless only zeros would stand up to it.
-fn append_leading_digit<const N: usize>(out: &mut ArrayVec<u8, N>, point: u32, unit: u32)
-    requires room { array_vec_len out.old + 1 ≤ N }
+/// Writes the digit that counts so many, unless only zeros would stand up to it.
+fn put_leading_digit(out: &mut ObjectRoom, at: usize, point: u32, unit: u32) -> usize
+    requires room { at < MAX_OBJECT_LEN }
     requires unit { 0 < unit }
-    ensures digit { out.new.items ≡ out.old.items ++ leading_digit point unit }
-    ensures space { array_vec_len out.new ≤ array_vec_len out.old + 1 }
+    ensures digit { take result out.new ≡ take at out.old ++ leading_digit point unit }
+    ensures end { result ≤ at + 1 }
 {
-    if point >= unit {
-        out.push(hex_digit((point / unit % 16) as u8));
+    if point < unit {
+        return at;
     }
+    put_byte(out, at, hex_digit((point / unit % 16) as u8))
 }
 
-fn append_four_digits<const N: usize>(out: &mut ArrayVec<u8, N>, point: u32)
-    requires { array_vec_len out.old + 4 ≤ N }
-    ensures { out.new.items ≡ out.old.items ++ four_digits point }
+fn put_four_digits(out: &mut ObjectRoom, at: usize, point: u32) -> usize
+    requires { at + 4 ≤ MAX_OBJECT_LEN }
+    ensures digits { take result out.new ≡ take at out.old ++ four_digits point }
+    ensures end { result ≡ at + 4 }
 {
-    out.push(hex_digit((point / 0x1000 % 16) as u8));
-    out.push(hex_digit((point / 0x100 % 16) as u8));
-    out.push(hex_digit((point / 0x10 % 16) as u8));
-    out.push(hex_digit((point % 16) as u8));
+    let second = put_byte(out, at, hex_digit((point / 0x1000 % 16) as u8));
+    let third = put_byte(out, second, hex_digit((point / 0x100 % 16) as u8));
+    let fourth = put_byte(out, third, hex_digit((point / 0x10 % 16) as u8));
+    put_byte(out, fourth, hex_digit((point % 16) as u8))
 }
 
 /// A hexadecimal digit, in upper case.

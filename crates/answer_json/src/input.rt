@@ -1,10 +1,10 @@
 //! How the line that is answered is told.
-ghost use Rattle.std.specs.Prelude.{◌≡◌, ◌≤◌, ◌+◌, ◌++◌, ◌∷◌, [], length};
-ghost use Rattle.arrayvec.specs.ArrayVec.{array_vec_len};
+ghost use Rattle.std.specs.Prelude.{◌≡◌, ◌≤◌, ◌+◌, ◌++◌, ◌∷◌, [], length, take};
 ghost use Rattle.answer_json.specs.Inputs.{input_field, told, told_len};
 ghost use Rattle.answer_json.specs.inner.Texts.{field_text};
 
-use crate::member::{MAX_OBJECT_LEN, ObjectLine, put_null, put_octets, put_text};
+use crate::member::{put_null, put_octets, put_text};
+use crate::room::{MAX_OBJECT_LEN, ObjectRoom};
 use std::str;
 
 /// A line of input, without its end.
@@ -45,19 +45,18 @@ impl<'a> Input<'a> {
     }
 }
 
-/// Appends a line of input as a member.
+/// Writes a line of input as a member.
 #[tactic(auto, unfolding(crate::specs::inner::Texts::field_text))]
-pub(crate) fn put_input(out: &mut ObjectLine, input: &Input)
+#[inline(always)]
+pub(crate) fn put_input(out: &mut ObjectRoom, at: usize, input: &Input) -> usize
     requires short { told_len input.now ≤ 1024 }
-    requires room { array_vec_len out.old + 6200 ≤ MAX_OBJECT_LEN }
-    ensures field { out.new.items ≡ out.old.items ++ 44 ∷ field_text (input_field (told input.now)) }
-    ensures space { array_vec_len out.new ≤ array_vec_len out.old + 6200 }
+    requires room { at + 6200 ≤ MAX_OBJECT_LEN }
+    ensures field { take result out.new ≡ take at out.old ++ 44 ∷ field_text (input_field (told input.now)) }
+    ensures end { result ≤ at + 6200 }
 {
     match input {
-        Input::Text(text) => put_text(out, ",\"input\":", text),
-        Input::Octets(octets) => put_octets(out, ",\"input_hex\":", octets),
-        Input::NotKept => {
-            put_null(out, ",\"input\":");
-        }
+        Input::Text(text) => put_text(out, at, ",\"input\":", text),
+        Input::Octets(octets) => put_octets(out, at, ",\"input_hex\":", octets),
+        Input::NotKept => put_null(out, at, ",\"input\":"),
     }
 }

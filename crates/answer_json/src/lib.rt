@@ -14,15 +14,15 @@ mod laws;
 mod member;
 mod refusal_members;
 mod refused;
+mod room;
 #[cfg(test)]
-mod rows;
+mod worked_rows;
 
 pub use answered::{write_decoded, write_least, write_looked_up, write_registered};
 pub use block::{Disposition, write_trailer, write_variant};
 pub use checked::{write_checked, write_gap};
-pub use escaping::append_escaped;
 pub use input::Input;
 pub use laws::{objects_are_lines, objects_are_read_back, objects_are_unicode, objects_have_texts};
-pub use member::{MAX_OBJECT_LEN, ObjectLine};
 pub use refusal_members::RefusalMembers;
 pub use refused::{write_refused, write_registered_fault, write_table_fault};
+pub use room::{MAX_OBJECT_LEN, ObjectRoom};

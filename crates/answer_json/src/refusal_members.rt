@@ -1,6 +1,6 @@
 //! What a refusal is told with.
 
-/// The members of a refusal behind its number and its text: those that its cause has. Numbers count from 1.
+/// The members of a refusal after its number and its text: those that its cause has. Numbers count from 1.
 #[derive(Clone, Copy, Debug)]
 pub struct RefusalMembers<'a> {
     /// The number of the label in its name.
@@ -11,12 +11,18 @@ pub struct RefusalMembers<'a> {
     pub code_point: Option<u32>,
     /// Its place, in code points.
     pub place: Option<u128>,
-    /// The rule that is broken, by its document and section.
+    /// What a ruleset asks of a rule: that it holds, `when`, or that it doesn't, `unless`.
+    pub condition: Option<&'a [u8]>,
+    /// The rule that is broken, by its document and section; that of a ruleset by its name.
     pub rule: Option<&'a [u8]>,
     /// The Bidi_Class of the code point.
     pub bidi_class: Option<&'a [u8]>,
     /// The code point that Normalization Form C has at the place.
     pub nfc: Option<u32>,
+    /// The number of the demand of a ruleset that is broken.
+    pub demand: Option<u128>,
+    /// Its kind: `never` or `always`.
+    pub kind: Option<&'a [u8]>,
     /// How many code points the label has.
     pub code_points: Option<u128>,
     /// How many octets the A-label has, or the label of a name, or the name.
@@ -34,9 +40,12 @@ impl RefusalMembers<'_> {
         decoded: false,
         code_point: None,
         place: None,
+        condition: None,
         rule: None,
         bidi_class: None,
         nfc: None,
+        demand: None,
+        kind: None,
         code_points: None,
         octets: None,
         alabel: None,

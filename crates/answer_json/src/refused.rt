@@ -1,80 +1,79 @@
 //! The objects of refusals: of a line of input, and of a line of a table.
-ghost use Rattle.std.specs.Prelude.{◌≡◌, ◌≤◌, ◌+◌, ◌++◌, [], Some};
-ghost use Rattle.arrayvec.specs.ArrayVec.{array_vec_len};
+ghost use Rattle.std.specs.Prelude.{◌≡◌, ◌≤◌, ◌+◌, ◌++◌, [], Some, take};
 ghost use Rattle.answer_json.specs.Answers.{line_of};
 ghost use Rattle.answer_json.specs.Details.{HasShortTexts, details_of, refusal_fields};
 ghost use Rattle.answer_json.specs.Inputs.{told, told_len};
 ghost use Rattle.answer_json.specs.Objects.{refused, registered_fault, table_fault};
 ghost use Rattle.answer_json.specs.inner.Texts.{refusal_text};
 
-use crate::details::{put_lengths, put_rule, put_where};
+use crate::details::{put_demand, put_lengths, put_rule, put_where};
 use crate::ends::{begin_line, end_line};
 use crate::input::Input;
-use crate::member::{MAX_OBJECT_LEN, ObjectLine, put_number, put_opening, put_text};
+use crate::member::{put_number, put_opening, put_text};
 use crate::refusal_members::RefusalMembers;
+use crate::room::{MAX_OBJECT_LEN, ObjectRoom, put_byte};
 use idn_text::Refusal;
 
-/// Writes, in place of what was in `out`, the object of a line that is refused, and a line feed.
-pub fn write_refused(
-    out: &mut ObjectLine,
+/// Writes the object of a line that is refused, and a line feed.
+pub fn write_refused<'a>(
+    out: &'a mut ObjectRoom,
     line: u64,
     input: &Input,
     refusal: Refusal,
     members: &RefusalMembers,
-)
+) -> &'a [u8]
     requires input { told_len input.now ≤ 1024 }
     requires texts { HasShortTexts (details_of members.now) }
-    ensures { out.new.items ≡ line_of (refused line (told input.now) refusal (details_of members.now)) }
+    ensures { result.now ≡ line_of (refused line (told input.now) refusal (details_of members.now)) }
 {
-    begin_line(out, line, input);
-    put_refusal(out, refusal, members);
-    end_line(out);
+    let at = begin_line(out, line, input);
+    let end = put_refusal(out, at, refusal, members);
+    end_line(out, end)
 }
 
-/// Writes, in place of what was in `out`, the object of a line of a table that is refused, and a line feed.
-pub fn write_table_fault(
-    out: &mut ObjectLine,
+/// Writes the object of a line of a table that is refused, and a line feed.
+pub fn write_table_fault<'a>(
+    out: &'a mut ObjectRoom,
     line: u64,
     refusal: Refusal,
     members: &RefusalMembers,
-)
+) -> &'a [u8]
     requires { HasShortTexts (details_of members.now) }
-    ensures { out.new.items ≡ line_of (table_fault line refusal (details_of members.now)) }
+    ensures { result.now ≡ line_of (table_fault line refusal (details_of members.now)) }
 {
-    out.clear();
-    put_number(out, "{\"table_line\":", line);
-    put_refusal(out, refusal, members);
-    end_line(out);
+    let at = put_number(out, 0, "{\"table_line\":", line);
+    let end = put_refusal(out, at, refusal, members);
+    end_line(out, end)
 }
 
-/// Writes, in place of what was in `out`, the object of a line of the registered labels that is refused, and a line feed.
-pub fn write_registered_fault(
-    out: &mut ObjectLine,
+/// Writes the object of a line of the registered labels that is refused, and a line feed.
+pub fn write_registered_fault<'a>(
+    out: &'a mut ObjectRoom,
     line: u64,
     refusal: Refusal,
     members: &RefusalMembers,
-)
+) -> &'a [u8]
     requires { HasShortTexts (details_of members.now) }
-    ensures { out.new.items ≡ line_of (registered_fault line refusal (details_of members.now)) }
+    ensures { result.now ≡ line_of (registered_fault line refusal (details_of members.now)) }
 {
-    out.clear();
-    put_number(out, "{\"registered_line\":", line);
-    put_refusal(out, refusal, members);
-    end_line(out);
+    let at = put_number(out, 0, "{\"registered_line\":", line);
+    let end = put_refusal(out, at, refusal, members);
+    end_line(out, end)
 }
 
-/// Appends the object of a refusal as a member.
-fn put_refusal(out: &mut ObjectLine, refusal: Refusal, members: &RefusalMembers)
+/// Writes the object of a refusal as a member.
+fn put_refusal(out: &mut ObjectRoom, at: usize, refusal: Refusal, members: &RefusalMembers) -> usize
     requires texts { HasShortTexts (details_of members.now) }
-    requires room { array_vec_len out.old + 4096 ≤ MAX_OBJECT_LEN }
-    ensures object { out.new.items ≡ out.old.items ++ refusal_text (Some (refusal_fields refusal (details_of members.now))) [] }
-    ensures space { array_vec_len out.new ≤ array_vec_len out.old + 4096 }
+    requires room { at + 4096 ≤ MAX_OBJECT_LEN }
+    ensures object { take result out.new ≡ take at out.old ++ refusal_text (Some (refusal_fields refusal (details_of members.now))) [] }
+    ensures end { result ≤ at + 4096 }
 {
-    put_opening(out, ",\"refusal\":");
-    put_number(out, "{\"number\":", refusal.number() as u64);
-    put_text(out, ",\"text\":", refusal.text().as_bytes());
-    put_where(out, members);
-    put_rule(out, members);
-    put_lengths(out, members);
-    out.push(b'}');
+    let object = put_opening(out, at, ",\"refusal\":");
+    let text = put_number(out, object, "{\"number\":", refusal.number() as u64);
+    let place = put_text(out, text, ",\"text\":", refusal.text().as_bytes());
+    let rule = put_where(out, place, members);
+    let demand = put_rule(out, rule, members);
+    let lengths = put_demand(out, demand, members);
+    let end = put_lengths(out, lengths, members);
+    put_byte(out, end, b'}')
 }

@@ -14,7 +14,7 @@ const TABLE_BYTES: u64 = 1_048_577;
 /// The same of a ruleset's text.
 const RULESET_BYTES: u64 = 8_388_609;
 
-/// As many bytes of the file of registered labels as can matter: 2^32, and behind these a line of 1,024 bytes with its line
+/// As many bytes of the file of registered labels as can matter: 2^32, and after these a line of 1,024 bytes with its line
 /// feed, so that the first line that ends too late is there as far as it is tested.
 const REGISTERED_BYTES: u64 = 4_294_968_321;
 
@@ -82,7 +82,7 @@ fn read_start(rt: &HostRuntime, name: &str, most: u64) -> io::Result<Vec<u8>> {
     Ok(bytes)
 }
 
-/// The standard output behind a buffer.
+/// The standard output, through a buffer.
 pub fn standard_output(rt: &HostRuntime) -> Result<BufWriter<Stdout>, Refusal>
     ensures { IfErr result IsFault }
 {

@@ -1,5 +1,6 @@
 -- Labels that a table admits, and others.
-use Rattle.std.proofs.Common.{◌≡◌, ◌≢◌, ◌<◌, ◌≤◌, ◌⊎◌, inl, inr, ℕ, List, [], ◌∷◌, Bool, true, false, Ok, Err, length, refl, sym, ap, ◌∙◌, if◌then◌else◌, arith}
+use Rattle.std.proofs.Common.{◌≡◌, ◌≢◌, ◌<◌, ◌≤◌, ◌⊎◌, inl, inr, ℕ, List, [], Bool, true, false, Ok, Err, length, refl, sym, ap, ◌∙◌, if◌then◌else◌, arith}
+use Rattle.std.proofs.lemmas.Bool.{false_from_ne_true}
 use Rattle.idn_text.specs.declared.refusal.Refusal.{Refusal}
 use Rattle.idn_text.specs.declared.refusal.Refusal.TheVariants.{NotInTable, NotValid}
 use Rattle.variant_table.specs.Entries.{TableValue}
@@ -11,10 +12,7 @@ use Rattle.valid_labels.proofs.SegmentationLemmas.{made-from_segmentation}
 use Rattle.valid_labels.proofs.TestLemmas.{tests-agree}
 use Rattle.idn2_cli.specs.Said.{Said}
 use Rattle.idn2_cli.specs.Answers.{IsRefusedAs, LineAnswer, if_admitted}
-
-empty_or_some : {X : Type 0} (xs : List X) → (xs ≡ []) ⊎ (0 < length xs)
-empty_or_some [] = inl refl
-empty_or_some (x ∷ xs) = inr (omega arith)
+use Rattle.variant_list.proofs.SegmentedLemmas.{empty_or_some}
 
 pub some-length : (label : List ℕ) → label ≢ [] → 1 ≤ length label
 some-length label some = by_cases (empty_or_some label)
@@ -22,10 +20,6 @@ some-length label some = by_cases (empty_or_some label)
     by_cases : (label ≡ []) ⊎ (0 < length label) → 1 ≤ length label
     by_cases (inl e) = absurd (some e)
     by_cases (inr lt) = omega (arith, lt)
-
-unless-true : (b : Bool) → (b ≡ true → ⊥) → b ≡ false
-unless-true true h = absurd (h refl)
-unless-true false h = refl
 
 abbrev answer_by : Bool → Bool → List Said → LineAnswer
 answer_by admitted made said = if admitted then Ok said else (if made then Err NotValid else Err NotInTable)
@@ -45,12 +39,12 @@ pub refused_answer : (table : TableValue) (label : List ℕ) (refusal : Refusal)
 refused_answer table label refusal said sound is made = by_cases is
   where
     not_admitted : (IsAdmitted table label → ⊥) → is_admitted table label ≡ false
-    not_admitted none = unless-true (is_admitted table label) (λ e. none ((tests-agree.admitted table label sound).0 e))
+    not_admitted none = false_from_ne_true (is_admitted table label) (λ e. none ((tests-agree.admitted table label sound).0 e))
 
     by_cases : IsRefusedAs table label refusal → if_admitted table label said ≡ Err refusal
     by_cases (inl (none, e)) =
         ap (λ (b : Bool). answer_by b (is_made_of_sources table label) said) (not_admitted (λ a. none (made a)))
-        ∙ ap (λ (b : Bool). answer_by false b said) (unless-true (is_made_of_sources table label) (λ t. none ((tests-agree.made_of_sources table label sound).0 t)))
+        ∙ ap (λ (b : Bool). answer_by false b said) (false_from_ne_true (is_made_of_sources table label) (λ t. none ((tests-agree.made_of_sources table label sound).0 t)))
         ∙ ap (λ (r : Refusal). let answer : LineAnswer = Err r in answer) (sym e)
     by_cases (inr (is_made, none, e)) =
         ap (λ (b : Bool). answer_by b (is_made_of_sources table label) said) (not_admitted none)

@@ -14,11 +14,11 @@ use Rattle.variant_list.specs.declared.part.Part.TheVariants.{Whole, Unblocked, 
 use Rattle.variant_list.specs.Positions.{Built}
 use Rattle.variant_list.specs.Spelled.{part_spelled}
 use Rattle.variant_list.specs.Spelling.{PartSpells}
-use Rattle.variant_list.proofs.ListMembers.{Contains-head, Contains-later, Contains-none, Contains-one, Contains-cases}
 use Rattle.variant_list.proofs.SpelledByLemmas.{part_spelled-PartSpells}
 use Rattle.variant_list.proofs.SpellingLemmas.{PartSpells-itself}
 use Rattle.idn2_cli.specs.Answers.{IsAllocatable, IsSubTable, is_allocatable, is_among, sub_tables_below, sub_tables_of}
-use Rattle.idn2_cli.specs.inner.Allocations.{Allowed, allows, is_own}
+use Rattle.idn2_cli.specs.inner.Allocations.{allows, is_own}
+use Rattle.variant_table.proofs.MemberLemmas.{Contains-head, Contains-later, Contains-none, Contains-one, Contains-cases}
 
 -- ---- a list has what a test finds
 

@@ -1,14 +1,7 @@
 -- The block and the check that compute are those that are listed.
-use Rattle.std.proofs.Common.{◌≡◌, ◌≤◌, ◌⊎◌, ◌↔◌, inl, inr, ℕ, Bool, true, false, List, [], ◌∷◌, length, take, Option, Some, None, refl, sym, ap, subst, ◌∙◌, arith}
-use Rattle.std.specs.Prelude.{nat_le}
-use Rattle.std.specs.Option.{is_none}
-use Rattle.std.proofs.lemmas.Bool.Decides.{nat_tests}
-use Rattle.std.proofs.lemmas.List.{take_all}
+use Rattle.std.proofs.Common.{◌≡◌, ◌↔◌, inl, inr, ℕ, true, List, Option, Some, None, refl, sym, ap, subst}
 use Rattle.idn_text.specs.declared.refusal.Refusal.{Refusal}
-use Rattle.idn_class.specs.Hopeless.{hopeless, IsHopeless, HasHope}
-use Rattle.idn_class.proofs.HopelessSteps.{hopeless-nil}
-use Rattle.idn_class.proofs.HopelessTests.{hopeless-from}
-use Rattle.idn_label.specs.FirstFault.{first_fault, IsRegistrable}
+use Rattle.idn_label.specs.FirstFault.{IsRegistrable}
 use Rattle.variant_table.specs.Entries.{Entry, TableValue}
 use Rattle.variant_table.specs.Gaps.{gaps_of}
 use Rattle.variant_table.specs.WellFormed.{IsWellFormed}
@@ -24,9 +17,7 @@ use Rattle.variant_list.specs.Spelled.{spelled}
 use Rattle.variant_list.specs.Spelling.{Spells}
 use Rattle.variant_list.specs.Tested.{tested}
 use Rattle.variant_list.specs.Variants.{IsVariant, candidates, fits_label, variants}
-use Rattle.variant_list.proofs.CandidateLemmas.{short-fits_label}
-use Rattle.variant_list.proofs.ListMembers.{Contains-none}
-use Rattle.variant_list.proofs.ListingLemmas.{fits_label-short}
+use Rattle.variant_list.proofs.ListingLemmas.{fits_label-short, short-fits_label}
 use Rattle.variant_list.proofs.MutualLemmas.{has_variant-from, has_variant-is}
 use Rattle.variant_list.proofs.RisingLists.{IsRising-filter, Contains-filter}
 use Rattle.variant_list.proofs.ListedLemmas.{IsListOf-same}
@@ -34,7 +25,7 @@ use Rattle.variant_list.proofs.TestedLaws.{tested_are_listed}
 use Rattle.variant_list.proofs.VariantLists.{variants-AreVariants}
 use Rattle.idn2_options.specs.Settings.{Settings}
 use Rattle.idn_label.specs.Answers.{unless_fault}
-use Rattle.idn2_cli.specs.Answers.{Filter, filter_of, is_among, is_registrable, kept_to, unless_kept, variants_after, tested_after, stop_of, disposition, block, listing_answer, variants_answer}
+use Rattle.idn2_cli.specs.Answers.{Filter, filter_of, is_among, kept_to, unless_kept, variants_after, tested_after, stop_of, disposition, block, listing_answer, variants_answer}
 use Rattle.idn2_cli.specs.Answers.{IsAhead, IsKept, IsListed, IsTried, IsBlock, IsListing}
 use Rattle.idn2_cli.specs.Transcript.{IsCheck}
 use Rattle.idn2_cli.specs.Transcript.{check_findings}
@@ -42,6 +33,7 @@ use Rattle.idn2_cli.proofs.DispositionLemmas.{disposition-IsDisposition}
 use Rattle.idn2_cli.proofs.FilterLemmas.{accepted-is, hope-is}
 use Rattle.idn2_cli.proofs.SpelledLemmas.{spelled-replacements}
 use Rattle.idn2_cli.proofs.AdmittedLabels.{admitted-made, admitted_answer, admitted_or_refused, refused_answer}
+use Rattle.variant_table.proofs.MemberLemmas.{Contains-none}
 
 -- what a label spells is valid where the table asks nothing
 spelled-valid : (table : TableValue) (label v : List ℕ) → IsSound table → Spells table label v → asks_nothing table ≡ true → IsValid table v

@@ -110,7 +110,7 @@ limit_from-later count i = ap (λ (n : ℕ). let o : Option ℕ = Some n in o) (
 
 -- each variant has a line
 module _ (line : List ℕ → Said) where
-  -- the lines of these variants up to a stop and the trailer, behind `count` others
+  -- the lines of these variants up to a stop and the trailer, after `count` others
   abbrev pub lines_to : ℕ → Option (List ℕ) → List (List ℕ) → List Said
   lines_to count stop vs = map line (up_to stop vs) ++ BlockEnd (count + length (up_to stop vs)) stop ∷ []
 

@@ -31,6 +31,8 @@ examples_of_causes = record {
   length_of_a_label = refl;
   length_of_a_name = refl;
   outside = refl;
+  misplaced = refl;
+  broken = refl;
   byte = refl;
   long_line = refl;
 }

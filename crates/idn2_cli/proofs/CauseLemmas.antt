@@ -1,6 +1,7 @@
 -- What messages of refused lines go on with.
 use Rattle.std.proofs.Common.{◌≡◌, ℕ, ◌≤◌, ◌<◌, ◌^◌, nat_le, decimal, Bool, true, false, List, [], length, cond, chars, Option, Some, None, slice_index, refl, sym, ap, ◌∙◌, arith}
 use Rattle.std.specs.Prelude.{codes}
+use Rattle.std.specs.Option.{option_map}
 use Rattle.std.specs.Str.{is_utf8, IsValidUpTo}
 use Rattle.std.proofs.lemmas.Bool.Decides.{nat_tests}
 use Rattle.std.proofs.lemmas.Fmt.{length-decimal-le, length-decimal-le_wide}
@@ -14,16 +15,17 @@ use Rattle.idn_text.proofs.Utf8Lemmas.{IsUtf8-from_points, points_from_utf8}
 use Rattle.idn_cause.specs.declared.cause.Cause.TheVariants.{Point}
 use Rattle.variant_table.specs.Entries.{TableValue}
 use Rattle.variant_table.specs.WellFormed.{IsWellFormed}
+use Rattle.valid_labels.specs.Causes as validity_causes
 use Rattle.valid_labels.specs.Furthest.{IsFurthest, furthest}
 use Rattle.valid_labels.proofs.SourceLemmas.{furthest-told}
-use Rattle.idn2_cli.specs.Explained.{Explained, Unexplained, bad_byte, body_cause, points_cause, unless_unexplained, table_cause, text_cause}
+use Rattle.idn2_cli.specs.Explained.{Explained, Unexplained, bad_byte, body_cause, invalid_cause, outside_cause, points_cause, unless_unexplained, table_cause, text_cause, validity_cause}
 use Rattle.idn2_cli.specs.CauseTexts.{tail_text}
 use Rattle.idn2_cli.proofs.TextAnswers.{is_not_utf8}
 use Rattle.idn2_cli.specs.inner.Explaining.{explained_by}
 use Rattle.idn2_cli.specs.declared.refusals.cause.Explaining.{Explaining}
 use Rattle.idn2_cli.specs.declared.refusals.cause.Explaining.TheVariants as by
 use Rattle.idn2_cli.specs.declared.refusals.cause.LineCause.{LineCause}
-use Rattle.idn2_cli.specs.declared.refusals.cause.LineCause.TheVariants.{Byte, OfName, OfALabel}
+use Rattle.idn2_cli.specs.declared.refusals.cause.LineCause.TheVariants.{Byte, OfLabel, OfName, OfALabel, Misplaced}
 use Rattle.idn2_cli.specs.inner.CauseRoom.{HasRoom, cause_room}
 
 -- without the option no cause is told
@@ -43,12 +45,22 @@ unexplained_body body refusal = ap (tail_text refusal) (unexplained-none body re
 pub bad_byte-at : (bytes : List ℕ) (place : ℕ) → IsValidUpTo bytes place → bad_byte bytes ≡ Byte place (slice_index bytes place)
 bad_byte-at bytes place valid = ap (λ n. Byte n (slice_index bytes n)) (utf8_valid_len-IsValidUpTo bytes place valid)
 
-pub outside-told : (table : TableValue) (label : List ℕ) (place : ℕ) → IsWellFormed table.entries → length label ≤ 63 → IsFurthest table label place → table_cause table label NotInTable ≡ Some (Point place (slice_index label place))
-outside-told table label place formed short is =
+-- the code point after the furthest place that sources reach
+pub outside_cause-told : (table : TableValue) (label : List ℕ) (place : ℕ) → IsWellFormed table.entries → length label ≤ 63 → IsFurthest table label place → outside_cause table label ≡ Some (Point place (slice_index label place))
+outside_cause-told table label place formed short is =
     let within : nat_le (length label) 63 ≡ true = grind (arith, nat_tests) in
     let at : furthest table label ≡ place = sym ((furthest-told.exactly table label place formed).0 is) in
     ap (λ b. cond b (Some (Point (furthest table label) (slice_index label (furthest table label)))) None) within
     ∙ ap (λ n. Some (Point n (slice_index label n))) at
+
+pub outside-told : (table : TableValue) (label : List ℕ) (place : ℕ) → IsWellFormed table.entries → length label ≤ 63 → IsFurthest table label place → table_cause table label NotInTable ≡ Some (OfLabel (Point place (slice_index label place)))
+outside-told table label place formed short is = ap (option_map OfLabel) (outside_cause-told table label place formed short is)
+
+-- of a short label that is made of sources and isn't valid
+pub invalid_cause-told : (table : TableValue) (label : List ℕ) → length label ≤ 63 → invalid_cause table label ≡ option_map (validity_cause table label) (validity_causes.cause_of table label)
+invalid_cause-told table label short =
+    let within : nat_le (length label) 63 ≡ true = grind (arith, nat_tests) in
+    ap (λ b. cond b (option_map (validity_cause table label) (validity_causes.cause_of table label)) None) within
 
 -- ---- the cause of bytes is that of the code points that they spell
 
@@ -119,6 +131,7 @@ line_digits n few = length-decimal-le 10 n (omega arith) (omega arith) (omega ar
 cause_room-most : (cause : LineCause) → cause_room cause ≤ 94
 cause_room-most (OfName cause) = omega arith
 cause_room-most (OfALabel cause) = omega arith
+cause_room-most (Misplaced place c kind rule) = omega arith
 cause_room-most cause = omega arith
 
 -- there is room for the cause of a line of input, and for that of any other line but a name's

@@ -1,5 +1,5 @@
 -- The gaps of a table, as they are written.
-use Rattle.std.proofs.Common.{◌≡◌, ◌<◌, ◌⊎◌, inl, inr, ℕ, ◌+◌, suc, List, [], ◌∷◌, ◌++◌, All, map, drop, length, get_or, Contains, refl, sym, ap, subst, ◌∙◌, drop-cons, add-one}
+use Rattle.std.proofs.Common.{◌≡◌, ◌<◌, ◌⊎◌, inl, inr, ℕ, List, [], ◌∷◌, ◌++◌, All, map, length, get_or, Contains, refl, sym, ap, subst, ◌∙◌}
 use Rattle.variant_table.specs.Entries.{Entry, sequences_in, replacements}
 use Rattle.variant_table.specs.WellFormed.{IsWellFormed, IsEntry, IsSequence}
 use Rattle.std.proofs.Common.{Vec}
@@ -10,10 +10,6 @@ use Rattle.idn2_options.specs.declared.command_line.form.Form.{Form}
 use Rattle.idn2_cli.specs.Said.{Gap, Counted, finding_text}
 use Rattle.idn2_cli.specs.Transcript.{Piece, Output, check_findings, outputs}
 use Rattle.variant_table.proofs.MemberLemmas.{Contains-head, Contains-later}
-
--- the rest of a list, its first element named
-pub drop_next : {X : Type 0} (xs : List X) (i : ℕ) (x : X) → i < length xs → x ≡ get_or xs i x → drop i xs ≡ x ∷ drop (i + 1) xs
-drop_next xs i x lt is = drop-cons xs i x lt ∙ ap (λ y. y ∷ drop (suc i) xs) (sym is) ∙ ap (λ n. x ∷ drop n xs) (sym (add-one i))
 
 all_at : {X : Type 0} (P : X → Type 0) (xs : List X) (x : X) → All P xs → Contains xs x → P x
 all_at P xs x all c = subst P c.2 (all c.0 x c.1)

@@ -12,7 +12,7 @@ use Rattle.variant_list.proofs.OrderLemmas.{IsRising-unique}
 use Rattle.variant_list.specs.Variants.{variants_among}
 use Rattle.variant_list.proofs.ListedLemmas.{variants-IsListed}
 use Rattle.registered_labels.specs.Registered.{AreRegistered}
-use Rattle.registered_labels.specs.Collisions.{Matching, IsBegun, collisions, collisions_ahead, is_spelled}
+use Rattle.registered_labels.specs.Collisions.{Matching, SearchesAfter, collisions, collisions_ahead, is_spelled}
 use Rattle.registered_labels.proofs.ListedCollisions.{collisions-exactly}
 use Rattle.idn2_options.specs.Settings.{Settings, IsCount, IsWithinLimits, keeping}
 use Rattle.idn2_cli.specs.Transcript.{Piece, Output, outputs}
@@ -39,8 +39,8 @@ module _ (line : List ℕ → Said) where
       line v ∷ (if reaches limit (count + 1) then BlockEnd (count + 1) (Some v) ∷ [] else lines_from limit (count + 1) vs)
 
   -- what follows a label that is listed
-  abbrev pub lines_behind : Option ℕ → ℕ → List ℕ → List (List ℕ) → List Said
-  lines_behind limit count v vs = if reaches limit (count + 1) then BlockEnd (count + 1) (Some v) ∷ [] else lines_from limit (count + 1) vs
+  abbrev pub lines_after : Option ℕ → ℕ → List ℕ → List (List ℕ) → List Said
+  lines_after limit count v vs = if reaches limit (count + 1) then BlockEnd (count + 1) (Some v) ∷ [] else lines_from limit (count + 1) vs
 
   lines_to-from : (vs : List (List ℕ)) → IsRising vs → (count : ℕ) (place : Option ℕ)
       → lines_to line count (get_if_given vs place) vs ≡ lines_from (limit_from count place) count vs
@@ -133,7 +133,7 @@ module _ (f : Filter) (text : Said → List ℕ) (field : List ℕ → Option Di
       by_test false h = omega (arith, h)
 
   pub under_way-start : (o : Settings) (net : Built) (labels : List (List ℕ)) (old : Held) (s : Matching) (after : List ℕ) (total : ℕ) → AreRegistered labels → IsWithinLimits o
-      → after ≡ o.after → total ≡ length labels → IsBegun net labels after s → IsUnderWay o net labels old old s 0 total
+      → after ≡ o.after → total ≡ length labels → SearchesAfter net labels after s → IsUnderWay o net labels old old s 0 total
   under_way-start o net labels old s after total all limits same_after same_total begun =
       let ahead : collisions_ahead s ≡ collisions net.spelled labels o.after = begun.ahead ∙ ap (λ (a : List ℕ). collisions net.spelled labels a) same_after in
       let count : length (collisions_ahead s) ≤ length labels = subst (λ (l : List (List ℕ)). length l ≤ length labels) (sym ahead) (filter-few _ labels) in record {
@@ -160,7 +160,7 @@ module _ (f : Filter) (text : Said → List ℕ) (field : List ℕ → Option Di
   -- so it is the next line
   next-split : (o : Settings) (net : Built) (labels : List (List ℕ)) (old now : Held) (s next : Matching) (count total : ℕ) → (h : IsUnderWay o net labels old now s count total)
       → collisions_ahead s ≡ next.label ∷ collisions_ahead next → f.accepts next.label ≡ true
-      → outputs text (block_by f field (keeping (Some labels) o) net.spelled) ≡ h.so_far ++ (Output (text (line_of field next.label)) ∷ outputs text (lines_behind (line_of field) o.limit count next.label (kept_ahead f next)))
+      → outputs text (block_by f field (keeping (Some labels) o) net.spelled) ≡ h.so_far ++ (Output (text (line_of field next.label)) ∷ outputs text (lines_after (line_of field) o.limit count next.label (kept_ahead f next)))
   next-split o net labels old now s next count total h found accepted =
       h.split ∙ ap (λ (l : List (List ℕ)). h.so_far ++ outputs text (lines_from (line_of field) o.limit count l)) (next-kept s next found accepted)
 

@@ -1,5 +1,5 @@
 -- The disposition of a variant: whether it may be allocated.
-use Rattle.std.proofs.Common.{◌≡◌, ◌≢◌, ◌⊎◌, inl, inr, ℕ, Bool, true, false, ◌||◌, ◌&&◌, ◌↔◌, IsTrue, List, [], ◌∷◌, ◌++◌, Option, Some, None, map, length, refl, sym, ap, subst, ◌∙◌, if◌then◌else◌}
+use Rattle.std.proofs.Common.{◌≡◌, ◌≢◌, inl, inr, ℕ, Bool, true, false, ◌&&◌, ◌↔◌, List, [], ◌∷◌, ◌++◌, Option, Some, None, map, length, refl, sym, ap, subst, ◌∙◌, if◌then◌else◌}
 use Rattle.std.specs.Prelude.{bytes_eq}
 use Rattle.std.specs.Ordering.{is_le}
 use Rattle.std.specs.List.{AllByRecursion, Contains, filter}
@@ -20,7 +20,6 @@ use Rattle.variant_list.specs.declared.part.Part.TheVariants.{Unblocked}
 use Rattle.variant_list.specs.Laws.{without_blocked}
 use Rattle.variant_list.specs.Spelling.{PartSpells, Spells}
 use Rattle.variant_list.proofs.ListedLemmas.{variants-IsListed}
-use Rattle.variant_list.proofs.ListMembers.{Contains-head, Contains-later}
 use Rattle.variant_list.proofs.PartLemmas.{PartSpells-Unblocked, Spells-of_part}
 use Rattle.variant_list.proofs.SpelledByLemmas.{spelled-Spells}
 use Rattle.idn2_options.specs.Settings.{Settings}
@@ -38,6 +37,7 @@ use Rattle.idn2_cli.specs.inner.Dispositions.{AreOfLabel, block_by, field_by}
 use Rattle.idn2_cli.specs.Transcript.{outputs}
 use Rattle.idn2_cli.specs.declared.modes.dispositions.Dispositions.{Dispositions}
 use Rattle.idn2_cli.specs.declared.modes.dispositions.Dispositions.TheVariants.{Unstated, AllAllocatable, BySpelling}
+use Rattle.valid_labels.proofs.ListLemmas.{all-members}
 
 -- two tests of one fact
 same-test : {P : Type 0} (a b : Bool) → (a ≡ true → P) × (P → a ≡ true) → (b ≡ true → P) × (P → b ≡ true) → a ≡ b
@@ -46,10 +46,10 @@ same-test false true h g = h.1 (g.0 refl)
 same-test false false h g = refl
 
 -- a version with marks has a disposition
-disposition-marked : (n : Version) (b : Bool) → n ≢ One → disposition_in n b ≡ Some (allocation b)
-disposition-marked One b other = absurd (other refl)
-disposition-marked Two b other = refl
-disposition-marked Three b other = refl
+disposition-full_replacements : (n : Version) (b : Bool) → n ≢ One → disposition_in n b ≡ Some (allocation b)
+disposition-full_replacements One b other = absurd (other refl)
+disposition-full_replacements Two b other = refl
+disposition-full_replacements Three b other = refl
 
 -- ---- what is not blocked
 
@@ -65,18 +65,14 @@ field-is : (table : TableValue) (label v : List ℕ) (told : Dispositions Allowe
 field-is table label v Unstated well is h = ap (λ (n : Version). disposition_in n (is_allocatable table label v)) (sym is)
 field-is table label v AllAllocatable well is h =
     ap (λ (b : Bool). Some (allocation b)) (sym ((allocatable-test table label v well).1 (inr (Unblocked, is.1, all_unblocked table label v is.2 ((spelled-Spells table label v well).0 h)))))
-    ∙ sym (disposition-marked table.version (is_allocatable table label v) is.0)
+    ∙ sym (disposition-full_replacements table.version (is_allocatable table label v) is.0)
 field-is table label v (BySpelling allowed) well is h =
     ap (λ (b : Bool). Some (allocation b)) (same-test (allows allowed v) (is_allocatable table label v) (is.1 v) (allocatable-test table label v well))
-    ∙ sym (disposition-marked table.version (is_allocatable table label v) is.0)
+    ∙ sym (disposition-full_replacements table.version (is_allocatable table label v) is.0)
 
 map-same : (f g : List ℕ → Said) (vs : List (List ℕ)) → AllByRecursion (λ v. f v ≡ g v) vs → map f vs ≡ map g vs
 map-same f g [] same = refl
 map-same f g (v ∷ vs) same = ap (λ w. w ∷ map f vs) same.0 ∙ ap (λ ws. g v ∷ ws) (map-same f g vs same.1)
-
-all_members : (P : List ℕ → Type 0) (vs : List (List ℕ)) → ((v : List ℕ) → Contains vs v → P v) → AllByRecursion P vs
-all_members P [] h = tt
-all_members P (v ∷ vs) h = (h v (Contains-head v vs), all_members P vs (λ w c. h w (Contains-later v vs w c)))
 
 kept_all : (P : List ℕ → Type 0) (test : List ℕ → Bool) (vs : List (List ℕ)) → AllByRecursion P vs → AllByRecursion P (filter test vs)
 kept_all P test [] all = tt
@@ -103,7 +99,7 @@ told-block o table label told well is =
     let vs = variants_after f o (spelled table label) in
     let stop = stop_of f o (spelled table label) in
     let same : AllByRecursion (λ v. Listed (field_by told v) v ≡ Listed (disposition table label v) v) vs =
-    all_members (λ v. Listed (field_by told v) v ≡ Listed (disposition table label v) v) vs
+    all-members (λ v. Listed (field_by told v) v ≡ Listed (disposition table label v) v) vs
     (λ v at. ap (λ field. Listed field v) (field-is table label v told well is (((variants-IsListed f.accepts (spelled table label) o.after).members v).0 (kept-listed o.registered (variants_among f.accepts (spelled table label) o.after) v at)).spelled)) in
     ap (λ said. said ++ BlockEnd (length (up_to stop vs)) stop ∷ [])
     (map-same (λ v. Listed (field_by told v) v) (λ v. Listed (disposition table label v) v) (up_to stop vs) (up_to-all _ stop vs same))
@@ -149,7 +145,7 @@ pub disposition-one : (table : TableValue) (label v : List ℕ) → table.versio
 disposition-one table label v is = ap (λ (n : Version). disposition_in n (is_allocatable table label v)) is
 
 allocatable-field : (table : TableValue) (label v : List ℕ) → table.version ≢ One → is_allocatable table label v ≡ true → disposition table label v ≡ Some Allocatable
-allocatable-field table label v is told = disposition-marked table.version (is_allocatable table label v) is ∙ ap (λ (b : Bool). Some (allocation b)) told
+allocatable-field table label v is told = disposition-full_replacements table.version (is_allocatable table label v) is ∙ ap (λ (b : Bool). Some (allocation b)) told
 
 pub disposition-itself : (table : TableValue) (label : List ℕ) → table.version ≢ One → disposition table label label ≡ Some Allocatable
 disposition-itself table label is = allocatable-field table label label is (true-or (bytes_eq label label) _ (inl ((bytes_eq-Decides label label).1 refl)))

@@ -1,10 +1,10 @@
 -- What a listing asks of labels, and what is known of it.
-use Rattle.std.proofs.Common.{◌≡◌, ◌≢◌, ◌≤◌, ◌<◌, ◌⊎◌, inl, inr, ◌++◌, ◌&&◌, ◌||◌, ◌↔◌, ℕ, zero, suc, List, [], ◌∷◌, Option, Some, None, Bool, true, false, IsTrue, take, drop, length, refl, sym, ap, subst, ◌∙◌, if◌then◌else◌, arith}
+use Rattle.std.proofs.Common.{◌≡◌, ◌≤◌, ◌<◌, ◌⊎◌, inl, inr, ◌++◌, ◌&&◌, ◌||◌, ◌↔◌, ℕ, zero, suc, List, [], ◌∷◌, Option, Some, None, Bool, true, false, IsTrue, take, drop, length, refl, sym, ap, subst, ◌∙◌, if◌then◌else◌, arith}
 use Rattle.std.specs.Prelude.{nat_le}
 use Rattle.std.specs.Option.{is_none, option_map}
 use Rattle.std.proofs.lemmas.Bool.Decides.{nat_tests}
-use Rattle.std.proofs.Math.Seq.{take-append_seam}
-use Rattle.std.proofs.lemmas.List.{length-append, take-append-drop, take_all}
+use Rattle.std.proofs.lemmas.List.{take-append-drop, take_all}
+use Rattle.std.proofs.lemmas.Bool.{and_from, or_from, false_from_ne_true}
 use Rattle.idn_class.specs.Hopeless as class
 use Rattle.idn_class.specs.Hopeless.{hopeless, IsHopeless}
 use Rattle.idn_class.proofs.HopelessSteps.{hopeless-nil}
@@ -19,7 +19,7 @@ use Rattle.valid_labels.specs.Tests.{asks_nothing, is_lost, is_valid}
 use Rattle.valid_labels.proofs.LostLemmas.{lost-invalid}
 use Rattle.valid_labels.proofs.TestLemmas.{tests-agree}
 use Rattle.variant_list.specs.Beginnings.{HasHope, has_hope, shortest_hopeless}
-use Rattle.variant_list.proofs.BeginningLemmas.{hope-gives, shortest_hopeless-none}
+use Rattle.variant_list.proofs.BeginningLemmas.{shortest_hopeless-none}
 use Rattle.idn2_cli.proofs.HopeLemmas.{clear}
 use Rattle.idn2_cli.specs.inner.ForGood.{none_accepted}
 use Rattle.idn2_cli.specs.inner.Ruling.{IsValidityBy, filter_by, lesser_count, lost_in, passes, ruling_of}
@@ -56,10 +56,6 @@ both-right : (a b : Bool) → (a && b) ≡ true → b ≡ true
 both-right true b h = h
 both-right false b h = cc
 
-both-from : (a b : Bool) → a ≡ true → b ≡ true → (a && b) ≡ true
-both-from true b g h = h
-both-from false b g h = cc
-
 not-left : (a b : Bool) → a ≡ false → (a && b) ≡ false
 not-left false b h = refl
 not-left true b h = cc
@@ -76,17 +72,9 @@ neither-right : (a b : Bool) → (a || b) ≡ false → b ≡ false
 neither-right false b h = h
 neither-right true b h = cc
 
-neither-from : (a b : Bool) → a ≡ false → b ≡ false → (a || b) ≡ false
-neither-from false b g h = h
-neither-from true b g h = cc
-
 one-of : (a b : Bool) → (a || b) ≡ true → (a ≡ true) ⊎ (b ≡ true)
 one-of true b h = inl refl
 one-of false b h = inr h
-
-unless-true : (b : Bool) → (b ≡ true → ⊥) → b ≡ false
-unless-true true h = absurd (h refl)
-unless-true false h = refl
 
 -- ---- labels that are valid under a table, too
 
@@ -139,7 +127,7 @@ accepted-is table v sound free = by_test (asks_nothing table) free
     valid_test = tests-agree.valid table v sound
 
     no_lost : IsValid table v → has_hope (is_lost table) v ≡ true
-    no_lost valid = ap is_none (shortest_hopeless-none (is_lost table) v (λ k low high. unless-true (is_lost table (take k v)) (λ is. not_lost table v sound valid k ((tests-agree.lost table (take k v) sound).0 is))))
+    no_lost valid = ap is_none (shortest_hopeless-none (is_lost table) v (λ k low high. false_from_ne_true (is_lost table (take k v)) (λ is. not_lost table v sound valid k ((tests-agree.lost table (take k v) sound).0 is))))
 
     by_test : (b : Bool) → (b ≡ true → IsValid table v) → ((filter_if b table).accepts v ≡ true) ↔ (IsRegistrable v × IsValid table v)
     by_test true valid = (λ h. (is_registrable-from v h, valid refl), λ both. ap is_none both.0)
@@ -148,7 +136,7 @@ accepted-is table v sound free = by_test (asks_nothing table) free
         is_registrable-from v (both-left (is_registrable v) (is_valid table v && has_hope (is_lost table) v) h),
         valid_test.0 (both-left (is_valid table v) (has_hope (is_lost table) v) (both-right (is_registrable v) (is_valid table v && has_hope (is_lost table) v) h)),
       ),
-      λ both. both-from (is_registrable v) _ (ap is_none both.0) (both-from (is_valid table v) _ (valid_test.1 both.1) (no_lost both.1)),
+      λ both. and_from (is_registrable v) _ (ap is_none both.0) (and_from (is_valid table v) _ (valid_test.1 both.1) (no_lost both.1)),
     )
 
 -- no beginning is hopeless to it exactly where none is hopeless and none is lost
@@ -168,8 +156,8 @@ hope-is table v sound free = by_test (asks_nothing table) free
         hope-rule v (λ k low high. neither-left (hopeless (take k v)) (is_lost table (take k v)) (h k low high)),
         none_lost (λ k low high. neither-right (hopeless (take k v)) (is_lost table (take k v)) (h k low high)),
       ),
-      λ both k low high. neither-from (hopeless (take k v)) (is_lost table (take k v)) (clear (take k v) (both.0 k))
-          (unless-true (is_lost table (take k v)) (λ is. both.1 k high ((tests-agree.lost table (take k v) sound).0 is))),
+      λ both k low high. or_from (hopeless (take k v)) (is_lost table (take k v)) (clear (take k v) (both.0 k))
+          (false_from_ne_true (is_lost table (take k v)) (λ is. both.1 k high ((tests-agree.lost table (take k v) sound).0 is))),
     )
 
 -- ---- the filter by the table that labels are tested by
@@ -188,7 +176,7 @@ filter_by-ruling table = by_test (asks_nothing table)
 
 pub accepts-passed : (ruling : Option TableValue) (v : List ℕ) → IsRegistrable v → passes ruling v ≡ true → (filter_by ruling).accepts v ≡ true
 accepts-passed None v registrable is = ap is_none registrable
-accepts-passed (Some table) v registrable is = both-from (is_registrable v) _ (ap is_none registrable) is
+accepts-passed (Some table) v registrable is = and_from (is_registrable v) _ (ap is_none registrable) is
 
 pub accepts-failed : (ruling : Option TableValue) (v : List ℕ) → passes ruling v ≡ false → (filter_by ruling).accepts v ≡ false
 accepts-failed None v is = cc
@@ -250,7 +238,7 @@ verdict-count (Some table) v validity is =
 
 pub passes-valid : (ruling : Option TableValue) (v : List ℕ) → IsValidityBy ruling v Valid → passes ruling v ≡ true
 passes-valid None v is = refl
-passes-valid (Some table) v is = both-from (is_valid table v) _ is.1 (ap is_none is.0)
+passes-valid (Some table) v is = and_from (is_valid table v) _ is.1 (ap is_none is.0)
 
 pub passes-not_valid : (ruling : Option TableValue) (v : List ℕ) → IsValidityBy ruling v NotValid → passes ruling v ≡ false
 passes-not_valid None v is = cc

@@ -1,7 +1,7 @@
 -- What a run says is the same in both forms.
-use Rattle.std.proofs.Common.{◌≡◌, ◌∙◌, ℕ, List, [], ◌∷◌, ◌++◌, Bool, true, false, Ok, Err, map, refl, sym, ap}
-use Rattle.std.specs.Prelude.{◌||◌}
+use Rattle.std.proofs.Common.{◌≡◌, ◌∙◌, ℕ, List, [], ◌∷◌, ◌++◌, Bool, true, Ok, Err, map, refl, sym, ap}
 use Rattle.std.proofs.lemmas.List.{map-append}
+use Rattle.std.proofs.Math.Bool.{or-true}
 use Rattle.idn_text.specs.Lines.{Numbered}
 use Rattle.variant_table.specs.Entries.{TableValue}
 use Rattle.idn2_options.specs.Settings.{Settings, tells_causes}
@@ -54,22 +54,18 @@ transcript_written o (Ok table) lines = mode_written o.mode o table lines
 
 -- ---- what is said is the same
 
-or_true : (b : Bool) → (b || true) ≡ true
-or_true true = refl
-or_true false = refl
-
 same_by_mode : (mode : Mode) (o : Settings) (table : TableValue) (lines : List Numbered)
     → mode_statements mode (record o { form = Json }) table lines ≡ mode_statements mode (record o { form = Plain; explain = true }) table lines
 same_by_mode CheckTable o table lines = refl
-same_by_mode Lookup o table lines = ap (λ b. lines_statements (if_wanted b (explained_by_mode Lookup o table)) (mode_answer Lookup o table) lines) (or_true o.explain)
-same_by_mode Register o table lines = ap (λ b. lines_statements (if_wanted b (explained_by_mode Register o table)) (mode_answer Register o table) lines) (or_true o.explain)
-same_by_mode Decode o table lines = ap (λ b. lines_statements (if_wanted b (explained_by_mode Decode o table)) (mode_answer Decode o table) lines) (or_true o.explain)
-same_by_mode Variants o table lines = ap (λ b. lines_statements (if_wanted b (explained_by_mode Variants o table)) (mode_answer Variants o table) lines) (or_true o.explain)
-same_by_mode Jump o table lines = ap (λ b. lines_statements (if_wanted b (explained_by_mode Jump o table)) (mode_answer Jump o table) lines) (or_true o.explain)
+same_by_mode Lookup o table lines = ap (λ b. lines_statements (if_wanted b (explained_by_mode Lookup o table)) (mode_answer Lookup o table) lines) (or-true o.explain)
+same_by_mode Register o table lines = ap (λ b. lines_statements (if_wanted b (explained_by_mode Register o table)) (mode_answer Register o table) lines) (or-true o.explain)
+same_by_mode Decode o table lines = ap (λ b. lines_statements (if_wanted b (explained_by_mode Decode o table)) (mode_answer Decode o table) lines) (or-true o.explain)
+same_by_mode Variants o table lines = ap (λ b. lines_statements (if_wanted b (explained_by_mode Variants o table)) (mode_answer Variants o table) lines) (or-true o.explain)
+same_by_mode Jump o table lines = ap (λ b. lines_statements (if_wanted b (explained_by_mode Jump o table)) (mode_answer Jump o table) lines) (or-true o.explain)
 
 pub same_statements : (o : Settings) (given : TableGiven) (lines : List Numbered)
     → statements (record o { form = Json }) given lines ≡ statements (record o { form = Plain; explain = true }) given lines
-same_statements o (Err fault) lines = ap (λ b. check_statements b (Err fault)) (or_true o.explain)
+same_statements o (Err fault) lines = ap (λ b. check_statements b (Err fault)) (or-true o.explain)
 same_statements o (Ok table) lines = same_by_mode o.mode o table lines
 
 status_by_mode : (mode : Mode) (o : Settings) (table : TableValue) (lines : List Numbered)

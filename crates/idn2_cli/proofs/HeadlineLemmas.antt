@@ -143,13 +143,13 @@ module _ (o : Settings) (table : TableValue) where
 -- ---- what a stop leaves
 
 -- of what pieces put on the output a beginning is there
-abbrev IsBegun : List Piece → List Piece → Type 0
-IsBegun pieces written = (missing : List ℕ) × (output_of pieces ≡ output_of written ++ missing)
+abbrev IsBeginningOf : List Piece → List Piece → Type 0
+IsBeginningOf pieces written = (missing : List ℕ) × (output_of pieces ≡ output_of written ++ missing)
 
-begun-all : (pieces : List Piece) → IsBegun pieces pieces
+begun-all : (pieces : List Piece) → IsBeginningOf pieces pieces
 begun-all pieces = ([], sym (append-nil (output_of pieces)))
 
-begun-before : (before pieces written : List Piece) → IsBegun pieces written → IsBegun (before ++ pieces) (before ++ written)
+begun-before : (before pieces written : List Piece) → IsBeginningOf pieces written → IsBeginningOf (before ++ pieces) (before ++ written)
 begun-before before pieces written begun = (
   begun.0,
   output_of-append before pieces ∙ ap (λ (rest : List ℕ). output_of before ++ rest) begun.1
@@ -157,7 +157,7 @@ begun-before before pieces written begun = (
       ∙ ap (λ (start : List ℕ). start ++ begun.0) (sym (output_of-append before written)),
 )
 
-begun-output : (text : List ℕ) (taken : ℕ) (after : List Piece) → IsBegun (Output text ∷ after) (Output (take taken text) ∷ [])
+begun-output : (text : List ℕ) (taken : ℕ) (after : List Piece) → IsBeginningOf (Output text ∷ after) (Output (take taken text) ∷ [])
 begun-output text taken after = (
   drop taken text ++ output_of after,
   ap (λ (whole : List ℕ). whole ++ output_of after) (sym (take-append-drop taken text))
@@ -165,7 +165,7 @@ begun-output text taken after = (
       ∙ ap (λ (start : List ℕ). start ++ (drop taken text ++ output_of after)) (sym (append-nil (take taken text))),
 )
 
-begun-cut : (why : Stop) (pieces written : List Piece) → IsCutBy why pieces written → IsBegun pieces written
+begun-cut : (why : Stop) (pieces written : List Piece) → IsCutBy why pieces written → IsBeginningOf pieces written
 begun-cut stop.Reading pieces written cut = absurd cut
 begun-cut stop.Output pieces written cut =
     rw (cut.split, cut.cut) (begun-before cut.before (Output cut.text ∷ cut.after) (Output (take cut.taken cut.text) ∷ []) (begun-output cut.text cut.taken cut.after))
@@ -185,28 +185,28 @@ module _ (o : Settings) (table : TableValue) (formed : IsSound table) (is : o.mo
   pieces-one before line = flat_map-append (line_pieces o.form (explained_in Variants o table) (variants_answer o table)) before (line ∷ [])
 
   begun-line : (why : Stop) (lines : List Numbered) (now : Reading) (written : List Piece) → StopsAtLine job why lines now written
-      → IsBegun (lines_pieces o.form (explained_in Variants o table) (variants_answer o table) lines) written
+      → IsBeginningOf (lines_pieces o.form (explained_in Variants o table) (variants_answer o table) lines) written
   begun-line why lines now written stops =
-      let part : IsBegun (lines_pieces o.form (explained_in Variants o table) (variants_answer o table) (stops.line ∷ [])) stops.part =
+      let part : IsBeginningOf (lines_pieces o.form (explained_in Variants o table) (variants_answer o table) (stops.line ∷ [])) stops.part =
       begun-cut why _ stops.part (subst (λ (pieces : List Piece). IsCutBy why pieces stops.part) (pieces-lines (stops.line ∷ [])) stops.cut) in
       let all = begun-before (lines_pieces o.form (explained_in Variants o table) (variants_answer o table) stops.before) (lines_pieces o.form (explained_in Variants o table) (variants_answer o table) (stops.line ∷ [])) stops.part part in
       rw (stops.last, pieces-one stops.before stops.line, stops.stand, pieces-lines stops.before) all
 
   begun-unread : (why : Stop) (lines : List Numbered) (start now : Reading) (written : List Piece) → StopsUnread job why lines start now written
-      → IsBegun (lines_pieces o.form (explained_in Variants o table) (variants_answer o table) lines) written
+      → IsBeginningOf (lines_pieces o.form (explained_in Variants o table) (variants_answer o table) lines) written
   begun-unread why lines start now written stops =
       rw stops.no_line (begun-cut why [] written (subst (λ (pieces : List Piece). IsCutBy why pieces written) (pieces-lines []) stops.cut))
 
   begun-either : (why : Stop) (lines : List Numbered) (start now : Reading) (written : List Piece)
       → StopsAtLine job why lines now written ⊎ StopsUnread job why lines start now written
-      → IsBegun (lines_pieces o.form (explained_in Variants o table) (variants_answer o table) lines) written
+      → IsBeginningOf (lines_pieces o.form (explained_in Variants o table) (variants_answer o table) lines) written
   begun-either why lines start now written stands =
       elim stands [ inl at ↦ begun-line why lines now written at | inr unread ↦ begun-unread why lines start now written unread ]
 
   begun-stop : (why : Stop) (lines : List Numbered) (start now : Reading) (written : List Piece) → Stands job why lines start now written
-      → IsBegun (lines_pieces o.form (explained_in Variants o table) (variants_answer o table) lines) written
+      → IsBeginningOf (lines_pieces o.form (explained_in Variants o table) (variants_answer o table) lines) written
   begun-stop stop.Reading lines start now written stands =
-      subst (IsBegun (lines_pieces o.form (explained_in Variants o table) (variants_answer o table) lines)) (sym (stands.2 ∙ pieces-lines lines)) (begun-all (lines_pieces o.form (explained_in Variants o table) (variants_answer o table) lines))
+      subst (IsBeginningOf (lines_pieces o.form (explained_in Variants o table) (variants_answer o table) lines)) (sym (stands.2 ∙ pieces-lines lines)) (begun-all (lines_pieces o.form (explained_in Variants o table) (variants_answer o table) lines))
   begun-stop stop.Output lines start now written stands = begun-either stop.Output lines start now written stands
   begun-stop stop.Messages lines start now written stands = begun-either stop.Messages lines start now written stands
   begun-stop stop.Memory lines start now written stands = begun-either stop.Memory lines start now written stands

@@ -1,5 +1,5 @@
 -- The answer to a request is the least label from its text on.
-use Rattle.std.proofs.Common.{◌≡◌, ◌⊎◌, inl, inr, ℕ, List, [], ◌∷◌, Option, Some, Err, refl, sym, ap, subst}
+use Rattle.std.proofs.Common.{◌≡◌, inl, inr, ℕ, List, [], ◌∷◌, Option, Some, Err, refl, sym, ap, subst}
 use Rattle.std.specs.Prelude.{slice_get, Contains}
 use Rattle.idn_text.specs.declared.refusal.Refusal.{Refusal}
 use Rattle.idn_label.specs.Answers.{unless_fault}
@@ -12,11 +12,11 @@ use Rattle.valid_labels.specs.Validity.{IsSound}
 use Rattle.variant_list.specs.Spelling.{Spells}
 use Rattle.variant_list.specs.Jumps.{IsFrom, IsLeastFrom, IsCandidate, candidates_from}
 use Rattle.variant_list.proofs.FromLemmas.{candidates_from-IsListOf}
-use Rattle.variant_list.proofs.ListMembers.{Contains-head, Contains-none, Contains-cases}
 use Rattle.variant_list.proofs.ListedLemmas.{above_first}
 use Rattle.idn2_cli.specs.Said.{Least}
 use Rattle.idn2_cli.specs.Answers.{IsJump, IsLeast, IsJumpAnswer, jump_answer, least_answer, requested_label, requested_text}
 use Rattle.idn2_cli.proofs.AdmittedLabels.{admitted-made, admitted_answer, admitted_or_refused, refused_answer}
+use Rattle.variant_table.proofs.MemberLemmas.{Contains-head, Contains-none, Contains-cases}
 
 -- the first of the candidates from a text on is the least
 least_is_first : (P : List ℕ → Type 0) (text : List ℕ) (vs : List (List ℕ)) → IsListOf (λ v. IsCandidate P v × IsFrom text v) vs → IsLeast P text (slice_get vs 0)

@@ -3,7 +3,7 @@ use Rattle.std.proofs.Common.{◌≡◌, List, Result, Ok, Err, inl, inr, refl, 
 use Rattle.idn_text.specs.Reading.{Reading}
 use Rattle.idn_text.specs.Writers.{Writer}
 use Rattle.idn2_cli.specs.Transcript.{Piece}
-use Rattle.idn2_cli.specs.Ends.{Held, Takes, Writes, held, WritesUntil, Job, Does, Closes, Ends}
+use Rattle.idn2_cli.specs.Ends.{Held, TakesPieces, Writes, held, WritesUntil, Job, Does, Closes, Ends}
 use Rattle.idn2_cli.specs.declared.output.status.Status.{Status}
 use Rattle.idn2_cli.specs.declared.output.stop.Stop.{Stop}
 use Rattle.idn2_cli.specs.declared.output.stop.Stop.TheVariants as stop
@@ -12,7 +12,7 @@ use Rattle.idn2_cli.specs.declared.output.stop.Stop.TheVariants as stop
 abbrev without_loans : Held → Held
 without_loans h = held h.output h.messages
 
-takes_without_loans : (old new : Held) (pieces : List Piece) → Takes old new pieces → Takes (without_loans old) (without_loans new) pieces
+takes_without_loans : (old new : Held) (pieces : List Piece) → TakesPieces old new pieces → TakesPieces (without_loans old) (without_loans new) pieces
 takes_without_loans old new pieces t = record { output = t.output; messages = t.messages; output_loan = refl; messages_loan = refl }
 
 writes_without_loans : (old new : Held) (pieces : List Piece) → Writes old new pieces → Writes (without_loans old) (without_loans new) pieces

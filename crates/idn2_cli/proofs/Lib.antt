@@ -24,8 +24,6 @@ pub mod LentWriters
 pub mod TableLemmas
 -- The gaps of a table, as they are written.
 pub mod CheckLemmas
--- A name that is decoded has scalar values alone, where the name has.
-pub mod DecodedLemmas
 -- The listing of a label's variants, and the labels in it.
 pub mod ListingLemmas
 -- Labels that a table admits, and others.

@@ -1,6 +1,6 @@
 -- What is told of a refused line is its cause, and each refused line but for two has one.
-use Rattle.std.proofs.Common.{◌≡◌, ◌≢◌, ◌⊎◌, inl, inr, ℕ, zero, suc, ◌<◌, ◌≤◌, nat_le, ◌==◌, Bool, true, false, ◌↔◌, List, [], ◌∷◌, length, take, take_all, cond, chars, Option, Some, None, Result, Ok, Err, slice_index, refl, sym, ap, subst, ◌∙◌, arith}
-use Rattle.std.specs.Option.{option_map}
+use Rattle.std.proofs.Common.{◌≡◌, ◌≢◌, ◌⊎◌, inl, inr, ℕ, zero, suc, ◌<◌, ◌≤◌, ◌==◌, Bool, true, false, ◌↔◌, List, [], ◌∷◌, length, take, take_all, cond, chars, Option, Some, None, Result, Ok, Err, slice_index, refl, sym, ap, subst, ◌∙◌, arith}
+use Rattle.std.specs.Option.{is_some, option_map}
 use Rattle.std.specs.Str.{is_utf8, IsUtf8, IsValidUpTo}
 use Rattle.std.specs.Str.Lossy.{utf8_valid_len, valid_len_up_to}
 use Rattle.std.proofs.lemmas.Bool.{cases_lt}
@@ -9,7 +9,6 @@ use Rattle.idna.specs.declared.options.Hyphens.TheVariants.{Allow}
 use Rattle.idna.specs.declared.options.DnsLength.TheVariants.{Ignore}
 use Rattle.idna.specs.Uts46.{to_ascii, verify_dns_length}
 use Rattle.idna.specs.Validity.{has_ace_prefix}
-use Rattle.idn_text.specs.Lines.{Numbered}
 use Rattle.idn_text.specs.Points.{utf8_of}
 use Rattle.idn_text.specs.declared.refusal.Refusal.{Refusal}
 use Rattle.idn_text.specs.declared.refusal.Refusal.TheVariants as refusals
@@ -35,19 +34,21 @@ use Rattle.variant_table.specs.Entries.{TableValue}
 use Rattle.variant_table.specs.WellFormed.{IsWellFormed}
 use Rattle.valid_labels.specs.Furthest.{furthest}
 use Rattle.valid_labels.specs.Segmentations.{IsMadeOfSources}
-use Rattle.valid_labels.specs.Validity.{IsSound}
+use Rattle.valid_labels.specs.Causes as validity_causes
+use Rattle.valid_labels.specs.Validity.{IsAdmitted, IsSound}
+use Rattle.valid_labels.proofs.CauseLawLemmas.{cause-is-exact}
 use Rattle.valid_labels.proofs.SourceLemmas.{furthest-told}
-use Rattle.idn2_options.specs.Settings.{Settings, tells_causes}
+use Rattle.idn2_options.specs.Settings.{Settings}
 use Rattle.idn2_options.specs.declared.command_line.mode.Mode.{Mode}
 use Rattle.idn2_options.specs.declared.command_line.mode.Mode.TheVariants as modes
 use Rattle.idn2_cli.specs.Answers.{IsRefusedAs, LineAnswer, if_admitted, line_answer, mode_answer, one_answer, requested_label, text_answer}
-use Rattle.idn2_cli.specs.Explained.{Explained, Unexplained, ByLabel, ByName, ByQuery, ByTable, ByRequest, ByTest, bad_byte, body_cause, explained_by_mode, explained_in, if_wanted, outside_cause, points_cause, registered_cause, table_cause, text_cause, unless_unexplained}
-use Rattle.idn2_cli.specs.LineCauses.{IsBadByte, IsExplained, IsLineCause, IsOf, IsOutsideCause, IsPointsCause, IsRegisteredCause, IsTableCause, RefusalsAreExplained}
+use Rattle.idn2_cli.specs.Explained.{Explained, Unexplained, ByLabel, ByName, ByQuery, ByTable, ByRequest, ByTest, bad_byte, body_cause, explained_by_mode, explained_in, if_wanted, invalid_cause, outside_cause, points_cause, registered_cause, table_cause, unless_unexplained, validity_cause}
+use Rattle.idn2_cli.specs.LineCauses.{IsBadByte, IsInvalidCause, IsLineCause, IsOf, IsOutsideCause, IsPointsCause, IsRegisteredCause, IsTableCause, RefusalsAreExplained}
 use Rattle.idn2_cli.specs.Said.{Said}
-use Rattle.idn2_cli.specs.Transcript.{Refuses, pieces_for, line_pieces, piece_in}
+use Rattle.idn2_cli.specs.Transcript.{Refuses, pieces_for, piece_in}
 use Rattle.idn2_cli.specs.declared.refusals.cause.LineCause.{LineCause}
-use Rattle.idn2_cli.specs.declared.refusals.cause.LineCause.TheVariants.{Byte, LongLine, OfLabel, OfALabel, OfName, OfQuery}
-use Rattle.idn2_cli.proofs.CauseLemmas.{bad_byte-at, outside-told}
+use Rattle.idn2_cli.specs.declared.refusals.cause.LineCause.TheVariants.{LongLine, OfLabel, OfALabel, OfName, OfQuery}
+use Rattle.idn2_cli.proofs.CauseLemmas.{bad_byte-at, invalid_cause-told, outside-told, outside_cause-told}
 use Rattle.idn2_cli.proofs.AdmittedLabels.{admitted-made, admitted_answer, admitted_or_refused, refused_answer}
 
 -- ---- what is told of code points is their cause
@@ -80,25 +81,43 @@ registered-is label refusal cause = by_prefix (has_ace_prefix label) refl
 abbrev IsOutside : TableValue → List ℕ → Type 0
 IsOutside table label = (length label ≤ 63) × (IsMadeOfSources table label → ⊥)
 
-outside-is : (table : TableValue) (label : List ℕ) (cause : Cause) → IsWellFormed table.entries → IsOutside table label → (table_cause table label NotInTable ≡ Some cause) ↔ IsOutsideCause table label cause
+outside-is : (table : TableValue) (label : List ℕ) (cause : Cause) → IsWellFormed table.entries → IsOutside table label → (outside_cause table label ≡ Some cause) ↔ IsOutsideCause table label cause
 outside-is table label cause formed outside =
     let is = (furthest-told.exactly table label (furthest table label) formed).1 refl in
-    let told = outside-told table label (furthest table label) formed outside.0 is in (
+    let told = outside_cause-told table label (furthest table label) formed outside.0 is in (
       λ h.
           let found : Some (Point (furthest table label) (slice_index label (furthest table label))) ≡ Some cause = sym told ∙ h in
           let same : Point (furthest table label) (slice_index label (furthest table label)) ≡ cause = cc in
           (furthest table label, is, furthest-told.within table label formed outside.1, sym same),
-      λ has. outside-told table label has.0 formed outside.0 has.1 ∙ ap Some (sym has.3),
+      λ has. outside_cause-told table label has.0 formed outside.0 has.1 ∙ ap Some (sym has.3),
     )
 
-table-is : (table : TableValue) (label : List ℕ) (refusal : Refusal) (cause : Cause) → IsWellFormed table.entries → (refusal ≡ NotInTable → IsOutside table label) → (table_cause table label refusal ≡ Some cause) ↔ IsTableCause table label refusal cause
-table-is table label NotInTable cause formed outside = outside-is table label cause formed (outside refl)
-table-is table label refusal cause formed outside = cause-is label refusal cause
+-- a label that is refused with 41 is short enough, too, and is made of sources, but may not be asked about
+abbrev IsInvalid : TableValue → List ℕ → Type 0
+IsInvalid table label = (length label ≤ 63) × IsMadeOfSources table label × (IsAdmitted table label → ⊥)
 
--- what is known of code points that are refused by sources of a table
+invalid-is : (table : TableValue) (label : List ℕ) (cause : LineCause) → IsSound table → IsInvalid table label → (invalid_cause table label ≡ Some cause) ↔ IsInvalidCause table label cause
+invalid-is table label cause sound invalid =
+    let told = invalid_cause-told table label invalid.0 in
+    let is = of-part (validity_cause table label) (validity_causes.cause_of table label) (validity_causes.IsCause table label) cause (λ why. cause-is-exact.exactly table label why sound) in
+    (λ h. is.0 (sym told ∙ h), λ has. told ∙ is.1 has)
+
+-- what is known of a label that is refused under a table
+pub record IsRefusedUnder (table : TableValue) (label : List ℕ) (refusal : Refusal) : Type 0 where
+  pub sound : IsSound table
+  pub outside : refusal ≡ NotInTable → IsOutside table label
+  pub invalid : refusal ≡ refusals.NotValid → IsInvalid table label
+
+table-is : (table : TableValue) (label : List ℕ) (refusal : Refusal) (cause : LineCause) → IsRefusedUnder table label refusal → (table_cause table label refusal ≡ Some cause) ↔ IsTableCause table label refusal cause
+table-is table label NotInTable cause under =
+    of-part OfLabel (outside_cause table label) (IsOutsideCause table label) cause (λ c. outside-is table label c under.sound.entries (under.outside refl))
+table-is table label refusals.NotValid cause under = invalid-is table label cause under.sound (under.invalid refl)
+table-is table label refusal cause under = of-part OfLabel (cause_of label refusal) (IsCause label refusal) cause (cause-is label refusal)
+
+-- what is known of code points that are refused under a table
 abbrev IsRefusedBy : Explained → List ℕ → Refusal → Type 0
-IsRefusedBy (ByTable table) points refusal = IsWellFormed table.entries × (refusal ≡ NotInTable → IsOutside table points)
-IsRefusedBy (ByRequest table) points refusal = IsWellFormed table.entries × (refusal ≡ NotInTable → IsOutside table (requested_label points))
+IsRefusedBy (ByTable table) points refusal = IsRefusedUnder table points refusal
+IsRefusedBy (ByRequest table) points refusal = IsRefusedUnder table (requested_label points) refusal
 IsRefusedBy how points refusal = Unit {0}
 
 points-is : (how : Explained) (points : List ℕ) (refusal : Refusal) (cause : LineCause) → IsRefusedBy how points refusal → (points_cause how points refusal ≡ Some cause) ↔ IsPointsCause how points refusal cause
@@ -108,11 +127,8 @@ points-is ByLabel points refusal cause by = registered-is points refusal cause
 points-is ByName points refusal cause by = of-part OfName (name_cause points refusal) (IsNameCause points refusal) cause (name_cause-is points refusal)
 points-is (ByQuery std3) points refusal cause by =
     of-part OfQuery (query_cause (utf8_of points) std3 refusal) (IsQueryCause (utf8_of points) std3 refusal) cause (query_cause-is (utf8_of points) std3 refusal)
-points-is (ByTable table) points refusal cause by =
-    of-part OfLabel (table_cause table points refusal) (IsTableCause table points refusal) cause (λ c. table-is table points refusal c by.0 by.1)
-points-is (ByRequest table) points refusal cause by =
-    of-part OfLabel (table_cause table (requested_label points) refusal) (IsTableCause table (requested_label points) refusal) cause
-    (λ c. table-is table (requested_label points) refusal c by.0 by.1)
+points-is (ByTable table) points refusal cause by = table-is table points refusal cause by
+points-is (ByRequest table) points refusal cause by = table-is table (requested_label points) refusal cause by
 points-is ByTest points refusal cause by = of-part OfLabel (cause_of points refusal) (IsCause points refusal) cause (cause-is points refusal)
 
 -- ---- and each refusal of code points but for two has one
@@ -169,6 +185,10 @@ fault-not_outside : (label : List ℕ) → first_fault label ≡ Some NotInTable
 unfolding cause_of
 fault-not_outside label fault = fault-has_cause label NotInTable fault (λ same. cc) refl
 
+fault-not_invalid : (label : List ℕ) → first_fault label ≡ Some refusals.NotValid → ⊥
+unfolding cause_of
+fault-not_invalid label fault = fault-has_cause label refusals.NotValid fault (λ same. cc) refl
+
 refused-as : (table : TableValue) (label : List ℕ) (said : List Said) (refusal : Refusal) → IsSound table → if_admitted table label said ≡ Err refusal → IsRefusedAs table label refusal
 refused-as table label said refusal sound refused = elim (admitted_or_refused table label sound) [
   | inl is ↦ absurd (let clash : Ok said ≡ Err refusal = sym (admitted_answer table label said sound is) ∙ refused in cc)
@@ -182,12 +202,12 @@ abbrev IsTested : TableValue → List ℕ → Refusal → Type 0
 IsTested table label refusal = (said : List Said) × (unless_fault (first_fault label) (if_admitted table label said) ≡ Err refusal)
 
 table-refused : (table : TableValue) (label : List ℕ) (refusal : Refusal) → IsSound table → IsTested table label refusal
-    → (first_fault label ≡ Some refusal) ⊎ (((refusal ≡ NotInTable) × IsOutside table label) ⊎ (refusal ≡ refusals.NotValid))
+    → (first_fault label ≡ Some refusal) ⊎ (((refusal ≡ NotInTable) × IsOutside table label) ⊎ ((refusal ≡ refusals.NotValid) × IsInvalid table label))
 table-refused table label refusal sound tested = elim (fault_or_result (first_fault label) (if_admitted table label tested.0) refusal tested.1) [
   | inl fault ↦ inl fault
   | inr result ↦ elim (refused-as table label tested.0 refusal sound result.1) [
     | inl outside ↦ inr (inl (outside.1, ((MeetsRequirements-registrable label result.0).points, outside.0)))
-    | inr other ↦ inr (inr other.2)
+    | inr other ↦ inr (inr (other.2, ((MeetsRequirements-registrable label result.0).points, other.0, other.1)))
   ]
 ]
 
@@ -196,24 +216,45 @@ table-outside table label refusal sound tested same = elim (table-refused table 
   | inl fault ↦ absurd (fault-not_outside label (fault ∙ ap Some same))
   | inr others ↦ elim others [
     | inl outside ↦ outside.1
-    | inr other ↦ absurd (let clash : refusals.NotValid ≡ NotInTable = sym other ∙ same in cc)
+    | inr other ↦ absurd (let clash : refusals.NotValid ≡ NotInTable = sym other.0 ∙ same in cc)
   ]
 ]
 
-table_cause-other : (table : TableValue) (label : List ℕ) (refusal : Refusal) → refusal ≢ NotInTable → table_cause table label refusal ≡ cause_of label refusal
-table_cause-other table label NotInTable other = absurd (other refl)
-table_cause-other table label refusal other = refl
+table-invalid : (table : TableValue) (label : List ℕ) (refusal : Refusal) → IsSound table → IsTested table label refusal → refusal ≡ refusals.NotValid → IsInvalid table label
+table-invalid table label refusal sound tested same = elim (table-refused table label refusal sound tested) [
+  | inl fault ↦ absurd (fault-not_invalid label (fault ∙ ap Some same))
+  | inr others ↦ elim others [
+    | inl outside ↦ absurd (let clash : NotInTable ≡ refusals.NotValid = sym outside.0 ∙ same in cc)
+    | inr other ↦ other.1
+  ]
+]
 
-table-told : (table : TableValue) (label : List ℕ) (refusal : Refusal) → IsSound table → IsTested table label refusal → refusal ≢ refusals.Empty → refusal ≢ refusals.NotValid → table_cause table label refusal ≢ None
-table-told table label refusal sound tested some valid none = elim (table-refused table label refusal sound tested) [
+refused-under : (table : TableValue) (label : List ℕ) (refusal : Refusal) → IsSound table → IsTested table label refusal → IsRefusedUnder table label refusal
+refused-under table label refusal sound tested =
+    record { sound = sound; outside = table-outside table label refusal sound tested; invalid = table-invalid table label refusal sound tested }
+
+table_cause-other : (table : TableValue) (label : List ℕ) (refusal : Refusal) → refusal ≢ NotInTable → refusal ≢ refusals.NotValid → table_cause table label refusal ≡ option_map OfLabel (cause_of label refusal)
+table_cause-other table label NotInTable other valid = absurd (other refl)
+table_cause-other table label refusals.NotValid other valid = absurd (valid refl)
+table_cause-other table label refusal other valid = refl
+
+-- a label that is made of sources and may not be asked about has a cause
+invalid-told : (table : TableValue) (label : List ℕ) → IsSound table → IsInvalid table label → invalid_cause table label ≢ None
+invalid-told table label sound invalid none =
+    let no_cause = untold (validity_cause table label) (validity_causes.cause_of table label) (sym (invalid_cause-told table label invalid.0) ∙ none) in
+    let clash : true ≡ false = sym (cause-is-exact.told table label sound invalid.1 invalid.2) ∙ ap is_some no_cause in cc
+
+table-told : (table : TableValue) (label : List ℕ) (refusal : Refusal) → IsSound table → IsTested table label refusal → refusal ≢ refusals.Empty → table_cause table label refusal ≢ None
+table-told table label refusal sound tested some none = elim (table-refused table label refusal sound tested) [
   | inl fault ↦
       let other : refusal ≢ NotInTable = λ same. fault-not_outside label (fault ∙ ap Some same) in
-      fault-has_cause label refusal fault some (sym (table_cause-other table label refusal other) ∙ none)
+      let valid : refusal ≢ refusals.NotValid = λ same. fault-not_invalid label (fault ∙ ap Some same) in
+      fault-has_cause label refusal fault some (untold OfLabel (cause_of label refusal) (sym (table_cause-other table label refusal other valid) ∙ none))
   | inr others ↦ elim others [
     | inl outside ↦
         let told = outside-told table label (furthest table label) sound.entries outside.1.0 ((furthest-told.exactly table label (furthest table label) sound.entries).1 refl) in
-        let clash : Some (Point (furthest table label) (slice_index label (furthest table label))) ≡ None = sym told ∙ ap (table_cause table label) (sym outside.0) ∙ none in cc
-    | inr other ↦ valid other
+        let clash : Some (OfLabel (Point (furthest table label) (slice_index label (furthest table label)))) ≡ None = sym told ∙ ap (table_cause table label) (sym outside.0) ∙ none in cc
+    | inr other ↦ invalid-told table label sound other.1 (ap (table_cause table label) (sym other.0) ∙ none)
   ]
 ]
 
@@ -222,24 +263,24 @@ points-refused : (mode : Mode) (o : Settings) (table : TableValue) (points : Lis
 points-refused modes.Lookup o table points refusal formed refused = tt
 points-refused modes.Register o table points refusal formed refused = tt
 points-refused modes.Decode o table points refusal formed refused = tt
-points-refused modes.Variants o table points refusal formed refused = (formed.entries, table-outside table points refusal formed (_, refused))
-points-refused modes.Jump o table points refusal formed refused = (formed.entries, table-outside table (requested_label points) refusal formed (_, refused))
+points-refused modes.Variants o table points refusal formed refused = refused-under table points refusal formed (_, refused)
+points-refused modes.Jump o table points refusal formed refused = refused-under table (requested_label points) refusal formed (_, refused)
 points-refused modes.CheckTable o table points refusal formed refused = tt
 
-points-told : (mode : Mode) (o : Settings) (table : TableValue) (points : List ℕ) (refusal : Refusal) → IsSound table → mode_answer mode o table points ≡ Err refusal → refusal ≢ refusals.Empty → refusal ≢ refusals.LookupInvalid → refusal ≢ refusals.NotValid → points_cause (explained_by_mode mode o table) points refusal ≢ None
+points-told : (mode : Mode) (o : Settings) (table : TableValue) (points : List ℕ) (refusal : Refusal) → IsSound table → mode_answer mode o table points ≡ Err refusal → refusal ≢ refusals.Empty → refusal ≢ refusals.LookupInvalid → points_cause (explained_by_mode mode o table) points refusal ≢ None
 unfolding points_cause
-points-told modes.Lookup o table points refusal formed refused some other valid none =
+points-told modes.Lookup o table points refusal formed refused some other none =
     query-told (utf8_of points) o.std3 refusal (of_text-refused _ (query_name (utf8_of points) o.std3) refusal refused) other (untold OfQuery (query_cause (utf8_of points) o.std3 refusal) none)
-points-told modes.Register o table points refusal formed refused some other valid none =
+points-told modes.Register o table points refusal formed refused some other none =
     registered-told points refusal (of_text-refused _ (register_answer points) refusal refused) some none
-points-told modes.Decode o table points refusal formed refused some other valid none =
+points-told modes.Decode o table points refusal formed refused some other none =
     name_fault-has_cause points refusal (then-refused (decode_answer points) utf8_of refusal (of_text-refused _ (in_utf8 (decode_answer points)) refusal refused)) some
     (untold OfName (name_cause points refusal) none)
-points-told modes.Variants o table points refusal formed refused some other valid none =
-    table-told table points refusal formed (_, refused) some valid (untold OfLabel (table_cause table points refusal) none)
-points-told modes.Jump o table points refusal formed refused some other valid none =
-    table-told table (requested_label points) refusal formed (_, refused) some valid (untold OfLabel (table_cause table (requested_label points) refusal) none)
-points-told modes.CheckTable o table points refusal formed refused some other valid none = let clash : Ok [] ≡ Err refusal = refused in cc
+points-told modes.Variants o table points refusal formed refused some other none =
+    table-told table points refusal formed (_, refused) some none
+points-told modes.Jump o table points refusal formed refused some other none =
+    table-told table (requested_label points) refusal formed (_, refused) some none
+points-told modes.CheckTable o table points refusal formed refused some other none = let clash : Ok [] ≡ Err refusal = refused in cc
 
 -- ---- bytes that are no UTF-8
 
@@ -325,9 +366,13 @@ text-refused answer bytes refusal utf8 refused =
     by_length true h = let same : refusals.Empty ≡ refusal = cc in inl (sym same)
     by_length false h = inr h
 
+empty-under : (table : TableValue) (label : List ℕ) → IsSound table → IsRefusedUnder table label refusals.Empty
+empty-under table label sound =
+    record { sound = sound; outside = λ same. absurd (let clash : refusals.Empty ≡ NotInTable = same in cc); invalid = λ same. absurd (let clash : refusals.Empty ≡ refusals.NotValid = same in cc) }
+
 empty-refused : (mode : Mode) (o : Settings) (table : TableValue) (points : List ℕ) → IsSound table → IsRefusedBy (explained_by_mode mode o table) points refusals.Empty
-empty-refused modes.Variants o table points formed = (formed.entries, λ same. absurd (let clash : refusals.Empty ≡ NotInTable = same in cc))
-empty-refused modes.Jump o table points formed = (formed.entries, λ same. absurd (let clash : refusals.Empty ≡ NotInTable = same in cc))
+empty-refused modes.Variants o table points formed = empty-under table points formed
+empty-refused modes.Jump o table points formed = empty-under table (requested_label points) formed
 empty-refused modes.Lookup o table points formed = tt
 empty-refused modes.Register o table points formed = tt
 empty-refused modes.Decode o table points formed = tt
@@ -353,15 +398,15 @@ line-exactly mode o table (Some bytes) refusal cause other formed refused = text
     ]
 
 line-always : (mode : Mode) (o : Settings) (table : TableValue) (body : Option (List ℕ)) (refusal : Refusal) → mode ≢ modes.CheckTable → IsSound table
-    → line_answer (mode_answer mode o table) body ≡ Err refusal → refusal ≢ refusals.Empty → refusal ≢ refusals.LookupInvalid → refusal ≢ refusals.NotValid → body_cause (explained_by_mode mode o table) body refusal ≢ None
-line-always mode o table None refusal other formed refused some lookup valid none =
+    → line_answer (mode_answer mode o table) body ≡ Err refusal → refusal ≢ refusals.Empty → refusal ≢ refusals.LookupInvalid → body_cause (explained_by_mode mode o table) body refusal ≢ None
+line-always mode o table None refusal other formed refused some lookup none =
     let clash : Some LongLine ≡ None = sym (wanted-told (explained_by_mode mode o table) LongLine (explains mode o table other)) ∙ none in cc
-line-always mode o table (Some bytes) refusal other formed refused some lookup valid none = by_utf8 (is_utf8 bytes) refl none
+line-always mode o table (Some bytes) refusal other formed refused some lookup none = by_utf8 (is_utf8 bytes) refl none
   where
     by_utf8 : (utf8 : Bool) → is_utf8 bytes ≡ utf8 → cond utf8 (points_cause (explained_by_mode mode o table) (chars bytes) refusal) (unless_unexplained (explained_by_mode mode o table) (bad_byte bytes)) ≡ None → ⊥
     by_utf8 true e n = elim (text-refused (mode_answer mode o table) bytes refusal e refused) [
       | inl empty ↦ some empty
-      | inr points ↦ points-told mode o table (chars bytes) refusal formed points some lookup valid n
+      | inr points ↦ points-told mode o table (chars bytes) refusal formed points some lookup n
     ]
     by_utf8 false e n = let clash : Some (bad_byte bytes) ≡ None = sym (wanted-told (explained_by_mode mode o table) (bad_byte bytes) (explains mode o table other)) ∙ n in cc
 
@@ -372,7 +417,7 @@ refusals_explained mode o table line refusal other wanted formed refused =
     λ cause. subst (λ (how : Explained). IsToldAs how line.body refusal cause) (sym same) (line-exactly mode o table line.body refusal cause other formed refused) in
     record {
       exactly = is;
-      always = λ some lookup valid none. line-always mode o table line.body refusal other formed refused some lookup valid (ap (λ (how : Explained). body_cause how line.body refusal) (sym same) ∙ none);
+      always = λ some lookup none. line-always mode o table line.body refusal other formed refused some lookup (ap (λ (how : Explained). body_cause how line.body refusal) (sym same) ∙ none);
       told = λ cause has.
           ap (pieces_for o.form (explained_in mode o table) line) refused
           ∙ ap (λ (told : Option LineCause). piece_in o.form (Refuses line refusal told) ∷ []) ((is cause).1 has);

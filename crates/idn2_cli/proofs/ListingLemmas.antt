@@ -11,8 +11,7 @@ use Rattle.variant_list.specs.Visited.{visited, visited_ahead}
 use Rattle.variant_list.specs.Positions.{Built, Position, candidates_ahead, tested_ahead}
 use Rattle.variant_list.specs.Jumps.{IsCandidate}
 use Rattle.variant_list.specs.Steps.{last_of, moved_over}
-use Rattle.variant_list.proofs.ListMembers.{Contains-head, Contains-later}
-use Rattle.variant_list.proofs.ListedLemmas.{variants-IsListed, variants-behind}
+use Rattle.variant_list.proofs.ListedLemmas.{variants-IsListed, variants-after}
 use Rattle.variant_list.proofs.ListingLemmas.{fits_label-short, variants-cut}
 use Rattle.variant_list.proofs.TestedLaws.{accepted-tested, tested-cut}
 use Rattle.idn2_options.specs.Settings.{Settings, IsBound, IsCount, IsWithinLimits, keeping}
@@ -23,6 +22,7 @@ use Rattle.idn2_cli.specs.inner.Dispositions.{block_by}
 use Rattle.idn2_cli.proofs.BlockSteps.{get_if_given, limit_from, lines_to}
 use Rattle.idn2_cli.proofs.FilterLemmas.{IsSound, accepted-short}
 use Rattle.idn2_cli.proofs.StopSteps.{IsAbove, from_here, from_here_if, stop_from, variants_ahead}
+use Rattle.valid_labels.proofs.ListLemmas.{all-members}
 
 -- ---- the block
 
@@ -94,16 +94,12 @@ pub record IsWritable (v : List ℕ) : Type 0 where
   pub short : length v ≤ 63
   pub scalar_values : AreScalarValues v
 
-all_members : (P : List ℕ → Type 0) (vs : List (List ℕ)) → ((v : List ℕ) → Contains vs v → P v) → AllByRecursion P vs
-all_members P [] h = tt
-all_members P (v ∷ vs) h = (h v (Contains-head v vs), all_members P vs (λ w c. h w (Contains-later v vs w c)))
-
 -- a candidate can be written
 pub candidate-writable : (labels : List (List ℕ)) → All AreScalarValues labels → (v : List ℕ) → IsCandidate (Contains labels) v → IsWritable v
 candidate-writable labels scalar v is = record { short = is.short; scalar_values = All-contains AreScalarValues labels v scalar is.spelled }
 
 candidates-writable : (labels : List (List ℕ)) → All AreScalarValues labels → (after : List ℕ) → AllByRecursion IsWritable (candidates_among labels after)
-candidates-writable labels scalar after = all_members IsWritable (candidates_among labels after) (λ v c.
+candidates-writable labels scalar after = all-members IsWritable (candidates_among labels after) (λ v c.
     let is = ((variants-IsListed fits_label labels after).members v).0 c in
     candidate-writable labels scalar v (record { spelled = is.spelled; short = fits_label-short v is.accepted }))
 
@@ -133,15 +129,15 @@ visited-writable f count p scalar writable =
 
 pub ahead-above : (f : Filter) (p : Position) → IsAbove f p
 ahead-above f p = record {
-  tested = all_members (IsBelow p.last) (tested_ahead f.hopeless p) (λ v c. (((variants-IsListed (fits_with_hope f) p.net.spelled p.last).members v).0 c).greater);
-  visited = visited-all f (IsBelow p.last) None (candidates_ahead p) (all_members (IsBelow p.last) (candidates_ahead p) (λ v c. (((variants-IsListed fits_label p.net.spelled p.last).members v).0 c).greater));
+  tested = all-members (IsBelow p.last) (tested_ahead f.hopeless p) (λ v c. (((variants-IsListed (fits_with_hope f) p.net.spelled p.last).members v).0 c).greater);
+  visited = visited-all f (IsBelow p.last) None (candidates_ahead p) (all-members (IsBelow p.last) (candidates_ahead p) (λ v c. (((variants-IsListed fits_label p.net.spelled p.last).members v).0 c).greater));
 }
 
 -- what is ahead of it then
 pub moved-ahead : (f : Filter) (count : ℕ) (p : Position) → tested_ahead f.hopeless (moved_over f.hopeless count p) ≡ drop count (tested_ahead f.hopeless p)
 moved-ahead f count p =
     let cs = tested_ahead f.hopeless p in
-    variants-behind (fits_with_hope f) p.net.spelled p.last (take count cs) (drop count cs) (sym (take-append-drop count cs))
+    variants-after (fits_with_hope f) p.net.spelled p.last (take count cs) (drop count cs) (sym (take-append-drop count cs))
 
 take_scalar : (n : ℕ) (points : List ℕ) → AreScalarValues points → AreScalarValues (take n points)
 take_scalar n points h = All-from_recursion IsScalarValue (take n points) (take_all_of IsScalarValue n points (recursion_from_All IsScalarValue points h))

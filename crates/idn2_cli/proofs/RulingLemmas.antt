@@ -1,6 +1,7 @@
 -- What a test of labels finds and keeps.
-use Rattle.std.proofs.Common.{◌≡◌, ◌≤◌, ◌<◌, ℕ, zero, suc, List, [], ◌∷◌, Bool, true, false, Option, Some, None, IsTrue, take, length, min, refl, sym, ap, subst, ◌∙◌, if◌then◌else◌, arith}
+use Rattle.std.proofs.Common.{◌≡◌, ◌≤◌, ◌<◌, ℕ, zero, suc, List, [], ◌∷◌, Bool, true, false, Option, Some, None, take, length, min, refl, sym, ap, subst, ◌∙◌, if◌then◌else◌, arith}
 use Rattle.std.proofs.Math.Nat.{min-le_left, min-le_right}
+use Rattle.std.proofs.lemmas.Bool.{false_from_ne_true}
 use Rattle.valid_labels.specs.Testing.{IsValidity, SharesKept, Testing}
 use Rattle.valid_labels.specs.Tests.{asks_nothing, is_lost, is_valid}
 use Rattle.valid_labels.specs.Validity.{AsksNothing, HasNoLostBeginning, IsLost, IsShortestLost, IsSound}
@@ -9,22 +10,17 @@ use Rattle.valid_labels.specs.declared.validity.Validity.TheVariants.{Lost, Vali
 use Rattle.valid_labels.proofs.TestLemmas.{tests-agree}
 use Rattle.variant_table.specs.Entries.{TableValue}
 use Rattle.variant_list.specs.Beginnings.{shortest_hopeless}
-use Rattle.variant_list.specs.Sharing.{IsKeptOf}
 use Rattle.variant_list.proofs.BeginningLemmas.{shortest_hopeless-at, shortest_hopeless-none}
-use Rattle.idn2_cli.specs.inner.Ruling.{IsValidityBy, KeepsOf, KeepsShared, lost_in, ruling_in, ruling_of}
-
-unless-true : (b : Bool) → (b ≡ true → ⊥) → b ≡ false
-unless-true true h = absurd (h refl)
-unless-true false h = refl
+use Rattle.idn2_cli.specs.inner.Ruling.{IsValidityBy, KeepsOf, KeepsShared, ruling_in, ruling_of}
 
 none-lost : (table : TableValue) (v : List ℕ) → IsSound table → HasNoLostBeginning table v → shortest_hopeless (is_lost table) v ≡ None
 none-lost table v sound none =
-    shortest_hopeless-none (is_lost table) v (λ k low high. unless-true (is_lost table (take k v)) (λ is. none k high ((tests-agree.lost table (take k v) sound).0 is)))
+    shortest_hopeless-none (is_lost table) v (λ k low high. false_from_ne_true (is_lost table (take k v)) (λ is. none k high ((tests-agree.lost table (take k v) sound).0 is)))
 
 at-lost : (table : TableValue) (v : List ℕ) (n : ℕ) → IsSound table → IsShortestLost table v n → shortest_hopeless (is_lost table) v ≡ Some n
 at-lost table v n sound is =
     shortest_hopeless-at (is_lost table) v n (some n is.lost) is.within ((tests-agree.lost table (take n v) sound).1 is.lost)
-    (λ k low high. unless-true (is_lost table (take k v)) (λ l. is.first k high ((tests-agree.lost table (take k v) sound).0 l)))
+    (λ k low high. false_from_ne_true (is_lost table (take k v)) (λ l. is.first k high ((tests-agree.lost table (take k v) sound).0 l)))
   where
     some : (n : ℕ) → IsLost table (take n v) → 1 ≤ n
     some zero l = absurd (let bad : 0 < 0 = l.some in omega (arith, bad))
@@ -34,7 +30,7 @@ at-lost table v n sound is =
 pub validity-found : (table : TableValue) (v : List ℕ) (validity : Validity) → IsSound table → IsValidity table v validity → IsValidityBy (Some table) v validity
 validity-found table v (Lost n) sound is = (at-lost table v n sound is, tt)
 validity-found table v Valid sound is = (none-lost table v sound is.1, (tests-agree.valid table v sound).1 is.0)
-validity-found table v NotValid sound is = (none-lost table v sound is.1, unless-true (is_valid table v) (λ t. is.0 ((tests-agree.valid table v sound).0 t)))
+validity-found table v NotValid sound is = (none-lost table v sound is.1, false_from_ne_true (is_valid table v) (λ t. is.0 ((tests-agree.valid table v sound).0 t)))
 
 take-shorter : {X : Type 0} (m n : ℕ) (xs : List X) → m ≤ n → take m (take n xs) ≡ take m xs
 take-shorter zero n xs le = refl

@@ -72,7 +72,7 @@ checked o text (Err fault) start old new r e read unread writes answered =
     let job = mode_job (record o { mode = CheckTable }) (Err fault) in
     as_mode o CheckTable text (Err fault) job start start old new r e read refl (does_unread job start old new r unread writes (with_false r _ answered) refl)
 
--- want of memory before any piece
+-- lack of memory before any piece
 pub emits_memory : {A : Type 0} (old : Held) (pieces : List Piece) (r : Result A Stop) (why : Stop) → r ≡ Err why → why ≡ stop.Memory → Emits old old pieces r
 emits_memory {A} old pieces r why e memory =
     subst (λ (s : Result A Stop). Emits old old pieces s) (sym (e ∙ ap Err memory)) (stops_first old pieces)

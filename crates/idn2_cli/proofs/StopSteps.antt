@@ -111,8 +111,8 @@ filter-found accepts (c ∷ cs) zero v at accepted none =
 filter-found accepts (c ∷ cs) (suc before) v at accepted none =
     ap (λ (b : Bool). if b then c ∷ filter accepts cs else filter accepts cs) none.0 ∙ filter-found accepts cs before v at accepted none.1
 
-pub filter-behind : (accepts : List ℕ → Bool) (cs : List (List ℕ)) (k : ℕ) → AllByRecursion (λ u. accepts u ≡ false) (take k cs) → filter accepts cs ≡ filter accepts (drop k cs)
-filter-behind accepts cs zero none = refl
-filter-behind accepts [] (suc k) none = refl
-filter-behind accepts (c ∷ cs) (suc k) none =
-    ap (λ (b : Bool). if b then c ∷ filter accepts cs else filter accepts cs) none.0 ∙ filter-behind accepts cs k none.1
+pub filter-after : (accepts : List ℕ → Bool) (cs : List (List ℕ)) (k : ℕ) → AllByRecursion (λ u. accepts u ≡ false) (take k cs) → filter accepts cs ≡ filter accepts (drop k cs)
+filter-after accepts cs zero none = refl
+filter-after accepts [] (suc k) none = refl
+filter-after accepts (c ∷ cs) (suc k) none =
+    ap (λ (b : Bool). if b then c ∷ filter accepts cs else filter accepts cs) none.0 ∙ filter-after accepts cs k none.1

@@ -51,7 +51,7 @@ told_read n text fault told (inr f) is =
     let same : (f.0, table_refusal f.1) ≡ told = from_some (f.0, table_refusal f.1) told (sym (told_of-fault f.0 f.1) ∙ sym (ap told_of f.2) ∙ is) in
     subst (λ (t : ℕ × Refusal). IsReadAs n text (Err (t.0, t.1, fault_cause n text fault))) same (f.1, refl, f.3, ap (fault_cause n text) f.2)
 
--- a table that is not read: of want of memory nothing is told, and of a fault of its text it is, with its cause, if causes are wanted
+-- a table that is not read: of lack of memory nothing is told, and of a fault of its text it is, with its cause, if causes are wanted
 abbrev pub IsTold : Form → Bool → Notation → List ℕ → TableFault → Held → Held → Result Status Stop → Option (ℕ × Refusal) → Type 0
 IsTold form wanted n text fault old new r told =
     MatchOption told ((r ≡ Err stop.Memory) × (new ≡ old)) (λ told. Emits old new (check_pieces form wanted (Err (told.0, told.1, fault_cause n text fault))) r)

@@ -6,20 +6,15 @@ use Rattle.std.specs.Option.{option_map}
 use Rattle.std.specs.Io.KnownBytes.{Appends}
 use Rattle.idn_text.specs.Writers.{Writer, Fails, TakesWhole, TakesPart}
 use Rattle.idn2_cli.specs.Transcript.{Piece, Output, Message, output_of, messages_of}
-use Rattle.idn2_cli.specs.Ends.{Held, Takes, Writes, BreaksOff, IsCutBy, WritesUntil}
+use Rattle.idn2_cli.specs.Ends.{Held, TakesPieces, Writes, BreaksOff, IsCutBy, WritesUntil}
 use Rattle.idn2_cli.specs.inner.Emitting.{StopsWithin, Emits}
 use Rattle.idn2_cli.specs.declared.output.stop.Stop.{Stop}
 use Rattle.idn2_cli.specs.declared.output.stop.Stop.TheVariants as stop
+use Rattle.idn_text.proofs.KnownBytesLemmas.{appends_join}
 
 pub appends_nothing : (a : Option (List ℕ)) → Appends a a []
 appends_nothing None = tt
 appends_nothing (Some xs) = sym (append-nil xs)
-
-pub appends_join : (a b c : Option (List ℕ)) (f g : List ℕ) → Appends a b f → Appends b c g → Appends a c (f ++ g)
-appends_join None b c f g first second = tt
-appends_join (Some xs) None c f g first second = absurd first
-appends_join (Some xs) (Some ys) None f g first second = absurd second
-appends_join (Some xs) (Some ys) (Some zs) f g first second = second ∙ ap (λ l. l ++ g) first ∙ append_assoc xs f g
 
 pub output_of-append : (p q : List Piece) → output_of (p ++ q) ≡ output_of p ++ output_of q
 output_of-append [] q = refl
@@ -31,10 +26,10 @@ messages_of-append [] q = refl
 messages_of-append (Output text ∷ p) q = messages_of-append p q
 messages_of-append (Message text ∷ p) q = ap (λ l. text ++ l) (messages_of-append p q) ∙ sym (append_assoc text (messages_of p) (messages_of q))
 
-pub takes_nothing : (a : Held) → Takes a a []
+pub takes_nothing : (a : Held) → TakesPieces a a []
 takes_nothing a = record { output = appends_nothing a.output.contents; messages = appends_nothing a.messages.contents; output_loan = refl; messages_loan = refl }
 
-pub takes_join : (a b c : Held) (p q : List Piece) → Takes a b p → Takes b c q → Takes a c (p ++ q)
+pub takes_join : (a b c : Held) (p q : List Piece) → TakesPieces a b p → TakesPieces b c q → TakesPieces a c (p ++ q)
 takes_join a b c p q first second = record {
   output = subst (Appends a.output.contents c.output.contents) (sym (output_of-append p q)) (appends_join a.output.contents b.output.contents c.output.contents (output_of p) (output_of q) first.output second.output);
   messages = subst (Appends a.messages.contents c.messages.contents) (sym (messages_of-append p q)) (appends_join a.messages.contents b.messages.contents c.messages.contents (messages_of p) (messages_of q) first.messages second.messages);

@@ -1,10 +1,8 @@
 -- The lines of registered labels, and their code points; and texts that are joined one after another.
-use Rattle.std.proofs.Common.{◌≡◌, ◌<◌, ◌≤◌, ◌++◌, ◌∷◌, ◌==◌, ℕ, zero, suc, Bool, true, false, List, [], chars, length, take, eq-eqb, Option, Some, None, Result, Ok, Err, OnOk, OnErr, slice_get, cond, IfOk, IfSome, subst, refl, sym, ap, ◌∙◌, append_assoc, arith, if◌then◌else◌}
+use Rattle.std.proofs.Common.{◌≡◌, ◌≤◌, ◌++◌, ◌∷◌, ◌==◌, ℕ, zero, suc, Bool, true, false, List, [], chars, length, take, eq-eqb, Option, Some, None, Result, Ok, Err, OnOk, OnErr, slice_get, cond, IfOk, IfSome, subst, refl, sym, ap, ◌∙◌, append_assoc, arith, if◌then◌else◌}
 use Rattle.std.specs.Str.{is_utf8}
-use Rattle.std.specs.Str.Lines.{strip_carriage_return}
 use Rattle.std.proofs.lemmas.Bool.Decides.{nat_tests}
 use Rattle.std.proofs.lemmas.Str.{is_utf8-from_IsUtf8}
-use Rattle.idn_text.specs.Lines.{body_of, is_long_line}
 use Rattle.idn_text.specs.Points.{IsUtf8Of}
 use Rattle.idn_text.proofs.Utf8Lemmas.{IsUtf8-from_points, points_from_utf8}
 use Rattle.idn_class.specs.Shared.{IsLongestShared}
@@ -18,16 +16,6 @@ use Rattle.idn2_cli.specs.declared.refusals.cause.LineCause.{LineCause}
 use Rattle.idn2_cli.specs.declared.refusals.cause.LineCause.TheVariants.{OfLabel}
 use Rattle.idn2_cli.specs.WrongLines.{differs_at, order_cause, points_in}
 use Rattle.idn2_cli.proofs.TextAnswers.{is_not_utf8}
-
-pub body-long : (line : List ℕ) → 1024 < length line → body_of line ≡ None
-body-long line more =
-    let long : is_long_line line ≡ true = grind (arith, nat_tests) in
-    ap (λ (b : Bool). let r : Option (List ℕ) = if b then None else Some (strip_carriage_return line) in r) long
-
-pub body-short : (line : List ℕ) → length line ≤ 1024 → body_of line ≡ Some (strip_carriage_return line)
-body-short line few =
-    let short : is_long_line line ≡ false = grind (arith, nat_tests) in
-    ap (λ (b : Bool). let r : Option (List ℕ) = if b then None else Some (strip_carriage_return line) in r) short
 
 -- what is decoded of bytes, which is nothing of those that are no UTF-8
 pub points_read : {A E : Type 0} (bytes points : List ℕ) (r : Result A E) → OnOk r (IsUtf8Of bytes points) → OnErr r ((list : List ℕ) → IsUtf8Of bytes list → ⊥) → OnErr r (points ≡ [])

@@ -4,8 +4,8 @@ use Rattle.idn_text.specs.declared.refusal.Refusal.{Refusal}
 use Rattle.idn_text.specs.declared.refusal.Refusal.TheVariants.{ContextJ, ContextO}
 use Rattle.idn_class.specs.declared.barring.BarringLine.{BarringLine}
 use Rattle.idn_class.specs.declared.barring.BarringLine.TheVariants as lines
-use Rattle.idn_class.specs.declared.broken.Condition.{Condition}
-use Rattle.idn_class.specs.declared.broken.Condition.TheVariants as conditions
+use Rattle.idn_class.specs.declared.broken.BidiCondition.{BidiCondition}
+use Rattle.idn_class.specs.declared.broken.BidiCondition.TheVariants as conditions
 use Rattle.idn_cause.specs.declared.cause.Cause.{Cause}
 use Rattle.idn_cause.specs.declared.cause.Cause.TheVariants.{Barred, Changed, Hyphen, Point, Condition as Broken, Points, Octets}
 use Rattle.idn_cause.specs.declared.a_label.ALabelCause.{ALabelCause}
@@ -13,11 +13,11 @@ use Rattle.idn_cause.specs.declared.a_label.ALabelCause.TheVariants.{NoCode, Not
 use Rattle.idn_cause.specs.declared.query.LengthCause.{LengthCause}
 use Rattle.idn_cause.specs.declared.query.LengthCause.TheVariants.{LabelOctets, NameOctets}
 use Rattle.answer_json.specs.Details.{Details, no_details}
-use Rattle.variant_table.specs.declared.place.FaultPlace.{FaultPlace}
-use Rattle.variant_table.specs.declared.place.FaultPlace.TheVariants as places
-use Rattle.idn2_cli.specs.CauseTexts.{appendix_text, bidi_text}
+use Rattle.table_cause.specs.declared.place.FaultPlace.{FaultPlace}
+use Rattle.table_cause.specs.declared.place.FaultPlace.TheVariants as places
+use Rattle.idn2_cli.specs.CauseTexts.{appendix_text, bidi_text, condition_text, demand_text}
 use Rattle.idn2_cli.specs.declared.refusals.cause.LineCause.{LineCause}
-use Rattle.idn2_cli.specs.declared.refusals.cause.LineCause.TheVariants.{Byte, LongLine, OfLabel, OfALabel, OfName, OfQuery, Ends, OfTable}
+use Rattle.idn2_cli.specs.declared.refusals.cause.LineCause.TheVariants.{Byte, LongLine, OfLabel, OfALabel, OfName, OfQuery, Misplaced, Broken as BrokenDemand, Ends, OfTable}
 
 -- a code point and its place
 abbrev pub placed : ℕ → ℕ → Details
@@ -46,7 +46,7 @@ context_rule ContextO c = Some (codes "RFC 5892 A." ++ appendix_text c)
 context_rule refusal c = None
 
 -- a condition of the Bidi rule (RFC 5893, section 2)
-abbrev pub condition_rule : Condition → List ℕ
+abbrev pub condition_rule : BidiCondition → List ℕ
 condition_rule conditions.First = codes "RFC 5893 2 condition 1"
 condition_rule conditions.RtlHolds = codes "RFC 5893 2 condition 2"
 condition_rule conditions.RtlEnds = codes "RFC 5893 2 condition 3"
@@ -104,6 +104,8 @@ line_details refusal (OfLabel cause) = cause_details refusal cause
 line_details refusal (OfALabel cause) = a_label_details refusal cause
 line_details refusal (OfName cause) = record (a_label_details refusal cause.cause) { label = Some (cause.label + 1) }
 line_details refusal (OfQuery cause) = length_details cause
+line_details refusal (Misplaced place c kind rule) = record (placed_by place c rule.items) { condition = Some (condition_text kind) }
+line_details refusal (BrokenDemand number kind) = record no_details { demand = Some (number + 1); kind = Some (demand_text kind) }
 line_details refusal (Ends place) = record no_details { place = Some (place + 1) }
 line_details refusal (OfTable place quoted) = fault_place_details place
 

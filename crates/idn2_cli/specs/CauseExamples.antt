@@ -3,12 +3,14 @@ use Rattle.std.specs.Prelude.{◌≡◌, Some, codes}
 use Rattle.idn_text.specs.declared.refusal.Refusal.TheVariants as refusals
 use Rattle.idn_class.specs.declared.barring.BarringLine.TheVariants as lines
 use Rattle.idn_class.specs.declared.bidi_class.BidiClass.TheVariants.{L}
-use Rattle.idn_class.specs.declared.broken.Condition.TheVariants.{RtlHolds}
+use Rattle.idn_class.specs.declared.broken.BidiCondition.TheVariants.{RtlHolds}
 use Rattle.idn_cause.specs.declared.cause.Cause.TheVariants as causes
 use Rattle.idn_cause.specs.declared.a_label.ALabelCause.TheVariants as a_labels
 use Rattle.idn_cause.specs.declared.query.LengthCause.TheVariants.{LabelOctets, NameOctets}
+use Rattle.label_patterns.specs.declared.condition.ConditionKind.TheVariants.{Unless}
+use Rattle.ruleset_text.specs.declared.definition.DemandKind.TheVariants.{Never}
 use Rattle.idn2_cli.specs.CauseTexts.{tail_text}
-use Rattle.idn2_cli.specs.declared.refusals.cause.LineCause.TheVariants.{Byte, LongLine, OfLabel, OfALabel, OfName, OfQuery}
+use Rattle.idn2_cli.specs.declared.refusals.cause.LineCause.TheVariants.{Byte, LongLine, OfLabel, OfALabel, OfName, OfQuery, Misplaced, Broken}
 
 -- each form of a cause
 pub record ExamplesOfCauses : Type 0 where
@@ -35,5 +37,7 @@ pub record ExamplesOfCauses : Type 0 where
   pub length_of_a_label : tail_text refusals.LookupLength (Some (OfQuery (LabelOctets 1 64))) ≡ codes ": label 2: 64 octets"
   pub length_of_a_name : tail_text refusals.LookupLength (Some (OfQuery (NameOctets 254))) ≡ codes ": name of 254 octets"
   pub outside : tail_text refusals.NotInTable (Some (OfLabel (causes.Point 2 0xF1))) ≡ codes ": U+00F1 at place 3"
+  pub misplaced : tail_text refusals.NotValid (Some (Misplaced 2 0x2D Unless (record { items = codes "edge" }))) ≡ codes ": U+002D at place 3: unless edge"
+  pub broken : tail_text refusals.NotValid (Some (Broken 0 Never)) ≡ codes ": demand 1, never"
   pub byte : tail_text refusals.NotUtf8 (Some (Byte 2 0xFF)) ≡ codes ": byte 0xFF at byte 3"
   pub long_line : tail_text refusals.LineTooLong (Some LongLine) ≡ codes ": more than 1024 bytes"

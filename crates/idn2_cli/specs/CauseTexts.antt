@@ -15,11 +15,16 @@ use Rattle.idn_cause.specs.declared.a_label.ALabelCause.TheVariants.{NoCode, Not
 use Rattle.idn_cause.specs.declared.name.NameCause.{NameCause}
 use Rattle.idn_cause.specs.declared.query.LengthCause.{LengthCause}
 use Rattle.idn_cause.specs.declared.query.LengthCause.TheVariants.{LabelOctets, NameOctets}
-use Rattle.ruleset_text.specs.Canonical.{hex_digit, point_text}
-use Rattle.variant_table.specs.declared.place.FaultPlace.{FaultPlace}
-use Rattle.variant_table.specs.declared.place.FaultPlace.TheVariants as places
+use Rattle.label_patterns.specs.declared.condition.ConditionKind.{ConditionKind}
+use Rattle.label_patterns.specs.declared.condition.ConditionKind.TheVariants.{When, Unless}
+use Rattle.ruleset_text.specs.declared.definition.DemandKind.{DemandKind}
+use Rattle.ruleset_text.specs.declared.definition.DemandKind.TheVariants.{Never, Always}
+use Rattle.ruleset_text.specs.Canonical.{point_text}
+use Rattle.idn_text.specs.Points.{hex_digit}
+use Rattle.table_cause.specs.declared.place.FaultPlace.{FaultPlace}
+use Rattle.table_cause.specs.declared.place.FaultPlace.TheVariants as places
 use Rattle.idn2_cli.specs.declared.refusals.cause.LineCause.{LineCause}
-use Rattle.idn2_cli.specs.declared.refusals.cause.LineCause.TheVariants.{Byte, LongLine, OfLabel, OfALabel, OfName, OfQuery, Ends, OfTable}
+use Rattle.idn2_cli.specs.declared.refusals.cause.LineCause.TheVariants.{Byte, LongLine, OfLabel, OfALabel, OfName, OfQuery, Misplaced, Broken, Ends, OfTable}
 
 -- a code point, as Unicode writes it
 abbrev pub code_point_text : ℕ → List ℕ
@@ -143,6 +148,16 @@ fault_place_text (places.Byte place) quoted = codes "the line goes on" ++ at_byt
 fault_place_text (places.NinthPoint place c) quoted = code_point_text c ++ (at_byte_text place ++ codes ": code point 9")
 fault_place_text (places.SeventeenthVariant place c) quoted = code_point_text c ++ (at_byte_text place ++ codes ": variant 17")
 
+-- what a ruleset asks of a rule
+abbrev pub condition_text : ConditionKind → List ℕ
+condition_text When = codes "when"
+condition_text Unless = codes "unless"
+
+-- what it asks by a demand
+abbrev pub demand_text : DemandKind → List ℕ
+demand_text Never = codes "never"
+demand_text Always = codes "always"
+
 -- the cause of a line's refusal
 abbrev pub line_cause_text : Refusal → LineCause → List ℕ
 line_cause_text refusal (Byte place byte) = byte_text byte ++ (codes " at byte " ++ decimal (place + 1))
@@ -151,6 +166,8 @@ line_cause_text refusal (OfLabel cause) = cause_text refusal cause
 line_cause_text refusal (OfALabel cause) = a_label_text refusal cause
 line_cause_text refusal (OfName cause) = name_text refusal cause
 line_cause_text refusal (OfQuery cause) = length_text cause
+line_cause_text refusal (Misplaced place c kind rule) = place_text place c ++ (codes ": " ++ (condition_text kind ++ (codes " " ++ rule.items)))
+line_cause_text refusal (Broken number kind) = codes "demand " ++ (decimal (number + 1) ++ (codes ", " ++ demand_text kind))
 line_cause_text refusal (Ends place) = codes "ends at place " ++ decimal (place + 1)
 line_cause_text refusal (OfTable place quoted) = fault_place_text place quoted.items
 

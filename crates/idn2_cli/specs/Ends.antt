@@ -40,7 +40,7 @@ abbrev pub held : Writer → Writer → Held
 held output messages = record { output = output; messages = messages; output_loan = 0; messages_loan = 0 }
 
 -- each of the same two writers took its pieces, in order
-pub record Takes (old new : Held) (pieces : List Piece) : Type 0 where
+pub record TakesPieces (old new : Held) (pieces : List Piece) : Type 0 where
   pub output : Appends old.output.contents new.output.contents (output_of pieces)
   pub messages : Appends old.messages.contents new.messages.contents (messages_of pieces)
   pub output_loan : new.output_loan ≡ old.output_loan
@@ -48,7 +48,7 @@ pub record Takes (old new : Held) (pieces : List Piece) : Type 0 where
 
 -- the same, and no write failed
 pub record Writes (old new : Held) (pieces : List Piece) : Type 0 where
-  pub takes : Takes old new pieces
+  pub takes : TakesPieces old new pieces
   pub output_faults : new.output.faults ≡ old.output.faults
   pub messages_faults : new.messages.faults ≡ old.messages.faults
 
@@ -73,7 +73,7 @@ IsCutBy stop.Memory pieces written = (after : List Piece) × (pieces ≡ written
 
 -- each of the writers took its pieces, in order, and no write failed but the last one of the writer that the stop names
 pub record WritesUntil (why : Stop) (old new : Held) (pieces : List Piece) : Type 0 where
-  pub takes : Takes old new pieces
+  pub takes : TakesPieces old new pieces
   pub output_failed : why ≡ stop.Output → Fails old.output new.output
   pub output_faults : why ≢ stop.Output → new.output.faults ≡ old.output.faults
   pub messages_failed : why ≡ stop.Messages → Fails old.messages new.messages

@@ -6,20 +6,24 @@ use Rattle.std.specs.Str.Lossy.{utf8_valid_len}
 use Rattle.idna.specs.Validity.{has_ace_prefix}
 use Rattle.idn_text.specs.Points.{utf8_of}
 use Rattle.idn_text.specs.declared.refusal.Refusal.{Refusal}
-use Rattle.idn_text.specs.declared.refusal.Refusal.TheVariants.{NotInTable}
+use Rattle.idn_text.specs.declared.refusal.Refusal.TheVariants.{NotInTable, NotValid}
 use Rattle.idn_cause.specs.declared.cause.Cause.{Cause}
 use Rattle.idn_cause.specs.declared.cause.Cause.TheVariants.{Point}
 use Rattle.idn_cause.specs.Causes.{cause_of}
 use Rattle.idn_cause.specs.ALabelCauses.{a_label_cause}
 use Rattle.idn_cause.specs.NameCauses.{name_cause, query_cause}
+use Rattle.ruleset_text.specs.Definitions.{rule_name}
 use Rattle.variant_table.specs.Entries.{TableValue}
+use Rattle.valid_labels.specs.declared.cause.ValidityCause.{ValidityCause}
+use Rattle.valid_labels.specs.declared.cause.ValidityCause.TheVariants as validity
+use Rattle.valid_labels.specs.Causes as validity_causes
 use Rattle.valid_labels.specs.Furthest.{furthest}
 use Rattle.idn2_options.specs.Settings.{Settings, tells_causes}
 use Rattle.idn2_options.specs.declared.command_line.mode.Mode.{Mode}
 use Rattle.idn2_options.specs.declared.command_line.mode.Mode.TheVariants.{Lookup, Register, Decode, Variants, Jump, CheckTable}
 use Rattle.idn2_cli.specs.Answers.{LineAnswer, requested_label}
 use Rattle.idn2_cli.specs.declared.refusals.cause.LineCause.{LineCause}
-use Rattle.idn2_cli.specs.declared.refusals.cause.LineCause.TheVariants.{Byte, LongLine, OfLabel, OfALabel, OfName, OfQuery}
+use Rattle.idn2_cli.specs.declared.refusals.cause.LineCause.TheVariants.{Byte, LongLine, OfLabel, OfALabel, OfName, OfQuery, Misplaced, Broken}
 
 -- of what the cause is told: of nothing, of a label, of a name that is decoded, of one that is looked up, of a label by the sources
 -- of a table, of the label of a request by them, or of a label that is tested as it stands
@@ -55,15 +59,28 @@ abbrev pub registered_cause : List ℕ → Refusal → Option LineCause
 registered_cause label refusal =
     if has_ace_prefix label then option_map OfALabel (a_label_cause label refusal) else option_map OfLabel (cause_of label refusal)
 
--- the code point behind those that sources of the table reach, of a label that is short enough to be registered (RFC 7940, section 8.1)
+-- the code point after those that sources of the table reach, of a label that is short enough to be registered (RFC 7940, section 8.1)
 abbrev pub outside_cause : TableValue → List ℕ → Option Cause
 outside_cause table label =
     if nat_le (length label) 63 then Some (Point (furthest table label) (slice_index label (furthest table label))) else None
 
--- of a label by the sources of a table
-abbrev pub table_cause : TableValue → List ℕ → Refusal → Option Cause
-table_cause table label NotInTable = outside_cause table label
-table_cause table label refusal = cause_of label refusal
+-- why a label that is made of sources may not be asked about: what is asked of the rule of a source that stands at a place, or a
+-- demand by its number
+abbrev pub validity_cause : TableValue → List ℕ → ValidityCause → LineCause
+validity_cause table label (validity.Misplaced place condition) =
+    Misplaced place (slice_index label place) condition.kind (record { items = rule_name table.definitions condition.rule })
+validity_cause table label (validity.Broken number kind) = Broken number kind
+
+-- the same of a label that is short enough to be registered (RFC 7940, sections 6.3 and 7)
+abbrev pub invalid_cause : TableValue → List ℕ → Option LineCause
+invalid_cause table label =
+    if nat_le (length label) 63 then option_map (validity_cause table label) (validity_causes.cause_of table label) else None
+
+-- of a label by the sources of a table, and by what the table asks of its labels
+abbrev pub table_cause : TableValue → List ℕ → Refusal → Option LineCause
+table_cause table label NotInTable = option_map OfLabel (outside_cause table label)
+table_cause table label NotValid = invalid_cause table label
+table_cause table label refusal = option_map OfLabel (cause_of label refusal)
 
 -- of the code points of a line
 unfoldable pub points_cause : Explained → List ℕ → Refusal → Option LineCause
@@ -71,8 +88,8 @@ points_cause Unexplained points refusal = None
 points_cause ByLabel points refusal = registered_cause points refusal
 points_cause ByName points refusal = option_map OfName (name_cause points refusal)
 points_cause (ByQuery std3) points refusal = option_map OfQuery (query_cause (utf8_of points) std3 refusal)
-points_cause (ByTable table) points refusal = option_map OfLabel (table_cause table points refusal)
-points_cause (ByRequest table) points refusal = option_map OfLabel (table_cause table (requested_label points) refusal)
+points_cause (ByTable table) points refusal = table_cause table points refusal
+points_cause (ByRequest table) points refusal = table_cause table (requested_label points) refusal
 points_cause ByTest points refusal = option_map OfLabel (cause_of points refusal)
 
 -- the first byte that no UTF-8 goes on with (RFC 3629, section 3)

@@ -51,7 +51,7 @@ ArePrintedFor o table (line ∷ lines) (printed ∷ others) = IsPrintedFor o tab
 ArePrintedFor o table [] (printed ∷ others) = ⊥
 ArePrintedFor o table (line ∷ lines) [] = ⊥
 
--- from here to there these lines of the input were read, and the output took what is printed for each of them, one behind the
+-- from here to there these lines of the input were read, and the output took what is printed for each of them, one after the
 -- other: if the run answers 0 or 1, for all lines of the input and to the end, else up to where it stopped
 pub record PrintsListings (o : Settings) (table : TableValue) (start now : Reading) (old new : Option (List ℕ)) (status : Status) : Type 0 where
   pub given : List ℕ

@@ -19,7 +19,7 @@ use Rattle.idn2_cli.specs.Answers.{IsAllocatable, disposition}
 use Rattle.idn2_cli.specs.CauseTexts.{tail_text}
 use Rattle.idn2_cli.specs.Explained.{Unexplained, bad_byte, body_cause, table_cause}
 use Rattle.idn2_cli.specs.Transcript.{TableGiven, line_message, messages_of, piece_in, refused_message, statements, status_of, transcript}
-use Rattle.idn2_cli.specs.declared.refusals.cause.LineCause.TheVariants.{Byte}
+use Rattle.idn2_cli.specs.declared.refusals.cause.LineCause.TheVariants.{Byte, OfLabel}
 
 -- the disposition of a variant. Version 1 has none; a label may itself be allocated, whatever is blocked; where no variant is
 -- blocked and there are no tags, each of a label's variants may be; what may be allocated is a variant of the label; and where there
@@ -33,14 +33,14 @@ pub record DispositionsAreTold : Type 0 where
   pub untagged : (table : TableValue) (label v : List ℕ) → HasSegmentation table label → table.definitions.tags ≡ [] → IsAllocatable table label v ↔ PartSpells Unblocked table label v
 
 -- what messages go on with. Without the option nothing, so that they are as ever; of bytes that are no UTF-8 the first that no UTF-8
--- goes on with (RFC 3629, section 3) is told, and of a label that can't be cut into sources the code point behind the furthest place
+-- goes on with (RFC 3629, section 3) is told, and of a label that can't be cut into sources the code point after the furthest place
 -- that they reach (RFC 7940, section 8.1)
 pub record CausesAreTold : Type 0 where
   pub unexplained : (body : Option (List ℕ)) (refusal : Refusal) → tail_text refusal (body_cause Unexplained body refusal) ≡ []
   pub plain : (number : ℕ) (refusal : Refusal) → refused_message number refusal [] ≡ line_message number refusal
   pub byte : (bytes : List ℕ) (place : ℕ) → IsValidUpTo bytes place → bad_byte bytes ≡ Byte place (slice_index bytes place)
   pub outside : (table : TableValue) (label : List ℕ) (place : ℕ) → IsWellFormed table.entries → length label ≤ 63 → IsFurthest table label place →
-      table_cause table label NotInTable ≡ Some (Point place (slice_index label place))
+      table_cause table label NotInTable ≡ Some (OfLabel (Point place (slice_index label place)))
 
 -- a run writes what it says piece by piece, each statement in the form that is asked for. What it says is the same in both forms:
 -- with objects, what it says with `--explain`. So is its status, and with objects nothing goes to the messages

@@ -12,13 +12,14 @@ use Rattle.idn_cause.specs.Causes.{IsCause}
 use Rattle.idn_cause.specs.ALabelCauses.{IsALabelCause}
 use Rattle.idn_cause.specs.NameCauses.{IsNameCause, IsQueryCause}
 use Rattle.variant_table.specs.Entries.{TableValue}
+use Rattle.valid_labels.specs.Causes as validity_causes
 use Rattle.valid_labels.specs.Validity.{IsSound}
 use Rattle.valid_labels.specs.Furthest.{IsFurthest}
 use Rattle.idn2_options.specs.Settings.{Settings, tells_causes}
 use Rattle.idn2_options.specs.declared.command_line.mode.Mode.{Mode}
 use Rattle.idn2_options.specs.declared.command_line.mode.Mode.TheVariants.{CheckTable}
 use Rattle.idn2_cli.specs.Answers.{line_answer, mode_answer, requested_label}
-use Rattle.idn2_cli.specs.Explained.{Explained, Unexplained, ByLabel, ByName, ByQuery, ByTable, ByRequest, ByTest, body_cause, explained_in}
+use Rattle.idn2_cli.specs.Explained.{Explained, Unexplained, ByLabel, ByName, ByQuery, ByTable, ByRequest, ByTest, body_cause, explained_in, validity_cause}
 use Rattle.idn2_cli.specs.Transcript.{Refuses, line_pieces, piece_in}
 use Rattle.idn2_cli.specs.declared.refusals.cause.LineCause.{LineCause}
 use Rattle.idn2_cli.specs.declared.refusals.cause.LineCause.TheVariants.{Byte, LongLine, OfLabel, OfALabel, OfName, OfQuery}
@@ -38,10 +39,16 @@ abbrev pub IsOutsideCause : TableValue → List ℕ → Cause → Type 0
 IsOutsideCause table label cause =
     (place : ℕ) × IsFurthest table label place × (place < length label) × (cause ≡ Point place (slice_index label place))
 
+-- of a label that is made of sources of a ruleset and isn't valid: a source whose condition fails, or a demand (RFC 7940,
+-- sections 6.3 and 7)
+abbrev pub IsInvalidCause : TableValue → List ℕ → LineCause → Type 0
+IsInvalidCause table label cause = IsOf (validity_cause table label) (validity_causes.IsCause table label) cause
+
 -- of a label under a table
-abbrev pub IsTableCause : TableValue → List ℕ → Refusal → Cause → Type 0
-IsTableCause table label NotInTable cause = IsOutsideCause table label cause
-IsTableCause table label refusal cause = IsCause label refusal cause
+abbrev pub IsTableCause : TableValue → List ℕ → Refusal → LineCause → Type 0
+IsTableCause table label NotInTable cause = IsOf OfLabel (IsOutsideCause table label) cause
+IsTableCause table label NotValid cause = IsInvalidCause table label cause
+IsTableCause table label refusal cause = IsOf OfLabel (IsCause label refusal) cause
 
 -- of the code points of a line
 abbrev pub IsPointsCause : Explained → List ℕ → Refusal → LineCause → Type 0
@@ -49,8 +56,8 @@ IsPointsCause Unexplained points refusal cause = ⊥
 IsPointsCause ByLabel points refusal cause = IsRegisteredCause points refusal cause
 IsPointsCause ByName points refusal cause = IsOf OfName (IsNameCause points refusal) cause
 IsPointsCause (ByQuery std3) points refusal cause = IsOf OfQuery (IsQueryCause (utf8_of points) std3 refusal) cause
-IsPointsCause (ByTable table) points refusal cause = IsOf OfLabel (IsTableCause table points refusal) cause
-IsPointsCause (ByRequest table) points refusal cause = IsOf OfLabel (IsTableCause table (requested_label points) refusal) cause
+IsPointsCause (ByTable table) points refusal cause = IsTableCause table points refusal cause
+IsPointsCause (ByRequest table) points refusal cause = IsTableCause table (requested_label points) refusal cause
 IsPointsCause ByTest points refusal cause = IsOf OfLabel (IsCause points refusal) cause
 
 -- the first byte that no UTF-8 goes on with (RFC 3629, section 3)
@@ -63,12 +70,12 @@ IsLineCause how None refusal cause = cause ≡ LongLine
 IsLineCause how (Some bytes) refusal cause =
     ((is_utf8 bytes ≡ false) × IsBadByte bytes cause) ⊎ ((is_utf8 bytes ≡ true) × IsPointsCause how (chars bytes) refusal cause)
 
--- a refused line is told with this cause, where causes are wanted, and with no other. Each has one but an empty line, a name of which
--- ToASCII tells no more than that it is none (UTS 46, section 4.2), and a label that isn't valid under a ruleset
+-- a refused line is told with this cause, where causes are wanted, and with no other. Each has one but an empty line, and a name of
+-- which ToASCII tells no more than that it is none (UTS 46, section 4.2)
 pub record IsExplained (mode : Mode) (o : Settings) (table : TableValue) (line : Numbered) (refusal : Refusal) : Type 0 where
   pub exactly : (cause : LineCause) →
       (body_cause (explained_in mode o table) line.body refusal ≡ Some cause) ↔ IsLineCause (explained_in mode o table) line.body refusal cause
-  pub always : refusal ≢ Empty → refusal ≢ LookupInvalid → refusal ≢ NotValid → body_cause (explained_in mode o table) line.body refusal ≢ None
+  pub always : refusal ≢ Empty → refusal ≢ LookupInvalid → body_cause (explained_in mode o table) line.body refusal ≢ None
   pub told : (cause : LineCause) → IsLineCause (explained_in mode o table) line.body refusal cause →
       line_pieces o.form (explained_in mode o table) (mode_answer mode o table) line ≡ piece_in o.form (Refuses line refusal (Some cause)) ∷ []
 

@@ -1,5 +1,5 @@
 -- Lines that a mode answers without memory.
-use Rattle.std.specs.Prelude.{ℕ, Bool, true, false, List, chars, All, IsAscii, Option, Some, None, Ok, Err, ◌≢◌}
+use Rattle.std.specs.Prelude.{ℕ, Bool, true, false, List, chars, All, Option, Some, None, Ok, Err, ◌≢◌}
 use Rattle.idna.specs.Labels.{labels_of}
 use Rattle.idn_label.specs.FirstFault.{first_fault}
 use Rattle.idn_label.specs.Memory.{NeedsNoMemory, LooksUpWithoutMemory, RegistersWithoutMemory, DecodesWithoutMemory}
@@ -11,9 +11,9 @@ use Rattle.idn2_options.specs.Settings.{Settings}
 use Rattle.idn2_options.specs.declared.command_line.mode.Mode.{Mode}
 use Rattle.idn2_options.specs.declared.command_line.mode.Mode.TheVariants.{Lookup, Register, Decode, Variants, Jump, CheckTable}
 
--- the bytes of a name in ASCII of which each label is decoded without memory
+-- the bytes of a name of which each label is decoded without memory
 abbrev pub DecodesLineWithoutMemory : List ℕ → Type 0
-DecodesLineWithoutMemory name = IsAscii name × All DecodesWithoutMemory (labels_of name)
+DecodesLineWithoutMemory name = All DecodesWithoutMemory (labels_of name)
 
 -- a label that is tested without memory, and has a fault (RFC 5891, section 4.2)
 abbrev pub IsRefusedWithoutMemory : List ℕ → Type 0

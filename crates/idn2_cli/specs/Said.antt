@@ -28,7 +28,7 @@ pub data Said : Type 0 where
 
 -- ---- as a line of text
 
--- the third field of a variant's line (RFC 7940, section 7.3), behind a tab
+-- the third field of a variant's line (RFC 7940, section 7.3), after a tab
 abbrev pub disposition_field : Option Disposition → List ℕ
 disposition_field None = []
 disposition_field (Some disposition) = 9 ∷ disposition_text disposition

@@ -3,10 +3,10 @@ use Rattle.std.specs.Prelude.{ℕ, nat_le, Bool, ◌&&◌, List, [], take, drop,
 use Rattle.std.specs.List.{list_all}
 use Rattle.std.specs.Option.{option_map}
 use Rattle.variant_table.specs.declared.fault.TableFault.{TableFault}
-use Rattle.variant_table.specs.declared.place.FaultPlace.{FaultPlace}
-use Rattle.variant_table.specs.declared.place.FaultPlace.TheVariants.{Lexeme}
+use Rattle.table_cause.specs.declared.place.FaultPlace.{FaultPlace}
+use Rattle.table_cause.specs.declared.place.FaultPlace.TheVariants.{Lexeme}
 use Rattle.variant_table.specs.declared.version.Notation.{Notation}
-use Rattle.variant_table.specs.FaultPlaces.{fault_place, faulty_line}
+use Rattle.table_cause.specs.FaultPlaces.{fault_place, faulty_line}
 use Rattle.idn2_cli.specs.declared.refusals.cause.LineCause.{LineCause}
 use Rattle.idn2_cli.specs.declared.refusals.cause.LineCause.TheVariants.{OfTable}
 

@@ -17,7 +17,7 @@ refused kind rows Bad is = ap (λ test. cond test shown bad) is.0
 refused kind rows (Show text) is = ap (λ test. cond test shown bad) is
 refused kind rows Memory is = tt
 
--- want of memory is told as such
+-- lack of memory is told as such
 no_memory : (answer : Answer) (kind : ErrorKind) (usage : Usage) → kind ≡ OutOfMemory → IsUsage kind usage → IsAnswer answer (Err usage)
 no_memory answer kind Bad memory is = absurd (is.1 memory)
 no_memory answer kind (Show text) memory is = absurd (let bad : false ≡ true = subst (λ k. asks_to_show k ≡ true) memory is in cc)

@@ -1,12 +1,13 @@
 -- The mode that the words name.
 use Rattle.std.proofs.Common.{◌≡◌, ◌≢◌, ◌&&◌, ◌||◌, ℕ, Bool, List, true, false, cond, not, ap, refl, sym, ◌∙◌, arith}
+use Rattle.std.proofs.lemmas.Bool.{false_from_ne_true}
 use Rattle.clap.specs.Words.{Row}
 use Rattle.idn2_options.specs.Laws.{is_named}
 use Rattle.idn2_options.specs.Words.{has_flag, is_allowed, lists, mode_of}
 use Rattle.idn2_options.specs.declared.command_line.arguments.TheConstants.{JUMP}
 use Rattle.idn2_options.specs.declared.command_line.mode.Mode.{Mode}
 use Rattle.idn2_options.specs.declared.command_line.mode.Mode.TheVariants.{Lookup, Register, Decode, Variants, Jump, CheckTable}
-use Rattle.idn2_options.proofs.SuitLemmas.{IsOne, mode_by, no_weight, false-where, rules, variants-alone, check-alone}
+use Rattle.idn2_options.proofs.SuitLemmas.{IsOne, mode_by, no_weight, rules, variants-alone, check-alone}
 
 lookup-alone : (l r d v j k : Bool) → IsOne l r d v k → l ≡ true → mode_by r d v j k ≡ Lookup
 lookup-alone l r d v j k one is =
@@ -52,4 +53,4 @@ mode_of-none rows none =
 
 pub not_allowed : (rows : List Row) (mode other : Mode) → mode ≢ other → is_named mode rows ≡ true → is_named other rows ≡ true → is_allowed rows ≡ false
 not_allowed rows mode other differ first second =
-    false-where (is_allowed rows) (λ allowed. differ (sym (mode_of-named rows mode allowed first) ∙ mode_of-named rows other allowed second))
+    false_from_ne_true (is_allowed rows) (λ allowed. differ (sym (mode_of-named rows mode allowed first) ∙ mode_of-named rows other allowed second))

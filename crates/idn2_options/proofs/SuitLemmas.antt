@@ -3,7 +3,7 @@ use Rattle.std.proofs.Common.{◌≡◌, ◌≢◌, ◌+◌, ◌≤◌, ◌&&◌
 use Rattle.std.specs.Prelude.{count_by, option_and_then, unwrap_or}
 use Rattle.std.specs.Option.{option_or}
 use Rattle.std.specs.Str.{bytes_eq, chars}
-use Rattle.std.proofs.lemmas.Bool.{and_parts}
+use Rattle.std.proofs.lemmas.Bool.{and_parts, false_from_ne_true, not-true}
 use Rattle.std.proofs.lemmas.Bool.Decides.{nat_tests}
 use Rattle.std.proofs.lemmas.Str.{chars-nil}
 use Rattle.clap.specs.Words.{Row, Text}
@@ -38,10 +38,6 @@ no-strings [] none = refl
 no-strings (s ∷ ss) none =
     let bad : length (s ∷ ss) ≡ 0 = no-length (length (s ∷ ss)) none in
     absurd (omega arith)
-
-pub false-where : (b : Bool) → (b ≡ true → ⊥) → b ≡ false
-false-where true never = absurd (never refl)
-false-where false never = refl
 
 second-test : (a b : Bool) → a || b ≡ true → a ≡ false → b ≡ true
 second-test true b either first = absurd (let bad : true ≡ false = first in cc)
@@ -115,17 +111,13 @@ both-false true true never = absurd (never refl refl)
 both-false true false never = refl
 both-false false b never = refl
 
-no_jump : (j : Bool) → not j ≡ true → j ≡ false
-no_jump true none = absurd (let bad : false ≡ true = none in cc)
-no_jump false none = refl
-
 -- the mode is another than the listing
 no-listing : (rows : List Row) → Rules rows → mode_of rows ≢ Variants → (lists rows && not (has_flag JUMP.now rows)) ≡ false
 no-listing rows r other = both-false (lists rows) (not (has_flag JUMP.now rows)) (λ named listed.
-    other (variants-alone _ _ _ _ _ _ r.one named ∙ ap (λ (j : Bool). cond j Jump Variants) (no_jump (has_flag JUMP.now rows) listed)))
+    other (variants-alone _ _ _ _ _ _ r.one named ∙ ap (λ (j : Bool). cond j Jump Variants) (not-true (has_flag JUMP.now rows) listed)))
 
 no-check : (rows : List Row) → Rules rows → mode_of rows ≢ CheckTable → checks rows ≡ false
-no-check rows r other = false-where (checks rows) (λ named. other (check-alone _ _ _ _ _ _ r.one named))
+no-check rows r other = false_from_ne_true (checks rows) (λ named. other (check-alone _ _ _ _ _ _ r.one named))
 
 -- nothing that bounds a listing is given
 record NoBounds (rows : List Row) : Type 0 where
@@ -170,17 +162,17 @@ no-bounds rows r other =
 untried : (rows : List Row) → Rules rows → value_of AMONG.now rows ≢ None
     → (unwrap_or (option_and_then count_of (value_of TRIES.now rows)) 1000000 ≡ 1000000) × (option_and_then steps_of (value_of STEPS.now rows) ≡ None)
 untried rows r named =
-    let given : not (has_value AMONG.now rows) ≡ false = false-where (not (has_value AMONG.now rows)) (λ none. named (not-given (value_of AMONG.now rows) (no_jump (has_value AMONG.now rows) none))) in
+    let given : not (has_value AMONG.now rows) ≡ false = false_from_ne_true (not (has_value AMONG.now rows)) (λ none. named (not-given (value_of AMONG.now rows) (not-true (has_value AMONG.now rows) none))) in
     let bounds : Bool = not (has_value TRIES.now rows) && not (has_value STEPS.now rows) in
     let rest = and_parts bounds (not (bytes_eq (file_of rows) (among_of rows)))
     (second-test (not (has_value AMONG.now rows)) (bounds && not (bytes_eq (file_of rows) (among_of rows))) r.among given) in
     let both = and_parts (not (has_value TRIES.now rows)) (not (has_value STEPS.now rows)) rest.0 in (
-      ap (λ (o : Option Text). unwrap_or (option_and_then count_of o) 1000000) (not-given (value_of TRIES.now rows) (no_jump (has_value TRIES.now rows) both.0)),
-      ap (option_and_then steps_of) (not-given (value_of STEPS.now rows) (no_jump (has_value STEPS.now rows) both.1)),
+      ap (λ (o : Option Text). unwrap_or (option_and_then count_of o) 1000000) (not-given (value_of TRIES.now rows) (not-true (has_value TRIES.now rows) both.0)),
+      ap (option_and_then steps_of) (not-given (value_of STEPS.now rows) (not-true (has_value STEPS.now rows) both.1)),
     )
 
 no-variants : (rows : List Row) → Rules rows → mode_of rows ≢ Variants → mode_of rows ≢ Jump → lists rows ≡ false
-no-variants rows r other jump = false-where (lists rows) (λ named. either (has_flag JUMP.now rows) (variants-alone _ _ _ _ _ _ r.one named))
+no-variants rows r other jump = false_from_ne_true (lists rows) (λ named. either (has_flag JUMP.now rows) (variants-alone _ _ _ _ _ _ r.one named))
   where
     either : (j : Bool) → mode_of rows ≡ cond j Jump Variants → ⊥
     either true is = jump is
@@ -203,7 +195,7 @@ alone : (rows : List Row) → Rules rows → mode_of rows ≡ CheckTable → str
 alone rows r is =
     let named = check-named (has_flag REGISTER.now rows) (has_flag DECODE.now rows) (lists rows) (has_flag JUMP.now rows) (checks rows) is in
     let none = second-test (not (checks rows)) (not (has_strings rows)) r.alone (ap not named) in
-    no-strings (strings_of rows) (false-where (has_strings rows) (λ some. let bad : false ≡ true = ap not (sym some) ∙ none in cc))
+    no-strings (strings_of rows) (false_from_ne_true (has_strings rows) (λ some. let bad : false ≡ true = ap not (sym some) ∙ none in cc))
 
 pub suits_mode : (rows : List Row) → is_allowed rows ≡ true → SuitsMode (settings_of rows)
 suits_mode rows allowed =

@@ -48,7 +48,7 @@ fn assert_listed(
 ) -> Result<(), Fail> {
     let got = listed(alloc, net, after)?;
     let want = points(alloc, want)?;
-    assert_eq!(rt; got.as_slice(), want.as_slice(), "behind {after}");
+    assert_eq!(rt; got.as_slice(), want.as_slice(), "after {after}");
     Ok(())
 }
 
@@ -86,7 +86,7 @@ fn the_longest_candidates(rt: HostRuntime) -> Result<(), Fail> {
 }
 
 /// The last of so many candidates, and how many there were. A listing that ended has ended for good.
-fn behind(alloc: Global, net: &Net, count: u64) -> Result<(Vec<u32>, u64), Fail> {
+fn after_steps(alloc: Global, net: &Net, count: u64) -> Result<(Vec<u32>, u64), Fail> {
     let mut cursor = Cursor::new(alloc, net, &[])?;
     let mut given: u64 = 0;
     for _ in 0..count {
@@ -97,14 +97,14 @@ fn behind(alloc: Global, net: &Net, count: u64) -> Result<(Vec<u32>, u64), Fail>
     Ok((cursor.last().to_vec(alloc)?, given))
 }
 
-/// Behind so many steps stands this candidate, and so many were given.
-fn assert_behind(
+/// After so many steps stands this candidate, and so many were given.
+fn assert_after(
     rt: &impl Abort,
     alloc: Global,
     net: &Net,
     (count, want, want_given): (u64, &str, u64),
 ) -> Result<(), Fail> {
-    let (last, given) = behind(alloc, net, count)?;
+    let (last, given) = after_steps(alloc, net, count)?;
     let want = points(alloc, want)?;
     assert_eq!(rt;
         (last.as_slice(), given),
@@ -120,7 +120,7 @@ fn labels_that_spell_more_than_a_memory_holds(rt: HostRuntime) -> Result<(), Fai
     let net = net(rt.alloc(), SHARP_S, LONG)?;
     let second = "sssssssssssssssssssssssssssssssssssssssssssssssssssssssssssssß";
     for (count, last) in [(1, LONG), (2, second)] {
-        assert_behind(&rt, rt.alloc(), &net, (count, last, count))?;
+        assert_after(&rt, rt.alloc(), &net, (count, last, count))?;
     }
     Ok(())
 }
@@ -129,7 +129,7 @@ fn labels_that_spell_more_than_a_memory_holds(rt: HostRuntime) -> Result<(), Fai
 #[test]
 fn a_thousand_candidates(rt: HostRuntime) -> Result<(), Fail> {
     let net = net(rt.alloc(), SHARP_S, LONG)?;
-    let (_last, given) = behind(rt.alloc(), &net, 1000)?;
+    let (_last, given) = after_steps(rt.alloc(), &net, 1000)?;
     assert_eq!(&rt; (given, net.shortest()), (1000, 32));
     Ok(())
 }
@@ -138,7 +138,7 @@ fn a_thousand_candidates(rt: HostRuntime) -> Result<(), Fail> {
 fn an_ended_listing_stays_ended(rt: HostRuntime) -> Result<(), Fail> {
     let net = net(rt.alloc(), SHARP_S, "sss")?;
     for count in 3..6 {
-        assert_behind(&rt, rt.alloc(), &net, (count, "ßs", 3))?;
+        assert_after(&rt, rt.alloc(), &net, (count, "ßs", 3))?;
     }
     Ok(())
 }

@@ -16,7 +16,7 @@ const LETTERS: &[u8] = b"0061|0062\n0062|0061\n0063\n006F\n007A\n";
 /// 62 times `a`, which spells 2^62 labels.
 const MANY: &str = "aaaaaaaaaaaaaaaaaaaaaaaaaaaaaaaaaaaaaaaaaaaaaaaaaaaaaaaaaaaaaa";
 
-/// The registered labels after a text that a label spells, each with a space behind it, and how many jumps that took.
+/// The registered labels after a text that a label spells, each with a space after it, and how many jumps that took.
 fn found(
     alloc: Global,
     table: &[u8],

@@ -4,14 +4,14 @@
 use crate::a_labels_of_others::{LIBIDN2, RFC_3492};
 use crate::label_calls::{assert_text, letters, points_of};
 use crate::row::shown;
-use idn_label::{DecodedLabel, decode_ascii, decode_name};
+use idn_label::{DecodedLabel, decode_name, decode_utf8};
 use idn_text::Refusal;
 use std::alloc::Global;
 use std::process::Abort;
 use std::test::Fail;
 
 /// Names with their U-labels, or their first refusal.
-const CASES: [(&str, Result<&str, Refusal>); 31] = [
+const CASES: [(&str, Result<&str, Refusal>); 33] = [
     // A-labels beside other labels, empty ones too.
     ("xn--fiqs8s.example", Ok("中国.example")),
     ("www.xn--fa-hia.xn--fiqs8s", Ok("www.faß.中国")),
@@ -29,6 +29,9 @@ const CASES: [(&str, Result<&str, Refusal>); 31] = [
     ("www.Example-1.COM", Ok("www.Example-1.COM")),
     ("Fa..A_b.", Ok("Fa..A_b.")),
     ("xn-.axn--b._a", Ok("xn-.axn--b._a")),
+    // Labels past ASCII beside A-labels.
+    ("faß.xn--fiqs8s.Ü", Ok("faß.中国.Ü")),
+    ("中国.xn--a", Err(Refusal::Disallowed)),
     // The mark may compose with other letters than the one before it.
     ("xn--q-xbb.de", Ok("q\u{301}.de")),
     ("xn--11b2f", Ok("\u{915}\u{93C}")),
@@ -38,7 +41,7 @@ const CASES: [(&str, Result<&str, Refusal>); 31] = [
     ("xn--abc-", Err(Refusal::BadALabel)),
     ("a.XN--ABC-.de", Err(Refusal::BadALabel)),
     ("xn--99999999", Err(Refusal::BadALabel)),
-    // Past ASCII behind the prefix, and letters whose last eight bits are those of a letter of ASCII.
+    // Past ASCII after the prefix, and letters whose last eight bits are those of a letter of ASCII.
     ("xn--\u{161}", Err(Refusal::BadALabel)),
     ("xn--fa-hi\u{161}.de", Err(Refusal::BadALabel)),
     ("a.XN--FA-HI\u{161}", Err(Refusal::BadALabel)),
@@ -72,13 +75,13 @@ fn decoded(alloc: Global, name: &str) -> Result<Result<String, Refusal>, Fail> {
     }
 }
 
-/// What a name in ASCII is decoded to by octets.
+/// What a name is decoded to by octets.
 fn decoded_octets(alloc: Global, name: &str) -> Result<Result<String, Refusal>, Fail> {
-    if !name.is_ascii() || name.len() > 1024 {
-        return Err("a name that is not ASCII, or too long")?;
+    if name.len() > 1024 {
+        return Err("a name of more than 1,024 octets")?;
     }
     let mut room = [0; 4096];
-    match decode_ascii(alloc, name.as_bytes(), &mut DecodedLabel::new(), &mut room) {
+    match decode_utf8(alloc, name.as_bytes(), &mut DecodedLabel::new(), &mut room) {
         Ok(len) => Ok(Ok(shown(alloc, &room[..len])?)),
         Err(refusal) => Ok(Err(refusal)),
     }
@@ -93,10 +96,8 @@ fn decodes(
 ) -> Result<(), Fail> {
     let answer = decoded(alloc, name)?;
     assert_text(rt, &answer, expected, name);
-    if name.is_ascii() {
-        let answer = decoded_octets(alloc, name)?;
-        assert_text(rt, &answer, expected, name);
-    }
+    let answer = decoded_octets(alloc, name)?;
+    assert_text(rt, &answer, expected, name);
     Ok(())
 }
 
@@ -106,7 +107,7 @@ fn a_labels_of_many_scripts_are_decoded(rt: HostRuntime) -> Result<(), Fail> {
     have_labels(&rt, rt.alloc(), &LIBIDN2)
 }
 
-/// A-labels, each behind the label to which it is decoded.
+/// A-labels, each after the label to which it is decoded.
 fn have_labels(rt: &impl Abort, alloc: Global, pairs: &[(&str, &str)]) -> Result<(), Fail> {
     for (label, a_label) in pairs {
         decodes(rt, alloc, a_label, Ok(*label))?;
@@ -143,4 +144,15 @@ fn the_longest_a_label_is_decoded(rt: HostRuntime) -> Result<(), Fail> {
     let longest = "xn--aaaaaaaaaaaaaaaaaaaaaaaaaaaaaaaaaaaaaaaaaaaaaaaaaaaaaaa-une";
     let label = letters(rt.alloc(), 55, "ß")?;
     decodes(&rt, rt.alloc(), longest, Ok(label.as_str()))
+}
+
+#[test]
+fn bytes_that_are_no_utf8_are_refused_before_a_label(rt: HostRuntime) -> Result<(), Fail> {
+    let mut label = DecodedLabel::new();
+    let mut room = [0; 32];
+    for bytes in [b"xn--a.\xFF", b"\xC3.xn--a"] {
+        let answer = decode_utf8(rt.alloc(), bytes, &mut label, &mut room);
+        assert_eq!(rt; answer, Err(Refusal::NotUtf8), "{bytes:?}");
+    }
+    Ok(())
 }

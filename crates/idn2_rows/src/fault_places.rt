@@ -1,6 +1,7 @@
 //! Where a line of a table has its first fault: a byte of the line, counted from 0.
 use std::test::Fail;
-use variant_table::{FaultPlace, Notation, Table, fault_place};
+use table_cause::{FaultPlace, fault_place};
+use variant_table::{Notation, Table};
 
 /// Lines of version 1 that are no entry: the lexeme that can't stand there, or the end.
 const LEXEMES: [(&str, FaultPlace); 20] = [
@@ -62,7 +63,7 @@ fn places_in_tables_of_version_2(rt: HostRuntime) -> Result<(), Fail> {
 }
 
 /// Rulesets, by the places of their lines. None is told of a first line that isn't the version line.
-const RULESETS: [(&str, Option<FaultPlace>); 13] = [
+const RULESETS: [(&str, Option<FaultPlace>); 17] = [
     ("0061", None),
     ("", None),
     ("%version 3\n%version 3", Some(FaultPlace::Lexeme(0, 8))),
@@ -80,7 +81,14 @@ const RULESETS: [(&str, Option<FaultPlace>); 13] = [
     ("%version 3\n%rule r @C _", Some(FaultPlace::Lexeme(8, 2))),
     ("%version 3\n%tag t\n%tag t", Some(FaultPlace::Lexeme(5, 1))),
     ("%version 3\n!!0061", Some(FaultPlace::Lexeme(1, 1))),
-    ("%version 3\n0061 when r", Some(FaultPlace::Lexeme(5, 4))),
+    ("%version 3\n0061 when r", Some(FaultPlace::Lexeme(10, 1))),
+    ("%version 3\n0061 when r x", Some(FaultPlace::Lexeme(12, 1))),
+    ("%version 3\n0061 as t,t", Some(FaultPlace::Lexeme(10, 1))),
+    ("%version 3\n0061 as", Some(FaultPlace::End(7))),
+    (
+        "%version 3\n%rule r _\n%rule s _\n0061|0063 when r:0063 when s:0064:0064",
+        Some(FaultPlace::Variant(34)),
+    ),
     (
         "%version 3\n !0061..007B",
         Some(FaultPlace::InRange(2, 0x7B)),

@@ -300,7 +300,7 @@ fn read_fault_stays(rt: HostRuntime) -> Result<(), Fail> {
 
 /// The last bytes of the input, without a line feed, are not answered where a read fails after them.
 #[test]
-fn read_fails_behind_half_a_line(rt: HostRuntime) -> Result<(), Fail> {
+fn read_fails_after_half_a_line(rt: HostRuntime) -> Result<(), Fail> {
     for (piece, fail_at) in [(1, 6), (ROOM, 2)] {
         let given = Given {
             words: VARIANTS,

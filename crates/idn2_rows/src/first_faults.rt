@@ -9,10 +9,10 @@ type Case = (&'static str, &'static [u32], Option<usize>);
 #[test]
 fn joiners(rt: HostRuntime) {
     let cases: [Case; 4] = [
-        ("joiner behind a virama", &[0x915, 0x94D, 0x200D], None),
+        ("joiner after a virama", &[0x915, 0x94D, 0x200D], None),
         ("non-joiner between Latin", &[0x61, 0x200C, 0x62], Some(1)),
         (
-            "the second joiner stands behind a joiner",
+            "the second joiner stands after a joiner",
             &[0x915, 0x94D, 0x200D, 0x200D],
             Some(3),
         ),
@@ -34,8 +34,8 @@ fn other_contexts(rt: HostRuntime) {
         ("middle dot between l", &[0x6C, 0xB7, 0x6C], None),
         ("A.3, middle dot", &[0x61, 0xB7, 0x6C], Some(1)),
         ("A.4, keraia before Latin", &[0x375, 0x61], Some(0)),
-        ("A.5, geresh behind Latin", &[0x61, 0x5F3], Some(1)),
-        ("A.6, gershayim behind Latin", &[0x61, 0x5F4], Some(1)),
+        ("A.5, geresh after Latin", &[0x61, 0x5F3], Some(1)),
+        ("A.6, gershayim after Latin", &[0x61, 0x5F4], Some(1)),
         ("A.7, katakana middle dot", &[0x61, 0x30FB], Some(1)),
         (
             "A.8, the first digit is of the other kind",

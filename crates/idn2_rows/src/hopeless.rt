@@ -8,15 +8,11 @@ type Case = (&'static str, &'static [u32], Option<usize>);
 /// RFC 5891, sections 4.2.3.1 and 4.2.3.2.
 const HYPHENS_AND_MARKS: [Case; 9] = [
     ("nothing", &[], None),
-    ("hyphens behind one letter", &[0x61, 0x2D, 0x2D], None),
-    (
-        "hyphens behind three",
-        &[0x61, 0x62, 0x63, 0x2D, 0x2D],
-        None,
-    ),
+    ("hyphens after one letter", &[0x61, 0x2D, 0x2D], None),
+    ("hyphens after three", &[0x61, 0x62, 0x63, 0x2D, 0x2D], None),
     ("a hyphen", &[0x2D], Some(1)),
     (
-        "hyphens behind two letters",
+        "hyphens after two letters",
         &[0x61, 0x62, 0x2D, 0x2D],
         Some(4),
     ),
@@ -27,15 +23,15 @@ const HYPHENS_AND_MARKS: [Case; 9] = [
     ),
     ("a mark", &[0x301], Some(1)),
     ("a spacing mark and a letter", &[0x903, 0x915], Some(1)),
-    ("a mark behind a letter", &[0x61, 0x301], None),
+    ("a mark after a letter", &[0x61, 0x301], None),
 ];
 
 /// RFC 5893, section 2, and RFC 5892, appendices A.8 and A.9.
 const DIRECTIONS: [Case; 15] = [
-    ("Hebrew behind Latin", &[0x61, 0x5D0], Some(2)),
-    ("Latin behind Hebrew", &[0x5D0, 0x61], Some(2)),
+    ("Hebrew after Latin", &[0x61, 0x5D0], Some(2)),
+    ("Latin after Hebrew", &[0x5D0, 0x61], Some(2)),
     ("Latin in Hebrew", &[0x5D0, 0x5D1, 0x61, 0x5D2], Some(3)),
-    ("Hebrew behind a digit", &[0x31, 0x5D0], Some(2)),
+    ("Hebrew after a digit", &[0x31, 0x5D0], Some(2)),
     ("both kinds of numbers", &[0x627, 0x31, 0x660], Some(3)),
     ("both in the other order", &[0x627, 0x660, 0x31], Some(3)),
     ("both kinds of Arabic digits", &[0x660, 0x6F0], Some(1)),

@@ -19,7 +19,7 @@ fn joiners(rt: HostRuntime) {
             false,
         ),
         (
-            "joiner behind a virama",
+            "joiner after a virama",
             &[0x915, 0x94D, 0x200D, 0x937],
             true,
         ),
@@ -38,7 +38,7 @@ fn other_contexts(rt: HostRuntime) {
         ("katakana middle dot in katakana", &[0x30A2, 0x30FB], true),
         ("keraia before Greek", &[0x375, 0x3B1], true),
         ("keraia alone", &[0x375], false),
-        ("geresh behind Hebrew", &[0x5D0, 0x5F3], true),
+        ("geresh after Hebrew", &[0x5D0, 0x5F3], true),
         ("two kinds of Arabic digits", &[0x627, 0x660, 0x6F0], false),
     ];
     for (case, label, want) in cases {
@@ -50,11 +50,11 @@ fn other_contexts(rt: HostRuntime) {
 #[test]
 fn bidi_rule(rt: HostRuntime) {
     let cases: [Case; 7] = [
-        ("a digit behind Hebrew", &[0x5D0, 0x31], true),
+        ("a digit after Hebrew", &[0x5D0, 0x31], true),
         ("two kinds of digits", &[0x627, 0x31, 0x660], false),
         ("a hyphen in Hebrew", &[0x5D0, 0x2D, 0x5D1], true),
-        ("a hyphen behind Hebrew", &[0x5D0, 0x2D], false),
-        ("a mark behind Hebrew", &[0x5D0, 0x5B0], true),
+        ("a hyphen after Hebrew", &[0x5D0, 0x2D], false),
+        ("a mark after Hebrew", &[0x5D0, 0x5B0], true),
         ("a digit before Hebrew", &[0x31, 0x5D0], false),
         ("no right-to-left script", &[0x61, 0x31], true),
     ];
@@ -68,7 +68,7 @@ fn bidi_rule(rt: HostRuntime) {
 fn leading_marks(rt: HostRuntime) {
     let cases: [Case; 3] = [
         ("acute first", &[0x301, 0x61], true),
-        ("acute behind a letter", &[0x61, 0x301], false),
+        ("acute after a letter", &[0x61, 0x301], false),
         ("no code point", &[], false),
     ];
     for (case, label, want) in cases {

@@ -51,6 +51,8 @@ mod registration;
 #[cfg(test)]
 mod row;
 #[cfg(test)]
+mod ruleset_labels;
+#[cfg(test)]
 mod ruleset_tables;
 #[cfg(test)]
 mod sizes;

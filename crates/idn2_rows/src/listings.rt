@@ -123,7 +123,7 @@ const WHOLE: [Row; 13] = [
     },
 ];
 
-/// Listings with a start, a limit or a number of tries, for each line anew. Under the table `0061|002D` the labels
+/// Listings with a start, a limit or a number of tries, which begin again with each line. Under the table `0061|002D` the labels
 /// tested of `aaa` are `a--`, `a-a`, `aa-` and `aaa`: the others that it spells begin with a hyphen.
 const BOUNDED: [Row; 24] = [
     // A start that the label does not spell.
@@ -333,7 +333,7 @@ const BOUNDED: [Row; 24] = [
         messages: "",
         status: 0,
     },
-    // The limit counts for each line anew.
+    // The limit begins again with each line.
     Row {
         words: &["--variants", "t", "--limit", "1"],
         table: b"0061|002D\n",

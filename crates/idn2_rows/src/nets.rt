@@ -134,10 +134,10 @@ fn labels_that_are_spelled_one_after_the_other(rt: HostRuntime) -> Result<(), Fa
     Ok(())
 }
 
-/// Whether a label spells so many letters a with these code points behind them.
-fn spells_letters(alloc: Global, net: &Net, count: usize, behind: &[u32]) -> Result<bool, Fail> {
+/// Whether a label spells so many letters a with these code points after them.
+fn spells_letters(alloc: Global, net: &Net, count: usize, after: &[u32]) -> Result<bool, Fail> {
     let mut other: Vec<u32> = vec![in alloc; 0x61; count]?;
-    other.extend_from_slice(behind)?;
+    other.extend_from_slice(after)?;
     Ok(net.spells(alloc, &other)?)
 }
 

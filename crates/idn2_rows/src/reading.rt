@@ -21,7 +21,7 @@ const NEVER: Stop = Stop {
     once: false,
 };
 
-/// The lines of an input, each as its body behind a colon, a long one as its letter, `#` and its length, one that is
+/// The lines of an input, each as its body after a colon, a long one as its letter, `#` and its length, one that is
 /// too long as `!`; then `.` at the end or `F` at a fault, each as often as two further calls give it.
 fn spelled_lines(alloc: Global, input: &[u8], stop: Stop) -> Result<String, Fail> {
     let reader = StopReader::new(input, stop.piece.max(1), stop.fail_at, stop.once);
@@ -141,7 +141,7 @@ fn lines_across_reads(rt: HostRuntime) -> Result<(), Fail> {
         &[(1022, "\n"), (3, "\n")],
         &[(1023, "\n"), (3, "\n")],
         &[(1024, "\n"), (3, "\n")],
-        // A carriage return is the last byte, and so is the line feed behind one.
+        // A carriage return is the last byte, and so is the line feed after one.
         &[(1023, "\r\n"), (3, "\n")],
         &[(1022, "\r\n"), (3, "\n")],
         // Lines that are as long as may be begin just before the end of a read, and longer ones.
@@ -166,7 +166,7 @@ fn lines_across_reads(rt: HostRuntime) -> Result<(), Fail> {
     Ok(())
 }
 
-/// Puts 15 lines of 1,024 bytes behind an input and these lines behind them, and how they are spelled behind what is
+/// Puts 15 lines of 1,024 bytes after an input and these lines after them, and how they are spelled after what is
 /// wanted.
 fn push_lines(
     alloc: Global,
@@ -183,7 +183,7 @@ fn push_lines(
     want.push_str("...")
 }
 
-/// Puts a line of so many times a letter behind an input, and how it is spelled behind what is wanted.
+/// Puts a line of so many times a letter after an input, and how it is spelled after what is wanted.
 fn push_line(
     alloc: Global,
     input: &mut Vec<u8>,

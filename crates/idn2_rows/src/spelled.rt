@@ -97,10 +97,10 @@ fn assert_next(
     after: &[u32],
 ) {
     let given = cursor.next_candidate();
-    assert_eq!(rt; given, want, "behind {after:?}");
+    assert_eq!(rt; given, want, "after {after:?}");
     let tests = cursor.edge_tests();
     let few = tests <= net.edges() * 256;
-    assert!(rt; few, "{tests} edges at {want:?} behind {after:?}");
+    assert!(rt; few, "{tests} edges at {want:?} after {after:?}");
 }
 
 /// The length of the shortest label. 64 where each is longer.

@@ -1,4 +1,4 @@
-//! The accepted labels of a net: how tries are counted, what is passed over, and what want of memory leaves.
+//! The accepted labels of a net: how tries are counted, what is passed over, and what lack of memory leaves.
 ghost use Rattle.std.specs.Prelude.{◌≡◌, false, refl};
 ghost use Rattle.std.proofs.lemmas.Bool.{false≢true};
 ghost use Rattle.idn2_rows.specs.Filters.{begins_with, begins_otherwise, otherwise-refused};
@@ -29,9 +29,9 @@ impl Filter for BeginsWith {
 }
 
 /// Accepts the same labels, and calls all lists hopeless that begin differently.
-struct OnlyBehind(u32);
+struct OnlyAfter(u32);
 
-impl Filter for OnlyBehind {
+impl Filter for OnlyAfter {
     ghost accepted = { λ f v. begins_with f.0 v };
 
     ghost lost = { λ f w. begins_otherwise f.0 w };
@@ -167,11 +167,11 @@ fn hopeless_beginnings_are_passed_over(rt: HostRuntime) -> Result<(), Fail> {
         (("aaa", 3), ("ended", 3, "aaa")),
     ];
     for (from, want) in rows {
-        assert_found(&rt, rt.alloc(), &OnlyBehind(97), from, want)?;
+        assert_found(&rt, rt.alloc(), &OnlyAfter(97), from, want)?;
     }
     for after in ["", "-aa", "a"] {
         let none = ("ended", 7, after);
-        assert_found(&rt, rt.alloc(), &OnlyBehind(98), (after, 7), none)?;
+        assert_found(&rt, rt.alloc(), &OnlyAfter(98), (after, 7), none)?;
     }
     Ok(())
 }
@@ -184,7 +184,7 @@ fn assert_few_looks(rt: &impl Abort, alloc: Global, net: &Net) -> Result<(), Fai
         0,
         "a--------------------------------------------------------------",
     );
-    assert_goes_on(rt, alloc, &mut cursor, (&OnlyBehind(97), 1), found)?;
+    assert_goes_on(rt, alloc, &mut cursor, (&OnlyAfter(97), 1), found)?;
     let few = cursor.edge_tests() <= 256 * net.edges() * 3;
     assert!(rt; few, "{} edges were looked at", cursor.edge_tests());
     Ok(())
@@ -192,7 +192,7 @@ fn assert_few_looks(rt: &impl Abort, alloc: Global, net: &Net) -> Result<(), Fai
 
 /// Of 2 to the power of 63 labels, half of which begin with a hyphen, the first other one is found by two searches.
 #[test]
-fn all_behind_one_beginning_cost_one_search(rt: HostRuntime) -> Result<(), Fail> {
+fn all_after_one_beginning_cost_one_search(rt: HostRuntime) -> Result<(), Fail> {
     let label = "aaaaaaaaaaaaaaaaaaaaaaaaaaaaaaaaaaaaaaaaaaaaaaaaaaaaaaaaaaaaaaa";
     let net = net(rt.alloc(), HYPHENS, label)?;
     assert_few_looks(&rt, rt.alloc(), &net)

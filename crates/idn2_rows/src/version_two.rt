@@ -210,7 +210,7 @@ const SERVED: [Row; 5] = [
         messages: "",
         status: 0,
     },
-    // The listing begins behind a label, and ends at a blocked one.
+    // The listing begins after a label, and ends at a blocked one.
     Row {
         words: &["--variants", "t", "--after", "aa", "--limit", "2"],
         table: b"%version 2\r\n0061|!0062\n0061-0061|0062-0062\n",

@@ -25,6 +25,7 @@ use Rattle.idn_cause.specs.declared.a_label.ALabelCause.TheVariants.{NoCode, Oth
 use Rattle.idn_cause.specs.Causes.{cause_of, IsCause}
 use Rattle.idn_cause.specs.ALabelCauses.{past_ascii_or, past_ascii, code_fault, other_a_label, undecoded_cause, decoded_cause, cause_by_code, a_label_cause, IsCodeFault, IsDecodedCause, IsALabelCause}
 use Rattle.idn_cause.proofs.CauseLaws.{cause-is, fault-has_cause}
+use Rattle.idn_label.proofs.RequirementLemmas.{not_empty}
 
 -- ---- why a code stands for no label
 
@@ -54,9 +55,6 @@ undecodable code refusal some ascii none = by_decoded (decode code) (sym (rw (so
 some_code : (code : List ℕ) → (length code == 0) ≡ false → code ≢ []
 some_code code some is = let clash : true ≡ false = sym (eq-eqb (length code) 0 (ap length is)) ∙ some in cc
 
-some_length : (code : List ℕ) → code ≢ [] → (length code == 0) ≡ false
-some_length code some = false_from_ne_true (length code == 0) (λ h. some (nil_from_length code (eqb-true (length code) 0 h)))
-
 code_fault-none : (code : List ℕ) → (length code == 0) ≡ true → code_fault code ≡ NoCode
 code_fault-none code none = ap (λ b. cond b NoCode (past_ascii_or code (past_ascii code))) none
 
@@ -79,12 +77,12 @@ code_fault-is code refusal none = by_length (cases_Bool (length code == 0))
 code_fault-only : (code : List ℕ) (cause : ALabelCause) → IsCodeFault code cause → code_fault code ≡ cause
 code_fault-only code cause (inl empty) = code_fault-none code (eq-eqb (length code) 0 (ap length empty.0)) ∙ sym empty.1
 code_fault-only code cause (inr (inl past)) =
-    code_fault-some code (Some past.1.0) (some_length code past.0) ((past_ascii-is code past.1.0).1 past.1.1) ∙ sym past.1.2
+    code_fault-some code (Some past.1.0) (not_empty code past.0) ((past_ascii-is code past.1.0).1 past.1.1) ∙ sym past.1.2
 code_fault-only code cause (inr (inr other)) = by_place (past_ascii code) refl
   where
     by_place : (told : Option ℕ) → past_ascii code ≡ told → code_fault code ≡ cause
     by_place (Some place) is = absurd (ascii-none code place other.1 ((past_ascii-is code place).0 is))
-    by_place None is = code_fault-some code None (some_length code other.0) is ∙ sym other.3
+    by_place None is = code_fault-some code None (not_empty code other.0) is ∙ sym other.3
 
 -- such a code stands for no label
 code_fault-undecoded : (code label : List ℕ) (cause : ALabelCause) → IsCodeFault code cause → decoded_code code ≡ Ok label → ⊥
@@ -98,9 +96,9 @@ code_fault-undecoded code label cause fault is = by_fault fault
     by_fault (inl empty) = let clash : Err refusals.BadALabel ≡ Ok label = by_tests true (is_all_ascii code) (eq-eqb (length code) 0 (ap length empty.0)) refl in cc
     by_fault (inr (inl past)) =
         let other : is_all_ascii code ≡ false = false_from_ne_true (is_all_ascii code) (λ h. ascii-none code past.1.0 h past.1.1) in
-        let clash : Err refusals.BadALabel ≡ Ok label = by_tests false false (some_length code past.0) other in cc
+        let clash : Err refusals.BadALabel ≡ Ok label = by_tests false false (not_empty code past.0) other in cc
     by_fault (inr (inr other)) =
-        let kept : ok_or (decode code) refusals.BadALabel ≡ Ok label = by_tests false true (some_length code other.0) other.1 in
+        let kept : ok_or (decode code) refusals.BadALabel ≡ Ok label = by_tests false true (not_empty code other.0) other.1 in
         let clash : Err refusals.BadALabel ≡ Ok label = sym (ap (λ decoded. ok_or decoded refusals.BadALabel) other.2) ∙ kept in cc
 
 -- ---- another A-label

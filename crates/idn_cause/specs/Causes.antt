@@ -6,7 +6,7 @@ use Rattle.idn_text.specs.declared.refusal.Refusal.{Refusal}
 use Rattle.idn_text.specs.declared.refusal.Refusal.TheVariants as refusals
 use Rattle.idn_class.specs.declared.barring.BarringLine.{BarringLine}
 use Rattle.idn_class.specs.declared.broken.Broken.{Broken}
-use Rattle.idn_class.specs.declared.broken.Condition.{Condition as BidiCondition}
+use Rattle.idn_class.specs.declared.broken.BidiCondition.{BidiCondition}
 use Rattle.idn_class.specs.Barring.{barring_line, IsBarredBy}
 use Rattle.idn_class.specs.BidiClass.{bidi_class}
 use Rattle.idn_class.specs.Class.{class_of}

@@ -3,7 +3,7 @@ use Rattle.std.specs.Prelude.{◌≡◌, ℕ, List, [], ◌∷◌, ◌++◌, cod
 use Rattle.idn_text.specs.declared.refusal.Refusal.{Refusal}
 use Rattle.idn_text.specs.declared.refusal.Refusal.TheVariants.{Hyphen, LeadingMark, ContextJ, ContextO, Bidi, BadALabel}
 use Rattle.idn_class.specs.declared.bidi_class.BidiClass.TheVariants.{L, R, EN, AN, ES, BN}
-use Rattle.idn_class.specs.declared.broken.Condition.TheVariants.{First, RtlHolds, RtlEnds, RtlNumbers, LtrHolds}
+use Rattle.idn_class.specs.declared.broken.BidiCondition.TheVariants.{First, RtlHolds, RtlEnds, RtlNumbers, LtrHolds}
 use Rattle.idn_cause.specs.declared.cause.Cause.{Cause}
 use Rattle.idn_cause.specs.declared.cause.Cause.TheVariants.{Hyphen as HyphenAt, Point, Condition}
 use Rattle.idn_cause.specs.declared.a_label.ALabelCause.TheVariants.{NoCode, NotAscii, NoPunycode}

@@ -7,16 +7,16 @@ use Rattle.std.proofs.lemmas.List.Folds.{Any-from_list_any, list_any-from_Any}
 use Rattle.std.proofs.lemmas.List.Sums.{list_all-from_AllPass, AllPass-from_list_all}
 use Rattle.std.proofs.lemmas.Option.{get_or_from_slice_get}
 use Rattle.idn_class.specs.declared.bidi_class.BidiClass.{BidiClass}
-use Rattle.idn_class.specs.declared.bidi_class.BidiClass.TheVariants.{L, R, AL, EN, AN, NSM}
+use Rattle.idn_class.specs.declared.bidi_class.BidiClass.TheVariants.{L, EN, AN, NSM}
 use Rattle.idn_class.specs.declared.broken.Broken.{Broken}
-use Rattle.idn_class.specs.declared.broken.Condition.{Condition}
-use Rattle.idn_class.specs.declared.broken.Condition.TheVariants.{First, RtlHolds, RtlEnds, RtlNumbers, LtrHolds}
+use Rattle.idn_class.specs.declared.broken.BidiCondition.{BidiCondition}
+use Rattle.idn_class.specs.declared.broken.BidiCondition.TheVariants.{First, RtlHolds, RtlEnds, RtlNumbers, LtrHolds}
 use Rattle.idn_class.specs.BidiClass.{bidi_class}
 use Rattle.idn_class.specs.BidiRule.{IsRtl, IsLtr, EndsIn, MeetsSixConditions, PassesBidiRule, is_rtl_class, is_allowed_in_rtl, is_allowed_in_ltr, is_end_of_rtl}
 use Rattle.idn_class.specs.Tests.{is_en, is_an, is_nsm, is_rtl, is_ltr}
 use Rattle.idn_class.specs.Causes.{IsFirstFailing, failing_in, class_at, last_base, unless_end, misplaced_end, some_place, numbers_agree_to, condition_number, broken_at, broken_or, broken_in_rtl, broken_in_ltr, broken_condition, IsLastBase, StandsUpTo, Breaks, IsFirstBroken}
-use Rattle.idn_class.proofs.BidiLemmas.{class_at as stands_at, ends_here, not_both, SixConditions_from, is_en-true, is_an-true, Contains_EN-from_list_any, Contains_AN-from_list_any}
-use Rattle.idn_class.proofs.BidiTests.{is_rtl-gives, is_rtl-from, is_ltr-gives, is_ltr-from}
+use Rattle.idn_class.proofs.BidiLemmas.{class_at as stands_at, ends_here, not_both, SixConditions_from, is_en-true, is_an-true, Contains_EN-from_list_any, Contains_AN-from_list_any, rtl_not_ltr}
+use Rattle.idn_class.proofs.BidiTests.{is_rtl-gives, is_rtl-from, is_ltr-gives, is_ltr-from, is_nsm-true}
 use Rattle.idn_class.proofs.CauseLemmas.{failing_in-is, first_place-unique, no_first_place}
 
 -- ---- classes by place
@@ -41,10 +41,6 @@ contains_at : (label : List ℕ) (class : BidiClass) (k : ℕ) → k < length la
 contains_at label class k within same = (k, within_classes label k within, class_read label k class within ∙ same)
 
 -- ---- the last class that is no NSM
-
-is_nsm-true : (class : BidiClass) → is_nsm class ≡ true → class ≡ NSM
-is_nsm-true NSM h = refl
-is_nsm-true _ h = cc
 
 -- the same of so many places
 record LastOf (label : List ℕ) (n place : ℕ) : Type 0 where
@@ -258,7 +254,7 @@ rtl_none None None (Some p) h = cc
 rtl_none None (Some p) z h = cc
 rtl_none (Some p) y z h = cc
 
-at_none : (condition : Condition) (x : Option ℕ) → broken_at condition x ≡ None → x ≡ None
+at_none : (condition : BidiCondition) (x : Option ℕ) → broken_at condition x ≡ None → x ≡ None
 at_none condition None h = refl
 at_none condition (Some p) h = cc
 
@@ -269,19 +265,13 @@ rtl_untold label rtl none =
     let holds = no_first_place label (λ k. is_allowed_in_rtl (class_at label k)) (λ k. IsTrue (is_allowed_in_rtl (class_at label k))) (λ k low. same_truth (is_allowed_in_rtl (class_at label k) ≡ true)) parts.0 in
     SixConditions_from (map bidi_class label) rtl (each_class label is_allowed_in_rtl holds) (ends_of label rtl parts.1) (numbers_of label (rtl_first label rtl).0 parts.2)
 
-rtl_not_in_ltr : (class : BidiClass) → is_rtl_class class ≡ true → is_allowed_in_ltr class ≡ true → ⊥
-rtl_not_in_ltr R a b = cc
-rtl_not_in_ltr AL a b = cc
-rtl_not_in_ltr AN a b = cc
-rtl_not_in_ltr _ a b = cc
-
 ltr_told : (label : List ℕ) → list_any is_rtl_class (map bidi_class label) ≡ true → broken_in_ltr label ≡ None → ⊥
 unfolding broken_in_ltr
 ltr_told label some none =
     let found = Any-from_list_any is_rtl_class (map bidi_class label) some in
     let holds = no_first_place label (λ k. is_allowed_in_ltr (class_at label k)) (λ k. IsTrue (is_allowed_in_ltr (class_at label k))) (λ k low. same_truth (is_allowed_in_ltr (class_at label k) ≡ true)) (at_none LtrHolds _ none) in
     let all = AllPass-from_list_all is_allowed_in_ltr (map bidi_class label) (each_class label is_allowed_in_ltr holds) in
-    rtl_not_in_ltr found.1 found.4 (subst (λ class. is_allowed_in_ltr class ≡ true) found.3 (all found.0 found.1 found.2))
+    rtl_not_ltr found.1 found.4 (subst (λ class. is_allowed_in_ltr class ≡ true) found.3 (all found.0 found.1 found.2))
 
 untold_by : (label : List ℕ) (some rtl ltr : Bool) → list_any is_rtl_class (map bidi_class label) ≡ some → is_rtl (map bidi_class label) ≡ rtl → is_ltr (map bidi_class label) ≡ ltr → cond some (cond rtl (broken_in_rtl label) (cond ltr (broken_in_ltr label) (broken_at First (Some 0)))) None ≡ None → PassesBidiRule label
 untold_by label false rtl ltr a r l none applies = let clash : true ≡ false = sym (list_any-from_Any is_rtl_class (map bidi_class label) applies) ∙ a in cc
@@ -299,7 +289,7 @@ untold-passes label none =
 told_parts : (x y : Broken) → Some x ≡ Some y → (y.condition ≡ x.condition) × (Some x.place ≡ Some y.place)
 told_parts x y h = let same : x ≡ y = cc in (sym (ap (λ v. v.condition) same), ap (λ v. Some v.place) same)
 
-rtl_cases : (x y z : Option ℕ) (condition : Condition) (place : ℕ) → broken_or (broken_at RtlHolds x) (broken_or (broken_at RtlEnds y) (broken_at RtlNumbers z)) ≡ Some (record { condition = condition; place = place }) → ((condition ≡ RtlHolds) × (x ≡ Some place)) ⊎ (((condition ≡ RtlEnds) × (x ≡ None) × (y ≡ Some place)) ⊎ ((condition ≡ RtlNumbers) × (x ≡ None) × (y ≡ None) × (z ≡ Some place)))
+rtl_cases : (x y z : Option ℕ) (condition : BidiCondition) (place : ℕ) → broken_or (broken_at RtlHolds x) (broken_or (broken_at RtlEnds y) (broken_at RtlNumbers z)) ≡ Some (record { condition = condition; place = place }) → ((condition ≡ RtlHolds) × (x ≡ Some place)) ⊎ (((condition ≡ RtlEnds) × (x ≡ None) × (y ≡ Some place)) ⊎ ((condition ≡ RtlNumbers) × (x ≡ None) × (y ≡ None) × (z ≡ Some place)))
 rtl_cases None None None condition place h = cc
 rtl_cases None None (Some p) condition place h = let parts = told_parts (record { condition = RtlNumbers; place = p }) (record { condition = condition; place = place }) h in inr (inr (parts.0, refl, refl, parts.1))
 rtl_cases None (Some p) z condition place h = let parts = told_parts (record { condition = RtlEnds; place = p }) (record { condition = condition; place = place }) h in inr (inl (parts.0, refl, parts.1))
@@ -318,7 +308,7 @@ no_end label none k base fails =
 no_failing : (label : List ℕ) (passes : ℕ → Bool) (k : ℕ) (Passes : ℕ → Type 0) → ((j : ℕ) → j < length label → (passes j ≡ true) ↔ Passes j) → failing_in label passes ≡ None → IsFirstFailing label Passes k → ⊥
 no_failing label passes k Passes agree none first = first.fails (no_first_place label passes Passes agree none k first.within)
 
-earlier_rtl : (label : List ℕ) → IsRtl (map bidi_class label) → (condition other : Condition) (k : ℕ) → condition_number other < condition_number condition → (2 < condition_number condition → failing_in label (λ j. is_allowed_in_rtl (class_at label j)) ≡ None) → (3 < condition_number condition → misplaced_end is_end_of_rtl label ≡ None) → condition_number condition < 5 → Breaks label other k → ⊥
+earlier_rtl : (label : List ℕ) → IsRtl (map bidi_class label) → (condition other : BidiCondition) (k : ℕ) → condition_number other < condition_number condition → (2 < condition_number condition → failing_in label (λ j. is_allowed_in_rtl (class_at label j)) ≡ None) → (3 < condition_number condition → misplaced_end is_end_of_rtl label ≡ None) → condition_number condition < 5 → Breaks label other k → ⊥
 earlier_rtl label rtl condition First k low holds ends upto breaks = breaks.1 (inr rtl)
 earlier_rtl label rtl condition RtlHolds k low holds ends upto breaks =
     no_failing label (λ j. is_allowed_in_rtl (class_at label j)) k (λ j. IsTrue (is_allowed_in_rtl (class_at label j))) (λ j within. same_truth (is_allowed_in_rtl (class_at label j) ≡ true)) (holds (omega arith)) breaks.1
@@ -326,7 +316,7 @@ earlier_rtl label rtl condition RtlEnds k low holds ends upto breaks = no_end la
 earlier_rtl label rtl condition RtlNumbers k low holds ends upto breaks = absurd (omega arith)
 earlier_rtl label rtl condition LtrHolds k low holds ends upto breaks = absurd (omega arith)
 
-told_in_rtl : (label : List ℕ) → Any (λ class. IsTrue (is_rtl_class class)) (map bidi_class label) → IsRtl (map bidi_class label) → (condition : Condition) (place : ℕ) → broken_in_rtl label ≡ Some (record { condition = condition; place = place }) → IsFirstBroken label condition place
+told_in_rtl : (label : List ℕ) → Any (λ class. IsTrue (is_rtl_class class)) (map bidi_class label) → IsRtl (map bidi_class label) → (condition : BidiCondition) (place : ℕ) → broken_in_rtl label ≡ Some (record { condition = condition; place = place }) → IsFirstBroken label condition place
 unfolding broken_in_rtl
 told_in_rtl label applies rtl condition place told =
     elim (rtl_cases (failing_in label (λ k. is_allowed_in_rtl (class_at label k))) (misplaced_end is_end_of_rtl label) (failing_in label (numbers_agree_to label)) condition place told) [
@@ -357,18 +347,18 @@ told_in_rtl label applies rtl condition place told =
           ]
     ]
 
-told_at : (condition other : Condition) (x : Option ℕ) (place : ℕ) → broken_at condition x ≡ Some (record { condition = other; place = place }) → (other ≡ condition) × (x ≡ Some place)
+told_at : (condition other : BidiCondition) (x : Option ℕ) (place : ℕ) → broken_at condition x ≡ Some (record { condition = other; place = place }) → (other ≡ condition) × (x ≡ Some place)
 told_at condition other None place h = cc
 told_at condition other (Some p) place h = told_parts (record { condition = condition; place = p }) (record { condition = other; place = place }) h
 
-earlier_ltr : (label : List ℕ) → IsLtr (map bidi_class label) → (other : Condition) (k : ℕ) → condition_number other < 5 → Breaks label other k → ⊥
+earlier_ltr : (label : List ℕ) → IsLtr (map bidi_class label) → (other : BidiCondition) (k : ℕ) → condition_number other < 5 → Breaks label other k → ⊥
 earlier_ltr label ltr First k low breaks = breaks.1 (inl ltr)
 earlier_ltr label ltr RtlHolds k low breaks = not_both (map bidi_class label) ltr breaks.0
 earlier_ltr label ltr RtlEnds k low breaks = not_both (map bidi_class label) ltr breaks.0
 earlier_ltr label ltr RtlNumbers k low breaks = not_both (map bidi_class label) ltr breaks.0
 earlier_ltr label ltr LtrHolds k low breaks = absurd (omega arith)
 
-told_in_ltr : (label : List ℕ) → Any (λ class. IsTrue (is_rtl_class class)) (map bidi_class label) → IsLtr (map bidi_class label) → (condition : Condition) (place : ℕ) → broken_in_ltr label ≡ Some (record { condition = condition; place = place }) → IsFirstBroken label condition place
+told_in_ltr : (label : List ℕ) → Any (λ class. IsTrue (is_rtl_class class)) (map bidi_class label) → IsLtr (map bidi_class label) → (condition : BidiCondition) (place : ℕ) → broken_in_ltr label ≡ Some (record { condition = condition; place = place }) → IsFirstBroken label condition place
 unfolding broken_in_ltr
 told_in_ltr label applies ltr condition place told =
     let parts = told_at LtrHolds condition (failing_in label (λ k. is_allowed_in_ltr (class_at label k))) place told in
@@ -379,11 +369,11 @@ told_in_ltr label applies ltr condition place told =
       earlier = λ other k low breaks. earlier_ltr label ltr other k (omega arith) breaks;
     }
 
-first_least : (other : Condition) → condition_number other < 1 → ⊥
+first_least : (other : BidiCondition) → condition_number other < 1 → ⊥
 first_least First low = omega arith
 first_least _ low = omega arith
 
-told_first : (label : List ℕ) → Any (λ class. IsTrue (is_rtl_class class)) (map bidi_class label) → (IsLtr (map bidi_class label) ⊎ IsRtl (map bidi_class label) → ⊥) → (condition : Condition) (place : ℕ) → broken_at First (Some 0) ≡ Some (record { condition = condition; place = place }) → IsFirstBroken label condition place
+told_first : (label : List ℕ) → Any (λ class. IsTrue (is_rtl_class class)) (map bidi_class label) → (IsLtr (map bidi_class label) ⊎ IsRtl (map bidi_class label) → ⊥) → (condition : BidiCondition) (place : ℕ) → broken_at First (Some 0) ≡ Some (record { condition = condition; place = place }) → IsFirstBroken label condition place
 told_first label applies neither condition place told =
     let parts = told_at First condition (Some 0) place told in
     let number : condition_number condition ≡ 1 = ap condition_number parts.0 in
@@ -395,7 +385,7 @@ told_first label applies neither condition place told =
       earlier = λ other k low breaks. first_least other (omega arith);
     }
 
-told_by : (label : List ℕ) (condition : Condition) (place : ℕ) (some rtl ltr : Bool) → list_any is_rtl_class (map bidi_class label) ≡ some → is_rtl (map bidi_class label) ≡ rtl → is_ltr (map bidi_class label) ≡ ltr → cond some (cond rtl (broken_in_rtl label) (cond ltr (broken_in_ltr label) (broken_at First (Some 0)))) None ≡ Some (record { condition = condition; place = place }) → IsFirstBroken label condition place
+told_by : (label : List ℕ) (condition : BidiCondition) (place : ℕ) (some rtl ltr : Bool) → list_any is_rtl_class (map bidi_class label) ≡ some → is_rtl (map bidi_class label) ≡ rtl → is_ltr (map bidi_class label) ≡ ltr → cond some (cond rtl (broken_in_rtl label) (cond ltr (broken_in_ltr label) (broken_at First (Some 0)))) None ≡ Some (record { condition = condition; place = place }) → IsFirstBroken label condition place
 told_by label condition place false rtl ltr a r l told = cc
 told_by label condition place true true ltr a r l told = told_in_rtl label (Any-from_list_any is_rtl_class (map bidi_class label) a) (is_rtl-gives (map bidi_class label) r) condition place told
 told_by label condition place true false true a r l told = told_in_ltr label (Any-from_list_any is_rtl_class (map bidi_class label) a) (is_ltr-gives (map bidi_class label) l) condition place told
@@ -408,14 +398,14 @@ told_by label condition place true false false a r l told =
     ])
     condition place told
 
-pub told-first_broken : (label : List ℕ) (condition : Condition) (place : ℕ) → broken_condition label ≡ Some (record { condition = condition; place = place }) → IsFirstBroken label condition place
+pub told-first_broken : (label : List ℕ) (condition : BidiCondition) (place : ℕ) → broken_condition label ≡ Some (record { condition = condition; place = place }) → IsFirstBroken label condition place
 unfolding broken_condition
 told-first_broken label condition place told =
     let classes = map bidi_class label in told_by label condition place (list_any is_rtl_class classes) (is_rtl classes) (is_ltr classes) refl refl refl told
 
 -- ---- a broken condition is one that the rule asks for
 
-breaks_rule : (label : List ℕ) (condition : Condition) (place : ℕ) → Breaks label condition place → MeetsSixConditions (map bidi_class label) → ⊥
+breaks_rule : (label : List ℕ) (condition : BidiCondition) (place : ℕ) → Breaks label condition place → MeetsSixConditions (map bidi_class label) → ⊥
 breaks_rule label First place breaks six = breaks.1 six.first
 breaks_rule label RtlHolds place breaks six =
     breaks.1.fails (ap is_allowed_in_rtl (sym (class_read label place L breaks.1.within)) ∙ six.rtl_holds breaks.0 place L (within_classes label place breaks.1.within))
@@ -434,12 +424,12 @@ breaks_rule label RtlNumbers place breaks six =
 breaks_rule label LtrHolds place breaks six =
     breaks.1.fails (ap is_allowed_in_ltr (sym (class_read label place L breaks.1.within)) ∙ six.ltr_holds breaks.0 place L (within_classes label place breaks.1.within))
 
-pub first_broken-fails : (label : List ℕ) (condition : Condition) (place : ℕ) → IsFirstBroken label condition place → PassesBidiRule label → ⊥
+pub first_broken-fails : (label : List ℕ) (condition : BidiCondition) (place : ℕ) → IsFirstBroken label condition place → PassesBidiRule label → ⊥
 first_broken-fails label condition place broken passes = breaks_rule label condition place broken.breaks (passes broken.applies)
 
 -- ---- no other condition and no other place is the first
 
-same_condition : (a b : Condition) → condition_number a ≡ condition_number b → a ≡ b
+same_condition : (a b : BidiCondition) → condition_number a ≡ condition_number b → a ≡ b
 same_condition First First h = refl
 same_condition RtlHolds RtlHolds h = refl
 same_condition RtlEnds RtlEnds h = refl
@@ -447,14 +437,14 @@ same_condition RtlNumbers RtlNumbers h = refl
 same_condition LtrHolds LtrHolds h = refl
 same_condition a b h = absurd (omega arith)
 
-same_place : (label : List ℕ) (condition : Condition) (p q : ℕ) → Breaks label condition p → Breaks label condition q → p ≡ q
+same_place : (label : List ℕ) (condition : BidiCondition) (p q : ℕ) → Breaks label condition p → Breaks label condition q → p ≡ q
 same_place label First p q first second = first.0 ∙ sym second.0
 same_place label RtlHolds p q first second = first_place-unique label (λ k. IsTrue (is_allowed_in_rtl (class_at label k))) p q first.1 second.1
 same_place label RtlEnds p q first second = last_base-unique label p q first.1 second.1
 same_place label RtlNumbers p q first second = first_place-unique label (λ k. ¬ (StandsUpTo label EN k × StandsUpTo label AN k)) p q first.1 second.1
 same_place label LtrHolds p q first second = first_place-unique label (λ k. IsTrue (is_allowed_in_ltr (class_at label k))) p q first.1 second.1
 
-pub first_broken-unique : (label : List ℕ) (a b : Condition) (p q : ℕ) → IsFirstBroken label a p → IsFirstBroken label b q → (a ≡ b) × (p ≡ q)
+pub first_broken-unique : (label : List ℕ) (a b : BidiCondition) (p q : ℕ) → IsFirstBroken label a p → IsFirstBroken label b q → (a ≡ b) × (p ≡ q)
 first_broken-unique label a b p q first second =
     elim (cases_lt (condition_number a) (condition_number b)) [
       | inl lt ↦ absurd (second.earlier a p lt first.breaks)
@@ -469,11 +459,11 @@ first_broken-unique label a b p q first second =
 
 -- ---- what is told is exactly that
 
-broken_or_none : (o : Option Broken) → (o ≡ None) ⊎ ((c : Condition) × (p : ℕ) × (o ≡ Some (record { condition = c; place = p })))
+broken_or_none : (o : Option Broken) → (o ≡ None) ⊎ ((c : BidiCondition) × (p : ℕ) × (o ≡ Some (record { condition = c; place = p })))
 broken_or_none None = inl refl
 broken_or_none (Some b) = inr (b.condition, b.place, refl)
 
-pub broken_condition-is : (label : List ℕ) (condition : Condition) (place : ℕ) → (broken_condition label ≡ Some (record { condition = condition; place = place })) ↔ IsFirstBroken label condition place
+pub broken_condition-is : (label : List ℕ) (condition : BidiCondition) (place : ℕ) → (broken_condition label ≡ Some (record { condition = condition; place = place })) ↔ IsFirstBroken label condition place
 broken_condition-is label condition place = (
   told-first_broken label condition place,
   λ broken.

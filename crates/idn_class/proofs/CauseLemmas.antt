@@ -7,7 +7,7 @@ use Rattle.idn_class.specs.Tests.{all_places, is_en, is_an, is_rtl, is_ltr}
 use Rattle.idn_class.proofs.BidiLemmas.{list_any-classes}
 use Rattle.idn_class.specs.declared.bidi_class.BidiClass.{BidiClass}
 use Rattle.idn_class.specs.declared.bidi_class.BidiClass.TheVariants.{L, R, AL}
-use Rattle.idn_class.specs.declared.broken.Condition.TheVariants.{First}
+use Rattle.idn_class.specs.declared.broken.BidiCondition.TheVariants.{First}
 use Rattle.idn_class.specs.BidiClass.{bidi_class}
 use Rattle.idn_class.specs.BidiRule.{is_rtl_class}
 use Rattle.std.specs.List.{list_any}

@@ -109,7 +109,7 @@ singles_ok c some =
     ap (λ f. single_ok f c (full_folding c)) (tree_value-tree_of (quick_check Nfkc) (quick_check_stepped Nfkc))
     ∙ Stepped-at_points full_folding full_folding_stepped is_none (single_ok check_tree) refl c some
 
-is_yes-true : (v : QuickCheck) → is_yes v ≡ true → v ≡ Yes
+pub is_yes-true : (v : QuickCheck) → is_yes v ≡ true → v ≡ Yes
 is_yes-true Yes h = refl
 is_yes-true No h = cc
 is_yes-true Maybe h = cc

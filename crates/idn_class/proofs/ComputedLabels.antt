@@ -18,7 +18,7 @@ use Rattle.idn_class.specs.JoiningType.{is_virama, is_right_joining, is_dual_joi
 use Rattle.idn_class.specs.ContextO.{is_japanese}
 use Rattle.idn_class.specs.BidiClass.{is_boundary_neutral, is_european_separator, is_european_number, is_arabic_number, is_nonspacing, is_right_to_left, is_arabic_letter, bidi_class}
 use Rattle.idn_class.specs.LeadingMark.{is_mark}
-use Rattle.idn_class.specs.Rows.{HasClasses}
+use Rattle.idn_class.specs.WorkedRows.{HasClasses}
 use Rattle.idn_class.specs.Tests.{all_places, contextj_ok, contexto_ok, bidi_ok}
 use Rattle.idn_class.proofs.ClassNumbers.{class_from_number, from_number, class_of-no_scalar}
 use Rattle.idn_class.proofs.ClassTrie.{trie_value-CLASS}

@@ -1,14 +1,13 @@
 -- A label of which no code point has a fact passes the test that the fact stands for.
-use Rattle.std.proofs.Common.{◌≡◌, ℕ, ◌≤◌, Bool, true, false, not, ◌||◌, ◌==◌, nat_le, List, [], ◌∷◌, map, All, get_or, refl, sym, ap, ◌∙◌, eqb-true, arith}
+use Rattle.std.proofs.Common.{◌≡◌, ℕ, ◌≤◌, Bool, true, false, ◌==◌, nat_le, List, [], ◌∷◌, map, All, get_or, refl, sym, ap, ◌∙◌, eqb-true, arith}
 use Rattle.std.specs.List.{list_any}
-use Rattle.std.proofs.lemmas.Bool.{and_parts, true≢false}
+use Rattle.std.proofs.lemmas.Bool.{and_parts, true≢false, not-false, or_parts}
 use Rattle.std.proofs.lemmas.Bool.Decides.{nat_tests}
 use Rattle.std.proofs.lemmas.List.Elements.{All-nil, All-cons, All-weaker, All-map}
 use Rattle.std.proofs.lemmas.List.Folds.{list_any_none}
 use Rattle.ucd_bidi.specs.BidiClass.{bidi_class as unicode_bidi_class}
 use Rattle.ucd_idna_map.specs.IdnaStatus.{idna_status}
 use Rattle.ucd_normal.specs.declared.forms.Form.TheVariants.{Nfc}
-use Rattle.ucd_normal.specs.declared.forms.QuickCheck.{QuickCheck}
 use Rattle.ucd_normal.specs.declared.forms.QuickCheck.TheVariants.{Yes}
 use Rattle.ucd_normal.specs.CanonicalCombiningClass.{canonical_combining_class}
 use Rattle.ucd_normal.specs.QuickCheck.{quick_check}
@@ -25,33 +24,22 @@ use Rattle.idn_class.specs.Class.{class_of, is_left_open}
 use Rattle.idn_class.specs.ContextO.{is_arabic_digit, is_extended_arabic_digit}
 use Rattle.idn_class.specs.Facts.{is_barred_class, is_contextj, is_contexto, is_yes, is_unicode_rtl_class, is_kept_status, is_so, has_fact}
 use Rattle.idn_class.specs.LeadingMark.{is_mark}
-use Rattle.idn_class.specs.Rows.{HasClasses}
+use Rattle.idn_class.specs.WorkedRows.{HasClasses}
 use Rattle.idn_class.specs.Tests.{leading_mark, contextj_ok, contexto_ok, bidi_ok}
 use Rattle.idn_class.proofs.ComputedLabels.{in_table, HasClasses-rows_ok}
 use Rattle.idn_class.proofs.ContextJTests.{contextj_ok-PassesContextJ}
 use Rattle.idn_class.proofs.ContextOTests.{contexto_ok-PassesContextO}
+use Rattle.idn_class.proofs.ClassNumbers.{is_yes-true}
 
 -- ---- code points
 
-not_so : (b : Bool) → not b ≡ false → b ≡ true
-not_so true h = refl
-not_so false h = absurd (true≢false h)
-
-is_yes-true : (v : QuickCheck) → is_yes v ≡ true → v ≡ Yes
-is_yes-true Yes h = refl
-is_yes-true _ h = cc
-
-or_none : (a b : Bool) → (a || b) ≡ false → (a ≡ false) × (b ≡ false)
-or_none true b h = absurd (true≢false h)
-or_none false b h = (refl, h)
-
 -- a code point that has not the fact
 pub without : (fact : Fact) (c : ℕ) → has_fact fact c ≡ false → is_so fact c ≡ false
-without fact c none = (or_none (nat_le 0x11_0000 c) (is_so fact c) none).1
+without fact c none = (or_parts (nat_le 0x11_0000 c) (is_so fact c) none).1
 
 pub class_without : (c : ℕ) → has_fact MayBeBarred c ≡ false → (is_barred_class (class_of c) ≡ false) × (is_left_open c ≡ false)
 unfolding is_so
-class_without c none = or_none _ _ (without MayBeBarred c none)
+class_without c none = or_parts _ _ (without MayBeBarred c none)
 
 pub contextj_without : (c : ℕ) → has_fact Contextj c ≡ false → is_contextj (class_of c) ≡ false
 unfolding is_so
@@ -64,7 +52,7 @@ contexto_without c none = without Contexto c none
 pub compose_without : (c : ℕ) → has_fact MayCompose c ≡ false → (quick_check Nfc c ≡ Yes) × (canonical_combining_class c ≡ 0)
 unfolding is_so
 compose_without c none =
-    let parts = and_parts (is_yes (quick_check Nfc c)) (canonical_combining_class c == 0) (not_so _ (without MayCompose c none)) in
+    let parts = and_parts (is_yes (quick_check Nfc c)) (canonical_combining_class c == 0) (not-false _ (without MayCompose c none)) in
     (is_yes-true _ parts.0, eqb-true _ 0 parts.1)
 
 pub mark_without : (c : ℕ) → has_fact Mark c ≡ false → is_mark c ≡ false
@@ -73,11 +61,11 @@ mark_without c none = without Mark c none
 
 pub rtl_without : (c : ℕ) → has_fact RightToLeft c ≡ false → (is_rtl_class (bidi_class c) ≡ false) × (is_unicode_rtl_class (unicode_bidi_class c) ≡ false)
 unfolding is_so
-rtl_without c none = or_none _ _ (without RightToLeft c none)
+rtl_without c none = or_parts _ _ (without RightToLeft c none)
 
 pub kept_without : (c : ℕ) → has_fact NotKept c ≡ false → is_kept_status (idna_status c) ≡ true
 unfolding is_so
-kept_without c none = not_so _ (without NotKept c none)
+kept_without c none = not-false _ (without NotKept c none)
 
 -- ---- the code points that have a rule of their own
 
@@ -121,12 +109,12 @@ Lacks fact label = list_any (has_fact fact) label ≡ false
 pub each_lacks : (fact : Fact) (label : List ℕ) → Lacks fact label → All (λ c. has_fact fact c ≡ false) label
 each_lacks fact [] none = All-nil (λ c. has_fact fact c ≡ false)
 each_lacks fact (c ∷ label) none =
-    let parts = or_none (has_fact fact c) (list_any (has_fact fact) label) none in
+    let parts = or_parts (has_fact fact c) (list_any (has_fact fact) label) none in
     All-cons (λ c. has_fact fact c ≡ false) c label parts.0 (each_lacks fact label parts.1)
 
 pub leading_mark-lacks : (label : List ℕ) → Lacks Mark label → leading_mark label ≡ false
 leading_mark-lacks [] none = refl
-leading_mark-lacks (c ∷ label) none = mark_without c (or_none (has_fact Mark c) (list_any (has_fact Mark) label) none).0
+leading_mark-lacks (c ∷ label) none = mark_without c (or_parts (has_fact Mark c) (list_any (has_fact Mark) label) none).0
 
 pub contextj_ok-lacks : (label : List ℕ) → Lacks Contextj label → contextj_ok label ≡ true
 contextj_ok-lacks label none =
@@ -171,7 +159,7 @@ bidi_ok-lacks label lacks =
 checked-lacks : (last : ℕ) (label : List ℕ) → Lacks MayCompose label → checked_after false Nfc last 0 Yes label ≡ Yes
 checked-lacks last [] none = checked_after-end false Nfc last 0 Yes
 checked-lacks last (c ∷ label) none =
-    let parts = or_none (has_fact MayCompose c) (list_any (has_fact MayCompose) label) none in
+    let parts = or_parts (has_fact MayCompose c) (list_any (has_fact MayCompose) label) none in
     let kept = compose_without c parts.0 in
     let starter : canonical_combining_class c ≡ 0 = kept.1 in
     checked_after-step false Nfc last 0 0 Yes Yes c label (λ mark. absurd (omega arith)) (sym kept.0) (λ safe. absurd (let clash : false ≡ true = safe in cc))

@@ -171,8 +171,8 @@ higher false others i = bit_at-suc (2 * others + 1) i ∙ ap (λ n. bit_at n i) 
     half : (n : ℕ) → (2 * n + 1) / 2 ≡ n
     half n = omega arith
 
-behind : (b : Bool) (others i : ℕ) (answer : Bool) → (bit_at others i == 0) ≡ answer → (bit_at (with_bit b others) (suc i) == 0) ≡ answer
-behind b others i answer is = ap (λ n. n == 0) (higher b others i) ∙ is
+after : (b : Bool) (others i : ℕ) (answer : Bool) → (bit_at others i == 0) ≡ answer → (bit_at (with_bit b others) (suc i) == 0) ≡ answer
+after b others i answer is = ap (λ n. n == 0) (higher b others i) ∙ is
 
 pub absent_facts-bit : (c : ℕ) (fact : Fact) → (bit_at (absent_facts c) (place_of fact) == 0) ≡ so_by_steps fact c
 unfolding absent_facts
@@ -186,17 +186,17 @@ absent_facts-bit c fact =
     let b6 = so_by_steps NotKept c in
     elim fact as (λ f. (bit_at (absent_facts c) (place_of f) == 0) ≡ so_by_steps f c) [
       | MayBeBarred ↦ lowest b0 (absent_1 c)
-      | Contextj ↦ behind b0 (absent_1 c) 0 b1 (lowest b1 (absent_2 c))
-      | Contexto ↦ behind b0 (absent_1 c) 1 b2 (behind b1 (absent_2 c) 0 b2 (lowest b2 (absent_3 c)))
-      | MayCompose ↦ behind b0 (absent_1 c) 2 b3 (behind b1 (absent_2 c) 1 b3 (behind b2 (absent_3 c) 0 b3 (lowest b3 (absent_4 c))))
-      | Mark ↦ behind b0 (absent_1 c) 3 b4 (behind b1 (absent_2 c) 2 b4 (behind b2 (absent_3 c) 1 b4 (behind b3 (absent_4 c) 0 b4 (lowest b4 (absent_5 c)))))
+      | Contextj ↦ after b0 (absent_1 c) 0 b1 (lowest b1 (absent_2 c))
+      | Contexto ↦ after b0 (absent_1 c) 1 b2 (after b1 (absent_2 c) 0 b2 (lowest b2 (absent_3 c)))
+      | MayCompose ↦ after b0 (absent_1 c) 2 b3 (after b1 (absent_2 c) 1 b3 (after b2 (absent_3 c) 0 b3 (lowest b3 (absent_4 c))))
+      | Mark ↦ after b0 (absent_1 c) 3 b4 (after b1 (absent_2 c) 2 b4 (after b2 (absent_3 c) 1 b4 (after b3 (absent_4 c) 0 b4 (lowest b4 (absent_5 c)))))
       | RightToLeft ↦
-          behind b0 (absent_1 c) 4 b5
-          (behind b1 (absent_2 c) 3 b5 (behind b2 (absent_3 c) 2 b5 (behind b3 (absent_4 c) 1 b5 (behind b4 (absent_5 c) 0 b5 (lowest b5 (absent_6 c))))))
+          after b0 (absent_1 c) 4 b5
+          (after b1 (absent_2 c) 3 b5 (after b2 (absent_3 c) 2 b5 (after b3 (absent_4 c) 1 b5 (after b4 (absent_5 c) 0 b5 (lowest b5 (absent_6 c))))))
       | NotKept ↦
-          behind b0 (absent_1 c) 5 b6
-          (behind b1 (absent_2 c) 4 b6
-          (behind b2 (absent_3 c) 3 b6 (behind b3 (absent_4 c) 2 b6 (behind b4 (absent_5 c) 1 b6 (behind b5 (absent_6 c) 0 b6 (lowest b6 0))))))
+          after b0 (absent_1 c) 5 b6
+          (after b1 (absent_2 c) 4 b6
+          (after b2 (absent_3 c) 3 b6 (after b3 (absent_4 c) 2 b6 (after b4 (absent_5 c) 1 b6 (after b5 (absent_6 c) 0 b6 (lowest b6 0))))))
     ]
 
 -- ---- the facts by steps are the facts

@@ -5,8 +5,8 @@ use Rattle.std.proofs.lemmas.Bool.{cases_lt, cases_order}
 use Rattle.std.proofs.lemmas.List.{take_all, take_more, take-append-drop}
 use Rattle.idn_class.specs.declared.direction.Direction.{Direction}
 use Rattle.idn_class.specs.Hopeless.{has_hyphens_third_and_fourth, hopeless, IsHopeless, IsShortestHopeless, HasHope}
-use Rattle.idn_class.specs.inner.Directions.{IsShortest, HasNone, breaks_at_first, breaks_behind, lengthened}
-use Rattle.idn_class.proofs.HopelessSteps.{Tells, Tells-longer, Tells-itself, breaks_at-last, breaks_behind-nil, hyphens-few, hyphens-many, hyphens-short, hopeless-none, hopeless-breaks, hopeless-hyphens, hopeless-more}
+use Rattle.idn_class.specs.Directions.{IsShortest, HasNone, breaks_at_first, breaks_after, lengthened}
+use Rattle.idn_class.proofs.HopelessSteps.{Tells, Tells-longer, Tells-itself, breaks_at-last, breaks_after-nil, hyphens-few, hyphens-many, hyphens-short, hopeless-none, hopeless-breaks, hopeless-hyphens, hopeless-more}
 use Rattle.idn_class.proofs.HopelessTests.{hopeless-gives, hopeless-from}
 
 -- ---- one code point more
@@ -15,15 +15,15 @@ use Rattle.idn_class.proofs.HopelessTests.{hopeless-gives, hopeless-from}
 take_longer : (w : List ℕ) (i : ℕ) → i < length w → take (i + 1) w ≡ take i w ++ slice_index w i ∷ []
 take_longer w i within = take_more w i 0 within
 
--- behind the start, the first i code points lead to this direction, and keep the Bidi rule
+-- after the start, the first i code points lead to this direction, and keep the Bidi rule
 pub record HasKept (start : Direction) (rest : List ℕ) (i : ℕ) (d : Direction) : Type 0 where
   pub told : Tells start (take i rest) d
-  pub kept : (k : ℕ) → k ≤ i → breaks_behind start (take k rest) ≡ false
+  pub kept : (k : ℕ) → k ≤ i → breaks_after start (take k rest) ≡ false
 
 pub HasKept-none : (start : Direction) (rest : List ℕ) → HasKept start rest 0 start
 HasKept-none start rest = record {
   told = λ w. refl;
-  kept = λ k none. let zero : k ≡ 0 = omega arith in ap (λ n. breaks_behind start (take n rest)) zero ∙ breaks_behind-nil start;
+  kept = λ k none. let zero : k ≡ 0 = omega arith in ap (λ n. breaks_after start (take n rest)) zero ∙ breaks_after-nil start;
 }
 
 pub HasKept-next : (start : Direction) (rest : List ℕ) (i : ℕ) (d e : Direction) → HasKept start rest i d → i < length rest → lengthened d (slice_index rest i) ≡ Some e → HasKept start rest (i + 1) e
@@ -32,22 +32,22 @@ HasKept-next start rest i d e h within is =
     record {
       told = told;
       kept = λ k few. elim (cases_order k (i + 1)) [
-        | inl last ↦ ap (λ n. breaks_behind start (take n rest)) last ∙ Tells-itself start (take (i + 1) rest) e told
+        | inl last ↦ ap (λ n. breaks_after start (take n rest)) last ∙ Tells-itself start (take (i + 1) rest) e told
         | inr other ↦ elim other [ inl less ↦ h.kept k (omega arith) | inr more ↦ absurd (omega arith) ]
       ];
     }
 
-pub IsShortest-here : (start : Direction) (rest : List ℕ) (i : ℕ) (d : Direction) → HasKept start rest i d → i < length rest → lengthened d (slice_index rest i) ≡ None → IsShortest (breaks_behind start) rest (i + 1)
+pub IsShortest-here : (start : Direction) (rest : List ℕ) (i : ℕ) (d : Direction) → HasKept start rest i d → i < length rest → lengthened d (slice_index rest i) ≡ None → IsShortest (breaks_after start) rest (i + 1)
 IsShortest-here start rest i d h within is = record {
   within = omega arith;
-  holds = ap (breaks_behind start) (take_longer rest i within) ∙ breaks_at-last start (take i rest) d (slice_index rest i) h.told is;
+  holds = ap (breaks_after start) (take_longer rest i within) ∙ breaks_at-last start (take i rest) d (slice_index rest i) h.told is;
   first = λ k less. h.kept k (omega arith);
 }
 
-pub HasNone-all : (start : Direction) (rest : List ℕ) (d : Direction) → HasKept start rest (length rest) d → HasNone (breaks_behind start) rest
+pub HasNone-all : (start : Direction) (rest : List ℕ) (d : Direction) → HasKept start rest (length rest) d → HasNone (breaks_after start) rest
 HasNone-all start rest d h k = elim (cases_lt k (length rest)) [
   | inl less ↦ h.kept k (omega arith)
-  | inr whole ↦ ap (breaks_behind start) (take_all k rest whole ∙ sym (take_all (length rest) rest (omega arith))) ∙ h.kept (length rest) (omega arith)
+  | inr whole ↦ ap (breaks_after start) (take_all k rest whole ∙ sym (take_all (length rest) rest (omega arith))) ∙ h.kept (length rest) (omega arith)
 ]
 
 -- ---- no code point

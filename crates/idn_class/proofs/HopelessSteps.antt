@@ -3,6 +3,7 @@ use Rattle.std.proofs.Common.{◌≡◌, ℕ, zero, suc, ◌<◌, ◌≤◌, Boo
 use Rattle.std.specs.List.{list_any}
 use Rattle.std.proofs.lemmas.Bool.{or_cases, or_left, or_right}
 use Rattle.std.proofs.lemmas.List.{take_all}
+use Rattle.std.proofs.Math.Bool.{and-true, or-true}
 use Rattle.idn_class.specs.declared.bidi_class.BidiClass.{BidiClass}
 use Rattle.idn_class.specs.declared.bidi_class.BidiClass.TheVariants.{L, R, AL, AN, EN, ES, CS, ET, ON, BN, NSM}
 use Rattle.idn_class.specs.declared.direction.Direction.{Direction}
@@ -12,22 +13,14 @@ use Rattle.idn_class.specs.BidiRule.{is_rtl_class}
 use Rattle.idn_class.specs.LeadingMark.{is_mark}
 use Rattle.idn_class.specs.Tests.{is_en, is_an, is_rtl}
 use Rattle.idn_class.specs.Hopeless.{is_l, has_hyphens_third_and_fourth, breaks_bidi, hopeless}
-use Rattle.idn_class.specs.inner.Directions.{breaks_at_first, breaks_behind, begun_by, begun, rtl_lengthened, lengthened}
+use Rattle.idn_class.specs.Directions.{breaks_at_first, breaks_after, begun_by, begun, rtl_lengthened, lengthened}
 
 -- where there is no direction, everything is broken
-abbrev pub breaks_after : Option Direction → List ℕ → Bool
-breaks_after None w = true
-breaks_after (Some direction) w = breaks_behind direction w
+abbrev pub broken_or_breaks_after : Option Direction → List ℕ → Bool
+broken_or_breaks_after None w = true
+broken_or_breaks_after (Some direction) w = breaks_after direction w
 
-and_true : (b : Bool) → (b && true) ≡ b
-and_true true = refl
-and_true false = refl
-
-or_true : (b : Bool) → (b || true) ≡ true
-or_true true = refl
-or_true false = refl
-
-begun_step : (k : BidiClass) (w : List ℕ) → breaks_bidi (is_rtl (k ∷ map bidi_class w)) (k ∷ map bidi_class w) ≡ breaks_after (begun_by k) w
+begun_step : (k : BidiClass) (w : List ℕ) → breaks_bidi (is_rtl (k ∷ map bidi_class w)) (k ∷ map bidi_class w) ≡ broken_or_breaks_after (begun_by k) w
 begun_step R w = refl
 begun_step AL w = refl
 begun_step AN w = refl
@@ -40,19 +33,19 @@ begun_step ON w = refl
 begun_step BN w = refl
 begun_step NSM w = refl
 
-open_step : (hyphen mark : Bool) (k : BidiClass) (w : List ℕ) → (hyphen || mark || breaks_bidi (is_rtl (k ∷ map bidi_class w)) (k ∷ map bidi_class w)) ≡ breaks_after (cond (hyphen || mark) None (begun_by k)) w
+open_step : (hyphen mark : Bool) (k : BidiClass) (w : List ℕ) → (hyphen || mark || breaks_bidi (is_rtl (k ∷ map bidi_class w)) (k ∷ map bidi_class w)) ≡ broken_or_breaks_after (cond (hyphen || mark) None (begun_by k)) w
 open_step true mark k w = refl
 open_step false true k w = refl
 open_step false false k w = begun_step k w
 
-ltr_step : (b : Bool) (w : List ℕ) → (b || list_any is_rtl_class (map bidi_class w)) ≡ breaks_after (cond b None (Some Ltr)) w
+ltr_step : (b : Bool) (w : List ℕ) → (b || list_any is_rtl_class (map bidi_class w)) ≡ broken_or_breaks_after (cond b None (Some Ltr)) w
 ltr_step true w = refl
 ltr_step false w = refl
 
-rtl_step : (k : BidiClass) (w : List ℕ) → (list_any is_l (k ∷ map bidi_class w) || (list_any is_en (k ∷ map bidi_class w) && list_any is_an (k ∷ map bidi_class w))) ≡ breaks_after (rtl_lengthened Rtl k) w
+rtl_step : (k : BidiClass) (w : List ℕ) → (list_any is_l (k ∷ map bidi_class w) || (list_any is_en (k ∷ map bidi_class w) && list_any is_an (k ∷ map bidi_class w))) ≡ broken_or_breaks_after (rtl_lengthened Rtl k) w
 rtl_step L w = refl
 rtl_step EN w = refl
-rtl_step AN w = ap (λ b. list_any is_l (map bidi_class w) || b) (and_true (list_any is_en (map bidi_class w)))
+rtl_step AN w = ap (λ b. list_any is_l (map bidi_class w) || b) (and-true (list_any is_en (map bidi_class w)))
 rtl_step R w = refl
 rtl_step AL w = refl
 rtl_step ES w = refl
@@ -62,9 +55,9 @@ rtl_step ON w = refl
 rtl_step BN w = refl
 rtl_step NSM w = refl
 
-european_step : (k : BidiClass) (w : List ℕ) → (list_any is_l (k ∷ map bidi_class w) || list_any is_an (k ∷ map bidi_class w)) ≡ breaks_after (rtl_lengthened RtlEuropean k) w
+european_step : (k : BidiClass) (w : List ℕ) → (list_any is_l (k ∷ map bidi_class w) || list_any is_an (k ∷ map bidi_class w)) ≡ broken_or_breaks_after (rtl_lengthened RtlEuropean k) w
 european_step L w = refl
-european_step AN w = or_true (list_any is_l (map bidi_class w))
+european_step AN w = or-true (list_any is_l (map bidi_class w))
 european_step EN w = refl
 european_step R w = refl
 european_step AL w = refl
@@ -75,9 +68,9 @@ european_step ON w = refl
 european_step BN w = refl
 european_step NSM w = refl
 
-arabic_step : (k : BidiClass) (w : List ℕ) → (list_any is_l (k ∷ map bidi_class w) || list_any is_en (k ∷ map bidi_class w)) ≡ breaks_after (rtl_lengthened RtlArabic k) w
+arabic_step : (k : BidiClass) (w : List ℕ) → (list_any is_l (k ∷ map bidi_class w) || list_any is_en (k ∷ map bidi_class w)) ≡ broken_or_breaks_after (rtl_lengthened RtlArabic k) w
 arabic_step L w = refl
-arabic_step EN w = or_true (list_any is_l (map bidi_class w))
+arabic_step EN w = or-true (list_any is_l (map bidi_class w))
 arabic_step AN w = refl
 arabic_step R w = refl
 arabic_step AL w = refl
@@ -88,54 +81,54 @@ arabic_step ON w = refl
 arabic_step BN w = refl
 arabic_step NSM w = refl
 
--- the first code point tells the direction behind which the others stand, and each one more the direction behind it
-pub breaks_at_first-cons : (c : ℕ) (w : List ℕ) → breaks_at_first (c ∷ w) ≡ breaks_after (begun c) w
+-- the first code point tells the direction after which the others stand, and each one more the direction after it
+pub breaks_at_first-cons : (c : ℕ) (w : List ℕ) → breaks_at_first (c ∷ w) ≡ broken_or_breaks_after (begun c) w
 breaks_at_first-cons c w = open_step (c == 0x2D) (is_mark c) (bidi_class c) w
 
-pub breaks_behind-cons : (d : Direction) (c : ℕ) (w : List ℕ) → breaks_behind d (c ∷ w) ≡ breaks_after (lengthened d c) w
-breaks_behind-cons Ltr c w = ltr_step (is_rtl_class (bidi_class c)) w
-breaks_behind-cons Rtl c w = rtl_step (bidi_class c) w
-breaks_behind-cons RtlEuropean c w = european_step (bidi_class c) w
-breaks_behind-cons RtlArabic c w = arabic_step (bidi_class c) w
+pub breaks_after-cons : (d : Direction) (c : ℕ) (w : List ℕ) → breaks_after d (c ∷ w) ≡ broken_or_breaks_after (lengthened d c) w
+breaks_after-cons Ltr c w = ltr_step (is_rtl_class (bidi_class c)) w
+breaks_after-cons Rtl c w = rtl_step (bidi_class c) w
+breaks_after-cons RtlEuropean c w = european_step (bidi_class c) w
+breaks_after-cons RtlArabic c w = arabic_step (bidi_class c) w
 
-pub breaks_behind-nil : (d : Direction) → breaks_behind d [] ≡ false
-breaks_behind-nil Ltr = refl
-breaks_behind-nil Rtl = refl
-breaks_behind-nil RtlEuropean = refl
-breaks_behind-nil RtlArabic = refl
+pub breaks_after-nil : (d : Direction) → breaks_after d [] ≡ false
+breaks_after-nil Ltr = refl
+breaks_after-nil Rtl = refl
+breaks_after-nil RtlEuropean = refl
+breaks_after-nil RtlArabic = refl
 
--- behind the start and the front, this direction lets follow what may follow
+-- after the start and the front, this direction lets follow what may follow
 abbrev pub Tells : Direction → List ℕ → Direction → Type 0
-Tells start front d = (w : List ℕ) → breaks_behind start (front ++ w) ≡ breaks_behind d w
+Tells start front d = (w : List ℕ) → breaks_after start (front ++ w) ≡ breaks_after d w
 
-pub breaks_longer : (start : Direction) (front : List ℕ) (d : Direction) (c : ℕ) → Tells start front d → (w : List ℕ) → breaks_behind start ((front ++ c ∷ []) ++ w) ≡ breaks_after (lengthened d c) w
-breaks_longer start front d c told w = ap (breaks_behind start) (append_assoc front (c ∷ []) w) ∙ told (c ∷ w) ∙ breaks_behind-cons d c w
+pub breaks_longer : (start : Direction) (front : List ℕ) (d : Direction) (c : ℕ) → Tells start front d → (w : List ℕ) → breaks_after start ((front ++ c ∷ []) ++ w) ≡ broken_or_breaks_after (lengthened d c) w
+breaks_longer start front d c told w = ap (breaks_after start) (append_assoc front (c ∷ []) w) ∙ told (c ∷ w) ∙ breaks_after-cons d c w
 
 pub Tells-longer : (start : Direction) (front : List ℕ) (d e : Direction) (c : ℕ) → Tells start front d → lengthened d c ≡ Some e → Tells start (front ++ c ∷ []) e
-Tells-longer start front d e c told is w = breaks_longer start front d c told w ∙ ap (λ o. breaks_after o w) is
+Tells-longer start front d e c told is w = breaks_longer start front d c told w ∙ ap (λ o. broken_or_breaks_after o w) is
 
-pub Tells-itself : (start : Direction) (front : List ℕ) (d : Direction) → Tells start front d → breaks_behind start front ≡ false
-Tells-itself start front d told = ap (breaks_behind start) (sym (append-nil front)) ∙ told [] ∙ breaks_behind-nil d
+pub Tells-itself : (start : Direction) (front : List ℕ) (d : Direction) → Tells start front d → breaks_after start front ≡ false
+Tells-itself start front d told = ap (breaks_after start) (sym (append-nil front)) ∙ told [] ∙ breaks_after-nil d
 
-pub breaks_at-last : (start : Direction) (front : List ℕ) (d : Direction) (c : ℕ) → Tells start front d → lengthened d c ≡ None → breaks_behind start (front ++ c ∷ []) ≡ true
+pub breaks_at-last : (start : Direction) (front : List ℕ) (d : Direction) (c : ℕ) → Tells start front d → lengthened d c ≡ None → breaks_after start (front ++ c ∷ []) ≡ true
 breaks_at-last start front d c told is =
-    ap (breaks_behind start) (sym (append-nil (front ++ c ∷ []))) ∙ breaks_longer start front d c told [] ∙ ap (λ o. breaks_after o []) is
+    ap (breaks_after start) (sym (append-nil (front ++ c ∷ []))) ∙ breaks_longer start front d c told [] ∙ ap (λ o. broken_or_breaks_after o []) is
 
 -- ---- what is broken once is broken for good
 
-breaks_after-more : (o : Option Direction) (w z : List ℕ) → ((d : Direction) → breaks_behind d w ≡ true → breaks_behind d (w ++ z) ≡ true) → breaks_after o w ≡ true → breaks_after o (w ++ z) ≡ true
-breaks_after-more None w z more h = refl
-breaks_after-more (Some d) w z more h = more d h
+broken_or_breaks_after-more : (o : Option Direction) (w z : List ℕ) → ((d : Direction) → breaks_after d w ≡ true → breaks_after d (w ++ z) ≡ true) → broken_or_breaks_after o w ≡ true → broken_or_breaks_after o (w ++ z) ≡ true
+broken_or_breaks_after-more None w z more h = refl
+broken_or_breaks_after-more (Some d) w z more h = more d h
 
-pub breaks_behind-more : (d : Direction) (w z : List ℕ) → breaks_behind d w ≡ true → breaks_behind d (w ++ z) ≡ true
-breaks_behind-more d [] z h = let clash : false ≡ true = sym (breaks_behind-nil d) ∙ h in cc
-breaks_behind-more d (c ∷ w) z h =
-    breaks_behind-cons d c (w ++ z) ∙ breaks_after-more (lengthened d c) w z (λ e. breaks_behind-more e w z) (sym (breaks_behind-cons d c w) ∙ h)
+pub breaks_after-more : (d : Direction) (w z : List ℕ) → breaks_after d w ≡ true → breaks_after d (w ++ z) ≡ true
+breaks_after-more d [] z h = let clash : false ≡ true = sym (breaks_after-nil d) ∙ h in cc
+breaks_after-more d (c ∷ w) z h =
+    breaks_after-cons d c (w ++ z) ∙ broken_or_breaks_after-more (lengthened d c) w z (λ e. breaks_after-more e w z) (sym (breaks_after-cons d c w) ∙ h)
 
 breaks_at_first-more : (w z : List ℕ) → breaks_at_first w ≡ true → breaks_at_first (w ++ z) ≡ true
 breaks_at_first-more [] z h = let clash : false ≡ true = h in cc
 breaks_at_first-more (c ∷ w) z h =
-    breaks_at_first-cons c (w ++ z) ∙ breaks_after-more (begun c) w z (λ e. breaks_behind-more e w z) (sym (breaks_at_first-cons c w) ∙ h)
+    breaks_at_first-cons c (w ++ z) ∙ broken_or_breaks_after-more (begun c) w z (λ e. breaks_after-more e w z) (sym (breaks_at_first-cons c w) ∙ h)
 
 pub hyphens-more : (w z : List ℕ) → has_hyphens_third_and_fourth w ≡ true → has_hyphens_third_and_fourth (w ++ z) ≡ true
 hyphens-more [] z h = let clash : false ≡ true = h in cc

@@ -1,5 +1,5 @@
 -- The test of hopeless beginnings says what it is to be hopeless; a hopeless list stays so, and fails some test of a label.
-use Rattle.std.proofs.Common.{◌≡◌, ℕ, zero, suc, get_or, ◌↔◌, Bool, true, false, ◌&&◌, ◌||◌, ◌==◌, List, [], ◌∷◌, ◌++◌, map, Contains, Some, slice_get, slice_index, refl, sym, ap, subst, ◌∙◌, inl, inr, arith}
+use Rattle.std.proofs.Common.{◌≡◌, ℕ, zero, suc, get_or, Bool, true, false, ◌&&◌, ◌||◌, ◌==◌, List, [], ◌∷◌, ◌++◌, map, Contains, Some, slice_get, slice_index, refl, sym, ap, subst, ◌∙◌, inl, inr, arith}
 use Rattle.std.specs.List.{list_any, list_all}
 use Rattle.std.proofs.lemmas.Bool.{and_parts, and_from, eqb-true, or_cases, or_left, or_right}
 use Rattle.std.proofs.lemmas.Bool.Decides.{nat_tests}
@@ -12,7 +12,7 @@ use Rattle.idn_class.specs.ContextO.{is_arabic_digit, is_extended_arabic_digit}
 use Rattle.idn_class.specs.LeadingMark.{BeginsWithMark}
 use Rattle.idn_class.specs.Tests.{leading_mark, is_en, is_an, is_rtl}
 use Rattle.idn_class.specs.Hopeless.{IsHopeless, Hyphen_first, Hyphens_third_and_fourth, Mark_first, Rtl_in_ltr, Ltr_in_rtl, Both_numbers_in_rtl, Both_kinds_of_digits, is_l, begins_with_hyphen, has_hyphens_third_and_fourth, breaks_bidi, hopeless}
-use Rattle.idn_class.specs.inner.Directions.{breaks_at_first}
+use Rattle.idn_class.specs.Directions.{breaks_at_first}
 use Rattle.idn_class.proofs.BidiLemmas.{RtlParts_from, list_any-from_Contains_EN, list_any-from_Contains_AN, Contains_EN-from_list_any, Contains_AN-from_list_any}
 use Rattle.idn_class.proofs.BidiTests.{is_rtl-gives, is_rtl-from}
 use Rattle.idn_class.proofs.HopelessSteps.{hopeless-more}

@@ -1,23 +1,20 @@
 -- What is known of a beginning, and of one that is longer by a code point.
-use Rattle.std.proofs.Common.{◌≡◌, ℕ, ◌+◌, ◌<◌, Bool, true, false, ◌||◌, List, [], ◌∷◌, ◌++◌, length, take, get_or, Some, refl, sym, ap, ap₂, ◌∙◌, subst, inl, inr, append_assoc, append-nil, length-append, length-take, arith}
+use Rattle.std.proofs.Common.{◌≡◌, ℕ, ◌+◌, ◌<◌, true, false, ◌||◌, List, [], ◌∷◌, ◌++◌, length, take, get_or, Some, sym, ap, ap₂, ◌∙◌, subst, inl, inr, append_assoc, append-nil, length-append, length-take, arith}
 use Rattle.std.proofs.lemmas.Bool.{cases_lt, cases_order}
 use Rattle.std.proofs.Math.ListN.{get_or-append}
 use Rattle.std.proofs.Math.Seq.{get_or-append_seam}
 use Rattle.std.proofs.lemmas.List.{take_all, take-take, take_more, take-append-le, get_or-take}
 use Rattle.std.proofs.lemmas.List.Folds.{list_any-append}
+use Rattle.std.proofs.Math.Bool.{or-false}
 use Rattle.idn_class.specs.declared.direction.Direction.{Direction}
 use Rattle.idn_class.specs.declared.facts.Fact.{Fact}
 use Rattle.idn_class.specs.declared.facts.Facts.{Facts}
 use Rattle.idn_class.specs.declared.known.Known.{Known}
-use Rattle.idn_class.specs.inner.Directions.{HasNone, IsShortest, breaks_at_first, breaks_behind, lengthened}
+use Rattle.idn_class.specs.Directions.{HasNone, IsShortest, breaks_at_first, breaks_after, lengthened}
 use Rattle.idn_class.specs.Facts.{contains, has_fact}
 use Rattle.idn_class.specs.Known.{IsKnown, AreKnown}
-use Rattle.idn_class.proofs.HopelessSteps.{breaks_after, breaks_behind-cons, breaks_behind-nil}
+use Rattle.idn_class.proofs.HopelessSteps.{broken_or_breaks_after, breaks_after-cons, breaks_after-nil}
 use Rattle.idn_class.proofs.HopelessShortest.{HasNone-nil}
-
-or_false : (b : Bool) → (b || false) ≡ b
-or_false true = refl
-or_false false = refl
 
 -- ---- one code point more
 
@@ -25,11 +22,11 @@ pub IsKnown-longer : (w : List ℕ) (known : Known) (c : ℕ) (more joined : Fac
     → ((fact : Fact) → contains more fact ≡ has_fact fact c) → ((fact : Fact) → contains joined fact ≡ (contains known.facts fact || contains more fact))
     → lengthened known.direction c ≡ Some e → IsKnown (w ++ c ∷ []) (record { facts = joined; direction = e })
 IsKnown-longer w known c more joined e h of both is =
-    let told : (z : List ℕ) → breaks_at_first ((w ++ c ∷ []) ++ z) ≡ breaks_behind e z =
-    λ z. ap breaks_at_first (append_assoc w (c ∷ []) z) ∙ h.direction (c ∷ z) ∙ breaks_behind-cons known.direction c z ∙ ap (λ o. breaks_after o z) is in
-    let whole : breaks_at_first (w ++ c ∷ []) ≡ false = ap breaks_at_first (sym (append-nil (w ++ c ∷ []))) ∙ told [] ∙ breaks_behind-nil e in
+    let told : (z : List ℕ) → breaks_at_first ((w ++ c ∷ []) ++ z) ≡ breaks_after e z =
+    λ z. ap breaks_at_first (append_assoc w (c ∷ []) z) ∙ h.direction (c ∷ z) ∙ breaks_after-cons known.direction c z ∙ ap (λ o. broken_or_breaks_after o z) is in
+    let whole : breaks_at_first (w ++ c ∷ []) ≡ false = ap breaks_at_first (sym (append-nil (w ++ c ∷ []))) ∙ told [] ∙ breaks_after-nil e in
     record {
-      facts = λ fact. both fact ∙ ap₂ (λ a b. a || b) (h.facts fact) (of fact ∙ sym (or_false (has_fact fact c))) ∙ sym (list_any-append (has_fact fact) w (c ∷ []));
+      facts = λ fact. both fact ∙ ap₂ (λ a b. a || b) (h.facts fact) (of fact ∙ sym (or-false (has_fact fact c))) ∙ sym (list_any-append (has_fact fact) w (c ∷ []));
       direction = told;
       unbroken = λ k. elim (cases_lt k (length w + 1)) [
         | inl few ↦ ap breaks_at_first (take-append-le k w (c ∷ []) (omega arith)) ∙ h.unbroken k

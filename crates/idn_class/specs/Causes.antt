@@ -4,8 +4,8 @@ use Rattle.std.specs.List.{list_any}
 use Rattle.idn_class.specs.declared.bidi_class.BidiClass.{BidiClass}
 use Rattle.idn_class.specs.declared.bidi_class.BidiClass.TheVariants.{EN, AN, NSM}
 use Rattle.idn_class.specs.declared.broken.Broken.{Broken}
-use Rattle.idn_class.specs.declared.broken.Condition.{Condition}
-use Rattle.idn_class.specs.declared.broken.Condition.TheVariants.{First, RtlHolds, RtlEnds, RtlNumbers, LtrHolds}
+use Rattle.idn_class.specs.declared.broken.BidiCondition.{BidiCondition}
+use Rattle.idn_class.specs.declared.broken.BidiCondition.TheVariants.{First, RtlHolds, RtlEnds, RtlNumbers, LtrHolds}
 use Rattle.idn_class.specs.BidiClass.{bidi_class}
 use Rattle.idn_class.specs.BidiRule.{is_rtl_class, is_allowed_in_rtl, is_end_of_rtl, is_allowed_in_ltr, IsRtl, IsLtr}
 use Rattle.idn_class.specs.Tests.{joiner_at, other_at, is_en, is_an, is_nsm, is_rtl, is_ltr}
@@ -74,7 +74,7 @@ numbers_agree_to label place =
     not (some_place (suc place) (λ k. is_en (class_at label k)) && some_place (suc place) (λ k. is_an (class_at label k)))
 
 -- the number of a condition in the standard
-abbrev pub condition_number : Condition → ℕ
+abbrev pub condition_number : BidiCondition → ℕ
 condition_number First = 1
 condition_number RtlHolds = 2
 condition_number RtlEnds = 3
@@ -82,7 +82,7 @@ condition_number RtlNumbers = 4
 condition_number LtrHolds = 5
 
 -- this condition is broken at this place, if there is one
-abbrev pub broken_at : Condition → Option ℕ → Option Broken
+abbrev pub broken_at : BidiCondition → Option ℕ → Option Broken
 broken_at condition None = None
 broken_at condition (Some place) = Some (record { condition = condition; place = place })
 
@@ -126,7 +126,7 @@ abbrev pub StandsUpTo : List ℕ → BidiClass → ℕ → Type 0
 StandsUpTo label class place = (k : ℕ) × (k ≤ place) × (class_at label k ≡ class)
 
 -- the code point at the place breaks the condition
-abbrev pub Breaks : List ℕ → Condition → ℕ → Type 0
+abbrev pub Breaks : List ℕ → BidiCondition → ℕ → Type 0
 -- 1: it is the first, and neither L, R nor AL
 Breaks label First place = (place ≡ 0) × ¬ (IsLtr (map bidi_class label) ⊎ IsRtl (map bidi_class label))
 -- 2: it is the first in an RTL label that is none of R, AL, AN, EN, ES, CS, ET, ON, BN and NSM
@@ -143,7 +143,7 @@ Breaks label LtrHolds place =
     IsLtr (map bidi_class label) × IsFirstFailing label (λ k. IsTrue (is_allowed_in_ltr (class_at label k))) place
 
 -- the rule applies, the condition is broken at the place, and no earlier condition is broken anywhere
-pub record IsFirstBroken (label : List ℕ) (condition : Condition) (place : ℕ) : Type 0 where
+pub record IsFirstBroken (label : List ℕ) (condition : BidiCondition) (place : ℕ) : Type 0 where
   pub applies : Any (λ class. IsTrue (is_rtl_class class)) (map bidi_class label)
   pub breaks : Breaks label condition place
-  pub earlier : (other : Condition) (k : ℕ) → condition_number other < condition_number condition → ¬ Breaks label other k
+  pub earlier : (other : BidiCondition) (k : ℕ) → condition_number other < condition_number condition → ¬ Breaks label other k

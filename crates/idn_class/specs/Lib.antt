@@ -9,10 +9,10 @@ pub mod Facts
 pub mod JoiningType
 pub mod LeadingMark
 pub mod Neighbors
-pub mod Rows
+pub mod WorkedRows
 pub mod Profile
 pub mod Tests
 pub mod Hopeless
+pub mod Directions
 pub mod Known
 pub mod Shared
-pub mod inner

@@ -86,7 +86,7 @@ fn line_of_properties(alloc: Global, c: char) -> Result<Option<BarringLine>, All
     Ok(line_by_look_up(c))
 }
 
-/// The first of the lines behind Unstable, which look-ups tell.
+/// The first of the lines after Unstable, which look-ups tell.
 #[tactic(auto, unfolding(crate::specs::Barring::applies))]
 fn line_by_look_up(c: char) -> Option<BarringLine>
     ensures { result ≡ find (applies c)

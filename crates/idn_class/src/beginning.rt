@@ -1,6 +1,6 @@
 ghost use Rattle.std.specs.Prelude.{◌≡◌, ◌↔◌, IsTrue, None, MatchOption};
 ghost use Rattle.idn_class.specs.Hopeless.{has_hyphens_third_and_fourth, hopeless, IsHopeless, IsShortestHopeless, HasHope};
-ghost use Rattle.idn_class.specs.inner.Directions.{IsShortest, HasNone, breaks_at_first};
+ghost use Rattle.idn_class.specs.Directions.{IsShortest, HasNone, breaks_at_first};
 
 use crate::direction::Direction;
 

@@ -1,5 +1,5 @@
 ghost use Rattle.std.specs.Prelude.{◌≡◌, MatchOption};
-ghost use Rattle.idn_class.specs.inner.Directions.{IsShortest, HasNone, begun, lengthened, rtl_lengthened, breaks_behind};
+ghost use Rattle.idn_class.specs.Directions.{IsShortest, HasNone, begun, lengthened, rtl_lengthened, breaks_after};
 
 use crate::bidi::is_rtl_code_point;
 use crate::bidi_class::{BidiClass, bidi_class};
@@ -39,7 +39,7 @@ impl Direction {
     /// How many code points have to follow until the Bidi rule is broken for good. `None` where all may
     /// follow.
     pub(crate) fn shortest_breaking(self, rest: &[u32]) -> Option<usize>
-        ensures { MatchOption result (HasNone (breaks_behind self) rest.now) (IsShortest (breaks_behind self) rest.now) }
+        ensures { MatchOption result (HasNone (breaks_after self) rest.now) (IsShortest (breaks_after self) rest.now) }
     {
         let mut direction = self;
         for index in 0..rest.len() {

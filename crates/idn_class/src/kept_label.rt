@@ -72,7 +72,7 @@ impl KeptLabel {
         self.len = self.len.min(count);
     }
 
-    /// Puts a code point behind the others. There must be room.
+    /// Puts a code point after the others. There must be room.
     #[inline]
     pub fn push(&mut self, point: u32)
         requires { length self.old < 63 }

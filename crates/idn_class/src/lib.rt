@@ -30,7 +30,7 @@ pub use barring::{BarringLine, barring_line};
 pub use beginning::{hopeless, shortest_hopeless};
 pub use bidi::bidi_ok;
 pub use bidi_class::BidiClass;
-pub use broken::{Broken, Condition, broken_condition};
+pub use broken::{BidiCondition, Broken, broken_condition};
 pub use class::{Class, class_of};
 pub use contextj::{contextj_ok, misplaced_joiner};
 pub use contexto::{contexto_ok, misplaced_other};

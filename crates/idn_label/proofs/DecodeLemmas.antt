@@ -2,17 +2,15 @@
 use Rattle.std.proofs.Common.{◌≡◌, ℕ, ◌+◌, ◌<◌, true, false, List, [], ◌∷◌, ◌++◌, map, take, drop, get_or, length, All, Result, Ok, Err, refl, sym, ap, ◌∙◌, append_assoc, take-append-drop, eq-eqb}
 use lib.Utf8.{encode}
 use Rattle.std.specs.Char.{to_ascii_lowercase}
-use Rattle.std.specs.Str.{IsAscii}
 use Rattle.std.proofs.lemmas.Bool.{cond-true, cond-false}
 use Rattle.std.proofs.lemmas.List.{drop_more}
 use Rattle.std.proofs.lemmas.List.Splits.{slice_split_at}
-use Rattle.std.proofs.lemmas.Str.{IsAscii-drop, IsAscii-take, encodes-append}
+use Rattle.std.proofs.lemmas.Str.{encodes-append}
 use Rattle.idna.specs.Labels.{is_full_stop, labels_of, join_labels}
 use Rattle.idna.specs.Validity.{has_ace_prefix}
 use Rattle.idna.proofs.LabelsLemmas.{labels_of_cons}
 use Rattle.idn_text.specs.declared.refusal.Refusal.{Refusal}
 use Rattle.idn_text.specs.Points.{utf8_of}
-use Rattle.idn_text.proofs.Utf8Lemmas.{ascii_points}
 use Rattle.idn_label.specs.Answers.{Answer, and_then}
 use Rattle.idn_label.specs.Decode.{decoded_label, with_others, decoded_labels, decode_answer}
 use Rattle.idn_label.specs.Register.{u_label_answer}
@@ -54,7 +52,7 @@ abbrev pub appended : List ℕ → Answer → Answer
 appended before answer = and_then answer (λ more. Ok (before ++ more))
 
 -- a label, a full stop and the others
-abbrev followed : Answer → Answer → Answer
+abbrev pub followed : Answer → Answer → Answer
 followed first others = and_then first (λ label. appended (label ++ 0x2E ∷ []) others)
 
 abbrev pub joined : Result (List (List ℕ)) Refusal → Answer
@@ -87,13 +85,8 @@ turn_more before after (Ok label) (Ok others) is =
 
 -- ---- as UTF-8
 
-pub utf8_of-ascii_text : (text : List ℕ) → IsAscii text → utf8_of text ≡ text
-utf8_of-ascii_text text ascii = (ascii_points text ascii).encoded
-
 pub in_utf8-followed : (first others : Answer) → in_utf8 (followed first others) ≡ followed (in_utf8 first) (in_utf8 others)
 unfolding encode
 in_utf8-followed (Err refusal) others = refl
 in_utf8-followed (Ok label) (Err refusal) = refl
 in_utf8-followed (Ok label) (Ok others) = ap Ok (encodes-append (label ++ 0x2E ∷ []) others ∙ ap (λ text. text ++ utf8_of others) (encodes-append label (0x2E ∷ [])))
-
-pub ruleset parts = (IsAscii-take, IsAscii-drop, appended-nil)

@@ -38,8 +38,8 @@ join_terminated (label ∷ next ∷ labels) last =
 pub All-parts : {X : Type 0} (P : X → Type 0) (xs : List X) (x : X) → All P (xs ++ x ∷ []) → All P xs × P x
 All-parts P [] x h = (All-nil P, All-head P x [] h)
 All-parts P (y ∷ xs) x h =
-    let behind = All-parts P xs x (All-tail P y (xs ++ x ∷ []) h) in
-    (All-cons P y xs (All-head P y (xs ++ x ∷ []) h) behind.0, behind.1)
+    let after = All-parts P xs x (All-tail P y (xs ++ x ∷ []) h) in
+    (All-cons P y xs (All-head P y (xs ++ x ∷ []) h) after.0, after.1)
 
 may_end-stop : (n m : ℕ) → n ≡ m + 1 → may_end n n ≡ nat_le m 253
 may_end-stop n m is = grind (arith, nat_tests)

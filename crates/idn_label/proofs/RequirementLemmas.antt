@@ -42,7 +42,7 @@ unmarked : (label : List ℕ) → ¬ (BeginsWithMark label) → leading_mark lab
 unmarked [] none = refl
 unmarked (c ∷ label) none = false_from_ne_true _ none
 
-not_empty : (label : List ℕ) → label ≢ [] → (length label == 0) ≡ false
+pub not_empty : (label : List ℕ) → label ≢ [] → (length label == 0) ≡ false
 not_empty [] some = absurd (some refl)
 not_empty (c ∷ label) some = grind (arith, nat_tests)
 

@@ -1,20 +1,70 @@
 //! Decoding of the A-labels of a name (RFC 5891 section 5.3).
-ghost use Rattle.std.specs.Prelude.{◌≡◌, ◌<◌, ◌≤◌, ℕ, List, length, IfOk, Ok};
+ghost use Rattle.std.specs.Prelude.{◌≡◌, ◌≢◌, ◌<◌, ◌≤◌, ◌*◌, ℕ, List, length, take, IfOk, Ok, Err, All};
+ghost use Rattle.idna.specs.Labels.{labels_of};
 ghost use Rattle.idn_label.specs.ALabel.{a_label_of};
 ghost use Rattle.idn_label.specs.Answers.{Gives};
-ghost use Rattle.idn_label.specs.Decode.{decode_answer};
+ghost use Rattle.idn_label.specs.Decode.{decode_answer, decode_utf8_answer};
 ghost use Rattle.idn_label.specs.FirstFault.{IsRegistrable};
+ghost use Rattle.idn_label.specs.Memory.{DecodesWithoutMemory};
 
 use crate::full_stops::label_end;
 use crate::u_label::u_label_in_any_case;
 use crate::unit::{FULL_STOP, has_ace_prefix_in_any_case};
 use idn_punycode::DecodedLabel;
-use idn_text::{MAX_LINE_LEN, Refusal};
+use idn_text::{MAX_LINE_LEN, Refusal, put_points};
 use std::alloc::Global;
+use std::str;
+
+/// Writes into `room` the UTF-8 (RFC 3629) of what `decode_name` makes of a name in UTF-8, and returns how many octets
+/// these are. Other bytes are refused as `NotUtf8`; where the name is refused, what is left in `room` says nothing. There
+/// must be room for four octets for each of the name. `u_label` is room for what an A-label stands for: what stood there
+/// before says nothing. A name without A-labels takes no memory, nor does an A-label in most cases: one of more than 63
+/// octets does, one of a label in ASCII, and one of a label with a code point of which no look-up says the class, or for
+/// which the quick check of NFC is Maybe.
+// A full stop is one octet, and no octet of another code point: labels are cut, and copied, as octets.
+#[tactic(auto, using(crate::proofs::ALabels::scalars))]
+pub fn decode_utf8(
+    alloc: Global,
+    name: &[u8],
+    u_label: &mut DecodedLabel,
+    room: &mut [u8],
+) -> Result<usize, Refusal>
+    requires short { length name.now ≤ MAX_LINE_LEN }
+    requires room { 4 * length name.now ≤ length room.old }
+    ensures answer { Gives (λ len. take len room.new) result (decode_utf8_answer name.now) }
+    ensures short { IfOk result (λ len. len ≤ 4 * length name.now) }
+    ensures length { length room.new ≡ length room.old }
+    ensures no_memory { All DecodesWithoutMemory (labels_of name.now) → result ≢ Err Refusal.Memory }
+{
+    // Most names are in ASCII, which is told sooner.
+    if !name.is_ascii() && str::from_utf8(name).is_err() {
+        return Err(Refusal::NotUtf8);
+    }
+    let mut len = 0;
+    let mut start = 0;
+    'labels: loop {
+        let end = label_end(name, start);
+        let label = &name[start..end];
+        if has_ace_prefix_in_any_case(label) {
+            u_label_in_any_case(alloc, label, u_label)?;
+            len = put_points(u_label.as_slice(), room, len);
+        } else {
+            room[len..len + label.len()].copy_from_slice(label);
+            len += label.len();
+        }
+        if end == name.len() {
+            return Ok(len);
+        }
+        room[len] = b'.';
+        len += 1;
+        start = end + 1;
+    }
+}
 
 /// The name with each A-label turned into what it stands for (RFC 5891 section 5.3). A label that begins with `xn--` in
 /// any ASCII case is put into lower case and decoded, or refuses the name as `BadALabel` or by the first fault of what
 /// it stands for; any other label stays as it is. The first refused label decides. `Memory` says nothing of the name.
+// A number that no UTF-8 can hold stays, too, so the name isn't written as UTF-8 to be decoded.
 #[tactic(auto, using(crate::proofs::ALabels::back))]
 pub fn decode_name(alloc: Global, name: &[u32]) -> Result<Vec<u32>, Refusal>
     requires { length name.now ≤ MAX_LINE_LEN }

@@ -26,6 +26,6 @@ is_end code after le none before =
 some_part : (n : ℕ) → 0 < n → (n == 0) ≡ false
 some_part n some = grind (arith, nat_tests)
 
-pub extended_part-behind : (code : List ℕ) → 1 < after_delimiter code → extended_part code ≡ drop (after_delimiter code) code
-extended_part-behind code some =
+pub extended_part-after : (code : List ℕ) → 1 < after_delimiter code → extended_part code ≡ drop (after_delimiter code) code
+extended_part-after code some =
     cond-false _ _ _ (some_part (length (basic_part code)) (omega (arith, some, length-take (after_delimiter code - 1) code)))

@@ -132,7 +132,7 @@ digits_of_point c h delta turns bias low high early leads =
             | inl before ↦
                 let small : delta < 1920 * 15 = most_steps c h delta 1920 15 leads (omega arith) (omega arith) in
                 omega (arith, digits_few 4 turns bias 36 delta (omega (arith, small)), len_two c low two)
-            | inr behind ↦
+            | inr after ↦
                 let small : delta < 1920 * 30 = most_steps c h delta 1920 30 leads (omega arith) (omega arith) in
                 omega (arith, digits_few 5 turns bias 36 delta (omega (arith, small)), len_two c low two)
           ]
@@ -315,8 +315,8 @@ TakesFew-passes label few (suc turns) n delta saved low early =
           let further : (m - 127) * (h + 1) ≡ (m - 128) * (h + 1) + 1 * (h + 1) = ap (λ k. k * (h + 1)) next ∙ add-mul (m - 128) 1 (h + 1) in
           let leads : LeadsTo m h (start + length (below m label)) = omega (arith, same, parts, further, early) in
           let grows : (m - 127) * (h + 1) ≤ (m - 127) * (after + 1) = mul-le-mul {n₁ = m - 127} (omega arith) (omega (arith, counted)) in
-          let behind : m + 1 - 128 ≡ m - 127 = omega (arith, low, le) in
-          let early_next : delta_after m start label + 1 ≤ (m + 1 - 128) * (after + 1) = rw behind (omega (arith, leads, grows, delta_after-le m start label)) in
+          let next_high : m + 1 - 128 ≡ m - 127 = omega (arith, low, le) in
+          let early_next : delta_after m start label + 1 ≤ (m + 1 - 128) * (after + 1) = rw next_high (omega (arith, leads, grows, delta_after-le m start label)) in
           let octets : octets_from n label ≡ octets_of m label + octets_from (m + 1) label = octets-least n m label le (omega arith) ∙ octets-split m label in
           rw (deltas_from-more turns n delta label some, octets)
           (TakesFew-pass m h after (octets_from (m + 1) label) (length label) tail (omega (arith, low, le)) some (omega (arith, few, length-below (m + 1) label))

@@ -114,13 +114,13 @@ module _ (label keys start : List ℕ) (basic : ℕ) (begun : Encodes label star
       let q = after_keys basic p (take i keys) in
       let code = start ++ digits_of_keys basic p (take i keys) in
       let keys_are : take i keys ++ key ∷ [] ≡ take (suc i) keys = sym (take_more keys i 0 (omega arith)) ∙ ap (λ n. take n keys) e in
-      let behind : after_key basic q key ≡ after_keys basic p (take (suc i) keys) = sym (after_keys-more basic p (take i keys) key) ∙ ap (after_keys basic p) keys_are in
+      let after : after_key basic q key ≡ after_keys basic p (take (suc i) keys) = sym (after_keys-more basic p (take i keys) key) ∙ ap (after_keys basic p) keys_are in
       let longer : code ++ digits_of_key q key ≡ start ++ digits_of_keys basic p (take (suc i) keys) =
       append_assoc start (digits_of_keys basic p (take i keys)) (digits_of_key q key)
       ∙ ap (λ xs. start ++ xs) (sym (digits_of_keys-more basic p (take i keys) key) ∙ ap (digits_of_keys basic p) keys_are) in
       let more : TurnsAt label keys (code ++ digits_of_key q key) basic (after_key basic q key) (i + 1) = (Turns-more t.0 short h (omega arith) key refl t.1, omega (arith, t.1)) in
       subst (λ n. TurnsAt label keys (start ++ digits_of_keys basic p (take (suc i) keys)) basic (after_keys basic p (take (suc i) keys)) n) e
-      (subst (λ r. TurnsAt label keys (start ++ digits_of_keys basic p (take (suc i) keys)) basic r (i + 1)) behind
+      (subst (λ r. TurnsAt label keys (start ++ digits_of_keys basic p (take (suc i) keys)) basic r (i + 1)) after
       (subst (λ xs. TurnsAt label keys xs basic (after_key basic q key) (i + 1)) longer more))
 
   -- each key comes next after those before it

@@ -1,4 +1,4 @@
--- Characters read from octets of UTF-8, one more behind those before a place.
+-- Characters read from octets of UTF-8, one more after those before a place.
 use Rattle.std.proofs.Common.{◌≡◌, ◌⊎◌, inl, inr, ℕ, ◌+◌, ◌/◌, ◌%◌, ◌<◌, ◌≤◌, List, [], ◌∷◌, ◌++◌, take, drop, get_or, length, sym, ap, subst, ◌∙◌, append_assoc, arith}
 use Rattle.std.specs.Str.{StartsWithNoChar}
 use Rattle.std.proofs.lemmas.Bool.{cases_lt}
@@ -12,7 +12,7 @@ use Rattle.idn_text.proofs.Utf8Lemmas.{encode_utf8-two, encode_utf8-three, encod
 take_one : (text : List ℕ) (at b : ℕ) → at < length text → get_or text at 0 ≡ b → take (at + 1) text ≡ take at text ++ b ∷ []
 take_one text at b within is = take_more text at 0 within ∙ ap (λ x. take at text ++ x ∷ []) is
 
--- the octet at a place behind what is read
+-- the octet at a place after what is read
 take_next : (text : List ℕ) (at n b : ℕ) (read : List ℕ) → take (at + n) text ≡ take at text ++ read → at + n < length text → get_or text (at + n) 0 ≡ b → take (at + (n + 1)) text ≡ take at text ++ (read ++ b ∷ [])
 take_next text at n b read before within is =
     let same : at + (n + 1) ≡ (at + n) + 1 = omega arith in

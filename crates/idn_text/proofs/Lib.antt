@@ -1,4 +1,4 @@
--- Characters read from octets of UTF-8, one more behind those before a place.
+-- Characters read from octets of UTF-8, one more after those before a place.
 pub mod CharacterReads
 -- The size of a number that hexadecimal digits write.
 mod HexLemmas

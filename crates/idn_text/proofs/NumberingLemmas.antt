@@ -31,7 +31,7 @@ cond-append : (b : Bool) (xs ys zs us vs : List (List ℕ)) → us ≡ xs ++ zs 
 cond-append true xs ys zs us vs h g = h
 cond-append false xs ys zs us vs h g = g
 
--- behind a line feed, lines begin anew
+-- after a line feed, lines begin again
 pub raw_lines-append : (given more : List ℕ) → EndsInFeed given → raw_lines (given ++ more) ≡ raw_lines given ++ raw_lines more
 raw_lines-append [] more h = refl
 raw_lines-append (c ∷ []) more h = let e : eqb c 10 ≡ true = eq-eqb c 10 h in rw e refl
@@ -123,7 +123,7 @@ lines_of_more given line feed lines n ends are counted one =
 take_seam : (n : ℕ) (xs ys : List Numbered) → length xs ≡ n → take n (xs ++ ys) ≡ xs
 take_seam n xs ys e = subst (λ (k : ℕ). take k (xs ++ ys) ≡ xs) e (take-append_seam xs ys)
 
--- what is given behind the lines does not count where no line feed ends it, or where there are as many lines as may be
+-- what is given after the lines does not count where no line feed ends it, or where there are as many lines as may be
 pub ended_lines_of_more : (given more : List ℕ) (lines : List Numbered) → EndsInFeed given → lines ≡ lines_of given → length lines ≤ 2 ^ 32 → (length lines ≡ 2 ^ 32) ⊎ (ended_lines more ≡ []) → lines ≡ take (2 ^ 32) (ended_lines_of (given ++ more))
 ended_lines_of_more given more lines ends are few why =
     let xs = raw_lines given in

@@ -3,7 +3,7 @@ use Rattle.std.proofs.Common.{◌≡◌, ◌≢◌, ℕ, ◌+◌, ◌^◌, ◌�
 use Rattle.std.proofs.lemmas.List.{append-nil}
 use Rattle.idn_text.specs.Lines.{Numbered, raw_lines, body_of}
 use Rattle.idn_text.specs.Taking.{left, HasEnded, HasFailed}
-use Rattle.idn_text.specs.inner.TakenLines.{Takes}
+use Rattle.idn_text.specs.inner.TakenLines.{TakesLine}
 use Rattle.idn_text.specs.declared.lines.State.{State}
 use Rattle.idn_text.specs.declared.lines.State.TheVariants.{Open, Ended, Stopped}
 use Rattle.idn_text.specs.Reading.{Reading, IsUnread, AreLines, HasRead, idle_reads}
@@ -27,8 +27,8 @@ has_read_nothing start unread =
       read = subst (λ (s : State). AreLines s start.input start.input [] []) (sym unread.state) (refl, tt);
     }
 
--- the read calls of a line, behind those before
-asked_more : (start old new : Reading) (given line feed : List ℕ) (idle : ℕ) → old.input.reads + length start.input.held ≤ start.input.reads + length given + length old.input.held + 0 → Takes old.input new.input line feed idle → new.input.reads + length start.input.held ≤ start.input.reads + length (given ++ (line ++ feed)) + length new.input.held + idle
+-- the read calls of a line, after those before
+asked_more : (start old new : Reading) (given line feed : List ℕ) (idle : ℕ) → old.input.reads + length start.input.held ≤ start.input.reads + length given + length old.input.held + 0 → TakesLine old.input new.input line feed idle → new.input.reads + length start.input.held ≤ start.input.reads + length (given ++ (line ++ feed)) + length new.input.held + idle
 asked_more start old new given line feed idle before takes =
     let count = length-append given (line ++ feed) in
     let asked = takes.asked in
@@ -38,7 +38,7 @@ not_stopped : {s : State} → s ≡ Open → s ≢ Stopped
 not_stopped is_open stopped = let bad : Open ≡ Stopped = sym is_open ∙ stopped in cc
 
 -- a line that a line feed ends
-pub has_line : (start old new : Reading) (given line : List ℕ) (lines : List Numbered) → HasRead start old given lines → old.state ≡ Open → Takes old.input new.input line (10 ∷ []) 0 → new.input.reader.faults ≡ old.input.reader.faults → old.number < 2 ^ 32 → new.number ≡ old.number + 1 → new.state ≡ Open → HasRead start new (given ++ (line ++ 10 ∷ [])) (lines ++ record { number = old.number + 1; body = body_of line } ∷ [])
+pub has_line : (start old new : Reading) (given line : List ℕ) (lines : List Numbered) → HasRead start old given lines → old.state ≡ Open → TakesLine old.input new.input line (10 ∷ []) 0 → new.input.reader.faults ≡ old.input.reader.faults → old.number < 2 ^ 32 → new.number ≡ old.number + 1 → new.state ≡ Open → HasRead start new (given ++ (line ++ 10 ∷ [])) (lines ++ record { number = old.number + 1; body = body_of line } ∷ [])
 has_line start old new given line lines has is_open takes no_fault few number still =
     let read = subst (λ (s : State). AreLines s start.input old.input given lines) is_open has.read in
     let asked = subst (λ (s : State). old.input.reads + length start.input.held ≤ start.input.reads + length given + length old.input.held + idle_reads s) is_open has.asked in
@@ -57,7 +57,7 @@ has_line start old new given line lines has is_open takes no_fault few number st
     }
 
 -- the last line, which no line feed ends
-pub has_last : (start old new : Reading) (given line : List ℕ) (lines : List Numbered) → HasRead start old given lines → old.state ≡ Open → Takes old.input new.input line [] 1 → line ≢ [] → HasEnded new.input → new.input.reader.faults ≡ old.input.reader.faults → old.number < 2 ^ 32 → new.number ≡ old.number + 1 → new.state ≡ Ended → HasRead start new (given ++ (line ++ [])) (lines ++ record { number = old.number + 1; body = body_of line } ∷ [])
+pub has_last : (start old new : Reading) (given line : List ℕ) (lines : List Numbered) → HasRead start old given lines → old.state ≡ Open → TakesLine old.input new.input line [] 1 → line ≢ [] → HasEnded new.input → new.input.reader.faults ≡ old.input.reader.faults → old.number < 2 ^ 32 → new.number ≡ old.number + 1 → new.state ≡ Ended → HasRead start new (given ++ (line ++ [])) (lines ++ record { number = old.number + 1; body = body_of line } ∷ [])
 has_last start old new given line lines has is_open takes some at_end no_fault few number still =
     let read = subst (λ (s : State). AreLines s start.input old.input given lines) is_open has.read in
     let asked = subst (λ (s : State). old.input.reads + length start.input.held ≤ start.input.reads + length given + length old.input.held + idle_reads s) is_open has.asked in
@@ -76,7 +76,7 @@ has_last start old new given line lines has is_open takes some at_end no_fault f
     }
 
 -- a reader that failed
-pub has_failed : (start old new : Reading) (given line : List ℕ) (lines : List Numbered) → HasRead start old given lines → old.state ≡ Open → Takes old.input new.input line [] 1 → HasFailed old.input new.input → new.number ≡ old.number → new.state ≡ Stopped → HasRead start new (given ++ (line ++ [])) (lines ++ [])
+pub has_failed : (start old new : Reading) (given line : List ℕ) (lines : List Numbered) → HasRead start old given lines → old.state ≡ Open → TakesLine old.input new.input line [] 1 → HasFailed old.input new.input → new.number ≡ old.number → new.state ≡ Stopped → HasRead start new (given ++ (line ++ [])) (lines ++ [])
 has_failed start old new given line lines has is_open takes failed number still =
     let read = subst (λ (s : State). AreLines s start.input old.input given lines) is_open has.read in
     let asked = subst (λ (s : State). old.input.reads + length start.input.held ≤ start.input.reads + length given + length old.input.held + idle_reads s) is_open has.asked in
@@ -95,7 +95,7 @@ has_failed start old new given line lines has is_open takes failed number still 
     }
 
 -- a line more than may be
-pub has_too_many : (start old new : Reading) (given line : List ℕ) (lines : List Numbered) (has_feed : Bool) → HasRead start old given lines → old.state ≡ Open → Takes old.input new.input line (cond has_feed (10 ∷ []) []) (cond has_feed 0 1) → new.input.reader.faults ≡ old.input.reader.faults → (has_feed ≡ false → line ≢ []) → old.number ≡ 2 ^ 32 → new.number ≡ old.number → new.state ≡ Stopped → HasRead start new (given ++ (line ++ cond has_feed (10 ∷ []) [])) (lines ++ [])
+pub has_too_many : (start old new : Reading) (given line : List ℕ) (lines : List Numbered) (has_feed : Bool) → HasRead start old given lines → old.state ≡ Open → TakesLine old.input new.input line (cond has_feed (10 ∷ []) []) (cond has_feed 0 1) → new.input.reader.faults ≡ old.input.reader.faults → (has_feed ≡ false → line ≢ []) → old.number ≡ 2 ^ 32 → new.number ≡ old.number → new.state ≡ Stopped → HasRead start new (given ++ (line ++ cond has_feed (10 ∷ []) [])) (lines ++ [])
 has_too_many start old new given line lines has_feed has is_open takes no_fault some full number still =
     let feed : List ℕ = cond has_feed (10 ∷ []) [] in
     let one = one_line line has_feed takes.no_feed some in
@@ -128,7 +128,7 @@ has_too_many start old new given line lines has_feed has is_open takes no_fault 
     at_most_once false = omega arith
 
 -- the line that a line feed ends, or the last one
-pub has_next : (start old new : Reading) (given line : List ℕ) (lines : List Numbered) (body : Option (List ℕ)) (has_feed : Bool) → HasRead start old given lines → old.state ≡ Open → Takes old.input new.input line (cond has_feed (10 ∷ []) []) (cond has_feed 0 1) → new.input.reader.faults ≡ old.input.reader.faults → old.number < 2 ^ 32 → new.number ≡ old.number + 1 → (has_feed ≡ true → new.state ≡ Open) → (has_feed ≡ false → (new.state ≡ Ended) × (line ≢ []) × HasEnded new.input) → body ≡ body_of line → HasRead start new (given ++ (line ++ cond has_feed (10 ∷ []) [])) (lines ++ record { number = old.number + 1; body = body } ∷ [])
+pub has_next : (start old new : Reading) (given line : List ℕ) (lines : List Numbered) (body : Option (List ℕ)) (has_feed : Bool) → HasRead start old given lines → old.state ≡ Open → TakesLine old.input new.input line (cond has_feed (10 ∷ []) []) (cond has_feed 0 1) → new.input.reader.faults ≡ old.input.reader.faults → old.number < 2 ^ 32 → new.number ≡ old.number + 1 → (has_feed ≡ true → new.state ≡ Open) → (has_feed ≡ false → (new.state ≡ Ended) × (line ≢ []) × HasEnded new.input) → body ≡ body_of line → HasRead start new (given ++ (line ++ cond has_feed (10 ∷ []) [])) (lines ++ record { number = old.number + 1; body = body } ∷ [])
 has_next start old new given line lines body true has is_open takes no_fault few number then_opens then_ended e =
     subst (λ (b : Option (List ℕ)). HasRead start new (given ++ (line ++ 10 ∷ [])) (lines ++ record { number = old.number + 1; body = b } ∷ [])) (sym e) (has_line start old new given line lines has is_open takes no_fault few number (then_opens refl))
 has_next start old new given line lines body false has is_open takes no_fault few number then_opens then_ended e =

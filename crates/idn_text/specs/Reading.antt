@@ -4,17 +4,17 @@ use Rattle.std.specs.Io.KnownBytes.{Consumes}
 use Rattle.std.specs.Option.{option_map}
 use Rattle.std.specs.Str.Lines.{strip_carriage_return}
 use Rattle.idn_text.specs.declared.lines.Line.{Line}
-use Rattle.idn_text.specs.declared.input.ReadFault.{ReadFault}
+use Rattle.idn_text.specs.declared.buffered_reader.ReadFault.{ReadFault}
 use Rattle.idn_text.specs.declared.lines.State.{State}
 use Rattle.idn_text.specs.declared.lines.State.TheVariants.{Open, Ended, Stopped}
 use Rattle.idn_text.specs.Bodies.{bytes_of}
 use Rattle.idn_text.specs.Lines.{Numbered, EndsInFeed, raw_lines, lines_of, ended_lines_of}
 use Rattle.idn_text.specs.Readers.{Reader, Fails}
-use Rattle.idn_text.specs.Taking.{Input, left, HasEnded, HasFailed}
+use Rattle.idn_text.specs.Taking.{BufferedReader, left, HasEnded, HasFailed}
 
 -- where the reading of lines has come to: its input, the number of the last line, and whether more may come
 pub record Reading : Type 0 where
-  pub input : Input
+  pub input : BufferedReader
   pub number : ℕ
   pub state : State
 
@@ -35,7 +35,7 @@ pub record IsUnread (reading : Reading) : Type 0 where
 --   at a fault, those that a line feed ends, the first 4,294,967,296 of them, and either a read failed or the reader was
 --   called as often as it may be, and it gave no more than these bytes, or no read failed and these bytes have more lines
 --   than may be
-abbrev pub AreLines : State → Input → Input → List ℕ → List Numbered → Type 0
+abbrev pub AreLines : State → BufferedReader → BufferedReader → List ℕ → List Numbered → Type 0
 AreLines Open start now given lines = (lines ≡ lines_of given) × EndsInFeed given
 AreLines Ended start now given lines = (lines ≡ lines_of given) × HasEnded now
 AreLines Stopped start now given lines =

@@ -4,10 +4,10 @@
 #![tactic(auto)]
 
 mod body;
+mod buffered_reader;
 mod character;
 mod device;
 pub mod hostile;
-mod input;
 pub mod laws;
 mod lines;
 mod point;
@@ -17,11 +17,11 @@ mod utf8;
 mod write;
 
 pub use body::{Body, MAX_LINE_LEN};
+pub use buffered_reader::ReadFault;
 pub use character::character_at;
 pub use device::{Device, DeviceFault, Sink, Source};
-pub use input::ReadFault;
 pub use lines::{Line, Lines};
-pub use point::{hex_point, is_point};
+pub use point::{hex_digit, hex_point, is_point};
 pub use refusal::Refusal;
 pub use text_lines::{TextLines, without_carriage_return};
 pub use utf8::{NotUtf8, decode_points, put_points, write_points};

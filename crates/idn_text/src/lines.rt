@@ -3,8 +3,8 @@
 ghost use Rattle.std.specs.Prelude.{◌≡◌, ◌⊎◌, ◌≤◌, ℕ, List, ◌++◌, length, None, Some, Ok, IfOk, IfSome, OnErr, IsErr, MatchOption, false};
 
 use crate::body::{Body, MAX_LINE_LEN};
+use crate::buffered_reader::{BufferedReader, ReadFault};
 use crate::device::Source;
-use crate::input::{Input, ReadFault};
 use crate::text_lines::without_carriage_return;
 use std::marker::Model;
 
@@ -32,7 +32,7 @@ pub enum State {
 /// that is not empty.
 #[derive(Drop)]
 pub struct Lines<R: Source> {
-    input: Input<R>,
+    input: BufferedReader<R>,
     number: u64,
     state: State,
 }
@@ -58,7 +58,7 @@ impl<R: Source> Lines<R> {
         ensures { result ≡ unread (R.state reader) }
     {
         Lines {
-            input: Input::new(reader),
+            input: BufferedReader::new(reader),
             number: 0,
             state: State::Open,
         }

@@ -1,8 +1,8 @@
 //! Code points as numbers.
 
-ghost use Rattle.std.specs.Prelude.{◌≡◌, ◌↔◌, IsTrue};
+ghost use Rattle.std.specs.Prelude.{◌≡◌, ◌<◌, ◌↔◌, IsTrue};
 ghost use Rattle.std.specs.Char.{InScalarRange};
-ghost use Rattle.idn_text.specs.Points.{IsScalarValue, point_of_hex};
+ghost use Rattle.idn_text.specs.Points.{IsScalarValue, hex_digit, point_of_hex};
 
 /// Whether a number is a Unicode scalar value: a code point that is no surrogate.
 pub fn is_point(number: u32) -> bool
@@ -25,4 +25,16 @@ pub fn hex_point(digits: &[u8]) -> Option<u32>
         value = value * 16 + char::from(*digit).to_digit(16)?;
     }
     if is_point(value) { Some(value) } else { None }
+}
+
+/// The hexadecimal digit of a number below 16, in upper case.
+pub fn hex_digit(number: u32) -> u8
+    requires { number < 16 }
+    ensures { result ≡ hex_digit number }
+{
+    if number < 10 {
+        b'0' + number as u8
+    } else {
+        b'A' + (number - 10) as u8
+    }
 }

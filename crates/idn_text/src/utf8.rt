@@ -48,7 +48,7 @@ pub fn write_points(points: &[u32], utf8: &mut ArrayVec<u8, 4096>)
 }
 
 /// Writes the UTF-8 (RFC 3629) of scalar values into `room` from the place `at` on, and returns the
-/// place behind it. What stands before `at` stays; of what stands behind the UTF-8 nothing is said.
+/// place after it. What stands before `at` stays; of what stands after the UTF-8 nothing is said.
 /// There must be room for four bytes for each.
 pub fn put_points(points: &[u32], room: &mut [u8], at: usize) -> usize
     requires scalar_values { AreScalarValues points.now }
@@ -65,7 +65,7 @@ pub fn put_points(points: &[u32], room: &mut [u8], at: usize) -> usize
 }
 
 /// Writes the one to four bytes of a scalar value (RFC 3629 section 3) into `room` from the place `at`
-/// on, and returns the place behind them. There must be room for four.
+/// on, and returns the place after them. There must be room for four.
 #[inline]
 fn put_point(point: u32, room: &mut [u8], at: usize) -> usize
     requires scalar_value { IsScalarValue point }

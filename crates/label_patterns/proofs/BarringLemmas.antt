@@ -5,31 +5,31 @@ use Rattle.std.specs.List.{AllByRecursion}
 use Rattle.label_patterns.specs.declared.condition.ConditionKind.{ConditionKind}
 use Rattle.label_patterns.specs.declared.condition.ConditionKind.TheVariants.{When, Unless}
 use Rattle.label_patterns.specs.declared.span.Span.{Span}
-use Rattle.label_patterns.specs.Barring.{ends_in_place, OneEndsBefore, OneIsDone, IsBarredBy}
+use Rattle.label_patterns.specs.Barring.{ends_in_anchor, OneEndsBefore, OneIsDone, IsBarredBy}
 use Rattle.label_patterns.specs.Conditions.{rule_at, IsAsked}
 use Rattle.label_patterns.specs.Laws.{seen, HasNoEndBefore}
 use Rattle.label_patterns.specs.TestLaws.{BarredForGood, BarringStays}
 use Rattle.label_patterns.specs.Matches.{Seen}
-use Rattle.label_patterns.specs.Patterns.{Pattern, Point, Set, Any, Start, End, Place, Group, Optional, Many, Then, Either}
-use Rattle.label_patterns.specs.Rules.{branches, is_place, BeginsBehind, HoldsInOne, Holds}
+use Rattle.label_patterns.specs.Patterns.{Pattern, Point, Set, Any, Start, End, Anchor, Group, Optional, Many, Then, Either}
+use Rattle.label_patterns.specs.Rules.{branches, is_anchor, BeginsAfter, HoldsInOne, Holds}
 use Rattle.label_patterns.proofs.ContextLemmas.{stays-before}
 
 -- a context in which nothing stands after '_' asks nothing of what follows
-nothing-after : (s : Seen) (context : Pattern) (j : ℕ) → IsTrue (ends_in_place context) → BeginsBehind s context j
+nothing-after : (s : Seen) (context : Pattern) (j : ℕ) → IsTrue (ends_in_anchor context) → BeginsAfter s context j
 nothing-after s (Point c) j e = absurd (let f : false ≡ true = e in cc)
 nothing-after s (Set n) j e = absurd (let f : false ≡ true = e in cc)
 nothing-after s Any j e = absurd (let f : false ≡ true = e in cc)
 nothing-after s Start j e = absurd (let f : false ≡ true = e in cc)
 nothing-after s End j e = absurd (let f : false ≡ true = e in cc)
-nothing-after s Place j e = (j, refl)
+nothing-after s Anchor j e = (j, refl)
 nothing-after s (Group p) j e = absurd (let f : false ≡ true = e in cc)
 nothing-after s (Optional p) j e = absurd (let f : false ≡ true = e in cc)
 nothing-after s (Many p) j e = absurd (let f : false ≡ true = e in cc)
-nothing-after s (Then p q) j e = by_item (is_place p) refl e (nothing-after s q j)
+nothing-after s (Then p q) j e = by_item (is_anchor p) refl e (nothing-after s q j)
   where
-    by_item : (b : Bool) → is_place p ≡ b → cond b false (ends_in_place q) ≡ true → (IsTrue (ends_in_place q) → BeginsBehind s q j) → BeginsBehind s (Then p q) j
+    by_item : (b : Bool) → is_anchor p ≡ b → cond b false (ends_in_anchor q) ≡ true → (IsTrue (ends_in_anchor q) → BeginsAfter s q j) → BeginsAfter s (Then p q) j
     by_item true is f later = absurd (let g : false ≡ true = f in cc)
-    by_item false is f later = let rest = later f in (rest.0, inr (let g : not (is_place p) ≡ true = cc in g, rest.1))
+    by_item false is f later = let rest = later f in (rest.0, inr (let g : not (is_anchor p) ≡ true = cc in g, rest.1))
 nothing-after s (Either p q) j e = absurd (let f : false ≡ true = e in cc)
 
 module _ (sets : List (List Span)) (label more : List ℕ) (i : ℕ) (l : i ≤ length label) where

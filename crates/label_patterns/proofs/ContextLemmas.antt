@@ -1,12 +1,12 @@
--- What stands before and behind a place.
+-- What stands before and after a place.
 use Rattle.std.proofs.Common.{◌≡◌, ℕ, ◌≤◌, inl, inr, true, false, not, List, ◌++◌, length, refl, sym, ◌∙◌, arith}
 use Rattle.std.specs.Prelude.{◌↔◌}
 use Rattle.label_patterns.specs.declared.span.Span.{Span}
 use Rattle.label_patterns.specs.Laws.{seen, HasNoEndBefore, BeforeStays}
-use Rattle.label_patterns.specs.Patterns.{Pattern, Point, Set, Any, Start, End, Place, Group, Optional, Many, Then, Either}
+use Rattle.label_patterns.specs.Patterns.{Pattern, Point, Set, Any, Start, End, Anchor, Group, Optional, Many, Then, Either}
 use Rattle.label_patterns.specs.Places.{Has, AreEnds, AreStarts}
 use Rattle.label_patterns.specs.Matches.{Seen, Matches}
-use Rattle.label_patterns.specs.Rules.{is_place, Before, EndsBefore, BeginsBehind}
+use Rattle.label_patterns.specs.Rules.{is_anchor, Before, EndsBefore, BeginsAfter}
 use Rattle.label_patterns.proofs.LawLemmas.{parts, stay}
 
 before-parts : (p : Pattern) (s : Seen) (k i : ℕ) → Before s p k i → k ≤ i
@@ -15,7 +15,7 @@ before-parts (Set n) s k i h = absurd h
 before-parts Any s k i h = absurd h
 before-parts Start s k i h = absurd h
 before-parts End s k i h = absurd h
-before-parts Place s k i h = omega (arith, h)
+before-parts Anchor s k i h = omega (arith, h)
 before-parts (Group p) s k i h = absurd h
 before-parts (Optional p) s k i h = absurd h
 before-parts (Many p) s k i h = absurd h
@@ -34,7 +34,7 @@ from-all p s len all found is all_are found_are i l = (
 )
 
 -- an item before '_'
-pub item-before : (p q : Pattern) (s : Seen) (places ends found : ℕ) → is_place p ≡ false → AreEnds (Matches s p) places ends
+pub item-before : (p q : Pattern) (s : Seen) (places ends found : ℕ) → is_anchor p ≡ false → AreEnds (Matches s p) places ends
     → ((i : ℕ) → Has found i ↔ ((k : ℕ) × Has ends k × Before s q k i)) → (i : ℕ) → Has found i ↔ ((k : ℕ) × Has places k × Before s (Then p q) k i)
 item-before p q s places ends found other are found_are i = (
   λ h.
@@ -47,44 +47,44 @@ item-before p q s places ends found other are found_are i = (
   ],
 )
 
--- what stands behind '_' at the end of a context: nothing
-pub none-behind : (s : Seen) (len all : ℕ) → len ≡ length s.label → ((q : ℕ) → Has all q ↔ (q ≤ len)) → (j : ℕ) → j ≤ length s.label → Has all j ↔ BeginsBehind s Place j
-none-behind s len all is are j l = (λ h. (j, refl), λ h. (are j).1 (omega (arith, is, l)))
+-- what stands after '_' at the end of a context: nothing
+pub none-after : (s : Seen) (len all : ℕ) → len ≡ length s.label → ((q : ℕ) → Has all q ↔ (q ≤ len)) → (j : ℕ) → j ≤ length s.label → Has all j ↔ BeginsAfter s Anchor j
+none-after s len all is are j l = (λ h. (j, refl), λ h. (are j).1 (omega (arith, is, l)))
 
--- the items behind it
-pub items-behind : (p q : Pattern) (s : Seen) (len all found : ℕ) → is_place p ≡ true → len ≡ length s.label → ((i : ℕ) → Has all i ↔ (i ≤ len))
-    → AreStarts (Matches s q) all found → (j : ℕ) → j ≤ length s.label → Has found j ↔ BeginsBehind s (Then p q) j
-items-behind p q s len all found place is all_are are j l = (
+-- the items after it
+pub items-after : (p q : Pattern) (s : Seen) (len all found : ℕ) → is_anchor p ≡ true → len ≡ length s.label → ((i : ℕ) → Has all i ↔ (i ≤ len))
+    → AreStarts (Matches s q) all found → (j : ℕ) → j ≤ length s.label → Has found j ↔ BeginsAfter s (Then p q) j
+items-after p q s len all found place is all_are are j l = (
   λ h. let b = (are j).0 h in (b.0, inl (place, b.2)),
   λ h. elim h.1 [
     | inl b ↦ (are j).1 (h.0, (all_are h.0).1 (let k = (parts q s j h.0 b.1).1 l in omega (arith, k, is)), b.1)
-    | inr b ↦ absurd (let e : not (is_place p) ≡ true = b.0 in cc)
+    | inr b ↦ absurd (let e : not (is_anchor p) ≡ true = b.0 in cc)
   ],
 )
 
 -- an item before it is passed over
-pub item-passed : (p q : Pattern) (s : Seen) (found : ℕ) → is_place p ≡ false
-    → ((j : ℕ) → j ≤ length s.label → Has found j ↔ BeginsBehind s q j) → (j : ℕ) → j ≤ length s.label → Has found j ↔ BeginsBehind s (Then p q) j
+pub item-passed : (p q : Pattern) (s : Seen) (found : ℕ) → is_anchor p ≡ false
+    → ((j : ℕ) → j ≤ length s.label → Has found j ↔ BeginsAfter s q j) → (j : ℕ) → j ≤ length s.label → Has found j ↔ BeginsAfter s (Then p q) j
 item-passed p q s found other are j l = (
-  λ h. let b = (are j l).0 h in (b.0, inr (let e : not (is_place p) ≡ true = cc in e, b.1)),
+  λ h. let b = (are j l).0 h in (b.0, inr (let e : not (is_anchor p) ≡ true = cc in e, b.1)),
   λ h. elim h.1 [
     | inl b ↦ absurd (let e : true ≡ false = sym b.0 ∙ other in cc)
     | inr b ↦ (are j l).1 (h.0, b.1)
   ],
 )
 
-pub place-alone : (p : Pattern) (s : Seen) (i j : ℕ) → is_place p ≡ true → Matches s p i j → ⊥
-place-alone (Point c) s i j e h = cc
-place-alone (Set n) s i j e h = cc
-place-alone Any s i j e h = cc
-place-alone Start s i j e h = cc
-place-alone End s i j e h = cc
-place-alone Place s i j e h = h
-place-alone (Group p) s i j e h = cc
-place-alone (Optional p) s i j e h = cc
-place-alone (Many p) s i j e h = cc
-place-alone (Then p q) s i j e h = cc
-place-alone (Either p q) s i j e h = cc
+pub anchor-alone : (p : Pattern) (s : Seen) (i j : ℕ) → is_anchor p ≡ true → Matches s p i j → ⊥
+anchor-alone (Point c) s i j e h = cc
+anchor-alone (Set n) s i j e h = cc
+anchor-alone Any s i j e h = cc
+anchor-alone Start s i j e h = cc
+anchor-alone End s i j e h = cc
+anchor-alone Anchor s i j e h = h
+anchor-alone (Group p) s i j e h = cc
+anchor-alone (Optional p) s i j e h = cc
+anchor-alone (Many p) s i j e h = cc
+anchor-alone (Then p q) s i j e h = cc
+anchor-alone (Either p q) s i j e h = cc
 
 -- one way, and the way back
 abbrev Stays : Pattern → List (List Span) → List ℕ → List ℕ → ℕ → ℕ → Type 0
@@ -96,7 +96,7 @@ before-stays (Set n) sets label more k i none l = (λ h. h, λ h. h)
 before-stays Any sets label more k i none l = (λ h. h, λ h. h)
 before-stays Start sets label more k i none l = (λ h. h, λ h. h)
 before-stays End sets label more k i none l = (λ h. h, λ h. h)
-before-stays Place sets label more k i none l = (λ h. h, λ h. h)
+before-stays Anchor sets label more k i none l = (λ h. h, λ h. h)
 before-stays (Group p) sets label more k i none l = (λ h. h, λ h. h)
 before-stays (Optional p) sets label more k i none l = (λ h. h, λ h. h)
 before-stays (Many p) sets label more k i none l = (λ h. h, λ h. h)
@@ -104,14 +104,14 @@ before-stays (Then p q) sets label more k i none l = (
   λ h. elim h [
     | inl b ↦ inl b
     | inr b ↦ elim none [
-      | inl place ↦ absurd (place-alone p (seen sets label) k b.0 place b.1)
+      | inl place ↦ absurd (anchor-alone p (seen sets label) k b.0 place b.1)
       | inr less ↦ (let m : b.0 ≤ i = before-parts q (seen sets label) b.0 i b.2 in inr (b.0, (stay p sets label more k b.0 less.0 (omega (arith, m, l))).0 b.1, (before-stays q sets label more b.0 i less.1 l).0 b.2))
     ]
   ],
   λ h. elim h [
     | inl b ↦ inl b
     | inr b ↦ elim none [
-      | inl place ↦ absurd (place-alone p (seen sets (label ++ more)) k b.0 place b.1)
+      | inl place ↦ absurd (anchor-alone p (seen sets (label ++ more)) k b.0 place b.1)
       | inr less ↦ (let m : b.0 ≤ i = before-parts q (seen sets (label ++ more)) b.0 i b.2 in inr (b.0, (stay p sets label more k b.0 less.0 (omega (arith, m, l))).1 b.1, (before-stays q sets label more b.0 i less.1 l).1 b.2))
     ]
   ],

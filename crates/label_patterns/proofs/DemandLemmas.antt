@@ -1,8 +1,8 @@
 -- A pattern occurs where the set of its ends is not empty.
-use Rattle.std.proofs.Common.{◌≡◌, ℕ, ◌≤◌, ◌<◌, inl, inr, Bool, true, false, not, eqb, length, refl, sym, ap, ◌∙◌, subst, arith}
+use Rattle.std.proofs.Common.{◌≡◌, ℕ, ◌≤◌, ◌<◌, inl, inr, true, false, not, eqb, length, sym, ap, ◌∙◌, subst, arith}
 use Rattle.std.specs.Prelude.{◌↔◌}
 use Rattle.std.specs.Int.{trailing_zeros, w64}
-use Rattle.std.proofs.lemmas.Bool.{cases_order, eqb-true, eq-eqb}
+use Rattle.std.proofs.lemmas.Bool.{cases_order, eqb-true, eq-eqb, false_from_ne_true}
 use Rattle.std.proofs.lemmas.Nat.Bits.{bit_at-trailing_zeros}
 use Rattle.label_patterns.specs.Patterns.{Pattern}
 use Rattle.label_patterns.specs.Places.{Has, AreEnds}
@@ -24,16 +24,12 @@ pub occurs-none : (p : Pattern) (s : Seen) (len all ends : ℕ) → len ≡ leng
 occurs-none p s len all ends is all_are are none h =
     not-in-none h.1 (subst (λ n. Has n h.1) none ((are h.1).1 (h.0, (all_are h.0).1 (let l = h.2 in omega (arith, l, is)), h.3)))
 
-no_true : (b : Bool) → (b ≡ true → ⊥) → b ≡ false
-no_true true h = absurd (h refl)
-no_true false h = refl
-
 -- the test that a number is not 0
 pub some-from : (n : ℕ) → not (eqb n 0) ≡ true → n ≡ 0 → ⊥
 some-from n h none = let f : false ≡ true = sym (ap not (eq-eqb n 0 none)) ∙ h in cc
 
 pub some-to : (n : ℕ) → (n ≡ 0 → ⊥) → not (eqb n 0) ≡ true
-some-to n some = ap not (no_true (eqb n 0) (λ e. some (eqb-true n 0 e)))
+some-to n some = ap not (false_from_ne_true (eqb n 0) (λ e. some (eqb-true n 0 e)))
 
 -- the lowest place of a set
 lowest-place : (n q : ℕ) → n < 18446744073709551616 → (n ≡ 0 → ⊥) → Has n q → trailing_zeros w64 n ≤ q

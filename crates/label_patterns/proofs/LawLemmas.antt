@@ -3,7 +3,7 @@ use Rattle.std.proofs.Common.{ℕ, ◌<◌, ◌≤◌, inl, inr, true, eqb, List
 use Rattle.std.specs.Prelude.{◌↔◌, Bool, IsTrue}
 use Rattle.std.proofs.lemmas.List.{get_or_append_left}
 use Rattle.label_patterns.specs.declared.span.Span.{Span}
-use Rattle.label_patterns.specs.Patterns.{Pattern, Point, Set, Any, Start, End, Place, Group, Optional, Many, Then, Either}
+use Rattle.label_patterns.specs.Patterns.{Pattern, Point, Set, Any, Start, End, Anchor, Group, Optional, Many, Then, Either}
 use Rattle.label_patterns.specs.Sets.{is_in}
 use Rattle.label_patterns.specs.Matches.{Seen, Matches, MatchesOne, Rounds, no_round, one_more}
 use Rattle.label_patterns.specs.Laws.{seen, MatchesStay, MatchesParts}
@@ -28,7 +28,7 @@ parts (Set n) s i j h = one-parts (is_in (get_or s.sets n [])) s i j h
 parts Any s i j h = one-parts (λ d. true) s i j h
 parts Start s i j h = (omega (arith, h.0, h.1), λ l. omega (arith, h.1))
 parts End s i j h = (omega (arith, h.0, h.1), λ l. omega (arith, h.1))
-parts Place s i j h = absurd h
+parts Anchor s i j h = absurd h
 parts (Group p) s i j h = parts p s i j h
 parts (Optional p) s i j h = elim h [ inl e ↦ (omega (arith, e), λ l. omega (arith, e, l)) | inr k ↦ parts p s i j k ]
 parts (Many p) s i j h = rounds-parts (length s.label) (Matches s p) (parts p s) i j h
@@ -65,7 +65,7 @@ stay (Set n) sets label more i j none l = one-stays (is_in (get_or sets n [])) s
 stay Any sets label more i j none l = one-stays (λ d. true) sets label more i j l
 stay Start sets label more i j none l = (λ h. h, λ h. h)
 stay End sets label more i j none l = absurd none
-stay Place sets label more i j none l = (λ h. h, λ h. h)
+stay Anchor sets label more i j none l = (λ h. h, λ h. h)
 stay (Group p) sets label more i j none l = stay p sets label more i j none l
 stay (Optional p) sets label more i j none l =
     let part = stay p sets label more i j none l in (

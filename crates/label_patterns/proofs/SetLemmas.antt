@@ -1,8 +1,9 @@
 -- A binary search among spans that rise.
-use Rattle.std.proofs.Common.{◌≡◌, ℕ, zero, suc, ◌<◌, ◌≤◌, Bool, true, false, ◌||◌, ◌&&◌, List, [], ◌∷◌, length, get_or, ltb, leb, refl, ap, ◌∙◌, arith}
+use Rattle.std.proofs.Common.{◌≡◌, ℕ, zero, suc, ◌<◌, ◌≤◌, true, false, ◌||◌, ◌&&◌, List, [], ◌∷◌, length, get_or, ltb, leb, refl, ap, ◌∙◌, arith}
 use Rattle.std.specs.List.{AllByRecursion, AllWithin}
 use Rattle.std.specs.List.Sorted.{IsNonDecreasingBy}
 use Rattle.std.proofs.lemmas.Bool.{le-leb, lt-leb, ltb-true, ltb-false}
+use Rattle.std.proofs.Math.Bool.{or-false, and-true, and-false}
 use Rattle.label_patterns.specs.declared.span.Span.{Span}
 use Rattle.label_patterns.specs.Sets.{is_in, Rise}
 
@@ -24,18 +25,6 @@ none-below (s ∷ spans) m c above l =
     let e : leb s.first c ≡ false = lt-leb s.first c (omega (arith, above.0, l)) in
     ap (λ b. b && leb c s.last || is_in spans c) e ∙ none-below spans m c above.1 l
 
-or_false : (b : Bool) → (b || false) ≡ b
-or_false true = refl
-or_false false = refl
-
-and_true : (b : Bool) → (b && true) ≡ b
-and_true true = refl
-and_true false = refl
-
-and_false : (b : Bool) → (b && false) ≡ false
-and_false true = refl
-and_false false = refl
-
 -- the span at the place that the search tells decides
 pub in-at : (spans : List Span) (c k : ℕ) (d : Span) → Rise spans → k < length spans
     → AllWithin (λ s. ltb s.last c ≡ true) spans 0 k → AllWithin (λ s. ltb s.last c ≡ false) spans k (length spans)
@@ -44,13 +33,13 @@ in-at [] c k d rise l before from = absurd (omega (arith, l))
 in-at (s ∷ spans) c zero d rise l before from =
     let e : leb c s.last ≡ true = le-leb c s.last (ltb-false s.last c (from 0 d (omega arith) (omega arith))) in
     ap (λ b. leb s.first c && b || is_in spans c) e
-    ∙ ap (λ b. b || is_in spans c) (and_true (leb s.first c))
+    ∙ ap (λ b. b || is_in spans c) (and-true (leb s.first c))
     ∙ ap (λ b. leb s.first c || b) (none-below spans s.last c rise.1 (ltb-false s.last c (from 0 d (omega arith) (omega arith))))
-    ∙ or_false (leb s.first c)
+    ∙ or-false (leb s.first c)
 in-at (s ∷ spans) c (suc k) d rise l before from =
     let e : leb c s.last ≡ false = lt-leb c s.last (ltb-true s.last c (before 0 d (omega arith) (omega arith))) in
     ap (λ b. leb s.first c && b || is_in spans c) e
-    ∙ ap (λ b. b || is_in spans c) (and_false (leb s.first c))
+    ∙ ap (λ b. b || is_in spans c) (and-false (leb s.first c))
     ∙ in-at spans c k d rise.2 (omega (arith, l)) (λ i e a b. before (suc i) e (omega arith) (omega (arith, b))) (λ i e a b. from (suc i) e (omega (arith, a)) (omega (arith, b)))
 
 -- all spans end before it
@@ -60,5 +49,5 @@ in-none (s ∷ spans) c zero l before = absurd (omega (arith, l))
 in-none (s ∷ spans) c (suc k) l before =
     let e : leb c s.last ≡ false = lt-leb c s.last (ltb-true s.last c (before 0 s (omega arith) (omega arith))) in
     ap (λ b. leb s.first c && b || is_in spans c) e
-    ∙ ap (λ b. b || is_in spans c) (and_false (leb s.first c))
+    ∙ ap (λ b. b || is_in spans c) (and-false (leb s.first c))
     ∙ in-none spans c k (omega (arith, l)) (λ i e a b. before (suc i) e (omega arith) (omega (arith, b)))

@@ -8,17 +8,17 @@ use Rattle.std.proofs.lemmas.Nat.Bits.{bit_at_cat_low, bit_at_cat_high, bit_at-p
 use Rattle.label_patterns.specs.declared.condition.Condition.{Condition}
 use Rattle.label_patterns.specs.declared.condition.ConditionKind.{ConditionKind}
 use Rattle.label_patterns.specs.declared.condition.ConditionKind.TheVariants.{When, Unless}
-use Rattle.label_patterns.specs.Barring.{ends_in_place, OneEndsBefore, OneIsDone, IsBarredBy, IsBarred}
+use Rattle.label_patterns.specs.Barring.{ends_in_anchor, OneEndsBefore, OneIsDone, IsBarredBy, IsBarred}
 use Rattle.label_patterns.specs.Conditions.{rule_at, IsAsked, ConditionHolds}
 use Rattle.label_patterns.specs.Laws.{HasNoEnd}
 use Rattle.label_patterns.specs.TestLaws.{TestsAgree}
 use Rattle.label_patterns.specs.Matches.{Seen, Matches, MatchesOne, MatchesAt}
-use Rattle.label_patterns.specs.Patterns.{Pattern, Point, Set, Any, Start, End, Place, Group, Optional, Many, Then, Either}
+use Rattle.label_patterns.specs.Patterns.{Pattern, Point, Set, Any, Start, End, Anchor, Group, Optional, Many, Then, Either}
 use Rattle.label_patterns.specs.Places.{Has, AreEnds, StandsAt, AreThePlaces}
-use Rattle.label_patterns.specs.Rules.{branches, is_place, Before, EndsBefore, BeginsBehind, HoldsInOne, Holds, Occurs}
+use Rattle.label_patterns.specs.Rules.{branches, is_anchor, Before, EndsBefore, BeginsAfter, HoldsInOne, Holds, Occurs}
 use Rattle.label_patterns.specs.Sets.{is_in}
 use Rattle.label_patterns.specs.Tests.{has_place, places_of, every_place, ends_from, occurs_in, before_from, ends_before, begins_after, rule_holds, is_asked, condition_holds, is_barred_by, condition_barred, has_no_end}
-use Rattle.label_patterns.proofs.ContextLemmas.{from-all, item-before, place-alone}
+use Rattle.label_patterns.proofs.ContextLemmas.{from-all, item-before, anchor-alone}
 use Rattle.label_patterns.proofs.DemandLemmas.{some-from, some-to}
 use Rattle.label_patterns.proofs.GrownLemmas.{IsWithin, or-parts, grown-ends}
 use Rattle.label_patterns.proofs.LawLemmas.{parts}
@@ -111,7 +111,7 @@ ends-are s (Set n) starts within = one-ends (is_in (get_or s.sets n [])) s start
 ends-are s Any starts within = one-ends (λ d. true) s starts
 ends-are s Start starts within = at-ends 0 starts
 ends-are s End starts within = at-ends (length s.label) starts
-ends-are s Place starts within = λ j. (λ h. absurd (not-in-none j h), λ h. absurd h.2)
+ends-are s Anchor starts within = λ j. (λ h. absurd (not-in-none j h), λ h. absurd h.2)
 ends-are s (Group p) starts within = ends-are s p starts within
 ends-are s (Optional p) starts within =
     let ends = ends-are s p starts within in
@@ -142,20 +142,20 @@ before-are s (Set n) places within i = (λ h. absurd (not-in-none i h), λ h. ab
 before-are s Any places within i = (λ h. absurd (not-in-none i h), λ h. absurd h.2)
 before-are s Start places within i = (λ h. absurd (not-in-none i h), λ h. absurd h.2)
 before-are s End places within i = (λ h. absurd (not-in-none i h), λ h. absurd h.2)
-before-are s Place places within i = (λ h. (i, h, refl), λ h. subst (Has places) (sym h.2) h.1)
+before-are s Anchor places within i = (λ h. (i, h, refl), λ h. subst (Has places) (sym h.2) h.1)
 before-are s (Group p) places within i = (λ h. absurd (not-in-none i h), λ h. absurd h.2)
 before-are s (Optional p) places within i = (λ h. absurd (not-in-none i h), λ h. absurd h.2)
 before-are s (Many p) places within i = (λ h. absurd (not-in-none i h), λ h. absurd h.2)
 before-are s (Then p q) places within i =
-    by_item (is_place p) refl (before-are s q (ends_from s p places) (ends-within p s places (ends_from s p places) within (ends-are s p places within)))
+    by_item (is_anchor p) refl (before-are s q (ends_from s p places) (ends-within p s places (ends_from s p places) within (ends-are s p places within)))
   where
-    by_item : (b : Bool) → is_place p ≡ b → ((j : ℕ) → Has (before_from s q (ends_from s p places)) j ↔ ((k : ℕ) × Has (ends_from s p places) k × Before s q k j))
+    by_item : (b : Bool) → is_anchor p ≡ b → ((j : ℕ) → Has (before_from s q (ends_from s p places)) j ↔ ((k : ℕ) × Has (ends_from s p places) k × Before s q k j))
         → Has (cond b places (before_from s q (ends_from s p places))) i ↔ ((k : ℕ) × Has places k × Before s (Then p q) k i)
     by_item true e rest = (
       λ h. (i, h, inl (e, refl)),
       λ h. elim h.2 [
         | inl b ↦ subst (Has places) (sym b.1) h.1
-        | inr b ↦ absurd (place-alone p s h.0 b.0 e b.1)
+        | inr b ↦ absurd (anchor-alone p s h.0 b.0 e b.1)
       ],
     )
     by_item false e rest = item-before p q s places (ends_from s p places) (before_from s q (ends_from s p places)) e (ends-are s p places within) rest i
@@ -181,39 +181,39 @@ from-one s q j l =
       λ h. any.1 (h.0, (ends h.0).1 (j, bit_at-pow_same j, h.1)),
     )
 
-pub begins-after-agrees : (s : Seen) (context : Pattern) (j : ℕ) → j ≤ length s.label → IsTrue (begins_after s context j) ↔ BeginsBehind s context j
+pub begins-after-agrees : (s : Seen) (context : Pattern) (j : ℕ) → j ≤ length s.label → IsTrue (begins_after s context j) ↔ BeginsAfter s context j
 begins-after-agrees s (Point c) j l = (λ h. absurd (let f : false ≡ true = h in cc), λ h. absurd h.1)
 begins-after-agrees s (Set n) j l = (λ h. absurd (let f : false ≡ true = h in cc), λ h. absurd h.1)
 begins-after-agrees s Any j l = (λ h. absurd (let f : false ≡ true = h in cc), λ h. absurd h.1)
 begins-after-agrees s Start j l = (λ h. absurd (let f : false ≡ true = h in cc), λ h. absurd h.1)
 begins-after-agrees s End j l = (λ h. absurd (let f : false ≡ true = h in cc), λ h. absurd h.1)
-begins-after-agrees s Place j l = (λ h. (j, refl), λ h. refl)
+begins-after-agrees s Anchor j l = (λ h. (j, refl), λ h. refl)
 begins-after-agrees s (Group p) j l = (λ h. absurd (let f : false ≡ true = h in cc), λ h. absurd h.1)
 begins-after-agrees s (Optional p) j l = (λ h. absurd (let f : false ≡ true = h in cc), λ h. absurd h.1)
 begins-after-agrees s (Many p) j l = (λ h. absurd (let f : false ≡ true = h in cc), λ h. absurd h.1)
-begins-after-agrees s (Then p q) j l = by_item (is_place p) refl (from-one s q j l) (begins-after-agrees s q j l)
+begins-after-agrees s (Then p q) j l = by_item (is_anchor p) refl (from-one s q j l) (begins-after-agrees s q j l)
   where
-    by_item : (b : Bool) → is_place p ≡ b → IsTrue (not (eqb (ends_from s q (2 ^ j)) 0)) ↔ ((k : ℕ) × Matches s q j k) → IsTrue (begins_after s q j) ↔ BeginsBehind s q j
-        → IsTrue (cond b (not (eqb (ends_from s q (2 ^ j)) 0)) (begins_after s q j)) ↔ BeginsBehind s (Then p q) j
+    by_item : (b : Bool) → is_anchor p ≡ b → IsTrue (not (eqb (ends_from s q (2 ^ j)) 0)) ↔ ((k : ℕ) × Matches s q j k) → IsTrue (begins_after s q j) ↔ BeginsAfter s q j
+        → IsTrue (cond b (not (eqb (ends_from s q (2 ^ j)) 0)) (begins_after s q j)) ↔ BeginsAfter s (Then p q) j
     by_item true e one rest = (
       λ h. (let m = one.0 h in (m.0, inl (e, m.1))),
-      λ h. elim h.1 [ inl b ↦ one.1 (h.0, b.1) | inr b ↦ absurd (let f : not (is_place p) ≡ true = b.0 in cc) ],
+      λ h. elim h.1 [ inl b ↦ one.1 (h.0, b.1) | inr b ↦ absurd (let f : not (is_anchor p) ≡ true = b.0 in cc) ],
     )
     by_item false e one rest = (
-      λ h. (let m = rest.0 h in (m.0, inr (let f : not (is_place p) ≡ true = cc in f, m.1))),
-      λ h. elim h.1 [ inl b ↦ absurd (let f : is_place p ≡ true = b.0 in cc) | inr b ↦ rest.1 (h.0, b.1) ],
+      λ h. (let m = rest.0 h in (m.0, inr (let f : not (is_anchor p) ≡ true = cc in f, m.1))),
+      λ h. elim h.1 [ inl b ↦ absurd (let f : is_anchor p ≡ true = b.0 in cc) | inr b ↦ rest.1 (h.0, b.1) ],
     )
 begins-after-agrees s (Either p q) j l = (λ h. absurd (let f : false ≡ true = h in cc), λ h. absurd h.1)
 
-and-both : (a b : Bool) → IsTrue (a && b) ↔ (IsTrue a × IsTrue b)
+pub and-both : (a b : Bool) → IsTrue (a && b) ↔ (IsTrue a × IsTrue b)
 and-both true b = (λ h. (refl, h), λ h. h.1)
 and-both false b = (λ h. absurd (let f : false ≡ true = h in cc), λ h. h.0)
 
-or-one : (a b : Bool) → IsTrue (a || b) ↔ (IsTrue a ⊎ IsTrue b)
+pub or-one : (a b : Bool) → IsTrue (a || b) ↔ (IsTrue a ⊎ IsTrue b)
 or-one true b = (λ h. inl refl, λ h. refl)
 or-one false b = (λ h. inr h, λ h. elim h [ inl f ↦ absurd (let g : false ≡ true = f in cc) | inr g ↦ g ])
 
-not-false : (a : Bool) (P : Type 0) → IsTrue a ↔ P → IsTrue (not a) ↔ (P → ⊥)
+pub not-false : (a : Bool) (P : Type 0) → IsTrue a ↔ P → IsTrue (not a) ↔ (P → ⊥)
 not-false true P e = (λ h. absurd (let f : false ≡ true = h in cc), λ h. absurd (h (e.0 refl)))
 not-false false P e = (λ h p. (let f : false ≡ true = e.1 p in cc), λ h. refl)
 
@@ -256,11 +256,11 @@ one-before s (context ∷ others) i l =
     )
 
 one-done : (s : Seen) (contexts : List Pattern) (i : ℕ) → i ≤ length s.label
-    → IsTrue (list_any (λ context. ends_in_place context && ends_before s context i) contexts) ↔ OneIsDone s contexts i
+    → IsTrue (list_any (λ context. ends_in_anchor context && ends_before s context i) contexts) ↔ OneIsDone s contexts i
 one-done s [] i l = (λ h. absurd (let f : false ≡ true = h in cc), λ h. absurd h)
 one-done s (context ∷ others) i l =
-    let either = or-one (ends_in_place context && ends_before s context i) (list_any (λ c. ends_in_place c && ends_before s c i) others) in
-    let both = and-both (ends_in_place context) (ends_before s context i) in
+    let either = or-one (ends_in_anchor context && ends_before s context i) (list_any (λ c. ends_in_anchor c && ends_before s c i) others) in
+    let both = and-both (ends_in_anchor context) (ends_before s context i) in
     let before = ends-before-agrees s context i l in
     let rest = one-done s others i l in (
       λ h. elim (either.0 h) [ inl f ↦ (let b = both.0 f in inl (b.0, before.0 b.1)) | inr r ↦ inr (rest.0 r) ],
@@ -281,7 +281,7 @@ no-end-agrees (Set n) = (λ h. tt, λ h. refl)
 no-end-agrees Any = (λ h. tt, λ h. refl)
 no-end-agrees Start = (λ h. tt, λ h. refl)
 no-end-agrees End = (λ h. absurd (let f : false ≡ true = h in cc), λ h. absurd h)
-no-end-agrees Place = (λ h. tt, λ h. refl)
+no-end-agrees Anchor = (λ h. tt, λ h. refl)
 no-end-agrees (Group p) = no-end-agrees p
 no-end-agrees (Optional p) = no-end-agrees p
 no-end-agrees (Many p) = no-end-agrees p

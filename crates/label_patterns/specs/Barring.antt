@@ -3,16 +3,16 @@ use Rattle.std.specs.Prelude.{◌⊎◌, ℕ, List, [], ◌∷◌, Option, Some,
 use Rattle.label_patterns.specs.declared.condition.Condition.{Condition}
 use Rattle.label_patterns.specs.declared.condition.ConditionKind.{ConditionKind}
 use Rattle.label_patterns.specs.declared.condition.ConditionKind.TheVariants.{When, Unless}
-use Rattle.label_patterns.specs.Patterns.{Pattern, Place, Then}
+use Rattle.label_patterns.specs.Patterns.{Pattern, Anchor, Then}
 use Rattle.label_patterns.specs.Matches.{Seen}
-use Rattle.label_patterns.specs.Rules.{branches, is_place, EndsBefore}
+use Rattle.label_patterns.specs.Rules.{branches, is_anchor, EndsBefore}
 use Rattle.label_patterns.specs.Conditions.{rule_at}
 
 -- '_' is the last item of the context
-abbrev pub ends_in_place : Pattern → Bool
-ends_in_place Place = true
-ends_in_place (Then p q) = if is_place p then false else ends_in_place q
-ends_in_place p = false
+abbrev pub ends_in_anchor : Pattern → Bool
+ends_in_anchor Anchor = true
+ends_in_anchor (Then p q) = if is_anchor p then false else ends_in_anchor q
+ends_in_anchor p = false
 
 -- what stands before '_' in one of the contexts is found before the place i
 abbrev pub OneEndsBefore : Seen → List Pattern → ℕ → Type 0
@@ -22,7 +22,7 @@ OneEndsBefore seen (context ∷ others) i = EndsBefore seen context i ⊎ OneEnd
 -- the same for a context in which nothing stands after '_'
 abbrev pub OneIsDone : Seen → List Pattern → ℕ → Type 0
 OneIsDone seen [] i = ⊥
-OneIsDone seen (context ∷ others) i = (IsTrue (ends_in_place context) × EndsBefore seen context i) ⊎ OneIsDone seen others i
+OneIsDone seen (context ∷ others) i = (IsTrue (ends_in_anchor context) × EndsBefore seen context i) ⊎ OneIsDone seen others i
 
 -- what follows the place i can't make the rule hold; or it holds there already, whatever follows
 abbrev pub IsBarredBy : ConditionKind → Seen → Pattern → ℕ → Type 0

@@ -1,5 +1,5 @@
 -- Sets of places that tell something of a beginning of a label.
-use Rattle.std.specs.Prelude.{◌≡◌, ◌↔◌, ℕ, ◌<◌, Bool, List, [], length, slice_index, slice_index_or}
+use Rattle.std.specs.Prelude.{◌↔◌, ℕ, ◌<◌, Bool, List, [], length, slice_index, slice_index_or}
 use Rattle.label_patterns.specs.declared.span.Span.{Span}
 use Rattle.label_patterns.specs.Places.{Has, StandsAt}
 use Rattle.label_patterns.specs.Sets.{is_in}

@@ -1,9 +1,9 @@
 -- Laws of patterns.
 use Rattle.std.specs.Prelude.{ℕ, ◌≤◌, ◌↔◌, ◌⊎◌, IsTrue, List, ◌++◌, length}
 use Rattle.label_patterns.specs.declared.span.Span.{Span}
-use Rattle.label_patterns.specs.Patterns.{Pattern, Point, Set, Any, Start, End, Place, Group, Optional, Many, Then, Either}
+use Rattle.label_patterns.specs.Patterns.{Pattern, Point, Set, Any, Start, End, Anchor, Group, Optional, Many, Then, Either}
 use Rattle.label_patterns.specs.Matches.{Seen, Matches}
-use Rattle.label_patterns.specs.Rules.{is_place, EndsBefore}
+use Rattle.label_patterns.specs.Rules.{is_anchor, EndsBefore}
 
 -- the pattern doesn't ask for the end of the label
 abbrev pub HasNoEnd : Pattern → Type 0
@@ -17,7 +17,7 @@ HasNoEnd (Point c) = Unit {0}
 HasNoEnd (Set n) = Unit {0}
 HasNoEnd Any = Unit {0}
 HasNoEnd Start = Unit {0}
-HasNoEnd Place = Unit {0}
+HasNoEnd Anchor = Unit {0}
 
 -- a label under sets
 abbrev pub seen : List (List Span) → List ℕ → Seen
@@ -31,7 +31,7 @@ MatchesStay = (p : Pattern) (sets : List (List Span)) (label more : List ℕ) (i
 
 -- what stands before '_' in a context doesn't ask for the end of the label
 abbrev pub HasNoEndBefore : Pattern → Type 0
-HasNoEndBefore (Then p q) = IsTrue (is_place p) ⊎ (HasNoEnd p × HasNoEndBefore q)
+HasNoEndBefore (Then p q) = IsTrue (is_anchor p) ⊎ (HasNoEnd p × HasNoEndBefore q)
 HasNoEndBefore p = Unit {0}
 
 -- what stands before a place of a label depends on the code points before it alone
@@ -39,6 +39,6 @@ abbrev pub BeforeStays : Type 0
 BeforeStays = (context : Pattern) (sets : List (List Span)) (label more : List ℕ) (i : ℕ) → HasNoEndBefore context → i ≤ length label →
     EndsBefore (seen sets label) context i ↔ EndsBefore (seen sets (label ++ more)) context i
 
--- a pattern matches no part that ends before it begins, or behind the label's end
+-- a pattern matches no part that ends before it begins, or after the label's end
 abbrev pub MatchesParts : Type 0
 MatchesParts = (p : Pattern) (s : Seen) (i j : ℕ) → Matches s p i j → (i ≤ j) × (i ≤ length s.label → j ≤ length s.label)

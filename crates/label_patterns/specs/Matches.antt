@@ -2,7 +2,7 @@
 -- begins and ends.
 use Rattle.std.specs.Prelude.{◌≡◌, ◌⊎◌, ℕ, ◌+◌, ◌<◌, ◌==◌, Bool, true, List, [], length, slice_index_or}
 use Rattle.label_patterns.specs.declared.span.Span.{Span}
-use Rattle.label_patterns.specs.Patterns.{Pattern, Point, Set, Any, Start, End, Place, Group, Optional, Many, Then, Either}
+use Rattle.label_patterns.specs.Patterns.{Pattern, Point, Set, Any, Start, End, Anchor, Group, Optional, Many, Then, Either}
 use Rattle.label_patterns.specs.Places.{StandsAt}
 use Rattle.label_patterns.specs.Sets.{is_in}
 
@@ -31,7 +31,7 @@ Matches seen (Set n) i j = MatchesOne (is_in (slice_index_or seen.sets n [])) se
 Matches seen Any i j = MatchesOne (λ d. true) seen i j
 Matches seen Start i j = MatchesAt 0 i j
 Matches seen End i j = MatchesAt (length seen.label) i j
-Matches seen Place i j = ⊥
+Matches seen Anchor i j = ⊥
 Matches seen (Group p) i j = Matches seen p i j
 Matches seen (Optional p) i j = (j ≡ i) ⊎ Matches seen p i j
 Matches seen (Many p) i j = Rounds (Matches seen p) i j
@@ -50,4 +50,4 @@ HasItsSets n (Point c) = Unit {0}
 HasItsSets n Any = Unit {0}
 HasItsSets n Start = Unit {0}
 HasItsSets n End = Unit {0}
-HasItsSets n Place = Unit {0}
+HasItsSets n Anchor = Unit {0}

@@ -13,8 +13,8 @@ pub data Pattern : Type 0 where
   Start : Pattern
   -- the end of the label
   End : Pattern
-  -- the part that a rule speaks of
-  Place : Pattern
+  -- '_', the anchor of a rule (RFC 7940, section 6.4.1): it stands for the part that the rule speaks of
+  Anchor : Pattern
   -- a pattern in parentheses
   Group : Pattern → Pattern
   -- the pattern, or nothing

@@ -1,6 +1,6 @@
 -- What rules and demands ask of a label.
 use Rattle.std.specs.Prelude.{◌≡◌, ◌⊎◌, ℕ, ◌≤◌, Bool, true, false, not, IsTrue, List, [], ◌∷◌, length}
-use Rattle.label_patterns.specs.Patterns.{Pattern, Place, Then, Either}
+use Rattle.label_patterns.specs.Patterns.{Pattern, Anchor, Then, Either}
 use Rattle.label_patterns.specs.Matches.{Seen, Matches}
 
 -- the branches of a pattern; those of a rule are its contexts: items, one of which is '_'
@@ -9,34 +9,34 @@ branches (Either p q) = p ∷ branches q
 branches p = p ∷ []
 
 -- the pattern is '_'
-abbrev pub is_place : Pattern → Bool
-is_place Place = true
-is_place p = false
+abbrev pub is_anchor : Pattern → Bool
+is_anchor Anchor = true
+is_anchor p = false
 
 -- the part of the label from k to i matches what stands before '_' in the context
 abbrev pub Before : Seen → Pattern → ℕ → ℕ → Type 0
-Before seen Place k i = i ≡ k
-Before seen (Then p q) k i = (IsTrue (is_place p) × (i ≡ k)) ⊎ ((m : ℕ) × Matches seen p k m × Before seen q m i)
+Before seen Anchor k i = i ≡ k
+Before seen (Then p q) k i = (IsTrue (is_anchor p) × (i ≡ k)) ⊎ ((m : ℕ) × Matches seen p k m × Before seen q m i)
 Before seen p k i = ⊥
 
--- the part from j to k matches what stands behind '_'
-abbrev pub Behind : Seen → Pattern → ℕ → ℕ → Type 0
-Behind seen Place j k = k ≡ j
-Behind seen (Then p q) j k = (IsTrue (is_place p) × Matches seen q j k) ⊎ (IsTrue (not (is_place p)) × Behind seen q j k)
-Behind seen p j k = ⊥
+-- the part from j to k matches what stands after '_'
+abbrev pub After : Seen → Pattern → ℕ → ℕ → Type 0
+After seen Anchor j k = k ≡ j
+After seen (Then p q) j k = (IsTrue (is_anchor p) × Matches seen q j k) ⊎ (IsTrue (not (is_anchor p)) × After seen q j k)
+After seen p j k = ⊥
 
 -- what is before the place i ends in what stands before '_'
 abbrev pub EndsBefore : Seen → Pattern → ℕ → Type 0
 EndsBefore seen context i = (k : ℕ) × Before seen context k i
 
--- what is behind the place j begins with what stands behind '_'
-abbrev pub BeginsBehind : Seen → Pattern → ℕ → Type 0
-BeginsBehind seen context j = (k : ℕ) × Behind seen context j k
+-- what is after the place j begins with what stands after '_'
+abbrev pub BeginsAfter : Seen → Pattern → ℕ → Type 0
+BeginsAfter seen context j = (k : ℕ) × After seen context j k
 
 -- one of the contexts holds for the part from i to j
 abbrev pub HoldsInOne : Seen → List Pattern → ℕ → ℕ → Type 0
 HoldsInOne seen [] i j = ⊥
-HoldsInOne seen (context ∷ others) i j = (EndsBefore seen context i × BeginsBehind seen context j) ⊎ HoldsInOne seen others i j
+HoldsInOne seen (context ∷ others) i j = (EndsBefore seen context i × BeginsAfter seen context j) ⊎ HoldsInOne seen others i j
 
 -- the rule holds for the part of the label from i to j
 abbrev pub Holds : Seen → Pattern → ℕ → ℕ → Type 0

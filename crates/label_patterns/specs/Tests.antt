@@ -6,12 +6,12 @@ use Rattle.std.specs.List.{list_any}
 use Rattle.label_patterns.specs.declared.condition.Condition.{Condition}
 use Rattle.label_patterns.specs.declared.condition.ConditionKind.{ConditionKind}
 use Rattle.label_patterns.specs.declared.condition.ConditionKind.TheVariants.{When, Unless}
-use Rattle.label_patterns.specs.Patterns.{Pattern, Point, Set, Any, Start, End, Place, Group, Optional, Many, Then, Either}
+use Rattle.label_patterns.specs.Patterns.{Pattern, Point, Set, Any, Start, End, Anchor, Group, Optional, Many, Then, Either}
 use Rattle.label_patterns.specs.Matches.{Seen}
-use Rattle.label_patterns.specs.Rules.{branches, is_place}
+use Rattle.label_patterns.specs.Rules.{branches, is_anchor}
 use Rattle.label_patterns.specs.Sets.{is_in}
 use Rattle.label_patterns.specs.Conditions.{rule_at}
-use Rattle.label_patterns.specs.Barring.{ends_in_place}
+use Rattle.label_patterns.specs.Barring.{ends_in_anchor}
 
 -- the place is in the set
 abbrev pub has_place : ℕ → ℕ → Bool
@@ -38,7 +38,7 @@ ends_from seen (Set n) starts = bit_and starts (places_of (is_in (slice_index_or
 ends_from seen Any starts = bit_and starts (places_of (λ d. true) seen.label) * 2
 ends_from seen Start starts = bit_and starts 1
 ends_from seen End starts = bit_and starts (2 ^ length seen.label)
-ends_from seen Place starts = 0
+ends_from seen Anchor starts = 0
 ends_from seen (Group p) starts = ends_from seen p starts
 ends_from seen (Optional p) starts = bit_or starts (ends_from seen p starts)
 ends_from seen (Many p) starts = grown (length seen.label) (λ found. bit_or found (ends_from seen p found)) starts
@@ -51,8 +51,8 @@ occurs_in seen p = not (ends_from seen p (every_place seen.label) == 0)
 
 -- the places up to which what stands before '_' is found, if it begins at one of these
 abbrev pub before_from : Seen → Pattern → ℕ → ℕ
-before_from seen Place places = places
-before_from seen (Then p q) places = if is_place p then places else before_from seen q (ends_from seen p places)
+before_from seen Anchor places = places
+before_from seen (Then p q) places = if is_anchor p then places else before_from seen q (ends_from seen p places)
 before_from seen p places = 0
 
 -- what is before the place ends in what stands before '_' in the context
@@ -61,8 +61,8 @@ ends_before seen context i = has_place (before_from seen context (every_place se
 
 -- what follows the place begins with what stands after '_'
 abbrev pub begins_after : Seen → Pattern → ℕ → Bool
-begins_after seen Place j = true
-begins_after seen (Then p q) j = if is_place p then not (ends_from seen q (2 ^ j) == 0) else begins_after seen q j
+begins_after seen Anchor j = true
+begins_after seen (Then p q) j = if is_anchor p then not (ends_from seen q (2 ^ j) == 0) else begins_after seen q j
 begins_after seen p j = false
 
 -- the rule holds for the part from i to j
@@ -80,7 +80,7 @@ condition_holds rules seen (Some c) i j = is_asked c.kind (rule_holds seen (rule
 
 abbrev pub is_barred_by : ConditionKind → Seen → Pattern → ℕ → Bool
 is_barred_by When seen rule i = not (list_any (λ context. ends_before seen context i) (branches rule))
-is_barred_by Unless seen rule i = list_any (λ context. ends_in_place context && ends_before seen context i) (branches rule)
+is_barred_by Unless seen rule i = list_any (λ context. ends_in_anchor context && ends_before seen context i) (branches rule)
 
 -- the condition fails for each part that begins at i, by what stands before i alone
 abbrev pub condition_barred : List Pattern → Seen → Option Condition → ℕ → Bool
@@ -99,4 +99,4 @@ has_no_end (Point c) = true
 has_no_end (Set n) = true
 has_no_end Any = true
 has_no_end Start = true
-has_no_end Place = true
+has_no_end Anchor = true

@@ -2,7 +2,7 @@
 -- the program: contracts speak of patterns.
 use Rattle.label_patterns.specs.declared.pattern_tree.PatternTree.{PatternTree}
 use Rattle.label_patterns.specs.declared.pattern_tree.PatternTree.TheVariants as tree
-use Rattle.label_patterns.specs.Patterns.{Pattern, Point, Set, Any, Start, End, Place, Group, Optional, Many, Then, Either}
+use Rattle.label_patterns.specs.Patterns.{Pattern, Point, Set, Any, Start, End, Anchor, Group, Optional, Many, Then, Either}
 
 abbrev pub pattern : PatternTree → Pattern
 pattern (tree.Point c) = Point c
@@ -10,7 +10,7 @@ pattern (tree.Set n) = Set n
 pattern tree.Any = Any
 pattern tree.Start = Start
 pattern tree.End = End
-pattern tree.Place = Place
+pattern tree.Anchor = Anchor
 pattern (tree.Group' b p) = Group (pattern p)
 pattern (tree.Optional' b p) = Optional (pattern p)
 pattern (tree.Many' b p) = Many (pattern p)

@@ -1,23 +1,23 @@
 //! Conditions that fail whatever follows a beginning of a label.
 ghost use Rattle.std.specs.Prelude.{◌≡◌, ◌↔◌, ◌≤◌, length, IsTrue};
-ghost use Rattle.label_patterns.specs.Barring.{ends_in_place as ends_in_place_pattern, OneEndsBefore, OneIsDone};
+ghost use Rattle.label_patterns.specs.Barring.{ends_in_anchor as ends_in_anchor_pattern, OneEndsBefore, OneIsDone};
 ghost use Rattle.label_patterns.specs.Laws.{HasNoEnd};
 ghost use Rattle.label_patterns.specs.Matches.{HasItsSets};
 ghost use Rattle.label_patterns.specs.Rules.{branches, EndsBefore};
 ghost use Rattle.label_patterns.specs.Trees.{pattern};
 
-use crate::contexts::{is_place, places_before};
+use crate::contexts::{is_anchor, places_before};
 use crate::pattern_tree::PatternTree;
 use crate::places::has;
 use crate::seen_label::SeenLabel;
 
 /// Whether `_` is the last item of the context.
-fn ends_in_place(context: &PatternTree) -> bool
-    ensures { result ≡ ends_in_place_pattern (pattern context.now) }
+fn ends_in_anchor(context: &PatternTree) -> bool
+    ensures { result ≡ ends_in_anchor_pattern (pattern context.now) }
 {
     match context {
-        PatternTree::Place => true,
-        PatternTree::Then(item, rest) => !is_place(item) && ends_in_place(rest),
+        PatternTree::Anchor => true,
+        PatternTree::Then(item, rest) => !is_anchor(item) && ends_in_anchor(rest),
         PatternTree::Point(_) => false,
         PatternTree::Set(_) => false,
         PatternTree::Any => false,
@@ -50,7 +50,7 @@ pub fn one_ends_before(rule: &PatternTree, seen: &SeenLabel, start: usize) -> bo
             is_before(context, seen, start) || one_ends_before(others, seen, start)
         }
         PatternTree::Then(_, _) => is_before(rule, seen, start),
-        PatternTree::Place => true,
+        PatternTree::Anchor => true,
         PatternTree::Point(_) => false,
         PatternTree::Set(_) => false,
         PatternTree::Any => false,
@@ -73,7 +73,7 @@ pub fn one_is_done(rule: &PatternTree, seen: &SeenLabel, start: usize) -> bool
             is_done(context, seen, start) || one_is_done(others, seen, start)
         }
         PatternTree::Then(_, _) => is_done(rule, seen, start),
-        PatternTree::Place => true,
+        PatternTree::Anchor => true,
         PatternTree::Point(_) => false,
         PatternTree::Set(_) => false,
         PatternTree::Any => false,
@@ -89,9 +89,9 @@ pub fn one_is_done(rule: &PatternTree, seen: &SeenLabel, start: usize) -> bool
 fn is_done(context: &PatternTree, seen: &SeenLabel, start: usize) -> bool
     requires known { HasItsSets (length seen.now.sets) (pattern context.now) }
     requires start { start ≤ length seen.now.label }
-    ensures { IsTrue result ↔ (IsTrue (ends_in_place_pattern (pattern context.now)) × EndsBefore seen.now (pattern context.now) start) }
+    ensures { IsTrue result ↔ (IsTrue (ends_in_anchor_pattern (pattern context.now)) × EndsBefore seen.now (pattern context.now) start) }
 {
-    ends_in_place(context) && is_before(context, seen, start)
+    ends_in_anchor(context) && is_before(context, seen, start)
 }
 
 /// Whether a pattern doesn't ask for the end of the label.
@@ -109,6 +109,6 @@ pub fn has_no_end(tree: &PatternTree) -> bool
         PatternTree::Set(_) => true,
         PatternTree::Any => true,
         PatternTree::Start => true,
-        PatternTree::Place => true,
+        PatternTree::Anchor => true,
     }
 }

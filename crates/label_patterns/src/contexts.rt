@@ -2,7 +2,7 @@
 ghost use Rattle.std.specs.Prelude.{◌≡◌, ◌↔◌, ◌≤◌, length, IsTrue};
 ghost use Rattle.label_patterns.specs.Matches.{HasItsSets};
 ghost use Rattle.label_patterns.specs.Places.{Has};
-ghost use Rattle.label_patterns.specs.Rules.{is_place as is_place_pattern, Before, EndsBefore, BeginsBehind, Holds};
+ghost use Rattle.label_patterns.specs.Rules.{is_anchor as is_anchor_pattern, Before, EndsBefore, BeginsAfter, Holds};
 ghost use Rattle.label_patterns.specs.Trees.{pattern};
 
 use crate::ends::ends;
@@ -25,9 +25,9 @@ fn places_from(context: &PatternTree, seen: &SeenLabel, places: u64) -> u64
     ensures { (i : _) → Has result i ↔ ((k : _) × Has places k × Before seen.now (pattern context.now) k i) }
 {
     match context {
-        PatternTree::Place => places,
+        PatternTree::Anchor => places,
         PatternTree::Then(item, rest) => {
-            if is_place(item) {
+            if is_anchor(item) {
                 places
             } else {
                 places_from(rest, seen, ends(item, seen, places))
@@ -45,18 +45,18 @@ fn places_from(context: &PatternTree, seen: &SeenLabel, places: u64) -> u64
     }
 }
 
-/// The places of a label such that what is behind one of them begins with what stands behind `_` in the context.
-pub fn places_behind(context: &PatternTree, seen: &SeenLabel) -> u64
+/// The places of a label such that what is after one of them begins with what stands after `_` in the context.
+pub fn places_after(context: &PatternTree, seen: &SeenLabel) -> u64
     requires { HasItsSets (length seen.now.sets) (pattern context.now) }
-    ensures { (j : _) → j ≤ length seen.now.label → (Has result j ↔ BeginsBehind seen.now (pattern context.now) j) }
+    ensures { (j : _) → j ≤ length seen.now.label → (Has result j ↔ BeginsAfter seen.now (pattern context.now) j) }
 {
     match context {
-        PatternTree::Place => all_places(seen.len()),
+        PatternTree::Anchor => all_places(seen.len()),
         PatternTree::Then(item, rest) => {
-            if is_place(item) {
+            if is_anchor(item) {
                 starts(rest, seen, all_places(seen.len()))
             } else {
-                places_behind(rest, seen)
+                places_after(rest, seen)
             }
         }
         PatternTree::Point(_) => 0,
@@ -71,10 +71,10 @@ pub fn places_behind(context: &PatternTree, seen: &SeenLabel) -> u64
     }
 }
 
-pub(crate) fn is_place(tree: &PatternTree) -> bool
-    ensures { result ≡ is_place_pattern (pattern tree.now) }
+pub(crate) fn is_anchor(tree: &PatternTree) -> bool
+    ensures { result ≡ is_anchor_pattern (pattern tree.now) }
 {
-    matches!(tree, PatternTree::Place)
+    matches!(tree, PatternTree::Anchor)
 }
 
 /// Whether one context holds for the part of the label from `start` to `end`.
@@ -82,9 +82,9 @@ fn context_holds(context: &PatternTree, seen: &SeenLabel, start: usize, end: usi
     requires known { HasItsSets (length seen.now.sets) (pattern context.now) }
     requires start { start ≤ length seen.now.label }
     requires end { end ≤ length seen.now.label }
-    ensures { IsTrue result ↔ (EndsBefore seen.now (pattern context.now) start × BeginsBehind seen.now (pattern context.now) end) }
+    ensures { IsTrue result ↔ (EndsBefore seen.now (pattern context.now) start × BeginsAfter seen.now (pattern context.now) end) }
 {
-    has(places_before(context, seen), start) && has(places_behind(context, seen), end)
+    has(places_before(context, seen), start) && has(places_after(context, seen), end)
 }
 
 /// Whether a rule holds for the part of the label from `start` to `end`.
@@ -99,7 +99,7 @@ pub fn holds(rule: &PatternTree, seen: &SeenLabel, start: usize, end: usize) -> 
             context_holds(context, seen, start, end) || holds(others, seen, start, end)
         }
         PatternTree::Then(_, _) => context_holds(rule, seen, start, end),
-        PatternTree::Place => true,
+        PatternTree::Anchor => true,
         PatternTree::Point(_) => false,
         PatternTree::Set(_) => false,
         PatternTree::Any => false,

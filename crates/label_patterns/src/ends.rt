@@ -5,7 +5,7 @@ ghost use Rattle.label_patterns.specs.Places.{AreEnds};
 ghost use Rattle.label_patterns.specs.Trees.{pattern};
 
 use crate::pattern_tree::PatternTree;
-use crate::places::{behind, either, only};
+use crate::places::{after, either, only};
 use crate::seen_label::SeenLabel;
 
 /// The places where a part of a label that the pattern matches can end, if it begins at one of `starts`.
@@ -14,12 +14,12 @@ pub fn ends(tree: &PatternTree, seen: &SeenLabel, starts: u64) -> u64
     ensures { AreEnds (Matches seen.now (pattern tree.now)) starts result }
 {
     match tree {
-        PatternTree::Point(point) => behind(starts, seen.places_of_point(*point)),
-        PatternTree::Set(set) => behind(starts, seen.places_of_set(*set)),
-        PatternTree::Any => behind(starts, seen.places_of_all()),
+        PatternTree::Point(point) => after(starts, seen.places_of_point(*point)),
+        PatternTree::Set(set) => after(starts, seen.places_of_set(*set)),
+        PatternTree::Any => after(starts, seen.places_of_all()),
         PatternTree::Start => only(starts, 0),
         PatternTree::End => only(starts, seen.len()),
-        PatternTree::Place => 0,
+        PatternTree::Anchor => 0,
         PatternTree::Group(part) => ends(part, seen, starts),
         PatternTree::Optional(part) => either(starts, ends(part, seen, starts)),
         PatternTree::Many(part) => {

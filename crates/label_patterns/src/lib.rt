@@ -19,7 +19,7 @@ mod starts;
 pub use asking::{condition_holds, is_barred};
 pub use barring::has_no_end;
 pub use condition::{Condition, ConditionKind};
-pub use contexts::{holds, places_before, places_behind};
+pub use contexts::{holds, places_after, places_before};
 pub use demands::{first_end, occurs};
 pub use laws::{
     barred_for_good, barring_stays, before_stays, matches_are_parts, matches_stay, tests_agree,

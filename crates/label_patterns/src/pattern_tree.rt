@@ -17,8 +17,8 @@ pub enum PatternTree {
     Start,
     /// `$`
     End,
-    /// `_`
-    Place,
+    /// `_`, the anchor of a rule (RFC 7940, section 6.4.1)
+    Anchor,
     Group(Box<PatternTree>),
     /// `?`
     Optional(Box<PatternTree>),
@@ -39,7 +39,7 @@ impl PatternTree {
             PatternTree::Any => PatternTree::Any,
             PatternTree::Start => PatternTree::Start,
             PatternTree::End => PatternTree::End,
-            PatternTree::Place => PatternTree::Place,
+            PatternTree::Anchor => PatternTree::Anchor,
             PatternTree::Group(part) => PatternTree::Group(Box::new(alloc, part.copied(alloc)?)?),
             PatternTree::Optional(part) => PatternTree::Optional(Box::new(
                 alloc,

@@ -46,8 +46,8 @@ pub fn places_of_point(label: &[u32], point: u32) -> u64
     places
 }
 
-/// The places behind those that are in both sets.
-pub fn behind(starts: u64, members: u64) -> u64
+/// The places after those that are in both sets.
+pub fn after(starts: u64, members: u64) -> u64
     requires { Has members 63 → ⊥ }
     ensures { AreEnds (λ i j. Has members i × (j ≡ i + 1)) starts result }
 {

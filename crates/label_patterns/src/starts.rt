@@ -20,7 +20,7 @@ pub fn starts(tree: &PatternTree, seen: &SeenLabel, stops: u64) -> u64
         PatternTree::Any => before(stops, seen.places_of_all()),
         PatternTree::Start => only(stops, 0),
         PatternTree::End => only(stops, seen.len()),
-        PatternTree::Place => 0,
+        PatternTree::Anchor => 0,
         PatternTree::Group(part) => starts(part, seen, stops),
         PatternTree::Optional(part) => either(stops, starts(part, seen, stops)),
         PatternTree::Many(part) => {

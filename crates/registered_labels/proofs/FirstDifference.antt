@@ -15,10 +15,10 @@ use Rattle.variant_list.specs.Labels.{label_cmp}
 
 -- ---- the order
 
-less : (a b : ℕ) → a < b → nat_cmp a b ≡ Less
+pub less : (a b : ℕ) → a < b → nat_cmp a b ≡ Less
 less a b l = grind (arith, nat_tests)
 
-greater : (a b : ℕ) → b < a → nat_cmp a b ≡ Greater
+pub greater : (a b : ℕ) → b < a → nat_cmp a b ≡ Greater
 greater a b l = grind (arith, nat_tests)
 
 tied : (a b : ℕ) → a ≡ b → nat_cmp a b ≡ Equal

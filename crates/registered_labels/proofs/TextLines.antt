@@ -25,6 +25,7 @@ use Rattle.registered_labels.proofs.Utf8Order.{utf8_of-cmp}
 use Rattle.registered_labels.specs.Registered.{AreRegistered}
 use Rattle.registered_labels.specs.Texts.{AreLinesOf, IsTextOf, line_refusal, IsFirstWrong, IsOutOfOrder, IsWrongBy, IsFaultOf, fault_of}
 use Rattle.registered_labels.specs.inner.Readings.{IsLineEnd, IsReadAs}
+use Rattle.variant_table.proofs.ListLemmas.{drop_all}
 
 -- ---- one line
 
@@ -68,12 +69,6 @@ drop_more [] (suc a) (suc b) l = nothing (suc b - suc a)
 drop_more (x ∷ xs) (suc a) zero l = absurd (omega arith)
 drop_more (x ∷ xs) (suc a) (suc b) l = ap (λ n. drop n (drop a xs)) (omega arith) ∙ drop_more xs a b (omega arith)
 
-drop_past : {X : Type 0} (xs : List X) (n : ℕ) → length xs ≤ n → drop n xs ≡ []
-drop_past [] zero l = refl
-drop_past [] (suc n) l = refl
-drop_past (x ∷ xs) zero l = absurd (omega arith)
-drop_past (x ∷ xs) (suc n) l = drop_past xs n (omega arith)
-
 module _ (text : List ℕ) (at end : ℕ) (more : at < length text) (is : IsLineEnd text at end) where
   front_and_rest : drop at text ≡ slice_range text at end ++ drop end text
   front_and_rest = sym (take-append-drop (end - at) (drop at text)) ∙ ap (λ xs. slice_range text at end ++ xs) (drop_more text at end is.reached)
@@ -92,8 +87,8 @@ module _ (text : List ℕ) (at end : ℕ) (more : at < length text) (is : IsLine
         ap raw_lines (front_and_rest ∙ ap (λ xs. slice_range text at end ++ xs) rest) ∙ raw_lines-then (slice_range text at end) (drop (end + 1) text) is.no_feed
     | inr outside ↦
         let last : end ≡ length text = omega (arith, outside, is.within) in
-        let none : drop (end + 1) text ≡ [] = drop_past text (end + 1) (omega (arith, last)) in
-        ap raw_lines (front_and_rest ∙ ap (λ xs. slice_range text at end ++ xs) (drop_past text end outside) ∙ append-nil (slice_range text at end))
+        let none : drop (end + 1) text ≡ [] = drop_all text (end + 1) (omega (arith, last)) in
+        ap raw_lines (front_and_rest ∙ ap (λ xs. slice_range text at end ++ xs) (drop_all text end outside) ∙ append-nil (slice_range text at end))
         ∙ raw_lines-rest (slice_range text at end) (some_line last) is.no_feed ∙ ap (λ xs. slice_range text at end ∷ raw_lines xs) (sym none)
   ]
 
@@ -131,7 +126,7 @@ HasRead-more text at end number len labels label more is read h =
 
 pub IsTextOf-read : (text : List ℕ) (at number : ℕ) (labels : List (List ℕ)) → length text ≤ at → at ≤ 2 ^ 32 → HasRead text at number labels → AreRegistered labels → IsTextOf text labels
 IsTextOf-read text at number labels past few h all =
-    let whole : raw_lines text ≡ h.front = h.split ∙ ap (λ xs. h.front ++ raw_lines xs) (drop_past text at past) ∙ append-nil h.front in
+    let whole : raw_lines text ≡ h.front = h.split ∙ ap (λ xs. h.front ++ raw_lines xs) (drop_all text at past) ∙ append-nil h.front in
     record {
       lines = ap (map body_of) whole ∙ h.read;
       registered = all;

@@ -63,12 +63,12 @@ IsWrongBy refusal at labels line =
     ⊎ ((refusal ≡ FileTooLong) × (line_refusal (body_of line) ≡ None) × (¬ IsOutOfOrder labels (body_of line))
     × (2 ^ 32 ≤ at + length line))
 
--- the first fault of a text; want of memory is none of a text
+-- the first fault of a text; lack of memory is none of a text
 abbrev pub IsFaultOf : List ℕ → RegisterFault → Type 0
 IsFaultOf text (Refused line refusal) = IsFirstWrong text line (IsWrongBy refusal)
 IsFaultOf text Memory = Unit {0}
 
--- the fault of a line that is refused; want of memory is none
+-- the fault of a line that is refused; lack of memory is none
 abbrev pub fault_of : ℕ → Refusal → RegisterFault
 fault_of line refusals.Memory = Memory
 fault_of line refusal = Refused line refusal

@@ -279,7 +279,7 @@ fn read_label(
     }
 }
 
-/// The fault of a line that is refused. Want of memory is no fault of a line.
+/// The fault of a line that is refused. Lack of memory is no fault of a line.
 fn refused(line: u64, refusal: Refusal) -> RegisterFault
     ensures { result ≡ fault_of line refusal }
 {

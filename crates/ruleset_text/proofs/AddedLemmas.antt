@@ -3,7 +3,7 @@ use Rattle.std.proofs.Common.{◌≡◌, ℕ, ◌+◌, ◌<◌, ◌≤◌, true,
 use Rattle.std.proofs.lemmas.List.{map-append}
 use Rattle.std.specs.Prelude.{IsTrue, IsSome, MatchOption, bytes_eq, nat_le, nat_lt}
 use Rattle.std.specs.List.{AllByRecursion}
-use Rattle.std.proofs.lemmas.Bool.{leb-false, ltb-false}
+use Rattle.std.proofs.lemmas.Bool.{leb-false, ltb-false, or_parts}
 use Rattle.std.proofs.lemmas.Slice.Eq.{bytes_eq-Decides}
 use Rattle.label_patterns.specs.Patterns.{Pattern}
 use Rattle.ruleset_text.specs.Canonical.{definition_text}
@@ -13,7 +13,6 @@ use Rattle.ruleset_text.specs.Definitions.{Demand, Definitions, nothing_defined,
 use Rattle.ruleset_text.specs.Limits.{groups, stars, atoms, IsWithin}
 use Rattle.ruleset_text.specs.Names.{is_name, is_one_of, AreNames}
 use Rattle.ruleset_text.specs.WellFormed.{HasParts, IsDefinition, AreDefinitions}
-use Rattle.ruleset_text.proofs.HexLemmas.{or_parts}
 use Rattle.ruleset_text.proofs.KnownSetLemmas.{KnowsSets, known_more, definition_text-more}
 
 -- ---- lists with one element more

@@ -1,6 +1,6 @@
 -- A pattern of points and of named sets has a word for each, so its canonical text is read back.
 use Rattle.std.proofs.Common.{◌≡◌, ℕ, List, length, Some}
-use Rattle.label_patterns.specs.Patterns.{Pattern, Point, Set, Any, Start, End, Place, Group, Optional, Many, Then, Either}
+use Rattle.label_patterns.specs.Patterns.{Pattern, Point, Set, Any, Start, End, Anchor, Group, Optional, Many, Then, Either}
 use Rattle.ruleset_text.specs.Grammar.{Is, Whole, tokens}
 use Rattle.label_patterns.specs.Matches.{HasItsSets}
 use Rattle.ruleset_text.specs.Names.{AreNames}
@@ -18,7 +18,7 @@ has_words names (Set n) a h k = name_word names n a h
 has_words names Any a h k = tt
 has_words names Start a h k = tt
 has_words names End a h k = tt
-has_words names Place a h k = tt
+has_words names Anchor a h k = tt
 has_words names (Group p) a h k = has_words names p a h k
 has_words names (Optional p) a h k = has_words names p a h k
 has_words names (Many p) a h k = has_words names p a h k

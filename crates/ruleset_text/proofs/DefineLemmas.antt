@@ -1,7 +1,7 @@
 -- The faults of a definition in their order, and that one without a fault may be added.
-use Rattle.std.proofs.Common.{◌≡◌, ℕ, ◌+◌, ◌≤◌, Bool, true, false, ◌||◌, not, cond, List, ◌++◌, length, Option, Some, None, Result, Ok, Err, refl, sym, ap, subst, ◌∙◌, arith}
+use Rattle.std.proofs.Common.{◌≡◌, ℕ, ◌+◌, ◌≤◌, true, false, ◌||◌, not, cond, List, ◌++◌, length, Option, Some, None, Result, Ok, Err, sym, ap, subst, ◌∙◌, arith}
 use Rattle.std.specs.Prelude.{IfSome, nat_lt}
-use Rattle.std.proofs.lemmas.Bool.{ltb-false}
+use Rattle.std.proofs.lemmas.Bool.{ltb-false, or_right, or_parts, or_from}
 use Rattle.ruleset_text.specs.declared.definition_line.DefinitionLine.{DefinitionLine}
 use Rattle.ruleset_text.specs.declared.fault.DefinitionFault.{DefinitionFault}
 use Rattle.ruleset_text.specs.declared.fault.DefinitionFault.TheVariants.{Syntax, Limit, NoSuchName, BadClass, SameName}
@@ -14,7 +14,6 @@ use Rattle.ruleset_text.specs.DefinitionTrees as trees
 use Rattle.ruleset_text.specs.inner.DefinitionSteps.{HasForm, IsLineOf}
 use Rattle.ruleset_text.specs.SetNames.{names_on}
 use Rattle.ruleset_text.specs.WellFormed.{HasParts, IsDefinition, AreDefinitions}
-use Rattle.ruleset_text.proofs.HexLemmas.{or_parts, no_false}
 use Rattle.ruleset_text.proofs.KnownSetLemmas.{known_from, definition_text-more}
 use Rattle.ruleset_text.proofs.AddedLemmas.{HasNewName, new_from, room_for, room_for_pattern, knows_sets, are_added}
 
@@ -36,10 +35,6 @@ pub syntax_fault : (limit : ℕ) (d : Definitions) (names : List (List ℕ)) (o 
 unfolding with_definition
 syntax_fault limit d names o e = ap (with_definition limit d names) e
 
-or_true : (a b : Bool) → b ≡ true → (a || b) ≡ true
-or_true true b e = refl
-or_true false b e = e
-
 pub line_fault : (limit : ℕ) (d : Definitions) (names : List (List ℕ)) (o : Option Definition) (x : Definition) (len : ℕ) → o ≡ Some x → len ≡ length (definition_text names x)
     → is_line_over_limit limit d len ≡ true → with_definition limit d names o ≡ Err Limit
 line_fault limit d names o x len e size over =
@@ -51,7 +46,7 @@ pub count_fault : (limit : ℕ) (d : Definitions) (names : List (List ℕ)) (o :
     → is_one_too_many d x ≡ true → with_definition limit d names o ≡ Err Limit
 count_fault limit d names o x e over =
     with_some limit d names o x e
-    ∙ ap (λ b. cond b (Err Limit) (after_limit d x)) (or_true (is_line_over_limit limit d (length (definition_text names x))) (is_one_too_many d x) over)
+    ∙ ap (λ b. cond b (Err Limit) (after_limit d x)) (or_right (is_line_over_limit limit d (length (definition_text names x))) (is_one_too_many d x) over)
 
 -- what was read goes past no limit
 pub record IsWithinLimits (limit : ℕ) (d : Definitions) (names : List (List ℕ)) (o : Option Definition) (x : Definition) (len : ℕ) : Type 0 where
@@ -65,7 +60,7 @@ within_limits : (limit : ℕ) (d : Definitions) (names : List (List ℕ)) (o : O
 within_limits limit d names o x len w =
     with_some limit d names o x w.read
     ∙ ap (λ b. cond b (Err Limit) (after_limit d x))
-    (no_false (is_line_over_limit limit d (length (definition_text names x))) (is_one_too_many d x) (ap (is_line_over_limit limit d) (sym w.size) ∙ w.line) w.count)
+    (or_from (is_line_over_limit limit d (length (definition_text names x))) (is_one_too_many d x) (ap (is_line_over_limit limit d) (sym w.size) ∙ w.line) w.count)
 
 pub name_fault : (limit : ℕ) (d : Definitions) (names : List (List ℕ)) (o : Option Definition) (x : Definition) (len : ℕ) → IsWithinLimits limit d names o x len
     → has_known_sets (length d.sets) x ≡ false → with_definition limit d names o ≡ Err NoSuchName

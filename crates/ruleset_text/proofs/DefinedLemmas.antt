@@ -2,6 +2,7 @@
 use Rattle.std.proofs.Common.{◌≡◌, ℕ, Bool, true, false, not, cond, List, [], ◌∷◌, ◌++◌, ◌+◌, ◌<◌, ◌≤◌, length, length-append, Option, Some, None, Result, Ok, Err, refl, sym, ap, subst, ◌∙◌, arith}
 use Rattle.std.specs.Option.{option_map}
 use Rattle.std.proofs.lemmas.List.{append-nil}
+use Rattle.std.proofs.lemmas.Bool.{not-false, or_parts}
 use Rattle.label_patterns.specs.Patterns.{Pattern}
 use Rattle.ruleset_text.specs.declared.definition.DemandKind.{DemandKind}
 use Rattle.ruleset_text.specs.declared.definition.DemandKind.TheVariants as demand
@@ -21,7 +22,6 @@ use Rattle.ruleset_text.specs.WellFormed.{AreDefinitions}
 use Rattle.ruleset_text.proofs.AddedLemmas.{canonical_size-added}
 use Rattle.ruleset_text.proofs.DefineLemmas.{may_be_added}
 use Rattle.ruleset_text.proofs.FormLemmas.{contexts_formed, demand_formed}
-use Rattle.ruleset_text.proofs.HexLemmas.{or_parts}
 use Rattle.ruleset_text.proofs.KnownSetLemmas.{names_on-more}
 use Rattle.ruleset_text.proofs.SpanLemmas.{spans_good}
 
@@ -76,10 +76,6 @@ if_not : (b : Bool) (fault : DefinitionFault) (r : Result Definitions Definition
 if_not true fault r e h = absurd (cc)
 if_not false fault r e h = (refl, h)
 
-no_not : (b : Bool) → not b ≡ false → b ≡ true
-no_not true e = refl
-no_not false e = cc
-
 with_none : (limit : ℕ) (d : Definitions) (names : List (List ℕ)) (o : Option Definition) (e : Definitions) → with_definition limit d names o ≡ Ok e
     → (x : Definition) × (o ≡ Some x) × (is_over_limit limit d names x ≡ false) × (has_known_sets (length d.sets) x ≡ true) × (has_bad_class x ≡ false) × (has_same_name d x ≡ false) × (added d x ≡ e)
 unfolding with_definition
@@ -90,7 +86,7 @@ with_none limit d names (Some x) e h =
     let classes = if_not (has_bad_class x) BadClass _ e known.1 in
     let new = if_not (has_same_name d x) SameName _ e classes.1 in
     let same : added d x ≡ e = let ok = new.1 in cc in
-    (x, refl, limits.0, no_not (has_known_sets (length d.sets) x) known.0, classes.0, new.0, same)
+    (x, refl, limits.0, not-false (has_known_sets (length d.sets) x) known.0, classes.0, new.0, same)
 
 -- what a line makes of definitions without a fault: they have none, nothing is lost, and there is room for them
 pub record Grown (limit : ℕ) (d e : Definitions) : Type 0 where
@@ -205,7 +201,7 @@ without_demands limit d e keyword.Always words h none =
 
 -- ---- names of tags and rules
 
--- those that were there stay, with others behind them
+-- those that were there stay, with others after them
 pub record NamesStay (d e : Definitions) : Type 0 where
   pub tags : (more : List (List ℕ)) × (e.tags ≡ d.tags ++ more)
   pub rules : (more : List (List ℕ)) × (e.rule_names ≡ d.rule_names ++ more)

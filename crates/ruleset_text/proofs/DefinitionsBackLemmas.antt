@@ -9,12 +9,14 @@ use Rattle.ruleset_text.specs.declared.fault.DefinitionFault.{DefinitionFault}
 use Rattle.ruleset_text.specs.Canonical.{definition_text}
 use Rattle.ruleset_text.specs.Definition as definition
 use Rattle.ruleset_text.specs.Definition.{Definition}
-use Rattle.ruleset_text.specs.Definitions.{Demand, Definitions, nothing_defined, named, all_definitions, all_names, canonical_lines, canonical_size, added, after, with_words, with_lines}
+use Rattle.ruleset_text.specs.Definitions.{Demand, Definitions, nothing_defined, named, all_definitions, all_names, canonical_lines, canonical_size, added, and_then, with_words, with_lines}
 use Rattle.ruleset_text.specs.Lexemes.{lexemes}
 use Rattle.ruleset_text.specs.Names.{is_name, AreNames}
 use Rattle.ruleset_text.specs.WellFormed.{IsDefinition, AreDefinitions}
 use Rattle.ruleset_text.proofs.AddedLemmas.{IsNew, inserted, named-push, all_atoms_of, canonical_size-added, HasNewName, HasRoomFor}
 use Rattle.ruleset_text.proofs.LineBackLemmas.{Fits, line_back}
+use Rattle.ruleset_text.proofs.KnownPatternLemmas.{all_before}
+use Rattle.ruleset_text.proofs.NameLemmas.{names_after}
 
 -- ---- lists without an element
 
@@ -32,14 +34,6 @@ names_removed (x ∷ xs) ys name are =
     let rest = names_removed xs ys name are.2 in
     let others = all_removed (λ other. x ≡ other → ⊥) xs ys name are.1 in
     ((are.0, others.0, rest.0), rest.1, (λ e. others.1 (sym e), rest.2))
-
-names_behind : (xs ys : List (List ℕ)) → AreNames (xs ++ ys) → AreNames ys
-names_behind [] ys are = are
-names_behind (x ∷ xs) ys are = names_behind xs ys are.2
-
-all_before : {X : Type 0} (P : X → Type 0) (xs ys : List X) → AllByRecursion P (xs ++ ys) → AllByRecursion P xs
-all_before P [] ys all = tt
-all_before P (x ∷ xs) ys all = (all.0, all_before P xs ys all.1)
 
 names_before : (xs ys : List (List ℕ)) → AreNames (xs ++ ys) → AreNames xs
 names_before [] ys are = tt
@@ -61,9 +55,9 @@ plain_sets [] sets = tt
 plain_sets (name ∷ names) [] = tt
 plain_sets (name ∷ names) (s ∷ sets) = (tt, plain_sets names sets)
 
-plain_behind_tags : (tags : List (List ℕ)) (xs : List Definition) → ArePlain xs → ArePlain (map definition.Tag tags ++ xs)
-plain_behind_tags [] xs plain = plain
-plain_behind_tags (tag ∷ tags) xs plain = (tt, plain_behind_tags tags xs plain)
+plain_after_tags : (tags : List (List ℕ)) (xs : List Definition) → ArePlain xs → ArePlain (map definition.Tag tags ++ xs)
+plain_after_tags [] xs plain = plain
+plain_after_tags (tag ∷ tags) xs plain = (tt, plain_after_tags tags xs plain)
 
 plain_text : (names more : List (List ℕ)) (x : Definition) → IsPlain x → definition_text (names ++ more) x ≡ definition_text names x
 plain_text names more (definition.Tag name) plain = refl
@@ -188,16 +182,16 @@ demand_removed d e are =
 
 -- ---- lines, one more
 
-after_ok : (r : Result Definitions DefinitionFault) → after r (λ e. Ok e) ≡ r
-after_ok (Ok d) = refl
-after_ok (Err fault) = refl
+and_then_ok : (r : Result Definitions DefinitionFault) → and_then r (λ e. Ok e) ≡ r
+and_then_ok (Ok d) = refl
+and_then_ok (Err fault) = refl
 
 lines_push : (limit : ℕ) (d e : Definitions) (lines : List (List ℕ)) (line : List ℕ) → with_lines limit d lines ≡ Ok e → with_lines limit d (lines ++ line ∷ []) ≡ with_words limit e (lexemes line)
-lines_push limit d e [] line h = let same : d ≡ e = cc in after_ok (with_words limit d (lexemes line)) ∙ ap (λ x. with_words limit x (lexemes line)) same
+lines_push limit d e [] line h = let same : d ≡ e = cc in and_then_ok (with_words limit d (lexemes line)) ∙ ap (λ x. with_words limit x (lexemes line)) same
 lines_push limit d e (first ∷ lines) line h = by_cases (with_words limit d (lexemes first)) (λ x g. lines_push limit x e lines line g) h
   where
     by_cases : (r : Result Definitions DefinitionFault) → ((x : Definitions) → with_lines limit x lines ≡ Ok e → with_lines limit x (lines ++ line ∷ []) ≡ with_words limit e (lexemes line))
-        → after r (λ x. with_lines limit x lines) ≡ Ok e → after r (λ x. with_lines limit x (lines ++ line ∷ [])) ≡ with_words limit e (lexemes line)
+        → and_then r (λ x. with_lines limit x lines) ≡ Ok e → and_then r (λ x. with_lines limit x (lines ++ line ∷ [])) ≡ with_words limit e (lexemes line)
     by_cases (Ok x) step h = step x h
     by_cases (Err fault) step h = absurd (cc)
 
@@ -209,7 +203,7 @@ Reads limit d = AreDefinitions d → canonical_size d ≤ limit → with_lines l
 fits : (limit : ℕ) (d : Definitions) (x : Definition) → Removed d x → canonical_size (added d x) ≤ limit → Fits limit d x
 fits limit d x r size = record {
   named_sets = r.are.named_sets;
-  names = names_before d.set_names d.rule_names (names_behind d.tags (d.set_names ++ d.rule_names) r.are.names);
+  names = names_before d.set_names d.rule_names (names_after d.tags (d.set_names ++ d.rule_names) r.are.names);
   parts = r.is.parts;
   short = r.is.short;
   size = omega (arith, canonical_size-added d x r.are, size);
@@ -269,7 +263,7 @@ sets_read limit tags before (name ∷ names) front (spans ∷ sets) s e reads =
     let d = with_sets tags before front in
     let x = definition.Set name spans in
     let all = all_definitions d in
-    let plain : ArePlain all = plain_behind_tags tags (named definition.Set before front ++ []) (subst ArePlain (sym (append-nil (named definition.Set before front))) (plain_sets before front)) in
+    let plain : ArePlain all = plain_after_tags tags (named definition.Set before front ++ []) (subst ArePlain (sym (append-nil (named definition.Set before front))) (plain_sets before front)) in
     let lines = lines_last (definition_text (before ++ name ∷ [])) all (all_definitions (added d x)) x (last_set tags before front name spans s)
     ∙ ap (λ l. l ++ definition_text before x ∷ []) (plain_texts before (name ∷ []) all plain) in
     let more = reads_more limit d x (set_removed d name spans plain) lines reads in

@@ -11,7 +11,7 @@ use Rattle.ruleset_text.specs.Entries.{Mapped}
 use Rattle.ruleset_text.specs.EntryText.{mark_text, sequence_text, last_text, names_text, tags_text, condition_word, condition_text, mapped_text, variants_text, entry_text, IsSequence, MayHaveTags, HasRule, IsMapped, IsForm}
 use Rattle.ruleset_text.specs.EntryWords as words
 use Rattle.ruleset_text.specs.EntryWords.{Word, IsWord, AreWords, point_of, mark_words, sequence_words, last_words, names_words, tags_words, kind_word, condition_words, mapped_words, variants_words, entry_words}
-use Rattle.ruleset_text.specs.inner.EntrySteps.{entry_in}
+use Rattle.ruleset_text.specs.EntrySteps.{entry_in}
 use Rattle.ruleset_text.specs.Lexemes.{is_word_byte, begins_in_word, lexemes}
 use Rattle.ruleset_text.specs.Names.{is_name, AreNames}
 use Rattle.ruleset_text.proofs.EntryReadLemmas.{words_read}

@@ -6,7 +6,7 @@ use Rattle.ruleset_text.specs.declared.entry_form.EntryForm as declared
 use Rattle.ruleset_text.specs.Entries.{EntryForm}
 use Rattle.ruleset_text.specs.EntryForms.{entry_form}
 use Rattle.ruleset_text.specs.EntryWords.{IsEntryLine}
-use Rattle.ruleset_text.specs.inner.EntrySteps.{entry_in}
+use Rattle.ruleset_text.specs.EntrySteps.{entry_in}
 use Rattle.ruleset_text.specs.Lexemes.{lexemes}
 use Rattle.ruleset_text.proofs.EntryReadLemmas.{words_read}
 use Rattle.ruleset_text.proofs.EntrySpelledLemmas.{read_words}

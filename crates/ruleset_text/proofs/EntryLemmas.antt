@@ -1,6 +1,6 @@
 -- The form of an entry, lexeme by lexeme.
 use Rattle.std.proofs.Common.{◌≡◌, ℕ, List, [], ◌∷◌, Option, Some, None, refl, sym, ap, ◌∙◌}
-use Rattle.ruleset_text.specs.inner.EntrySteps.{State, start, step, state_after, ended, entry_at, entry_in}
+use Rattle.ruleset_text.specs.EntrySteps.{State, start, step, state_after, ended, entry_at, entry_in}
 use Rattle.ruleset_text.specs.Lexemes.{lexemes}
 
 -- the form of a text by the state so far and the lexemes of the rest

@@ -2,7 +2,7 @@
 use Rattle.std.proofs.Common.{◌≡◌, ℕ, Bool, true, false, ◌&&◌, not, cond, eqb, List, [], ◌∷◌, ◌++◌, length, Option, Some, None, refl, sym, ap, subst, ◌∙◌, append_assoc, append-nil, arith}
 use Rattle.std.specs.Prelude.{IsTrue, nat_le}
 use Rattle.std.specs.List.{AllByRecursion}
-use Rattle.std.proofs.lemmas.Bool.{eqb-true, leb-true}
+use Rattle.std.proofs.lemmas.Bool.{eqb-true, leb-true, not-true, and_parts}
 use Rattle.idn_text.specs.Points.{is_scalar_value}
 use Rattle.ruleset_text.specs.declared.entry_form.NamedCondition.{NamedCondition}
 use Rattle.label_patterns.specs.declared.condition.ConditionKind.{ConditionKind}
@@ -14,13 +14,13 @@ use Rattle.ruleset_text.specs.Entries.{Mapped, EntryForm}
 use Rattle.ruleset_text.specs.EntryText.{MayHaveTags, IsMapped, IsForm}
 use Rattle.ruleset_text.specs.EntryWords as words
 use Rattle.ruleset_text.specs.EntryWords.{Word, IsWord, AreWords, point_of, mark_words, sequence_words, last_words, names_words, tags_words, kind_word, condition_words, mapped_words, variants_words, entry_words}
-use Rattle.ruleset_text.specs.inner.EntrySteps.{State, start, word_of, marked, at_point, at_last, at_tag, at_rule, begin_by, after_rule, after_tags, after_tag, after_points, after_point, step_by, step, state_after, ended, entry_at, entry_in}
+use Rattle.ruleset_text.specs.EntrySteps.{State, start, word_of, marked, at_point, at_last, at_tag, at_rule, begin_by, after_rule, after_tags, after_tag, after_points, after_point, step_by, step, state_after, ended, entry_at, entry_in}
 use Rattle.ruleset_text.specs.Tokens.{without_prefix}
 use Rattle.ruleset_text.specs.Names.{is_name, is_one_of, AreNames}
 use Rattle.ruleset_text.proofs.AddedLemmas.{IsNew, new_from}
 use Rattle.ruleset_text.proofs.EntryLemmas.{none_after}
 use Rattle.ruleset_text.proofs.EntryStateLemmas.{part, at, before, after, phase_of, kind_phase, MayEnd, form_at, IsSpelled, spelled}
-use Rattle.ruleset_text.proofs.HexLemmas.{and_parts, hex_facts}
+use Rattle.ruleset_text.proofs.HexLemmas.{hex_facts}
 
 -- ---- what was read, and what is known of it
 
@@ -243,17 +243,13 @@ tag_phase : (last : Option ℕ) (tags : List (List ℕ)) (name : List ℕ) → p
 tag_phase last [] name = refl
 tag_phase last (tag ∷ tags) name = refl
 
-not_false : (b : Bool) → not b ≡ true → b ≡ false
-not_false true e = cc
-not_false false e = refl
-
 as_next : (done : List Mapped) (last : Option ℕ) (points : List ℕ) (tags : List (List ℕ)) (known : IsKnown done last (part false points tags None)) (w : List ℕ) (t : State)
     → at_tag (state_at (AtAs done last points tags known)) w ≡ Some t → Next (AtAs done last points tags known) w t
 as_next done last points tags known w t h =
     let named : State = record { done = done; current = part false points (tags ++ w ∷ []) None; last = last; phase = phase.Tag } in
     let parts = state_if (is_name w && not (is_one_of tags w)) named t h in
     let tests = and_parts (is_name w) (not (is_one_of tags w)) parts.0 in
-    let new = new_from tags w (not_false (is_one_of tags w) tests.1) in
+    let new = new_from tags w (not-true (is_one_of tags w) tests.1) in
     let more : IsKnown done last (part false points (tags ++ w ∷ []) None) =
     record { all = known.all; mapped = record { sequence = known.mapped.sequence; tags = may_more tags w known.mapped.tags tests.0 new; condition = tt }; ends = known.ends } in
     let state : Some (after done last (part false points (tags ++ w ∷ []) None)) ≡ Some t = ap (λ p. Some (record named { phase = p })) (tag_phase last tags w) ∙ parts.1 in

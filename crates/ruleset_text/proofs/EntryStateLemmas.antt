@@ -11,7 +11,7 @@ use Rattle.ruleset_text.specs.declared.entry_reading.EntryWord.TheVariants as wo
 use Rattle.ruleset_text.specs.declared.entry_reading.Phase.{Phase}
 use Rattle.ruleset_text.specs.declared.entry_reading.Phase.TheVariants as phase
 use Rattle.ruleset_text.specs.Entries.{Mapped}
-use Rattle.ruleset_text.specs.inner.EntrySteps.{State, nothing, word_of, is_complete, ended}
+use Rattle.ruleset_text.specs.EntrySteps.{State, nothing, word_of, is_complete, ended}
 
 -- ---- states
 

@@ -1,5 +1,6 @@
 -- What has the form of a definition.
 use Rattle.std.proofs.Common.{◌≡◌, ℕ, Bool, true, false, not, cond, List, Option, Some, None, refl, sym, ap, ◌∙◌}
+use Rattle.std.proofs.lemmas.Bool.{not-true}
 use Rattle.label_patterns.specs.Patterns.{Pattern}
 use Rattle.ruleset_text.specs.declared.rules.Sign.TheVariants as sign
 use Rattle.ruleset_text.specs.Definition.{if_such, contexts_in, demand_in}
@@ -17,17 +18,13 @@ if_such_some test (Some q) p e = by_cases (test q) refl e
     by_cases true t e = let same : q ≡ p = cc in (e, ap test (sym same) ∙ t)
     by_cases false t e = absurd (cc)
 
-no_not : (b : Bool) → not b ≡ true → b ≡ false
-no_not true e = cc
-no_not false e = refl
-
 -- contexts are a pattern of the grammar, of a rule
 pub contexts_formed : (names words : List (List ℕ)) (p : Pattern) → contexts_in names words ≡ Some p → Is Whole p × (is_rule p ≡ true)
 contexts_formed names words p e =
     let parts = if_such_some is_rule (pattern_of (tokens_in names words)) p e in ((read_spelled (tokens_in names words) p parts.0).0, parts.1)
 
 -- what a demand asks for is a pattern of the grammar, without '_'
-pub demand_formed : (names words : List (List ℕ)) (p : Pattern) → demand_in names words ≡ Some p → Is Whole p × (has sign.Place p ≡ false)
+pub demand_formed : (names words : List (List ℕ)) (p : Pattern) → demand_in names words ≡ Some p → Is Whole p × (has sign.Anchor p ≡ false)
 demand_formed names words p e =
-    let parts = if_such_some (λ q. not (has sign.Place q)) (pattern_of (tokens_in names words)) p e in
-    ((read_spelled (tokens_in names words) p parts.0).0, no_not (has sign.Place p) parts.1)
+    let parts = if_such_some (λ q. not (has sign.Anchor q)) (pattern_of (tokens_in names words)) p e in
+    ((read_spelled (tokens_in names words) p parts.0).0, not-true (has sign.Anchor p) parts.1)

@@ -8,9 +8,9 @@ use Rattle.ruleset_text.specs.Definition.{Definition}
 use Rattle.ruleset_text.specs.Definitions.{Demand, Definitions, named}
 use Rattle.ruleset_text.specs.WellFormed.{IsDefinition, AreDefinitions}
 
-pub all_behind : {X : Type 0} (P : X → Type 0) (xs ys : List X) → AllByRecursion P (xs ++ ys) → AllByRecursion P ys
-all_behind P [] ys all = all
-all_behind P (x ∷ xs) ys all = all_behind P xs ys all.1
+pub all_after : {X : Type 0} (P : X → Type 0) (xs ys : List X) → AllByRecursion P (xs ++ ys) → AllByRecursion P ys
+all_after P [] ys all = all
+all_after P (x ∷ xs) ys all = all_after P xs ys all.1
 
 pub all_before : {X : Type 0} (P : X → Type 0) (xs ys : List X) → AllByRecursion P (xs ++ ys) → AllByRecursion P xs
 all_before P [] ys all = tt
@@ -42,12 +42,12 @@ demands_in d = map (λ e. definition.Demand e.kind e.pattern) d.demands
 
 pub patterns : (d : Definitions) → AreDefinitions d → AllByRecursion (IsDefinition d.set_names) (rules_in d ++ demands_in d)
 patterns d are =
-    all_behind (IsDefinition d.set_names) (sets_in d) (rules_in d ++ demands_in d)
-    (all_behind (IsDefinition d.set_names) (tags_in d) (sets_in d ++ (rules_in d ++ demands_in d)) are.each)
+    all_after (IsDefinition d.set_names) (sets_in d) (rules_in d ++ demands_in d)
+    (all_after (IsDefinition d.set_names) (tags_in d) (sets_in d ++ (rules_in d ++ demands_in d)) are.each)
 
 pub rules_known : (d : Definitions) → AreDefinitions d → AllByRecursion (HasItsSets (length d.sets)) d.rules
 rules_known d are =
     rules_of d.set_names d.rule_names d.rules (length d.sets) are.named_sets are.named_rules (all_before (IsDefinition d.set_names) (rules_in d) (demands_in d) (patterns d are))
 
 pub demands_known : (d : Definitions) → AreDefinitions d → AllByRecursion (λ e. HasItsSets (length d.sets) e.pattern) d.demands
-demands_known d are = demands_of d.set_names d.demands (length d.sets) are.named_sets (all_behind (IsDefinition d.set_names) (rules_in d) (demands_in d) (patterns d are))
+demands_known d are = demands_of d.set_names d.demands (length d.sets) are.named_sets (all_after (IsDefinition d.set_names) (rules_in d) (demands_in d) (patterns d are))

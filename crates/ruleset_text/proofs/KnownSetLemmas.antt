@@ -1,9 +1,9 @@
--- What names behind those of the sets leave as it was: the text of patterns whose sets are known.
+-- What names after those of the sets leave as it was: the text of patterns whose sets are known.
 use Rattle.std.proofs.Common.{◌≡◌, ℕ, ◌≤◌, Bool, true, false, cond, List, [], ◌∷◌, ◌++◌, length, Option, Some, None, refl, sym, ap, ◌∙◌, append_assoc, append-nil, arith}
 use Rattle.std.specs.Prelude.{codes}
-use Rattle.std.proofs.lemmas.Bool.{ltb-true}
+use Rattle.std.proofs.lemmas.Bool.{ltb-true, and_parts}
 use Rattle.std.proofs.lemmas.List.{get_or_append_left}
-use Rattle.label_patterns.specs.Patterns.{Pattern, Point, Set, Any, Start, End, Place, Group, Optional, Many, Then, Either}
+use Rattle.label_patterns.specs.Patterns.{Pattern, Point, Set, Any, Start, End, Anchor, Group, Optional, Many, Then, Either}
 use Rattle.label_patterns.specs.Matches.{HasItsSets}
 use Rattle.ruleset_text.specs.Canonical.{pattern_text, definition_text}
 use Rattle.ruleset_text.specs.Definition as definition
@@ -11,7 +11,6 @@ use Rattle.ruleset_text.specs.Definition.{Definition}
 use Rattle.ruleset_text.specs.Limits.{has_its_sets}
 use Rattle.ruleset_text.specs.Names.{is_one_of}
 use Rattle.ruleset_text.specs.SetNames.{set_name, with_name, with_word, names_on}
-use Rattle.ruleset_text.proofs.HexLemmas.{and_parts}
 
 -- the test tells whether the sets are known
 pub known_from : (n : ℕ) (p : Pattern) → has_its_sets n p ≡ true → HasItsSets n p
@@ -20,7 +19,7 @@ known_from n (Set m) e = ltb-true m n e
 known_from n Any e = tt
 known_from n Start e = tt
 known_from n End e = tt
-known_from n Place e = tt
+known_from n Anchor e = tt
 known_from n (Group p) e = known_from n p e
 known_from n (Optional p) e = known_from n p e
 known_from n (Many p) e = known_from n p e
@@ -34,7 +33,7 @@ known_more m n (Set k) l h = omega (arith, l, h)
 known_more m n Any l h = tt
 known_more m n Start l h = tt
 known_more m n End l h = tt
-known_more m n Place l h = tt
+known_more m n Anchor l h = tt
 known_more m n (Group p) l h = known_more m n p l h
 known_more m n (Optional p) l h = known_more m n p l h
 known_more m n (Many p) l h = known_more m n p l h
@@ -47,7 +46,7 @@ pattern_text-more names more (Set n) h = ap (λ name. 64 ∷ name) (get_or_appen
 pattern_text-more names more Any h = refl
 pattern_text-more names more Start h = refl
 pattern_text-more names more End h = refl
-pattern_text-more names more Place h = refl
+pattern_text-more names more Anchor h = refl
 pattern_text-more names more (Group p) h = ap (λ t. 40 ∷ (t ++ 41 ∷ [])) (pattern_text-more names more p h)
 pattern_text-more names more (Optional p) h = ap (λ t. t ++ 63 ∷ []) (pattern_text-more names more p h)
 pattern_text-more names more (Many p) h = ap (λ t. t ++ 42 ∷ []) (pattern_text-more names more p h)
@@ -81,7 +80,7 @@ with_name-more : (names : List (List ℕ)) (o : Option (List ℕ)) → (more : L
 with_name-more names None = ([], sym (append-nil names))
 with_name-more names (Some name) = with_one names name (is_one_of names name)
 
--- they are the names, and others behind them
+-- they are the names, and others after them
 pub names_on-more : (names words : List (List ℕ)) → (more : List (List ℕ)) × (names_on names words ≡ names ++ more)
 unfolding names_on
 names_on-more names [] = ([], sym (append-nil names))

@@ -3,7 +3,8 @@ use Rattle.std.proofs.Common.{◌≡◌, ℕ, suc, ◌+◌, ◌<◌, ◌≤◌, 
 use Rattle.std.specs.Prelude.{unwrap_or}
 use Rattle.std.specs.List.{position_or_len, onto_first}
 use Rattle.std.proofs.lemmas.List.Sums.{prefix_len-le-length}
-use Rattle.std.proofs.lemmas.Bool.{eqb-true, ltb-false}
+use Rattle.std.proofs.lemmas.Bool.{eqb-true, ltb-false, or_parts}
+use Rattle.std.proofs.Math.Bool.{or-false}
 use Rattle.ruleset_text.specs.Lexemes.{is_blank, is_mark, is_full_stop, is_word_end, begins_in_word, begins_in_stops, is_joined, lexemes}
 
 is_text : ℕ → Bool
@@ -48,10 +49,6 @@ blank_no_stop c s = by_cases (eqb c 46) refl
     by_cases true e = let h : is_blank 46 ≡ true = sym (ap is_blank (eqb-true c 46 e)) ∙ s in absurd cc
     by_cases false e = refl
 
-or_false : (b : Bool) → (b || false) ≡ b
-or_false true = refl
-or_false false = refl
-
 pub joined-mark : (c : ℕ) (cs : List ℕ) → is_blank c ≡ false → is_mark c ≡ true → is_joined c cs ≡ false
 joined-mark c cs e s =
     ap (λ b. not (b || is_mark c || is_full_stop c) && begins_in_word cs || is_full_stop c && begins_in_stops cs) e
@@ -63,7 +60,7 @@ joined-word c cs e s f =
     ap (λ b. not (b || is_mark c || is_full_stop c) && begins_in_word cs || is_full_stop c && begins_in_stops cs) e
     ∙ ap (λ b. not (b || is_full_stop c) && begins_in_word cs || is_full_stop c && begins_in_stops cs) s
     ∙ ap (λ b. not b && begins_in_word cs || b && begins_in_stops cs) f
-    ∙ or_false (begins_in_word cs)
+    ∙ or-false (begins_in_word cs)
 
 pub joined-stop : (c : ℕ) (cs : List ℕ) → is_blank c ≡ false → is_mark c ≡ false → is_full_stop c ≡ true → is_joined c cs ≡ begins_in_stops cs
 joined-stop c cs e s f =
@@ -119,10 +116,6 @@ word_end c e s f = ap (λ b. b || is_mark c || is_full_stop c) e ∙ ap (λ b. b
 word_len-more : (c : ℕ) (cs : List ℕ) → is_word_end c ≡ false → word_len (c ∷ cs) ≡ suc (word_len cs)
 word_len-more c cs e = ap (λ b. cond (not b) (1 + word_len cs) 0) e ∙ (let one : 1 + word_len cs ≡ suc (word_len cs) = omega arith in one)
 
-or_split : (a b : Bool) → (a || b) ≡ false → (a ≡ false) × (b ≡ false)
-or_split true b e = absurd cc
-or_split false b e = (refl, e)
-
 -- a word goes on up to a blank or a mark
 lexemes-word : (c : ℕ) (cs : List ℕ) → is_blank c ≡ false → is_mark c ≡ false → is_full_stop c ≡ false → lexemes (c ∷ cs) ≡ take (word_len (c ∷ cs)) (c ∷ cs) ∷ lexemes (drop (word_len (c ∷ cs)) (c ∷ cs))
 lexemes-word c [] e s f = in_word c [] e s f ∙ ap (λ n. take n (c ∷ []) ∷ lexemes (drop n (c ∷ []))) (sym (word_len-more c [] (word_end c e s f)))
@@ -136,7 +129,7 @@ lexemes-word c (d ∷ ds) e s f = in_word c (d ∷ ds) e s f ∙ step (is_word_e
 
     step : (b : Bool) → is_word_end d ≡ b → (is_blank d ≡ false → is_mark d ≡ false → is_full_stop d ≡ false → lexemes (d ∷ ds) ≡ take n (d ∷ ds) ∷ lexemes (drop n (d ∷ ds))) → cond (not b) (onto_first c (lexemes (d ∷ ds))) ((c ∷ []) ∷ lexemes (d ∷ ds)) ≡ (c ∷ take n (d ∷ ds)) ∷ lexemes (drop n (d ∷ ds))
     step true g rest = ap (λ k. (c ∷ take k (d ∷ ds)) ∷ lexemes (drop k (d ∷ ds))) (stops g)
-    step false g rest = let parts = or_split (is_blank d || is_mark d) (is_full_stop d) g in let more = or_split (is_blank d) (is_mark d) parts.0 in ap (onto_first c) (rest more.0 more.1 parts.1)
+    step false g rest = let parts = or_parts (is_blank d || is_mark d) (is_full_stop d) g in let more = or_parts (is_blank d) (is_mark d) parts.0 in ap (onto_first c) (rest more.0 more.1 parts.1)
 
 -- ---- a place that a search gives
 

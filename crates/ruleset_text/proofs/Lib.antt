@@ -1,4 +1,5 @@
-mod PatternLemmas
+pub mod PatternLemmas
+pub mod SpanExactLemmas
 mod StateLemmas
 pub mod LexemeLemmas
 mod NameLemmas
@@ -19,18 +20,11 @@ mod LineBackLemmas
 pub mod DefinitionsBackLemmas
 pub mod DefinedLemmas
 pub mod KnownPatternLemmas
-mod EntryLemmas
-mod EntryStateLemmas
-mod EntryReadLemmas
-mod EntrySpelledLemmas
+pub mod EntryLemmas
+pub mod EntryStateLemmas
+pub mod EntryReadLemmas
+pub mod EntrySpelledLemmas
 pub mod EntryExactLemmas
 pub mod EntryBackLemmas
 pub mod DefinitionsTextLemmas
 pub mod LineBytes
-mod PlacedLemmas
-mod EntryPartLemmas
-pub mod WrongPlaceLemmas
--- The same of a line that is to define something.
-pub mod DefinitionPlaceLemmas
--- The first lexeme on a line that names what is not known.
-mod LineNameLaws

@@ -3,11 +3,11 @@ use Rattle.std.proofs.Common.{◌≡◌, ℕ, ◌+◌, ◌<◌, ◌≤◌, Bool,
 use Rattle.std.specs.Prelude.{IsTrue, bytes_eq, codes, nat_le, nat_lt}
 use Rattle.std.specs.List.{AllByRecursion, list_all, position_or_len}
 use Rattle.std.specs.Option.{option_map}
-use Rattle.std.proofs.lemmas.Bool.{lt-leb, le-ltb, lt-ltb}
+use Rattle.std.proofs.lemmas.Bool.{lt-leb, le-ltb, lt-ltb, and_parts, or_from, false_from_ne_true}
 use Rattle.std.proofs.lemmas.Slice.Eq.{bytes_eq-Decides}
 use Rattle.label_patterns.specs.declared.span.Span.{Span}
 use Rattle.label_patterns.specs.Matches.{HasItsSets}
-use Rattle.label_patterns.specs.Patterns.{Pattern, Point, Set, Any, Start, End, Place, Group, Optional, Many, Then, Either}
+use Rattle.label_patterns.specs.Patterns.{Pattern, Point, Set, Any, Start, End, Anchor, Group, Optional, Many, Then, Either}
 use Rattle.ruleset_text.specs.declared.definition.DemandKind.{DemandKind}
 use Rattle.ruleset_text.specs.declared.definition.DemandKind.TheVariants as demand
 use Rattle.ruleset_text.specs.declared.rules.Sign.TheVariants as sign
@@ -30,8 +30,7 @@ use Rattle.ruleset_text.specs.WellFormed.{HasParts, IsPattern}
 use Rattle.ruleset_text.proofs.AddedLemmas.{IsNew, HasNewName, HasRoomFor, HasRoomForPattern}
 use Rattle.ruleset_text.proofs.BackLemmas.{text_read_back, text_tokens}
 use Rattle.ruleset_text.proofs.DefineLemmas.{no_fault}
-use Rattle.ruleset_text.proofs.HexLemmas.{and_parts, no_false}
-use Rattle.ruleset_text.proofs.SetWordLemmas.{no_true, other_than, name_in_word, letter_in_name, bytes_in_word}
+use Rattle.ruleset_text.proofs.SetWordLemmas.{other_than, name_in_word, letter_in_name, bytes_in_word}
 use Rattle.ruleset_text.proofs.SpanBackLemmas.{word_first, has_points, spans_back}
 
 -- ---- a name among lexemes
@@ -72,7 +71,7 @@ tokens_known n (Set m) h = (h, tt)
 tokens_known n Any h = (tt, tt)
 tokens_known n Start h = (tt, tt)
 tokens_known n End h = (tt, tt)
-tokens_known n Place h = (tt, tt)
+tokens_known n Anchor h = (tt, tt)
 tokens_known n (Group p) h = (tt, known_both n (tokens p) (token.Close ∷ []) (tokens_known n p h) (tt, tt))
 tokens_known n (Optional p) h = known_both n (tokens p) (token.Optional ∷ []) (tokens_known n p h) (tt, tt)
 tokens_known n (Many p) h = known_both n (tokens p) (token.Many ∷ []) (tokens_known n p h) (tt, tt)
@@ -135,7 +134,7 @@ known_to n (Set m) h = lt-ltb m n h
 known_to n Any h = refl
 known_to n Start h = refl
 known_to n End h = refl
-known_to n Place h = refl
+known_to n Anchor h = refl
 known_to n (Group p) h = known_to n p h
 known_to n (Optional p) h = known_to n p h
 known_to n (Many p) h = known_to n p h
@@ -145,7 +144,7 @@ known_to n (Either p q) h = ap (λ b. b && has_its_sets n q) (known_to n p h.0) 
 pub new_to : (names : List (List ℕ)) (name : List ℕ) → IsNew name names → is_one_of names name ≡ false
 new_to [] name h = refl
 new_to (x ∷ xs) name h =
-    no_false (bytes_eq x name) (is_one_of xs name) (no_true (bytes_eq x name) (λ e. h.0 (sym ((bytes_eq-Decides x name).0 e)))) (new_to xs name h.1)
+    or_from (bytes_eq x name) (is_one_of xs name) (false_from_ne_true (bytes_eq x name) (λ e. h.0 (sym ((bytes_eq-Decides x name).0 e)))) (new_to xs name h.1)
 
 -- what a definition needs to be read without a fault: its parts, a new name, and room
 pub record Fits (limit : ℕ) (d : Definitions) (x : Definition) : Type 0 where
@@ -160,15 +159,15 @@ pub record Fits (limit : ℕ) (d : Definitions) (x : Definition) : Type 0 where
 line_fits : (limit : ℕ) (d : Definitions) (x : Definition) → Fits limit d x → is_line_over_limit limit d (length (definition_text d.set_names x)) ≡ false
 line_fits limit d x f =
     let len = length (definition_text d.set_names x) in
-    no_false (nat_lt 8192 len) (nat_lt limit (canonical_size d + (len + 1))) (le-ltb 8192 len f.short) (le-ltb limit (canonical_size d + (len + 1)) f.size)
+    or_from (nat_lt 8192 len) (nat_lt limit (canonical_size d + (len + 1))) (le-ltb 8192 len f.short) (le-ltb limit (canonical_size d + (len + 1)) f.size)
 
 pattern_fits : (d : Definitions) (p : Pattern) → IsWithin 8 2 p → HasRoomForPattern d p → is_pattern_over_limit d p ≡ false
 pattern_fits d p within room =
     let many = nat_le 256 (length d.rules + length d.demands) in
     let deep = nat_lt 8 (groups p) in
     let starred = nat_lt 2 (stars p) in
-    no_false (many || deep || starred) (nat_lt 4096 (all_atoms d + atoms p))
-    (no_false (many || deep) starred (no_false many deep (lt-leb 256 (length d.rules + length d.demands) room.0) (le-ltb 8 (groups p) within.0)) (le-ltb 2 (stars p) within.1))
+    or_from (many || deep || starred) (nat_lt 4096 (all_atoms d + atoms p))
+    (or_from (many || deep) starred (or_from many deep (lt-leb 256 (length d.rules + length d.demands) room.0) (le-ltb 8 (groups p) within.0)) (le-ltb 2 (stars p) within.1))
     (le-ltb 4096 (all_atoms d + atoms p) room.1)
 
 -- ---- the lines
@@ -239,7 +238,7 @@ demand_read limit d kind p f =
     let words : List (List ℕ) = lexemes (pattern_text sets p) in
     ap (λ n. with_definition limit d n (option_map (definition.Demand kind) (demand_in n words))) (pattern_names sets p f.names is.known (has_points p is.classes))
     ∙ ap (λ o. with_definition limit d sets (option_map (definition.Demand kind) o))
-    (if_such_is (λ q. not (has sign.Place q)) (pattern_of (tokens_in sets words)) p (pattern_back sets p f.names is) (ap not f.parts.1))
+    (if_such_is (λ q. not (has sign.Anchor q)) (pattern_of (tokens_in sets words)) p (pattern_back sets p f.names is) (ap not f.parts.1))
     ∙ no_fault limit d sets (Some x) x (length (definition_text sets x)) (record { read = refl; size = refl; line = line_fits limit d x f; count = pattern_fits d p is.within f.room })
     (sets_known d p f.named_sets is.known) is.classes refl
 

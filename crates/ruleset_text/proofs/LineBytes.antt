@@ -4,10 +4,11 @@ use Rattle.std.specs.Prelude.{nat_lt, slice_index_or, codes}
 use Rattle.std.specs.List.{AllByRecursion, list_all}
 use Rattle.std.proofs.lemmas.Bool.{and_parts, eqb-true, ne_eqb}
 use Rattle.label_patterns.specs.declared.span.Span.{Span}
-use Rattle.label_patterns.specs.Patterns.{Pattern, Point, Set, Any, Start, End, Place, Group, Optional, Many, Then, Either}
+use Rattle.label_patterns.specs.Patterns.{Pattern, Point, Set, Any, Start, End, Anchor, Group, Optional, Many, Then, Either}
 use Rattle.ruleset_text.specs.declared.definition.DemandKind.{DemandKind}
 use Rattle.ruleset_text.specs.declared.definition.DemandKind.TheVariants.{Never, Always}
-use Rattle.ruleset_text.specs.Canonical.{four_digits, hex_digit, point_text, set_text, pattern_text, span_text, spans_text, definition_text}
+use Rattle.ruleset_text.specs.Canonical.{point_text, pattern_text, span_text, spans_text, definition_text}
+use Rattle.idn_text.specs.Points.{four_digits, hex_digit}
 use Rattle.ruleset_text.specs.Definition as definition
 use Rattle.ruleset_text.specs.Definition.{Definition}
 use Rattle.ruleset_text.specs.Definitions.{Demand, Definitions, named, all_definitions, canonical_lines}
@@ -57,7 +58,7 @@ other_byte test k c none some = by_cases (eqb c k) refl
     by_cases false f = f
     by_cases true f = let both : true ≡ false = sym some ∙ ap test (eqb-true c k f) ∙ none in absurd cc
 
-name_bytes : (cs : List ℕ) → list_all is_name_byte cs ≡ true → AreInLine cs
+pub name_bytes : (cs : List ℕ) → list_all is_name_byte cs ≡ true → AreInLine cs
 name_bytes [] h = tt
 name_bytes (c ∷ cs) h = let p = and_parts (is_name_byte c) (list_all is_name_byte cs) h in ((other_byte is_name_byte 10 c refl p.0, other_byte is_name_byte 13 c refl p.0), name_bytes cs p.1)
 
@@ -85,7 +86,7 @@ pattern_in_line names (Set n) h = ((refl, refl), set_in_line names n h)
 pattern_in_line names Any h = ((refl, refl), tt)
 pattern_in_line names Start h = ((refl, refl), tt)
 pattern_in_line names End h = ((refl, refl), tt)
-pattern_in_line names Place h = ((refl, refl), tt)
+pattern_in_line names Anchor h = ((refl, refl), tt)
 pattern_in_line names (Group p) h = ((refl, refl), joined (pattern_text names p) (41 ∷ []) (pattern_in_line names p h) ((refl, refl), tt))
 pattern_in_line names (Optional p) h = joined (pattern_text names p) (63 ∷ []) (pattern_in_line names p h) ((refl, refl), tt)
 pattern_in_line names (Many p) h = joined (pattern_text names p) (42 ∷ []) (pattern_in_line names p h) ((refl, refl), tt)
@@ -142,7 +143,7 @@ demands_in_line : (names : List (List ℕ)) (demands : List Demand) → AllByRec
 demands_in_line names [] k = tt
 demands_in_line names (d ∷ demands) k = (demand_in_line names d k, demands_in_line names demands k)
 
-all_joined : {X : Type 0} (P : X → Type 0) (a b : List X) → AllByRecursion P a → AllByRecursion P b → AllByRecursion P (a ++ b)
+pub all_joined : {X : Type 0} (P : X → Type 0) (a b : List X) → AllByRecursion P a → AllByRecursion P b → AllByRecursion P (a ++ b)
 all_joined P [] b h k = k
 all_joined P (x ∷ a) b h k = (h.0, all_joined P a b h.1 k)
 

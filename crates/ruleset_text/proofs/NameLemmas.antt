@@ -1,10 +1,13 @@
--- The number of a name among names.
-use Rattle.std.proofs.Common.{◌≡◌, ℕ, ◌+◌, ◌-◌, ◌<◌, ◌≤◌, true, false, not, cond, ◌&&◌, leb, List, [], ◌∷◌, length, take, drop, get_or, sym, ap, ◌∙◌, arith}
-use Rattle.std.specs.Prelude.{bytes_eq}
+-- The number of a name among names, and how long names are.
+use Rattle.std.proofs.Common.{◌≡◌, ℕ, zero, suc, ◌+◌, ◌-◌, ◌<◌, ◌≤◌, Bool, true, false, not, cond, ◌&&◌, leb, List, [], ◌∷◌, ◌++◌, length, take, drop, get_or, refl, sym, ap, ◌∙◌, arith}
+use Rattle.std.specs.Prelude.{bytes_eq, nat_le, slice_index_or, IsTrue}
 use Rattle.std.specs.List.{position_or_len, list_all}
 use Rattle.std.proofs.lemmas.List.{drop_more, drop_all, take_rest}
 use Rattle.std.proofs.lemmas.Bool.{le-leb}
-use Rattle.ruleset_text.specs.Names.{is_letter, is_name_byte, is_name, number_of}
+use Rattle.std.proofs.lemmas.Bool.Decides.{nat_tests}
+use Rattle.ruleset_text.specs.Definitions.{Definitions, rule_name}
+use Rattle.ruleset_text.specs.Names.{AreNames, is_letter, is_name_byte, is_name, number_of}
+use Rattle.ruleset_text.specs.WellFormed.{AreDefinitions}
 
 step : (names : List (List ℕ)) (bytes name : List ℕ) (i : ℕ) → i < length names → name ≡ get_or names i name
     → number_of (drop i names) bytes ≡ cond (not (bytes_eq name bytes)) (1 + number_of (drop (i + 1) names) bytes) 0
@@ -43,3 +46,28 @@ long-name (c ∷ cs) l letter few =
     let short : leb (length cs) 31 ≡ true = le-leb (length cs) 31 (omega (arith, few, ap length rest)) in
     ap (list_all is_name_byte) rest
     ∙ sym (ap (λ b. b && leb (length cs) 31 && list_all is_name_byte cs) letter ∙ ap (λ b. b && list_all is_name_byte cs) short)
+
+-- ---- how long names are
+
+both : (a b : Bool) → IsTrue (a && b) → IsTrue a × IsTrue b
+both true b h = (refl, h)
+both false b h = absurd (let clash : false ≡ true = h in cc)
+
+name-short : (name : List ℕ) → IsTrue (is_name name) → length name ≤ 32
+name-short [] is = omega arith
+name-short (c ∷ cs) is =
+    let rest = (both (is_letter c && nat_le (length cs) 31) (list_all is_name_byte cs) is).0 in
+    let few : nat_le (length cs) 31 ≡ true = (both (is_letter c) (nat_le (length cs) 31) rest).1 in
+    grind (arith, nat_tests)
+
+name_at-short : (names : List (List ℕ)) (n : ℕ) → AreNames names → length (slice_index_or names n []) ≤ 32
+name_at-short [] n are = omega arith
+name_at-short (name ∷ names) zero are = name-short name are.0
+name_at-short (name ∷ names) (suc n) are = name_at-short names n are.2
+
+pub names_after : (xs ys : List (List ℕ)) → AreNames (xs ++ ys) → AreNames ys
+names_after [] ys are = are
+names_after (x ∷ xs) ys are = names_after xs ys are.2
+
+pub rule_name-short : (d : Definitions) (n : ℕ) → AreDefinitions d → length (rule_name d n) ≤ 32
+rule_name-short d n are = name_at-short d.rule_names n (names_after d.set_names d.rule_names (names_after d.tags (d.set_names ++ d.rule_names) are.names))

@@ -2,7 +2,7 @@
 use Rattle.std.proofs.Common.{◌≡◌, List, [], ◌∷◌, ◌++◌, Option, Some, None, refl, sym, ap, subst, ◌∙◌, append_assoc, append-nil}
 use Rattle.ruleset_text.specs.declared.token.Token.{Token}
 use Rattle.ruleset_text.specs.declared.token.Token.TheVariants as token
-use Rattle.label_patterns.specs.Patterns.{Pattern, Point, Set, Any, Start, End, Place, Group, Optional, Many, Then, Either}
+use Rattle.label_patterns.specs.Patterns.{Pattern, Point, Set, Any, Start, End, Anchor, Group, Optional, Many, Then, Either}
 use Rattle.ruleset_text.specs.Grammar.{Sort, Atom, Item, Branch, Whole, Is, tokens, SpellsPattern}
 use Rattle.ruleset_text.specs.declared.reading.Suffix.{Suffix}
 use Rattle.ruleset_text.specs.declared.reading.Suffix.TheVariants.{Once, AtMostOnce, AnyNumber}
@@ -11,7 +11,7 @@ use Rattle.ruleset_text.specs.Reading.{Frame, State, then_items, or_branches, wi
 abbrev pub at : Suffix → Option Pattern → Option Pattern → List Frame → Option State
 at s items branches outer = Some (record { inner = record { suffix = s; items = items; branches = branches }; outer = outer })
 
--- what a part of each sort makes of the state behind it
+-- what a part of each sort makes of the state after it
 abbrev pub Reads : Sort → Pattern → Type 0
 Reads Atom p = (ts : List Token) (s : Suffix) (items branches : Option Pattern) (outer : List Frame) →
     state_of ts ≡ at s items branches outer → state_of (tokens p ++ ts) ≡ at Once (Some (then_items (with_suffix s p) items)) branches outer
@@ -63,13 +63,13 @@ then_reads p q r s ts branches outer e =
 
 either_reads : (p q : Pattern) → Reads Branch p → Reads Whole q → Reads Whole (Either p q)
 either_reads p q r s ts outer e =
-    let behind = s ts outer e in (
+    let after = s ts outer e in (
       p,
       Some q,
       refl,
       ap state_of (append_assoc (tokens p) (token.Or ∷ tokens q) ts)
           ∙ r (token.Or ∷ (tokens q ++ ts)) (Some q) outer
-          (ap (stepped token.Or) behind.3 ∙ ap (λ x. at Once None (Some x) outer) (sym behind.2)),
+          (ap (stepped token.Or) after.3 ∙ ap (λ x. at Once None (Some x) outer) (sym after.2)),
     )
 
 pub reads : (s : Sort) (p : Pattern) → Is s p → Reads s p
@@ -84,10 +84,10 @@ reads Atom End h = absurd h
 reads Item End h = λ ts items branches outer e. ap (stepped token.End) e
 reads Branch End h = λ ts branches outer e. ap (stepped token.End) e
 reads Whole End h = λ ts outer e. (End, None, refl, ap (stepped token.End) e)
-reads Atom Place h = absurd h
-reads Item Place h = λ ts items branches outer e. ap (stepped token.Place) e
-reads Branch Place h = λ ts branches outer e. ap (stepped token.Place) e
-reads Whole Place h = λ ts outer e. (Place, None, refl, ap (stepped token.Place) e)
+reads Atom Anchor h = absurd h
+reads Item Anchor h = λ ts items branches outer e. ap (stepped token.Anchor) e
+reads Branch Anchor h = λ ts branches outer e. ap (stepped token.Anchor) e
+reads Whole Anchor h = λ ts outer e. (Anchor, None, refl, ap (stepped token.Anchor) e)
 reads s (Group p) h = lift_atom s (Group p) (group_reads p (reads Whole p h))
 reads Atom (Optional p) h = absurd h
 reads Item (Optional p) h = optional_reads p (reads Atom p h)
@@ -120,7 +120,7 @@ item_is (Set n) h = tt
 item_is Any h = tt
 item_is Start h = tt
 item_is End h = tt
-item_is Place h = tt
+item_is Anchor h = tt
 item_is (Group p) h = h
 item_is (Optional p) h = absurd h
 item_is (Many p) h = absurd h
@@ -133,7 +133,7 @@ branch_is (Set n) h = tt
 branch_is Any h = tt
 branch_is Start h = tt
 branch_is End h = tt
-branch_is Place h = tt
+branch_is Anchor h = tt
 branch_is (Group p) h = h
 branch_is (Optional p) h = h
 branch_is (Many p) h = h
@@ -146,7 +146,7 @@ whole_is (Set n) h = tt
 whole_is Any h = tt
 whole_is Start h = tt
 whole_is End h = tt
-whole_is Place h = tt
+whole_is Anchor h = tt
 whole_is (Group p) h = h
 whole_is (Optional p) h = h
 whole_is (Many p) h = h
@@ -282,7 +282,7 @@ step_sound (token.Set n) f outer ts k = atom_sound (Set n) f outer ts tt k
 step_sound token.Any f outer ts k = atom_sound Any f outer ts tt k
 step_sound token.Start f outer ts k = end_sound Start f.suffix f.items f.branches outer ts tt k
 step_sound token.End f outer ts k = end_sound End f.suffix f.items f.branches outer ts tt k
-step_sound token.Place f outer ts k = end_sound Place f.suffix f.items f.branches outer ts tt k
+step_sound token.Anchor f outer ts k = end_sound Anchor f.suffix f.items f.branches outer ts tt k
 step_sound token.Optional f outer ts k = sign_sound token.Optional AtMostOnce f.suffix f.items f.branches outer ts refl k
 step_sound token.Many f outer ts k = sign_sound token.Many AnyNumber f.suffix f.items f.branches outer ts refl k
 step_sound token.Or f outer ts k = bar_sound (closed f.suffix f.items f.branches) outer ts k.2 (closed_sound f.suffix f.items f.branches outer ts k)

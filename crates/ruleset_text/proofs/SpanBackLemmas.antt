@@ -1,18 +1,18 @@
 -- The canonical text of the spans of a set is read back.
-use Rattle.std.proofs.Common.{◌≡◌, ℕ, ◌+◌, ◌<◌, ◌≤◌, Bool, true, false, not, cond, eqb, List, [], ◌∷◌, ◌++◌, map, length, Option, Some, None, refl, sym, ap, subst, ◌∙◌, append_assoc, append-nil, length-append, arith}
+use Rattle.std.proofs.Common.{◌≡◌, ℕ, ◌+◌, ◌<◌, ◌≤◌, Bool, true, false, cond, eqb, List, [], ◌∷◌, ◌++◌, map, length, Option, Some, None, refl, sym, ap, subst, ◌∙◌, append_assoc, append-nil, length-append, arith}
 use Rattle.std.specs.Prelude.{IsTrue, bytes_eq}
 use Rattle.std.specs.List.{AllByRecursion, onto_first}
-use Rattle.std.proofs.lemmas.Bool.{eqb-true, le-leb, lt-ltb}
+use Rattle.std.proofs.lemmas.Bool.{eqb-true, le-leb, lt-ltb, or_parts, false_from_ne_true, not-false}
 use Rattle.std.proofs.lemmas.Bool.Decides.{nat_tests}
 use Rattle.std.proofs.lemmas.Slice.Eq.{bytes_eq-Decides}
 use Rattle.idn_class.proofs.ClassNumbers.{class_of-no_scalar, is_scalar-out}
 use Rattle.idn_class.specs.Class.{class_of, is_scalar}
 use Rattle.idn_text.specs.Points.{is_scalar_value, point_of_hex}
 use Rattle.label_patterns.specs.declared.span.Span.{Span}
-use Rattle.label_patterns.specs.Patterns.{Pattern, Point, Set, Any, Start, End, Place, Group, Optional, Many, Then, Either}
+use Rattle.label_patterns.specs.Patterns.{Pattern, Point, Set, Any, Start, End, Anchor, Group, Optional, Many, Then, Either}
 use Rattle.label_patterns.specs.Sets.{Rise}
-use Rattle.ruleset_text.specs.declared.spans.Part.{Part}
-use Rattle.ruleset_text.specs.declared.spans.Part.TheVariants as part
+use Rattle.ruleset_text.specs.declared.spans.SpanPart.{SpanPart}
+use Rattle.ruleset_text.specs.declared.spans.SpanPart.TheVariants as part
 use Rattle.ruleset_text.specs.declared.spans.Held.{Held}
 use Rattle.ruleset_text.specs.declared.spans.Held.TheVariants as held
 use Rattle.ruleset_text.specs.Canonical.{HasPoints, point_text, span_text, spans_text}
@@ -20,9 +20,8 @@ use Rattle.ruleset_text.specs.Classes.{is_label_class, is_bad_point, is_bad_span
 use Rattle.ruleset_text.specs.Lexemes.{is_word_byte, begins_in_word, begins_in_stops, lexemes}
 use Rattle.ruleset_text.specs.Spans.{State, state, step, state_after, part_of, point_part, span, ended, spans_at, spans_in}
 use Rattle.ruleset_text.specs.Tokens.{without_prefix}
-use Rattle.ruleset_text.proofs.HexLemmas.{or_parts, hex_facts, point_of_hex-text}
+use Rattle.ruleset_text.proofs.HexLemmas.{hex_facts, point_of_hex-text}
 use Rattle.ruleset_text.proofs.PointLemmas.{point_word, without_prefix-hex}
-use Rattle.ruleset_text.proofs.SetWordLemmas.{no_true}
 use Rattle.ruleset_text.proofs.TextLemmas.{IsApart, word_lexeme}
 
 -- ---- a code point of the three classes is a scalar value
@@ -30,16 +29,12 @@ use Rattle.ruleset_text.proofs.TextLemmas.{IsApart, word_lexeme}
 no_scalar : (c : ℕ) → is_scalar_value c ≡ false → is_scalar c ≡ false
 no_scalar c h = is_scalar-out c (grind (arith, nat_tests))
 
-not_not : (b : Bool) → not b ≡ false → b ≡ true
-not_not true e = refl
-not_not false e = cc
-
 pub scalar_of_class : (c : ℕ) → is_bad_point c ≡ false → is_scalar_value c ≡ true
 scalar_of_class c h = by_cases (is_scalar_value c) refl
   where
     by_cases : (b : Bool) → is_scalar_value c ≡ b → is_scalar_value c ≡ true
     by_cases true e = e
-    by_cases false e = (let f : true ≡ false = sym (not_not (is_label_class (class_of c)) h) ∙ ap is_label_class (class_of-no_scalar c (no_scalar c e)) in absurd (cc))
+    by_cases false e = (let f : true ≡ false = sym (not-false (is_label_class (class_of c)) h) ∙ ap is_label_class (class_of-no_scalar c (no_scalar c e)) in absurd (cc))
 
 pub has_points : (p : Pattern) → has_bad_point p ≡ false → HasPoints p
 has_points (Point c) h = scalar_of_class c h
@@ -47,7 +42,7 @@ has_points (Set n) h = tt
 has_points Any h = tt
 has_points Start h = tt
 has_points End h = tt
-has_points Place h = tt
+has_points Anchor h = tt
 has_points (Group p) h = has_points p h
 has_points (Optional p) h = has_points p h
 has_points (Many p) h = has_points p h
@@ -74,7 +69,7 @@ word_first (c ∷ cs) rest l h e = word_lexeme c cs rest h e
 -- a word is no '..'
 no_range : (word : List ℕ) → 0 < length word → AllByRecursion (λ c. IsTrue (is_word_byte c)) word → bytes_eq word (46 ∷ 46 ∷ []) ≡ false
 no_range word l h =
-    no_true (bytes_eq word (46 ∷ 46 ∷ []))
+    false_from_ne_true (bytes_eq word (46 ∷ 46 ∷ []))
     (λ e. let all : AllByRecursion (λ c. IsTrue (is_word_byte c)) (46 ∷ 46 ∷ []) = subst (AllByRecursion (λ c. IsTrue (is_word_byte c))) ((bytes_eq-Decides word (46 ∷ 46 ∷ [])).0 e) h in
     let bad : false ≡ true = all.0 in cc)
 
@@ -82,7 +77,7 @@ no_range word l h =
 pub no_stops : (word rest : List ℕ) → 0 < length word → AllByRecursion (λ c. IsTrue (is_word_byte c)) word → begins_in_stops (word ++ rest) ≡ false
 no_stops [] rest l h = absurd (omega (arith, l))
 no_stops (c ∷ cs) rest l h =
-    no_true (eqb c 46) (λ e. let bad : false ≡ true = sym (ap is_word_byte (eqb-true c 46 e)) ∙ h.0 in cc)
+    false_from_ne_true (eqb c 46) (λ e. let bad : false ≡ true = sym (ap is_word_byte (eqb-true c 46 e)) ∙ h.0 in cc)
 
 point_part_of : (c : ℕ) → is_scalar_value c ≡ true → part_of (point_text c) ≡ part.Point c
 point_part_of c s =
@@ -95,14 +90,14 @@ point_part_of c s =
 
 -- ---- the parts of spans
 
-abbrev parts_by : Bool → Span → List Part
+abbrev parts_by : Bool → Span → List SpanPart
 parts_by true s = part.Point s.first ∷ []
 parts_by false s = part.Point s.first ∷ part.Range ∷ part.Point s.last ∷ []
 
-abbrev span_parts : Span → List Part
+abbrev span_parts : Span → List SpanPart
 span_parts s = parts_by (eqb s.first s.last) s
 
-abbrev parts_of : List Span → List Part
+abbrev parts_of : List Span → List SpanPart
 parts_of [] = []
 parts_of (s ∷ spans) = span_parts s ++ parts_of spans
 
@@ -120,11 +115,11 @@ span_goes s rest first last apart = by_cases (eqb s.first s.last) refl
     by_cases : (b : Bool) → eqb s.first s.last ≡ b → map part_of (lexemes (cond b (point_text s.first) (point_text s.first ++ 46 ∷ 46 ∷ point_text s.last) ++ rest)) ≡ parts_by b s ++ map part_of (lexemes rest)
     by_cases true e = point_goes s.first rest first apart.0
     by_cases false e =
-        let behind : List ℕ = point_text s.last ++ rest in
+        let after : List ℕ = point_text s.last ++ rest in
         let word = point_word [] s.last last in
         ap (λ t. map part_of (lexemes t)) (append_assoc (point_text s.first) (46 ∷ 46 ∷ point_text s.last) rest)
-        ∙ point_goes s.first (46 ∷ 46 ∷ behind) first refl
-        ∙ ap (λ l. part.Point s.first ∷ map part_of l) (stops_go behind (no_stops (point_text s.last) rest word.0 word.1))
+        ∙ point_goes s.first (46 ∷ 46 ∷ after) first refl
+        ∙ ap (λ l. part.Point s.first ∷ map part_of l) (stops_go after (no_stops (point_text s.last) rest word.0 word.1))
         ∙ ap (λ l. part.Point s.first ∷ part.Range ∷ l) (point_goes s.last rest last apart.0)
 
 apart : (spans : List Span) → IsApart (spans_text spans)
@@ -177,7 +172,7 @@ go_on_above : (c : ℕ) (spans : List Span) → AllByRecursion (λ t. c < t.firs
 go_on_above c [] h = tt
 go_on_above c (s ∷ spans) h = omega (arith, h.0)
 
--- the spans behind those before, by the state that these leave
+-- the spans after those before, by the state that these leave
 abbrev Folds : List Span → Type 0
 Folds spans = (before : List Span) (h : Held) → MayGoOn h spans → 0 < length (complete before h ++ spans) → spans_at (state_after (Some (state before h)) (parts_of spans)) ≡ Some (complete before h ++ spans)
 

@@ -4,8 +4,8 @@ use Rattle.std.proofs.lemmas.Bool.{leb-true, ltb-true}
 use Rattle.std.specs.List.{AllByRecursion}
 use Rattle.label_patterns.specs.declared.span.Span.{Span}
 use Rattle.label_patterns.specs.Sets.{Rise}
-use Rattle.ruleset_text.specs.declared.spans.Part.{Part}
-use Rattle.ruleset_text.specs.declared.spans.Part.TheVariants as part
+use Rattle.ruleset_text.specs.declared.spans.SpanPart.{SpanPart}
+use Rattle.ruleset_text.specs.declared.spans.SpanPart.TheVariants as part
 use Rattle.ruleset_text.specs.declared.spans.Held.{Held}
 use Rattle.ruleset_text.specs.declared.spans.Held.TheVariants as held
 use Rattle.ruleset_text.specs.inner.Rising.{least, IsRising}
@@ -53,7 +53,7 @@ next-part text rest lexeme others spans h o e is before =
     ∙ ap (λ l. spans_at (state_after (Some (state spans h)) (map part_of l))) (sym e)
     ∙ before
 
-none_after : (ps : List Part) → state_after None ps ≡ None
+pub none_after : (ps : List SpanPart) → state_after None ps ≡ None
 none_after [] = refl
 none_after (p ∷ ps) = none_after ps
 
@@ -82,7 +82,7 @@ last_good : (spans : List Span) (c d : ℕ) (b : Bool) → leb c d ≡ b → IsR
 last_good spans c d true e rising = rising-push spans c d (held.Range c) (held.Above (d + 1)) refl (leb-true c d e) (omega arith) rising
 last_good spans c d false e rising = tt
 
-step_good : (spans : List Span) (h : Held) (p : Part) → IsRising spans h → IsGood (step spans h p)
+step_good : (spans : List Span) (h : Held) (p : SpanPart) → IsRising spans h → IsGood (step spans h p)
 step_good spans (held.Above low) (part.Point c) rising = first_good spans low c (leb low c) refl rising
 step_good spans (held.Above low) part.Range rising = tt
 step_good spans (held.Above low) part.Other rising = tt
@@ -93,11 +93,11 @@ step_good spans (held.Range c) (part.Point d) rising = last_good spans c d (leb 
 step_good spans (held.Range c) part.Range rising = tt
 step_good spans (held.Range c) part.Other rising = tt
 
-stepped_good : (o : Option State) (p : Part) → IsGood o → IsGood (stepped o p)
+stepped_good : (o : Option State) (p : SpanPart) → IsGood o → IsGood (stepped o p)
 stepped_good None p good = tt
 stepped_good (Some s) p good = step_good s.spans s.held p good
 
-after_good : (o : Option State) (ps : List Part) → IsGood o → IsGood (state_after o ps)
+after_good : (o : Option State) (ps : List SpanPart) → IsGood o → IsGood (state_after o ps)
 after_good o [] good = good
 after_good o (p ∷ ps) good = after_good (stepped o p) ps (stepped_good o p good)
 

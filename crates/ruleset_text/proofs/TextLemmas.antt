@@ -2,9 +2,10 @@
 use Rattle.std.proofs.Common.{◌≡◌, ℕ, Bool, true, false, ◌||◌, ◌&&◌, not, cond, List, [], ◌∷◌, ◌++◌, map, Some, refl, sym, ap, ◌∙◌, append_assoc, append-nil, arith}
 use Rattle.std.specs.Prelude.{IsTrue}
 use Rattle.std.specs.List.{onto_first, AllByRecursion}
+use Rattle.std.proofs.Math.Bool.{or-false}
 use Rattle.ruleset_text.specs.declared.token.Token.{Token}
 use Rattle.ruleset_text.specs.declared.token.Token.TheVariants as token
-use Rattle.label_patterns.specs.Patterns.{Pattern, Point, Set, Any, Start, End, Place, Group, Optional, Many, Then, Either}
+use Rattle.label_patterns.specs.Patterns.{Pattern, Point, Set, Any, Start, End, Anchor, Group, Optional, Many, Then, Either}
 use Rattle.ruleset_text.specs.Grammar.{Is, Whole, tokens}
 use Rattle.ruleset_text.specs.Lexemes.{is_blank, is_mark, is_full_stop, is_word_byte, begins_in_word, begins_in_stops, is_joined, lexemes}
 use Rattle.ruleset_text.specs.Canonical.{point_text, set_text, pattern_text, IsWordOf}
@@ -24,17 +25,13 @@ HasWords names (Either p q) = HasWords names p × HasWords names q
 HasWords names Any = Unit {0}
 HasWords names Start = Unit {0}
 HasWords names End = Unit {0}
-HasWords names Place = Unit {0}
+HasWords names Anchor = Unit {0}
 
 no_parts : (a b c : Bool) → not (a || b || c) ≡ true → (a ≡ false) × (b ≡ false) × (c ≡ false)
 no_parts true b c e = absurd cc
 no_parts false true c e = absurd cc
 no_parts false false true e = absurd cc
 no_parts false false false e = (refl, refl, refl)
-
-or_none : (b : Bool) → (b || false) ≡ b
-or_none true = refl
-or_none false = refl
 
 in_word : (c : ℕ) (cs : List ℕ) → is_word_byte c ≡ true → lexemes (c ∷ cs) ≡ cond (begins_in_word cs) (onto_first c (lexemes cs)) ((c ∷ []) ∷ lexemes cs)
 in_word c cs w =
@@ -44,7 +41,7 @@ in_word c cs w =
     ap (λ b. cond b (lexemes cs) (cond (is_joined c cs) x y)) p.0
     ∙ ap (λ b. cond (b && begins_in_word cs || is_full_stop c && begins_in_stops cs) x y) w
     ∙ ap (λ b. cond (begins_in_word cs || b && begins_in_stops cs) x y) p.2
-    ∙ ap (λ b. cond b x y) (or_none (begins_in_word cs))
+    ∙ ap (λ b. cond b x y) (or-false (begins_in_word cs))
 
 pub word_lexeme : (c : ℕ) (cs rest : List ℕ) → AllByRecursion (λ c. IsTrue (is_word_byte c)) (c ∷ cs) → begins_in_word rest ≡ false → lexemes ((c ∷ cs) ++ rest) ≡ (c ∷ cs) ∷ lexemes rest
 word_lexeme c [] rest h e = in_word c rest h.0 ∙ ap (λ b. cond b (onto_first c (lexemes rest)) ((c ∷ []) ∷ lexemes rest)) e
@@ -87,7 +84,7 @@ goes names (Set n) h rest a = word_goes names (token.Set n) (set_text names n) r
 goes names Any h rest a = any_goes names rest a
 goes names Start h rest a = refl
 goes names End h rest a = refl
-goes names Place h rest a = word_goes names token.Place (95 ∷ []) rest (omega arith, (refl, tt), refl) a
+goes names Anchor h rest a = word_goes names token.Anchor (95 ∷ []) rest (omega arith, (refl, tt), refl) a
 goes names (Group p) h rest a = ap (λ l. token.Open ∷ l) (then_mark names p 41 token.Close rest (goes names p h) (refl, refl) refl)
 goes names (Optional p) h rest a = then_mark names p 63 token.Optional rest (goes names p h) (refl, refl) refl
 goes names (Many p) h rest a = then_mark names p 42 token.Many rest (goes names p h) (refl, refl) refl

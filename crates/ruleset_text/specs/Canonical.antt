@@ -1,22 +1,14 @@
 -- The canonical text of a pattern, of the spans of a set, and of a definition.
-use Rattle.std.specs.Prelude.{◌≡◌, ℕ, ◌+◌, ◌<◌, ◌/◌, ◌%◌, nat_lt, ◌==◌, List, [], ◌∷◌, ◌++◌, length, slice_index_or, codes, IsTrue, if◌then◌else◌}
+use Rattle.std.specs.Prelude.{◌≡◌, ℕ, ◌<◌, ◌/◌, ◌%◌, nat_lt, ◌==◌, List, [], ◌∷◌, ◌++◌, length, slice_index_or, codes, IsTrue, if◌then◌else◌}
 use Rattle.std.specs.List.{AllByRecursion}
-use Rattle.idn_text.specs.Points.{is_scalar_value}
+use Rattle.idn_text.specs.Points.{four_digits, hex_digit, is_scalar_value}
 use Rattle.label_patterns.specs.declared.span.Span.{Span}
-use Rattle.label_patterns.specs.Patterns.{Pattern, Point, Set, Any, Start, End, Place, Group, Optional, Many, Then, Either}
+use Rattle.label_patterns.specs.Patterns.{Pattern, Point, Set, Any, Start, End, Anchor, Group, Optional, Many, Then, Either}
 use Rattle.ruleset_text.specs.declared.token.Token.{Token}
 use Rattle.ruleset_text.specs.Definition as definition
 use Rattle.ruleset_text.specs.Definition.{Definition, demand_word}
 use Rattle.ruleset_text.specs.Lexemes.{is_word_byte}
 use Rattle.ruleset_text.specs.Tokens.{token_of}
-
--- the digit of a number below 16: 0 to 9, A to F
-abbrev pub hex_digit : ℕ → ℕ
-hex_digit d = if nat_lt d 10 then 48 + d else 55 + d
-
--- the last four digits
-abbrev pub four_digits : ℕ → List ℕ
-four_digits c = hex_digit (c / 4096 % 16) ∷ hex_digit (c / 256 % 16) ∷ hex_digit (c / 16 % 16) ∷ hex_digit (c % 16) ∷ []
 
 -- a code point by four digits, or by five or six where it needs them
 unfoldable pub point_text : ℕ → List ℕ
@@ -36,7 +28,7 @@ pattern_text names (Set n) = set_text names n
 pattern_text names Any = 46 ∷ []
 pattern_text names Start = 94 ∷ []
 pattern_text names End = 36 ∷ []
-pattern_text names Place = 95 ∷ []
+pattern_text names Anchor = 95 ∷ []
 pattern_text names (Group p) = 40 ∷ (pattern_text names p ++ 41 ∷ [])
 pattern_text names (Optional p) = pattern_text names p ++ 63 ∷ []
 pattern_text names (Many p) = pattern_text names p ++ 42 ∷ []
@@ -47,7 +39,7 @@ pattern_text names (Either p q) = pattern_text names p ++ 32 ∷ 47 ∷ 32 ∷ p
 abbrev pub span_text : Span → List ℕ
 span_text s = if s.first == s.last then point_text s.first else point_text s.first ++ 46 ∷ 46 ∷ point_text s.last
 
--- the spans of a set, each behind a blank
+-- the spans of a set, each after a blank
 abbrev pub spans_text : List Span → List ℕ
 spans_text [] = []
 spans_text (s ∷ spans) = 32 ∷ (span_text s ++ spans_text spans)
@@ -75,4 +67,4 @@ HasPoints (Set n) = Unit {0}
 HasPoints Any = Unit {0}
 HasPoints Start = Unit {0}
 HasPoints End = Unit {0}
-HasPoints Place = Unit {0}
+HasPoints Anchor = Unit {0}

@@ -5,7 +5,7 @@ use Rattle.idn_class.specs.Class.{class_of}
 use Rattle.idn_class.specs.declared.class.Class.{Class}
 use Rattle.idn_class.specs.declared.class.Class.TheVariants.{Pvalid, Contextj, Contexto}
 use Rattle.label_patterns.specs.declared.span.Span.{Span}
-use Rattle.label_patterns.specs.Patterns.{Pattern, Point, Set, Any, Start, End, Place, Group, Optional, Many, Then, Either}
+use Rattle.label_patterns.specs.Patterns.{Pattern, Point, Set, Any, Start, End, Anchor, Group, Optional, Many, Then, Either}
 
 -- the three classes of code points that labels may have
 abbrev pub is_label_class : Class → Bool
@@ -24,7 +24,7 @@ has_bad_point (Set n) = false
 has_bad_point Any = false
 has_bad_point Start = false
 has_bad_point End = false
-has_bad_point Place = false
+has_bad_point Anchor = false
 has_bad_point (Group p) = has_bad_point p
 has_bad_point (Optional p) = has_bad_point p
 has_bad_point (Many p) = has_bad_point p

@@ -39,7 +39,7 @@ if_such test (Some p) = if test p then Some p else None
 
 -- the pattern of a demand: it has no '_'
 abbrev pub demand_in : List (List ℕ) → List (List ℕ) → Option Pattern
-demand_in names words = if_such (λ p. not (has sign.Place p)) (pattern_of (tokens_in names words))
+demand_in names words = if_such (λ p. not (has sign.Anchor p)) (pattern_of (tokens_in names words))
 
 abbrev pub demand_of : List (List ℕ) → List ℕ → Option Pattern
 demand_of names line = demand_in names (lexemes line)
@@ -60,7 +60,7 @@ pub data Definition : Type 0 where
   Rule : List ℕ → Pattern → Definition
   Demand : DemandKind → Pattern → Definition
 
--- what the lexemes behind a keyword define, if they have the form: a name alone; a name, then spans; a name, then contexts
+-- what the lexemes after a keyword define, if they have the form: a name alone; a name, then spans; a name, then contexts
 abbrev pub tag_in : List (List ℕ) → Option Definition
 tag_in [] = None
 tag_in (name ∷ []) = if is_name name then Some (Tag name) else None
@@ -74,7 +74,7 @@ abbrev pub rule_in : List (List ℕ) → List (List ℕ) → Option Definition
 rule_in names [] = None
 rule_in names (name ∷ words) = if is_name name then option_map (Rule name) (contexts_in names words) else None
 
--- the definition of a keyword and the lexemes behind it; the sets that patterns name have these names
+-- the definition of a keyword and the lexemes after it; the sets that patterns name have these names
 abbrev pub definition_of : List (List ℕ) → Keyword → List (List ℕ) → Option Definition
 definition_of names keyword.Tag words = tag_in words
 definition_of names keyword.Set words = set_in words

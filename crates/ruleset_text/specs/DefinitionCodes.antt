@@ -3,7 +3,7 @@ use Rattle.std.specs.Prelude.{◌≡◌, ℕ, ◌==◌, Bool, true, false, List,
 use Rattle.std.specs.Coded.{Coded, code_by, coded×, coded_ℕ, coded_bool, coded_list}
 use Rattle.std.proofs.Common.{sym, ap, ◌∙◌, append_assoc, append-nil}
 use Rattle.label_patterns.specs.declared.span.Span.{Span}
-use Rattle.label_patterns.specs.Patterns.{Pattern, Point, Set, Any, Start, End, Place, Group, Optional, Many, Then, Either}
+use Rattle.label_patterns.specs.Patterns.{Pattern, Point, Set, Any, Start, End, Anchor, Group, Optional, Many, Then, Either}
 use Rattle.ruleset_text.specs.declared.definition.DemandKind.{DemandKind}
 use Rattle.ruleset_text.specs.declared.definition.DemandKind.TheVariants.{Never, Always}
 use Rattle.ruleset_text.specs.Definitions.{Demand, Definitions}
@@ -16,7 +16,7 @@ numbers (Set n) = (1, n) ∷ []
 numbers Any = (2, 0) ∷ []
 numbers Start = (3, 0) ∷ []
 numbers End = (4, 0) ∷ []
-numbers Place = (5, 0) ∷ []
+numbers Anchor = (5, 0) ∷ []
 numbers (Group p) = numbers p ++ (6, 0) ∷ []
 numbers (Optional p) = numbers p ++ (7, 0) ∷ []
 numbers (Many p) = numbers p ++ (8, 0) ∷ []
@@ -39,7 +39,7 @@ with_number kind n parts =
     if kind == 2 then Any ∷ parts else
     if kind == 3 then Start ∷ parts else
     if kind == 4 then End ∷ parts else
-    if kind == 5 then Place ∷ parts else
+    if kind == 5 then Anchor ∷ parts else
     if kind == 6 then with_one Group parts else
     if kind == 7 then with_one Optional parts else
     if kind == 8 then with_one Many parts else
@@ -59,7 +59,7 @@ parts_back (Set n) rest parts = refl
 parts_back Any rest parts = refl
 parts_back Start rest parts = refl
 parts_back End rest parts = refl
-parts_back Place rest parts = refl
+parts_back Anchor rest parts = refl
 parts_back (Group p) rest parts = ap (λ l. with_numbers l parts) (append_assoc (numbers p) ((6, 0) ∷ []) rest) ∙ parts_back p ((6, 0) ∷ rest) parts
 parts_back (Optional p) rest parts = ap (λ l. with_numbers l parts) (append_assoc (numbers p) ((7, 0) ∷ []) rest) ∙ parts_back p ((7, 0) ∷ rest) parts
 parts_back (Many p) rest parts = ap (λ l. with_numbers l parts) (append_assoc (numbers p) ((8, 0) ∷ []) rest) ∙ parts_back p ((8, 0) ∷ rest) parts

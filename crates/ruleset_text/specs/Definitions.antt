@@ -1,5 +1,5 @@
 -- What the lines of a ruleset define so far, and what a further line makes of it.
-use Rattle.std.specs.Prelude.{ℕ, ◌+◌, nat_le, nat_lt, Bool, true, false, ◌||◌, not, Option, Some, None, Result, Ok, Err, List, [], ◌∷◌, ◌++◌, length, map, if◌then◌else◌}
+use Rattle.std.specs.Prelude.{ℕ, ◌+◌, nat_le, nat_lt, Bool, true, false, ◌||◌, not, Option, Some, None, Result, Ok, Err, List, [], ◌∷◌, ◌++◌, length, map, slice_index_or, if◌then◌else◌}
 use Rattle.std.specs.List.{flat_map}
 use Rattle.label_patterns.specs.declared.span.Span.{Span}
 use Rattle.label_patterns.specs.Patterns.{Pattern}
@@ -66,6 +66,10 @@ lines_text lines = flat_map (λ line. line ++ 10 ∷ []) lines
 -- the canonical text of the definitions
 abbrev pub definitions_text : Definitions → List ℕ
 definitions_text d = lines_text (canonical_lines d)
+
+-- the name of the rule of this number; nothing, where there is none
+abbrev pub rule_name : Definitions → ℕ → List ℕ
+rule_name d number = slice_index_or d.rule_names number []
 
 -- the names of tags, sets and rules
 abbrev pub all_names : Definitions → List (List ℕ)
@@ -147,8 +151,8 @@ with_definition limit d names (Some x) =
     if has_same_name d x then Err SameName else
     Ok (added d x)
 
--- the same for a line, by its keyword and the lexemes behind it; the canonical text may have so many bytes. A name that no set
--- has gets a number behind those of the sets
+-- the same for a line, by its keyword and the lexemes after it; the canonical text may have so many bytes. A name that no set
+-- has gets a number after those of the sets
 abbrev pub defined : ℕ → Definitions → Keyword → List (List ℕ) → Result Definitions DefinitionFault
 defined limit d keyword words = with_definition limit d (names_on d.set_names words) (definition_of (names_on d.set_names words) keyword words)
 
@@ -164,11 +168,11 @@ with_words limit d [] = Err Syntax
 with_words limit d (word ∷ words) = with_keyword limit d (keyword_of word) words
 
 -- what f makes of an answer, or the fault
-abbrev pub after : Result Definitions DefinitionFault → (Definitions → Result Definitions DefinitionFault) → Result Definitions DefinitionFault
-after (Ok d) f = f d
-after (Err fault) f = Err fault
+abbrev pub and_then : Result Definitions DefinitionFault → (Definitions → Result Definitions DefinitionFault) → Result Definitions DefinitionFault
+and_then (Ok d) f = f d
+and_then (Err fault) f = Err fault
 
 -- the definitions with those of lines, or the first fault
 abbrev pub with_lines : ℕ → Definitions → List (List ℕ) → Result Definitions DefinitionFault
 with_lines limit d [] = Ok d
-with_lines limit d (line ∷ lines) = after (with_words limit d (lexemes line)) (λ e. with_lines limit e lines)
+with_lines limit d (line ∷ lines) = and_then (with_words limit d (lexemes line)) (λ e. with_lines limit e lines)

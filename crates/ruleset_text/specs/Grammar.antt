@@ -1,6 +1,6 @@
 -- The grammar of patterns: the tokens that spell them.
 use Rattle.std.specs.Prelude.{◌≡◌, List, [], ◌∷◌, ◌++◌}
-use Rattle.label_patterns.specs.Patterns.{Pattern, Point, Set, Any, Start, End, Place, Group, Optional, Many, Then, Either}
+use Rattle.label_patterns.specs.Patterns.{Pattern, Point, Set, Any, Start, End, Anchor, Group, Optional, Many, Then, Either}
 use Rattle.ruleset_text.specs.declared.token.Token.{Token}
 use Rattle.ruleset_text.specs.declared.token.Token.TheVariants as token
 
@@ -21,8 +21,8 @@ Is Atom Start = ⊥
 Is s Start = Unit {0}
 Is Atom End = ⊥
 Is s End = Unit {0}
-Is Atom Place = ⊥
-Is s Place = Unit {0}
+Is Atom Anchor = ⊥
+Is s Anchor = Unit {0}
 Is Atom (Optional p) = ⊥
 Is s (Optional p) = Is Atom p
 Is Atom (Many p) = ⊥
@@ -40,7 +40,7 @@ tokens (Set n) = token.Set n ∷ []
 tokens Any = token.Any ∷ []
 tokens Start = token.Start ∷ []
 tokens End = token.End ∷ []
-tokens Place = token.Place ∷ []
+tokens Anchor = token.Anchor ∷ []
 tokens (Group p) = token.Open ∷ (tokens p ++ token.Close ∷ [])
 tokens (Optional p) = tokens p ++ token.Optional ∷ []
 tokens (Many p) = tokens p ++ token.Many ∷ []

@@ -6,6 +6,7 @@ pub mod Rules
 pub mod Lexemes
 pub mod Names
 pub mod SetNames
+pub mod SpanWords
 pub mod Tokens
 pub mod Spans
 pub mod Definition
@@ -19,12 +20,6 @@ pub mod WellFormed
 pub mod Entries
 pub mod EntryForms
 pub mod EntryText
+pub mod EntrySteps
 pub mod EntryWords
-pub mod PlacedLexemes
-pub mod EntryParts
-pub mod WrongPlaces
-pub mod DefinitionPlaces
-pub mod LineNames
-pub mod ExpectedNames
-pub mod LinePoints
 pub mod inner

@@ -1,6 +1,6 @@
 -- What is limited in a pattern, and whether its sets are known.
 use Rattle.std.specs.Prelude.{ℕ, ◌+◌, ◌≤◌, max, nat_lt, Bool, true, ◌&&◌}
-use Rattle.label_patterns.specs.Patterns.{Pattern, Point, Set, Any, Start, End, Place, Group, Optional, Many, Then, Either}
+use Rattle.label_patterns.specs.Patterns.{Pattern, Point, Set, Any, Start, End, Anchor, Group, Optional, Many, Then, Either}
 
 -- how many groups stand within each other
 abbrev pub groups : Pattern → ℕ
@@ -9,7 +9,7 @@ groups (Set n) = 0
 groups Any = 0
 groups Start = 0
 groups End = 0
-groups Place = 0
+groups Anchor = 0
 groups (Group p) = groups p + 1
 groups (Optional p) = groups p
 groups (Many p) = groups p
@@ -23,7 +23,7 @@ stars (Set n) = 0
 stars Any = 0
 stars Start = 0
 stars End = 0
-stars Place = 0
+stars Anchor = 0
 stars (Group p) = stars p
 stars (Optional p) = stars p
 stars (Many p) = stars p + 1
@@ -37,7 +37,7 @@ atoms (Set n) = 1
 atoms Any = 1
 atoms Start = 1
 atoms End = 1
-atoms Place = 0
+atoms Anchor = 0
 atoms (Group p) = atoms p + 1
 atoms (Optional p) = atoms p
 atoms (Many p) = atoms p
@@ -55,7 +55,7 @@ has_its_sets n (Set m) = nat_lt m n
 has_its_sets n Any = true
 has_its_sets n Start = true
 has_its_sets n End = true
-has_its_sets n Place = true
+has_its_sets n Anchor = true
 has_its_sets n (Group p) = has_its_sets n p
 has_its_sets n (Optional p) = has_its_sets n p
 has_its_sets n (Many p) = has_its_sets n p

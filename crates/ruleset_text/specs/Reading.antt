@@ -1,13 +1,13 @@
--- Reading a pattern from its last token to its first: then each item comes before those behind it, as in the tree.
+-- Reading a pattern from its last token to its first: then each item comes before those after it, as in the tree.
 use Rattle.std.specs.Prelude.{List, [], ◌∷◌, Option, Some, None}
 use Rattle.ruleset_text.specs.declared.token.Token.{Token}
 use Rattle.ruleset_text.specs.declared.token.Token.TheVariants as token
 use Rattle.ruleset_text.specs.declared.reading.Suffix.{Suffix}
 use Rattle.ruleset_text.specs.declared.reading.Suffix.TheVariants.{Once, AtMostOnce, AnyNumber}
-use Rattle.label_patterns.specs.Patterns.{Pattern, Point, Set, Any, Start, End, Place, Group, Optional, Many, Then, Either}
+use Rattle.label_patterns.specs.Patterns.{Pattern, Point, Set, Any, Start, End, Anchor, Group, Optional, Many, Then, Either}
 
--- what was read of a group that isn't complete: the sign before which an atom has to stand; the items behind, of the branch
--- that is being read; the branches behind that one
+-- what was read of a group that isn't complete: the sign before which an atom has to stand; the items after it, of the branch
+-- that is being read; the branches after that one
 pub record Frame : Type 0 where
   pub suffix : Suffix
   pub items : Option Pattern
@@ -66,7 +66,7 @@ step (token.Set n) s = Some (record { inner = with_atom (Set n) s.inner; outer =
 step token.Any s = Some (record { inner = with_atom Any s.inner; outer = s.outer })
 step token.Start s = with_end Start s.inner.suffix s.inner.items s.inner.branches s.outer
 step token.End s = with_end End s.inner.suffix s.inner.items s.inner.branches s.outer
-step token.Place s = with_end Place s.inner.suffix s.inner.items s.inner.branches s.outer
+step token.Anchor s = with_end Anchor s.inner.suffix s.inner.items s.inner.branches s.outer
 step token.Optional s = with_sign AtMostOnce s.inner.suffix s.inner.items s.inner.branches s.outer
 step token.Many s = with_sign AnyNumber s.inner.suffix s.inner.items s.inner.branches s.outer
 step token.Or s = with_bar (closed s.inner.suffix s.inner.items s.inner.branches) s.outer
@@ -78,7 +78,7 @@ abbrev pub stepped : Token → Option State → Option State
 stepped t None = None
 stepped t (Some s) = step t s
 
--- the state behind which nothing is left to read, and after these tokens
+-- the state after which nothing is left to read, and after these tokens
 abbrev pub state_of : List Token → Option State
 state_of [] = Some (record { inner = nothing; outer = [] })
 state_of (t ∷ ts) = stepped t (state_of ts)

@@ -2,7 +2,7 @@
 use Rattle.std.specs.Prelude.{Bool, true, false, ◌||◌, ◌&&◌, not, if◌then◌else◌}
 use Rattle.ruleset_text.specs.declared.rules.Sign.{Sign}
 use Rattle.ruleset_text.specs.declared.rules.Sign.TheVariants as sign
-use Rattle.label_patterns.specs.Patterns.{Pattern, Point, Set, Any, Start, End, Place, Group, Optional, Many, Then, Either}
+use Rattle.label_patterns.specs.Patterns.{Pattern, Point, Set, Any, Start, End, Anchor, Group, Optional, Many, Then, Either}
 
 abbrev pub is_end : Sign → Bool
 is_end sign.End = true
@@ -12,9 +12,9 @@ abbrev pub is_start : Sign → Bool
 is_start sign.Start = true
 is_start s = false
 
-abbrev pub is_place_sign : Sign → Bool
-is_place_sign sign.Place = true
-is_place_sign s = false
+abbrev pub is_anchor_sign : Sign → Bool
+is_anchor_sign sign.Anchor = true
+is_anchor_sign s = false
 
 -- the sign stands somewhere in the pattern
 abbrev pub has : Sign → Pattern → Bool
@@ -23,33 +23,33 @@ has s (Set n) = false
 has s Any = false
 has s Start = is_start s
 has s End = is_end s
-has s Place = is_place_sign s
+has s Anchor = is_anchor_sign s
 has s (Group p) = has s p
 has s (Optional p) = has s p
 has s (Many p) = has s p
 has s (Then p q) = has s p || has s q
 has s (Either p q) = has s p || has s q
 
-abbrev pub is_place : Pattern → Bool
-is_place Place = true
-is_place p = false
+abbrev pub is_anchor : Pattern → Bool
+is_anchor Anchor = true
+is_anchor p = false
 
--- no '_' or '$' stands before '_'; no '_' or '^' behind it
+-- no '_' or '$' stands before '_'; no '_' or '^' after it
 abbrev pub is_before : Pattern → Bool
-is_before p = not (has sign.Place p) && not (has sign.End p)
+is_before p = not (has sign.Anchor p) && not (has sign.End p)
 
-abbrev pub is_behind : Pattern → Bool
-is_behind p = not (has sign.Place p) && not (has sign.Start p)
+abbrev pub is_after : Pattern → Bool
+is_after p = not (has sign.Anchor p) && not (has sign.Start p)
 
 -- a context: items, one of which is '_'
 abbrev pub is_context : Pattern → Bool
-is_context Place = true
-is_context (Then p q) = if is_place p then is_behind q else is_before p && is_context q
+is_context Anchor = true
+is_context (Then p q) = if is_anchor p then is_after q else is_before p && is_context q
 is_context p = false
 
 -- a rule: contexts
 abbrev pub is_rule : Pattern → Bool
 is_rule (Either p q) = is_context p && is_rule q
-is_rule Place = true
-is_rule (Then p q) = if is_place p then is_behind q else is_before p && is_context q
+is_rule Anchor = true
+is_rule (Then p q) = if is_anchor p then is_after q else is_before p && is_context q
 is_rule p = false

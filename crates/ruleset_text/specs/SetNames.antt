@@ -2,7 +2,7 @@
 use Rattle.std.specs.Prelude.{ℕ, ◌==◌, ◌&&◌, Option, Some, None, List, [], ◌∷◌, ◌++◌, if◌then◌else◌}
 use Rattle.ruleset_text.specs.Names.{is_name, is_one_of}
 
--- the name behind '@'
+-- the name after '@'
 abbrev pub set_name : List ℕ → Option (List ℕ)
 set_name [] = None
 set_name (c ∷ name) = if c == 64 && is_name name then Some name else None
@@ -15,7 +15,7 @@ with_name names (Some name) = if is_one_of names name then names else names ++ n
 abbrev pub with_word : List (List ℕ) → List ℕ → List (List ℕ)
 with_word names word = with_name names (set_name word)
 
--- the names, and behind them those of sets that words name besides, each once
+-- the names, and after them those of sets that words name besides, each once
 unfoldable pub names_on : List (List ℕ) → List (List ℕ) → List (List ℕ)
 names_on names [] = names
 names_on names (word ∷ words) = names_on (with_word names word) words

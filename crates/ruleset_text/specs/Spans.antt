@@ -2,25 +2,25 @@
 use Rattle.std.specs.Prelude.{ℕ, ◌+◌, nat_le, nat_lt, Option, Some, None, List, [], ◌∷◌, ◌++◌, map, bytes_eq, codes, if◌then◌else◌}
 use Rattle.idn_text.specs.Points.{point_of_hex}
 use Rattle.label_patterns.specs.declared.span.Span.{Span}
-use Rattle.ruleset_text.specs.declared.spans.Part.{Part}
-use Rattle.ruleset_text.specs.declared.spans.Part.TheVariants as part
+use Rattle.ruleset_text.specs.declared.spans.SpanPart.{SpanPart}
+use Rattle.ruleset_text.specs.declared.spans.SpanPart.TheVariants as part
 use Rattle.ruleset_text.specs.declared.spans.Held.{Held}
 use Rattle.ruleset_text.specs.declared.spans.Held.TheVariants as held
 use Rattle.ruleset_text.specs.Lexemes.{lexemes}
 use Rattle.ruleset_text.specs.Tokens.{without_prefix}
 
 -- a code point, the two full stops of a range, or what is neither
-abbrev pub point_part : Option ℕ → Part
+abbrev pub point_part : Option ℕ → SpanPart
 point_part (Some c) = part.Point c
 point_part None = part.Other
 
-abbrev pub part_of : List ℕ → Part
+abbrev pub part_of : List ℕ → SpanPart
 part_of lexeme = if bytes_eq lexeme (codes "..") then part.Range else point_part (point_of_hex (without_prefix lexeme))
 
 abbrev pub span : ℕ → ℕ → Span
 span a b = record { first = a; last = b }
 
--- the spans that are complete, and what is held behind them: the least that the next span may begin with; a point that may
+-- the spans that are complete, and what is held after them: the least that the next span may begin with; a point that may
 -- begin a range; or the first point of a range
 pub record State : Type 0 where
   pub spans : List Span
@@ -30,18 +30,18 @@ abbrev pub state : List Span → Held → State
 state spans h = record { spans = spans; held = h }
 
 -- the state with one part more, if a part may stand there
-abbrev pub step : List Span → Held → Part → Option State
+abbrev pub step : List Span → Held → SpanPart → Option State
 step spans (held.Above low) (part.Point c) = if nat_le low c then Some (state spans (held.First c)) else None
 step spans (held.First c) (part.Point d) = if nat_lt c d then Some (state (spans ++ span c c ∷ []) (held.First d)) else None
 step spans (held.First c) part.Range = Some (state spans (held.Range c))
 step spans (held.Range c) (part.Point d) = if nat_le c d then Some (state (spans ++ span c d ∷ []) (held.Above (d + 1))) else None
 step spans h p = None
 
-abbrev pub stepped : Option State → Part → Option State
+abbrev pub stepped : Option State → SpanPart → Option State
 stepped None p = None
 stepped (Some s) p = step s.spans s.held p
 
-abbrev pub state_after : Option State → List Part → Option State
+abbrev pub state_after : Option State → List SpanPart → Option State
 state_after s [] = s
 state_after s (p ∷ ps) = state_after (stepped s p) ps
 

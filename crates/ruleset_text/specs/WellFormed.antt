@@ -35,7 +35,7 @@ abbrev pub HasParts : ℕ → Definition → Type 0
 HasParts sets (definition.Tag name) = Unit {0}
 HasParts sets (definition.Set name spans) = IsSet spans
 HasParts sets (definition.Rule name contexts) = IsPattern sets contexts × (is_rule contexts ≡ true)
-HasParts sets (definition.Demand kind p) = IsPattern sets p × (has sign.Place p ≡ false)
+HasParts sets (definition.Demand kind p) = IsPattern sets p × (has sign.Anchor p ≡ false)
 
 -- a definition whose sets have these names, and whose canonical line has at most 8,192 bytes
 pub record IsDefinition (names : List (List ℕ)) (x : Definition) : Type 0 where

@@ -1,9 +1,11 @@
 //! The canonical text of patterns, of sets and of definitions.
 ghost use Rattle.std.specs.Prelude.{◌≡◌, ◌<◌, ◌++◌, [], ◌∷◌, slice_index_or, OnOk};
+ghost use Rattle.idn_text.specs.Points.{four_digits, hex_digit};
 ghost use Rattle.label_patterns.specs.Trees.{pattern};
 ghost use Rattle.ruleset_text.specs.Canonical as text;
 
 use crate::names::Name;
+use idn_text::hex_digit;
 use label_patterns::{PatternTree, PointSet, Span};
 use std::alloc::AllocError;
 
@@ -17,7 +19,7 @@ pub fn push_pattern(out: &mut Vec<u8>, names: &[Name], tree: &PatternTree) -> Re
         PatternTree::Any => push_byte(out, b'.'),
         PatternTree::Start => push_byte(out, b'^'),
         PatternTree::End => push_byte(out, b'$'),
-        PatternTree::Place => push_byte(out, b'_'),
+        PatternTree::Anchor => push_byte(out, b'_'),
         PatternTree::Group(part) => {
             push_byte(out, b'(')?;
             push_pattern(out, names, part)?;
@@ -44,7 +46,7 @@ pub fn push_pattern(out: &mut Vec<u8>, names: &[Name], tree: &PatternTree) -> Re
     }
 }
 
-/// Appends the canonical text of the spans of a set, each behind a blank.
+/// Appends the canonical text of the spans of a set, each after a blank.
 pub fn push_spans(out: &mut Vec<u8>, set: &PointSet) -> Result<(), AllocError>
     ensures { OnOk result (out.new.items ≡ out.old.items ++ text.spans_text set.now) }
 {
@@ -97,7 +99,7 @@ fn push_point(out: &mut Vec<u8>, point: u32) -> Result<(), AllocError>
 
 /// Appends the last four digits of a number.
 fn push_four(out: &mut Vec<u8>, number: u32) -> Result<(), AllocError>
-    ensures { OnOk result (out.new.items ≡ out.old.items ++ text.four_digits number) }
+    ensures { OnOk result (out.new.items ≡ out.old.items ++ four_digits number) }
 {
     push_digit(out, number / 0x1000 % 16)?;
     push_digit(out, number / 0x100 % 16)?;
@@ -107,16 +109,9 @@ fn push_four(out: &mut Vec<u8>, number: u32) -> Result<(), AllocError>
 
 fn push_digit(out: &mut Vec<u8>, value: u32) -> Result<(), AllocError>
     requires { value < 16 }
-    ensures { OnOk result (out.new.items ≡ out.old.items ++ text.hex_digit value ∷ []) }
+    ensures { OnOk result (out.new.items ≡ out.old.items ++ hex_digit value ∷ []) }
 {
-    push_byte(
-        out,
-        if value < 10 {
-            b'0' + value as u8
-        } else {
-            b'A' + (value - 10) as u8
-        },
-    )
+    push_byte(out, hex_digit(value))
 }
 
 /// Appends a byte.

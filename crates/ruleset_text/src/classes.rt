@@ -17,7 +17,7 @@ pub fn has_bad_point(alloc: Global, tree: &PatternTree) -> Result<bool, AllocErr
         PatternTree::Any => Ok(false),
         PatternTree::Start => Ok(false),
         PatternTree::End => Ok(false),
-        PatternTree::Place => Ok(false),
+        PatternTree::Anchor => Ok(false),
         PatternTree::Group(part) => has_bad_point(alloc, part),
         PatternTree::Optional(part) => has_bad_point(alloc, part),
         PatternTree::Many(part) => has_bad_point(alloc, part),

@@ -20,8 +20,8 @@ pub struct DefinitionLine {
     pub len: usize,
 }
 
-/// What a line defines, by its keyword and the text behind it, if it has the form. A set goes by its number among the
-/// names; one that none of them names gets a number behind theirs.
+/// What a line defines, by its keyword and the text after it, if it has the form. A set goes by its number among the
+/// names; one that none of them names gets a number after theirs.
 pub fn read_line(
     alloc: Global,
     sets: &[Name],

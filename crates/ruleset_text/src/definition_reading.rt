@@ -20,7 +20,7 @@ use crate::tokens::read_tokens;
 use label_patterns::PatternTree;
 use std::alloc::{AllocError, Global};
 
-/// What the text behind a keyword defines, or none if it has no such form. A set goes by its number among the names.
+/// What the text after a keyword defines, or none if it has no such form. A set goes by its number among the names.
 pub fn read_definition(
     alloc: Global,
     sets: &[Name],
@@ -93,7 +93,7 @@ fn read_demand_of(
     Ok(Some(Definition::Demand(kind, pattern)))
 }
 
-/// The name with which the text behind a keyword begins, and what follows it; none if it doesn't begin with a name.
+/// The name with which the text after a keyword begins, and what follows it; none if it doesn't begin with a name.
 pub fn read_name(text: &[u8]) -> Option<(&[u8], &[u8])>
     ensures { MatchOption result (begins_with_name (lexemes text.now) ≡ false) (λ found. IsTrue (is_a_name found.0.now) × (lexemes text.now ≡ found.0.now ∷ lexemes found.1.now)) }
 {
@@ -105,7 +105,7 @@ pub fn read_name(text: &[u8]) -> Option<(&[u8], &[u8])>
     }
 }
 
-/// The pattern of a demand, which the text behind the keyword spells, or none if it spells none. A set goes by its
+/// The pattern of a demand, which the text after the keyword spells, or none if it spells none. A set goes by its
 /// number among the names.
 pub fn read_demand(
     alloc: Global,
@@ -118,14 +118,14 @@ pub fn read_demand(
     let Some(tree) = read_pattern(alloc, &tokens)? else {
         return Ok(None);
     };
-    Ok(if has(Sign::Place, &tree) {
+    Ok(if has(Sign::Anchor, &tree) {
         None
     } else {
         Some(tree)
     })
 }
 
-/// The contexts of a rule, which the text behind its name spells, or none if it spells none.
+/// The contexts of a rule, which the text after its name spells, or none if it spells none.
 pub fn read_contexts(
     alloc: Global,
     sets: &[Name],

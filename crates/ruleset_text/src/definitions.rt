@@ -6,7 +6,7 @@ ghost use Rattle.label_patterns.specs.Trees.{pattern};
 ghost use Rattle.ruleset_text.specs.Canonical.{definition_text};
 ghost use Rattle.ruleset_text.specs.Definition as definition;
 ghost use Rattle.ruleset_text.specs.Definitions as words;
-ghost use Rattle.ruleset_text.specs.Definitions.{added, canonical_size, defined, nothing_defined, with_words};
+ghost use Rattle.ruleset_text.specs.Definitions.{added, canonical_size, defined, nothing_defined, rule_name as name_of_rule, with_words};
 ghost use Rattle.ruleset_text.specs.DefinitionTrees as trees;
 ghost use Rattle.ruleset_text.specs.DemandTrees.{demand};
 ghost use Rattle.ruleset_text.specs.inner.DefinitionSteps.{Leaves};
@@ -146,6 +146,20 @@ impl Definitions {
         ensures each { length self.now.rules ≡ length self.now.rule_names }
     {
         &self.rule_names
+    }
+
+    /// The name of the rule of this number, in at most 32 bytes; nothing, where there is none.
+    pub fn rule_name(&self, number: u8) -> &[u8]
+        ensures is { result.now ≡ name_of_rule self.now number }
+        ensures short { length result.now ≤ 32 }
+    {
+        match self.rule_names.get(number as usize) {
+            Some(name) => name.as_slice(),
+            None => {
+                let nothing: &[u8] = &[];
+                nothing
+            }
+        }
     }
 
     /// The contexts of the rules, by their number.

@@ -3,12 +3,8 @@ ghost use Rattle.std.specs.Prelude.{◌≡◌, ◌↔◌, Option, Some, None, �
 ghost use Rattle.ruleset_text.specs.Entries.{EntryForm, Mapped};
 ghost use Rattle.ruleset_text.specs.EntryText.{IsForm, entry_text};
 ghost use Rattle.ruleset_text.specs.EntryWords.{IsEntryLine};
-ghost use Rattle.ruleset_text.specs.inner.EntrySteps.{entry_in};
-ghost use Rattle.ruleset_text.specs.inner.WrongSteps.{wrong_place};
+ghost use Rattle.ruleset_text.specs.EntrySteps.{entry_in};
 ghost use Rattle.ruleset_text.specs.Lexemes.{lexemes};
-ghost use Rattle.ruleset_text.specs.WrongPlaces.{FitsNames, IsWhole, IsWrongPlace};
-
-use crate::entry_place::{EntryParts, WrongPlace};
 
 /// What is read as an entry or a range is what the grammar says of the line, and nothing else; so a line spells one at most.
 pub fn reading_an_entry_is_exact()
@@ -20,12 +16,4 @@ pub fn reading_an_entry_is_exact()
 pub fn canonical_entries_are_read_back()
     ensures spelled { (form : EntryForm) → IsForm form.mapped form.last → IsEntryLine form (entry_text form.mapped form.last) }
     ensures read { (mapped : List Mapped) (last : Option ℕ) → IsForm mapped last → entry_in (lexemes (entry_text mapped last)) ≡ Some (record { mapped = mapped; last = last }) }
-{}
-
-/// The place that is told of a line that is no entry and no range of some parts is the one that the grammar gives it, if it has at
-/// most 8,192 bytes or no tags; and none is told of one that is.
-pub fn wrong_places_are_told()
-    ensures place { (parts : EntryParts) (line : List ℕ) (place : WrongPlace) → FitsNames parts line →
-        (wrong_place parts line ≡ Some place) ↔ IsWrongPlace parts line place }
-    ensures whole { (parts : EntryParts) (line : List ℕ) → (wrong_place parts line ≡ None) ↔ IsWhole parts line }
 {}

@@ -4,7 +4,7 @@ ghost use Rattle.std.specs.Option.{option_map};
 ghost use Rattle.ruleset_text.specs.Entries as entries;
 ghost use Rattle.ruleset_text.specs.EntryForms as forms;
 ghost use Rattle.ruleset_text.specs.EntryWords.{IsEntryLine, point_of};
-ghost use Rattle.ruleset_text.specs.inner.EntrySteps as steps;
+ghost use Rattle.ruleset_text.specs.EntrySteps as steps;
 ghost use Rattle.ruleset_text.specs.inner.EntryTaken.{taken_as};
 
 use crate::entry_form::{EntryForm, Mapped, NamedCondition};
@@ -62,7 +62,7 @@ enum Phase {
 
 /// What was read of a line: the source and the variants that are complete, and the one that isn't.
 #[derive(Drop)]
-pub(crate) struct EntryState {
+pub struct EntryState {
     done: Vec<Mapped>,
     current: Mapped,
     last: Option<u32>,
@@ -101,7 +101,7 @@ fn nothing(alloc: Global) -> Mapped
 /// the state is of no use any more.
 impl EntryState {
     /// Nothing was read.
-    pub(crate) fn new(alloc: Global) -> Self
+    pub fn new(alloc: Global) -> Self
         ensures { steps.state result ≡ steps.start }
     {
         EntryState {
@@ -113,7 +113,7 @@ impl EntryState {
     }
 
     #[inline(always)]
-    pub(crate) fn step(&mut self, alloc: Global, lexeme: &[u8]) -> Result<bool, AllocError>
+    pub fn step(&mut self, alloc: Global, lexeme: &[u8]) -> Result<bool, AllocError>
         ensures { IfOk result (λ taken. steps.step (steps.state self.old) lexeme.now ≡ taken_as taken (steps.state self.new)) }
     {
         match self.phase {
@@ -281,7 +281,7 @@ impl EntryState {
     }
 
     /// Whether nothing is left open.
-    pub(crate) fn is_complete(&self) -> bool
+    pub fn is_complete(&self) -> bool
         ensures { result ≡ steps.is_complete self.now.phase }
     {
         is_complete(self.phase)
@@ -320,7 +320,7 @@ fn is_complete(phase: Phase) -> bool
     matches!(phase, Phase::Point | Phase::Last | Phase::Tag | Phase::Rule)
 }
 
-pub(crate) fn word_of(lexeme: &[u8]) -> EntryWord
+pub fn word_of(lexeme: &[u8]) -> EntryWord
     ensures { result ≡ steps.word_of lexeme.now }
 {
     match lexeme {

@@ -1,5 +1,6 @@
 //! Laws of the definitions, each the contract of a function that does nothing.
 ghost use Rattle.std.specs.Prelude.{is_some, not, ◌≡◌, ◌≤◌, ◌↔◌, Ok, Err, ℕ, [], ◌∷◌, length, List, Option, Some, None, true, false, codes};
+ghost use Rattle.label_patterns.specs.declared.span.Span.{Span};
 ghost use Rattle.label_patterns.specs.Patterns.{Pattern};
 ghost use Rattle.ruleset_text.specs.declared.definition.DemandKind.TheVariants as demand;
 ghost use Rattle.label_patterns.specs.declared.condition.ConditionKind.TheVariants as condition;
@@ -11,29 +12,28 @@ ghost use Rattle.label_patterns.specs.Matches.{HasItsSets};
 ghost use Rattle.ruleset_text.specs.Canonical.{HasPoints, pattern_text};
 ghost use Rattle.ruleset_text.specs.Definition.{contexts_of, demand_of};
 ghost use Rattle.ruleset_text.specs.Definition as definition;
-ghost use Rattle.ruleset_text.specs.DefinitionPlaces.{IsWrongPlace, definition_in};
 ghost use Rattle.ruleset_text.specs.Definitions.{Definitions, added, canonical_lines, canonical_size, defined, nothing_defined, with_lines, with_words};
 ghost use Rattle.ruleset_text.specs.Grammar.{Is, Whole, SpellsPattern};
-ghost use Rattle.ruleset_text.specs.inner.DefinitionWrongSteps.{wrong_definition};
-ghost use Rattle.ruleset_text.specs.inner.EntrySteps.{entry_in};
+ghost use Rattle.ruleset_text.specs.EntrySteps.{entry_in};
 ghost use Rattle.ruleset_text.specs.inner.Examples.{some_defined, written};
 ghost use Rattle.ruleset_text.specs.Lexemes.{lexemes};
-ghost use Rattle.ruleset_text.specs.LineNames.{IsFirstLexeme, IsFirstUnknown, is_unknown, unknown_name, unknown_set};
-ghost use Rattle.ruleset_text.specs.declared.expected.Expected.TheVariants.{Nothing};
 ghost use Rattle.ruleset_text.specs.Names.{AreNames, is_name};
-ghost use Rattle.ruleset_text.specs.PlacedLexemes.{Placed};
-ghost use Rattle.ruleset_text.specs.SetNames.{set_name};
 ghost use Rattle.ruleset_text.specs.Reading.{pattern_of};
-ghost use Rattle.ruleset_text.specs.Spans.{span, spans_of};
+ghost use Rattle.ruleset_text.specs.SpanWords.{SpellSet};
+ghost use Rattle.ruleset_text.specs.Spans.{span, spans_in, spans_of};
 ghost use Rattle.ruleset_text.specs.Tokens.{tokens_of};
 ghost use Rattle.ruleset_text.specs.WellFormed.{AreDefinitions};
-
-use crate::entry_place::WrongPlace;
 
 /// The function that reads a pattern tells exactly what the grammar says; so tokens spell one pattern at most.
 pub fn reading_a_pattern_is_exact()
     ensures exact { (ts : List Token) (p : Pattern) → (pattern_of ts ≡ Some p) ↔ SpellsPattern ts p }
     ensures one { (ts : List Token) (p q : Pattern) → SpellsPattern ts p → SpellsPattern ts q → p ≡ q }
+{}
+
+/// The function that reads the spans of a set tells exactly what the grammar says; so lexemes spell one list of spans at most.
+pub fn reading_spans_is_exact()
+    ensures exact { (words : List (List ℕ)) (spans : List Span) → (spans_in words ≡ Some spans) ↔ SpellSet words spans }
+    ensures one { (words : List (List ℕ)) (spans others : List Span) → SpellSet words spans → SpellSet words others → spans ≡ others }
 {}
 
 /// The canonical text of a pattern, cut into tokens, is read as that pattern, where its sets are among those that are named.
@@ -72,12 +72,12 @@ pub fn definitions_compute_the_examples()
     ensures word { demand_of (codes "A" ∷ []) (codes "A") ≡ None }
     ensures place { demand_of (codes "A" ∷ []) (codes "@A _") ≡ None }
     ensures nothing { demand_of (codes "A" ∷ []) (codes "") ≡ None }
-    ensures contexts { contexts_of (codes "A" ∷ []) (codes "^ _ / _ $") ≡ Some (patterns.Either (patterns.Then patterns.Start patterns.Place) (patterns.Then patterns.Place patterns.End)) }
-    ensures place_alone { contexts_of (codes "A" ∷ []) (codes "_") ≡ Some patterns.Place }
-    ensures no_place { contexts_of (codes "A" ∷ []) (codes "@A") ≡ None }
-    ensures two_places { contexts_of (codes "A" ∷ []) (codes "@A _ _") ≡ None }
+    ensures contexts { contexts_of (codes "A" ∷ []) (codes "^ _ / _ $") ≡ Some (patterns.Either (patterns.Then patterns.Start patterns.Anchor) (patterns.Then patterns.Anchor patterns.End)) }
+    ensures anchor_alone { contexts_of (codes "A" ∷ []) (codes "_") ≡ Some patterns.Anchor }
+    ensures no_anchor { contexts_of (codes "A" ∷ []) (codes "@A") ≡ None }
+    ensures two_anchors { contexts_of (codes "A" ∷ []) (codes "@A _ _") ≡ None }
     ensures branch_without { contexts_of (codes "A" ∷ []) (codes "_ / @A") ≡ None }
-    ensures place_in_a_group { contexts_of (codes "A" ∷ []) (codes "(_)") ≡ None }
+    ensures anchor_in_a_group { contexts_of (codes "A" ∷ []) (codes "(_)") ≡ None }
     ensures end_before { contexts_of (codes "A" ∷ []) (codes "$ _") ≡ None }
     ensures end_in_a_group { contexts_of (codes "A" ∷ []) (codes "(@A / $) _") ≡ None }
     ensures start_last { contexts_of (codes "A" ∷ []) (codes "_ ^") ≡ None }
@@ -103,7 +103,7 @@ pub fn definitions_compute_the_examples()
 pub fn definitions_compute_the_lines()
     ensures tag { with_words 1000 some_defined (lexemes (codes "%tag a")) ≡ Ok (added some_defined (definition.Tag (codes "a"))) }
     ensures capital { with_words 1000 some_defined (lexemes (codes "%tag R")) ≡ Ok (added some_defined (definition.Tag (codes "R"))) }
-    ensures rule { with_words 1000 some_defined (lexemes (codes "%rule U _ @A")) ≡ Ok (added some_defined (definition.Rule (codes "U") (patterns.Then patterns.Place (patterns.Set 0)))) }
+    ensures rule { with_words 1000 some_defined (lexemes (codes "%rule U _ @A")) ≡ Ok (added some_defined (definition.Rule (codes "U") (patterns.Then patterns.Anchor (patterns.Set 0)))) }
     ensures demand { with_words 1000 some_defined (lexemes (codes "%always @A .*")) ≡ Ok (added some_defined (definition.Demand demand.Always (patterns.Then (patterns.Set 0) (patterns.Many patterns.Any)))) }
     ensures no_word { with_words 1000 some_defined (lexemes (codes "")) ≡ Err Syntax }
     ensures version { with_words 1000 some_defined (lexemes (codes "%version 3")) ≡ Err Syntax }
@@ -121,8 +121,8 @@ pub fn definitions_compute_the_lines()
     ensures no_tag { with_words 1000 some_defined (lexemes (codes "%tag")) ≡ Err Syntax }
     ensures two_tags { with_words 1000 some_defined (lexemes (codes "%tag a b")) ≡ Err Syntax }
     ensures long_name { with_words 1000 some_defined (lexemes (codes "%tag nnnnnnnnnnnnnnnnnnnnnnnnnnnnnnnnn")) ≡ Err Syntax }
-    ensures no_place { with_words 1000 some_defined (lexemes (codes "%rule s @A")) ≡ Err Syntax }
-    ensures two_places { with_words 1000 some_defined (lexemes (codes "%rule s @A _ _")) ≡ Err Syntax }
+    ensures no_anchor { with_words 1000 some_defined (lexemes (codes "%rule s @A")) ≡ Err Syntax }
+    ensures two_anchors { with_words 1000 some_defined (lexemes (codes "%rule s @A _ _")) ≡ Err Syntax }
     ensures no_context { with_words 1000 some_defined (lexemes (codes "%rule s")) ≡ Err Syntax }
     ensures rule_range { with_words 1000 some_defined (lexemes (codes "%rule s 0061..0062 _")) ≡ Err Syntax }
     ensures rule_sequence { with_words 1000 some_defined (lexemes (codes "%rule s 0061-0062 _")) ≡ Err Syntax }
@@ -172,19 +172,4 @@ pub fn definitions_compute_the_entries()
     ensures colon_first { entry_in (lexemes (codes "0061:0062")) ≡ None }
     ensures two_bars { entry_in (lexemes (codes "0061|0062|0063")) ≡ None }
     ensures nothing { entry_in (lexemes (codes "")) ≡ None }
-{}
-
-/// The place that is told of a line that defines nothing is the one that the grammar gives it. None is told of a line that defines
-/// something, however its sets are numbered, and of no other.
-pub fn wrong_definitions_are_told()
-    ensures place { (line : List ℕ) (place : WrongPlace) → (wrong_definition line ≡ Some place) ↔ IsWrongPlace line place }
-    ensures whole { (names : List (List ℕ)) (line : List ℕ) → is_some (wrong_definition line) ≡ not (is_some (definition_in names (lexemes line))) }
-{}
-
-/// The place that is told of a name is that of the first lexeme that names a set, a tag or a rule that is none of those given.
-pub fn unknown_names_are_told()
-    ensures sets { (sets : List (List ℕ)) (ws : List Placed) (place : WrongPlace) →
-        (unknown_set sets ws ≡ Some place) ↔ IsFirstLexeme (λ lexeme. is_unknown sets (set_name lexeme)) ws place }
-    ensures names { (tags rules : List (List ℕ)) (ws : List Placed) (place : WrongPlace) →
-        (unknown_name tags rules ws ≡ Some place) ↔ IsFirstUnknown tags rules Nothing ws place }
 {}

@@ -82,7 +82,7 @@ fn step(
         Token::Any => Ok(Some(with_atom(alloc, PatternTree::Any, inner)?)),
         Token::Start => with_end(alloc, PatternTree::Start, inner),
         Token::End => with_end(alloc, PatternTree::End, inner),
-        Token::Place => with_end(alloc, PatternTree::Place, inner),
+        Token::Anchor => with_end(alloc, PatternTree::Anchor, inner),
         Token::Optional => Ok(with_sign(Suffix::AtMostOnce, inner)),
         Token::Many => Ok(with_sign(Suffix::AnyNumber, inner)),
         Token::Or => with_bar(alloc, inner),

@@ -9,7 +9,7 @@ use label_patterns::PatternTree;
 pub enum Sign {
     Start,
     End,
-    Place,
+    Anchor,
 }
 
 /// Whether the sign stands somewhere in the pattern.
@@ -22,7 +22,7 @@ pub fn has(sign: Sign, tree: &PatternTree) -> bool
         PatternTree::Any => false,
         PatternTree::Start => matches!(sign, Sign::Start),
         PatternTree::End => matches!(sign, Sign::End),
-        PatternTree::Place => matches!(sign, Sign::Place),
+        PatternTree::Anchor => matches!(sign, Sign::Anchor),
         PatternTree::Group(part) => has(sign, part),
         PatternTree::Optional(part) => has(sign, part),
         PatternTree::Many(part) => has(sign, part),
@@ -31,32 +31,32 @@ pub fn has(sign: Sign, tree: &PatternTree) -> bool
     }
 }
 
-fn is_place(tree: &PatternTree) -> bool
-    ensures { result ≡ rules.is_place (pattern tree.now) }
+fn is_anchor(tree: &PatternTree) -> bool
+    ensures { result ≡ rules.is_anchor (pattern tree.now) }
 {
-    matches!(tree, PatternTree::Place)
+    matches!(tree, PatternTree::Anchor)
 }
 
 fn is_before(tree: &PatternTree) -> bool
     ensures { result ≡ rules.is_before (pattern tree.now) }
 {
-    !has(Sign::Place, tree) && !has(Sign::End, tree)
+    !has(Sign::Anchor, tree) && !has(Sign::End, tree)
 }
 
-fn is_behind(tree: &PatternTree) -> bool
-    ensures { result ≡ rules.is_behind (pattern tree.now) }
+fn is_after(tree: &PatternTree) -> bool
+    ensures { result ≡ rules.is_after (pattern tree.now) }
 {
-    !has(Sign::Place, tree) && !has(Sign::Start, tree)
+    !has(Sign::Anchor, tree) && !has(Sign::Start, tree)
 }
 
 fn is_context(tree: &PatternTree) -> bool
     ensures { result ≡ rules.is_context (pattern tree.now) }
 {
     match tree {
-        PatternTree::Place => true,
+        PatternTree::Anchor => true,
         PatternTree::Then(first, second) => {
-            if is_place(first) {
-                is_behind(second)
+            if is_anchor(first) {
+                is_after(second)
             } else {
                 is_before(first) && is_context(second)
             }

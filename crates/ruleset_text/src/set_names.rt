@@ -58,7 +58,7 @@ fn add_other(
 }
 
 /// What a word names a set by: the name after `@`.
-pub(crate) fn set_name(word: &[u8]) -> Option<&[u8]>
+pub fn set_name(word: &[u8]) -> Option<&[u8]>
     ensures { MatchOption result (words.set_name word.now ≡ None) (λ name. words.set_name word.now ≡ Some name.now) }
 {
     let [first, name @ ..] = word else {

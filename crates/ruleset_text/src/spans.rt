@@ -14,16 +14,16 @@ use std::alloc::{AllocError, Global};
 
 /// What a lexeme is among spans.
 #[derive(Clone, Copy, Debug, PartialEq, Eq)]
-pub(crate) enum Part {
+pub enum SpanPart {
     Point(u32),
     /// `..`
     Range,
     Other,
 }
 
-/// What is held behind the spans that are complete.
+/// What is held after the spans that are complete.
 #[derive(Clone, Copy, Debug, PartialEq, Eq)]
-pub(crate) enum Held {
+pub enum Held {
     /// Nothing: the next span begins with this number or above.
     Above(u64),
     /// A point that may begin a range.
@@ -50,40 +50,40 @@ pub fn read_spans(alloc: Global, text: &[u8]) -> Result<Option<PointSet>, AllocE
 }
 
 /// The spans with one part more, and what is then held; none if the part may not stand there.
-fn step(spans: &mut Vec<Span>, held: Held, part: Part) -> Result<Option<Held>, AllocError>
+fn step(spans: &mut Vec<Span>, held: Held, part: SpanPart) -> Result<Option<Held>, AllocError>
     requires { IsRising spans.old.items held }
     ensures step { IfOk result (λ found. words.step spans.old.items held part ≡ option_map (words.state spans.new.items) found) }
     ensures rising { IfOk result (λ found. IfSome found (IsRising spans.new.items)) }
 {
     match (held, part) {
-        (Held::Above(low), Part::Point(point)) => {
+        (Held::Above(low), SpanPart::Point(point)) => {
             Ok(if low <= point as u64 {
                 Some(Held::First(point))
             } else {
                 None
             })
         }
-        (Held::First(first), Part::Point(point)) => {
+        (Held::First(first), SpanPart::Point(point)) => {
             if first >= point {
                 return Ok(None);
             }
             spans.push(Span { first, last: first })?;
             Ok(Some(Held::First(point)))
         }
-        (Held::First(first), Part::Range) => Ok(Some(Held::Range(first))),
-        (Held::Range(first), Part::Point(last)) => {
+        (Held::First(first), SpanPart::Range) => Ok(Some(Held::Range(first))),
+        (Held::Range(first), SpanPart::Point(last)) => {
             if first > last {
                 return Ok(None);
             }
             spans.push(Span { first, last })?;
-            Ok(Some(behind(last)))
+            Ok(Some(after(last)))
         }
         _ => Ok(None),
     }
 }
 
-/// What is held behind a range that ends so.
-fn behind(last: u32) -> Held
+/// What is held after a range that ends so.
+fn after(last: u32) -> Held
     ensures { result ≡ Above (last + 1) }
 {
     Held::Above(last as u64 + 1)
@@ -109,20 +109,20 @@ fn ended(spans: Vec<Span>, held: Held) -> Result<Option<PointSet>, AllocError>
     }
 }
 
-pub(crate) fn part_of(lexeme: &[u8]) -> Part
+pub fn part_of(lexeme: &[u8]) -> SpanPart
     ensures { result ≡ words.part_of lexeme.now }
 {
     match lexeme {
-        b".." => Part::Range,
+        b".." => SpanPart::Range,
         _ => point_part(hex_point(without_prefix(lexeme))),
     }
 }
 
-fn point_part(point: Option<u32>) -> Part
+fn point_part(point: Option<u32>) -> SpanPart
     ensures { result ≡ words.point_part point }
 {
     match point {
-        Some(point) => Part::Point(point),
-        None => Part::Other,
+        Some(point) => SpanPart::Point(point),
+        None => SpanPart::Other,
     }
 }

@@ -23,7 +23,7 @@ pub fn read_tokens(alloc: Global, names: &[Name], line: &[u8]) -> Result<Vec<Tok
 }
 
 /// The token of a lexeme.
-pub(crate) fn token_of(names: &[Name], lexeme: &[u8]) -> Token
+pub fn token_of(names: &[Name], lexeme: &[u8]) -> Token
     ensures { result ≡ tokens.token_of names.now lexeme.now }
 {
     match lexeme {
@@ -51,7 +51,7 @@ fn mark_token(byte: u8) -> Token
         b'^' => Token::Start,
         b'$' => Token::End,
         b'.' => Token::Any,
-        b'_' => Token::Place,
+        b'_' => Token::Anchor,
         _ => Token::Other,
     }
 }

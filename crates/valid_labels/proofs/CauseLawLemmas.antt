@@ -3,7 +3,7 @@ use Rattle.std.proofs.Common.{◌≡◌, ℕ, zero, suc, ◌+◌, ◌-◌, ◌<�
 use Rattle.std.specs.Prelude.{◌↔◌, IsTrue, Option, Some, None, slice_get, AllPairs}
 use Rattle.std.specs.Option.{is_some}
 use Rattle.std.specs.List.{AllByRecursion, Contains, slice_range}
-use Rattle.std.proofs.lemmas.Bool.{cases_order}
+use Rattle.std.proofs.lemmas.Bool.{cases_order, false_from_ne_true}
 use Rattle.label_patterns.specs.declared.condition.Condition.{Condition}
 use Rattle.label_patterns.specs.Conditions.{ConditionHolds}
 use Rattle.label_patterns.specs.Matches.{Seen, Rounds, no_round, one_more}
@@ -19,7 +19,7 @@ use Rattle.variant_table.proofs.MemberLemmas.{Contains-head, Contains-later, Con
 use Rattle.valid_labels.specs.declared.cause.ValidityCause.{ValidityCause}
 use Rattle.valid_labels.specs.declared.cause.ValidityCause.TheVariants.{Misplaced, Broken}
 use Rattle.valid_labels.specs.Segmentations.{IsMadeOfSources, HasSegmentation, seen_under}
-use Rattle.valid_labels.specs.Demands.{IsKept}
+use Rattle.valid_labels.specs.Demands.{IsMet}
 use Rattle.valid_labels.specs.Validity.{IsAdmitted}
 use Rattle.valid_labels.specs.Tests.{holds_in, is_made_of_sources, is_wanted}
 use Rattle.valid_labels.specs.Causes.{IsMisplaced, IsLastMisplaced, IsFirstBroken, IsCause, held_places, is_misplaced, last_misplaced, misplaced_at, found_at, misplaced_or, misplaced_below, broken_from, cause_of}
@@ -30,24 +30,16 @@ use Rattle.valid_labels.proofs.EndLemmas.{part-begins}
 use Rattle.valid_labels.proofs.PartLemmas.{first-part, first-inside, after-first}
 use Rattle.valid_labels.proofs.SegmentationLemmas.{IsInside, HoldsIn, made-cut}
 use Rattle.valid_labels.proofs.TestLemmas.{segmentation-agrees, made-agrees, wanted-agrees, sequence-filled}
+use Rattle.variant_table.proofs.NumberLemmas.{pairs_tail}
+use Rattle.std.proofs.lemmas.Option.{same_Some}
 
 pub opposite : {P : Type 0} (b : Bool) → b ≡ true → b ≡ false → P
 opposite b t f = absurd (let g : true ≡ false = sym t ∙ f in cc)
 
-some-one : {X : Type 0} (a b : X) → Some a ≡ Some b → a ≡ b
-some-one a b e = cc
-
 none-some : {X P : Type 0} (a : X) → None ≡ Some a → P
 none-some a e = absurd (let f : None ≡ Some a = e in cc)
 
-not-true-false : (b : Bool) → (b ≡ true → ⊥) → b ≡ false
-not-true-false true h = absurd (h refl)
-not-true-false false h = refl
-
 -- ---- pairs of a list
-
-pairs-tail : {X : Type 0} (R : X → X → Type 0) (x : X) (xs : List X) → AllPairs R (x ∷ xs) → AllPairs R xs
-pairs-tail R x xs p = λ i j d l m. p (suc i) (suc j) d (omega (arith, l)) (omega (arith, m))
 
 pairs-head : {X : Type 0} (R : X → X → Type 0) (x : X) (xs : List X) → AllPairs R (x ∷ xs) → (y : X) → Contains xs y → R x y
 pairs-head R x xs p y (k, l, e) = subst (R x) e (p 0 (suc k) y (omega arith) (omega (arith, l)))
@@ -94,7 +86,7 @@ module _ (table : TableValue) (label : List ℕ) where
   last-sound : (place : ℕ) (es : List Entry) (found : Option Condition) (c : Condition) → AllPairs Shorter es → last_misplaced table label place found es ≡ Some c
       → ((found ≡ Some c) × NoneOf place es) ⊎ LastOf place es c
   last-sound place [] found c pairs h = inl (h, λ f m. absurd (Contains-none f m))
-  last-sound place (x ∷ es) found c pairs h = by_test (is_misplaced table label place x) refl (λ o. last-sound place es o c (pairs-tail Shorter x es pairs)) h
+  last-sound place (x ∷ es) found c pairs h = by_test (is_misplaced table label place x) refl (λ o. last-sound place es o c (pairs_tail Shorter x es pairs)) h
     where
       by_test : (b : Bool) → is_misplaced table label place x ≡ b → ((o : Option Condition) → last_misplaced table label place o es ≡ Some c → ((o ≡ Some c) × NoneOf place es) ⊎ LastOf place es c)
           → last_misplaced table label place (cond b x.condition found) es ≡ Some c → ((found ≡ Some c) × NoneOf place (x ∷ es)) ⊎ LastOf place (x ∷ es) c
@@ -167,7 +159,7 @@ module _ (table : TableValue) (label : List ℕ) where
           → (misplaced_below table label n ≡ Some cause → (place : ℕ) × (place < n) × ((c : Condition) × (found_at table label place ≡ Some c) × (cause ≡ Misplaced place c) × ((p : ℕ) → place < p → p < n → found_at table label p ≡ None)))
           → misplaced_or n o (misplaced_below table label n) ≡ Some cause
           → (place : ℕ) × (place < suc n) × ((c : Condition) × (found_at table label place ≡ Some c) × (cause ≡ Misplaced place c) × ((p : ℕ) → place < p → p < suc n → found_at table label p ≡ None))
-      by_found (Some c) is later g = (n, omega arith, (c, is, sym (some-one (Misplaced n c) cause g), λ p l m. absurd (omega (arith, l, m))))
+      by_found (Some c) is later g = (n, omega arith, (c, is, sym (same_Some (Misplaced n c) cause g), λ p l m. absurd (omega (arith, l, m))))
       by_found None is later g =
           let r = later g in (
             r.0,
@@ -228,7 +220,7 @@ module _ (table : TableValue) (label : List ℕ) where
     from-misplaced : (place : ℕ) (e : Entry) → IsMisplaced table label place e → (has_place (held_places table label) place ≡ true) × Contains (entries_at table.entries label place) e × (is_misplaced table label place e ≡ true)
     from-misplaced place e is =
         let w = is.within in
-        let fails = not-true-false (holds_in table label e.condition place (place + length e.source))
+        let fails = false_from_ne_true (holds_in table label e.condition place (place + length e.source))
         (λ t. is.fails ((condition-agrees table.definitions.rules (seen_under table label) e.condition place (place + length e.source) (omega (arith, w)) w).0 t)) in (
           (held-agrees table label formed place).1 is.reached,
           ((entries_are_at table.entries label place formed).members e).1 (is.of_table, part-begins label place (place + length e.source) e is.stands),
@@ -282,8 +274,8 @@ module _ (table : TableValue) (label : List ℕ) where
 
 -- ---- demands
 
-kept-agrees : (s : Seen) (d : Demand) → IsTrue (is_wanted d.kind (occurs_in s d.pattern)) ↔ IsKept s d
-kept-agrees s d = wanted-agrees d.kind (occurs_in s d.pattern) (Occurs s d.pattern) (occurs-agrees s d.pattern)
+met-agrees : (s : Seen) (d : Demand) → IsTrue (is_wanted d.kind (occurs_in s d.pattern)) ↔ IsMet s d
+met-agrees s d = wanted-agrees d.kind (occurs_in s d.pattern) (Occurs s d.pattern) (occurs-agrees s d.pattern)
 
 abbrev BrokenAt : Seen → List Demand → ℕ → ValidityCause → Type 0
 BrokenAt s ds n cause = (m : ℕ) × ((d : Demand) × IsFirstBroken s ds m d × (cause ≡ Broken (n + m) d.kind))
@@ -292,11 +284,11 @@ broken-sound : (s : Seen) (ds : List Demand) (n : ℕ) (cause : ValidityCause) �
 broken-sound s [] n cause h = none-some cause h
 broken-sound s (d ∷ ds) n cause h = by_test (is_wanted d.kind (occurs_in s d.pattern)) refl (broken-sound s ds (suc n) cause) h
   where
-    first_kept : (e : Demand) → is_wanted d.kind (occurs_in s d.pattern) ≡ true → Some d ≡ Some e → IsKept s e
-    first_kept e is same = subst (IsKept s) (some-one d e same) ((kept-agrees s d).0 is)
+    first_met : (e : Demand) → is_wanted d.kind (occurs_in s d.pattern) ≡ true → Some d ≡ Some e → IsMet s e
+    first_met e is same = subst (IsMet s) (same_Some d e same) ((met-agrees s d).0 is)
 
-    by_place : (bound : ℕ) → is_wanted d.kind (occurs_in s d.pattern) ≡ true → ((m : ℕ) (x : Demand) → m < bound → slice_get ds m ≡ Some x → IsKept s x) → (k : ℕ) (e : Demand) → k < suc bound → slice_get (d ∷ ds) k ≡ Some e → IsKept s e
-    by_place bound is first zero e l at = first_kept e is at
+    by_place : (bound : ℕ) → is_wanted d.kind (occurs_in s d.pattern) ≡ true → ((m : ℕ) (x : Demand) → m < bound → slice_get ds m ≡ Some x → IsMet s x) → (k : ℕ) (e : Demand) → k < suc bound → slice_get (d ∷ ds) k ≡ Some e → IsMet s e
+    by_place bound is first zero e l at = first_met e is at
     by_place bound is first (suc k) e l at = first k e (omega (arith, l)) at
 
     by_test : (b : Bool) → is_wanted d.kind (occurs_in s d.pattern) ≡ b → (broken_from s (suc n) ds ≡ Some cause → BrokenAt s ds (suc n) cause)
@@ -321,32 +313,32 @@ broken-sound s (d ∷ ds) n cause h = by_test (is_wanted d.kind (occurs_in s d.p
         d,
         record {
           at = refl;
-          broken = λ kept. opposite (is_wanted d.kind (occurs_in s d.pattern)) ((kept-agrees s d).1 kept) is;
+          broken = λ met. opposite (is_wanted d.kind (occurs_in s d.pattern)) ((met-agrees s d).1 met) is;
           first = λ k e l at. absurd (omega (arith, l));
         },
-        sym (some-one (Broken n d.kind) cause g) ∙ (let number : n ≡ n + 0 = omega arith in ap (λ m. Broken m d.kind) number),
+        sym (same_Some (Broken n d.kind) cause g) ∙ (let number : n ≡ n + 0 = omega arith in ap (λ m. Broken m d.kind) number),
       ),
     )
 
-broken-none : (s : Seen) (ds : List Demand) (n : ℕ) → broken_from s n ds ≡ None → AllByRecursion (IsKept s) ds
+broken-none : (s : Seen) (ds : List Demand) (n : ℕ) → broken_from s n ds ≡ None → AllByRecursion (IsMet s) ds
 broken-none s [] n h = tt
 broken-none s (d ∷ ds) n h = by_test (is_wanted d.kind (occurs_in s d.pattern)) refl (broken-none s ds (suc n)) h
   where
-    by_test : (b : Bool) → is_wanted d.kind (occurs_in s d.pattern) ≡ b → (broken_from s (suc n) ds ≡ None → AllByRecursion (IsKept s) ds)
-        → cond b (broken_from s (suc n) ds) (Some (Broken n d.kind)) ≡ None → AllByRecursion (IsKept s) (d ∷ ds)
-    by_test true is later g = ((kept-agrees s d).0 is, later g)
+    by_test : (b : Bool) → is_wanted d.kind (occurs_in s d.pattern) ≡ b → (broken_from s (suc n) ds ≡ None → AllByRecursion (IsMet s) ds)
+        → cond b (broken_from s (suc n) ds) (Some (Broken n d.kind)) ≡ None → AllByRecursion (IsMet s) (d ∷ ds)
+    by_test true is later g = ((met-agrees s d).0 is, later g)
     by_test false is later g = none-some (Broken n d.kind) (sym g)
 
--- one of demands that are kept
-kept-at : (s : Seen) (ds : List Demand) (m : ℕ) (d : Demand) → AllByRecursion (IsKept s) ds → slice_get ds m ≡ Some d → IsKept s d
-kept-at s [] m d all at = none-some d at
-kept-at s (x ∷ ds) zero d all at = subst (IsKept s) (some-one x d at) all.0
-kept-at s (x ∷ ds) (suc m) d all at = kept-at s ds m d all.1 at
+-- one of demands that are met
+met-at : (s : Seen) (ds : List Demand) (m : ℕ) (d : Demand) → AllByRecursion (IsMet s) ds → slice_get ds m ≡ Some d → IsMet s d
+met-at s [] m d all at = none-some d at
+met-at s (x ∷ ds) zero d all at = subst (IsMet s) (same_Some x d at) all.0
+met-at s (x ∷ ds) (suc m) d all at = met-at s ds m d all.1 at
 
 -- ---- there is one cause
 
 get-one : {X : Type 0} (xs : List X) (m n : ℕ) (a b : X) → m ≡ n → slice_get xs m ≡ Some a → slice_get xs n ≡ Some b → a ≡ b
-get-one xs m n a b e f g = some-one a b (sym f ∙ ap (slice_get xs) e ∙ g)
+get-one xs m n a b e f g = same_Some a b (sym f ∙ ap (slice_get xs) e ∙ g)
 
 one-cause : (table : TableValue) (label : List ℕ) → IsWellFormed table.entries → (a b : ValidityCause) → IsCause table label a → IsCause table label b → a ≡ b
 one-cause table label formed (Misplaced p c) (Misplaced q d) first second =
@@ -361,7 +353,7 @@ one-cause table label formed (Misplaced p c) (Misplaced q d) first second =
     let source : e.source ≡ f.source =
     sym first.1.1.misplaced.stands ∙ ap (λ n. slice_range label n (n + length e.source)) place ∙ ap (λ n. slice_range label q (q + n)) size ∙ second.1.1.misplaced.stands in
     let same = same_entry table.entries e f formed.sources first.1.1.misplaced.of_table second.1.1.misplaced.of_table source in
-    let condition : c ≡ d = some-one c d (sym first.1.2 ∙ ap (λ (x : Entry). x.condition) same ∙ second.1.2) in
+    let condition : c ≡ d = same_Some c d (sym first.1.2 ∙ ap (λ (x : Entry). x.condition) same ∙ second.1.2) in
     ap (λ n. Misplaced n c) place ∙ ap (Misplaced q) condition
 one-cause table label formed (Misplaced p c) (Broken n k) first second = absurd (first.0 second.0)
 one-cause table label formed (Broken n k) (Misplaced p c) first second = absurd (second.0 first.0)
@@ -402,7 +394,7 @@ module _ (table : TableValue) (label : List ℕ) (formed : IsWellFormed table.en
           → cond b (broken_from (seen_under table label) 0 table.definitions.demands) (misplaced_below table label (length label)) ≡ None → IsCause table label x → ⊥
       by_test true e agrees (Misplaced p c) g x = x.0 (agrees.0 e)
       by_test true e agrees (Broken n k) g x =
-          x.1.1.broken (kept-at (seen_under table label) table.definitions.demands n x.1.0 (broken-none (seen_under table label) table.definitions.demands 0 g) x.1.1.at)
+          x.1.1.broken (met-at (seen_under table label) table.definitions.demands n x.1.0 (broken-none (seen_under table label) table.definitions.demands 0 g) x.1.1.at)
       by_test false e agrees (Misplaced p c) g x =
           let m = x.1.1.misplaced in
           none-misplaced table label formed p x.1.0 (below-none table label (length label) g p (place-inside table label formed p x.1.0 m)) m
@@ -484,7 +476,7 @@ module _ (table : TableValue) (label : List ℕ) (formed : IsWellFormed table.en
         where
           by_test : (b : Bool) → has_place (held_places table label) (length label) ≡ b → IsTrue (has_place (held_places table label) (length label)) ↔ HasSegmentation table label
               → cond b (broken_from (seen_under table label) 0 table.definitions.demands) (misplaced_below table label (length label)) ≡ None → ⊥
-          by_test true is agrees g = refused (record { cut = agrees.0 is; kept = broken-none (seen_under table label) table.definitions.demands 0 g })
+          by_test true is agrees g = refused (record { cut = agrees.0 is; met = broken-none (seen_under table label) table.definitions.demands 0 g })
           by_test false is agrees g =
               let cut = (made-cut table label).0 made in
               elim (walk cut.0 0 (omega arith) cut.1.each (sym cut.1.joined) no_round) [

@@ -18,7 +18,7 @@ use Rattle.variant_table.specs.Places.{AreEntriesAt}
 use Rattle.variant_table.specs.WellFormed.{IsWellFormed}
 use Rattle.valid_labels.specs.declared.cause.ValidityCause.TheVariants.{Misplaced, Broken}
 use Rattle.valid_labels.specs.Segmentations.{IsMadeOfSources, seen_under, inside_of}
-use Rattle.valid_labels.specs.Demands.{IsKept}
+use Rattle.valid_labels.specs.Demands.{IsMet}
 use Rattle.valid_labels.specs.Tests.{holds_in, is_made_of_sources, is_wanted}
 use Rattle.valid_labels.specs.Causes.{held_places, is_misplaced, broken_from, found_at, misplaced_below, misplaced_or}
 use Rattle.valid_labels.proofs.CutLemmas.{EntryStands}
@@ -55,9 +55,6 @@ held-test table label places place r same tells =
 
 -- ---- one source
 
-pub some-same : {X : Type 0} (a b : X) → Some a ≡ Some b → a ≡ b
-some-same a b e = cc
-
 pub holds-test : (table : TableValue) (label : List ℕ) (D : Definitions) (S : Seen) (c : Option Condition) (i j : ℕ) (r : Bool) → D ≡ table.definitions → S ≡ seen_under table label → i ≤ length label → j ≤ length label
     → IsTrue r ↔ ConditionHolds D.rules S c i j → r ≡ holds_in table label c i j
 holds-test table label D S c i j r d s l m tells =
@@ -91,8 +88,8 @@ at-inside entries label place all e are l h = let m = ((are.members e).0 h).1 in
 
 -- ---- one demand
 
-pub kept-test : (s : Seen) (d : Demand) (r : Bool) → IsTrue r ↔ IsKept s d → r ≡ is_wanted d.kind (occurs_in s d.pattern)
-kept-test s d r tells = same-test r (is_wanted d.kind (occurs_in s d.pattern)) (IsKept s d) tells (wanted-agrees d.kind (occurs_in s d.pattern) (Occurs s d.pattern) (occurs-agrees s d.pattern))
+pub met-test : (s : Seen) (d : Demand) (r : Bool) → IsTrue r ↔ IsMet s d → r ≡ is_wanted d.kind (occurs_in s d.pattern)
+met-test s d r tells = same-test r (is_wanted d.kind (occurs_in s d.pattern)) (IsMet s d) tells (wanted-agrees d.kind (occurs_in s d.pattern) (Occurs s d.pattern) (occurs-agrees s d.pattern))
 
 pub rest-demands : (ds : List declared.Demand) (n : ℕ) (d : declared.Demand) → n < length ds → d ≡ get_or ds n d → map demand (drop n ds) ≡ demand d ∷ map demand (drop (n + 1) ds)
 rest-demands ds n d l is = ap (map demand) (drop_more ds n d l) ∙ ap (λ (e : declared.Demand). demand e ∷ map demand (drop (n + 1) ds)) (sym is)

@@ -13,7 +13,7 @@ use Rattle.ruleset_text.specs.declared.definitions.Demand as declared
 use Rattle.ruleset_text.specs.DemandTrees.{demand}
 use Rattle.ruleset_text.specs.Definitions.{Demand}
 use Rattle.variant_table.proofs.MemberLemmas.{Contains-head, Contains-none, Contains-one}
-use Rattle.valid_labels.specs.Demands.{IsKept}
+use Rattle.valid_labels.specs.Demands.{IsMet}
 use Rattle.valid_labels.specs.inner.Ends.{IsRefusing, IsRefusedAt, NoneRefuses, lesser_of}
 use Rattle.valid_labels.proofs.ListLemmas.{all-push}
 
@@ -29,9 +29,9 @@ demand-at P ds i d l is all = subst (λ e. P (demand e)) (sym is) (at ds i l all
 pub demands-more : (ds : List declared.Demand) (i : ℕ) (d : declared.Demand) → i < length ds → d ≡ get_or ds i d → map demand (take (i + 1) ds) ≡ map demand (take i ds) ++ demand d ∷ []
 demands-more ds i d l is = map_more demand ds i d l ∙ ap (λ e. map demand (take i ds) ++ demand e ∷ []) (sym is)
 
-pub kept-more : (s : Seen) (ds : List declared.Demand) (i : ℕ) (d : declared.Demand) → i < length ds → d ≡ get_or ds i d → AllByRecursion (IsKept s) (map demand (take i ds)) → IsKept s (demand d)
-    → AllByRecursion (IsKept s) (map demand (take (i + 1) ds))
-kept-more s ds i d l is all kept = subst (AllByRecursion (IsKept s)) (sym (demands-more ds i d l is)) (all-push (IsKept s) (map demand (take i ds)) (demand d) all kept)
+pub met-more : (s : Seen) (ds : List declared.Demand) (i : ℕ) (d : declared.Demand) → i < length ds → d ≡ get_or ds i d → AllByRecursion (IsMet s) (map demand (take i ds)) → IsMet s (demand d)
+    → AllByRecursion (IsMet s) (map demand (take (i + 1) ds))
+met-more s ds i d l is all kept = subst (AllByRecursion (IsMet s)) (sym (demands-more ds i d l is)) (all-push (IsMet s) (map demand (take i ds)) (demand d) all kept)
 
 -- ---- first ends
 

@@ -1,9 +1,10 @@
 -- Members of lists that are made of others, and tests of all members.
-use Rattle.std.proofs.Common.{◌≡◌, Bool, true, false, not, cond, ◌&&◌, ◌||◌, List, [], ◌∷◌, ◌++◌, map, refl, sym, ap, ◌∙◌, subst, inl, inr, ◌⊎◌, ◌↔◌}
+use Rattle.std.proofs.Common.{◌≡◌, Bool, true, false, cond, List, [], ◌∷◌, ◌++◌, map, refl, sym, ap, ◌∙◌, subst, inl, inr, ◌↔◌}
 use Rattle.std.specs.Prelude.{IsTrue}
 use Rattle.std.specs.List.{Contains, flat_map, filter, list_any, AllByRecursion}
 use Rattle.std.proofs.lemmas.List.Elements.{Contains-append_left, Contains-append_right, Contains-append_cases}
 use Rattle.variant_table.proofs.MemberLemmas.{Contains-head, Contains-later, Contains-none, Contains-cases}
+use Rattle.label_patterns.proofs.TestLemmas.{or-one}
 
 pub Contains-map : {X Y : Type 0} (f : X → Y) (xs : List X) (y : Y) → Contains (map f xs) y ↔ ((x : X) × Contains xs x × (y ≡ f x))
 Contains-map f [] y = (λ c. absurd (Contains-none y c), λ g. absurd (Contains-none g.0 g.1))
@@ -46,18 +47,6 @@ Contains-filter {X} p (x ∷ xs) y = by_test (p x) refl (Contains-filter p xs y)
 
 pub not-true : {P : Type 0} → false ≡ true → P
 not-true h = absurd (let f : false ≡ true = h in cc)
-
-pub and-both : (a b : Bool) → IsTrue (a && b) ↔ (IsTrue a × IsTrue b)
-and-both true b = (λ h. (refl, h), λ h. h.1)
-and-both false b = (λ h. not-true h, λ h. h.0)
-
-pub or-one : (a b : Bool) → IsTrue (a || b) ↔ (IsTrue a ⊎ IsTrue b)
-or-one true b = (λ h. inl refl, λ h. refl)
-or-one false b = (λ h. inr h, λ h. elim h [ inl f ↦ not-true f | inr g ↦ g ])
-
-pub not-false : (a : Bool) (P : Type 0) → IsTrue a ↔ P → IsTrue (not a) ↔ (P → ⊥)
-not-false true P e = (λ h. not-true h, λ h. absurd (h (e.0 refl)))
-not-false false P e = (λ h p. (let f : false ≡ true = e.1 p in cc), λ h. refl)
 
 pub any-one : {X : Type 0} (p : X → Bool) (xs : List X) → IsTrue (list_any p xs) ↔ ((x : X) × Contains xs x × IsTrue (p x))
 any-one p [] = (λ h. not-true h, λ g. absurd (Contains-none g.0 g.1))

@@ -14,17 +14,9 @@ use Rattle.valid_labels.specs.Tests.{is_covered, lone_variants}
 use Rattle.valid_labels.specs.inner.Pieces.{items_of, AreLone, IsLongest}
 use Rattle.valid_labels.proofs.ListLemmas.{Contains-map, all-members}
 use Rattle.valid_labels.proofs.TestLemmas.{lone-agree, variant-filled}
+use Rattle.variant_table.proofs.ListLemmas.{take_next}
 
 -- ---- one element more
-
-pub take-next : {X : Type 0} (xs : List X) (i : ℕ) (x : X) → slice_get xs i ≡ Some x → take (i + 1) xs ≡ take i xs ++ x ∷ []
-take-next [] i x e = absurd (let f : None ≡ Some x = e in cc)
-take-next (y ∷ xs) zero x e = some-same e
-  where
-    some-same : Some y ≡ Some x → y ∷ [] ≡ x ∷ []
-    some-same f = let g : y ≡ x = cc in ap (λ z. z ∷ []) g
-take-next (y ∷ xs) (suc i) x e =
-    (let n : suc i + 1 ≡ suc (i + 1) = omega arith in ap (λ m. take m (y ∷ xs)) n) ∙ ap (λ l. y ∷ l) (take-next xs i x e)
 
 pub get-inside : {X : Type 0} (xs : List X) (i : ℕ) (x : X) → slice_get xs i ≡ Some x → Contains xs x
 get-inside [] i x e = absurd (let f : None ≡ Some x = e in cc)
@@ -46,7 +38,7 @@ abbrev pub alone : TableValue → List (List ℕ) → List (List ℕ)
 alone table sequences = filter (λ s. not (is_covered table s)) sequences
 
 pub alone-next : (table : TableValue) (sequences : List (List ℕ)) (i : ℕ) (s : List ℕ) → slice_get sequences i ≡ Some s → alone table (take (i + 1) sequences) ≡ alone table (take i sequences) ++ alone table (s ∷ [])
-alone-next table sequences i s at = ap (alone table) (take-next sequences i s at) ∙ filter-append (λ v. not (is_covered table v)) (take i sequences) (s ∷ [])
+alone-next table sequences i s at = ap (alone table) (take_next sequences i s at) ∙ filter-append (λ v. not (is_covered table v)) (take i sequences) (s ∷ [])
 
 pub alone-one : (table : TableValue) (s : List ℕ) → is_covered table s ≡ false → alone table (s ∷ []) ≡ s ∷ []
 alone-one table s e = ap (λ b. cond (not b) (s ∷ []) []) e
@@ -60,7 +52,7 @@ pub lone-next : (table : TableValue) (i : ℕ) (e : Entry) → slice_get table.e
     → alone table (flat_map (λ (x : Entry). sequences_in x.variants) (take (i + 1) table.entries)) ≡ alone table (flat_map (λ (x : Entry). sequences_in x.variants) (take i table.entries)) ++ alone table (sequences_in e.variants)
 lone-next table i e at =
     let f : Entry → List (List ℕ) = λ x. sequences_in x.variants in
-    ap (λ es. alone table (flat_map f es)) (take-next table.entries i e at) ∙ ap (alone table) (flat_map-append f (take i table.entries) (e ∷ []) ∙ ap (λ l. flat_map f (take i table.entries) ++ l) (append-nil (f e)))
+    ap (λ es. alone table (flat_map f es)) (take_next table.entries i e at) ∙ ap (alone table) (flat_map-append f (take i table.entries) (e ∷ []) ∙ ap (λ l. flat_map f (take i table.entries) ++ l) (append-nil (f e)))
     ∙ filter-append (λ v. not (is_covered table v)) (flat_map f (take i table.entries)) (f e)
 
 pub variants-short : (entries : List Entry) (e : Entry) → IsWellFormed entries → Contains entries e → AllByRecursion (λ s. length s ≤ 63) (sequences_in e.variants)

@@ -14,7 +14,7 @@ use Rattle.ruleset_text.specs.Definitions.{Demand}
 use Rattle.variant_table.specs.Entries.{TableValue}
 use Rattle.valid_labels.specs.Segmentations.{seen_under}
 use Rattle.valid_labels.specs.Pieces.{IsPiece, PieceStands, PieceMayStand, IsMadeOfPieces, MayReach}
-use Rattle.valid_labels.specs.Demands.{IsWanted, IsKept}
+use Rattle.valid_labels.specs.Demands.{IsWanted, IsMet}
 use Rattle.valid_labels.specs.Validity.{IsSound, IsValid, IsRefused, LeadsNowhere, IsLost}
 use Rattle.valid_labels.specs.Laws.{LostForGood}
 use Rattle.valid_labels.proofs.PartLemmas.{part-length, part-stays}
@@ -92,8 +92,8 @@ module _ (table : TableValue) (label more : List ℕ) (sound : IsSound table) wh
 
 pub refused-invalid : (table : TableValue) (label : List ℕ) → IsRefused table label → IsValid table label → ⊥
 refused-invalid table label refused valid =
-    let kept : IsKept (seen_under table label) refused.0 = All-contains (IsKept (seen_under table label)) table.definitions.demands refused.0 (All-from_recursion (IsKept (seen_under table label)) table.definitions.demands valid.kept) refused.1 in
-    subst (λ (k : DemandKind). IsWanted k (Occurs (seen_under table label) refused.0.pattern)) refused.2 kept refused.4
+    let met : IsMet (seen_under table label) refused.0 = All-contains (IsMet (seen_under table label)) table.definitions.demands refused.0 (All-from_recursion (IsMet (seen_under table label)) table.definitions.demands valid.met) refused.1 in
+    subst (λ (k : DemandKind). IsWanted k (Occurs (seen_under table label) refused.0.pattern)) refused.2 met refused.4
 
 pub lost-stays : (table : TableValue) (label more : List ℕ) → IsSound table → IsLost table label → IsLost table (label ++ more)
 lost-stays table label more sound is = record {

@@ -8,7 +8,7 @@ use Rattle.variant_table.specs.Entries.{Entry, TableValue, replacements, sequenc
 use Rattle.variant_table.proofs.MemberLemmas.{Contains-cases}
 use Rattle.valid_labels.specs.Segmentations.{seen_under}
 use Rattle.valid_labels.specs.Pieces.{IsCovered, IsVariant, IsPiece, PieceStands}
-use Rattle.valid_labels.specs.Demands.{IsKept, KeepsDemands}
+use Rattle.valid_labels.specs.Demands.{IsMet, MeetsDemands}
 use Rattle.valid_labels.specs.Validity.{AsksNothing, IsSound, IsValid}
 use Rattle.valid_labels.specs.Tests.{is_covered}
 use Rattle.valid_labels.specs.Laws.{AdmittedAreValid, IsMadeOfReplacements, NothingIsAsked}
@@ -26,11 +26,11 @@ pub admitted-valid : AdmittedAreValid
 admitted-valid table label h = record {
   cut = rounds-map (EntryStands (IsInside table) (HoldsIn table label) label) (PieceStands table label) (entry-stands table label) 0 (length label)
       (cut-steps (IsInside table) (HoldsIn table label) label ((segmentation-cut table label).0 h.cut));
-  kept = h.kept;
+  met = h.met;
 }
 
-no-demands : (table : TableValue) (label : List ℕ) → table.definitions.demands ≡ [] → KeepsDemands table label
-no-demands table label none = subst (AllByRecursion (IsKept (seen_under table label))) (sym none) tt
+no-demands : (table : TableValue) (label : List ℕ) → table.definitions.demands ≡ [] → MeetsDemands table label
+no-demands table label none = subst (AllByRecursion (IsMet (seen_under table label))) (sym none) tt
 
 -- ---- a table that asks nothing
 
@@ -89,11 +89,11 @@ module _ (table : TableValue) (label : List ℕ) (sound : IsSound table) (nothin
   pub replacements-valid : IsMadeOfReplacements table label → IsValid table label
   replacements-valid h = record {
     cut = parts-lead h.0 0 h.1 (omega arith) (sym h.2) no_round;
-    kept = no-demands table label nothing.demands;
+    met = no-demands table label nothing.demands;
   }
 
 pub nothing-is-asked : NothingIsAsked
 nothing-is-asked = record {
-  admitted = λ table label nothing made. record { cut = segmentation-free table label nothing.conditions made; kept = no-demands table label nothing.demands };
+  admitted = λ table label nothing made. record { cut = segmentation-free table label nothing.conditions made; met = no-demands table label nothing.demands };
   valid = λ table label sound nothing made. replacements-valid table label sound nothing made;
 }

@@ -11,9 +11,9 @@ use Rattle.label_patterns.specs.Places.{Has}
 use Rattle.label_patterns.proofs.PlaceLemmas.{Has-or, Has-left, Has-right, one_bit, not-in-none}
 use Rattle.variant_table.proofs.MemberLemmas.{Contains-head, Contains-later, Contains-none, Contains-cases}
 use Rattle.valid_labels.specs.Tests.{Piece, stands_at, piece_ends, cut_places}
-use Rattle.valid_labels.proofs.ListLemmas.{and-both}
 use Rattle.valid_labels.proofs.PartLemmas.{part-inside, part-length}
 use Rattle.valid_labels.proofs.ReachedLemmas.{reached-are}
+use Rattle.label_patterns.proofs.TestLemmas.{and-both}
 
 -- one of the pieces stands from i to j, and what is asked of it is so
 abbrev pub OneStands : (Option Condition → ℕ → ℕ → Type 0) → List Piece → List ℕ → ℕ → ℕ → Type 0

@@ -1,22 +1,20 @@
 -- No rule of a table asks for the end of a label before '_'.
-use Rattle.std.proofs.Common.{◌≡◌, ℕ, inl, inr, Bool, true, false, not, cond, ◌&&◌, ◌||◌, List, [], ◌∷◌, length, refl, arith}
+use Rattle.std.proofs.Common.{◌≡◌, ℕ, inl, inr, Bool, true, false, not, cond, ◌&&◌, List, [], ◌∷◌, length, refl, arith}
 use Rattle.std.specs.Prelude.{IsTrue}
 use Rattle.std.specs.List.{AllByRecursion}
+use Rattle.std.proofs.lemmas.Bool.{or_parts}
 use Rattle.label_patterns.specs.Laws.{HasNoEnd, HasNoEndBefore}
-use Rattle.label_patterns.specs.Patterns.{Pattern, Point, Set, Any, Start, End, Place, Group, Optional, Many, Then, Either}
+use Rattle.label_patterns.specs.Patterns.{Pattern, Point, Set, Any, Start, End, Anchor, Group, Optional, Many, Then, Either}
 use Rattle.label_patterns.specs.Rules as rules
 use Rattle.label_patterns.specs.Rules.{branches}
 use Rattle.ruleset_text.specs.declared.rules.Sign.TheVariants as sign
 use Rattle.ruleset_text.specs.Definition as definition
 use Rattle.ruleset_text.specs.Definitions.{Definitions, named}
-use Rattle.ruleset_text.specs.Rules.{has, is_place, is_before, is_behind, is_context, is_rule}
+use Rattle.ruleset_text.specs.Rules.{has, is_anchor, is_before, is_after, is_context, is_rule}
 use Rattle.ruleset_text.specs.WellFormed.{IsDefinition, AreDefinitions}
 use Rattle.ruleset_text.proofs.KnownPatternLemmas.{all_before, rules_in, demands_in, patterns}
-use Rattle.valid_labels.proofs.ListLemmas.{and-both, not-true}
-
-neither : (a b : Bool) → (a || b) ≡ false → (a ≡ false) × (b ≡ false)
-neither true b h = absurd (let f : true ≡ false = h in cc)
-neither false b h = (refl, h)
+use Rattle.valid_labels.proofs.ListLemmas.{not-true}
+use Rattle.label_patterns.proofs.TestLemmas.{and-both}
 
 no-end : (p : Pattern) → has sign.End p ≡ false → HasNoEnd p
 no-end (Point c) h = tt
@@ -24,39 +22,39 @@ no-end (Set n) h = tt
 no-end Any h = tt
 no-end Start h = tt
 no-end End h = absurd (let f : true ≡ false = h in cc)
-no-end Place h = tt
+no-end Anchor h = tt
 no-end (Group p) h = no-end p h
 no-end (Optional p) h = no-end p h
 no-end (Many p) h = no-end p h
-no-end (Then p q) h = let n = neither (has sign.End p) (has sign.End q) h in (no-end p n.0, no-end q n.1)
-no-end (Either p q) h = let n = neither (has sign.End p) (has sign.End q) h in (no-end p n.0, no-end q n.1)
+no-end (Then p q) h = let n = or_parts (has sign.End p) (has sign.End q) h in (no-end p n.0, no-end q n.1)
+no-end (Either p q) h = let n = or_parts (has sign.End p) (has sign.End q) h in (no-end p n.0, no-end q n.1)
 
 not-is : (b : Bool) → not b ≡ true → b ≡ false
 not-is true h = not-true h
 not-is false h = refl
 
-same-place : (p : Pattern) → is_place p ≡ true → IsTrue (rules.is_place p)
-same-place (Point c) h = not-true h
-same-place (Set n) h = not-true h
-same-place Any h = not-true h
-same-place Start h = not-true h
-same-place End h = not-true h
-same-place Place h = refl
-same-place (Group p) h = not-true h
-same-place (Optional p) h = not-true h
-same-place (Many p) h = not-true h
-same-place (Then p q) h = not-true h
-same-place (Either p q) h = not-true h
+same-anchor : (p : Pattern) → is_anchor p ≡ true → IsTrue (rules.is_anchor p)
+same-anchor (Point c) h = not-true h
+same-anchor (Set n) h = not-true h
+same-anchor Any h = not-true h
+same-anchor Start h = not-true h
+same-anchor End h = not-true h
+same-anchor Anchor h = refl
+same-anchor (Group p) h = not-true h
+same-anchor (Optional p) h = not-true h
+same-anchor (Many p) h = not-true h
+same-anchor (Then p q) h = not-true h
+same-anchor (Either p q) h = not-true h
 
 -- an item and what follows it
-item-before : (p q : Pattern) → (is_context q ≡ true → HasNoEndBefore q) → cond (is_place p) (is_behind q) (is_before p && is_context q) ≡ true → HasNoEndBefore (Then p q)
-item-before p q later = by_item (is_place p) refl
+item-before : (p q : Pattern) → (is_context q ≡ true → HasNoEndBefore q) → cond (is_anchor p) (is_after q) (is_before p && is_context q) ≡ true → HasNoEndBefore (Then p q)
+item-before p q later = by_item (is_anchor p) refl
   where
-    by_item : (b : Bool) → is_place p ≡ b → cond b (is_behind q) (is_before p && is_context q) ≡ true → HasNoEndBefore (Then p q)
-    by_item true is h = inl (same-place p is)
+    by_item : (b : Bool) → is_anchor p ≡ b → cond b (is_after q) (is_before p && is_context q) ≡ true → HasNoEndBefore (Then p q)
+    by_item true is h = inl (same-anchor p is)
     by_item false is h =
         let two = (and-both (is_before p) (is_context q)).0 h in
-        let parts = (and-both (not (has sign.Place p)) (not (has sign.End p))).0 two.0 in
+        let parts = (and-both (not (has sign.Anchor p)) (not (has sign.End p))).0 two.0 in
         inr (no-end p (not-is (has sign.End p) parts.1), later two.1)
 
 context-before : (p : Pattern) → is_context p ≡ true → HasNoEndBefore p
@@ -65,7 +63,7 @@ context-before (Set n) h = tt
 context-before Any h = tt
 context-before Start h = tt
 context-before End h = tt
-context-before Place h = tt
+context-before Anchor h = tt
 context-before (Group p) h = tt
 context-before (Optional p) h = tt
 context-before (Many p) h = tt
@@ -78,7 +76,7 @@ rule-before (Set n) h = (tt, tt)
 rule-before Any h = (tt, tt)
 rule-before Start h = (tt, tt)
 rule-before End h = (tt, tt)
-rule-before Place h = (tt, tt)
+rule-before Anchor h = (tt, tt)
 rule-before (Group p) h = (tt, tt)
 rule-before (Optional p) h = (tt, tt)
 rule-before (Many p) h = (tt, tt)

@@ -10,7 +10,7 @@ use Rattle.label_patterns.specs.Barring.{IsBarred}
 use Rattle.label_patterns.specs.Matches.{Seen, Rounds, no_round, one_more}
 use Rattle.label_patterns.specs.Rules.{Occurs}
 use Rattle.label_patterns.specs.Tests.{has_place, condition_barred, has_no_end, occurs_in}
-use Rattle.label_patterns.proofs.TestLemmas.{condition-agrees, barred-agrees, occurs-agrees, no-end-agrees, place-tested}
+use Rattle.label_patterns.proofs.TestLemmas.{condition-agrees, barred-agrees, occurs-agrees, no-end-agrees, place-tested, and-both, or-one, not-false}
 use Rattle.ruleset_text.specs.declared.definition.DemandKind.{DemandKind}
 use Rattle.ruleset_text.specs.declared.definition.DemandKind.TheVariants.{Never, Always}
 use Rattle.ruleset_text.specs.Definitions.{Demand}
@@ -19,12 +19,12 @@ use Rattle.variant_table.specs.WellFormed.{IsEntry, IsSequence, IsWellFormed}
 use Rattle.variant_table.proofs.MemberLemmas.{Contains-head, Contains-later}
 use Rattle.valid_labels.specs.Segmentations.{IsMadeOfSources, HasSegmentation, seen_under, inside_of}
 use Rattle.valid_labels.specs.Pieces.{IsCovered, IsVariant, IsPiece, PieceIs, IsMadeOfPieces, MayReach}
-use Rattle.valid_labels.specs.Demands.{IsKept, IsWanted, KeepsDemands}
+use Rattle.valid_labels.specs.Demands.{IsMet, IsWanted, MeetsDemands}
 use Rattle.valid_labels.specs.Validity.{AsksNothing, IsAdmitted, IsValid, IsRefused, LeadsNowhere, IsLost}
-use Rattle.valid_labels.specs.Tests.{Piece, cut_places, not_asked, sources_of, is_covered, lone_variants, pieces_of, holds_in, may_hold_in, is_made_of_sources, has_segmentation, is_made_of_pieces, may_reach, is_wanted, are_kept, keeps_demands, is_admitted, is_valid, is_never, is_refused, leads_past, one_up_to, leads_on, is_lost, asks_nothing}
+use Rattle.valid_labels.specs.Tests.{Piece, cut_places, not_asked, sources_of, is_covered, lone_variants, pieces_of, holds_in, may_hold_in, is_made_of_sources, has_segmentation, is_made_of_pieces, may_reach, is_wanted, are_met, meets_demands, is_admitted, is_valid, is_never, is_refused, leads_past, one_up_to, leads_on, is_lost, asks_nothing}
 use Rattle.valid_labels.specs.Laws.{TestsAgree}
 use Rattle.valid_labels.proofs.CutLemmas.{EntryStands, cut-steps, steps-cut}
-use Rattle.valid_labels.proofs.ListLemmas.{Contains-map, Contains-flat_map, Contains-filter, and-both, or-one, not-false, not-true, any-one, all-members}
+use Rattle.valid_labels.proofs.ListLemmas.{Contains-map, Contains-flat_map, Contains-filter, not-true, any-one, all-members}
 use Rattle.valid_labels.proofs.PieceLemmas.{OneStands, IsFilled, Tells, cut-places-are}
 use Rattle.valid_labels.proofs.SegmentationLemmas.{IsInside, NotAsked, HoldsIn, made-cut, segmentation-cut, covered-cut}
 
@@ -193,16 +193,16 @@ pub wanted-agrees : (kind : DemandKind) (occurring : Bool) (P : Type 0) → IsTr
 wanted-agrees Never occurring P e = not-false occurring P e
 wanted-agrees Always occurring P e = e
 
-kept-agree : (s : Seen) (demands : List Demand) → IsTrue (are_kept s demands) ↔ AllByRecursion (IsKept s) demands
-kept-agree s [] = (λ h. tt, λ h. refl)
-kept-agree s (d ∷ demands) =
-    let two = and-both (is_wanted d.kind (occurs_in s d.pattern)) (are_kept s demands) in
+met-agree : (s : Seen) (demands : List Demand) → IsTrue (are_met s demands) ↔ AllByRecursion (IsMet s) demands
+met-agree s [] = (λ h. tt, λ h. refl)
+met-agree s (d ∷ demands) =
+    let two = and-both (is_wanted d.kind (occurs_in s d.pattern)) (are_met s demands) in
     let one = wanted-agrees d.kind (occurs_in s d.pattern) (Occurs s d.pattern) (occurs-agrees s d.pattern) in
-    let rest = kept-agree s demands in
+    let rest = met-agree s demands in
     (λ h. (let b = two.0 h in (one.0 b.0, rest.0 b.1)), λ h. two.1 (one.1 h.0, rest.1 h.1))
 
-pub demands-agree : (table : TableValue) (label : List ℕ) → IsTrue (keeps_demands table label) ↔ KeepsDemands table label
-demands-agree table label = kept-agree (seen_under table label) table.definitions.demands
+pub demands-agree : (table : TableValue) (label : List ℕ) → IsTrue (meets_demands table label) ↔ MeetsDemands table label
+demands-agree table label = met-agree (seen_under table label) table.definitions.demands
 
 -- ---- what is lost
 
@@ -295,17 +295,17 @@ lost-agrees table label formed =
 
 admitted-agrees : (table : TableValue) (label : List ℕ) → IsWellFormed table.entries → IsTrue (is_admitted table label) ↔ IsAdmitted table label
 admitted-agrees table label formed =
-    let two = and-both (has_segmentation table label) (keeps_demands table label) in
+    let two = and-both (has_segmentation table label) (meets_demands table label) in
     let s = segmentation-agrees table label formed in
     let d = demands-agree table label in
-    (λ h. (let b = two.0 h in record { cut = s.0 b.0; kept = d.0 b.1 }), λ h. two.1 (s.1 h.cut, d.1 h.kept))
+    (λ h. (let b = two.0 h in record { cut = s.0 b.0; met = d.0 b.1 }), λ h. two.1 (s.1 h.cut, d.1 h.met))
 
 valid-agrees : (table : TableValue) (label : List ℕ) → IsWellFormed table.entries → IsTrue (is_valid table label) ↔ IsValid table label
 valid-agrees table label formed =
-    let two = and-both (is_made_of_pieces table label) (keeps_demands table label) in
+    let two = and-both (is_made_of_pieces table label) (meets_demands table label) in
     let s = made-of-pieces-agrees table label formed in
     let d = demands-agree table label in
-    (λ h. (let b = two.0 h in record { cut = s.0 b.0; kept = d.0 b.1 }), λ h. two.1 (s.1 h.cut, d.1 h.kept))
+    (λ h. (let b = two.0 h in record { cut = s.0 b.0; met = d.0 b.1 }), λ h. two.1 (s.1 h.cut, d.1 h.met))
 
 nil-is : {X : Type 0} (xs : List X) → IsTrue (eqb (length xs) 0) ↔ (xs ≡ [])
 nil-is [] = (λ h. refl, λ h. refl)

@@ -11,7 +11,7 @@ use Rattle.variant_table.specs.Places.{entries_at}
 use Rattle.valid_labels.specs.declared.cause.ValidityCause.{ValidityCause}
 use Rattle.valid_labels.specs.declared.cause.ValidityCause.TheVariants.{Misplaced, Broken}
 use Rattle.valid_labels.specs.Segmentations.{IsMadeOfSources, HasSegmentation, seen_under, inside_of}
-use Rattle.valid_labels.specs.Demands.{IsKept}
+use Rattle.valid_labels.specs.Demands.{IsMet}
 use Rattle.valid_labels.specs.Tests.{cut_places, holds_in, is_made_of_sources, is_wanted, sources_of}
 
 -- a source that is not outside stands from i to j, and its condition holds there
@@ -39,8 +39,8 @@ pub record IsLastMisplaced (table : TableValue) (label : List ℕ) (place : ℕ)
 -- the demand of this number is the first one that the label breaks
 pub record IsFirstBroken (seen : Seen) (demands : List Demand) (n : ℕ) (d : Demand) : Type 0 where
   pub at : slice_get demands n ≡ Some d
-  pub broken : ¬ IsKept seen d
-  pub first : (m : ℕ) (e : Demand) → m < n → slice_get demands m ≡ Some e → IsKept seen e
+  pub broken : ¬ IsMet seen d
+  pub first : (m : ℕ) (e : Demand) → m < n → slice_get demands m ≡ Some e → IsMet seen e
 
 -- the cause is a source that is misplaced, where the label has no segmentation; else it is a demand
 abbrev pub IsCause : TableValue → List ℕ → ValidityCause → Type 0

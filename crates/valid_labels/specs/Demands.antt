@@ -14,9 +14,9 @@ abbrev pub IsWanted : DemandKind → Type 0 → Type 0
 IsWanted Never Occurring = ¬ Occurring
 IsWanted Always Occurring = Occurring
 
-abbrev pub IsKept : Seen → Demand → Type 0
-IsKept seen d = IsWanted d.kind (Occurs seen d.pattern)
+abbrev pub IsMet : Seen → Demand → Type 0
+IsMet seen d = IsWanted d.kind (Occurs seen d.pattern)
 
--- the label keeps each demand of the table
-abbrev pub KeepsDemands : TableValue → List ℕ → Type 0
-KeepsDemands table label = AllByRecursion (IsKept (seen_under table label)) table.definitions.demands
+-- the label meets each demand of the table
+abbrev pub MeetsDemands : TableValue → List ℕ → Type 0
+MeetsDemands table label = AllByRecursion (IsMet (seen_under table label)) table.definitions.demands

@@ -3,7 +3,7 @@ use Rattle.std.specs.Prelude.{◌≡◌, true, false, Option, Some, None, List, 
 use Rattle.label_patterns.specs.declared.condition.Condition.{Condition}
 use Rattle.label_patterns.specs.declared.condition.ConditionKind.TheVariants.{When, Unless}
 use Rattle.label_patterns.specs.declared.span.Span.{Span}
-use Rattle.label_patterns.specs.Patterns.{Pattern, Point, Set, Any, Start, End, Place, Group, Optional, Many, Then, Either}
+use Rattle.label_patterns.specs.Patterns.{Pattern, Point, Set, Any, Start, End, Anchor, Group, Optional, Many, Then, Either}
 use Rattle.ruleset_text.specs.declared.definition.DemandKind.TheVariants.{Never, Always}
 use Rattle.ruleset_text.specs.Definitions.{Demand, nothing_defined}
 use Rattle.variant_table.specs.declared.version.Version.TheVariants.{Three}
@@ -38,20 +38,20 @@ letters (c ∷ points) = source (c ∷ []) None [] ∷ letters points
 
 -- vowel signs follow a consonant, which may have a nukta
 abbrev pub signs : TableValue
-signs = table_with ((record { first = 2325; last = 2361 } ∷ []) ∷ []) (Then (Set 0) (Then (Optional (Point 2364)) Place) ∷ []) []
+signs = table_with ((record { first = 2325; last = 2361 } ∷ []) ∷ []) (Then (Set 0) (Then (Optional (Point 2364)) Anchor) ∷ []) []
     (letters (2325 ∷ 2326 ∷ []) ++ source (2364 ∷ []) when_first [] ∷ source (2366 ∷ []) when_first [] ∷ [])
 
 -- a vowel stands before its consonant
 abbrev pub leads : TableValue
-leads = table_with ((record { first = 3585; last = 3630 } ∷ []) ∷ []) (Then Place (Set 0) ∷ []) [] (letters (3585 ∷ []) ++ source (3648 ∷ []) when_first [] ∷ [])
+leads = table_with ((record { first = 3585; last = 3630 } ∷ []) ∷ []) (Then Anchor (Set 0) ∷ []) [] (letters (3585 ∷ []) ++ source (3648 ∷ []) when_first [] ∷ [])
 
 -- the code point 00B7 stands between two l
 abbrev pub between_l : TableValue
-between_l = table_with [] (Then (Point 108) (Then Place (Point 108)) ∷ []) [] (letters (codes "acl") ++ source (183 ∷ []) when_first [] ∷ [])
+between_l = table_with [] (Then (Point 108) (Then Anchor (Point 108)) ∷ []) [] (letters (codes "acl") ++ source (183 ∷ []) when_first [] ∷ [])
 
 -- a hyphen stands neither at an end nor after the second code point
 abbrev pub edges : TableValue
-edges = table_with [] (Either (Then Start Place) (Either (Then Place End) (Then Start (Then Any (Then Any Place)))) ∷ []) [] (letters (codes "abcd") ++ source (codes "-") unless_first [] ∷ [])
+edges = table_with [] (Either (Then Start Anchor) (Either (Then Anchor End) (Then Start (Then Any (Then Any Anchor)))) ∷ []) [] (letters (codes "abcd") ++ source (codes "-") unless_first [] ∷ [])
 
 -- digits are of one kind
 abbrev pub digits : TableValue
@@ -67,16 +67,16 @@ some_a = table_with [] [] (always (Point 97) ∷ []) (letters (codes "ab"))
 
 -- e stands only after such code points of a set, with h between them, that begin the label
 abbrev pub syllables : TableValue
-syllables = table_with ((record { first = 97; last = 99 } ∷ []) ∷ []) (Then Start (Then (Many (Group (Then (Set 0) (Point 104)))) (Then (Set 0) Place)) ∷ []) []
+syllables = table_with ((record { first = 97; last = 99 } ∷ []) ∷ []) (Then Start (Then (Many (Group (Then (Set 0) (Point 104)))) (Then (Set 0) Anchor)) ∷ []) []
     (letters (codes "abch") ++ source (codes "e") when_first [] ∷ [])
 
 -- a rule that always holds: a where it does, b where it doesn't
 abbrev pub always_held : TableValue
-always_held = table_with [] (Place ∷ []) [] (source (codes "a") when_first [] ∷ source (codes "b") unless_first [] ∷ [])
+always_held = table_with [] (Anchor ∷ []) [] (source (codes "a") when_first [] ∷ source (codes "b") unless_first [] ∷ [])
 
 -- b stands after a alone; c may be replaced by bd, which is no source and not made of any
 abbrev pub after_a : TableValue
-after_a = table_with [] (Then (Point 97) Place ∷ []) [] (source (codes "a") None [] ∷ source (codes "c") None (codes "bd" ∷ []) ∷ source (codes "b") when_first [] ∷ [])
+after_a = table_with [] (Then (Point 97) Anchor ∷ []) [] (source (codes "a") None [] ∷ source (codes "c") None (codes "bd" ∷ []) ∷ source (codes "b") when_first [] ∷ [])
 
 -- sources of several code points
 abbrev pub several : TableValue

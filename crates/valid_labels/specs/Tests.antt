@@ -93,19 +93,19 @@ abbrev pub is_wanted : DemandKind → Bool → Bool
 is_wanted Never occurring = not occurring
 is_wanted Always occurring = occurring
 
-abbrev pub are_kept : Seen → List Demand → Bool
-are_kept seen [] = true
-are_kept seen (d ∷ demands) = is_wanted d.kind (occurs_in seen d.pattern) && are_kept seen demands
+abbrev pub are_met : Seen → List Demand → Bool
+are_met seen [] = true
+are_met seen (d ∷ demands) = is_wanted d.kind (occurs_in seen d.pattern) && are_met seen demands
 
-abbrev pub keeps_demands : TableValue → List ℕ → Bool
-keeps_demands table label = are_kept (seen_under table label) table.definitions.demands
+abbrev pub meets_demands : TableValue → List ℕ → Bool
+meets_demands table label = are_met (seen_under table label) table.definitions.demands
 
 -- the label may be asked about; it is valid
 abbrev pub is_admitted : TableValue → List ℕ → Bool
-is_admitted table label = has_segmentation table label && keeps_demands table label
+is_admitted table label = has_segmentation table label && meets_demands table label
 
 abbrev pub is_valid : TableValue → List ℕ → Bool
-is_valid table label = is_made_of_pieces table label && keeps_demands table label
+is_valid table label = is_made_of_pieces table label && meets_demands table label
 
 -- ---- what is lost
 

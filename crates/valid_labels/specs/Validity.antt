@@ -10,7 +10,7 @@ use Rattle.variant_table.specs.Entries.{TableValue}
 use Rattle.variant_table.specs.WellFormed.{IsWellFormed}
 use Rattle.valid_labels.specs.Segmentations.{seen_under, HasSegmentation, HasNoConditions}
 use Rattle.valid_labels.specs.Pieces.{IsPiece, IsMadeOfPieces, MayReach}
-use Rattle.valid_labels.specs.Demands.{KeepsDemands}
+use Rattle.valid_labels.specs.Demands.{MeetsDemands}
 
 -- well-formed entries, and definitions without a fault
 pub record IsSound (table : TableValue) : Type 0 where
@@ -22,15 +22,15 @@ pub record AsksNothing (table : TableValue) : Type 0 where
   pub conditions : HasNoConditions table
   pub demands : table.definitions.demands ≡ []
 
--- a label that may be asked about: it has a segmentation, and keeps the demands
+-- a label that may be asked about: it has a segmentation, and meets the demands
 pub record IsAdmitted (table : TableValue) (label : List ℕ) : Type 0 where
   pub cut : HasSegmentation table label
-  pub kept : KeepsDemands table label
+  pub met : MeetsDemands table label
 
--- a valid label, be it asked about or a variant: it is made of pieces that may stand where they do, and keeps the demands
+-- a valid label, be it asked about or a variant: it is made of pieces that may stand where they do, and meets the demands
 pub record IsValid (table : TableValue) (label : List ℕ) : Type 0 where
   pub cut : IsMadeOfPieces table label
-  pub kept : KeepsDemands table label
+  pub met : MeetsDemands table label
 
 -- a part of the label matches a pattern that no label may match, and that doesn't ask for the end of the label
 abbrev pub IsRefused : TableValue → List ℕ → Type 0

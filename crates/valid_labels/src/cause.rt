@@ -10,7 +10,7 @@ ghost use Rattle.valid_labels.specs.Segmentations.{seen_under};
 
 use crate::asking::{HoldingInside, holds};
 use crate::cutting::reached;
-use crate::demands::is_kept;
+use crate::demands::is_met;
 use crate::sources::is_made_of_sources;
 use label_patterns::{Condition, PointSet, SeenLabel, has, renew_masks};
 use ruleset_text::{Demand, DemandKind};
@@ -187,7 +187,7 @@ fn first_broken(demands: &[Demand], seen: &SeenLabel<'_>) -> Option<ValidityCaus
 {
     for number in 0..demands.len() {
         let wanted = &demands[number];
-        if !is_kept(wanted, seen) {
+        if !is_met(wanted, seen) {
             return Some(ValidityCause::Broken(number, wanted.kind));
         }
     }

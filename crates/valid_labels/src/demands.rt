@@ -5,29 +5,29 @@ ghost use Rattle.label_patterns.specs.FirstEnds.{IsFirstEnd};
 ghost use Rattle.label_patterns.specs.Matches.{HasItsSets};
 ghost use Rattle.label_patterns.specs.Rules.{Occurs};
 ghost use Rattle.ruleset_text.specs.DemandTrees.{demand};
-ghost use Rattle.valid_labels.specs.Demands.{IsKept};
+ghost use Rattle.valid_labels.specs.Demands.{IsMet};
 ghost use Rattle.valid_labels.specs.inner.Ends.{IsRefusing, IsRefusedAt, NoneRefuses, lesser_of};
 
 use label_patterns::{SeenLabel, first_end, has_no_end, occurs};
 use ruleset_text::{Demand, DemandKind};
 
-/// Whether a label keeps all these demands.
-pub fn are_kept(demands: &[Demand], seen: &SeenLabel) -> bool
+/// Whether a label meets all these demands.
+pub fn are_met(demands: &[Demand], seen: &SeenLabel) -> bool
     requires { AllByRecursion (λ d. HasItsSets (length seen.now.sets) d.pattern) (map demand demands.now) }
-    ensures { IsTrue result ↔ AllByRecursion (IsKept seen.now) (map demand demands.now) }
+    ensures { IsTrue result ↔ AllByRecursion (IsMet seen.now) (map demand demands.now) }
 {
     for wanted in demands {
-        if !is_kept(wanted, seen) {
+        if !is_met(wanted, seen) {
             return false;
         }
     }
     true
 }
 
-/// Whether a label keeps a demand.
-pub(crate) fn is_kept(wanted: &Demand, seen: &SeenLabel) -> bool
+/// Whether a label meets a demand.
+pub(crate) fn is_met(wanted: &Demand, seen: &SeenLabel) -> bool
     requires { HasItsSets (length seen.now.sets) (demand wanted.now).pattern }
-    ensures { IsTrue result ↔ IsKept seen.now (demand wanted.now) }
+    ensures { IsTrue result ↔ IsMet seen.now (demand wanted.now) }
 {
     let found = occurs(&wanted.pattern, seen);
     match wanted.kind {

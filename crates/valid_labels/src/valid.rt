@@ -2,7 +2,7 @@
 ghost use Rattle.std.specs.Prelude.{◌≡◌, ◌↔◌, ◌≤◌, length, IsTrue};
 ghost use Rattle.std.specs.List.{AllByRecursion};
 ghost use Rattle.label_patterns.specs.inner.Masks.{AreMasks};
-ghost use Rattle.valid_labels.specs.Demands.{IsKept};
+ghost use Rattle.valid_labels.specs.Demands.{IsMet};
 ghost use Rattle.valid_labels.specs.Pieces.{IsMadeOfPieces};
 ghost use Rattle.valid_labels.specs.Segmentations.{HasSegmentation, seen_under};
 ghost use Rattle.valid_labels.specs.Testing.{IsValidity};
@@ -11,7 +11,7 @@ ghost use Rattle.valid_labels.specs.inner.Pieces.{ArePlainBelow};
 
 use crate::asking::{HoldingInside, HoldingSource};
 use crate::cutting::{reached, reached_over};
-use crate::demands::are_kept;
+use crate::demands::are_met;
 use crate::lost::shortest_lost;
 use crate::pieces::Pieces;
 use crate::validity::Validity;
@@ -26,7 +26,7 @@ pub fn is_admitted(table: &Table, sets: &[PointSet], label: &[u32], masks: &[u64
     ensures { IsTrue result ↔ IsAdmitted table.now label.now }
 {
     let seen = SeenLabel::of_masks(sets, label, masks);
-    has_segmentation(table, &seen, label) && keeps_demands(table, &seen)
+    has_segmentation(table, &seen, label) && meets_demands(table, &seen)
 }
 
 /// Whether a label is valid, and if it isn't, how long its shortest lost beginning is. `masks` has the places of each of
@@ -62,7 +62,7 @@ fn is_valid(pieces: &Pieces<'_>, seen: &SeenLabel<'_>, label: &[u32], plain: u64
     requires plain { ArePlainBelow (length label.now) pieces.now label.now plain }
     ensures { IsTrue result ↔ IsValid pieces.now label.now }
 {
-    is_made_of_pieces(pieces, seen, label, plain) && keeps_demands(pieces.table(), seen)
+    is_made_of_pieces(pieces, seen, label, plain) && meets_demands(pieces.table(), seen)
 }
 
 /// Whether a label can be cut into sources of the table that may stand where they do.
@@ -92,11 +92,11 @@ fn is_made_of_pieces(pieces: &Pieces<'_>, seen: &SeenLabel<'_>, label: &[u32], p
     has(places, label.len())
 }
 
-/// Whether a label keeps the demands of a table.
-fn keeps_demands(table: &Table, seen: &SeenLabel<'_>) -> bool
+/// Whether a label meets the demands of a table.
+fn meets_demands(table: &Table, seen: &SeenLabel<'_>) -> bool
     requires { seen.now.sets ≡ table.now.definitions.sets }
-    ensures { IsTrue result ↔ AllByRecursion (IsKept seen.now) table.now.definitions.demands }
+    ensures { IsTrue result ↔ AllByRecursion (IsMet seen.now) table.now.definitions.demands }
 {
     let demands = table.definitions().demands();
-    are_kept(demands, seen)
+    are_met(demands, seen)
 }

@@ -7,11 +7,11 @@ use Rattle.std.proofs.lemmas.List.{take_at, drop_at}
 use Rattle.std.proofs.lemmas.List.Elements.{All-push, filter-append, recursion_from_All}
 use Rattle.variant_list.specs.Labels.{IsRising, label_cmp}
 use Rattle.variant_list.specs.Positions.{Position, candidates_ahead, tested_ahead}
-use Rattle.variant_list.specs.Steps.{NoneAccepted, last_of, moved_over, IsFound, IsSpent, IsEnded, IsHalted, IsInterrupted, HasMovedOver, HasGoneBeyond}
+use Rattle.variant_list.specs.Steps.{NoneAccepted, last_of, moved_over, IsFound, IsOutOfTries, IsEnded, IsOutOfSteps, IsInterrupted, HasMovedOver, HasGoneBeyond}
 use Rattle.variant_list.specs.Beginnings.{shortest_hopeless, has_hope, dead_ends}
 use Rattle.variant_list.specs.Tested.{dead_ends_after, dead_ends_between}
 use Rattle.variant_list.specs.inner.Skips.{edges_of_net, GoesBack, FindsHope, FindsNone}
-use Rattle.variant_list.proofs.ListLemmas.{looks-sum, product-le, last_of-push, filter-none, slice_get-behind}
+use Rattle.variant_list.proofs.ListLemmas.{looks-sum, product-le, last_of-push, filter-none, slice_get-after}
 use Rattle.variant_list.proofs.DeadEndSearches.{IsRising-ahead, edges-same}
 use Rattle.variant_list.proofs.DeadEndLemmas.{dead_ends-joined}
 use Rattle.variant_list.proofs.TestedLemmas.{tested-filter, below-front}
@@ -80,7 +80,7 @@ module _ (hopeless : List ℕ → Bool) where
         let all : tested_ahead hopeless old ≡ decided ++ new.last ∷ filter (has_hope hopeless) (candidates_ahead new) = parts old tries now left h.gone ∙ ap (λ vs. decided ++ vs) (first_tested now new found) in
         subst (λ v. IsFound accepts hopeless old tries v to (left - 1)) here (record {
           before = length decided;
-          at = ap (λ vs. slice_get vs (length decided)) all ∙ slice_get-behind decided new.last (filter (has_hope hopeless) (candidates_ahead new));
+          at = ap (λ vs. slice_get vs (length decided)) all ∙ slice_get-after decided new.last (filter (has_hope hopeless) (candidates_ahead new));
           accepted = accepted;
           first = subst (NoneAccepted accepts) (sym (ap (take (length decided)) all ∙ take_at decided (new.last ∷ filter (has_hope hopeless) (candidates_ahead new)) (length decided) refl)) h.none_accepted;
           within = omega (arith, h.gone.counted, some);
@@ -88,8 +88,8 @@ module _ (hopeless : List ℕ → Bool) where
           tries_left = omega (arith, h.gone.counted, some);
         })
 
-    pub IsSpent-passed : HasPassed accepts hopeless old tries now left → left ≡ 0 → IsSpent accepts hopeless old tries (moved_over hopeless (tries - left) old) left
-    IsSpent-passed h none =
+    pub IsOutOfTries-passed : HasPassed accepts hopeless old tries now left → left ≡ 0 → IsOutOfTries accepts hopeless old tries (moved_over hopeless (tries - left) old) left
+    IsOutOfTries-passed h none =
         let all : tries - left ≡ tries = omega (arith, none) in
         let first_ones : take tries (tested_ahead hopeless old) ≡ filter (has_hope hopeless) h.gone.front = ap (λ n. take n (tested_ahead hopeless old)) (sym all) ∙ first_decided old tries now left h.gone in
         record {
@@ -111,8 +111,8 @@ module _ (hopeless : List ℕ → Bool) where
         }
 
     -- the search for hope came to no tested label
-    pub IsHalted-passed : HasPassed accepts hopeless old tries now left → 0 < left → IsHalted accepts hopeless old tries left
-    IsHalted-passed h some =
+    pub IsOutOfSteps-passed : HasPassed accepts hopeless old tries now left → 0 < left → IsOutOfSteps accepts hopeless old tries left
+    IsOutOfSteps-passed h some =
         let decided = filter (has_hope hopeless) h.gone.front in
         let all : tested_ahead hopeless old ≡ decided ++ filter (has_hope hopeless) (candidates_ahead now) = parts old tries now left h.gone in
         record {

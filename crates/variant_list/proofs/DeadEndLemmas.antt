@@ -52,7 +52,7 @@ module _ (hopeless : List ℕ → Bool) where
       ap (λ o. cond (is_new None u o) (u ∷ dead_ends hopeless (Some u) (vs ++ ws)) (dead_ends hopeless (Some u) (vs ++ ws))) is
       ∙ ap (λ hs. u ∷ hs) (dead_ends-passed n u u vs ws is (shares-itself n u is) share other)
 
-  -- behind a label that has hope the dead_ends are those of what follows
+  -- after a label that has hope the dead_ends are those of what follows
   pub hopeful_apart : (v w : List ℕ) (o : Option ℕ) → shortest_hopeless hopeless w ≡ o → shortest_hopeless hopeless v ≡ None → is_new (Some v) w o ≡ is_new None w o
   hopeful_apart v w None e hope = refl
   hopeful_apart v w (Some m) e hope = ap not (false_from_ne_true _ (λ h.

@@ -10,10 +10,10 @@ use Rattle.variant_list.specs.declared.edges.Edge.{Edge}
 use Rattle.variant_list.specs.inner.Plans.{Plan, Reads, first_place}
 use Rattle.variant_list.specs.inner.Layouts.{ReadsBy, HasPlace, HasChain, Draft, IsSound, UseSpells, IsOpen, IsLaid, HasTaken, HasEnded}
 use Rattle.variant_list.specs.Uses.{Use, UsesSpell, points_in}
-use Rattle.variant_list.proofs.ListMembers.{Contains-head, Contains-one, Contains-none}
 use Rattle.variant_list.proofs.UsesLemmas.{nothing_spelled, UsesSpell-here}
 use Rattle.variant_list.proofs.PlanLemmas.{Reads-kept, Reads-was, more_places, IsPlan-only_end, only_end, Reads-only_end}
 use Rattle.variant_list.proofs.ChainLemmas.{ReadsBy-kept, ReadsBy-was}
+use Rattle.variant_table.proofs.MemberLemmas.{Contains-head, Contains-none, Contains-one}
 
 Reads-nothing : (v : List ℕ) → Reads only_end 0 v ↔ UsesSpell [] v
 Reads-nothing [] = (λ r. ([], tt, refl), λ s. refl)
@@ -68,7 +68,7 @@ HasTaken-chain old covers points plan edge sound some within chain =
       uses = λ later here o. (
           let target : n ≤ length later = omega (arith, o.count, some, within) in
           let from : length later - n ≡ covers - 1 = omega (arith, o.count, some, within) in
-          let behind : (w : List ℕ) → Reads old.plan to w ↔ UsesSpell (drop (covers - 1) later) w = λ w. subst (λ k. Reads old.plan to w ↔ UsesSpell (drop k later) w) from (o.endings n target w) in
+          let after : (w : List ℕ) → Reads old.plan to w ↔ UsesSpell (drop (covers - 1) later) w = λ w. subst (λ k. Reads old.plan to w ↔ UsesSpell (drop k later) w) from (o.endings n target w) in
           record {
             sound = sound_now;
             count = o.count;
@@ -84,12 +84,12 @@ HasTaken-chain old covers points plan edge sound some within chain =
               λ s. elim (Contains-append_cases old.begun (edge ∷ []) s.0 s.1) [
                 | inl there ↦ (let g = (o.reads v).0 (s.0, there, ReadsBy-was old.plan plan was chain.keeps s.0 v (sound.lead s.0 there) s.2) in (g.0, Contains-append_left here (u ∷ []) g.0 g.1, g.2))
                 | inr last ↦ (let b = (chain.reads v).0 (subst (λ x. ReadsBy plan x v) (sym (Contains-one edge s.0 last)) s.2) in
-                    (u, Contains-append_right here (u ∷ []) u (Contains-head u []), (b.0, b.1, (behind b.0).0 b.2)))
+                    (u, Contains-append_right here (u ∷ []) u (Contains-head u []), (b.0, b.1, (after b.0).0 b.2)))
               ],
               λ g. elim (Contains-append_cases here (u ∷ []) g.0 g.1) [
                 | inl there ↦ (let s = (o.reads v).1 (g.0, there, g.2) in (s.0, Contains-append_left old.begun (edge ∷ []) s.0 s.1, ReadsBy-kept old.plan plan was chain.keeps s.0 v (sound.lead s.0 s.1) s.2))
                 | inr last ↦ (let b : UseSpells later u v = subst (λ x. UseSpells later x v) (sym (Contains-one u g.0 last)) g.2 in
-                    (edge, Contains-append_right old.begun (edge ∷ []) edge (Contains-head edge []), (chain.reads v).1 (b.0, b.1, (behind b.0).1 b.2)))
+                    (edge, Contains-append_right old.begun (edge ∷ []) edge (Contains-head edge []), (chain.reads v).1 (b.0, b.1, (after b.0).1 b.2)))
               ],
             );
             edges = omega (arith, chain.count, o.edges, length-append old.begun (edge ∷ []), sum_by_push (λ (x : Use). length x.points) here u);

@@ -13,12 +13,12 @@ use Rattle.variant_list.specs.Spelling.{Spells}
 use Rattle.variant_list.specs.Variants.{fits_label, in_order}
 use Rattle.variant_list.specs.Jumps.{IsFrom, IsLeastFrom, HasNoneFrom, IsCandidate, candidates_among_from, candidates_from}
 use Rattle.variant_list.proofs.ListedLemmas.{IsListOf-same}
-use Rattle.variant_list.proofs.OrderLemmas.{below_both, ranked_labels}
+use Rattle.variant_list.proofs.OrderLemmas.{below_both, ranked_labels, below_itself}
 use Rattle.variant_list.proofs.RisingLists.{IsRising-filter, Contains-filter}
 use Rattle.variant_list.proofs.VariantLists.{IsRising-in_order, Contains-in_order, both, joined}
 use Rattle.variant_list.proofs.SpelledByLemmas.{spelled-Spells}
-use Rattle.variant_list.proofs.ListingLemmas.{fits_label-short}
-use Rattle.variant_list.proofs.CandidateLemmas.{short-fits_label, first_is_least, none_is_empty}
+use Rattle.variant_list.proofs.ListingLemmas.{fits_label-short, short-fits_label}
+use Rattle.variant_list.proofs.CandidateLemmas.{first_is_least, none_is_empty}
 
 -- a label is no less than a text exactly if the comparison does not say so
 from-test : (v text : List ℕ) (o : Ordering) → label_cmp v text ≡ o → MatchOrdering o (IsBelow v text) (v ≡ text) (IsBelow text v) → IsTrue (not (is_lt o)) → IsFrom text v
@@ -30,9 +30,6 @@ not-below : (v text : List ℕ) → (IsBelow v text → ⊥) → (o : Ordering) 
 not-below v text none Less is r = absurd (none r)
 not-below v text none Equal is r = ap (λ o. not (is_lt o)) is
 not-below v text none Greater is r = ap (λ o. not (is_lt o)) is
-
-below_itself : (v : List ℕ) → IsBelow v v → ⊥
-below_itself v b = below_both v v b b
 
 from-tested : (v text : List ℕ) → IsFrom text v → IsTrue (not (is_lt (label_cmp v text)))
 from-tested v text h = not-below v text (λ below. elim h [

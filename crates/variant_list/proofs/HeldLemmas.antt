@@ -13,22 +13,10 @@ use Rattle.variant_table.specs.Entries.{Entry, TableValue, Variant, itself, sour
 use Rattle.valid_labels.specs.Segmentations.{seen_under}
 use Rattle.variant_list.specs.declared.part.Part.{Part}
 use Rattle.variant_list.specs.declared.part.Part.TheVariants.{Whole}
-use Rattle.variant_list.specs.Parts.{marked, part_has}
+use Rattle.variant_list.specs.Parts.{full_replacements, part_has}
 use Rattle.variant_list.specs.Uses.{use_of, holds_for, may_stand, may_replace, uses_of_entry}
-use Rattle.variant_list.proofs.ListMembers.{Contains-head, Contains-later, Contains-cases}
 use Rattle.variant_list.proofs.PartLemmas.{mapped-at, mapped-same}
-
-pub both-true : (x y : Bool) → (x && y) ≡ true → (x ≡ true) × (y ≡ true)
-both-true true y e = (refl, e)
-both-true false y e = absurd (let clash : false ≡ true = e in cc)
-
-pub true-both : (x y : Bool) → x ≡ true → y ≡ true → (x && y) ≡ true
-true-both true y e f = f
-true-both false y e f = e
-
-pub not-true : (x : Bool) → not x ≡ true → x ≡ false
-not-true true e = absurd (let clash : false ≡ true = e in cc)
-not-true false e = refl
+use Rattle.variant_table.proofs.MemberLemmas.{Contains-head, Contains-later, Contains-cases}
 
 pub held_by : (table : TableValue) (label : List ℕ) (place : ℕ) (e : Entry) (condition : Option Condition) → place + length e.source ≤ length label
     → (holds_for table label place e condition ≡ true) ↔ ConditionHolds table.definitions.rules (seen_under table label) condition place (place + length e.source)
@@ -58,22 +46,22 @@ held-free table label place e i free inside =
     slice_get-map (λ (r : Variant). holds_for table label place e r.condition) (whole e) i ∙ ap (option_map (λ (r : Variant). holds_for table label place e r.condition)) at ∙ ap (λ c. Some (holds_for table label place e c)) none
 
 -- the condition of a source is not asked of it as a replacement of itself, and that of a variant is
-pub held-marked : (table : TableValue) (label : List ℕ) (place : ℕ) (e : Entry) (i : ℕ) (held : Bool) → 0 < i → slice_get (map (λ (r : Variant). holds_for table label place e r.condition) (whole e)) i ≡ Some held
-    → slice_get (map (λ (r : Variant). holds_for table label place e r.condition) (marked e)) i ≡ Some held
-held-marked table label place e zero held l at = absurd (omega (arith, l))
-held-marked table label place e (suc i) held l at = at
+pub held-full_replacements : (table : TableValue) (label : List ℕ) (place : ℕ) (e : Entry) (i : ℕ) (held : Bool) → 0 < i → slice_get (map (λ (r : Variant). holds_for table label place e r.condition) (whole e)) i ≡ Some held
+    → slice_get (map (λ (r : Variant). holds_for table label place e r.condition) (full_replacements e)) i ≡ Some held
+held-full_replacements table label place e zero held l at = absurd (omega (arith, l))
+held-full_replacements table label place e (suc i) held l at = at
 
-pub replace-held : (part : Part) (table : TableValue) (label : List ℕ) (place : ℕ) (e : Entry) (i : ℕ) (has held : Bool) → slice_get (map (part_has part) (marked e)) i ≡ Some has
-    → slice_get (map (λ (r : Variant). holds_for table label place e r.condition) (marked e)) i ≡ Some held → slice_get (map (may_replace part table label place e) (marked e)) i ≡ Some (has && held)
+pub replace-held : (part : Part) (table : TableValue) (label : List ℕ) (place : ℕ) (e : Entry) (i : ℕ) (has held : Bool) → slice_get (map (part_has part) (full_replacements e)) i ≡ Some has
+    → slice_get (map (λ (r : Variant). holds_for table label place e r.condition) (full_replacements e)) i ≡ Some held → slice_get (map (may_replace part table label place e) (full_replacements e)) i ≡ Some (has && held)
 replace-held part table label place e i has held at also =
-    let m = mapped-at (part_has part) (marked e) i has at in
-    let same = mapped-same (λ (r : Variant). holds_for table label place e r.condition) (marked e) i m.0 held m.1 also in
-    slice_get-map (may_replace part table label place e) (marked e) i ∙ ap (option_map (may_replace part table label place e)) m.1
+    let m = mapped-at (part_has part) (full_replacements e) i has at in
+    let same = mapped-same (λ (r : Variant). holds_for table label place e r.condition) (full_replacements e) i m.0 held m.1 also in
+    slice_get-map (may_replace part table label place e) (full_replacements e) i ∙ ap (option_map (may_replace part table label place e)) m.1
     ∙ ap (λ t. Some (t && holds_for table label place e (m.0).condition)) m.2 ∙ ap (λ t. Some (has && t)) same
 
 -- the source as a replacement of itself is asked nothing more
-pub replace-first : (part : Part) (table : TableValue) (label : List ℕ) (place : ℕ) (e : Entry) (i : ℕ) → slice_get (map (part_has part) (marked e)) i ≡ Some true → i ≡ 0
-    → slice_get (map (may_replace part table label place e) (marked e)) i ≡ Some true
+pub replace-first : (part : Part) (table : TableValue) (label : List ℕ) (place : ℕ) (e : Entry) (i : ℕ) → slice_get (map (part_has part) (full_replacements e)) i ≡ Some true → i ≡ 0
+    → slice_get (map (may_replace part table label place e) (full_replacements e)) i ≡ Some true
 replace-first part table label place e zero at first = at-first (part_has part (itself e)) at
   where
     at-first : (b : Bool) → Some b ≡ Some true → Some (b && true) ≡ Some true
@@ -82,11 +70,11 @@ replace-first part table label place e zero at first = at-first (part_has part (
 replace-first part table label place e (suc i) at first = absurd (omega (arith, first))
 
 -- what the part lacks is not asked about
-pub replace-lacking : (part : Part) (table : TableValue) (label : List ℕ) (place : ℕ) (e : Entry) (i : ℕ) → slice_get (map (part_has part) (marked e)) i ≡ Some false
-    → slice_get (map (may_replace part table label place e) (marked e)) i ≡ Some false
+pub replace-lacking : (part : Part) (table : TableValue) (label : List ℕ) (place : ℕ) (e : Entry) (i : ℕ) → slice_get (map (part_has part) (full_replacements e)) i ≡ Some false
+    → slice_get (map (may_replace part table label place e) (full_replacements e)) i ≡ Some false
 replace-lacking part table label place e i at =
-    let m = mapped-at (part_has part) (marked e) i false at in
-    slice_get-map (may_replace part table label place e) (marked e) i ∙ ap (option_map (may_replace part table label place e)) m.1
+    let m = mapped-at (part_has part) (full_replacements e) i false at in
+    slice_get-map (may_replace part table label place e) (full_replacements e) i ∙ ap (option_map (may_replace part table label place e)) m.1
     ∙ ap (λ t. Some (t && holds_for table label place e (m.0).condition)) m.2
 
 -- in a whole table without conditions each replacement is taken
@@ -99,9 +87,9 @@ all_pass p (v ∷ vs) pass = filter-first p v vs (pass v (Contains-head v vs)) �
 
 pub uses-free : (table : TableValue) (label : List ℕ) (place : ℕ) (e : Entry) → All (λ (r : Variant). r.condition ≡ None) (whole e) → uses_of_entry Whole table label place e ≡ map (use_of e) (replacements e)
 uses-free table label place e free =
-    ap (λ vs. map (use_of e) (sequences_in vs)) (all_pass (may_replace Whole table label place e) (marked e) pass)
+    ap (λ vs. map (use_of e) (sequences_in vs)) (all_pass (may_replace Whole table label place e) (full_replacements e) pass)
   where
-    pass : (v : Variant) → Contains (marked e) v → may_replace Whole table label place e v ≡ true
+    pass : (v : Variant) → Contains (full_replacements e) v → may_replace Whole table label place e v ≡ true
     pass v m = elim (Contains-cases (itself e) e.variants v m) [
       | inl same ↦ ap (λ (w : Variant). holds_for table label place e w.condition) (sym same)
       | inr later ↦ ap (holds_for table label place e) (All-contains (λ (r : Variant). r.condition ≡ None) (whole e) v free (Contains-later (source_of e) e.variants v later))

@@ -171,5 +171,5 @@ Jumps-found r plan last tests new text net same found none stays looks = record 
     where_it_stays None h = h
 
 -- how many edges were looked at before plays no part
-pub Jumps-anew : (old new : Position) (text : List ℕ) (b : Bool) → Jumps (record old { edge_tests = 0 }) text b new → Jumps old text b new
-Jumps-anew old new text b h = record { net = h.net; found = h.found; none = h.none; stays = h.stays; edge_tests = h.edge_tests }
+pub Jumps-again : (old new : Position) (text : List ℕ) (b : Bool) → Jumps (record old { edge_tests = 0 }) text b new → Jumps old text b new
+Jumps-again old new text b h = record { net = h.net; found = h.found; none = h.none; stays = h.stays; edge_tests = h.edge_tests }

@@ -29,12 +29,12 @@ module _ (net : Plan) (old new : BitRows) (first : ℕ) (at : first ≡ first_pl
 module _ (net : Plan) (old new : BitRows) (row into point within : ℕ) (filled : IsFilled net old new row into point within) where
   pub ReadsFromRow-next : (v : List ℕ) → length v ≤ within → ReadsFromRow net old row (point ∷ v) ↔ ReadsFromRow net new into v
   ReadsFromRow-next v short = (
-    λ h. let path = h.2 in (path.0, (filled.behind path.0).1 (record { from = h.0; in_row = h.1; edge = path.1; rest = (v, path.2, short) }), path.2),
-    λ h. let l = (filled.behind h.0).0 h.1 in (l.from, l.in_row, (h.0, l.edge, h.2)),
+    λ h. let path = h.2 in (path.0, (filled.after path.0).1 (record { from = h.0; in_row = h.1; edge = path.1; rest = (v, path.2, short) }), path.2),
+    λ h. let l = (filled.after h.0).0 h.1 in (l.from, l.in_row, (h.0, l.edge, h.2)),
   )
 
   pub HoldsInside-next : IsPlan net → HoldsInside new into (length net.rests)
-  HoldsInside-next is p h = let l = (filled.behind p).0 h in is.laid_out.inside (l.edge).index _ (l.edge).is
+  HoldsInside-next is p h = let l = (filled.after p).0 h in is.laid_out.inside (l.edge).index _ (l.edge).is
 
 -- no code point is left
 pub ReadsFromRow-end : (net : Plan) (rows : BitRows) (level : ℕ) → ReadsFromRow net rows level [] ↔ Holds rows level 0

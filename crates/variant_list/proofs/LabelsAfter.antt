@@ -12,7 +12,7 @@ use Rattle.variant_list.proofs.DeadEndLemmas.{AllShare, BeginsApart}
 abbrev pub inside : ℕ → List ℕ → List (List ℕ) → List (List ℕ)
 inside n u = filter (shares n u)
 
--- behind one that does not share, none does
+-- after one that does not share, none does
 none_share : (n : ℕ) (u w : List ℕ) (ws : List (List ℕ)) → IsBelow u w → shares n u w ≡ false → AllByRecursion (IsBelow w) ws → AllByRecursion (λ v. shares n u v ≡ false) ws
 none_share n u w ws below other =
     AllByRecursion-map (IsBelow w) (λ v. shares n u v ≡ false) ws (λ v above. false_from_ne_true _ (λ h. let clash : true ≡ false = sym (shares-between n u w v below above h) ∙ other in cc))

@@ -30,9 +30,9 @@ pub slice_get-some : {X : Type 0} (xs : List X) (x : X) → Some x ≡ slice_get
 slice_get-some [] x e = cc
 slice_get-some (y ∷ xs) x e = let same : y ≡ x = cc in (xs, ap (λ z. z ∷ xs) same)
 
-pub slice_get-behind : {X : Type 0} (xs : List X) (x : X) (ys : List X) → slice_get (xs ++ x ∷ ys) (length xs) ≡ Some x
-slice_get-behind [] x ys = refl
-slice_get-behind (y ∷ xs) x ys = slice_get-behind xs x ys
+pub slice_get-after : {X : Type 0} (xs : List X) (x : X) (ys : List X) → slice_get (xs ++ x ∷ ys) (length xs) ≡ Some x
+slice_get-after [] x ys = refl
+slice_get-after (y ∷ xs) x ys = slice_get-after xs x ys
 
 pub last_of-push : (start : List ℕ) (vs : List (List ℕ)) (v : List ℕ) → last_of start (vs ++ v ∷ []) ≡ v
 last_of-push start [] v = refl
@@ -43,9 +43,9 @@ module _ {X : Type 0} where
   AllByRecursion-append P [] ys h g = g
   AllByRecursion-append P (x ∷ xs) ys h g = (h.0, AllByRecursion-append P xs ys h.1 g)
 
-  pub AllByRecursion-behind : (P : X → Type 0) (xs ys : List X) → AllByRecursion P (xs ++ ys) → AllByRecursion P ys
-  AllByRecursion-behind P [] ys h = h
-  AllByRecursion-behind P (x ∷ xs) ys h = AllByRecursion-behind P xs ys h.1
+  pub AllByRecursion-after : (P : X → Type 0) (xs ys : List X) → AllByRecursion P (xs ++ ys) → AllByRecursion P ys
+  AllByRecursion-after P [] ys h = h
+  AllByRecursion-after P (x ∷ xs) ys h = AllByRecursion-after P xs ys h.1
 
   pub AllByRecursion-map : (P Q : X → Type 0) (xs : List X) → ((x : X) → P x → Q x) → AllByRecursion P xs → AllByRecursion Q xs
   AllByRecursion-map P Q [] f h = tt
@@ -83,6 +83,6 @@ module _ {X : Type 0} where
 
 -- ---- rising lists
 
-pub IsRising-behind : (vs ws : List (List ℕ)) → IsRising (vs ++ ws) → IsRising ws
-IsRising-behind [] ws h = h
-IsRising-behind (v ∷ vs) ws h = IsRising-behind vs ws h.1
+pub IsRising-after : (vs ws : List (List ℕ)) → IsRising (vs ++ ws) → IsRising ws
+IsRising-after [] ws h = h
+IsRising-after (v ∷ vs) ws h = IsRising-after vs ws h.1

@@ -15,23 +15,13 @@ use Rattle.variant_list.specs.Variants.{in_order, variants_among}
 use Rattle.variant_list.specs.declared.edges.Edge.{Edge}
 use Rattle.variant_list.specs.inner.Plans.{Plan, Step, Reads, first_place}
 use Rattle.variant_list.specs.inner.NetPlans.{IsNetOf, IsNet, edges_at, spelled_at_end, spelled_in, spelled_of}
-use Rattle.variant_list.proofs.ListMembers.{Contains-head, Contains-none, Contains-one, Contains-map, Contains-flat_map}
 use Rattle.variant_list.proofs.OrderLemmas.{IsListOf-unique}
 use Rattle.variant_list.proofs.VariantLists.{IsRising-in_order, Contains-in_order}
 use Rattle.variant_list.proofs.PlanLemmas.{Contains-at, slice_get-Contains}
 use Rattle.variant_list.proofs.SpelledByLemmas.{AreUses-drop}
-
-slice_get-drop : {X : Type 0} (xs : List X) (a i : ℕ) → slice_get (drop a xs) i ≡ slice_get xs (a + i)
-slice_get-drop [] zero i = refl
-slice_get-drop [] (suc a) i = refl
-slice_get-drop (x ∷ xs) zero i = let e : i ≡ 0 + i = omega arith in ap (slice_get (x ∷ xs)) e
-slice_get-drop (x ∷ xs) (suc a) i = let e : suc (a + i) ≡ suc a + i = omega arith in slice_get-drop xs a i ∙ ap (slice_get (x ∷ xs)) e
-
-slice_get-take : {X : Type 0} (xs : List X) (m i : ℕ) → i < m → slice_get (take m xs) i ≡ slice_get xs i
-slice_get-take xs zero i l = absurd (omega (arith, l))
-slice_get-take [] (suc m) i l = refl
-slice_get-take (x ∷ xs) (suc m) zero l = refl
-slice_get-take (x ∷ xs) (suc m) (suc i) l = slice_get-take xs m i (omega (arith, l))
+use Rattle.variant_table.proofs.MemberLemmas.{Contains-head, Contains-none, Contains-one}
+use Rattle.valid_labels.proofs.ListLemmas.{Contains-map, Contains-flat_map}
+use Rattle.variant_table.proofs.EntryLemmas.{slice_get-drop, slice_get-take}
 
 taken_below : {X : Type 0} (xs : List X) (m i : ℕ) (x : X) → slice_get (take m xs) i ≡ Some x → i < m
 taken_below xs zero i x e = cc
@@ -80,8 +70,8 @@ spelled_in-reads (suc n) plan p v c =
     let later : Edge → List (List ℕ) = λ (e : Edge). map (λ w. e.point ∷ w) (spelled_in n plan e.place) in
     elim (Contains-append_cases (spelled_at_end p) (flat_map later (edges_at plan p)) v c) [
       | inl end ↦ (let h = ending-reads plan p v end in (nothing_read plan p v h, length_nothing v (suc n) h.1))
-      | inr behind ↦
-          (let g = (Contains-flat_map later (edges_at plan p) v).0 behind in
+      | inr more ↦
+          (let g = (Contains-flat_map later (edges_at plan p) v).0 more in
           let e : Edge = g.0 in
           let h = (Contains-map (λ (w : List ℕ). e.point ∷ w) (spelled_in n plan e.place) v).0 g.2 in
           let rest = spelled_in-reads n plan e.place h.0 h.1 in

@@ -1,30 +1,32 @@
 -- The replacements that a part of a table has, and what its parts spell.
-use Rattle.std.proofs.Common.{◌≡◌, ◌<◌, ◌+◌, ℕ, zero, suc, Bool, true, false, None, List, [], ◌∷◌, ◌++◌, length, Some, slice_get, refl, sym, ap, ◌∙◌, subst, inl, inr, ◌↔◌, map, arith}
+use Rattle.std.proofs.Common.{◌≡◌, ◌<◌, ◌+◌, ℕ, zero, suc, Bool, true, false, List, [], ◌∷◌, ◌++◌, length, Some, slice_get, refl, sym, ap, ◌∙◌, subst, inl, inr, ◌↔◌, map, arith}
 use Rattle.std.specs.Prelude.{not, ◌&&◌}
 use Rattle.std.specs.Option.{option_map}
 use Rattle.std.specs.List.{Contains, All, AllByRecursion, flat_map}
 use Rattle.std.proofs.lemmas.List.{length-map}
 use Rattle.std.proofs.lemmas.List.Elements.{All-contains}
-use Rattle.std.proofs.lemmas.Option.{slice_get-map}
+use Rattle.std.proofs.lemmas.Option.{slice_get-map, same_Some}
 use Rattle.label_patterns.specs.Patterns.{Pattern}
 use Rattle.label_patterns.specs.Matches.{Seen}
 use Rattle.label_patterns.specs.Conditions.{ConditionHolds}
-use Rattle.variant_table.specs.Entries.{Entry, TableValue, Variant, replacements, marks, whole, itself, sequences_in, unblocked, unblocked_entry}
-use Rattle.valid_labels.specs.Segmentations.{AllHold, IsSegmentation, seen_under}
+use Rattle.variant_table.specs.Entries.{Entry, TableValue, Variant, replacements, marks, whole, itself, unblocked, unblocked_entry}
+use Rattle.valid_labels.specs.Segmentations.{AllHold, seen_under}
 use Rattle.variant_list.specs.declared.part.Part.{Part}
 use Rattle.variant_list.specs.declared.part.Part.TheVariants.{Whole, Unblocked, Tagged}
 use Rattle.variant_list.specs.Laws.{without_blocked}
 use Rattle.variant_list.specs.Spelling.{Replaces, JoinsReplacements, PartSpells, Spells}
-use Rattle.variant_list.specs.Parts.{marked, are_of, part_has, HasNoTags}
-use Rattle.variant_list.proofs.ListMembers.{Contains-head, Contains-later, Contains-cases, Contains-map, Contains-filter}
+use Rattle.variant_list.specs.Parts.{full_replacements, are_of, part_has, HasNoTags}
+use Rattle.variant_list.proofs.ListMembers.{Contains-filter}
+use Rattle.variant_table.proofs.MemberLemmas.{Contains-head, Contains-later, Contains-cases}
+use Rattle.valid_labels.proofs.ListLemmas.{Contains-map}
 
 -- what replaces the source of an entry is one of its replacements
 pub Replaces-of_entry : (part : Part) (table : TableValue) (label : List ℕ) (place : ℕ) (e : Entry) (r : List ℕ) → Replaces part table label place e r → Contains (replacements e) r
-Replaces-of_entry part table label place e r is = (Contains-map (λ (v : Variant). v.sequence) (marked e) r).1 (is.replacement, is.of_entry, is.is)
+Replaces-of_entry part table label place e r is = (Contains-map (λ (v : Variant). v.sequence) (full_replacements e) r).1 (is.replacement, is.of_entry, is.is)
 
 -- ---- a part that has all that another has
 
-module _ (part more : Part) (table : TableValue) (each : (e : Entry) → Contains table.entries e → (v : Variant) → Contains (marked e) v → part_has part v ≡ true → part_has more v ≡ true) where
+module _ (part more : Part) (table : TableValue) (each : (e : Entry) → Contains table.entries e → (v : Variant) → Contains (full_replacements e) v → part_has part v ≡ true → part_has more v ≡ true) where
   joins-more : (label : List ℕ) (place : ℕ) (segmentation : List Entry) (v : List ℕ) → AllByRecursion (Contains table.entries) segmentation → JoinsReplacements part table label place segmentation v
       → JoinsReplacements more table label place segmentation v
   joins-more label place [] v of h = h
@@ -57,15 +59,15 @@ unblocked_held rules seen place [] h = tt
 unblocked_held rules seen place (e ∷ segmentation) h = (h.0, unblocked_held rules seen (place + length e.source) segmentation h.1)
 
 -- what is not blocked of an entry is what the entry without its blocked variants has
-marked-unblocked : (e : Entry) (v : Variant) → (Contains (marked e) v × (not v.blocked ≡ true)) ↔ Contains (marked (unblocked_entry e)) v
-marked-unblocked e v = (
+full_replacements-unblocked : (e : Entry) (v : Variant) → (Contains (full_replacements e) v × (not v.marked ≡ true)) ↔ Contains (full_replacements (unblocked_entry e)) v
+full_replacements-unblocked e v = (
   λ g. elim (Contains-cases (itself e) e.variants v g.0) [
-    | inl same ↦ subst (Contains (marked (unblocked_entry e))) same (Contains-head (itself e) (unblocked_entry e).variants)
-    | inr later ↦ Contains-later (itself e) (unblocked_entry e).variants v ((Contains-filter (λ (w : Variant). not w.blocked) e.variants v).1 (later, g.1))
+    | inl same ↦ subst (Contains (full_replacements (unblocked_entry e))) same (Contains-head (itself e) (unblocked_entry e).variants)
+    | inr later ↦ Contains-later (itself e) (unblocked_entry e).variants v ((Contains-filter (λ (w : Variant). not w.marked) e.variants v).1 (later, g.1))
   ],
   λ m. elim (Contains-cases (itself e) (unblocked_entry e).variants v m) [
-    | inl same ↦ (subst (Contains (marked e)) same (Contains-head (itself e) e.variants), ap (λ (w : Variant). not w.blocked) (sym same))
-    | inr later ↦ (let g = (Contains-filter (λ (w : Variant). not w.blocked) e.variants v).0 later in (Contains-later (itself e) e.variants v g.0, g.1))
+    | inl same ↦ (subst (Contains (full_replacements e)) same (Contains-head (itself e) e.variants), ap (λ (w : Variant). not w.marked) (sym same))
+    | inr later ↦ (let g = (Contains-filter (λ (w : Variant). not w.marked) e.variants v).0 later in (Contains-later (itself e) e.variants v g.0, g.1))
   ],
 )
 
@@ -76,7 +78,7 @@ unblocked_joins table label place (e ∷ segmentation) v h =
     let r = h.2 in (
       h.0,
       h.1,
-      record { replacement = r.replacement; of_entry = (marked-unblocked e r.replacement).0 (r.of_entry, r.of_part); of_part = refl; held = r.held; is = r.is },
+      record { replacement = r.replacement; of_entry = (full_replacements-unblocked e r.replacement).0 (r.of_entry, r.of_part); of_part = refl; held = r.held; is = r.is },
       unblocked_joins table label (place + length e.source) segmentation h.1 h.3,
       h.4,
     )
@@ -102,7 +104,7 @@ from_unblocked table label place (e ∷ segmentation) v of inside held joins =
     one rest f in_table same =
         let source : f.source ≡ e.source = ap (λ (x : Entry). x.source) (sym same) in
         let r = joins.2 in
-        let of_entry = (marked-unblocked f r.replacement).1 (subst (λ (x : Entry). Contains (marked x) r.replacement) same r.of_entry) in
+        let of_entry = (full_replacements-unblocked f r.replacement).1 (subst (λ (x : Entry). Contains (full_replacements x) r.replacement) same r.of_entry) in
         let next : place + length e.source ≡ place + length f.source = ap (λ s. place + length s) (sym source) in
         record {
           given = f ∷ rest.given;
@@ -146,58 +148,55 @@ PartSpells-Unblocked table label v = (
 
 -- ---- which replacements a part has, by their numbers
 
-Some-same : {X : Type 0} (x y : X) → Some x ≡ Some y → x ≡ y
-Some-same x y e = cc
-
 pub mapped-at : {X Y : Type 0} (f : X → Y) (xs : List X) (i : ℕ) (y : Y) → slice_get (map f xs) i ≡ Some y → (x : X) × (slice_get xs i ≡ Some x) × (f x ≡ y)
 mapped-at f [] i y e = cc
-mapped-at f (x ∷ xs) zero y e = (x, refl, Some-same (f x) y e)
+mapped-at f (x ∷ xs) zero y e = (x, refl, same_Some (f x) y e)
 mapped-at f (x ∷ xs) (suc i) y e = mapped-at f xs i y e
 
 pub mapped-same : {X Y : Type 0} (f : X → Y) (xs : List X) (i : ℕ) (x : X) (y : Y) → slice_get xs i ≡ Some x → slice_get (map f xs) i ≡ Some y → f x ≡ y
-mapped-same f xs i x y at e = Some-same (f x) y (sym (slice_get-map f xs i ∙ ap (option_map f) at) ∙ e)
+mapped-same f xs i x y at e = same_Some (f x) y (sym (slice_get-map f xs i ∙ ap (option_map f) at) ∙ e)
 
 whole-list : (vs : List Variant) (i : ℕ) → i < length vs → slice_get (map (part_has Whole) vs) i ≡ Some true
 whole-list [] i l = absurd (omega (arith, l))
 whole-list (v ∷ vs) zero l = refl
 whole-list (v ∷ vs) (suc i) l = whole-list vs i (omega (arith, l))
 
-pub has-Whole : (e : Entry) (i : ℕ) → i < length (replacements e) → slice_get (map (part_has Whole) (marked e)) i ≡ Some true
-has-Whole e i l = whole-list (marked e) i (omega (arith, l, length-map (marked e) (λ (v : Variant). v.sequence)))
+pub has-Whole : (e : Entry) (i : ℕ) → i < length (replacements e) → slice_get (map (part_has Whole) (full_replacements e)) i ≡ Some true
+has-Whole e i l = whole-list (full_replacements e) i (omega (arith, l, length-map (full_replacements e) (λ (v : Variant). v.sequence)))
 
-pub has-Unblocked : (e : Entry) (i : ℕ) (blocked : Bool) → slice_get (marks e) i ≡ Some blocked → slice_get (map (part_has Unblocked) (marked e)) i ≡ Some (not blocked)
+pub has-Unblocked : (e : Entry) (i : ℕ) (blocked : Bool) → slice_get (marks e) i ≡ Some blocked → slice_get (map (part_has Unblocked) (full_replacements e)) i ≡ Some (not blocked)
 has-Unblocked e i blocked at =
-    let m = mapped-at (λ (v : Variant). v.blocked) (marked e) i blocked at in
-    slice_get-map (part_has Unblocked) (marked e) i ∙ ap (option_map (part_has Unblocked)) m.1 ∙ ap (λ t. Some (not t)) m.2
+    let m = mapped-at (λ (v : Variant). v.marked) (full_replacements e) i blocked at in
+    slice_get-map (part_has Unblocked) (full_replacements e) i ∙ ap (option_map (part_has Unblocked)) m.1 ∙ ap (λ t. Some (not t)) m.2
 
 and-left : (x y : Bool) → (x && y) ≡ true → x ≡ true
 and-left true y e = refl
 and-left false y e = e
 
 pub has-Tagged : (tag : ℕ) (e : Entry) (i : ℕ) (blocked : Bool) (tags : List ℕ) → slice_get (marks e) i ≡ Some blocked → slice_get (map (λ (v : Variant). v.tags) (whole e)) i ≡ Some tags
-    → slice_get (map (part_has (Tagged tag)) (marked e)) i ≡ Some (not blocked && are_of tag tags)
+    → slice_get (map (part_has (Tagged tag)) (full_replacements e)) i ≡ Some (not blocked && are_of tag tags)
 has-Tagged tag e i blocked tags at tagged =
-    let m = mapped-at (λ (v : Variant). v.blocked) (marked e) i blocked at in
-    let same : (m.0).tags ≡ tags = mapped-same (λ (v : Variant). v.tags) (marked e) i m.0 tags m.1 tagged in
-    slice_get-map (part_has (Tagged tag)) (marked e) i ∙ ap (option_map (part_has (Tagged tag))) m.1 ∙ ap (λ t. Some (not t && are_of tag (m.0).tags)) m.2 ∙ ap (λ ts. Some (not blocked && are_of tag ts)) same
+    let m = mapped-at (λ (v : Variant). v.marked) (full_replacements e) i blocked at in
+    let same : (m.0).tags ≡ tags = mapped-same (λ (v : Variant). v.tags) (full_replacements e) i m.0 tags m.1 tagged in
+    slice_get-map (part_has (Tagged tag)) (full_replacements e) i ∙ ap (option_map (part_has (Tagged tag))) m.1 ∙ ap (λ t. Some (not t && are_of tag (m.0).tags)) m.2 ∙ ap (λ ts. Some (not blocked && are_of tag ts)) same
 
 -- what is blocked is in no sub-table
-pub lacks-Tagged : (tag : ℕ) (e : Entry) (i : ℕ) → slice_get (marks e) i ≡ Some true → slice_get (map (part_has (Tagged tag)) (marked e)) i ≡ Some false
+pub lacks-Tagged : (tag : ℕ) (e : Entry) (i : ℕ) → slice_get (marks e) i ≡ Some true → slice_get (map (part_has (Tagged tag)) (full_replacements e)) i ≡ Some false
 lacks-Tagged tag e i at =
-    let m = mapped-at (λ (v : Variant). v.blocked) (marked e) i true at in
-    slice_get-map (part_has (Tagged tag)) (marked e) i ∙ ap (option_map (part_has (Tagged tag))) m.1 ∙ ap (λ t. Some (not t && are_of tag (m.0).tags)) m.2
+    let m = mapped-at (λ (v : Variant). v.marked) (full_replacements e) i true at in
+    slice_get-map (part_has (Tagged tag)) (full_replacements e) i ∙ ap (option_map (part_has (Tagged tag))) m.1 ∙ ap (λ t. Some (not t && are_of tag (m.0).tags)) m.2
 
 -- ---- the sub-table of a tag
 
 pub PartSpells-Tagged : (tag : ℕ) (table : TableValue) (label v : List ℕ) → PartSpells (Tagged tag) table label v → PartSpells Unblocked table label v
-PartSpells-Tagged tag table = PartSpells-more (Tagged tag) Unblocked table (λ e h v m has. and-left (not v.blocked) (are_of tag v.tags) has)
+PartSpells-Tagged tag table = PartSpells-more (Tagged tag) Unblocked table (λ e h v m has. and-left (not v.marked) (are_of tag v.tags) has)
 
 -- where nothing has tags, the sub-table of a tag has all that is not blocked
 pub PartSpells-untagged : (tag : ℕ) (table : TableValue) (label v : List ℕ) → HasNoTags table → PartSpells Unblocked table label v → PartSpells (Tagged tag) table label v
 PartSpells-untagged tag table label v none =
     PartSpells-more Unblocked (Tagged tag) table
-    (λ e h v m has. without_tags v (All-contains (λ (r : Variant). r.tags ≡ []) (marked e) v (All-contains (λ (x : Entry). All (λ (r : Variant). r.tags ≡ []) (marked x)) table.entries e none h) m) has)
+    (λ e h v m has. without_tags v (All-contains (λ (r : Variant). r.tags ≡ []) (full_replacements e) v (All-contains (λ (x : Entry). All (λ (r : Variant). r.tags ≡ []) (full_replacements x)) table.entries e none h) m) has)
     label v
   where
-    without_tags : (v : Variant) → v.tags ≡ [] → not v.blocked ≡ true → (not v.blocked && are_of tag v.tags) ≡ true
+    without_tags : (v : Variant) → v.tags ≡ [] → not v.marked ≡ true → (not v.marked && are_of tag v.tags) ≡ true
     without_tags v e has = ap (λ t. t && are_of tag v.tags) has ∙ ap (are_of tag) e

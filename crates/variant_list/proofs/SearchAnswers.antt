@@ -3,9 +3,9 @@ use Rattle.std.proofs.Common.{◌≡◌, ℕ, Bool, List, Option, Result, Ok, Er
 use Rattle.std.specs.declared.alloc.AllocError.{AllocError}
 use Rattle.variant_list.specs.Positions.{Position}
 use Rattle.variant_list.specs.inner.Skips.{FindsHope}
-use Rattle.variant_list.specs.inner.Halts.{Finds, FindsHopeIn, FindsNoneIn, HaltsIn, IfTested, IfAsked}
+use Rattle.variant_list.specs.inner.CountedSearches.{Finds, FindsHopeIn, FindsNoneIn, UsesAllStepsIn, IfTested, IfAsked}
 use Rattle.variant_list.specs.declared.cursor.Next.{Next}
-use Rattle.variant_list.specs.declared.cursor.Next.TheVariants.{Tested, Unfound, Halted}
+use Rattle.variant_list.specs.declared.cursor.Next.TheVariants.{Tested, Unfound, OutOfSteps}
 
 module _ (now hopeless : List ℕ → Bool) (same : now ≡ hopeless) (old new : Position) (steps left : Option ℕ) where
   -- the answer in its case
@@ -18,8 +18,8 @@ module _ (now hopeless : List ℕ → Bool) (same : now ≡ hopeless) (old new :
   pub FindsNoneIn-unfound : (r : Result Next AllocError) (n : Next) → r ≡ Ok n → n ≡ Unfound → Finds now old steps r new left → FindsNoneIn hopeless old steps new left
   FindsNoneIn-unfound r n = told r n Unfound
 
-  pub HaltsIn-halted : (r : Result Next AllocError) (n : Next) → r ≡ Ok n → n ≡ Halted → Finds now old steps r new left → HaltsIn hopeless old steps new left
-  HaltsIn-halted r n = told r n Halted
+  pub UsesAllStepsIn-halted : (r : Result Next AllocError) (n : Next) → r ≡ Ok n → n ≡ OutOfSteps → Finds now old steps r new left → UsesAllStepsIn hopeless old steps new left
+  UsesAllStepsIn-halted r n = told r n OutOfSteps
 
   pub FindsHope-undecided : (r : Result Next AllocError) (fault : AllocError) → r ≡ Err fault → Finds now old steps r new left → FindsHope hopeless old new
   FindsHope-undecided r fault is finds = subst (λ h. FindsHope h old new) same (subst (λ (x : Result Next AllocError). Finds now old steps x new left) is finds)

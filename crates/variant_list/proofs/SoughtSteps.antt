@@ -8,15 +8,15 @@ use Rattle.std.proofs.lemmas.List.{take_at}
 use Rattle.variant_list.specs.Positions.{Position, candidates_ahead}
 use Rattle.variant_list.specs.Beginnings.{shortest_hopeless, has_hope, dead_ends}
 use Rattle.variant_list.specs.Steps.{last_of}
-use Rattle.variant_list.specs.Visited.{visited, visited_ahead, has_step, Takes}
-use Rattle.variant_list.specs.Stepping.{Visits, VisitsAll, Halts}
+use Rattle.variant_list.specs.Visited.{visited, visited_ahead, has_step, TakesSteps}
+use Rattle.variant_list.specs.Stepping.{Visits, VisitsAll, UsesAllSteps}
 use Rattle.variant_list.specs.inner.Skips.{edges_of_net}
-use Rattle.variant_list.specs.inner.Halts.{FindsHopeIn, FindsNoneIn, HaltsIn}
+use Rattle.variant_list.specs.inner.CountedSearches.{FindsHopeIn, FindsNoneIn, UsesAllStepsIn}
 use Rattle.variant_list.proofs.ListLemmas.{last_of-push, looks-sum}
 use Rattle.variant_list.proofs.DeadEndSearches.{edges-same}
 use Rattle.variant_list.proofs.SeekSteps.{EndsIn, HasGone, HasGone-next, no_shortest}
 use Rattle.variant_list.proofs.VisitedLemmas.{visited-joined, visited-lost, visited-count}
-use Rattle.variant_list.proofs.StepCounts.{Takes-none, Takes-more}
+use Rattle.variant_list.proofs.StepCounts.{TakesSteps-none, TakesSteps-more}
 
 -- ---- lists
 
@@ -28,7 +28,7 @@ module _ (hopeless : List ℕ → Bool) where
   -- ---- what was gone over, and what is ahead
 
   module _ (last start : List ℕ) where
-    -- behind a label that has hope the visited labels are those of what follows
+    -- after a label that has hope the visited labels are those of what follows
     visited-front : (front ws : List (List ℕ)) → ((front ≡ []) × (last ≡ start)) ⊎ EndsIn hopeless front last → visited hopeless None (front ++ ws) ≡ visited hopeless None front ++ visited hopeless None ws
     visited-front front ws (inl none) = ap (λ f. visited hopeless None (f ++ ws)) none.0 ∙ sym (ap (λ f. visited hopeless None f ++ visited hopeless None ws) none.0)
     visited-front front ws (inr ends) =
@@ -47,7 +47,7 @@ module _ (hopeless : List ℕ → Bool) where
   -- a call began at `old` with `steps`, and `rest` are left
   pub record HasStepped (old : Position) (tries : ℕ) (steps : Option ℕ) (now : Position) (left : ℕ) (rest : Option ℕ) : Type 0 where
     pub gone : HasGone hopeless old tries now left
-    pub takes : Takes steps (length (visited hopeless None gone.front)) rest
+    pub takes : TakesSteps steps (length (visited hopeless None gone.front)) rest
 
   -- ---- one search more
 
@@ -69,7 +69,7 @@ module _ (hopeless : List ℕ → Bool) where
       ∙ length-append front (ends ++ new.last ∷ []) ∙ ap (λ n. length front + n) (size ends new.last) in
       record {
         gone = HasGone-next hopeless old tries now new left h.gone f some;
-        takes = subst (λ n. Takes steps n rest') (sym all) (Takes-more steps (length front) rest (length ends + 1) rest' h.takes found.takes);
+        takes = subst (λ n. TakesSteps steps n rest') (sym all) (TakesSteps-more steps (length front) rest (length ends + 1) rest' h.takes found.takes);
       }
 
   pub HasStepped-none : (old now : Position) (tries : ℕ) (steps : Option ℕ) → now ≡ record old { edge_tests = 0 } → HasStepped old tries steps now tries steps
@@ -82,7 +82,7 @@ module _ (hopeless : List ℕ → Bool) where
       counted = omega arith;
       looks = omega (arith, ap (λ (p : Position). p.edge_tests) h);
     };
-    takes = Takes-none steps;
+    takes = TakesSteps-none steps;
   }
 
   -- ---- where the call ends
@@ -110,11 +110,11 @@ module _ (hopeless : List ℕ → Bool) where
     all_visited mid rest' found =
         let ahead = ap length (visited-lost hopeless None (candidates_ahead now) found.finds.lost) in
         let all : length (visited_ahead hopeless old) ≡ length front + length (dead_ends hopeless None (candidates_ahead now)) = omega (arith, ap length whole, length-append front (visited_ahead hopeless now), ahead) in
-        let takes : Takes steps (length (visited_ahead hopeless old)) rest' =
-        subst (λ n. Takes steps n rest') (sym all) (Takes-more steps (length front) rest (length (dead_ends hopeless None (candidates_ahead now))) rest' h.takes found.takes) in
+        let takes : TakesSteps steps (length (visited_ahead hopeless old)) rest' =
+        subst (λ n. TakesSteps steps n rest') (sym all) (TakesSteps-more steps (length front) rest (length (dead_ends hopeless None (candidates_ahead now))) rest' h.takes found.takes) in
         record { fewer = more steps (length (visited_ahead hopeless old)) rest' takes found.more; counted = takes.fewer }
       where
-        more : (steps : Option ℕ) (n : ℕ) (left : Option ℕ) → Takes steps n left → has_step left ≡ true → IfSome steps (λ m. n < m)
+        more : (steps : Option ℕ) (n : ℕ) (left : Option ℕ) → TakesSteps steps n left → has_step left ≡ true → IfSome steps (λ m. n < m)
         more None n left t some = tt
         more (Some m) n left t some = positive (subst (λ (o : Option ℕ). has_step o ≡ true) t.fewer some)
           where
@@ -122,10 +122,10 @@ module _ (hopeless : List ℕ → Bool) where
             positive h = grind (arith, nat_tests)
 
     -- where the steps are used up, the cursor stands at the label visited with the last of them
-    pub Halts-stepped : (mid : Position) (rest' : Option ℕ) → HaltsIn hopeless now rest mid rest' → Halts hopeless old steps mid rest'
-    Halts-stepped mid rest' halt =
+    pub UsesAllSteps-stepped : (mid : Position) (rest' : Option ℕ) → UsesAllStepsIn hopeless now rest mid rest' → UsesAllSteps hopeless old steps mid rest'
+    UsesAllSteps-stepped mid rest' halt =
         let taken = length front + halt.taken in
-        let all = Takes-more steps (length front) rest halt.taken rest' h.takes halt.takes in
+        let all = TakesSteps-more steps (length front) rest halt.taken rest' h.takes halt.takes in
         let ends : (steps ≡ Some taken) × (rest' ≡ Some 0) = used steps taken rest' all halt.none in
         let size = ap length whole ∙ length-append front (visited_ahead hopeless now) in
         record {
@@ -144,7 +144,7 @@ module _ (hopeless : List ℕ → Bool) where
               omega (arith, few);
         }
       where
-        used : (steps : Option ℕ) (n : ℕ) (left : Option ℕ) → Takes steps n left → has_step left ≡ false → (steps ≡ Some n) × (left ≡ Some 0)
+        used : (steps : Option ℕ) (n : ℕ) (left : Option ℕ) → TakesSteps steps n left → has_step left ≡ false → (steps ≡ Some n) × (left ≡ Some 0)
         used None n left t none = let clash : true ≡ false = sym (ap has_step t.fewer) ∙ none in cc
         used (Some m) n left t none =
             let least : m - n ≡ 0 = zero_left (subst (λ (o : Option ℕ). has_step o ≡ false) t.fewer none) in

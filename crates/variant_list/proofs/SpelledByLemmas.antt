@@ -11,15 +11,17 @@ use Rattle.variant_table.specs.WellFormed.{IsSequence, IsEntry, IsWellFormed}
 use Rattle.variant_table.proofs.BeginningLemmas.{entries_are_at}
 use Rattle.variant_list.specs.declared.part.Part.{Part}
 use Rattle.variant_list.specs.declared.part.Part.TheVariants.{Whole}
-use Rattle.variant_list.specs.Parts.{marked}
+use Rattle.variant_list.specs.Parts.{full_replacements}
 use Rattle.variant_list.specs.Spelled.{part_spelled, spelled}
 use Rattle.variant_list.specs.Spelling.{PartSpells, Spells}
 use Rattle.variant_list.specs.inner.LabelSets.{SomeGives}
 use Rattle.variant_list.specs.inner.Layouts.{UseSpells}
 use Rattle.variant_list.specs.Uses.{Use, IsUse, AreUses, UsesSpell, spelled_from_each, spelled_by, use_of, may_stand, may_replace, uses_of_entry, uses_at, uses_from, uses_of}
-use Rattle.variant_list.proofs.ListMembers.{Contains-head, Contains-one, Contains-map, Contains-filter, Contains-flat_map, filter-few}
+use Rattle.variant_list.proofs.ListMembers.{Contains-filter, filter-few}
 use Rattle.variant_list.proofs.UsesLemmas.{nothing_spelled, UsesSpell-here, UsesSpell-label, IsUseOf-fits, uses_at-IsUseOf, length-uses_from}
 use Rattle.variant_list.proofs.PartLemmas.{Replaces-of_entry}
+use Rattle.variant_table.proofs.MemberLemmas.{Contains-head, Contains-one}
+use Rattle.valid_labels.proofs.ListLemmas.{Contains-map, Contains-flat_map}
 
 -- from a later place on
 spelled_from-each : (uses : List (List Use)) (k : ℕ) → k ≤ length uses → slice_index_or (spelled_from_each uses) k [] ≡ spelled_by (drop k uses)
@@ -41,21 +43,21 @@ spelled_within n [] v are short = (
 )
 spelled_within zero (here ∷ later) v are short = absurd (omega (arith, short))
 spelled_within (suc n) (here ∷ later) v are short =
-    let behind : Use → List (List ℕ) = λ (u : Use). slice_index_or (spelled_from_each later) (u.covers - 1) [] in
-    let given : Use → List (List ℕ) = λ (u : Use). map (λ w. u.points ++ w) (behind u) in
+    let after : Use → List (List ℕ) = λ (u : Use). slice_index_or (spelled_from_each later) (u.covers - 1) [] in
+    let given : Use → List (List ℕ) = λ (u : Use). map (λ w. u.points ++ w) (after u) in
     let each : (u : Use) → Contains here u → IsUse (length later + 1) u = λ (u : Use) m. All-contains (IsUse (length later + 1)) here u are.0 m in
     let first = UsesSpell-here here later (λ u m. ((each u m).some, (each u m).within)) v in
-    let at : (u : Use) → Contains here u → behind u ≡ spelled_by (drop (u.covers - 1) later) = λ (u : Use) m. (let is = each u m in spelled_from-each later (u.covers - 1) (omega (arith, is.some, is.within))) in
+    let at : (u : Use) → Contains here u → after u ≡ spelled_by (drop (u.covers - 1) later) = λ (u : Use) m. (let is = each u m in spelled_from-each later (u.covers - 1) (omega (arith, is.some, is.within))) in
     let rest : (u : Use) (w : List ℕ) → Contains (spelled_by (drop (u.covers - 1) later)) w ↔ UsesSpell (drop (u.covers - 1) later) w =
     λ (u : Use) (w : List ℕ). spelled_within n (drop (u.covers - 1) later) w (AreUses-drop later (u.covers - 1) are.2) (omega (arith, short, length-drop (u.covers - 1) later)) in (
       λ c. (let g = (Contains-flat_map given here v).0 c in
           let u : Use = g.0 in
-          let h = (Contains-map (λ (w : List ℕ). u.points ++ w) (behind u) v).0 g.2 in
+          let h = (Contains-map (λ (w : List ℕ). u.points ++ w) (after u) v).0 g.2 in
           first.0 (u, g.1, (h.0, h.2, (rest u h.0).0 (subst (λ ws. Contains ws h.0) (at u g.1) h.1)))),
       λ s. (let g : SomeGives (UseSpells later) here v = first.1 s in
           let u : Use = g.0 in
           let w : List ℕ = g.2.0 in
-          (Contains-flat_map given here v).1 (u, g.1, (Contains-map (λ (w : List ℕ). u.points ++ w) (behind u) v).1 (w, subst (λ ws. Contains ws w) (sym (at u g.1)) ((rest u w).1 g.2.2), g.2.1))),
+          (Contains-flat_map given here v).1 (u, g.1, (Contains-map (λ (w : List ℕ). u.points ++ w) (after u) v).1 (w, subst (λ ws. Contains ws w) (sym (at u g.1)) ((rest u w).1 g.2.2), g.2.1))),
     )
 
 pub spelled_by-UsesSpell : (uses : List (List Use)) (v : List ℕ) → AreUses uses → Contains (spelled_by uses) v ↔ UsesSpell uses v
@@ -88,8 +90,8 @@ module _ (part : Part) (table : TableValue) (label : List ℕ) (formed : IsWellF
       let here : List Entry = filter (may_stand table label place) all in
       let at : AreEntriesAt table.entries label place all = entries_are_at table.entries label place formed in
       let of_entry : (e : Entry) → IsEntry e → length (uses_of_entry part table label place e) ≤ 17 = λ (e : Entry) is.
-      (let kept : List Variant = filter (may_replace part table label place e) (marked e) in
-      omega (arith, length-map (sequences_in kept) (use_of e), length-map kept (λ (v : Variant). v.sequence), filter-few (may_replace part table label place e) (marked e), is.few)) in
+      (let kept : List Variant = filter (may_replace part table label place e) (full_replacements e) in
+      omega (arith, length-map (sequences_in kept) (use_of e), length-map kept (λ (v : Variant). v.sequence), filter-few (may_replace part table label place e) (full_replacements e), is.few)) in
       let each : (k : ℕ) (d : Entry) → k < length here → length (uses_of_entry part table label place (get_or here k d)) ≤ 17 = λ (k : ℕ) (d : Entry) l.
       (let e : Entry = get_or here k d in
       of_entry e (All-contains IsEntry table.entries e formed.entries ((at.members e).0 ((Contains-filter (may_stand table label place) all e).0 (Contains-get_or here k d l)).0).0)) in

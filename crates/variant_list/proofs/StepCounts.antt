@@ -7,9 +7,9 @@ use Rattle.std.proofs.lemmas.List.Elements.{filter-append}
 use Rattle.variant_list.specs.Positions.{Position, candidates_ahead, tested_ahead}
 use Rattle.variant_list.specs.Beginnings.{shortest_hopeless, has_hope, shares, dead_ends}
 use Rattle.variant_list.specs.Steps.{last_of}
-use Rattle.variant_list.specs.Visited.{visited, visited_ahead, has_step, fewer_steps, Takes}
+use Rattle.variant_list.specs.Visited.{visited, visited_ahead, has_step, fewer_steps, TakesSteps}
 use Rattle.variant_list.specs.inner.Skips.{outside, Searches}
-use Rattle.variant_list.specs.inner.Halts.{StandsBehind, FindsHopeIn, FindsNoneIn, HaltsIn}
+use Rattle.variant_list.specs.inner.CountedSearches.{StandsAfter, FindsHopeIn, FindsNoneIn, UsesAllStepsIn}
 use Rattle.variant_list.proofs.ListLemmas.{slice_get-none, filter-none, last_of-push, AllByRecursion-append}
 use Rattle.variant_list.proofs.VisitedLemmas.{visited-dead}
 use Rattle.variant_list.proofs.LabelsAfter.{inside, inside-shares, outside-apart}
@@ -19,14 +19,14 @@ use Rattle.variant_list.proofs.TestedLemmas.{tested-filter}
 
 -- ---- steps taken
 
-pub Takes-none : (steps : Option ℕ) → Takes steps 0 steps
-Takes-none None = record { within = tt; fewer = refl }
-Takes-none (Some n) = record { within = omega arith; fewer = ap (λ (m : ℕ). let o : Option ℕ = Some m in o) (omega arith) }
+pub TakesSteps-none : (steps : Option ℕ) → TakesSteps steps 0 steps
+TakesSteps-none None = record { within = tt; fewer = refl }
+TakesSteps-none (Some n) = record { within = omega arith; fewer = ap (λ (m : ℕ). let o : Option ℕ = Some m in o) (omega arith) }
 
 -- some, and then others
-pub Takes-more : (steps : Option ℕ) (first : ℕ) (between : Option ℕ) (second : ℕ) (left : Option ℕ) → Takes steps first between → Takes between second left → Takes steps (first + second) left
-Takes-more None first between second left a b = record { within = tt; fewer = b.fewer ∙ ap (λ (o : Option ℕ). fewer_steps o second) a.fewer }
-Takes-more (Some n) first between second left a b = record {
+pub TakesSteps-more : (steps : Option ℕ) (first : ℕ) (between : Option ℕ) (second : ℕ) (left : Option ℕ) → TakesSteps steps first between → TakesSteps between second left → TakesSteps steps (first + second) left
+TakesSteps-more None first between second left a b = record { within = tt; fewer = b.fewer ∙ ap (λ (o : Option ℕ). fewer_steps o second) a.fewer }
+TakesSteps-more (Some n) first between second left a b = record {
   within =
       let rest : second ≤ n - first = subst (λ (o : Option ℕ). IfSome o (λ m. second ≤ m)) a.fewer b.within in
       let first_ones : first ≤ n = a.within in omega arith;
@@ -38,18 +38,18 @@ Takes-more (Some n) first between second left a b = record {
 -- it began at `old`, came to dead ends alone, one with each step, and stands at the last of them, if it came to one
 pub record SkipsIn (hopeless : List ℕ → Bool) (old : Position) (steps : Option ℕ) (top : ℕ) (now : Position) (left : Option ℕ) : Type 0 where
   pub skips : Skips hopeless old top now
-  pub takes : Takes steps (length (dead_ends hopeless None skips.passed)) left
-  pub stands : StandsBehind hopeless old (length (dead_ends hopeless None skips.passed)) now
+  pub takes : TakesSteps steps (length (dead_ends hopeless None skips.passed)) left
+  pub stands : StandsAfter hopeless old (length (dead_ends hopeless None skips.passed)) now
 
 pub SkipsIn-none : (hopeless : List ℕ → Bool) (p : Position) (steps : Option ℕ) (top : ℕ) → length p.last < top → SkipsIn hopeless p steps top p steps
 unfolding Skips-none
 SkipsIn-none hopeless p steps top long = record {
   skips = Skips-none hopeless p top long;
-  takes = Takes-none steps;
+  takes = TakesSteps-none steps;
   stands = record { net = refl; there = omega arith; last = refl; ahead = refl; looks = omega arith };
 }
 
--- the dead ends before the next one, it, and those behind the labels that share its hopeless beginning
+-- the dead ends before the next one, it, and those after the labels that share its hopeless beginning
 ends-one : (hopeless : List ℕ → Bool) (old : Position) (top : ℕ) (now new : Position) (n : ℕ) (h : Skips hopeless old top now) → Searches now top true new → shortest_hopeless hopeless new.last ≡ Some n
     → (vs : List (List ℕ)) → AllByRecursion (λ v. shares n new.last v ≡ true) vs → dead_ends hopeless None (h.passed ++ new.last ∷ vs) ≡ dead_ends hopeless None h.passed ++ new.last ∷ []
 ends-one hopeless old top now new n h found is vs share =
@@ -59,9 +59,9 @@ ends-one hopeless old top now new n h found is vs share =
     ∙ h.joins (new.last ∷ vs ++ []) apart
     ∙ ap (λ hs. dead_ends hopeless None h.passed ++ hs) (dead_ends-one hopeless n new.last vs [] is share tt)
 
--- the tested labels behind labels without hope
-tested-behind : (hopeless : List ℕ → Bool) (old new : Position) (passed : List (List ℕ)) → candidates_ahead old ≡ passed ++ new.last ∷ candidates_ahead new → AllByRecursion (λ v. has_hope hopeless v ≡ false) (passed ++ new.last ∷ []) → tested_ahead hopeless new ≡ tested_ahead hopeless old
-tested-behind hopeless old new passed whole lost =
+-- the tested labels after labels without hope
+tested-after : (hopeless : List ℕ → Bool) (old new : Position) (passed : List (List ℕ)) → candidates_ahead old ≡ passed ++ new.last ∷ candidates_ahead new → AllByRecursion (λ v. has_hope hopeless v ≡ false) (passed ++ new.last ∷ []) → tested_ahead hopeless new ≡ tested_ahead hopeless old
+tested-after hopeless old new passed whole lost =
     let front = passed ++ new.last ∷ [] in
     let rest = candidates_ahead new in
     let all : candidates_ahead old ≡ front ++ rest = whole ∙ sym (append_assoc passed (new.last ∷ []) rest) in
@@ -70,7 +70,7 @@ tested-behind hopeless old new passed whole lost =
     ∙ ap (λ vs. vs ++ filter (has_hope hopeless) rest) (filter-none (has_hope hopeless) front lost))
 
 pub SkipsIn-more : (hopeless : List ℕ → Bool) (old : Position) (steps : Option ℕ) (top : ℕ) (now new : Position) (n : ℕ) (before left : Option ℕ) → SkipsIn hopeless old steps top now before → Searches now top true new
-    → shortest_hopeless hopeless new.last ≡ Some n → Takes before 1 left → SkipsIn hopeless old steps n new left
+    → shortest_hopeless hopeless new.last ≡ Some n → TakesSteps before 1 left → SkipsIn hopeless old steps n new left
 unfolding Skips-more
 SkipsIn-more hopeless old steps top now new n before left h found is one =
     let r = reached hopeless old top now new h.skips found in
@@ -86,7 +86,7 @@ SkipsIn-more hopeless old steps top now new n before left h found is one =
     let size : length (ends ++ new.last ∷ []) ≡ length ends + 1 = omega (arith, length-append ends (new.last ∷ [])) in
     record {
       skips = next;
-      takes = subst (λ k. Takes steps k left) counted (Takes-more steps (length ends) before 1 left h.takes one);
+      takes = subst (λ k. TakesSteps steps k left) counted (TakesSteps-more steps (length ends) before 1 left h.takes one);
       stands = record {
         net = r.net;
         there = omega (arith, counted, size, ap length here, length-append (ends ++ new.last ∷ []) (visited hopeless (Some new.last) (candidates_ahead new)));
@@ -95,17 +95,17 @@ SkipsIn-more hopeless old steps top now new n before left h found is one =
             ∙ ap (λ vs. last_of old.last (take (length ends + 1) vs)) here
             ∙ ap (last_of old.last) (take_at (ends ++ new.last ∷ []) (visited hopeless (Some new.last) (candidates_ahead new)) (length ends + 1) size)
             ∙ last_of-push old.last ends new.last);
-        ahead = tested-behind hopeless old new h.skips.passed r.whole (AllByRecursion-append (λ v. has_hope hopeless v ≡ false) h.skips.passed (new.last ∷ []) h.skips.lost (lost, tt));
+        ahead = tested-after hopeless old new h.skips.passed r.whole (AllByRecursion-append (λ v. has_hope hopeless v ≡ false) h.skips.passed (new.last ∷ []) h.skips.lost (lost, tt));
         looks = next.looks;
       };
     }
 
 pub FindsHopeIn-found : (hopeless : List ℕ → Bool) (old : Position) (steps : Option ℕ) (top : ℕ) (now new : Position) (before left : Option ℕ) → SkipsIn hopeless old steps top now before → Searches now top true new
-    → shortest_hopeless hopeless new.last ≡ None → Takes before 1 left → FindsHopeIn hopeless old steps new left
+    → shortest_hopeless hopeless new.last ≡ None → TakesSteps before 1 left → FindsHopeIn hopeless old steps new left
 unfolding FindsHope-found
 FindsHopeIn-found hopeless old steps top now new before left h found is one = record {
   finds = FindsHope-found hopeless old top now new h.skips found is;
-  takes = Takes-more steps (length (dead_ends hopeless None h.skips.passed)) before 1 left h.takes one;
+  takes = TakesSteps-more steps (length (dead_ends hopeless None h.skips.passed)) before 1 left h.takes one;
 }
 
 pub FindsNoneIn-unfound : (hopeless : List ℕ → Bool) (old : Position) (steps : Option ℕ) (top : ℕ) (now new : Position) (left : Option ℕ) → SkipsIn hopeless old steps top now left → Searches now top false new → has_step left ≡ true
@@ -115,12 +115,12 @@ FindsNoneIn-unfound hopeless old steps top now new left h found more =
     let all : candidates_ahead old ≡ p.passed = p.whole ∙ ap (λ vs. p.passed ++ vs) (slice_get-none (outside top now.last (candidates_ahead now)) (sym found.first)) ∙ append-nil p.passed in
     record {
       finds = FindsNone-unfound hopeless old top now new p found;
-      takes = subst (λ vs. Takes steps (length (dead_ends hopeless None vs)) left) (sym all) h.takes;
+      takes = subst (λ vs. TakesSteps steps (length (dead_ends hopeless None vs)) left) (sym all) h.takes;
       more = more;
     }
 
-pub HaltsIn-skipped : (hopeless : List ℕ → Bool) (old : Position) (steps : Option ℕ) (top : ℕ) (now : Position) (left : Option ℕ) → SkipsIn hopeless old steps top now left → has_step left ≡ false → HaltsIn hopeless old steps now left
-HaltsIn-skipped hopeless old steps top now left h none = record {
+pub UsesAllStepsIn-skipped : (hopeless : List ℕ → Bool) (old : Position) (steps : Option ℕ) (top : ℕ) (now : Position) (left : Option ℕ) → SkipsIn hopeless old steps top now left → has_step left ≡ false → UsesAllStepsIn hopeless old steps now left
+UsesAllStepsIn-skipped hopeless old steps top now left h none = record {
   taken = length (dead_ends hopeless None h.skips.passed);
   takes = h.takes;
   none = none;

@@ -3,20 +3,18 @@ use Rattle.std.proofs.Common.{◌≡◌, ℕ, ◌+◌, Bool, true, false, map, L
 use Rattle.std.specs.Prelude.{slice_get, Some, filter, if◌then◌else◌}
 use Rattle.std.specs.List.{Contains, flat_map}
 use Rattle.std.proofs.lemmas.Grind.{flat_map-append}
-use Rattle.std.proofs.lemmas.List.{take_more, map-append}
+use Rattle.std.proofs.lemmas.List.{map-append}
 use Rattle.std.proofs.lemmas.List.Elements.{Contains-append_right, filter-append}
 use Rattle.variant_table.specs.Entries.{Entry, Variant, replacements, sequences_in}
 use Rattle.variant_list.specs.inner.Layouts.{Draft, IsLaid, HasTaken}
 use Rattle.variant_list.specs.inner.NetPlans.{IsNetOf}
-use Rattle.variant_list.specs.Parts.{marked}
+use Rattle.variant_list.specs.Parts.{full_replacements}
 use Rattle.variant_list.specs.Uses.{Use, use_of}
-use Rattle.variant_list.proofs.ListMembers.{Contains-head, filter-one}
+use Rattle.variant_list.proofs.ListMembers.{filter-one}
 use Rattle.variant_list.proofs.PartLemmas.{mapped-at, mapped-same}
-use Rattle.variant_list.proofs.PlainListerSteps.{got}
 use Rattle.variant_list.proofs.DraftLemmas.{HasTaken-more, IsLaid-reads}
-
-pub take-next : {X : Type 0} (xs : List X) (i : ℕ) (x : X) → slice_get xs i ≡ Some x → take (i + 1) xs ≡ take i xs ++ x ∷ []
-take-next xs i x e = let g = got xs i x e in take_more xs i x g.0 ∙ ap (λ y. take i xs ++ y ∷ []) g.1
+use Rattle.variant_table.proofs.MemberLemmas.{Contains-head}
+use Rattle.variant_table.proofs.ListLemmas.{take_next}
 
 -- the entries that aren't left were taken, as far as they may stand where they do
 pub record HasEntries (stands : Entry → Bool) (gives : Entry → List Use) (all left : List Entry) (old new : Draft) : Type 0 where
@@ -59,17 +57,17 @@ module _ (stands : Entry → Bool) (gives : Entry → List Use) where
 
 -- the uses of the first replacements of an entry that pass a test
 abbrev pub uses_upto : (Variant → Bool) → Entry → ℕ → List Use
-uses_upto has e i = map (use_of e) (sequences_in (filter has (take i (marked e))))
+uses_upto has e i = map (use_of e) (sequences_in (filter has (take i (full_replacements e))))
 
 -- a use, where it is taken
 abbrev pub chosen : Bool → Use → List Use
 chosen true u = u ∷ []
 chosen false u = []
 
-upto-next : (has : Variant → Bool) (e : Entry) (i : ℕ) (v : Variant) → slice_get (marked e) i ≡ Some v → uses_upto has e (i + 1) ≡ uses_upto has e i ++ chosen (has v) (use_of e v.sequence)
+upto-next : (has : Variant → Bool) (e : Entry) (i : ℕ) (v : Variant) → slice_get (full_replacements e) i ≡ Some v → uses_upto has e (i + 1) ≡ uses_upto has e i ++ chosen (has v) (use_of e v.sequence)
 upto-next has e i v at =
-    let first = take i (marked e) in
-    ap (λ vs. map (use_of e) (sequences_in (filter has vs))) (take-next (marked e) i v at)
+    let first = take i (full_replacements e) in
+    ap (λ vs. map (use_of e) (sequences_in (filter has vs))) (take_next (full_replacements e) i v at)
     ∙ ap (λ vs. map (use_of e) (sequences_in vs)) (filter-append has first (v ∷ []))
     ∙ ap (map (use_of e)) (map-append (λ (x : Variant). x.sequence) (filter has first) (filter has (v ∷ [])))
     ∙ map-append (use_of e) (sequences_in (filter has first)) (sequences_in (filter has (v ∷ [])))
@@ -80,12 +78,12 @@ upto-next has e i v at =
     one false = refl
 
 -- one replacement more
-pub HasTaken-next : (has : Variant → Bool) (e : Entry) (i : ℕ) (r : List ℕ) (b : Bool) (old mid new : Draft) → slice_get (replacements e) i ≡ Some r → slice_get (map has (marked e)) i ≡ Some b
+pub HasTaken-next : (has : Variant → Bool) (e : Entry) (i : ℕ) (r : List ℕ) (b : Bool) (old mid new : Draft) → slice_get (replacements e) i ≡ Some r → slice_get (map has (full_replacements e)) i ≡ Some b
     → HasTaken old (uses_upto has e i) mid → HasTaken mid (chosen b (use_of e r)) new → HasTaken old (uses_upto has e (i + 1)) new
 HasTaken-next has e i r b old mid new at test before one =
-    let m = mapped-at (λ (v : Variant). v.sequence) (marked e) i r at in
+    let m = mapped-at (λ (v : Variant). v.sequence) (full_replacements e) i r at in
     let v : Variant = m.0 in
-    let same : has v ≡ b = mapped-same has (marked e) i v b m.1 test in
+    let same : has v ≡ b = mapped-same has (full_replacements e) i v b m.1 test in
     let more : uses_upto has e (i + 1) ≡ uses_upto has e i ++ chosen b (use_of e r) =
     upto-next has e i v m.1 ∙ ap (λ t. uses_upto has e i ++ chosen t (use_of e v.sequence)) same ∙ ap (λ s. uses_upto has e i ++ chosen b (use_of e s)) m.2 in
     subst (λ us. HasTaken old us new) (sym more) (HasTaken-more old mid new (uses_upto has e i) (chosen b (use_of e r)) before one)

@@ -1,7 +1,6 @@
 -- The laws of the tested labels.
-use Rattle.std.proofs.Common.{◌≡◌, ℕ, ◌≤◌, ◌&&◌, ◌++◌, Bool, true, false, List, length, take, drop, Option, Some, None, refl, sym, ap, ◌∙◌, arith}
-use Rattle.std.specs.Prelude.{IsTrue, nat_le}
-use Rattle.std.proofs.lemmas.Bool.Decides.{nat_tests}
+use Rattle.std.proofs.Common.{◌≡◌, ℕ, ◌≤◌, ◌&&◌, ◌++◌, Bool, true, false, List, length, take, drop, Option, Some, None, refl, sym, ap, ◌∙◌}
+use Rattle.std.specs.Prelude.{IsTrue}
 use Rattle.std.specs.List.{filter}
 use Rattle.std.specs.Option.{is_none}
 use Rattle.std.specs.Ordering.{is_gt}
@@ -10,19 +9,13 @@ use Rattle.variant_list.specs.Labels.{IsBelow, label_cmp}
 use Rattle.variant_list.specs.Spelled.{spelled}
 use Rattle.variant_list.specs.Variants.{IsVariant, fits_label, in_order, variants_among}
 use Rattle.variant_list.proofs.ListedLemmas.{IsListOf-same}
-use Rattle.variant_list.proofs.ListingLemmas.{variants-resume, variants-cut, fits_label-short}
+use Rattle.variant_list.proofs.ListingLemmas.{variants-resume, variants-cut, fits_label-short, short-fits_label}
 use Rattle.variant_list.proofs.VariantLists.{variants-AreVariants, both, joined}
 use Rattle.variant_list.specs.Beginnings.{shortest_hopeless, has_hope}
 use Rattle.variant_list.specs.Tested.{tested, tested_among}
 use Rattle.variant_list.specs.Laws.{up_to, ShortestIsFirst, IsTested, TestedAreListed, LeavesNoHope, VariantsAreAcceptedTested}
 use Rattle.variant_list.proofs.BeginningLemmas.{shortest_hopeless-at, shortest_hopeless-gives, shortest_hopeless-none, hope-gives}
 use Rattle.variant_list.proofs.TestedLemmas.{filter-both}
-
-short-fits_label : (v : List ℕ) → length v ≤ 63 → IsTrue (fits_label v)
-short-fits_label v h = fits (length v) h
-  where
-    fits : (n : ℕ) → n ≤ 63 → nat_le n 63 ≡ true
-    fits n h = grind (arith, nat_tests)
 
 pub shortest_is_first : ShortestIsFirst
 shortest_is_first = record {

@@ -3,6 +3,7 @@ use Rattle.std.proofs.Common.{◌≡◌, ℕ, true, false, zero, suc, ◌+◌, �
 use Rattle.std.specs.Prelude.{not, filter}
 use Rattle.std.specs.List.{Contains}
 use Rattle.std.proofs.lemmas.List.{length-drop}
+use Rattle.std.proofs.lemmas.Bool.{and_parts, and_from, not-true}
 use Rattle.label_patterns.specs.Conditions.{ConditionHolds}
 use Rattle.variant_table.specs.Entries.{Entry, TableValue, Variant, sequences_in}
 use Rattle.variant_table.specs.Places.{entries_at}
@@ -10,15 +11,16 @@ use Rattle.variant_table.specs.WellFormed.{IsWellFormed}
 use Rattle.variant_table.proofs.BeginningLemmas.{entries_are_at}
 use Rattle.valid_labels.specs.Segmentations.{seen_under}
 use Rattle.variant_list.specs.declared.part.Part.{Part}
-use Rattle.variant_list.specs.Parts.{marked, part_has}
+use Rattle.variant_list.specs.Parts.{full_replacements, part_has}
 use Rattle.variant_list.specs.Spelling.{Replaces, PartSpells}
 use Rattle.variant_list.specs.inner.LabelSets.{SomeGives}
 use Rattle.variant_list.specs.inner.Layouts.{UseSpells}
 use Rattle.variant_list.specs.inner.Places.{SpellsFrom}
 use Rattle.variant_list.specs.Uses.{Use, IsCut, points_of, UsesSpell, use_of, holds_for, may_stand, may_replace, uses_of_entry, uses_at, uses_from, uses_of}
-use Rattle.variant_list.proofs.ListMembers.{Contains-map, Contains-filter, Contains-flat_map}
-use Rattle.variant_list.proofs.HeldLemmas.{held_by, both-true, true-both, not-true}
+use Rattle.variant_list.proofs.ListMembers.{Contains-filter}
+use Rattle.variant_list.proofs.HeldLemmas.{held_by}
 use Rattle.variant_list.proofs.SpellingLemmas.{FirstPiece, PartSpells-first, SpellsFrom-end, SpellsFrom-piece, SpellsFrom-cases, SpellsFrom-nothing, source_is_sequence}
+use Rattle.valid_labels.proofs.ListLemmas.{Contains-map, Contains-flat_map}
 
 -- where the label has no place, only the empty label is spelled
 pub nothing_spelled : (cut : List Use) (v : List ℕ) → IsCut [] cut → points_of cut ≡ v → [] ≡ v
@@ -30,23 +32,23 @@ pub UsesSpell-here : (here : List Use) (later : List (List Use)) → ((u : Use) 
 UsesSpell-here here later fits v = (
   λ s. let u : Use = s.0 in
       let fit = fits u s.1 in
-      let behind = behind_use u.covers fit.0 in (
+      let after = after_use u.covers fit.0 in (
         u ∷ s.2.2.0,
-        (s.1, fit.1, subst (λ us. IsCut us s.2.2.0) (sym behind) s.2.2.1),
+        (s.1, fit.1, subst (λ us. IsCut us s.2.2.0) (sym after) s.2.2.1),
         ap (λ w. u.points ++ w) s.2.2.2 ∙ sym s.2.1,
       ),
   λ s. by_cut s.0 s.1 s.2,
 )
   where
-    behind_use : (k : ℕ) → 1 ≤ k → drop k (here ∷ later) ≡ drop (k - 1) later
-    behind_use zero l = absurd (omega (arith, l))
-    behind_use (suc k) l = let less : k ≡ suc k - 1 = omega arith in ap (λ n. drop n later) less
+    after_use : (k : ℕ) → 1 ≤ k → drop k (here ∷ later) ≡ drop (k - 1) later
+    after_use zero l = absurd (omega (arith, l))
+    after_use (suc k) l = let less : k ≡ suc k - 1 = omega arith in ap (λ n. drop n later) less
 
     by_cut : (cut : List Use) → IsCut (here ∷ later) cut → points_of cut ≡ v → SomeGives (UseSpells later) here v
     by_cut [] cuts e = absurd cuts
     by_cut (u ∷ cut) cuts e =
         let fit = fits u cuts.0 in
-        (u, cuts.0, (points_of cut, sym e, (cut, subst (λ us. IsCut us cut) (behind_use u.covers fit.0) cuts.2, refl)))
+        (u, cuts.0, (points_of cut, sym e, (cut, subst (λ us. IsCut us cut) (after_use u.covers fit.0) cuts.2, refl)))
 
 -- ---- the uses of a table
 
@@ -94,21 +96,21 @@ module _ (part : Part) (table : TableValue) (label : List ℕ) (formed : IsWellF
     λ c. (let g = (Contains-map (use_of e) (sequences_in kept) u).0 c in
         let h = (Contains-map (λ (v : Variant). v.sequence) kept g.0).0 g.1 in
         let v : Variant = h.0 in
-        let m = (Contains-filter (may_replace part table label place e) (marked e) v).0 h.1 in
-        let t = both-true (part_has part v) (holds_for table label place e v.condition) m.1 in (
+        let m = (Contains-filter (may_replace part table label place e) (full_replacements e) v).0 h.1 in
+        let t = and_parts (part_has part v) (holds_for table label place e v.condition) m.1 in (
           record { replacement = v; of_entry = m.0; of_part = t.0; held = (held_by table label place e v.condition within).0 t.1; is = ap (λ (x : Use). x.points) g.2 ∙ h.2 },
           ap (λ (x : Use). x.covers) g.2,
         )),
     λ g. (let r = g.0 in
         let v : Variant = r.replacement in
-        let has : may_replace part table label place e v ≡ true = true-both (part_has part v) (holds_for table label place e v.condition) r.of_part ((held_by table label place e v.condition within).1 r.held) in
-        let m : Contains kept v = (Contains-filter (may_replace part table label place e) (marked e) v).1 (r.of_entry, has) in
+        let has : may_replace part table label place e v ≡ true = and_from (part_has part v) (holds_for table label place e v.condition) r.of_part ((held_by table label place e v.condition within).1 r.held) in
+        let m : Contains kept v = (Contains-filter (may_replace part table label place e) (full_replacements e) v).1 (r.of_entry, has) in
         let n : Contains (sequences_in kept) u.points = (Contains-map (λ (x : Variant). x.sequence) kept u.points).1 (v, m, r.is) in
         (Contains-map (use_of e) (sequences_in kept) u).1 (u.points, n, ap (λ k. use_with k u.points) g.1)),
   )
     where
       kept : List Variant
-      kept = filter (may_replace part table label place e) (marked e)
+      kept = filter (may_replace part table label place e) (full_replacements e)
 
       use_with : ℕ → List ℕ → Use
       use_with n r = record { covers = n; points = r }
@@ -121,12 +123,12 @@ module _ (part : Part) (table : TableValue) (label : List ℕ) (formed : IsWellF
             let e : Entry = g.0 in
             let m = (Contains-filter (may_stand table label place) here e).0 g.1 in
             let within = IsWithin-at table label place e formed m.0 in
-            let t = both-true (not e.outside) (holds_for table label place e e.condition) m.1 in
+            let t = and_parts (not e.outside) (holds_for table label place e e.condition) m.1 in
             let h = (Contains-of_entry place e u within.1).0 g.2 in
             record { entry = e; at = m.0; inside = not-true e.outside t.0; held = (held_by table label place e e.condition within.1).0 t.1; replaces = h.0; covers = h.1 }),
         λ i. (let e : Entry = i.entry in
             let within = IsWithin-at table label place e formed i.at in
-            let stands : may_stand table label place e ≡ true = true-both (not e.outside) (holds_for table label place e e.condition) (ap not i.inside) ((held_by table label place e e.condition within.1).1 i.held) in
+            let stands : may_stand table label place e ≡ true = and_from (not e.outside) (holds_for table label place e e.condition) (ap not i.inside) ((held_by table label place e e.condition within.1).1 i.held) in
             (Contains-flat_map (uses_of_entry part table label place) standing u).1
             (e, (Contains-filter (may_stand table label place) here e).1 (i.at, stands), (Contains-of_entry place e u within.1).1 (i.replaces, i.covers))),
       )

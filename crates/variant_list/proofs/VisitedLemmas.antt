@@ -28,7 +28,7 @@ module _ (hopeless : List ℕ → Bool) where
       by_test true e = ap (λ us. v ∷ us) e
       by_test false e = e
 
-  -- behind a label that has hope it is as if none were before
+  -- after a label that has hope it is as if none were before
   visited-hopeful : (v : List ℕ) (ws : List (List ℕ)) → shortest_hopeless hopeless v ≡ None → visited hopeless (Some v) ws ≡ visited hopeless None ws
   visited-hopeful v [] hope = refl
   visited-hopeful v (w ∷ ws) hope =
@@ -38,7 +38,7 @@ module _ (hopeless : List ℕ → Bool) where
   visited-here before v ws hope =
       ap (λ o. cond (is_none o || is_new before v o) (v ∷ visited hopeless (Some v) ws) (visited hopeless (Some v) ws)) hope ∙ ap (λ us. v ∷ us) (visited-hopeful v ws hope)
 
-  -- up to a label that has hope, and behind it
+  -- up to a label that has hope, and after it
   pub visited-joined : (vs : List (List ℕ)) (v : List ℕ) (ws : List (List ℕ)) → shortest_hopeless hopeless v ≡ None → visited hopeless None (vs ++ v ∷ ws) ≡ (visited hopeless None vs ++ v ∷ []) ++ visited hopeless None ws
   visited-joined vs v ws hope =
       visited-append None vs (v ∷ ws) ∙ ap (λ us. visited hopeless None vs ++ us) (visited-here (last_or None vs) v ws hope) ∙ sym (append_assoc (visited hopeless None vs) (v ∷ []) (visited hopeless None ws))

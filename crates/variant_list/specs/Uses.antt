@@ -7,7 +7,7 @@ use Rattle.variant_table.specs.Entries.{Entry, TableValue, Variant, sequences_in
 use Rattle.variant_table.specs.Places.{entries_at}
 use Rattle.valid_labels.specs.Segmentations.{seen_under}
 use Rattle.variant_list.specs.declared.part.Part.{Part}
-use Rattle.variant_list.specs.Parts.{marked, part_has}
+use Rattle.variant_list.specs.Parts.{full_replacements, part_has}
 
 -- these code points may stand in the place of so many code points of a label
 pub record Use : Type 0 where
@@ -86,7 +86,7 @@ abbrev pub may_replace : Part → TableValue → List ℕ → ℕ → Entry → 
 may_replace part table label place e r = part_has part r && holds_for table label place e r.condition
 
 abbrev pub uses_of_entry : Part → TableValue → List ℕ → ℕ → Entry → List Use
-uses_of_entry part table label place e = map (use_of e) (sequences_in (filter (may_replace part table label place e) (marked e)))
+uses_of_entry part table label place e = map (use_of e) (sequences_in (filter (may_replace part table label place e) (full_replacements e)))
 
 -- those at a place of the label
 abbrev pub uses_at : Part → TableValue → List ℕ → ℕ → List Use

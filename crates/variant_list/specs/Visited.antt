@@ -28,6 +28,6 @@ fewer_steps None taken = None
 fewer_steps (Some n) taken = Some (n - taken)
 
 -- so many were taken of those that there were, and these are left
-pub record Takes (steps : Option ℕ) (taken : ℕ) (left : Option ℕ) : Type 0 where
+pub record TakesSteps (steps : Option ℕ) (taken : ℕ) (left : Option ℕ) : Type 0 where
   pub within : IfSome steps (λ n. taken ≤ n)
   pub fewer : left ≡ fewer_steps steps taken

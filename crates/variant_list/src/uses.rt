@@ -3,7 +3,7 @@ ghost use Rattle.std.specs.Prelude.{◌≡◌, ◌+◌, ◌<◌, ◌≤◌, map,
 ghost use Rattle.variant_table.specs.Entries.{replacements, whole};
 ghost use Rattle.variant_table.specs.WellFormed.{IsSequence, IsWellFormed};
 ghost use Rattle.variant_list.specs.declared.part.Part.TheVariants.{Whole};
-ghost use Rattle.variant_list.specs.Parts.{are_of, marked, part_has};
+ghost use Rattle.variant_list.specs.Parts.{are_of, full_replacements, part_has};
 ghost use Rattle.variant_list.specs.Uses.{holds_for, may_stand, may_replace, use_of, uses_of_entry, uses_at, uses_of};
 ghost use Rattle.variant_list.specs.inner.Asking.{CanAsk};
 ghost use Rattle.variant_list.specs.inner.NetPlans.{IsNetOf};
@@ -144,7 +144,7 @@ impl<'a> Uses<'a> {
         requires number { number < length (replacements entry.now) }
         requires in_table { Contains self.now.table.now.entries entry.now }
         requires within { place + length entry.now.source ≤ length self.now.label.now }
-        ensures { slice_get (map (may_replace self.now.part self.now.table.now self.now.label.now place entry.now) (marked entry.now)) number ≡ Some result }
+        ensures { slice_get (map (may_replace self.now.part self.now.table.now self.now.label.now place entry.now) (full_replacements entry.now)) number ≡ Some result }
     {
         // The source has its condition as a source, and none as a replacement of itself.
         has_replacement(self.part, entry, number)
@@ -206,7 +206,7 @@ fn add_all(draft: &mut NetDraft, entry: &Entry<'_>) -> Result<(), AllocError>
 /// Whether the part has the replacement of this number.
 fn has_replacement(part: Part, entry: &Entry<'_>, number: usize) -> bool
     requires { number < length (replacements entry.now) }
-    ensures { slice_get (map (part_has part) (marked entry.now)) number ≡ Some result }
+    ensures { slice_get (map (part_has part) (full_replacements entry.now)) number ≡ Some result }
 {
     match part {
         Part::Whole => true,

@@ -1,9 +1,10 @@
 -- What the entries of a line add.
-use Rattle.std.proofs.Common.{◌≡◌, ℕ, ◌+◌, ◌-◌, ◌<◌, ◌≤◌, Bool, true, false, ◌||◌, cond, List, [], ◌∷◌, ◌++◌, length, map, Option, Some, None, Result, Ok, Err, refl, sym, ap, subst, ◌∙◌, arith, length-append}
+use Rattle.std.proofs.Common.{◌≡◌, ℕ, ◌+◌, ◌-◌, ◌<◌, ◌≤◌, Bool, true, false, ◌||◌, cond, List, [], ◌∷◌, ◌++◌, length, map, Some, None, Result, Ok, Err, refl, sym, ap, subst, ◌∙◌, arith, length-append}
 use Rattle.std.specs.Prelude.{nat_lt, slice_index}
 use Rattle.std.specs.List.{AllByRecursion, list_any, range_with_len}
 use Rattle.std.proofs.lemmas.Bool.{le-ltb, lt-ltb, or_from}
 use Rattle.std.proofs.lemmas.List.FromFn.{length-map-range_with_len}
+use Rattle.std.proofs.Math.Bool.{or-false}
 use Rattle.ruleset_text.specs.Definitions.{Definitions}
 use Rattle.ruleset_text.specs.Entries.{Mapped, EntryForm}
 use Rattle.ruleset_text.specs.EntryText.{IsForm}
@@ -20,12 +21,13 @@ use Rattle.variant_table.specs.Limits.{text_limit, entry_limit}
 use Rattle.variant_table.specs.Ranges.{range_size}
 use Rattle.variant_table.specs.Reading.{◌>>=◌, with_entries, with_form}
 use Rattle.variant_table.specs.WellFormed.{IsNamed}
-use Rattle.variant_table.specs.inner.Held.{counted, IsCounted, IsLeft}
+use Rattle.variant_table.specs.inner.Held.{counted, IsCounted}
 use Rattle.variant_table.specs.inner.ReadingSteps.{Fails, with_new_source, with_new_sources}
 use Rattle.variant_table.proofs.ConditionLemmas.{IsKnown, known_form, named_form, points_are, text_with}
 use Rattle.variant_table.proofs.LengthLemmas.{range_lines}
 use Rattle.variant_table.proofs.RangeLemmas.{points_from, range_small, range_single, with_range}
 use Rattle.variant_table.proofs.TestLemmas.{with_form-over, with_form-unnamed, with_form-entries, entries-bad, entries-again, entries-new}
+use Rattle.ruleset_text.proofs.LineBytes.{all_joined}
 
 -- a fault of the first step is one of both
 pub fails_then : {X Y : Type 0} (number : ℕ) (fault : TableFault) (r : Result X LineFault) (f : X → Result Y LineFault) → Fails number fault r → Fails number fault (r >>= f)
@@ -49,10 +51,6 @@ too_long-counted : (v : Version) (text : List ℕ) → is_text_too_long v text �
 too_long-counted One text = refl
 too_long-counted Two text = refl
 too_long-counted Three text = refl
-
-all-join : {X : Type 0} (P : X → Type 0) (xs ys : List X) → AllByRecursion P xs → AllByRecursion P ys → AllByRecursion P (xs ++ ys)
-all-join P [] ys h k = k
-all-join P (x ∷ xs) ys h k = (h.0, all-join P xs ys h.1 k)
 
 -- so many bytes are left of the canonical text, and these entries are to be added
 module _ (v : Version) (d : Definitions) (t : List Entry) (form : EntryForm) (left : ℕ) (so_far : IsCounted v d left t) where
@@ -93,17 +91,13 @@ module _ (v : Version) (d : Definitions) (t : List Entry) (form : EntryForm) (le
   counted_with known es are named rest is = record {
     count = (let text : counted v (table_text v d (t ++ es)) ≡ counted v (table_text v d t ++ written_text written) = ap (λ x. counted v (table_text v d (t ++ x))) are ∙ ap (counted v) (text_with v d t written known) in
         omega (arith, text, is, so_far.count, all_counted));
-    named = all-join (IsNamed d) t es so_far.named named;
+    named = all_joined (IsNamed d) t es so_far.named named;
   }
 
 -- with new sources
 new_table : (b : Bool) (t es t' : List Entry) → cond b (Err SameSource) (Ok (t ++ es)) ≡ Ok t' → t' ≡ t ++ es
 new_table true t es t' h = absurd cc
 new_table false t es t' h = cc
-
-or_none : (b : Bool) → (b || false) ≡ b
-or_none true = refl
-or_none false = refl
 
 -- ---- an entry
 
@@ -137,7 +131,7 @@ module _ (v : Version) (d : Definitions) (t : List Entry) (ms : List Mapped) (le
       pub entry_new : has_bad_class (entry_of d ms) ≡ false → has_repeat (entry_of d ms) ≡ false → with_form v d t entry_form ≡ with_new_source t (entry_of d ms)
       entry_new b r =
           with_form-entries v d t entry_form fits known ∙ entries-new t (entry_of d ms ∷ []) (ap (λ x. x || false) b) (ap (λ x. x || false) r)
-          ∙ ap (λ x. cond x (Err SameSource) (Ok (t ++ entry_of d ms ∷ []))) (or_none (has_source_in t (entry_of d ms)))
+          ∙ ap (λ x. cond x (Err SameSource) (Ok (t ++ entry_of d ms ∷ []))) (or-false (has_source_in t (entry_of d ms)))
 
       pub entry_counted : (t' : List Entry) → with_new_source t (entry_of d ms) ≡ Ok t' → IsCounted v d rest t'
       entry_counted t' e =

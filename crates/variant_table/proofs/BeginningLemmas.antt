@@ -53,9 +53,9 @@ entry_with-of table s e apart h is = found_is table s e (entry_with table s) apa
 record Follows (table : List Entry) (beginning rest : List ℕ) (e : Entry) : Type 0 where
   in_table : Contains table e
   front : List ℕ
-  behind : List ℕ
+  after : List ℕ
   some : 0 < length front
-  cut : rest ≡ front ++ behind
+  cut : rest ≡ front ++ after
   source : e.source ≡ beginning ++ front
 
 option_case : {X : Type 0} (o : Option X) (x : X) → Contains (option_to_list o) x → o ≡ Some x
@@ -70,10 +70,10 @@ members_from table beginning (c ∷ rest) e h = step (Contains-append_cases (opt
         → (Contains (entries_from table (beginning ++ c ∷ []) rest) e → Follows table (beginning ++ c ∷ []) rest e) → Follows table beginning (c ∷ rest) e
     step (inl k) later =
         let r = entry_with-found table (beginning ++ c ∷ []) e (option_case (entry_with table (beginning ++ c ∷ [])) e k) in
-        record { in_table = r.0; front = c ∷ []; behind = rest; some = omega arith; cut = refl; source = r.1 }
+        record { in_table = r.0; front = c ∷ []; after = rest; some = omega arith; cut = refl; source = r.1 }
     step (inr k) later =
         let f = later k in
-        record { in_table = f.in_table; front = c ∷ f.front; behind = f.behind; some = omega arith; cut = ap (λ t. c ∷ t) f.cut; source = f.source ∙ append_assoc beginning (c ∷ []) f.front }
+        record { in_table = f.in_table; front = c ∷ f.front; after = f.after; some = omega arith; cut = ap (λ t. c ∷ t) f.cut; source = f.source ∙ append_assoc beginning (c ∷ []) f.front }
 
 -- a beginning that no longer source has
 pub entries_from-none : (table : List Entry) (beginning rest : List ℕ) → HasNoLonger table beginning → entries_from table beginning rest ≡ []
@@ -86,14 +86,14 @@ entries_from-none table beginning (c ∷ rest) none =
     by_cases None e = e
     by_cases (Some x) e = let r = entry_with-found table (beginning ++ c ∷ []) x e in absurd (none x c [] r.0 r.1)
 
-members_of : (table : List Entry) (apart : AllPairs Apart table) (beginning front behind : List ℕ) (e : Entry) → Contains table e → 0 < length front → e.source ≡ beginning ++ front → Contains (entries_from table beginning (front ++ behind)) e
-members_of table apart beginning [] behind e h l is = absurd (omega (arith, l))
-members_of table apart beginning (c ∷ []) behind e h l is =
-    Contains-append_left (option_to_list (entry_with table (beginning ++ c ∷ []))) (entries_from table (beginning ++ c ∷ []) behind) e
+members_of : (table : List Entry) (apart : AllPairs Apart table) (beginning front after : List ℕ) (e : Entry) → Contains table e → 0 < length front → e.source ≡ beginning ++ front → Contains (entries_from table beginning (front ++ after)) e
+members_of table apart beginning [] after e h l is = absurd (omega (arith, l))
+members_of table apart beginning (c ∷ []) after e h l is =
+    Contains-append_left (option_to_list (entry_with table (beginning ++ c ∷ []))) (entries_from table (beginning ++ c ∷ []) after) e
     (subst (λ o. Contains (option_to_list o) e) (sym (entry_with-of table (beginning ++ c ∷ []) e apart h is)) (Contains-head e []))
-members_of table apart beginning (c ∷ d ∷ front) behind e h l is =
-    Contains-append_right (option_to_list (entry_with table (beginning ++ c ∷ []))) (entries_from table (beginning ++ c ∷ []) ((d ∷ front) ++ behind)) e
-    (members_of table apart (beginning ++ c ∷ []) (d ∷ front) behind e h (omega arith) (is ∙ sym (append_assoc beginning (c ∷ []) (d ∷ front))))
+members_of table apart beginning (c ∷ d ∷ front) after e h l is =
+    Contains-append_right (option_to_list (entry_with table (beginning ++ c ∷ []))) (entries_from table (beginning ++ c ∷ []) ((d ∷ front) ++ after)) e
+    (members_of table apart (beginning ++ c ∷ []) (d ∷ front) after e h (omega arith) (is ∙ sym (append_assoc beginning (c ∷ []) (d ∷ front))))
 
 longer : (table : List Entry) (beginning rest : List ℕ) → AllByRecursion (λ e. length beginning < length e.source) (entries_from table beginning rest)
 longer table beginning rest = by_members (entries_from table beginning rest) (λ e h. (let f = members_from table beginning rest e h in omega (arith, f.some, ap length f.source, length-append beginning f.front)))
@@ -145,9 +145,9 @@ entries_are_at table label place h = record {
         let f = members_from table [] (take 8 (drop place label)) e k in (
           f.in_table,
           (
-            f.behind ++ drop 8 (drop place label),
-            sym (take-append-drop 8 (drop place label)) ∙ ap (λ t. t ++ drop 8 (drop place label)) f.cut ∙ append_assoc f.front f.behind (drop 8 (drop place label))
-                ∙ ap (λ t. t ++ (f.behind ++ drop 8 (drop place label))) (sym f.source),
+            f.after ++ drop 8 (drop place label),
+            sym (take-append-drop 8 (drop place label)) ∙ ap (λ t. t ++ drop 8 (drop place label)) f.cut ∙ append_assoc f.front f.after (drop 8 (drop place label))
+                ∙ ap (λ t. t ++ (f.after ++ drop 8 (drop place label))) (sym f.source),
           ),
         )
 

@@ -1,11 +1,11 @@
 -- The canonical text of a well-formed table spells that table.
-use Rattle.std.proofs.Common.{◌≡◌, ◌≢◌, ℕ, zero, suc, ◌+◌, ◌*◌, ◌-◌, ◌<◌, ◌≤◌, Bool, true, false, not, ◌&&◌, ◌||◌, cond, eqb, Some, List, [], ◌∷◌, ◌++◌, length, map, get_or, take, inl, inr, Option, Result, Ok, Err, refl, sym, ap, subst, ◌∙◌, append_assoc, arith, length-append, eq-eqb}
+use Rattle.std.proofs.Common.{◌≡◌, ◌≢◌, ℕ, zero, suc, ◌+◌, ◌*◌, ◌-◌, ◌<◌, ◌≤◌, Bool, true, false, not, ◌&&◌, cond, eqb, Some, List, [], ◌∷◌, ◌++◌, length, map, get_or, take, inl, inr, Option, Result, Ok, Err, refl, sym, ap, subst, ◌∙◌, append_assoc, arith, length-append, eq-eqb}
 use Rattle.std.specs.List.{All, AllByRecursion, AllPairs, list_all}
 use Rattle.std.specs.Option.{option_map}
 use Rattle.std.specs.Str.Lines.{strip_carriage_return}
 use Rattle.std.specs.Prelude.{bytes_eq, nat_le, is_some, None}
 use Rattle.std.proofs.lemmas.List.{append-nil, length-map}
-use Rattle.std.proofs.lemmas.Bool.{leb-true, eqb-true, and_parts, false_from_ne_true}
+use Rattle.std.proofs.lemmas.Bool.{leb-true, and_parts, false_from_ne_true}
 use Rattle.std.proofs.lemmas.Slice.Eq.{bytes_eq-Decides}
 use Rattle.std.proofs.lemmas.List.Elements.{All-from_recursion, recursion_from_All, All-weaker}
 use Rattle.label_patterns.specs.declared.condition.Condition.{Condition}
@@ -17,18 +17,16 @@ use Rattle.idn_text.specs.Points.{is_hex_digit}
 use Rattle.ruleset_text.specs.declared.entry_form.NamedCondition.{NamedCondition}
 use Rattle.ruleset_text.specs.declared.fault.DefinitionFault.{DefinitionFault}
 use Rattle.ruleset_text.specs.declared.keyword.Keyword.{Keyword}
-use Rattle.ruleset_text.specs.declared.keyword.Keyword.TheVariants as keyword
 use Rattle.ruleset_text.specs.Canonical.{definition_text, point_text}
 use Rattle.ruleset_text.specs.Definition.{Definition, keyword_of}
-use Rattle.ruleset_text.specs.Definitions.{Definitions, after, all_definitions, canonical_lines, defined, definitions_text, lines_text, nothing_defined, with_keyword, with_lines, with_words}
+use Rattle.ruleset_text.specs.Definitions.{Definitions, all_definitions, and_then, canonical_lines, defined, definitions_text, lines_text, nothing_defined, with_keyword, with_lines, with_words}
 use Rattle.ruleset_text.specs.Entries.{Mapped}
 use Rattle.ruleset_text.specs.Lexemes.{lexemes}
 use Rattle.ruleset_text.specs.Names.{is_letter, is_name_byte, is_name, is_one_of, number_of, AreNames}
 use Rattle.ruleset_text.specs.WellFormed.{AreDefinitions, IsDefinition}
-use Rattle.ruleset_text.proofs.DefinedLemmas.{NamesNoDemand, demands_grow, without_demands}
 use Rattle.ruleset_text.proofs.DefinitionsBackLemmas.{definitions_back}
 use Rattle.ruleset_text.proofs.DefinitionsTextLemmas.{definitions_text-length}
-use Rattle.ruleset_text.proofs.LineBytes.{IsInLine, AreInLine, joined, lines_in_line, point_in_line}
+use Rattle.ruleset_text.proofs.LineBytes.{IsInLine, AreInLine, joined, lines_in_line, point_in_line, name_in_line}
 use Rattle.ruleset_text.specs.EntryText.{mark_text, sequence_text, names_text, tags_text, condition_word, condition_text, IsSequence, MayHaveTags, HasRule, IsMapped, IsForm}
 use Rattle.ruleset_text.specs.EntryWords.{IsEntryLine}
 use Rattle.ruleset_text.proofs.EntryBackLemmas.{form_back}
@@ -38,7 +36,7 @@ use Rattle.variant_table.specs.declared.version.Version.{Version}
 use Rattle.variant_table.specs.declared.version.Notation.{Notation}
 use Rattle.variant_table.specs.declared.version.Notation.TheVariants.{Table, Ruleset}
 use Rattle.variant_table.specs.declared.version.Version.TheVariants.{One, Two, Three}
-use Rattle.variant_table.specs.DefinitionLines.{if_read, keyword_in, with_behind}
+use Rattle.variant_table.specs.DefinitionLines.{keyword_in, with_after}
 use Rattle.variant_table.specs.Entries.{Variant, Entry, IsOfVersion, IsPlain, TableValue, empty_table, entry_from, source_of, table_of, whole, sequences_in, replacements}
 use Rattle.variant_table.specs.Forms.{has_tags, is_plain, is_bare, has_form, knows_rule, knows_all, numbered, name_at, named, variant_of, mapped_of, as_written}
 use Rattle.variant_table.specs.Canonical.{canonical_line, canonical_text, version_line, head_text, table_text}
@@ -50,7 +48,7 @@ use Rattle.variant_table.proofs.ConditionLemmas.{AreScalars, sequences_scalar, s
 use Rattle.variant_table.proofs.EntryLemmas.{same_variant}
 use Rattle.variant_table.proofs.FormSteps.{tags_named}
 use Rattle.variant_table.proofs.LengthLemmas.{names_size, length-tags_text, pieces_size, length-piece, length-entry_text}
-use Rattle.variant_table.proofs.NumberLemmas.{number_back, numbers_back, is_name-at, one_of-at, few_numbers, names-front, names-behind, pairs_head, pairs_tail}
+use Rattle.variant_table.proofs.NumberLemmas.{number_back, numbers_back, is_name-at, one_of-at, few_numbers, names-front, names-after, pairs_head, pairs_tail}
 use Rattle.variant_table.proofs.SizeLemmas.{size_of-cons}
 use Rattle.variant_table.proofs.WritingLemmas.{further_text, sequence_text-is, length-sequence_text, piece_text, further_pieces, pieces_text, canonical_line-is}
 
@@ -65,7 +63,7 @@ module _ (d : Definitions) (are : AreDefinitions d) where
   tag_names = names-front d.tags (d.set_names ++ d.rule_names) are.names
 
   rule_names : AreNames d.rule_names
-  rule_names = names-behind d.set_names d.rule_names (names-behind d.tags (d.set_names ++ d.rule_names) are.names)
+  rule_names = names-after d.set_names d.rule_names (names-after d.tags (d.set_names ++ d.rule_names) are.names)
 
   names_of : (ns : List ℕ) → AllByRecursion (λ n. n < length d.tags) ns → AllPairs (λ m n. m ≢ n) ns → AreNames (map (name_at d.tags) ns)
   names_of [] h apart = tt
@@ -94,7 +92,7 @@ module _ (d : Definitions) (are : AreDefinitions d) where
   mapped_form : (v : Variant) → 0 < length v.sequence → AreScalars v.sequence → HasItsNames d v → IsMapped (mapped_of d v)
   mapped_form v l s h = record {
     sequence = scalar_sequence v.sequence l s;
-    tags = may_have v.blocked v.tags h.unmarked (names_of v.tags (recursion_from_All (λ n. n < length d.tags) v.tags h.tags) h.distinct);
+    tags = may_have v.marked v.tags h.unmarked (names_of v.tags (recursion_from_All (λ n. n < length d.tags) v.tags h.tags) h.distinct);
     condition = has_rule v.condition h.condition;
   }
 
@@ -149,15 +147,15 @@ all_plain : (d : Definitions) (variants : List Variant) → AllByRecursion IsPla
 all_plain d [] h = refl
 all_plain d (v ∷ variants) h = ap (λ b. b && list_all is_plain (map (mapped_of d) variants)) (plain_mapped d v h.0) ∙ all_plain d variants h.1
 
-all_unmarked : (d : Definitions) (variants : List Variant) → AllByRecursion IsPlain variants → AllByRecursion (λ v. v.blocked ≡ false) variants → list_all is_bare (map (mapped_of d) variants) ≡ true
+all_unmarked : (d : Definitions) (variants : List Variant) → AllByRecursion IsPlain variants → AllByRecursion (λ v. v.marked ≡ false) variants → list_all is_bare (map (mapped_of d) variants) ≡ true
 all_unmarked d [] p h = refl
 all_unmarked d (v ∷ variants) p h =
-    ap (λ b. (b && not v.blocked) && list_all is_bare (map (mapped_of d) variants)) (plain_mapped d v p.0) ∙ ap (λ b. not b && list_all is_bare (map (mapped_of d) variants)) h.0 ∙ all_unmarked d variants p.1 h.1
+    ap (λ b. (b && not v.marked) && list_all is_bare (map (mapped_of d) variants)) (plain_mapped d v p.0) ∙ ap (λ b. not b && list_all is_bare (map (mapped_of d) variants)) h.0 ∙ all_unmarked d variants p.1 h.1
 
 of_version : (v : Version) (d : Definitions) (e : Entry) → IsOfVersion v e → has_form v (record { mapped = as_written d e; last = None }) ≡ true
-of_version One d e h = ap (λ b. b && true) (all_unmarked d (whole e) (recursion_from_All IsPlain (whole e) h.2) (h.0, recursion_from_All (λ v. v.blocked ≡ false) e.variants h.1))
+of_version One d e h = ap (λ b. b && true) (all_unmarked d (whole e) (recursion_from_All IsPlain (whole e) h.2) (h.0, recursion_from_All (λ v. v.marked ≡ false) e.variants h.1))
 of_version Two d e h = ap (λ b. b && not e.outside) (all_plain d (whole e) (recursion_from_All IsPlain (whole e) h.1)) ∙ ap not h.0
-of_version Three d e h = all_plain d (whole e) (recursion_from_All IsPlain (whole e) h)
+of_version Three d e h = refl
 
 -- ---- the bytes of a line: no line feed, no carriage return
 
@@ -182,23 +180,6 @@ tags_in_line (tag ∷ tags) h = ((refl, refl), ((refl, refl), ((refl, refl), ((r
 word_in_line : (kind : ConditionKind) → AreInLine (condition_word kind)
 word_in_line When = ((refl, refl), ((refl, refl), ((refl, refl), ((refl, refl), ((refl, refl), ((refl, refl), tt))))))
 word_in_line Unless = ((refl, refl), ((refl, refl), ((refl, refl), ((refl, refl), ((refl, refl), ((refl, refl), ((refl, refl), ((refl, refl), tt))))))))
-
-name_in_line : (name : List ℕ) → is_name name ≡ true → AreInLine name
-name_in_line [] h = absurd cc
-name_in_line (c ∷ cs) h =
-    let p = and_parts (is_letter c && nat_le (length cs) 31) (list_all is_name_byte cs) h in
-    let q = and_parts (is_letter c) (nat_le (length cs) 31) p.0 in
-    (byte_in_line c (ap (λ b. b || nat_le 48 c && nat_le c 57 || eqb c 95) q.0), bytes_in_line cs p.1)
-  where
-    byte_in_line : (c : ℕ) → is_name_byte c ≡ true → IsInLine c
-    byte_in_line c h = (other c 10 h refl, other c 13 h refl)
-      where
-        other : (c k : ℕ) → is_name_byte c ≡ true → is_name_byte k ≡ false → eqb c k ≡ false
-        other c k h n = false_from_ne_true (eqb c k) (λ e. (let x : true ≡ false = sym h ∙ ap is_name_byte (eqb-true c k e) ∙ n in cc))
-
-    bytes_in_line : (cs : List ℕ) → list_all is_name_byte cs ≡ true → AreInLine cs
-    bytes_in_line [] h = tt
-    bytes_in_line (c ∷ cs) h = let p = and_parts (is_name_byte c) (list_all is_name_byte cs) h in (byte_in_line c p.0, bytes_in_line cs p.1)
 
 each_name_in_line : (tags : List (List ℕ)) → AreNames tags → AllByRecursion AreInLine tags
 each_name_in_line [] h = tt
@@ -245,7 +226,7 @@ one_mark : (marked : Bool) → length (mark_text marked) ≤ 1
 one_mark true = omega arith
 one_mark false = omega arith
 
-plain_piece : (d : Definitions) (v : Variant) → IsTableSequence v.sequence → IsPlain v → length (piece_text (mapped_of d v)) ≤ 55 + length (mark_text v.blocked)
+plain_piece : (d : Definitions) (v : Variant) → IsTableSequence v.sequence → IsPlain v → length (piece_text (mapped_of d v)) ≤ 55 + length (mark_text v.marked)
 plain_piece d v s h =
     omega (
       arith,
@@ -258,7 +239,7 @@ plain_piece d v s h =
 -- how many are blocked
 marked : List Variant → ℕ
 marked [] = 0
-marked (v ∷ variants) = length (mark_text v.blocked) + marked variants
+marked (v ∷ variants) = length (mark_text v.marked) + marked variants
 
 plain_pieces : (d : Definitions) (variants : List Variant) → AllByRecursion IsTableSequence (sequences_in variants) → AllByRecursion IsPlain variants → pieces_size (map (mapped_of d) variants) ≤ 56 * length variants + marked variants
 unfolding marked
@@ -268,9 +249,9 @@ plain_pieces d (v ∷ variants) s h = omega (arith, plain_piece d v s.0 h.0, pla
 marked-few : (variants : List Variant) → marked variants ≤ length variants
 unfolding marked
 marked-few [] = omega arith
-marked-few (v ∷ variants) = omega (arith, one_mark v.blocked, marked-few variants)
+marked-few (v ∷ variants) = omega (arith, one_mark v.marked, marked-few variants)
 
-marked-none : (variants : List Variant) → AllByRecursion (λ v. v.blocked ≡ false) variants → marked variants ≡ 0
+marked-none : (variants : List Variant) → AllByRecursion (λ v. v.marked ≡ false) variants → marked variants ≡ 0
 unfolding marked
 marked-none [] h = refl
 marked-none (v ∷ variants) h = omega (arith, ap (λ b. length (mark_text b)) h.0, marked-none variants h.1)
@@ -293,7 +274,7 @@ length-blocked_line d e h of = omega (arith, h.few, length-by_marks d e h of.1, 
 
 -- in version 1 it has at most 951
 pub length-canonical_line : (d : Definitions) (e : Entry) → IsEntry e → IsOfVersion One e → length (canonical_line d e) ≤ 951
-length-canonical_line d e h of = omega (arith, length-by_marks d e h of.2, ap (λ b. length (mark_text b)) of.0, marked-none e.variants (recursion_from_All (λ v. v.blocked ≡ false) e.variants of.1))
+length-canonical_line d e h of = omega (arith, length-by_marks d e h of.2, ap (λ b. length (mark_text b)) of.0, marked-none e.variants (recursion_from_All (λ v. v.marked ≡ false) e.variants of.1))
 
 -- ---- with tags and conditions
 
@@ -336,7 +317,7 @@ named_piece d v are s h m =
       length-piece (mapped_of d v),
       length-sequence_text v.sequence (omega (arith, s.filled)) s.short,
       length-append (tags_text tags) (condition_text condition),
-      marked_or_tagged v.blocked tags m.tags (tags_named v.blocked tags m.tags) (omega (arith, few_tags d v are h, length-map v.tags (name_at d.tags))),
+      marked_or_tagged v.marked tags m.tags (tags_named v.marked tags m.tags) (omega (arith, few_tags d v are h, length-map v.tags (name_at d.tags))),
       length-condition condition m.condition,
     )
 
@@ -383,7 +364,7 @@ raw_lines-canonical d table are h n =
     ap raw_lines (text_of_lines d table ∙ sym (append-nil (lines_text (map (canonical_line d) table))))
     ∙ cut_lines (map (canonical_line d) table) [] (lines_in_line_of d table are h n) ∙ append-nil (map (canonical_line d) table)
 
--- the lines of a table's canonical text behind its version line
+-- the lines of a table's canonical text after its version line
 table_lines : Definitions → List Entry → List (List ℕ)
 table_lines d table = canonical_lines d ++ map (canonical_line d) table
 
@@ -415,52 +396,37 @@ entries_spell v d done (e ∷ table) are h n of = (
 -- what reading gives for the lexemes of a definition
 record Read (limit : ℕ) (d e : Definitions) (words : List (List ℕ)) : Type 0 where
   keyword : Keyword
-  behind : List (List ℕ)
-  begins : (v : Version) → v ≡ Three → NamesNoDemand keyword → keyword_in v words ≡ Some (keyword, behind)
-  defined : defined limit d keyword behind ≡ Ok e
-
-if_read-is : (k : Keyword) → NamesNoDemand k → if_read (Some k) ≡ Some k
-if_read-is keyword.Tag n = refl
-if_read-is keyword.Set n = refl
-if_read-is keyword.Rule n = refl
-if_read-is keyword.Never n = absurd n
-if_read-is keyword.Always n = absurd n
+  after : List (List ℕ)
+  begins : (v : Version) → v ≡ Three → keyword_in v words ≡ Some (keyword, after)
+  defined : defined limit d keyword after ≡ Ok e
 
 words_read : (limit : ℕ) (d e : Definitions) (words : List (List ℕ)) → with_words limit d words ≡ Ok e → Read limit d e words
 words_read limit d e [] h = absurd cc
-words_read limit d e (word ∷ behind) h = by_keyword (keyword_of word) refl h
+words_read limit d e (word ∷ after) h = by_keyword (keyword_of word) refl h
   where
-    begins_with : (k : Keyword) → keyword_of word ≡ Some k → (v : Version) → v ≡ Three → NamesNoDemand k → keyword_in v (word ∷ behind) ≡ Some (k, behind)
-    begins_with k is One e n = absurd cc
-    begins_with k is Two e n = absurd cc
-    begins_with k is Three e n = ap (λ o. with_behind behind (if_read o)) is ∙ ap (with_behind behind) (if_read-is k n)
+    begins_with : (k : Keyword) → keyword_of word ≡ Some k → (v : Version) → v ≡ Three → keyword_in v (word ∷ after) ≡ Some (k, after)
+    begins_with k is One e = absurd cc
+    begins_with k is Two e = absurd cc
+    begins_with k is Three e = ap (with_after after) is
 
-    by_keyword : (o : Option Keyword) → keyword_of word ≡ o → with_keyword limit d o behind ≡ Ok e → Read limit d e (word ∷ behind)
+    by_keyword : (o : Option Keyword) → keyword_of word ≡ o → with_keyword limit d o after ≡ Ok e → Read limit d e (word ∷ after)
     by_keyword None is h = absurd cc
-    by_keyword (Some k) is h = record { keyword = k; behind = behind; begins = begins_with k is; defined = h }
+    by_keyword (Some k) is h = record { keyword = k; after = after; begins = begins_with k is; defined = h }
 
-after_is : (r : Result Definitions DefinitionFault) (f : Definitions → Result Definitions DefinitionFault) (e : Definitions) → after r f ≡ Ok e → (d : Definitions) × (r ≡ Ok d) × (f d ≡ Ok e)
-after_is (Ok d) f e h = (d, refl, h)
-after_is (Err fault) f e h = absurd cc
+and_then_is : (r : Result Definitions DefinitionFault) (f : Definitions → Result Definitions DefinitionFault) (e : Definitions) → and_then r f ≡ Ok e → (d : Definitions) × (r ≡ Ok d) × (f d ≡ Ok e)
+and_then_is (Ok d) f e h = (d, refl, h)
+and_then_is (Err fault) f e h = absurd cc
 
-demands_of_lines : (limit : ℕ) (d e : Definitions) (lines : List (List ℕ)) → with_lines limit d lines ≡ Ok e → length d.demands ≤ length e.demands
-demands_of_lines limit d e [] h = omega (arith, ap (λ (x : Definitions). length x.demands) (let same : d ≡ e = cc in same))
-demands_of_lines limit d e (line ∷ lines) h =
-    let first = after_is (with_words limit d (lexemes line)) (λ x. with_lines limit x lines) e h in
-    let read = words_read limit d first.0 (lexemes line) first.1 in
-    omega (arith, demands_grow limit d first.0 read.keyword read.behind read.defined, demands_of_lines limit first.0 e lines first.2)
-
-lines_define : (d e : Definitions) (lines : List (List ℕ)) → AllByRecursion AreInLine lines → with_lines (8388608 - length (head_text Three ++ [])) d lines ≡ Ok e → length e.demands ≡ 0 → LinesSpell (table_of Three d []) lines (table_of Three e [])
-lines_define d e [] own h none = ap (λ x. table_of Three x []) (let same : e ≡ d = cc in same)
-lines_define d e (line ∷ lines) own h none =
+lines_define : (d e : Definitions) (lines : List (List ℕ)) → AllByRecursion AreInLine lines → with_lines (8388608 - length (head_text Three ++ [])) d lines ≡ Ok e → LinesSpell (table_of Three d []) lines (table_of Three e [])
+lines_define d e [] own h = ap (λ x. table_of Three x []) (let same : e ≡ d = cc in same)
+lines_define d e (line ∷ lines) own h =
     let limit : ℕ = 8388608 - length (head_text Three ++ []) in
-    let first = after_is (with_words limit d (lexemes line)) (λ x. with_lines limit x lines) e h in
+    let first = and_then_is (with_words limit d (lexemes line)) (λ x. with_lines limit x lines) e h in
     let read = words_read limit d first.0 (lexemes line) first.1 in
-    let fewer : length first.0.demands ≡ 0 = omega (arith, none, demands_of_lines limit first.0 e lines first.2) in
-    let begins = read.begins Three refl (without_demands limit d first.0 read.keyword read.behind read.defined fewer) in (
+    let begins = read.begins Three refl in (
       table_of Three first.0 [],
-      subst (λ l. LineAdds (table_of Three d []) l (table_of Three first.0 [])) (sym (strip_nothing line own.0)) (inr (first.0, (read.keyword, read.behind, begins, read.defined), refl)),
-      lines_define first.0 e lines own.1 first.2 none,
+      subst (λ l. LineAdds (table_of Three d []) l (table_of Three first.0 [])) (sym (strip_nothing line own.0)) (inr (first.0, (read.keyword, read.after, begins, read.defined), refl)),
+      lines_define first.0 e lines own.1 first.2,
     )
 
 definitions_spell : (v : Version) (d : Definitions) → AreOfVersion v d → AreDefinitions d → length (table_text v d []) ≤ text_limit v → LinesSpell (empty_table v) (canonical_lines d) (table_of v d [])
@@ -470,16 +436,15 @@ definitions_spell Three d of are l =
     lines_define nothing_defined d (canonical_lines d) (lines_in_line d are)
     (definitions_back d (8388608 - length (head_text Three ++ [])) are
     (omega (arith, l, length-append (head_text Three) (definitions_text d ++ []), length-append (definitions_text d) [], definitions_text-length d, length-append (head_text Three) [])))
-    (ap length of)
 
-behind_one_another : (t m u : TableValue) (a b : List (List ℕ)) → LinesSpell t a m → LinesSpell m b u → LinesSpell t (a ++ b) u
-behind_one_another t m u [] b h k = subst (λ x. LinesSpell x b u) h k
-behind_one_another t m u (line ∷ a) b (n, adds, rest) k = (n, adds, behind_one_another n m u a b rest k)
+after_one_another : (t m u : TableValue) (a b : List (List ℕ)) → LinesSpell t a m → LinesSpell m b u → LinesSpell t (a ++ b) u
+after_one_another t m u [] b h k = subst (λ x. LinesSpell x b u) h k
+after_one_another t m u (line ∷ a) b (n, adds, rest) k = (n, adds, after_one_another n m u a b rest k)
 
 table_spelled : (v : Version) (d : Definitions) (table : List Entry) → IsTable (table_of v d table) → LinesSpell (empty_table v) (table_lines d table) (table_of v d table)
 unfolding table_lines
 table_spelled v d table h =
-    behind_one_another (empty_table v) (table_of v d []) (table_of v d table) (canonical_lines d) (map (canonical_line d) table)
+    after_one_another (empty_table v) (table_of v d []) (table_of v d table) (canonical_lines d) (map (canonical_line d) table)
     (definitions_spell v d h.defined h.without_fault (omega (
       arith,
       h.short,
@@ -568,13 +533,13 @@ no_version_line : (d : Definitions) (e : Entry) → AreDefinitions d → IsEntry
 no_version_line d e are h n =
     let all = recursion_from_All IsTableSequence (replacements e) h.sequences in
     let m : Mapped = mapped_of d (source_of e) in
-    let behind : List ℕ = [] ++ (tags_text m.tags ++ condition_text m.condition) in
+    let after : List ℕ = [] ++ (tags_text m.tags ++ condition_text m.condition) in
     let others : List ℕ = pieces_text (map (mapped_of d) e.variants) in
-    let line : canonical_line d e ≡ mark_text e.outside ++ (sequence_text e.source ++ (behind ++ others)) =
-    canonical_line-is d e ∙ append_assoc (mark_text e.outside) (sequence_text e.source ++ behind) others ∙ ap (λ t. mark_text e.outside ++ t) (append_assoc (sequence_text e.source) behind others) in
+    let line : canonical_line d e ≡ mark_text e.outside ++ (sequence_text e.source ++ (after ++ others)) =
+    canonical_line-is d e ∙ append_assoc (mark_text e.outside) (sequence_text e.source ++ after) others ∙ ap (λ t. mark_text e.outside ++ t) (append_assoc (sequence_text e.source) after others) in
     ap (λ l. bytes_eq l (version_line Table)) (strip_nothing (canonical_line d e) (line_in_line d e are h n) ∙ line)
-    ∙ false_from_ne_true (bytes_eq (mark_text e.outside ++ (sequence_text e.source ++ (behind ++ others))) (version_line Table))
-    (begins_by_mark e.outside e.source (behind ++ others) (sequences_filled (replacements e) all).0 (sequences_scalar (replacements e) all).0)
+    ∙ false_from_ne_true (bytes_eq (mark_text e.outside ++ (sequence_text e.source ++ (after ++ others))) (version_line Table))
+    (begins_by_mark e.outside e.source (after ++ others) (sequences_filled (replacements e) all).0 (sequences_scalar (replacements e) all).0)
 
 -- lines of which the first is no version line
 record AreBody (lines : List (List ℕ)) : Type 0 where

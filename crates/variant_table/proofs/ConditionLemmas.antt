@@ -1,9 +1,9 @@
 -- Entries without a fault are those of a well-formed table.
-use Rattle.std.proofs.Common.{◌≡◌, ℕ, zero, suc, ◌+◌, ◌<◌, Bool, true, false, not, ◌||◌, ◌&&◌, cond, List, [], ◌∷◌, ◌++◌, length, map, get_or, Ok, Err, refl, sym, ap, subst, ◌∙◌, arith, append_assoc, length-append}
+use Rattle.std.proofs.Common.{◌≡◌, ℕ, zero, suc, ◌+◌, ◌<◌, Bool, true, false, not, ◌||◌, ◌&&◌, List, [], ◌∷◌, ◌++◌, length, map, get_or, Ok, refl, sym, ap, subst, ◌∙◌, arith, append_assoc, length-append}
 use Rattle.std.specs.Prelude.{nat_lt, bytes_eq, ◌≢◌, ◌≤◌, Option, Some, None, is_some, slice_index}
 use Rattle.std.specs.List.{AllByRecursion, All, AllPairs, list_all, list_any, range_with_len}
 use Rattle.std.proofs.lemmas.Bool.Decides.{nat_tests}
-use Rattle.std.proofs.lemmas.Bool.{and_parts, ltb-false, le-ltb, or_parts, or_from, not-false, not_from_true, false_from_ne_true}
+use Rattle.std.proofs.lemmas.Bool.{and_parts, ltb-false, le-ltb, or_parts, or_from, not-false, not_from_true, false_from_ne_true, not-true}
 use Rattle.std.proofs.lemmas.List.{append-nil}
 use Rattle.std.proofs.Math.ListN.{get_or-append}
 use Rattle.std.proofs.Math.Seq.{get_or-append_seam}
@@ -224,15 +224,11 @@ text_back d (ms ∷ es) h =
 
 -- ---- the forms of a version
 
-true_not : (b : Bool) → not b ≡ true → b ≡ false
-true_not true e = absurd cc
-true_not false e = refl
-
-bare_unmarked : (d : Definitions) (mapped : List Mapped) → list_all is_bare mapped ≡ true → AllByRecursion (λ v. v.blocked ≡ false) (map (variant_of d) mapped)
+bare_unmarked : (d : Definitions) (mapped : List Mapped) → list_all is_bare mapped ≡ true → AllByRecursion (λ v. v.marked ≡ false) (map (variant_of d) mapped)
 bare_unmarked d [] h = tt
 bare_unmarked d (m ∷ mapped) h =
     let p = and_parts (is_bare m) (list_all is_bare mapped) h in
-    (true_not m.marked (and_parts (is_plain m) (not m.marked) p.0).1, bare_unmarked d mapped p.1)
+    (not-true m.marked (and_parts (is_plain m) (not m.marked) p.0).1, bare_unmarked d mapped p.1)
 
 pub bare_plain : (mapped : List Mapped) → list_all is_bare mapped ≡ true → list_all is_plain mapped ≡ true
 bare_plain [] h = refl
@@ -272,10 +268,10 @@ plain_entry d [] h = All-from_recursion IsPlain (whole (entry_of d [])) ((refl, 
 plain_entry d (m ∷ mapped) h = All-from_recursion IsPlain (whole (entry_of d (m ∷ mapped))) (plain_variants d (m ∷ mapped) h)
 
 bare_entry : (d : Definitions) (mapped : List Mapped) → list_all is_bare mapped ≡ true → IsOfVersion One (entry_of d mapped)
-bare_entry d [] h = (refl, All-from_recursion (λ v. v.blocked ≡ false) [] tt, plain_entry d [] refl)
+bare_entry d [] h = (refl, All-from_recursion (λ v. v.marked ≡ false) [] tt, plain_entry d [] refl)
 bare_entry d (m ∷ mapped) h =
     let all = bare_unmarked d (m ∷ mapped) h in
-    (all.0, All-from_recursion (λ v. v.blocked ≡ false) (map (variant_of d) mapped) all.1, plain_entry d (m ∷ mapped) (bare_plain (m ∷ mapped) h))
+    (all.0, All-from_recursion (λ v. v.marked ≡ false) (map (variant_of d) mapped) all.1, plain_entry d (m ∷ mapped) (bare_plain (m ∷ mapped) h))
 
 inside_entry : (d : Definitions) (mapped : List Mapped) → list_all is_plain mapped ≡ true → begins_marked mapped ≡ false → IsOfVersion Two (entry_of d mapped)
 inside_entry d [] p h = (refl, plain_entry d [] refl)
@@ -293,16 +289,16 @@ version_form : (v : Version) (d : Definitions) (last : Option ℕ) (mapped : Lis
 version_form One d None mapped h = (bare_entry d mapped (and_parts (list_all is_bare mapped) true h).0, tt)
 version_form One d (Some last) mapped h = absurd (let p = (and_parts (list_all is_bare mapped) false h).1 in cc)
 version_form Two d None mapped h =
-    let p = and_parts (list_all is_plain mapped) (not (begins_marked mapped)) h in (inside_entry d mapped p.0 (true_not (begins_marked mapped) p.1), tt)
+    let p = and_parts (list_all is_plain mapped) (not (begins_marked mapped)) h in (inside_entry d mapped p.0 (not-true (begins_marked mapped) p.1), tt)
 version_form Two d (Some last) [] h = tt
 version_form Two d (Some last) (m ∷ mapped) h =
     let p = and_parts (list_all is_plain (m ∷ mapped)) (not m.marked) h in
     each_point (IsOfVersion Two) d m (range_with_len (slice_index m.points 0) (range_size (slice_index m.points 0) last))
-    (λ c. (true_not m.marked p.1, plain_entry d (with_point m c ∷ []) (plain_point m mapped p.0)))
-version_form Three d None mapped h = (plain_entry d mapped h, tt)
+    (λ c. (not-true m.marked p.1, plain_entry d (with_point m c ∷ []) (plain_point m mapped p.0)))
+version_form Three d None mapped h = (tt, tt)
 version_form Three d (Some last) [] h = tt
 version_form Three d (Some last) (m ∷ mapped) h =
-    each_point (IsOfVersion Three) d m (range_with_len (slice_index m.points 0) (range_size (slice_index m.points 0) last)) (λ c. plain_entry d (with_point m c ∷ []) (plain_point m mapped h))
+    each_point (IsOfVersion Three) d m (range_with_len (slice_index m.points 0) (range_size (slice_index m.points 0) last)) (λ c. tt)
 
 -- ---- names
 

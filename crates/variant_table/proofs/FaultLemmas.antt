@@ -2,25 +2,24 @@
 use Rattle.std.proofs.Common.{◌≡◌, inl, inr, Option, Some, None, ℕ, ◌<◌, Bool, true, false, not, cond, List, Result, Ok, Err, refl, sym, ap, ◌∙◌, arith}
 use Rattle.std.specs.List.{list_any}
 use Rattle.std.specs.Str.Lines.{strip_carriage_return}
-use Rattle.std.proofs.lemmas.Bool.{false_from_ne_true}
+use Rattle.std.proofs.lemmas.Bool.{false_from_ne_true, not-true}
 use Rattle.ruleset_text.specs.declared.fault.DefinitionFault.{DefinitionFault}
 use Rattle.ruleset_text.specs.declared.keyword.Keyword.{Keyword}
 use Rattle.ruleset_text.specs.Definitions.{Definitions, defined}
 use Rattle.ruleset_text.specs.Entries.{EntryForm}
-use Rattle.ruleset_text.specs.Lexemes.{lexemes}
 use Rattle.variant_table.specs.Faults.{LineFault, Limit, Syntax, BadClass, SameVariant, SameSource, NoSuchName}
 use Rattle.variant_table.specs.Entries.{Entry, TableValue}
 use Rattle.variant_table.specs.Conditions.{is_too_long, is_over_limit, has_bad_class, has_repeat, has_source_in}
 use Rattle.variant_table.specs.Forms.{HasForm, written_out, knows_all, entries_of}
-use Rattle.variant_table.specs.DefinitionLines.{keyword_in, line_fault, room_for_definitions, DefinesWrong}
-use Rattle.variant_table.specs.Texts.{HasSomeForm, Condition, too_long, no_form, over_limit, no_such_name, bad_class, same_variant, same_source, order_of, fault_of, Holds, IsSuch, IsFirstTold, IsLineFault}
+use Rattle.variant_table.specs.DefinitionLines.{line_fault, room_for_definitions, DefinesWrong}
+use Rattle.variant_table.specs.Texts.{HasSomeForm, LineCondition, too_long, no_form, over_limit, no_such_name, bad_class, same_variant, same_source, order_of, fault_of, Holds, IsSuch, IsFirstTold, IsLineFault}
 use Rattle.variant_table.specs.Reading.{◌>>=◌, is_skipped, defining, with_definition, with_form, with_form_of, with_line, with_raw_line}
 use Rattle.variant_table.proofs.TestLemmas.{told_by, with_form-by}
-use Rattle.variant_table.proofs.FormLemmas.{skipped, defines, of_entries, formless, form_of, form-not_skipped, one_form_of, some_form-skipped, some_form-none, skipped-no_definition, with_line-skipped, with_line-defines, with_line-form, with_line-formless}
+use Rattle.variant_table.proofs.FormLemmas.{skipped, defines, of_entries, formless, form_of, one_form_of, some_form-skipped, some_form-none, skipped-no_definition, with_line-skipped, with_line-defines, with_line-form, with_line-formless}
 
 -- ---- the fault of a line
 
-nothing_first : (d : Condition) → order_of d < 1 → ⊥
+nothing_first : (d : LineCondition) → order_of d < 1 → ⊥
 nothing_first too_long l = omega (arith, l)
 nothing_first no_form l = omega (arith, l)
 nothing_first over_limit l = omega (arith, l)
@@ -31,10 +30,6 @@ nothing_first same_source l = omega (arith, l)
 
 contradicts : (b : Bool) → b ≡ true → b ≡ false → ⊥
 contradicts b e f = let g : true ≡ false = sym e ∙ f in cc
-
-no_not : (b : Bool) → not b ≡ true → b ≡ false
-no_not true e = absurd cc
-no_not false e = refl
 
 module _ (bytes : ℕ) (table : TableValue) (line : List ℕ) where
   abbrev over : EntryForm → Bool
@@ -91,12 +86,12 @@ module _ (bytes : ℕ) (table : TableValue) (line : List ℕ) where
   wrong_definition f (Ok d) e = absurd cc
   wrong_definition f (Err wrong) e = (wrong, refl, cc)
 
-  definition_err : (keyword : Keyword) (behind : List (List ℕ)) → with_definition table keyword behind ≡ defining table (defined (room_for_definitions table) table.definitions keyword behind)
+  definition_err : (keyword : Keyword) (after : List (List ℕ)) → with_definition table keyword after ≡ defining table (defined (room_for_definitions table) table.definitions keyword after)
   unfolding with_definition
-  definition_err keyword behind = refl
+  definition_err keyword after = refl
 
   module _ (form : EntryForm) (h : HasForm table.version (strip_carriage_return line) form) (short : is_too_long table.version bytes line ≡ false) where
-    before_over_limit : (d : Condition) → order_of d < 3 → Holds bytes table line d → ⊥
+    before_over_limit : (d : LineCondition) → order_of d < 3 → Holds bytes table line d → ⊥
     before_over_limit too_long l k = contradicts (is_too_long table.version bytes line) k short
     before_over_limit no_form l k = k (inr (inr (inl (form, h))))
     before_over_limit over_limit l k = omega (arith, l)
@@ -105,7 +100,7 @@ module _ (bytes : ℕ) (table : TableValue) (line : List ℕ) where
     before_over_limit same_variant l k = omega (arith, l)
     before_over_limit same_source l k = omega (arith, l)
 
-    before_no_such_name : over form ≡ false → (d : Condition) → order_of d < 4 → Holds bytes table line d → ⊥
+    before_no_such_name : over form ≡ false → (d : LineCondition) → order_of d < 4 → Holds bytes table line d → ⊥
     before_no_such_name o too_long l k = contradicts (is_too_long table.version bytes line) k short
     before_no_such_name o no_form l k = k (inr (inr (inl (form, h))))
     before_no_such_name o over_limit l k = never form h over o k
@@ -114,7 +109,7 @@ module _ (bytes : ℕ) (table : TableValue) (line : List ℕ) where
     before_no_such_name o same_variant l k = omega (arith, l)
     before_no_such_name o same_source l k = omega (arith, l)
 
-    before_bad_class : over form ≡ false → unnamed form ≡ false → (d : Condition) → order_of d < 5 → Holds bytes table line d → ⊥
+    before_bad_class : over form ≡ false → unnamed form ≡ false → (d : LineCondition) → order_of d < 5 → Holds bytes table line d → ⊥
     before_bad_class o n too_long l k = contradicts (is_too_long table.version bytes line) k short
     before_bad_class o n no_form l k = k (inr (inr (inl (form, h))))
     before_bad_class o n over_limit l k = never form h over o k
@@ -123,7 +118,7 @@ module _ (bytes : ℕ) (table : TableValue) (line : List ℕ) where
     before_bad_class o n same_variant l k = omega (arith, l)
     before_bad_class o n same_source l k = omega (arith, l)
 
-    before_same_variant : over form ≡ false → unnamed form ≡ false → bad form ≡ false → (d : Condition) → order_of d < 6 → Holds bytes table line d → ⊥
+    before_same_variant : over form ≡ false → unnamed form ≡ false → bad form ≡ false → (d : LineCondition) → order_of d < 6 → Holds bytes table line d → ⊥
     before_same_variant o n b too_long l k = contradicts (is_too_long table.version bytes line) k short
     before_same_variant o n b no_form l k = k (inr (inr (inl (form, h))))
     before_same_variant o n b over_limit l k = never form h over o k
@@ -132,7 +127,7 @@ module _ (bytes : ℕ) (table : TableValue) (line : List ℕ) where
     before_same_variant o n b same_variant l k = omega (arith, l)
     before_same_variant o n b same_source l k = omega (arith, l)
 
-    before_same_source : over form ≡ false → unnamed form ≡ false → bad form ≡ false → again form ≡ false → (d : Condition) → order_of d < 7 → Holds bytes table line d → ⊥
+    before_same_source : over form ≡ false → unnamed form ≡ false → bad form ≡ false → again form ≡ false → (d : LineCondition) → order_of d < 7 → Holds bytes table line d → ⊥
     before_same_source o n b r too_long l k = contradicts (is_too_long table.version bytes line) k short
     before_same_source o n b r no_form l k = k (inr (inr (inl (form, h))))
     before_same_source o n b r over_limit l k = never form h over o k
@@ -150,7 +145,7 @@ module _ (bytes : ℕ) (table : TableValue) (line : List ℕ) where
     entries_fault f false true false false true i j m p q is = (same_source, err_is SameSource f (Err SameSource) refl is, such form h known_source q, before_same_source i (ap not j) m p)
     entries_fault f false true false false false i j m p q is = no_ok f _ (Err f) refl (sym is)
 
-  formless_first : is_too_long table.version bytes line ≡ false → (d : Condition) → order_of d < 2 → Holds bytes table line d → ⊥
+  formless_first : is_too_long table.version bytes line ≡ false → (d : LineCondition) → order_of d < 2 → Holds bytes table line d → ⊥
   formless_first h too_long l k = contradicts (is_too_long table.version bytes line) k h
   formless_first h no_form l k = omega (arith, l)
   formless_first h over_limit l k = omega (arith, l)
@@ -169,10 +164,10 @@ module _ (bytes : ℕ) (table : TableValue) (line : List ℕ) where
           let here : with_line table (strip_carriage_return line) ≡ Err f = sym (raw_line h) ∙ e in
           elim (form_of table.version (strip_carriage_return line)) [
             | skipped s ↦ no_table f table (with_line table (strip_carriage_return line)) here (with_line-skipped table (strip_carriage_return line) s)
-            | defines keyword behind s n ↦
-                let w = wrong_definition f (defined (room_for_definitions table) table.definitions keyword behind)
-                (sym (definition_err keyword behind) ∙ sym (with_line-defines table (strip_carriage_return line) keyword behind s n) ∙ here) in
-                inr (h, (keyword, behind, w.0, n, w.1, w.2))
+            | defines keyword after s n ↦
+                let w = wrong_definition f (defined (room_for_definitions table) table.definitions keyword after)
+                (sym (definition_err keyword after) ∙ sym (with_line-defines table (strip_carriage_return line) keyword after s n) ∙ here) in
+                inr (h, (keyword, after, w.0, n, w.1, w.2))
             | of_entries form i ↦ inl (entries_fault form i h f _ _ _ _ _ refl refl refl refl refl
                 (sym (with_form-by table.version table.definitions table.entries form _ _ _ _ _ refl refl refl refl refl)
                 ∙ of_entries_err f (with_form table.version table.definitions table.entries form) (sym (with_line-form table (strip_carriage_return line) form i) ∙ here)))
@@ -198,15 +193,15 @@ module _ (bytes : ℕ) (table : TableValue) (line : List ℕ) where
   formless_line : (HasSomeForm table.version (strip_carriage_return line) → ⊥) → with_line table (strip_carriage_return line) ≡ Err Syntax
   formless_line nothing = elim (form_of table.version (strip_carriage_return line)) [
     | skipped k ↦ absurd (nothing (some_form-skipped table.version (strip_carriage_return line) k))
-    | defines keyword behind k n ↦ absurd (nothing (inr (inr (inr (keyword, behind, n)))))
+    | defines keyword after k n ↦ absurd (nothing (inr (inr (inr (keyword, after, n)))))
     | of_entries form h ↦ absurd (nothing (inr (inr (inl (form, h)))))
     | formless k n none_here ↦ with_line-formless table (strip_carriage_return line) k n none_here
   ]
 
-  not_long : (d : Condition) → order_of too_long < order_of d → ((c : Condition) → order_of c < order_of d → Holds bytes table line c → ⊥) → is_too_long table.version bytes line ≡ false
+  not_long : (d : LineCondition) → order_of too_long < order_of d → ((c : LineCondition) → order_of c < order_of d → Holds bytes table line c → ⊥) → is_too_long table.version bytes line ≡ false
   not_long d l first = false_from_ne_true (is_too_long table.version bytes line) (first too_long l)
 
-  module _ (first_of : Condition) (first : (d : Condition) → order_of d < order_of first_of → Holds bytes table line d → ⊥) (form : EntryForm) (h : HasForm table.version (strip_carriage_return line) form) where
+  module _ (first_of : LineCondition) (first : (d : LineCondition) → order_of d < order_of first_of → Holds bytes table line d → ⊥) (form : EntryForm) (h : HasForm table.version (strip_carriage_return line) form) where
     not_over : order_of over_limit < order_of first_of → over form ≡ false
     not_over l = test_false form h over (first over_limit l)
 
@@ -224,7 +219,7 @@ module _ (bytes : ℕ) (table : TableValue) (line : List ℕ) where
     not_again l = test_false form h again (first same_variant l)
 
   -- the first condition that holds is told
-  first_told : (c : Condition) → Holds bytes table line c → ((d : Condition) → order_of d < order_of c → Holds bytes table line d → ⊥) → with_raw_line bytes table line ≡ Err (fault_of c)
+  first_told : (c : LineCondition) → Holds bytes table line c → ((d : LineCondition) → order_of d < order_of c → Holds bytes table line d → ⊥) → with_raw_line bytes table line ≡ Err (fault_of c)
   first_told too_long k first = raw_line-long k
   first_told no_form k first = raw_line (not_long no_form (omega arith) first) ∙ formless_line k
   first_told over_limit k first =
@@ -233,7 +228,7 @@ module _ (bytes : ℕ) (table : TableValue) (line : List ℕ) where
   first_told no_such_name k first =
       raw_line (not_long no_such_name (omega arith) first)
       ∙ by_form NoSuchName unnamed k (λ form h is_true. with_form-by table.version table.definitions table.entries form false false _ _ _
-      (not_over no_such_name first form h (omega arith)) (no_not (knows_all table.definitions form.mapped) is_true) refl refl refl)
+      (not_over no_such_name first form h (omega arith)) (not-true (knows_all table.definitions form.mapped) is_true) refl refl refl)
   first_told bad_class k first =
       raw_line (not_long bad_class (omega arith) first)
       ∙ by_form BadClass bad k (λ form h is_true. with_form-by table.version table.definitions table.entries form false true true _ _
@@ -248,15 +243,15 @@ module _ (bytes : ℕ) (table : TableValue) (line : List ℕ) where
       (not_over same_source first form h (omega arith)) (all_known same_source first form h (omega arith)) (not_bad same_source first form h (omega arith))
       (not_again same_source first form h (omega arith)) is_true)
 
-  no_keyword : (keyword : Keyword) (behind : List (List ℕ)) → (let o : Option (Keyword × List (List ℕ)) = None in o) ≡ Some (keyword, behind) → ⊥
-  no_keyword keyword behind e = cc
+  no_keyword : (keyword : Keyword) (after : List (List ℕ)) → (let o : Option (Keyword × List (List ℕ)) = None in o) ≡ Some (keyword, after) → ⊥
+  no_keyword keyword after e = cc
 
   -- and so is the fault of a definition
   definition_told : (f : LineFault) → is_too_long table.version bytes line ≡ false → DefinesWrong table (strip_carriage_return line) f → with_raw_line bytes table line ≡ Err f
-  definition_told f short (keyword, behind, wrong, n, e, is) =
+  definition_told f short (keyword, after, wrong, n, e, is) =
       let not_skipped : is_skipped (strip_carriage_return line) ≡ false = false_from_ne_true (is_skipped (strip_carriage_return line)) (λ k.
-      no_keyword keyword behind (sym (skipped-no_definition table.version (strip_carriage_return line) k) ∙ n)) in
-      raw_line short ∙ with_line-defines table (strip_carriage_return line) keyword behind not_skipped n ∙ definition_err keyword behind
+      no_keyword keyword after (sym (skipped-no_definition table.version (strip_carriage_return line) k) ∙ n)) in
+      raw_line short ∙ with_line-defines table (strip_carriage_return line) keyword after not_skipped n ∙ definition_err keyword after
       ∙ ap (defining table) e ∙ ap (λ x. Err x) (sym is)
 
   pub told : (f : LineFault) → IsLineFault bytes table line f → with_raw_line bytes table line ≡ Err f

@@ -11,22 +11,20 @@ use Rattle.std.proofs.lemmas.Slice.Eq.{bytes_eq-Decides}
 use Rattle.idn_text.specs.Lines.{raw_lines}
 use Rattle.ruleset_text.specs.declared.fault.DefinitionFault.{DefinitionFault}
 use Rattle.ruleset_text.specs.declared.keyword.Keyword.{Keyword}
-use Rattle.ruleset_text.specs.declared.keyword.Keyword.TheVariants as keyword
-use Rattle.ruleset_text.specs.Definition.{keyword_of}
 use Rattle.ruleset_text.specs.Definitions.{Definitions, canonical_size, defined, definitions_text, nothing_defined}
 use Rattle.ruleset_text.specs.Entries.{Mapped, EntryForm}
 use Rattle.ruleset_text.specs.EntryText.{IsForm}
 use Rattle.ruleset_text.specs.Lexemes.{lexemes}
 use Rattle.ruleset_text.specs.WellFormed.{AreDefinitions}
 use Rattle.ruleset_text.proofs.AddedLemmas.{nothing_counted}
-use Rattle.ruleset_text.proofs.DefinedLemmas.{Grown, defined_grows, NamesNoDemand, demands_stay, NamesStay, names_stay}
+use Rattle.ruleset_text.proofs.DefinedLemmas.{Grown, defined_grows, NamesStay, names_stay}
 use Rattle.ruleset_text.proofs.DefinitionsTextLemmas.{definitions_text-length}
 use Rattle.variant_table.specs.Faults.{LineFault, Limit, Syntax}
 use Rattle.variant_table.specs.declared.version.Notation.{Notation}
 use Rattle.variant_table.specs.declared.version.Notation.TheVariants.{Table, Ruleset}
 use Rattle.variant_table.specs.declared.version.Version.{Version}
 use Rattle.variant_table.specs.declared.version.Version.TheVariants.{One, Two, Three}
-use Rattle.variant_table.specs.DefinitionLines.{if_read, with_behind, keyword_in, room_for_definitions, Defines}
+use Rattle.variant_table.specs.DefinitionLines.{keyword_in, room_for_definitions, Defines}
 use Rattle.variant_table.specs.Entries.{Entry, IsOfVersion, TableValue, empty_table}
 use Rattle.variant_table.specs.Canonical.{canonical_line, canonical_text, head_text, table_text, version_line, written_text}
 use Rattle.variant_table.specs.Limits.{line_limit, text_limit, entry_limit}
@@ -40,7 +38,7 @@ use Rattle.variant_table.proofs.FormLemmas.{skipped, defines, of_entries, formle
 use Rattle.variant_table.proofs.ConditionLemmas.{good_from_entry, single_from_entry, small_entries, IsKnown, known_form, text_with, named_spelled, AreNewSources, distinct_sources, new_sources, no_sources, sound_spelled}
 use Rattle.variant_table.proofs.GrownLemmas.{named_on, text_stays}
 use Rattle.variant_table.proofs.TestLemmas.{with_form-by}
-use Rattle.variant_table.proofs.LimitLemmas.{text_limit-least, text_limit-most, entry_limit-most}
+use Rattle.variant_table.proofs.LimitLemmas.{text_limit-least, entry_limit-most}
 use Rattle.variant_table.proofs.SizeLemmas.{length-stripped, adds_version, canonical_text_long, length-one, size_of-cons}
 
 abbrev pub WholeTable : Type 0
@@ -73,7 +71,7 @@ fits_none One = refl
 fits_none Two = refl
 fits_none Three = refl
 
--- ---- entries behind one another
+-- ---- entries one after the other
 
 new-append : (t a b : List Entry) → AreNewSources t (a ++ b) → AreNewSources t a × AreNewSources (t ++ a) b
 new-append t [] b h = (tt, subst (λ x. AreNewSources x b) (sym (append-nil t)) h)
@@ -146,7 +144,7 @@ pub record IsSound (t : TableValue) : Type 0 where
 nothing_of : (v : Version) → AreOfVersion v nothing_defined
 nothing_of One = refl
 nothing_of Two = refl
-nothing_of Three = refl
+nothing_of Three = tt
 
 pub empty_sound : (v : Version) → IsSound (empty_table v)
 empty_sound v = record {
@@ -159,33 +157,16 @@ empty_sound v = record {
 
 -- ---- definitions
 
--- only a ruleset has them, and no demand is read
-record IsRead (v : Version) (k : Keyword) : Type 0 where
-  of_three : v ≡ Three
-  no_demand : NamesNoDemand k
+-- only a ruleset has them
+of_three : (v : Version) (words after : List (List ℕ)) (k : Keyword) → keyword_in v words ≡ Some (k, after) → v ≡ Three
+of_three One words after k e = absurd cc
+of_three Two words after k e = absurd cc
+of_three Three words after k e = refl
 
-abbrev keyword_told : Option (Keyword × List (List ℕ)) → Keyword
-keyword_told None = keyword.Tag
-keyword_told (Some told) = told.0
-
-kept : (o : Option Keyword) (words behind : List (List ℕ)) (k : Keyword) → with_behind words (if_read o) ≡ Some (k, behind) → NamesNoDemand k
-kept None words behind k e = absurd cc
-kept (Some keyword.Tag) words behind k e = subst NamesNoDemand (ap keyword_told e) tt
-kept (Some keyword.Set) words behind k e = subst NamesNoDemand (ap keyword_told e) tt
-kept (Some keyword.Rule) words behind k e = subst NamesNoDemand (ap keyword_told e) tt
-kept (Some keyword.Never) words behind k e = absurd cc
-kept (Some keyword.Always) words behind k e = absurd cc
-
-is_read : (v : Version) (words behind : List (List ℕ)) (k : Keyword) → keyword_in v words ≡ Some (k, behind) → IsRead v k
-is_read One words behind k e = absurd cc
-is_read Two words behind k e = absurd cc
-is_read Three [] behind k e = absurd cc
-is_read Three (word ∷ words) behind k e = record { of_three = refl; no_demand = kept (keyword_of word) words behind k e }
-
-of_ruleset : (v : Version) (d e : Definitions) → v ≡ Three → e.demands ≡ d.demands → AreOfVersion v d → AreOfVersion v e
-of_ruleset One d e is same h = absurd cc
-of_ruleset Two d e is same h = absurd cc
-of_ruleset Three d e is same h = same ∙ h
+of_ruleset : (v : Version) (d : Definitions) → v ≡ Three → AreOfVersion v d
+of_ruleset One d is = absurd cc
+of_ruleset Two d is = absurd cc
+of_ruleset Three d is = tt
 
 -- a text with what a line defines
 fits_defined : (v : Version) (d e : Definitions) (es : List Entry) → v ≡ Three → is_text_too_long v (table_text v d es) ≡ false → Grown (text_limit v - length (head_text v ++ canonical_text d es)) d e → canonical_text e es ≡ canonical_text d es
@@ -196,22 +177,22 @@ fits_defined Three d e es is fits g same =
     le-ltb 8388608 (length (table_text Three e es))
     (omega (arith, ltb-false 8388608 (length (table_text Three d es)) fits, length-text Three d es, length-text Three e es, g.room, length-append (head_text Three) (canonical_text d es), ap length same))
 
-defined_sound : (t : TableValue) (k : Keyword) (words behind : List (List ℕ)) (d : Definitions) → IsSound t → keyword_in t.version words ≡ Some (k, behind)
-    → defined (room_for_definitions t) t.definitions k behind ≡ Ok d → IsSound (record t { definitions = d })
-defined_sound t k words behind d h n e =
-    let read = is_read t.version words behind k n in
-    let g : Grown (room_for_definitions t) t.definitions d = defined_grows (room_for_definitions t) t.definitions d k behind h.without_fault e in
-    let stay : NamesStay t.definitions d = names_stay (room_for_definitions t) t.definitions d k behind e in
+defined_sound : (t : TableValue) (k : Keyword) (words after : List (List ℕ)) (d : Definitions) → IsSound t → keyword_in t.version words ≡ Some (k, after)
+    → defined (room_for_definitions t) t.definitions k after ≡ Ok d → IsSound (record t { definitions = d })
+defined_sound t k words after d h n e =
+    let three = of_three t.version words after k n in
+    let g : Grown (room_for_definitions t) t.definitions d = defined_grows (room_for_definitions t) t.definitions d k after h.without_fault e in
+    let stay : NamesStay t.definitions d = names_stay (room_for_definitions t) t.definitions d k after e in
     record {
       without_fault = g.without_fault;
-      defined = of_ruleset t.version t.definitions d read.of_three (demands_stay (room_for_definitions t) t.definitions d k behind read.no_demand e) h.defined;
+      defined = of_ruleset t.version d three;
       of_version = h.of_version;
       named = named_on t.definitions d t.entries stay h.named;
       entries = record {
         sound = h.entries.sound;
         new = h.entries.new;
         few = h.entries.few;
-        fits = fits_defined t.version t.definitions d t.entries read.of_three h.entries.fits g (text_stays t.definitions d t.entries stay h.named);
+        fits = fits_defined t.version t.definitions d t.entries three h.entries.fits g (text_stays t.definitions d t.entries stay h.named);
       };
     }
 
@@ -239,9 +220,9 @@ pub raw_line-long : (bytes : ℕ) (t : TableValue) (line : List ℕ) → is_too_
 unfolding with_raw_line
 raw_line-long bytes t line h = ap (λ b. cond b (Err Limit) (with_line t (strip_carriage_return line))) h
 
-definition_is : (t : TableValue) (k : Keyword) (behind : List (List ℕ)) → with_definition t k behind ≡ defining t (defined (room_for_definitions t) t.definitions k behind)
+definition_is : (t : TableValue) (k : Keyword) (after : List (List ℕ)) → with_definition t k after ≡ defining t (defined (room_for_definitions t) t.definitions k after)
 unfolding with_definition
-definition_is t k behind = refl
+definition_is t k after = refl
 
 ok_defined : (t u : TableValue) (r : Result Definitions DefinitionFault) → defining t r ≡ Ok u → (d : Definitions) × (r ≡ Ok d) × (u ≡ record t { definitions = d })
 ok_defined t u (Ok d) e = (d, refl, cc)
@@ -261,15 +242,15 @@ module _ (bytes : ℕ) (t u : TableValue) (line : List ℕ) (h : IsSound t) (l :
     sound = subst IsSound (sym is) h;
   }
 
-  added_definition : (k : Keyword) (behind : List (List ℕ)) → keyword_in t.version (lexemes (strip_carriage_return line)) ≡ Some (k, behind) → with_definition t k behind ≡ Ok u → Added bytes t line u
-  added_definition k behind n e =
-      let d = ok_defined t u (defined (room_for_definitions t) t.definitions k behind) (sym (definition_is t k behind) ∙ e) in
+  added_definition : (k : Keyword) (after : List (List ℕ)) → keyword_in t.version (lexemes (strip_carriage_return line)) ≡ Some (k, after) → with_definition t k after ≡ Ok u → Added bytes t line u
+  added_definition k after n e =
+      let d = ok_defined t u (defined (room_for_definitions t) t.definitions k after) (sym (definition_is t k after) ∙ e) in
       record {
-        spelled = inr (d.0, (k, behind, n, d.1), d.2);
+        spelled = inr (d.0, (k, after, n, d.1), d.2);
         short = l;
         within = m;
         version = ap (λ x. x.version) d.2;
-        sound = subst IsSound (sym d.2) (defined_sound t k (lexemes (strip_carriage_return line)) behind d.0 h n d.1);
+        sound = subst IsSound (sym d.2) (defined_sound t k (lexemes (strip_carriage_return line)) after d.0 h n d.1);
       }
 
   added_entries : (form : EntryForm) → HasForm t.version (strip_carriage_return line) form → with_form_of t form ≡ Ok u → Added bytes t line u
@@ -300,7 +281,7 @@ module _ (bytes : ℕ) (t u : TableValue) (line : List ℕ) (h : IsSound t) (l :
   line_step : with_line t (strip_carriage_return line) ≡ Ok u → Added bytes t line u
   line_step e = elim (form_of t.version (strip_carriage_return line)) [
     | skipped s ↦ added_nothing s (ok_is u t (with_line t (strip_carriage_return line)) e (with_line-skipped t (strip_carriage_return line) s))
-    | defines k behind s n ↦ added_definition k behind n (sym (with_line-defines t (strip_carriage_return line) k behind s n) ∙ e)
+    | defines k after s n ↦ added_definition k after n (sym (with_line-defines t (strip_carriage_return line) k after s n) ∙ e)
     | of_entries form s ↦ added_entries form s (sym (with_line-form t (strip_carriage_return line) form s) ∙ e)
     | formless s n never ↦ no_ok Syntax u (with_line t (strip_carriage_return line)) (with_line-formless t (strip_carriage_return line) s n never) e
   ]
@@ -316,8 +297,8 @@ raw_line_step bytes t u line h e = by_cases (is_too_long t.version bytes line) r
 
 -- ---- the other way
 
-no_keyword : (k : Keyword) (behind : List (List ℕ)) → (let o : Option (Keyword × List (List ℕ)) = None in o) ≡ Some (k, behind) → ⊥
-no_keyword k behind e = cc
+no_keyword : (k : Keyword) (after : List (List ℕ)) → (let o : Option (Keyword × List (List ℕ)) = None in o) ≡ Some (k, after) → ⊥
+no_keyword k after e = cc
 
 -- entries that are spelled are read
 spelled_read : (t : TableValue) (line : List ℕ) (form : EntryForm) (es : List Entry) → HasForm t.version line form → knows_all t.definitions form.mapped ≡ true → es ≡ entries_of t.definitions form
@@ -338,9 +319,9 @@ read_entries t line es s h = elim (spelling_of t.version t.definitions line es s
 ]
 
 read_definition : (t : TableValue) (line : List ℕ) (d : Definitions) → Defines t line d → with_line t line ≡ Ok (record t { definitions = d })
-read_definition t line d (k, behind, n, e) =
-    let not_skipped : is_skipped line ≡ false = false_from_ne_true (is_skipped line) (λ s. no_keyword k behind (sym (skipped-no_definition t.version line s) ∙ n)) in
-    with_line-defines t line k behind not_skipped n ∙ definition_is t k behind ∙ ap (defining t) e
+read_definition t line d (k, after, n, e) =
+    let not_skipped : is_skipped line ≡ false = false_from_ne_true (is_skipped line) (λ s. no_keyword k after (sym (skipped-no_definition t.version line s) ∙ n)) in
+    with_line-defines t line k after not_skipped n ∙ definition_is t k after ∙ ap (defining t) e
 
 read_added : (t u : TableValue) (line : List ℕ) → LineAdds t line u → HasSoundEntries u → with_line t line ≡ Ok u
 read_added t u line (inl (es, s, is)) h = read_entries t line es s (subst HasSoundEntries is h) ∙ ap (λ x. Ok x) (sym is)
@@ -370,10 +351,10 @@ kept_entries t line es s h = record {
 
 adds_kept : (t u : TableValue) (line : List ℕ) → LineAdds t line u → IsKept t → IsKept u
 adds_kept t u line (inl (es, s, is)) h = subst IsKept (sym is) (kept_entries t line es s h)
-adds_kept t u line (inr (d, (k, behind, n, e), is)) h =
+adds_kept t u line (inr (d, (k, after, n, e), is)) h =
     subst IsKept (sym is) (record {
-      without_fault = (defined_grows (room_for_definitions t) t.definitions d k behind h.without_fault e).without_fault;
-      named = named_on t.definitions d t.entries (names_stay (room_for_definitions t) t.definitions d k behind e) h.named;
+      without_fault = (defined_grows (room_for_definitions t) t.definitions d k after h.without_fault e).without_fault;
+      named = named_on t.definitions d t.entries (names_stay (room_for_definitions t) t.definitions d k after e) h.named;
     })
 
 without_entries : (t : TableValue) (es : List Entry) → HasSoundEntries (record t { entries = t.entries ++ es }) → HasSoundEntries t
@@ -395,9 +376,9 @@ without_definition t d l same h = record {
 
 sound_before : (t u : TableValue) (line : List ℕ) → LineAdds t line u → IsKept t → HasSoundEntries u → HasSoundEntries t
 sound_before t u line (inl (es, s, is)) a h = without_entries t es (subst HasSoundEntries is h)
-sound_before t u line (inr (d, (k, behind, n, e), is)) a h =
-    without_definition t d (defined_grows (room_for_definitions t) t.definitions d k behind a.without_fault e).longer
-    (text_stays t.definitions d t.entries (names_stay (room_for_definitions t) t.definitions d k behind e) a.named) (subst HasSoundEntries is h)
+sound_before t u line (inr (d, (k, after, n, e), is)) a h =
+    without_definition t d (defined_grows (room_for_definitions t) t.definitions d k after a.without_fault e).longer
+    (text_stays t.definitions d t.entries (names_stay (room_for_definitions t) t.definitions d k after e) a.named) (subst HasSoundEntries is h)
 
 sound_at : (t u : TableValue) (lines : List (List ℕ)) → LinesSpell t lines u → IsKept t → HasSoundEntries u → HasSoundEntries t
 sound_at t u [] s a h = subst HasSoundEntries s h
@@ -415,21 +396,21 @@ no_lines : (n bytes : ℕ) (t : TableValue) → with_lines n bytes t [] ≡ Ok t
 unfolding with_lines
 no_lines n bytes t = refl
 
--- reading faultless lines, with others behind them
-pub lines_on : (v : Version) (n bytes : ℕ) (t u : TableValue) (lines behind : List (List ℕ)) → t.version ≡ v → LinesSpell t lines u → AllByRecursion (λ line. length line ≤ line_limit v) lines
-    → bytes + size_of lines ≤ text_limit v → IsKept t → HasSoundEntries u → with_lines n bytes t (lines ++ behind) ≡ with_lines (n + length lines) (bytes + size_of lines) u behind
-lines_on v n bytes t u [] behind is s short size a h =
-    ap (λ x. with_lines n bytes x behind) (sym s)
-    ∙ ap (λ x. with_lines x bytes u behind) (let z : n ≡ n + 0 = omega arith in z)
-    ∙ ap (λ x. with_lines (n + 0) x u behind) (let z : bytes ≡ bytes + 0 = omega arith in z)
-lines_on v n bytes t u (line ∷ lines) behind is (m, adds, rest) short size a h =
+-- reading faultless lines, with others after them
+pub lines_on : (v : Version) (n bytes : ℕ) (t u : TableValue) (lines after : List (List ℕ)) → t.version ≡ v → LinesSpell t lines u → AllByRecursion (λ line. length line ≤ line_limit v) lines
+    → bytes + size_of lines ≤ text_limit v → IsKept t → HasSoundEntries u → with_lines n bytes t (lines ++ after) ≡ with_lines (n + length lines) (bytes + size_of lines) u after
+lines_on v n bytes t u [] after is s short size a h =
+    ap (λ x. with_lines n bytes x after) (sym s)
+    ∙ ap (λ x. with_lines x bytes u after) (let z : n ≡ n + 0 = omega arith in z)
+    ∙ ap (λ x. with_lines (n + 0) x u after) (let z : bytes ≡ bytes + 0 = omega arith in z)
+lines_on v n bytes t u (line ∷ lines) after is (m, adds, rest) short size a h =
     let more : IsKept m = adds_kept t m (strip_carriage_return line) adds a in
     let sum : size_of (line ∷ lines) ≡ length line + 1 + size_of lines = size_of-cons line lines in
-    step_of n bytes t line (lines ++ behind) (Ok m)
+    step_of n bytes t line (lines ++ after) (Ok m)
     (raw_line_added bytes t m line adds (subst (λ w. length line ≤ line_limit w) (sym is) short.0) (subst (λ w. bytes + length line + 1 ≤ text_limit w) (sym is) (omega (arith, size, sum))) (sound_at m u lines rest more h))
-    ∙ lines_on v (n + 1) (bytes + length line + 1) m u lines behind (adds_version t m (strip_carriage_return line) adds ∙ is) rest short.1 (omega (arith, size, sum)) more h
-    ∙ ap (λ x. with_lines x (bytes + length line + 1 + size_of lines) u behind) (let z : n + 1 + length lines ≡ n + suc (length lines) = omega arith in z)
-    ∙ ap (λ x. with_lines (n + suc (length lines)) x u behind) (let z : bytes + length line + 1 + size_of lines ≡ bytes + size_of (line ∷ lines) = omega (arith, sum) in z)
+    ∙ lines_on v (n + 1) (bytes + length line + 1) m u lines after (adds_version t m (strip_carriage_return line) adds ∙ is) rest short.1 (omega (arith, size, sum)) more h
+    ∙ ap (λ x. with_lines x (bytes + length line + 1 + size_of lines) u after) (let z : n + 1 + length lines ≡ n + suc (length lines) = omega arith in z)
+    ∙ ap (λ x. with_lines (n + suc (length lines)) x u after) (let z : bytes + length line + 1 + size_of lines ≡ bytes + size_of (line ∷ lines) = omega (arith, sum) in z)
 
 -- what faultless lines are, and the table that they lead to
 pub record AddedLines (bytes : ℕ) (t : TableValue) (lines : List (List ℕ)) (u : TableValue) : Type 0 where
@@ -464,10 +445,10 @@ pub record Done (bytes : ℕ) (t : TableValue) (lines : List (List ℕ)) (r : Wh
 pub record Faulted (n bytes : ℕ) (t : TableValue) (lines : List (List ℕ)) (r : WholeTable) : Type 0 where
   pub before : List (List ℕ)
   pub line : List ℕ
-  pub behind : List (List ℕ)
+  pub after : List (List ℕ)
   pub table : TableValue
   pub kind : LineFault
-  pub cut : lines ≡ before ++ line ∷ behind
+  pub cut : lines ≡ before ++ line ∷ after
   pub added : AddedLines bytes t before table
   pub faulty : with_raw_line (bytes + size_of before) table line ≡ Err kind
   pub is : r ≡ Err (n + length before, kind)
@@ -483,7 +464,7 @@ outcome_step n bytes t m line lines e h (inl d) = inl (record {
 outcome_step n bytes t m line lines e h (inr f) = inr (record {
   before = line ∷ f.before;
   line = f.line;
-  behind = f.behind;
+  after = f.after;
   table = f.table;
   kind = f.kind;
   cut = ap (λ ls. line ∷ ls) f.cut;
@@ -496,7 +477,7 @@ outcome_fault : (n bytes : ℕ) (t : TableValue) (line : List ℕ) (lines : List
 outcome_fault n bytes t line lines kind h e = record {
   before = [];
   line = line;
-  behind = lines;
+  after = lines;
   table = t;
   kind = kind;
   cut = refl;
@@ -589,10 +570,10 @@ sound_table table h = record {
 }
 
 -- faultless lines are read
-pub lines_read : (n : ℕ) (head lines behind : List (List ℕ)) (table : TableValue) → AreLinesOf head lines table
-    → with_lines n (size_of head) (empty_table table.version) (lines ++ behind) ≡ with_lines (n + length lines) (size_of head + size_of lines) table behind
-lines_read n head lines behind table h =
-    lines_on table.version n (size_of head) (empty_table table.version) table lines behind refl h.spelled (recursion_from_All (λ line. length line ≤ line_limit table.version) lines h.short) h.size
+pub lines_read : (n : ℕ) (head lines after : List (List ℕ)) (table : TableValue) → AreLinesOf head lines table
+    → with_lines n (size_of head) (empty_table table.version) (lines ++ after) ≡ with_lines (n + length lines) (size_of head + size_of lines) table after
+lines_read n head lines after table h =
+    lines_on table.version n (size_of head) (empty_table table.version) table lines after refl h.spelled (recursion_from_All (λ line. length line ≤ line_limit table.version) lines h.short) h.size
     (record { without_fault = nothing_counted.without_fault; named = tt }) (sound_table table h.well_formed)
 
 pub read_by : (n : Notation) (lines : List (List ℕ)) (o : Option Version) → version_of n lines ≡ o → table_of_lines n lines ≡ table_in o (head_of n lines) (body_of n lines)

@@ -10,7 +10,7 @@ use Rattle.ruleset_text.specs.declared.keyword.Keyword.TheVariants.{Tag, Set, Ru
 use Rattle.ruleset_text.specs.Definition.{keyword_of}
 use Rattle.ruleset_text.specs.Definitions.{Definitions}
 use Rattle.ruleset_text.specs.Entries.{Mapped, EntryForm}
-use Rattle.ruleset_text.specs.inner.EntrySteps.{entry_in}
+use Rattle.ruleset_text.specs.EntrySteps.{entry_in}
 use Rattle.ruleset_text.specs.EntryText.{IsSequence, IsMapped, IsForm}
 use Rattle.ruleset_text.specs.EntryWords.{Word, Point, Hyphen, Bar, AreWords, mark_words, sequence_words, last_words, tags_words, condition_words, mapped_words, variants_words, entry_words, point_of, IsEntryLine}
 use Rattle.ruleset_text.specs.Lexemes.{is_blank, is_joined, lexemes}
@@ -20,7 +20,7 @@ use Rattle.ruleset_text.proofs.HexLemmas.{hex_facts}
 use Rattle.variant_table.specs.declared.version.Version.{Version}
 use Rattle.variant_table.specs.declared.version.Version.TheVariants.{One, Two, Three}
 use Rattle.variant_table.specs.Faults.{LineFault, Syntax}
-use Rattle.variant_table.specs.DefinitionLines.{if_read, keyword_in, with_behind}
+use Rattle.variant_table.specs.DefinitionLines.{keyword_in, with_after}
 use Rattle.variant_table.specs.Entries.{Entry, TableValue}
 use Rattle.variant_table.specs.Forms.{has_form, HasForm, entries_of, SpellsEntries}
 use Rattle.variant_table.specs.Reading.{◌>>=◌, is_skipped, form_by, form_in, with_definition, with_form_of, with_line, with_words}
@@ -143,7 +143,7 @@ none_in : (v : Version) (words : List (List ℕ)) → begins 37 words ≡ false 
 none_in One words h = refl
 none_in Two words h = refl
 none_in Three [] h = refl
-none_in Three (word ∷ words) h = ap (λ o. with_behind words (if_read o)) (no_keyword word words h)
+none_in Three (word ∷ words) h = ap (with_after words) (no_keyword word words h)
 
 -- an entry is no definition
 pub form-no_definition : (v : Version) (line : List ℕ) (form : EntryForm) → HasForm v line form → keyword_in v (lexemes line) ≡ None
@@ -183,7 +183,7 @@ read_form v line form e = by_form v line form (entry_in (lexemes line)) refl e
 
 pub data Form (v : Version) (line : List ℕ) : Type 0 where
   skipped : is_skipped line ≡ true → Form v line
-  defines : (keyword : Keyword) (behind : List (List ℕ)) → is_skipped line ≡ false → keyword_in v (lexemes line) ≡ Some (keyword, behind) → Form v line
+  defines : (keyword : Keyword) (after : List (List ℕ)) → is_skipped line ≡ false → keyword_in v (lexemes line) ≡ Some (keyword, after) → Form v line
   of_entries : (form : EntryForm) → HasForm v line form → Form v line
   formless : is_skipped line ≡ false → keyword_in v (lexemes line) ≡ None → ((form : EntryForm) → HasForm v line form → ⊥) → Form v line
 
@@ -193,7 +193,7 @@ form_step v line (Err f) e s n = formless s n (λ form h. (let a : form_in v (le
 
 form_or_none : (v : Version) (line : List ℕ) (o : Option (Keyword × List (List ℕ))) → keyword_in v (lexemes line) ≡ o → is_skipped line ≡ false → Form v line
 form_or_none v line None n s = form_step v line (form_in v (lexemes line)) refl s n
-form_or_none v line (Some (keyword, behind)) n s = defines keyword behind s n
+form_or_none v line (Some (keyword, after)) n s = defines keyword after s n
 
 pub form_of : (v : Version) (line : List ℕ) → Form v line
 form_of v line = by_cases (is_skipped line) refl
@@ -222,9 +222,9 @@ unfolding with_line
 with_line-words t line o s n =
     ap (λ b. cond b (Ok t) (with_words t (keyword_in t.version (lexemes line)) (lexemes line))) s ∙ ap (λ o. with_words t o (lexemes line)) n
 
-pub with_line-defines : (t : TableValue) (line : List ℕ) (keyword : Keyword) (behind : List (List ℕ)) → is_skipped line ≡ false → keyword_in t.version (lexemes line) ≡ Some (keyword, behind)
-    → with_line t line ≡ with_definition t keyword behind
-with_line-defines t line keyword behind s n = with_line-words t line (Some (keyword, behind)) s n
+pub with_line-defines : (t : TableValue) (line : List ℕ) (keyword : Keyword) (after : List (List ℕ)) → is_skipped line ≡ false → keyword_in t.version (lexemes line) ≡ Some (keyword, after)
+    → with_line t line ≡ with_definition t keyword after
+with_line-defines t line keyword after s n = with_line-words t line (Some (keyword, after)) s n
 
 pub with_line-plain : (t : TableValue) (line : List ℕ) → is_skipped line ≡ false → keyword_in t.version (lexemes line) ≡ None → with_line t line ≡ (form_in t.version (lexemes line) >>= with_form_of t)
 with_line-plain t line s n = with_line-words t line None s n
@@ -264,8 +264,8 @@ some_form-none v line s n none (inr (inl k)) = let x : true ≡ false = sym (com
 some_form-none v line s n none (inr (inr (inl h))) = none h.0 h.1
 some_form-none v line s n none (inr (inr (inr h))) = no_pair h.0 h.1 (sym n ∙ h.2)
   where
-    no_pair : (keyword : Keyword) (behind : List (List ℕ)) → (let o : Option (Keyword × List (List ℕ)) = None in o) ≡ Some (keyword, behind) → ⊥
-    no_pair keyword behind e = cc
+    no_pair : (keyword : Keyword) (after : List (List ℕ)) → (let o : Option (Keyword × List (List ℕ)) = None in o) ≡ Some (keyword, after) → ⊥
+    no_pair keyword after e = cc
 
 -- ---- the entries of a line
 

@@ -1,5 +1,5 @@
 -- Sources and variants of a form, one after another.
-use Rattle.std.proofs.Common.{◌≡◌, ℕ, zero, suc, ◌+◌, ◌-◌, ◌<◌, ◌≤◌, Bool, true, false, ◌&&◌, List, [], ◌∷◌, ◌++◌, length, length-append, map, take, drop, get_or, refl, sym, ap, subst, ◌∙◌, arith}
+use Rattle.std.proofs.Common.{◌≡◌, ℕ, zero, suc, ◌+◌, ◌<◌, ◌≤◌, Bool, true, false, ◌&&◌, List, [], ◌∷◌, ◌++◌, length, length-append, map, take, drop, get_or, refl, sym, ap, subst, ◌∙◌, arith}
 use Rattle.std.specs.Prelude.{slice_index, slice_index_or, Option, Some, None}
 use Rattle.std.specs.List.{AllByRecursion, list_all}
 use Rattle.std.proofs.lemmas.Bool.{and_parts}
@@ -15,7 +15,7 @@ use Rattle.ruleset_text.proofs.EntryExactLemmas.{Spells}
 use Rattle.ruleset_text.specs.EntryText.{IsForm, MayHaveTags}
 use Rattle.variant_table.specs.Forms.{variant_of}
 use Rattle.variant_table.proofs.ListLemmas.{drop_item, drop_all}
-use Rattle.variant_table.proofs.NumberLemmas.{few_numbers, numbers_below, numbers_apart, number_behind, one_of}
+use Rattle.variant_table.proofs.NumberLemmas.{few_numbers, numbers_below, numbers_apart, number_after, one_of}
 
 -- ---- a test of each
 
@@ -96,7 +96,7 @@ module _ (names tags : List (List ℕ)) (i : ℕ) (found : List ℕ) (tag : List
 
   -- a tag that isn't known
   pub tag_unknown : n ≡ length names → list_all (is_one_of names) tags ≡ false
-  tag_unknown none = fails_at (is_one_of names) tags i tag l at (number_behind names tag (sym is ∙ none))
+  tag_unknown none = fails_at (is_one_of names) tags i tag l at (number_after names tag (sym is ∙ none))
     where
       fails_at : (test : List ℕ → Bool) (xs : List (List ℕ)) (i : ℕ) (x : List ℕ) → i < length xs → x ≡ get_or xs i x → test x ≡ false → list_all test xs ≡ false
       fails_at test [] i x l e f = absurd (omega (arith, l))

@@ -1,6 +1,6 @@
 -- What is defined later changes no entry and no line of one.
-use Rattle.std.proofs.Common.{◌≡◌, ℕ, ◌+◌, ◌<◌, List, [], ◌∷◌, ◌++◌, length, map, Option, Some, None, refl, sym, ap, subst, ◌∙◌, arith, length-append}
-use Rattle.std.specs.List.{All, AllByRecursion}
+use Rattle.std.proofs.Common.{◌≡◌, ℕ, ◌+◌, ◌<◌, List, [], ◌∷◌, ◌++◌, length, map, Option, Some, None, refl, ap, ◌∙◌, arith, length-append}
+use Rattle.std.specs.List.{AllByRecursion}
 use Rattle.std.specs.Option.{option_map}
 use Rattle.std.proofs.lemmas.List.Elements.{All-from_recursion, recursion_from_All}
 use Rattle.label_patterns.specs.declared.condition.Condition.{Condition}
@@ -9,7 +9,7 @@ use Rattle.ruleset_text.specs.EntryText.{entry_text}
 use Rattle.ruleset_text.proofs.DefinedLemmas.{NamesStay}
 use Rattle.variant_table.specs.Canonical.{canonical_line, canonical_text}
 use Rattle.variant_table.specs.Entries.{Variant, Entry, whole}
-use Rattle.variant_table.specs.Forms.{name_at, named, mapped_of, as_written}
+use Rattle.variant_table.specs.Forms.{name_at, named, mapped_of}
 use Rattle.variant_table.specs.WellFormed.{HasItsRule, HasItsNames, IsNamed}
 use Rattle.variant_table.proofs.NumberLemmas.{name_stays}
 
@@ -51,8 +51,8 @@ module _ (d e : Definitions) (stay : NamesStay d e) where
 
   mapped_stays : (v : Variant) → HasItsNames d v → mapped_of e v ≡ mapped_of d v
   mapped_stays v h =
-      ap (λ t. record { marked = v.blocked; points = v.sequence; tags = t; condition = option_map (named e) v.condition }) (tag_names v.tags (recursion_from_All (λ n. n < length d.tags) v.tags h.tags))
-      ∙ ap (λ c. record { marked = v.blocked; points = v.sequence; tags = map (name_at d.tags) v.tags; condition = c }) (rule_name v.condition h.condition)
+      ap (λ t. record { marked = v.marked; points = v.sequence; tags = t; condition = option_map (named e) v.condition }) (tag_names v.tags (recursion_from_All (λ n. n < length d.tags) v.tags h.tags))
+      ∙ ap (λ c. record { marked = v.marked; points = v.sequence; tags = map (name_at d.tags) v.tags; condition = c }) (rule_name v.condition h.condition)
 
   all_stay : (vs : List Variant) → AllByRecursion (HasItsNames d) vs → map (mapped_of e) vs ≡ map (mapped_of d) vs
   all_stay [] h = refl

@@ -1,5 +1,5 @@
 -- How long canonical lines are.
-use Rattle.std.proofs.Common.{◌≡◌, ℕ, zero, suc, ◌+◌, ◌-◌, ◌<◌, ◌≤◌, Bool, true, false, List, [], ◌∷◌, ◌++◌, length, map, take, drop, get_or, Option, Some, None, refl, sym, ap, subst, ◌∙◌, arith, length-append}
+use Rattle.std.proofs.Common.{◌≡◌, ℕ, ◌+◌, ◌-◌, ◌<◌, ◌≤◌, false, List, [], ◌∷◌, ◌++◌, length, map, take, drop, get_or, Option, None, refl, ap, subst, arith, length-append}
 use Rattle.std.specs.Prelude.{nat_lt}
 use Rattle.std.specs.List.{AllByRecursion, list_any, range_with_len}
 use Rattle.std.proofs.lemmas.Bool.{ltb-false, or_parts}
@@ -11,7 +11,7 @@ use Rattle.ruleset_text.specs.EntryText.{mark_text, sequence_text, names_text, t
 use Rattle.variant_table.specs.Canonical.{written_text}
 use Rattle.variant_table.specs.Conditions.{is_too_large}
 use Rattle.variant_table.specs.Forms.{with_point}
-use Rattle.variant_table.specs.inner.Held.{HasNoEmptySequence, IsLeft}
+use Rattle.variant_table.specs.inner.Held.{IsLeft}
 use Rattle.variant_table.proofs.ListLemmas.{drop_item, drop_all}
 use Rattle.variant_table.proofs.RangeLemmas.{range_next}
 use Rattle.variant_table.proofs.WritingLemmas.{further_text, sequence_text-is, further_more, piece_text, further_pieces, pieces_text, entry_text-is}

@@ -62,9 +62,3 @@ pub mod AddingLemmas
 pub mod GrownLemmas
 -- What a line that defines something makes of a table.
 pub mod DefiningLemmas
--- The first of a list that a test is true of.
-pub mod FindLemmas
--- The places that are told are those that are defined.
-pub mod PlaceLawLemmas
--- What the lines before a faulty line define.
-mod PlaceNameLemmas

@@ -1,6 +1,6 @@
 -- Names and their numbers.
-use Rattle.std.proofs.Common.{◌≡◌, ℕ, zero, suc, ◌+◌, ◌<◌, ◌≤◌, Bool, true, false, not, ◌||◌, ◌&&◌, cond, eqb, List, [], ◌∷◌, ◌++◌, length, map, get_or, Option, Some, None, refl, sym, ap, subst, ◌∙◌, arith, length-append, eq-eqb}
-use Rattle.std.specs.Prelude.{bytes_eq, slice_index_or, ◌≢◌}
+use Rattle.std.proofs.Common.{◌≡◌, ℕ, zero, suc, ◌+◌, ◌<◌, ◌≤◌, Bool, true, false, not, ◌||◌, cond, eqb, List, [], ◌∷◌, ◌++◌, length, map, Option, Some, None, refl, sym, ap, ◌∙◌, arith}
+use Rattle.std.specs.Prelude.{bytes_eq, ◌≢◌}
 use Rattle.std.specs.List.{AllByRecursion, All, AllPairs, IsDistinct, list_all, list_any}
 use Rattle.std.specs.Option.{option_map}
 use Rattle.std.proofs.lemmas.Bool.{and_parts, eqb-true, ne_eqb, false_from_ne_true}
@@ -9,12 +9,10 @@ use Rattle.std.proofs.lemmas.List.Kept.{AllPairs-cons}
 use Rattle.std.proofs.lemmas.Map.Steps.{length-le_from_distinct_below}
 use Rattle.std.proofs.lemmas.Slice.Eq.{bytes_eq-Decides}
 use Rattle.std.proofs.Math.ListN.{get_or-append}
-use Rattle.label_patterns.specs.declared.condition.Condition.{Condition}
 use Rattle.ruleset_text.specs.declared.entry_form.NamedCondition.{NamedCondition}
 use Rattle.ruleset_text.specs.Definitions.{Definitions}
 use Rattle.ruleset_text.specs.Entries.{Mapped}
 use Rattle.ruleset_text.specs.Names.{is_name, is_one_of, number_of, AreNames}
-use Rattle.variant_table.specs.Entries.{Variant}
 use Rattle.variant_table.specs.Forms.{knows_rule, knows_names, knows_all, numbered, name_at, named, variant_of, mapped_of}
 
 -- ---- one name
@@ -48,9 +46,9 @@ one_of (x ∷ names) name l = by_first (bytes_eq x name) l (one_of names name)
     by_first true l rest = refl
     by_first false l rest = rest (omega (arith, l))
 
--- a name that is none of them has a number behind theirs
-pub number_behind : (names : List (List ℕ)) (name : List ℕ) → number_of names name ≡ length names → is_one_of names name ≡ false
-number_behind names name e = false_from_ne_true (is_one_of names name) (λ h. omega (arith, e, number_below names name h))
+-- a name that is none of them has a number after theirs
+pub number_after : (names : List (List ℕ)) (name : List ℕ) → number_of names name ≡ length names → is_one_of names name ≡ false
+number_after names name e = false_from_ne_true (is_one_of names name) (λ h. omega (arith, e, number_below names name h))
 
 same : (name : List ℕ) → bytes_eq name name ≡ true
 same name = (bytes_eq-Decides name name).1 refl
@@ -85,11 +83,11 @@ one_of-at (x ∷ xs) (suc n) l = by_first (bytes_eq x (name_at xs n)) (one_of-at
     by_first true h = refl
     by_first false h = h
 
--- more names behind them change no name
+-- more names after them change no name
 pub name_stays : (names more : List (List ℕ)) (n : ℕ) → n < length names → name_at (names ++ more) n ≡ name_at names n
 name_stays names more n l = get_or-append names more [] n l
 
--- ---- names behind one another
+-- ---- names one after the other
 
 pub names-front : (names more : List (List ℕ)) → AreNames (names ++ more) → AreNames names
 names-front [] more h = tt
@@ -99,9 +97,9 @@ names-front (name ∷ names) more h = (h.0, apart-front name names more h.1, nam
     apart-front name [] more h = tt
     apart-front name (other ∷ names) more h = (h.0, apart-front name names more h.1)
 
-pub names-behind : (names more : List (List ℕ)) → AreNames (names ++ more) → AreNames more
-names-behind [] more h = h
-names-behind (name ∷ names) more h = names-behind names more h.2
+pub names-after : (names more : List (List ℕ)) → AreNames (names ++ more) → AreNames more
+names-after [] more h = h
+names-after (name ∷ names) more h = names-after names more h.2
 
 -- ---- tags
 
@@ -188,7 +186,7 @@ all_back d (m ∷ mapped) h =
 
 -- a rule that isn't known
 pub rule_unknown : (d : Definitions) (o : Option NamedCondition) (c : NamedCondition) (n : ℕ) → o ≡ Some c → n ≡ number_of d.rule_names c.rule → n ≡ length d.rule_names → knows_rule d o ≡ false
-rule_unknown d o c n e is none = ap (knows_rule d) e ∙ number_behind d.rule_names c.rule (sym is ∙ none)
+rule_unknown d o c n e is none = ap (knows_rule d) e ∙ number_after d.rule_names c.rule (sym is ∙ none)
 
 pub rule_known : (d : Definitions) (o : Option NamedCondition) (c : NamedCondition) (n : ℕ) → o ≡ Some c → n ≡ number_of d.rule_names c.rule → n < length d.rule_names
     → (knows_rule d o ≡ true) × (Some (record { kind = c.kind; rule = n }) ≡ option_map (numbered d) o)

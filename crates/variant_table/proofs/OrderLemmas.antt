@@ -96,7 +96,7 @@ module _ (table : List Entry) (order : List ℕ) (h : IsOrderOf table order) whe
   pub entry_with-at : (place : ℕ) (s : List ℕ) (e : Entry) → place < length order → source_at table order place ≡ s → slice_get table (get_or order place 0) ≡ Some e → entry_with table s ≡ Some e
   entry_with-at place s e l is at = entry_with-of table s e apart (get_or order place 0, number_below place l, read table (get_or order place 0) e e at) (sym (source-read table order place e at) ∙ is)
 
-  -- the sources before a lesser one are less, and those behind a greater one are greater
+  -- the sources before a lesser one are less, and those after a greater one are greater
   pub less_before : (place : ℕ) (s : List ℕ) → place < length order → source_cmp (source_at table order place) s ≡ Less → (i : ℕ) → i < place + 1 → source_cmp (source_at table order i) s ≡ Less
   less_before place s l here i m = elim (cases_order i place) [
     | inl same ↦ ap (λ k. source_cmp (source_at table order k) s) same ∙ here
@@ -104,8 +104,8 @@ module _ (table : List Entry) (order : List ℕ) (h : IsOrderOf table order) whe
     | inr (inr above) ↦ absurd (omega (arith, m, above))
   ]
 
-  pub greater_behind : (place : ℕ) (s : List ℕ) → source_cmp (source_at table order place) s ≡ Greater → (i : ℕ) → place ≤ i → i < length order → source_cmp (source_at table order i) s ≡ Greater
-  greater_behind place s here i m l = elim (cases_order i place) [
+  pub greater_after : (place : ℕ) (s : List ℕ) → source_cmp (source_at table order place) s ≡ Greater → (i : ℕ) → place ≤ i → i < length order → source_cmp (source_at table order i) s ≡ Greater
+  greater_after place s here i m l = elim (cases_order i place) [
     | inl same ↦ ap (λ k. source_cmp (source_at table order k) s) same ∙ here
     | inr (inl below) ↦ absurd (omega (arith, m, below))
     | inr (inr above) ↦
@@ -121,7 +121,7 @@ module _ (table : List Entry) (order : List ℕ) (h : IsOrderOf table order) whe
       none e (n, l, at) is =
           let p = place_of n l in
           let own : source_at table order p.0 ≡ s = source-placed n p.0 e l p.2 ∙ ap (λ x. x.source) at ∙ is in
-          elim (cases_lt p.0 place) [ inl below ↦ not_less _ _ own (gap.before p.0 below) | inr above ↦ not_greater _ _ own (gap.behind p.0 above p.1) ]
+          elim (cases_lt p.0 place) [ inl below ↦ not_less _ _ own (gap.before p.0 below) | inr above ↦ not_greater _ _ own (gap.after p.0 above p.1) ]
 
       by_cases : (o : Option Entry) → entry_with table s ≡ o → entry_with table s ≡ None
       by_cases None e = e
@@ -181,7 +181,7 @@ module _ (table : List Entry) (order : List ℕ) (h : IsOrderOf table order) (s 
         | inr (inr above) ↦ before q.0 above (ap (source_cmp s) own ∙ less_longer s c rest)
       ]
 
--- behind the place where the sequence stands
+-- after the place where the sequence stands
 pub no_longer-found : (table : List Entry) (order : List ℕ) (place : ℕ) (s : List ℕ) → IsOrderOf table order → place < length order → source_at table order place ≡ s → begins_at table order (place + 1) s ≡ false → HasNoLonger table s
 no_longer-found table order place s h l is = no_longer table order h s (place + 1) before (λ m. ap (λ r. source_cmp r (source_at table order (place + 1))) (sym is) ∙ h.rising place (place + 1) (omega arith) m)
   where
@@ -194,7 +194,7 @@ no_longer-found table order place s h l is = no_longer table order h s (place + 
 
 -- at the place where it would stand
 pub no_longer-gap : (table : List Entry) (order : List ℕ) (place : ℕ) (s : List ℕ) → IsOrderOf table order → IsGapFor table order s place → begins_at table order place s ≡ false → HasNoLonger table s
-no_longer-gap table order place s h gap = no_longer table order h s place (λ i l less. both_less (source_at table order i) s (gap.before i l) less) (λ l. flipped (source_at table order place) s (gap.behind place (omega arith) l))
+no_longer-gap table order place s h gap = no_longer table order h s place (λ i l less. both_less (source_at table order i) s (gap.before i l) less) (λ l. flipped (source_at table order place) s (gap.after place (omega arith) l))
 
 -- ---- whether a source is known
 
@@ -241,9 +241,9 @@ module _ (table : List Entry) (order : List ℕ) (e : Entry) (place : ℕ) (h : 
   unfolding more order'
   before_place i l = ap (λ n. (get_or (table ++ e ∷ []) n (entry_from [])).source) (get_or-insert_below order place (length table) 0 i l gap.within) ∙ old i (omega (arith, l, gap.within))
 
-  behind_place : (i : ℕ) → place ≤ i → i < length order → source_at more order' (i + 1) ≡ source_at table order i
+  after_place : (i : ℕ) → place ≤ i → i < length order → source_at more order' (i + 1) ≡ source_at table order i
   unfolding more order'
-  behind_place i l m = ap (λ n. (get_or (table ++ e ∷ []) n (entry_from [])).source) (get_or-insert_above order place (length table) 0 i l gap.within) ∙ old i m
+  after_place i l m = ap (λ n. (get_or (table ++ e ∷ []) n (entry_from [])).source) (get_or-insert_above order place (length table) 0 i l gap.within) ∙ old i m
 
   abbrev IsLess : List ℕ → List ℕ → Type 0
   IsLess r s = source_cmp r s ≡ Less
@@ -255,24 +255,24 @@ module _ (table : List Entry) (order : List ℕ) (e : Entry) (place : ℕ) (h : 
   unfolding order'
   length-order' = length-insert order place (length table) gap.within
 
-  -- a place behind the new one, as the one before it was
-  behind : (j : ℕ) → place < j → j < length order + 1 → source_at more order' j ≡ source_at table order (j - 1)
-  behind j l m = ap (source_at more order') (let z : j ≡ j - 1 + 1 = omega (arith, l) in z) ∙ behind_place (j - 1) (omega (arith, l)) (omega (arith, l, m))
+  -- a place after the new one, as the one before it was
+  after : (j : ℕ) → place < j → j < length order + 1 → source_at more order' j ≡ source_at table order (j - 1)
+  after j l m = ap (source_at more order') (let z : j ≡ j - 1 + 1 = omega (arith, l) in z) ∙ after_place (j - 1) (omega (arith, l)) (omega (arith, l, m))
 
   rising : (i j : ℕ) → i < j → j < length order' → IsLess (source_at more order' i) (source_at more order' j)
   rising i j l m = elim (cases_order i place) [
     | inl here ↦
-        less e.source (source_at table order (j - 1)) _ _ (ap (source_at more order') here ∙ at_place) (behind j (omega (arith, l, here)) last)
-        (flipped (source_at table order (j - 1)) e.source (gap.behind (j - 1) (omega (arith, l, here)) (omega (arith, last, l))))
+        less e.source (source_at table order (j - 1)) _ _ (ap (source_at more order') here ∙ at_place) (after j (omega (arith, l, here)) last)
+        (flipped (source_at table order (j - 1)) e.source (gap.after (j - 1) (omega (arith, l, here)) (omega (arith, last, l))))
     | inr (inl below) ↦ elim (cases_order j place) [
       | inl here ↦ less (source_at table order i) e.source _ _ (before_place i below) (ap (source_at more order') here ∙ at_place) (gap.before i below)
       | inr (inl under) ↦ less (source_at table order i) (source_at table order j) _ _ (before_place i below) (before_place j under) (h.rising i j l (omega (arith, under, gap.within)))
       | inr (inr over) ↦
-          less (source_at table order i) (source_at table order (j - 1)) _ _ (before_place i below) (behind j over last)
+          less (source_at table order i) (source_at table order (j - 1)) _ _ (before_place i below) (after j over last)
           (h.rising i (j - 1) (omega (arith, below, over)) (omega (arith, last, over)))
     ]
     | inr (inr above) ↦
-        less (source_at table order (i - 1)) (source_at table order (j - 1)) _ _ (behind i above (omega (arith, l, last))) (behind j (omega (arith, above, l)) last)
+        less (source_at table order (i - 1)) (source_at table order (j - 1)) _ _ (after i above (omega (arith, l, last))) (after j (omega (arith, above, l)) last)
         (h.rising (i - 1) (j - 1) (omega (arith, above, l)) (omega (arith, last, l)))
   ]
     where

@@ -9,7 +9,7 @@ use Rattle.variant_table.specs.inner.Order.{HasNoLonger}
 use Rattle.variant_table.specs.Places.{entry_with, entries_from, entries_longer}
 use Rattle.variant_table.proofs.BeginningLemmas.{entries_from-none}
 
-drop_here : (xs : List ℕ) (i : ℕ) → i < length xs → drop i xs ≡ get_or xs i 0 ∷ drop (i + 1) xs
+pub drop_here : (xs : List ℕ) (i : ℕ) → i < length xs → drop i xs ≡ get_or xs i 0 ∷ drop (i + 1) xs
 drop_here xs i l = steps xs i l ∙ ap (λ n. get_or xs i 0 ∷ drop n xs) (sym (add-one i))
   where
     steps : (xs : List ℕ) (i : ℕ) → i < length xs → drop i xs ≡ get_or xs i 0 ∷ drop (suc i) xs
@@ -20,15 +20,15 @@ drop_here xs i l = steps xs i l ∙ ap (λ n. get_or xs i 0 ∷ drop n xs) (sym 
 module _ (table : List Entry) (label : List ℕ) (place len : ℕ) where
   pub longer_step : len < 8 → place + len < length label → entries_longer table label place len ≡ option_to_list (entry_with table (slice_range label place (place + (len + 1)))) ++ entries_longer table label place (len + 1)
   longer_step small within =
-      let behind : List ℕ = drop place label in
-      let rest : List ℕ = take 8 behind in
-      let room : len < length behind = omega (arith, length-drop place label) in
-      let inside : len < length rest = omega (arith, length-take 8 behind, length-drop place label) in
-      let c : ℕ = get_or behind len 0 in
-      let first : drop len rest ≡ c ∷ drop (len + 1) rest = drop_here rest len inside ∙ ap (λ x. x ∷ drop (len + 1) rest) (get_or-take 8 behind len 0 small) in
+      let after : List ℕ = drop place label in
+      let rest : List ℕ = take 8 after in
+      let room : len < length after = omega (arith, length-drop place label) in
+      let inside : len < length rest = omega (arith, length-take 8 after, length-drop place label) in
+      let c : ℕ = get_or after len 0 in
+      let first : drop len rest ≡ c ∷ drop (len + 1) rest = drop_here rest len inside ∙ ap (λ x. x ∷ drop (len + 1) rest) (get_or-take 8 after len 0 small) in
       let size : place + len - place ≡ len = omega arith in
       let size' : place + (len + 1) - place ≡ len + 1 = omega arith in
-      let longer : slice_range label place (place + len) ++ c ∷ [] ≡ slice_range label place (place + (len + 1)) = ap (λ n. take n behind ++ c ∷ []) size ∙ sym (take_more behind len 0 room) ∙ ap (λ n. take n behind) (sym size') in
+      let longer : slice_range label place (place + len) ++ c ∷ [] ≡ slice_range label place (place + (len + 1)) = ap (λ n. take n after ++ c ∷ []) size ∙ sym (take_more after len 0 room) ∙ ap (λ n. take n after) (sym size') in
       ap (entries_from table (slice_range label place (place + len))) first
       ∙ ap (λ b. option_to_list (entry_with table b) ++ entries_from table b (drop (len + 1) rest)) longer
 

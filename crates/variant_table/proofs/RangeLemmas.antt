@@ -1,8 +1,9 @@
 -- The entries of a range, one by one.
-use Rattle.std.proofs.Common.{◌≡◌, ℕ, suc, ◌+◌, ◌-◌, ◌<◌, ◌≤◌, Bool, true, false, ◌||◌, cond, List, [], ◌∷◌, ◌++◌, length, map, Ok, Err, refl, sym, ap, ◌∙◌, arith, append_assoc}
+use Rattle.std.proofs.Common.{◌≡◌, ℕ, suc, ◌+◌, ◌-◌, ◌<◌, ◌≤◌, Bool, true, false, ◌||◌, cond, List, [], ◌∷◌, ◌++◌, map, Ok, Err, refl, sym, ap, ◌∙◌, arith, append_assoc}
 use Rattle.std.specs.Prelude.{bytes_eq}
 use Rattle.std.specs.List.{range_with_len, list_any}
 use Rattle.std.proofs.lemmas.List.{append-nil}
+use Rattle.std.proofs.lemmas.Bool.{or_right}
 use Rattle.ruleset_text.specs.Entries.{Mapped}
 use Rattle.variant_table.specs.Faults.{SameSource}
 use Rattle.variant_table.specs.Entries.{Variant, Entry}
@@ -16,7 +17,7 @@ use Rattle.variant_table.proofs.ConditionLemmas.{AreNewSources, new_range}
 same_range : {X : Type 0} (f : ℕ → X) (a b m n : ℕ) → a ≡ b → m ≡ n → map f (range_with_len a m) ≡ map f (range_with_len b n)
 same_range f a b m n e g = ap (λ x. map f (range_with_len x m)) e ∙ ap (λ k. map f (range_with_len b k)) g
 
--- what is made of the code points from a place on is that of its code point and of those behind it
+-- what is made of the code points from a place on is that of its code point and of those after it
 pub range_next : {X : Type 0} (f : ℕ → X) (first count i : ℕ) → i < count → map f (range_with_len (first + i) (count - i)) ≡ f (first + i) ∷ map f (range_with_len (first + (i + 1)) (count - (i + 1)))
 range_next f first count i l =
     same_range f (first + i) (first + i) (count - i) (suc (count - (i + 1))) refl (omega arith)
@@ -59,11 +60,6 @@ all_new t [] h = ap (λ x. Ok x) (sym (append-nil t))
 all_new t (e ∷ es) h =
     ap (λ r. r >>= λ x. with_new_sources x es) (ap (λ b. cond b (Err SameSource) (Ok (t ++ e ∷ []))) h.0)
     ∙ all_new (t ++ e ∷ []) es h.1 ∙ ap (λ x. Ok x) (append_assoc t (e ∷ []) es)
-
--- a source that some entries have, more entries have too
-or_right : (a b : Bool) → b ≡ true → (a || b) ≡ true
-or_right true b h = refl
-or_right false b h = h
 
 known_step : (t : List Entry) (x e f : Entry) (b : Bool) → bytes_eq x.source f.source ≡ b → has_source_in (x ∷ t) f ≡ true → (has_source_in t f ≡ true → has_source_in (t ++ e ∷ []) f ≡ true) → has_source_in (x ∷ (t ++ e ∷ [])) f ≡ true
 known_step t x e f true k h rest = ap (λ b. b || has_source_in (t ++ e ∷ []) f) k

@@ -1,7 +1,7 @@
 -- Variants of an entry that stand again, and those that are apart.
 use Rattle.std.proofs.Common.{◌≡◌, ℕ, zero, suc, ◌+◌, ◌<◌, ◌≤◌, Bool, true, false, not, ◌&&◌, ◌||◌, eqb, List, [], ◌∷◌, length, map, drop, get_or, Some, None, Option, refl, sym, ap, ◌∙◌, arith, eq-eqb, length-drop}
 use Rattle.std.specs.Prelude.{bytes_eq, slice_get}
-use Rattle.std.specs.List.{AllByRecursion, All, AllPairs, Contains, list_any}
+use Rattle.std.specs.List.{AllByRecursion, AllPairs, Contains, list_any}
 use Rattle.std.proofs.lemmas.Bool.{and_parts, or_parts, or_from, not-false, eqb-true}
 use Rattle.std.proofs.lemmas.List.Elements.{All-from_recursion, recursion_from_All}
 use Rattle.std.proofs.lemmas.List.Kept.{AllPairs-cons}
@@ -14,6 +14,7 @@ use Rattle.variant_table.specs.Entries.{Variant, Entry, entry_from, itself, sequ
 use Rattle.variant_table.specs.WellFormed.{AreOther, AreApart, IsEntry}
 use Rattle.variant_table.proofs.EntryLemmas.{sequence_found, variant_asked}
 use Rattle.variant_table.proofs.ListLemmas.{drop_next}
+use Rattle.variant_table.proofs.NumberLemmas.{pairs_head, pairs_tail}
 
 -- ---- conditions
 
@@ -84,12 +85,6 @@ distinct_from [] h = λ i j d l k. absurd (omega (arith, k))
 distinct_from (v ∷ variants) h =
     let p = or_parts (list_any (is_again v.sequence v.condition) variants) (repeats variants) h in
     AllPairs-cons AreApart v variants (All-from_recursion (AreApart v) variants (others v variants p.0)) (distinct_from variants p.1)
-
-pairs_head : {X : Type 0} (R : X → X → Type 0) (x : X) (xs : List X) → AllPairs R (x ∷ xs) → All (R x) xs
-pairs_head R x xs h = λ k d l. h 0 (suc k) d (omega arith) (omega (arith, l))
-
-pairs_tail : {X : Type 0} (R : X → X → Type 0) (x : X) (xs : List X) → AllPairs R (x ∷ xs) → AllPairs R xs
-pairs_tail R x xs h = λ i j d l k. h (suc i) (suc j) d (omega (arith, l)) (omega (arith, k))
 
 pub no_repeats : (variants : List Variant) → AllPairs AreApart variants → repeats variants ≡ false
 no_repeats [] h = refl

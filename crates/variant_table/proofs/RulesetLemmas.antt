@@ -1,7 +1,7 @@
 -- Tables of version 2 as rulesets, and that no text is both.
-use Rattle.std.proofs.Common.{◌≡◌, inl, inr, ℕ, ◌+◌, ◌≤◌, Bool, true, false, not, cond, List, [], ◌∷◌, ◌++◌, length, Option, Some, None, Ok, Err, refl, sym, ap, subst, ◌∙◌, arith, length-append}
+use Rattle.std.proofs.Common.{◌≡◌, inl, inr, ℕ, ◌+◌, ◌≤◌, Bool, true, false, cond, List, [], ◌∷◌, ◌++◌, length, Option, Some, None, Ok, Err, refl, sym, ap, subst, ◌∙◌, arith, length-append}
 use Rattle.std.specs.Prelude.{bytes_eq}
-use Rattle.std.specs.List.{AllByRecursion, list_all}
+use Rattle.std.specs.List.{AllByRecursion}
 use Rattle.std.specs.Str.Lines.{strip_carriage_return}
 use Rattle.std.proofs.lemmas.List.Elements.{All-from_recursion, recursion_from_All}
 use Rattle.std.proofs.lemmas.Slice.Eq.{bytes_eq-Decides}
@@ -11,13 +11,11 @@ use Rattle.variant_table.specs.declared.version.Notation.TheVariants.{Table, Rul
 use Rattle.variant_table.specs.declared.version.Version.{Version}
 use Rattle.variant_table.specs.declared.version.Version.TheVariants.{One, Two, Three}
 use Rattle.variant_table.specs.Faults.{LineFault, Limit, Syntax}
-use Rattle.std.proofs.lemmas.Bool.{and_parts}
-use Rattle.ruleset_text.specs.inner.EntrySteps.{entry_in}
+use Rattle.ruleset_text.specs.EntrySteps.{entry_in}
 use Rattle.ruleset_text.specs.Definitions.{Definitions, nothing_defined}
 use Rattle.ruleset_text.specs.Lexemes.{lexemes}
 use Rattle.variant_table.specs.DefinitionLines.{keyword_in, Defines}
 use Rattle.variant_table.specs.Entries.{Entry, TableValue, empty_table, table_of}
-use Rattle.variant_table.specs.Forms.{is_plain, begins_marked}
 use Rattle.variant_table.specs.Canonical.{canonical_text, head_text, version_line}
 use Rattle.variant_table.specs.Conditions.{is_too_long}
 use Rattle.variant_table.specs.WellFormed.{IsTable}
@@ -32,16 +30,16 @@ use Rattle.variant_table.proofs.SizeLemmas.{adds_version}
 line_three : (d : Definitions) (line : List ℕ) (entries : List Entry) → LineSpells Two d line entries → LineSpells Three d line entries
 line_three d line entries (inl h) = inl h
 line_three d line entries (inr (inl h)) = inr (inl h)
-line_three d line entries (inr (inr h)) = inr (inr (h.0, (h.1.0, (and_parts (list_all is_plain h.0.mapped) (not (begins_marked h.0.mapped)) h.1.1).0), h.2, h.3))
+line_three d line entries (inr (inr h)) = inr (inr (h.0, (h.1.0, refl), h.2, h.3))
 
 -- a table as a ruleset
 abbrev three : TableValue → TableValue
 three t = record t { version = Three }
 
 no_definition : (t : TableValue) (line : List ℕ) (d : Definitions) → t.version ≡ Two → Defines t line d → ⊥
-no_definition t line d is (k, behind, n, e) = by_version t.version is n
+no_definition t line d is (k, after, n, e) = by_version t.version is n
   where
-    by_version : (v : Version) → v ≡ Two → keyword_in v (lexemes line) ≡ Some (k, behind) → ⊥
+    by_version : (v : Version) → v ≡ Two → keyword_in v (lexemes line) ≡ Some (k, after) → ⊥
     by_version One is n = cc
     by_version Two is n = cc
     by_version Three is n = cc
@@ -62,9 +60,9 @@ shorter (line ∷ lines) h = (omega (arith, h.0), shorter lines h.1)
 as_ruleset : (entries : List Entry) → IsTable (table_of Two nothing_defined entries) → IsTable (table_of Three nothing_defined entries)
 as_ruleset entries h = record {
   without_fault = h.without_fault;
-  defined = refl;
+  defined = tt;
   well_formed = h.well_formed;
-  of_version = λ k d l. (h.of_version k d l).1;
+  of_version = λ k d l. tt;
   named = h.named;
   few = omega (arith, h.few);
   short = omega (arith, h.short, length-append (head_text Two) (canonical_text nothing_defined entries), length-append (head_text Three) (canonical_text nothing_defined entries));

@@ -1,5 +1,5 @@
 -- In version 1 canonical text is never longer than what was read.
-use Rattle.std.proofs.Common.{◌≡◌, inl, inr, ℕ, ◌+◌, ◌/◌, ◌%◌, ◌-◌, ◌<◌, ◌≤◌, Bool, true, false, not, ◌||◌, ◌&&◌, cond, eqb, List, [], ◌∷◌, ◌++◌, map, length, take, refl, sym, ap, subst, ◌∙◌, arith, length-append, length-take}
+use Rattle.std.proofs.Common.{◌≡◌, inl, inr, ℕ, ◌+◌, ◌/◌, ◌%◌, ◌-◌, ◌<◌, ◌≤◌, Bool, true, false, ◌||◌, ◌&&◌, cond, eqb, List, [], ◌∷◌, ◌++◌, map, length, take, refl, sym, ap, subst, ◌∙◌, arith, length-append, length-take}
 use Rattle.std.specs.Prelude.{nat_lt, slice_index, Option, Some, None}
 use Rattle.std.specs.Char.{digit_value}
 use Rattle.std.specs.List.{AllByRecursion, flat_map, list_all, onto_first}
@@ -11,8 +11,8 @@ use Rattle.std.proofs.lemmas.List.{append-nil}
 use Rattle.std.proofs.lemmas.List.Concat.{flat_map-append}
 use Rattle.std.proofs.lemmas.List.Sums.{sum_by-cons}
 use Rattle.idn_text.proofs.LawLemmas.{joined-raw_lines}
-use Rattle.idn_text.specs.Points.{is_hex_digit, point_of_hex}
-use Rattle.ruleset_text.specs.Canonical.{four_digits, hex_digit, point_text}
+use Rattle.idn_text.specs.Points.{is_hex_digit, point_of_hex, four_digits, hex_digit}
+use Rattle.ruleset_text.specs.Canonical.{point_text}
 use Rattle.ruleset_text.specs.Definitions.{Definitions}
 use Rattle.ruleset_text.specs.Entries.{Mapped}
 use Rattle.ruleset_text.specs.EntryText.{mark_text, sequence_text, mapped_text, variants_text, entry_text, IsForm}
@@ -233,9 +233,9 @@ size_of-cons line lines = sum_by-cons (λ line. length line + 1) line lines
 
 -- in version 1 nothing is defined
 no_definition : (t : TableValue) (line : List ℕ) (d : Definitions) → t.version ≡ One → Defines t line d → ⊥
-no_definition t line d is (k, behind, n, e) = by_version t.version is n
+no_definition t line d is (k, after, n, e) = by_version t.version is n
   where
-    by_version : (v : Version) → v ≡ One → keyword_in v (lexemes line) ≡ Some (k, behind) → ⊥
+    by_version : (v : Version) → v ≡ One → keyword_in v (lexemes line) ≡ Some (k, after) → ⊥
     by_version One is n = cc
     by_version Two is n = cc
     by_version Three is n = cc
@@ -289,11 +289,11 @@ pub never_longer : (n : Notation) (lines : List (List ℕ)) (u : TableValue) →
     → length (table_text u.version u.definitions u.entries) ≤ size_of lines
 never_longer n lines u one of s = omega (arith, table_text_long (body_of n lines) u one of s, body_shorter n lines)
 
--- the lines joined, with a line feed behind each
+-- the lines joined, with a line feed after each
 length-joined_lines : (lines : List (List ℕ)) → size_of lines ≡ length (joined_lines lines)
 length-joined_lines [] = refl
 length-joined_lines (line ∷ lines) = omega (arith, size_of-cons line lines, length-joined_lines lines, length-append line (10 ∷ joined_lines lines))
 
--- the bytes of a text's lines are those of the text, with a line feed behind a rest that has none
+-- the bytes of a text's lines are those of the text, with a line feed after a rest that has none
 pub size_of-raw_lines : (text : List ℕ) → size_of (raw_lines text) ≡ length (with_last_feed text)
 size_of-raw_lines text = length-joined_lines (raw_lines text) ∙ ap length (joined-raw_lines text)

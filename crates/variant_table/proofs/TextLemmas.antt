@@ -23,8 +23,8 @@ first_faulty_read n text number kind f =
     let bytes : ℕ = size_of head in
     let read = f.read in
     read_by n (raw_lines text) (Some f.table.version) f.version
-    ∙ ap (with_lines k bytes (empty_table f.table.version)) f.cut ∙ lines_read k head f.before (f.line ∷ f.behind) f.table read
-    ∙ step_of (k + length f.before) (bytes + size_of f.before) f.table f.line f.behind (Err kind)
+    ∙ ap (with_lines k bytes (empty_table f.table.version)) f.cut ∙ lines_read k head f.before (f.line ∷ f.after) f.table read
+    ∙ step_of (k + length f.before) (bytes + size_of f.before) f.table f.line f.after (Err kind)
     (told (bytes + size_of f.before) f.table f.line kind f.faulty)
     ∙ ap (λ m. Err (m, kind)) (let z : k + length f.before ≡ number = omega (arith, f.numbered) in z)
 
@@ -47,7 +47,7 @@ read_with n text number kind (Some v) is e =
           inr (record {
             before = f.before;
             line = f.line;
-            behind = f.behind;
+            after = f.after;
             table = f.table;
             version = is ∙ ap (λ w. Some w) (sym f.added.version);
             cut = f.cut;

@@ -25,7 +25,7 @@ use Rattle.variant_table.proofs.LengthLemmas.{pieces_size, length-entry_text}
 
 -- the variants that are not blocked
 abbrev pub free : List Variant → List Variant
-free variants = filter (λ v. not v.blocked) variants
+free variants = filter (λ v. not v.marked) variants
 
 -- ---- one variant after another
 
@@ -36,12 +36,12 @@ free_step v w variants false h = ap (λ x. v ∷ x) h
 
 free_push : (variants : List Variant) (w : Variant) → free (variants ++ w ∷ []) ≡ free variants ++ free (w ∷ [])
 free_push [] w = refl
-free_push (v ∷ variants) w = free_step v w variants v.blocked (free_push variants w)
+free_push (v ∷ variants) w = free_step v w variants v.marked (free_push variants w)
 
-pub free_kept : (variants : List Variant) (i : ℕ) (v : Variant) → slice_get variants i ≡ Some v → v.blocked ≡ false → free (take (i + 1) variants) ≡ free (take i variants) ++ v ∷ []
+pub free_kept : (variants : List Variant) (i : ℕ) (v : Variant) → slice_get variants i ≡ Some v → v.marked ≡ false → free (take (i + 1) variants) ≡ free (take i variants) ++ v ∷ []
 free_kept variants i v e h = ap free (take_next variants i v e) ∙ free_push (take i variants) v ∙ ap (λ b. free (take i variants) ++ cond (not b) (v ∷ []) []) h
 
-pub free_left : (variants : List Variant) (i : ℕ) → slice_get (map (λ v. v.blocked) variants) i ≡ Some true → free (take (i + 1) variants) ≡ free (take i variants)
+pub free_left : (variants : List Variant) (i : ℕ) → slice_get (map (λ v. v.marked) variants) i ≡ Some true → free (take (i + 1) variants) ≡ free (take i variants)
 free_left variants i e =
     let at = variant_marked variants i true e in
     ap free (take_next variants i at.0 at.1) ∙ free_push (take i variants) at.0 ∙ ap (λ b. free (take i variants) ++ cond (not b) (at.0 ∷ []) []) at.2 ∙ append-nil (free (take i variants))
@@ -51,17 +51,17 @@ unblocked_next t i e at = ap unblocked (take_next t i e at) ∙ map-append unblo
 
 -- ---- where no variant is blocked
 
-none_left : (variants : List Variant) → list_any (λ v. v.blocked) variants ≡ false → free variants ≡ variants
+none_left : (variants : List Variant) → list_any (λ v. v.marked) variants ≡ false → free variants ≡ variants
 none_left [] h = refl
 none_left (v ∷ variants) h =
-    let p = or_parts v.blocked (list_any (λ v. v.blocked) variants) h in
+    let p = or_parts v.marked (list_any (λ v. v.marked) variants) h in
     ap (λ b. cond (not b) (v ∷ free variants) (free variants)) p.0 ∙ ap (λ x. v ∷ x) (none_left variants p.1)
 
 -- the entries stay
 pub unblocked_none : (t : List Entry) → has_blocked t ≡ false → unblocked t ≡ t
 unblocked_none [] h = refl
 unblocked_none (e ∷ t) h =
-    let p = or_parts (list_any (λ v. v.blocked) e.variants) (has_blocked t) h in
+    let p = or_parts (list_any (λ v. v.marked) e.variants) (has_blocked t) h in
     ap (λ vs. record e { variants = vs } ∷ unblocked t) (none_left e.variants p.0) ∙ ap (λ x. e ∷ x) (unblocked_none t p.1)
 
 -- ---- the order of the sources stays
@@ -83,7 +83,7 @@ order_kept t order h = record {
 
 all_free : (P : List ℕ → Type 0) (variants : List Variant) → AllByRecursion P (sequences_in variants) → AllByRecursion P (sequences_in (free variants))
 all_free P [] h = tt
-all_free P (v ∷ variants) h = by_mark v.blocked (all_free P variants h.1)
+all_free P (v ∷ variants) h = by_mark v.marked (all_free P variants h.1)
   where
     by_mark : (b : Bool) → AllByRecursion P (sequences_in (free variants)) → AllByRecursion P (sequences_in (cond (not b) (v ∷ free variants) (free variants)))
     by_mark true rest = rest
@@ -91,7 +91,7 @@ all_free P (v ∷ variants) h = by_mark v.blocked (all_free P variants h.1)
 
 any_free : (p : Variant → Bool) (variants : List Variant) → list_any p variants ≡ false → list_any p (free variants) ≡ false
 any_free p [] h = refl
-any_free p (v ∷ variants) h = by_mark v.blocked (any_free p variants (or_parts (p v) (list_any p variants) h).1)
+any_free p (v ∷ variants) h = by_mark v.marked (any_free p variants (or_parts (p v) (list_any p variants) h).1)
   where
     by_mark : (b : Bool) → list_any p (free variants) ≡ false → list_any p (cond (not b) (v ∷ free variants) (free variants)) ≡ false
     by_mark true rest = rest
@@ -99,7 +99,7 @@ any_free p (v ∷ variants) h = by_mark v.blocked (any_free p variants (or_parts
 
 repeats_free : (variants : List Variant) → repeats variants ≡ false → repeats (free variants) ≡ false
 repeats_free [] h = refl
-repeats_free (v ∷ variants) h = by_mark v.blocked (repeats_free variants (or_parts (list_any (is_again v.sequence v.condition) variants) (repeats variants) h).1)
+repeats_free (v ∷ variants) h = by_mark v.marked (repeats_free variants (or_parts (list_any (is_again v.sequence v.condition) variants) (repeats variants) h).1)
   where
     by_mark : (b : Bool) → repeats (free variants) ≡ false → repeats (cond (not b) (v ∷ free variants) (free variants)) ≡ false
     by_mark true rest = rest
@@ -109,7 +109,7 @@ repeats_free (v ∷ variants) h = by_mark v.blocked (repeats_free variants (or_p
 
 few_free : (variants : List Variant) → length (free variants) ≤ length variants
 few_free [] = omega arith
-few_free (v ∷ variants) = by_mark v.blocked (few_free variants)
+few_free (v ∷ variants) = by_mark v.marked (few_free variants)
   where
     by_mark : (b : Bool) → length (free variants) ≤ length variants → length (cond (not b) (v ∷ free variants) (free variants)) ≤ length (v ∷ variants)
     by_mark true rest = omega (arith, rest)
@@ -135,7 +135,7 @@ well_formed_kept t h = All-from_recursion IsEntry (unblocked t) (entries_kept t 
 
 each_free : (P : Variant → Type 0) (variants : List Variant) → AllByRecursion P variants → AllByRecursion P (free variants)
 each_free P [] h = tt
-each_free P (v ∷ variants) h = by_mark v.blocked (each_free P variants h.1)
+each_free P (v ∷ variants) h = by_mark v.marked (each_free P variants h.1)
   where
     by_mark : (b : Bool) → AllByRecursion P (free variants) → AllByRecursion P (cond (not b) (v ∷ free variants) (free variants))
     by_mark true rest = rest
@@ -153,9 +153,9 @@ plain_free e h = let all = recursion_from_All IsPlain (whole e) h in All-from_re
 version_kept : (v : Version) (t : List Entry) → AllByRecursion (IsOfVersion v) t → AllByRecursion (IsOfVersion v) (unblocked t)
 version_kept v [] h = tt
 version_kept One (e ∷ t) h =
-    ((h.0.0, All-from_recursion (λ x. x.blocked ≡ false) (free e.variants) (each_free (λ x. x.blocked ≡ false) e.variants (recursion_from_All (λ x. x.blocked ≡ false) e.variants h.0.1)), plain_free e h.0.2), version_kept One t h.1)
+    ((h.0.0, All-from_recursion (λ x. x.marked ≡ false) (free e.variants) (each_free (λ x. x.marked ≡ false) e.variants (recursion_from_All (λ x. x.marked ≡ false) e.variants h.0.1)), plain_free e h.0.2), version_kept One t h.1)
 version_kept Two (e ∷ t) h = ((h.0.0, plain_free e h.0.1), version_kept Two t h.1)
-version_kept Three (e ∷ t) h = (plain_free e h.0, version_kept Three t h.1)
+version_kept Three (e ∷ t) h = (tt, version_kept Three t h.1)
 
 -- ---- sources
 
@@ -171,7 +171,7 @@ new_kept before (e ∷ t) h = (has_kept before e ∙ h.0, subst (λ x. AreNewSou
 
 further_free : (d : Definitions) (variants : List Variant) → pieces_size (map (mapped_of d) (free variants)) ≤ pieces_size (map (mapped_of d) variants)
 further_free d [] = omega arith
-further_free d (v ∷ variants) = by_mark v.blocked (further_free d variants)
+further_free d (v ∷ variants) = by_mark v.marked (further_free d variants)
   where
     by_mark : (b : Bool) → pieces_size (map (mapped_of d) (free variants)) ≤ pieces_size (map (mapped_of d) variants)
         → pieces_size (map (mapped_of d) (cond (not b) (v ∷ free variants) (free variants))) ≤ pieces_size (map (mapped_of d) (v ∷ variants))

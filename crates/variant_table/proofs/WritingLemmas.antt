@@ -129,8 +129,3 @@ all_at P (y ∷ ys) (suc i) x h e = all_at P ys i x (All-tail P y ys h) e
 pub slice_get-later : {X : Type 0} (x : X) (xs : List X) (n : ℕ) → 1 ≤ n → slice_get (x ∷ xs) n ≡ slice_get xs (n - 1)
 slice_get-later x xs zero l = absurd (omega (arith, l))
 slice_get-later x xs (suc n) l = ap (slice_get xs) (let same : n ≡ suc n - 1 = omega arith in same)
-
-pub slice_get-within : {X : Type 0} (xs : List X) (i : ℕ) (x : X) → slice_get xs i ≡ Some x → i < length xs
-slice_get-within [] i x e = absurd cc
-slice_get-within (y ∷ ys) zero x e = omega arith
-slice_get-within (y ∷ ys) (suc i) x e = omega (arith, slice_get-within ys i x e)

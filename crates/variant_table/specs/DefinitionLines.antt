@@ -1,9 +1,8 @@
--- The lines of a ruleset that define something: a tag, a set or a rule.
+-- The lines of a ruleset that define something: a tag, a set, a rule or a demand.
 use Rattle.std.specs.Prelude.{◌≡◌, ℕ, ◌-◌, Ok, Err, ◌++◌, length, Option, Some, None, List, [], ◌∷◌}
 use Rattle.ruleset_text.specs.declared.fault.DefinitionFault.{DefinitionFault}
 use Rattle.ruleset_text.specs.declared.fault.DefinitionFault.TheVariants as definitions
 use Rattle.ruleset_text.specs.declared.keyword.Keyword.{Keyword}
-use Rattle.ruleset_text.specs.declared.keyword.Keyword.TheVariants.{Tag, Set, Rule, Never, Always}
 use Rattle.ruleset_text.specs.Definition.{keyword_of}
 use Rattle.ruleset_text.specs.Definitions.{Definitions, defined}
 use Rattle.ruleset_text.specs.Lexemes.{lexemes}
@@ -14,25 +13,16 @@ use Rattle.variant_table.specs.Entries.{TableValue}
 use Rattle.variant_table.specs.Faults.{LineFault, Limit, Syntax, BadClass, NoSuchName, SameName}
 use Rattle.variant_table.specs.Limits.{text_limit}
 
--- no demand is read yet, so their keywords are none
-abbrev pub if_read : Option Keyword → Option Keyword
-if_read None = None
-if_read (Some Tag) = Some Tag
-if_read (Some Set) = Some Set
-if_read (Some Rule) = Some Rule
-if_read (Some Never) = None
-if_read (Some Always) = None
+abbrev pub with_after : List (List ℕ) → Option Keyword → Option (Keyword × List (List ℕ))
+with_after after None = None
+with_after after (Some keyword) = Some (keyword, after)
 
-abbrev pub with_behind : List (List ℕ) → Option Keyword → Option (Keyword × List (List ℕ))
-with_behind behind None = None
-with_behind behind (Some keyword) = Some (keyword, behind)
-
--- the keyword with which the lexemes of a line begin, and those behind it; versions 1 and 2 have none
+-- the keyword with which the lexemes of a line begin, and those after it; versions 1 and 2 have none
 abbrev pub keyword_in : Version → List (List ℕ) → Option (Keyword × List (List ℕ))
 keyword_in One words = None
 keyword_in Two words = None
 keyword_in Three [] = None
-keyword_in Three (word ∷ behind) = with_behind behind (if_read (keyword_of word))
+keyword_in Three (word ∷ after) = with_after after (keyword_of word)
 
 -- how many bytes the canonical text of the definitions may have beside that of the entries
 abbrev pub room_for_definitions : TableValue → ℕ
@@ -41,10 +31,10 @@ room_for_definitions t = text_limit t.version - length (head_text t.version ++ c
 -- the line defines something, without a fault: with it the definitions are these
 abbrev pub Defines : TableValue → List ℕ → Definitions → Type 0
 Defines t line definitions =
-    (keyword : Keyword) × (behind : List (List ℕ)) × (keyword_in t.version (lexemes line) ≡ Some (keyword, behind))
-    × (defined (room_for_definitions t) t.definitions keyword behind ≡ Ok definitions)
+    (keyword : Keyword) × (after : List (List ℕ)) × (keyword_in t.version (lexemes line) ≡ Some (keyword, after))
+    × (defined (room_for_definitions t) t.definitions keyword after ≡ Ok definitions)
 
--- what is told of a line with this fault in its definition; to want memory is no fault of a line
+-- what is told of a line with this fault in its definition; to lack memory is no fault of a line
 abbrev pub line_fault : DefinitionFault → LineFault
 line_fault definitions.Syntax = Syntax
 line_fault definitions.Limit = Limit
@@ -56,5 +46,5 @@ line_fault definitions.Memory = Syntax
 -- the line is to define something, and this is told of it
 abbrev pub DefinesWrong : TableValue → List ℕ → LineFault → Type 0
 DefinesWrong t line fault =
-    (keyword : Keyword) × (behind : List (List ℕ)) × (wrong : DefinitionFault) × (keyword_in t.version (lexemes line) ≡ Some (keyword, behind))
-    × (defined (room_for_definitions t) t.definitions keyword behind ≡ Err wrong) × (fault ≡ line_fault wrong)
+    (keyword : Keyword) × (after : List (List ℕ)) × (wrong : DefinitionFault) × (keyword_in t.version (lexemes line) ≡ Some (keyword, after))
+    × (defined (room_for_definitions t) t.definitions keyword after ≡ Err wrong) × (fault ≡ line_fault wrong)

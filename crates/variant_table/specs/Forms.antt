@@ -32,11 +32,11 @@ abbrev pub begins_marked : List Mapped → Bool
 begins_marked [] = false
 begins_marked (source ∷ variants) = source.marked
 
--- version 1 has no '!' and no ranges, version 2 no outside sources; none of them has tags or conditions
+-- version 1 has no '!' and no ranges, version 2 no outside sources, and neither has tags or conditions; version 3 has all
 abbrev pub has_form : Version → EntryForm → Bool
 has_form One form = list_all is_bare form.mapped && not (is_some form.last)
 has_form Two form = list_all is_plain form.mapped && not (begins_marked form.mapped)
-has_form Three form = list_all is_plain form.mapped
+has_form Three form = true
 
 -- the line is an entry or a range of this form, which the version has
 abbrev pub HasForm : Version → List ℕ → EntryForm → Type 0
@@ -72,7 +72,7 @@ knows_names definitions m = list_all (is_one_of definitions.tags) m.tags && know
 abbrev pub knows_all : Definitions → List Mapped → Bool
 knows_all definitions mapped = list_all (knows_names definitions) mapped
 
--- a condition by the number of its rule; a name that isn't defined has a number behind those that are
+-- a condition by the number of its rule; a name that isn't defined has a number after those that are
 abbrev pub numbered : Definitions → NamedCondition → Condition
 numbered definitions c = record { kind = c.kind; rule = number_of definitions.rule_names c.rule }
 
@@ -87,7 +87,7 @@ named definitions c = record { kind = c.kind; rule = name_at definitions.rule_na
 -- ---- the entries of a form
 
 abbrev pub variant_of : Definitions → Mapped → Variant
-variant_of definitions m = record { sequence = m.points; blocked = m.marked; tags = map (number_of definitions.tags) m.tags; condition = option_map (numbered definitions) m.condition }
+variant_of definitions m = record { sequence = m.points; marked = m.marked; tags = map (number_of definitions.tags) m.tags; condition = option_map (numbered definitions) m.condition }
 
 -- the entry of a source and its variants
 abbrev pub entry_of : Definitions → List Mapped → Entry
@@ -105,7 +105,7 @@ SpellsEntries version definitions line entries =
 
 -- a source or a variant as a line writes it
 abbrev pub mapped_of : Definitions → Variant → Mapped
-mapped_of definitions v = record { marked = v.blocked; points = v.sequence; tags = map (name_at definitions.tags) v.tags; condition = option_map (named definitions) v.condition }
+mapped_of definitions v = record { marked = v.marked; points = v.sequence; tags = map (name_at definitions.tags) v.tags; condition = option_map (named definitions) v.condition }
 
 -- the source and the variants of an entry
 abbrev pub as_written : Definitions → Entry → List Mapped

@@ -13,9 +13,5 @@ pub mod Places
 pub mod Singles
 pub mod Reading
 pub mod Faults
-pub mod DefinitionPlaces
-pub mod FaultPlaces
-pub mod ToldPlaces
-pub mod PlaceExamples
 pub mod Gaps
 pub mod inner

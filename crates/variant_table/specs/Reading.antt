@@ -7,7 +7,7 @@ use Rattle.ruleset_text.specs.declared.fault.DefinitionFault.{DefinitionFault}
 use Rattle.ruleset_text.specs.declared.keyword.Keyword.{Keyword}
 use Rattle.ruleset_text.specs.Definitions.{Definitions, defined}
 use Rattle.ruleset_text.specs.Entries.{EntryForm}
-use Rattle.ruleset_text.specs.inner.EntrySteps.{entry_in}
+use Rattle.ruleset_text.specs.EntrySteps.{entry_in}
 use Rattle.ruleset_text.specs.Lexemes.{is_blank, lexemes}
 use Rattle.variant_table.specs.declared.version.Notation.{Notation}
 use Rattle.variant_table.specs.declared.version.Version.{Version}
@@ -74,14 +74,14 @@ abbrev pub defining : TableValue → Result Definitions DefinitionFault → Resu
 defining t (Ok definitions) = Ok (record t { definitions = definitions })
 defining t (Err fault) = Err (line_fault fault)
 
--- the table with what a keyword and the lexemes behind it define
+-- the table with what a keyword and the lexemes after it define
 unfoldable pub with_definition : TableValue → Keyword → List (List ℕ) → Result TableValue LineFault
 with_definition t keyword words = defining t (defined (room_for_definitions t) t.definitions keyword words)
 
 -- the table with what lexemes say: a definition, if they begin with a keyword, or else entries
 abbrev pub with_words : TableValue → Option (Keyword × List (List ℕ)) → List (List ℕ) → Result TableValue LineFault
 with_words t None words = form_in t.version words >>= with_form_of t
-with_words t (Some (keyword, behind)) words = with_definition t keyword behind
+with_words t (Some (keyword, after)) words = with_definition t keyword after
 
 -- the table with what a line adds
 unfoldable pub with_line : TableValue → List ℕ → Result TableValue LineFault

@@ -47,12 +47,12 @@ sequence_code = coded_list coded_ℕ
 abbrev pub variant_code : Coded Variant
 variant_code =
     code_by (List ℕ × (Bool × (List ℕ × Option Condition))) (coded× sequence_code (coded× coded_bool (coded× sequence_code (coded_option condition_code))))
-    (λ v. (v.sequence, (v.blocked, (v.tags, v.condition)))) (λ p. record { sequence = p.0; blocked = p.1.0; tags = p.1.1.0; condition = p.1.1.1 }) (λ _. refl)
+    (λ v. (v.sequence, (v.marked, (v.tags, v.condition)))) (λ p. record { sequence = p.0; marked = p.1.0; tags = p.1.1.0; condition = p.1.1.1 }) (λ _. refl)
 
 abbrev pub entry_code : Coded Entry
 entry_code =
     code_by (Variant × List Variant) (coded× variant_code (coded_list variant_code)) (λ e. (source_of e, e.variants))
-    (λ p. record { source = p.0.sequence; outside = p.0.blocked; tags = p.0.tags; condition = p.0.condition; variants = p.1 }) (λ _. refl)
+    (λ p. record { source = p.0.sequence; outside = p.0.marked; tags = p.0.tags; condition = p.0.condition; variants = p.1 }) (λ _. refl)
 
 abbrev pub table_code : Coded TableValue
 table_code =

@@ -62,17 +62,17 @@ pub record IsTextOf (notation : Notation) (text : List ℕ) (table : TableValue)
 -- ---- the first fault of a text
 
 -- what may be wrong with a line that defines nothing, in the order in which it is told
-pub data Condition : Type 0 where
-  too_long : Condition
-  no_form : Condition
-  over_limit : Condition
-  no_such_name : Condition
-  bad_class : Condition
-  same_variant : Condition
-  same_source : Condition
+pub data LineCondition : Type 0 where
+  too_long : LineCondition
+  no_form : LineCondition
+  over_limit : LineCondition
+  no_such_name : LineCondition
+  bad_class : LineCondition
+  same_variant : LineCondition
+  same_source : LineCondition
 
 -- the place of a condition in that order
-abbrev pub order_of : Condition → ℕ
+abbrev pub order_of : LineCondition → ℕ
 order_of too_long = 1
 order_of no_form = 2
 order_of over_limit = 3
@@ -82,7 +82,7 @@ order_of same_variant = 6
 order_of same_source = 7
 
 -- what is told of a line for which the condition holds
-abbrev pub fault_of : Condition → LineFault
+abbrev pub fault_of : LineCondition → LineFault
 fault_of too_long = Limit
 fault_of no_form = Syntax
 fault_of over_limit = Limit
@@ -95,14 +95,14 @@ fault_of same_source = SameSource
 abbrev pub HasSomeForm : Version → List ℕ → Type 0
 HasSomeForm version line =
     AreBlanks line ⊎ IsComment line ⊎ ((form : EntryForm) × HasForm version line form)
-    ⊎ ((keyword : Keyword) × (behind : List (List ℕ)) × (keyword_in version (lexemes line) ≡ Some (keyword, behind)))
+    ⊎ ((keyword : Keyword) × (after : List (List ℕ)) × (keyword_in version (lexemes line) ≡ Some (keyword, after)))
 
 -- the line is an entry or a range of which the test is true
 abbrev pub IsSuch : Version → List ℕ → (EntryForm → Bool) → Type 0
 IsSuch version line test = (form : EntryForm) × HasForm version (strip_carriage_return line) form × IsTrue (test form)
 
 -- the condition holds for a line; the lines before it have so many bytes and spell the table
-abbrev pub Holds : ℕ → TableValue → List ℕ → Condition → Type 0
+abbrev pub Holds : ℕ → TableValue → List ℕ → LineCondition → Type 0
 Holds bytes table line too_long = IsTrue (is_too_long table.version bytes line)
 Holds bytes table line no_form = HasSomeForm table.version (strip_carriage_return line) → ⊥
 Holds bytes table line over_limit = IsSuch table.version line (λ form. is_over_limit table.version table.definitions table.entries (written_out form))
@@ -114,8 +114,8 @@ Holds bytes table line same_source = IsSuch table.version line (λ form. list_an
 -- the fault of the first condition that holds
 abbrev pub IsFirstTold : ℕ → TableValue → List ℕ → LineFault → Type 0
 IsFirstTold bytes table line fault =
-    (c : Condition) × (fault_of c ≡ fault) × Holds bytes table line c
-    × ((d : Condition) → order_of d < order_of c → Holds bytes table line d → ⊥)
+    (c : LineCondition) × (fault_of c ≡ fault) × Holds bytes table line c
+    × ((d : LineCondition) → order_of d < order_of c → Holds bytes table line d → ⊥)
 
 -- the fault of such a line: that of the first condition that holds; or that of its definition, unless it is too long
 abbrev pub IsLineFault : ℕ → TableValue → List ℕ → LineFault → Type 0
@@ -131,10 +131,10 @@ LacksVersion notation text = version_of notation (raw_lines text) ≡ None
 pub record IsFirstFaulty (notation : Notation) (text : List ℕ) (number : ℕ) (fault : LineFault) : Type 0 where
   pub before : List (List ℕ)
   pub line : List ℕ
-  pub behind : List (List ℕ)
+  pub after : List (List ℕ)
   pub table : TableValue
   pub version : version_of notation (raw_lines text) ≡ Some table.version
-  pub cut : body_of notation (raw_lines text) ≡ before ++ line ∷ behind
+  pub cut : body_of notation (raw_lines text) ≡ before ++ line ∷ after
   pub numbered : number ≡ length (head_of notation (raw_lines text)) + length before + 1
   pub read : AreLinesOf (head_of notation (raw_lines text)) before table
   pub faulty : IsLineFault (size_of (head_of notation (raw_lines text)) + size_of before) table line fault

@@ -60,18 +60,18 @@ HasItsRule definitions (Some c) = c.rule < length definitions.rule_names
 pub record HasItsNames (definitions : Definitions) (v : Variant) : Type 0 where
   pub tags : All (λ n. n < length definitions.tags) v.tags
   pub distinct : AllPairs (λ m n. m ≢ n) v.tags
-  pub unmarked : v.blocked ≡ true → v.tags ≡ []
+  pub unmarked : v.marked ≡ true → v.tags ≡ []
   pub condition : HasItsRule definitions v.condition
 
 -- the source and the variants have
 abbrev pub IsNamed : Definitions → Entry → Type 0
 IsNamed definitions e = All (HasItsNames definitions) (whole e)
 
--- versions 1 and 2 define nothing, and version 3 has no demands yet
+-- versions 1 and 2 define nothing
 abbrev pub AreOfVersion : Version → Definitions → Type 0
 AreOfVersion One definitions = definitions ≡ nothing_defined
 AreOfVersion Two definitions = definitions ≡ nothing_defined
-AreOfVersion Three definitions = definitions.demands ≡ []
+AreOfVersion Three definitions = Unit {0}
 
 -- definitions without a fault and well-formed entries, as the version has them, whose tags and rules are defined; within its limits, the version line counted
 pub record IsTable (table : TableValue) : Type 0 where

@@ -3,4 +3,3 @@ pub mod Held
 pub mod Order
 pub mod ReadingSteps
 pub mod Examples
-pub mod PlaceSteps

@@ -2,7 +2,7 @@
 ghost use Rattle.std.specs.Prelude.{◌≡◌, ◌+◌, ◌<◌, ◌≤◌, [], ◌∷◌, ◌++◌, length, map, OnOk};
 ghost use Rattle.std.specs.Option.{option_map};
 ghost use Rattle.arrayvec.specs.ArrayVec.{array_vec_len};
-ghost use Rattle.idn_text.specs.Points.{AreScalarValues, IsScalarValue};
+ghost use Rattle.idn_text.specs.Points.{AreScalarValues, IsScalarValue, four_digits, hex_digit};
 ghost use Rattle.ruleset_text.specs.Canonical as points;
 ghost use Rattle.ruleset_text.specs.EntryText as entries;
 ghost use Rattle.variant_table.specs.Canonical as text;
@@ -13,6 +13,7 @@ ghost use Rattle.variant_table.specs.WellFormed.{IsEntry, IsSequence};
 use crate::entry::Entry;
 use crate::version::Version;
 use arrayvec::ArrayVec;
+use idn_text::hex_digit;
 use label_patterns::{Condition, ConditionKind};
 use ruleset_text::{Definitions, Name};
 use std::alloc::AllocError;
@@ -59,7 +60,7 @@ fn push_point(out: &mut ArrayVec<u8, 64>, point: u32)
 /// Appends the last four digits of a number.
 fn push_four(out: &mut ArrayVec<u8, 64>, number: u32)
     requires { array_vec_len out.old ≤ 60 }
-    ensures { out.new.items ≡ out.old.items ++ points.four_digits number }
+    ensures { out.new.items ≡ out.old.items ++ four_digits number }
 {
     push_digit(out, number / 0x1000 % 16);
     push_digit(out, number / 0x100 % 16);
@@ -70,15 +71,10 @@ fn push_four(out: &mut ArrayVec<u8, 64>, number: u32)
 fn push_digit(out: &mut ArrayVec<u8, 64>, value: u32)
     requires digit { value < 16 }
     requires room { array_vec_len out.old < 64 }
-    ensures items { out.new.items ≡ out.old.items ++ points.hex_digit value ∷ [] }
+    ensures items { out.new.items ≡ out.old.items ++ hex_digit value ∷ [] }
     ensures len { array_vec_len out.new ≡ array_vec_len out.old + 1 }
 {
-    let digit = if value < 10 {
-        b'0' + value as u8
-    } else {
-        b'A' + (value - 10) as u8
-    };
-    push_byte(out, digit);
+    push_byte(out, hex_digit(value));
 }
 
 fn push_byte(out: &mut ArrayVec<u8, 64>, byte: u8)
@@ -135,7 +131,7 @@ fn push_sequence(out: &mut Vec<u8>, sequence: &[u32]) -> Result<(), AllocError>
     Ok(())
 }
 
-/// Appends what stands behind a sequence: its tags and its condition, by their names.
+/// Appends what stands after a sequence: its tags and its condition, by their names.
 fn push_names(
     out: &mut Vec<u8>,
     definitions: &Definitions,

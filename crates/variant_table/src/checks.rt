@@ -78,7 +78,7 @@ pub fn has_repeat(sequences: &Sequences) -> bool
     if occurs_from(sequences, 1, sequences.get(0), None) {
         return true;
     }
-    // Behind the last one there is nothing.
+    // After the last one there is nothing.
     for index in 1..sequences.len() - 1 {
         if occurs_from(
             sequences,

@@ -9,27 +9,16 @@ use crate::fault::TableFault;
 use crate::version::Version;
 use ruleset_text::{DefinitionFault, Keyword, keyword_of, next_lexeme};
 
-/// The keyword with which a line begins, and the text behind it, if the line defines something.
+/// The keyword with which a line begins, and the text after it, if the line defines something.
 pub fn keyword_in(version: Version, line: &[u8]) -> Option<(Keyword, &[u8])>
     ensures { MatchOption result (lines.keyword_in version (lexemes line.now) ≡ None) (λ found. lines.keyword_in version (lexemes line.now) ≡ Some (found.0, lexemes found.1.now)) }
 {
     match version {
         Version::One | Version::Two => None,
         Version::Three => {
-            let (word, behind) = next_lexeme(line)?;
-            let keyword = if_read(keyword_of(word)?)?;
-            Some((keyword, behind))
+            let (word, after) = next_lexeme(line)?;
+            Some((keyword_of(word)?, after))
         }
-    }
-}
-
-/// The keyword, unless it is that of a demand, which is not read yet.
-fn if_read(keyword: Keyword) -> Option<Keyword>
-    ensures { result ≡ lines.if_read (Some keyword) }
-{
-    match keyword {
-        Keyword::Tag | Keyword::Set | Keyword::Rule => Some(keyword),
-        Keyword::Never | Keyword::Always => None,
     }
 }
 

@@ -21,7 +21,7 @@ pub fn has_form(version: Version, form: &EntryForm) -> bool
     match version {
         Version::One => are_bare(&form.mapped) && form.last.is_none(),
         Version::Two => are_plain(&form.mapped) && !begins_marked(&form.mapped),
-        Version::Three => are_plain(&form.mapped),
+        Version::Three => true,
     }
 }
 

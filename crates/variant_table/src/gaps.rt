@@ -5,7 +5,7 @@ ghost use Rattle.std.specs.List.Sorted.{IsStrictlySortedBy};
 ghost use Rattle.variant_table.specs.Gaps.{pair_cmp, pairs_of, inserted, reverse_gaps, wanted_gap, further_gaps, gaps_through, gaps_of_entry, gaps_of};
 
 use crate::entry::Entry;
-use crate::rows::Rows;
+use crate::ordered_entries::OrderedEntries;
 use std::alloc::{AllocError, Global};
 use std::collections::BTreeSet;
 
@@ -13,13 +13,13 @@ use std::collections::BTreeSet;
 pub type Gap = (Vec<u32>, Vec<u32>);
 
 /// The gaps of some entries, each once, by their first sequence, then by their second.
-pub fn gaps_in_order(alloc: Global, rows: &Rows) -> Result<Vec<Gap>, AllocError>
-    ensures gaps { IfOk result (λ gaps. pairs_of gaps.items ≡ gaps_of rows.now) }
+pub fn gaps_in_order(alloc: Global, entries: &OrderedEntries) -> Result<Vec<Gap>, AllocError>
+    ensures gaps { IfOk result (λ gaps. pairs_of gaps.items ≡ gaps_of entries.now) }
     ensures rising { IfOk result (λ gaps. IsStrictlySortedBy pair_cmp (pairs_of gaps.items)) }
 {
     let mut gaps = BTreeSet::new(alloc);
-    for number in 0..rows.len() {
-        add_gaps_of_entry(alloc, rows, &rows.get(number), &mut gaps)?;
+    for number in 0..entries.len() {
+        add_gaps_of_entry(alloc, entries, &entries.get(number), &mut gaps)?;
     }
     in_vector(alloc, gaps)
 }
@@ -37,14 +37,14 @@ fn in_vector(alloc: Global, gaps: BTreeSet<Gap>) -> Result<Vec<Gap>, AllocError>
 /// Adds the gaps that the variants of an entry require.
 fn add_gaps_of_entry(
     alloc: Global,
-    rows: &Rows,
+    entries: &OrderedEntries,
     entry: &Entry,
     gaps: &mut BTreeSet<Gap>,
 ) -> Result<(), AllocError>
-    ensures { OnOk result (pairs_of gaps.new.keys ≡ inserted (pairs_of gaps.old.keys) (gaps_of_entry rows.now entry.now)) }
+    ensures { OnOk result (pairs_of gaps.new.keys ≡ inserted (pairs_of gaps.old.keys) (gaps_of_entry entries.now entry.now)) }
 {
     for number in 1..entry.replacements() {
-        add_gaps_through(alloc, rows, entry, entry.replacement(number), gaps)?;
+        add_gaps_through(alloc, entries, entry, entry.replacement(number), gaps)?;
     }
     Ok(())
 }
@@ -53,14 +53,14 @@ fn add_gaps_of_entry(
 /// variants of that variant.
 fn add_gaps_through(
     alloc: Global,
-    rows: &Rows,
+    entries: &OrderedEntries,
     entry: &Entry,
     variant: &[u32],
     gaps: &mut BTreeSet<Gap>,
 ) -> Result<(), AllocError>
-    ensures { OnOk result (pairs_of gaps.new.keys ≡ inserted (pairs_of gaps.old.keys) (gaps_through rows.now entry.now variant.now)) }
+    ensures { OnOk result (pairs_of gaps.new.keys ≡ inserted (pairs_of gaps.old.keys) (gaps_through entries.now entry.now variant.now)) }
 {
-    match rows.find(variant) {
+    match entries.find(variant) {
         None => add(alloc, gaps, variant, entry.source()),
         Some(next) => {
             add_reverse(alloc, entry, variant, &next, gaps)?;

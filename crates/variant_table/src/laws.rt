@@ -1,5 +1,5 @@
 //! Laws of the definitions, each the contract of a function that does nothing.
-ghost use Rattle.std.specs.Prelude.{◌≡◌, ◌↔◌, ◌⊎◌, ◌≤◌, ℕ, true, false, List, [], ◌∷◌, ◌++◌, length, All, Ok, Err, codes};
+ghost use Rattle.std.specs.Prelude.{◌≡◌, ◌↔◌, ◌⊎◌, ◌≤◌, ℕ, true, false, List, [], ◌∷◌, ◌++◌, length, All, Ok, Err, Some, codes};
 ghost use Rattle.idn_text.specs.Lines.{raw_lines, with_last_feed};
 ghost use Rattle.variant_table.specs.Faults.{LineFault};
 ghost use Rattle.variant_table.specs.Canonical.{canonical_line, head_text, table_text};
@@ -13,7 +13,8 @@ ghost use Rattle.variant_table.specs.Reading.{form_in, table_of_text};
 ghost use Rattle.variant_table.specs.Texts.{IsTextOf, IsFaultOf, LineSpells};
 ghost use Rattle.variant_table.specs.declared.version.Version.{Version};
 ghost use Rattle.variant_table.specs.Versions.{notation_of, size_of};
-ghost use Rattle.variant_table.specs.inner.Examples.{entries_in, two_tags};
+ghost use Rattle.variant_table.specs.inner.Examples.{conditional, entries_in, repeated, spelled, tagged, text_told, told, two_tags, written, EachTold};
+ghost use Rattle.label_patterns.specs.declared.condition.ConditionKind.TheVariants as kinds;
 ghost use Rattle.variant_table.specs.Ranges.{point_entry, point_variant};
 ghost use Rattle.variant_table.specs.declared.version.Notation.{Notation};
 ghost use Rattle.variant_table.specs.declared.version.Notation.TheVariants as notations;
@@ -116,6 +117,26 @@ pub fn definitions_compute_the_examples()
         ≡ point_entry false 115 ∷ [] }
 {}
 
+/// Examples of tags and conditions: what is refused, in what order faults are told, what is read and how it is written.
+pub fn definitions_compute_the_examples_of_names()
+    ensures syntax { EachTold faults.Syntax (codes "!0061 as t" ∷ codes "0061|!0062 as t" ∷ codes "0061 as t,t" ∷ codes "0061 as" ∷ codes "0061 as t v" ∷ codes "0061 when r as t" ∷ codes "0061 when r unless r" ∷ codes "0061 when" ∷ codes "0061 when r|" ∷ codes "when r" ∷ codes "0061-when" ∷ []) }
+    ensures names { EachTold faults.NoSuchName (codes "0061 when s" ∷ codes "0061 when A" ∷ codes "0061 as u" ∷ codes "0061 as r" ∷ codes "0061|0062 unless s" ∷ codes "0061|0062 as u" ∷ codes "0061..0063 when s" ∷ []) }
+    ensures before_limit { told (codes "0041-0041-0041-0041-0041-0041-0041-0041-0041 when nope" ∷ []) ≡ Err (2, faults.Limit) }
+    ensures before_class { told (codes "0041 when nope" ∷ []) ≡ Err (2, faults.NoSuchName) }
+    ensures later { told (codes "0061 when r" ∷ codes "%rule r _" ∷ []) ≡ Err (2, faults.NoSuchName) }
+    ensures conditions { spelled (codes "0061|0063 when r:0063 when s:!0063 unless r")
+        ≡ Ok (entry_from (point_variant false 0x61 ∷ conditional 0x63 false (Some (kinds.When, 0)) ∷ conditional 0x63 false (Some (kinds.When, 1)) ∷ conditional 0x63 true (Some (kinds.Unless, 0)) ∷ []) ∷ []) }
+    ensures range { spelled (codes "!0062..0063 when r") ≡ Ok (entry_from (conditional 0x62 true (Some (kinds.When, 0)) ∷ []) ∷ entry_from (conditional 0x63 true (Some (kinds.When, 0)) ∷ []) ∷ []) }
+    ensures tagged_range { spelled (codes "0061..0062 as trad") ≡ Ok (entry_from (tagged 0x61 (1 ∷ []) ∷ []) ∷ entry_from (tagged 0x62 (1 ∷ []) ∷ []) ∷ []) }
+    ensures apart { repeated (codes "0061|0063 when r:0063 when s:!0063 unless r") ≡ Ok false }
+    ensures one_without { repeated (codes "0061|0063 when r:0063") ≡ Ok true }
+    ensures the_other { repeated (codes "0061|0063:!0063 unless r") ≡ Ok true }
+    ensures same { repeated (codes "0061|0063 when r:!0063 when r") ≡ Ok true }
+    ensures the_source { repeated (codes "0061 when s|0061 when r") ≡ Ok true }
+    ensures written { written (codes "56FD  as simp | 570b as trad ,simp when s") ≡ Ok (codes "56FD as simp|570B as trad,simp when s" ∷ []) }
+    ensures written_out { written (codes "!0061..0062 unless r") ≡ Ok (codes "!0061 unless r" ∷ codes "!0062 unless r" ∷ []) }
+{}
+
 /// Examples of version 2.
 pub fn definitions_compute_the_examples_of_version_2()
     ensures table { table_of_text notations.Table (codes "%version 2" ++ 10 ∷ codes "0061..0063" ++ 10 ∷ codes "0078|!0079:007A") ≡ Ok (record {
@@ -156,7 +177,7 @@ pub fn definitions_compute_the_examples_of_rulesets()
     ensures no_such_name { table_of_text notations.Ruleset (codes "%version 3" ++ 10 ∷ codes "%rule r @A _") ≡ Err (2, faults.NoSuchName) }
     ensures no_name { table_of_text notations.Ruleset (codes "%version 3" ++ 10 ∷ codes "%tag") ≡ Err (2, faults.Syntax) }
     ensures stars { table_of_text notations.Ruleset (codes "%version 3" ++ 10 ∷ codes "%rule r ((.*)*)* _") ≡ Err (2, faults.Limit) }
-    ensures demand { table_of_text notations.Ruleset (codes "%version 3" ++ 10 ∷ codes "%never ^ .") ≡ Err (2, faults.Syntax) }
+    ensures demand { text_told (told (codes "%never  ^ ." ∷ codes "%always .$" ∷ [])) ≡ Some (codes "%version 3" ++ 10 ∷ codes "%never ^ ." ++ 10 ∷ codes "%always . $" ++ 10 ∷ []) }
     ensures set { table_of_text notations.Ruleset (codes "%version 3" ++ 10 ∷ codes "% set C 0061") ≡ Err (2, faults.Syntax) }
     ensures later { table_of_text notations.Table (codes "%version 2" ++ 10 ∷ codes "%version 3") ≡ Err (2, faults.Syntax) }
     ensures outside { entries_in versions.Three nothing_defined (lexemes (codes "! 0061|!0062")) ≡ Ok (entry_from (point_variant true 0x61 ∷ point_variant true 0x62 ∷ []) ∷ []) }

@@ -1,4 +1,4 @@
-//! How many bytes of a canonical text are left behind further lines, if the version limits them.
+//! How many bytes of a canonical text are left after further lines, if the version limits them.
 ghost use Rattle.std.specs.Prelude.{◌≡◌, ◌+◌, ◌<◌, ◌≤◌, ◌^◌, [], ◌∷◌, ◌++◌, None, false, length, map};
 ghost use Rattle.std.specs.List.{range_with_len};
 ghost use Rattle.ruleset_text.specs.Canonical.{point_text};
@@ -13,7 +13,7 @@ use crate::version::Version;
 use label_patterns::ConditionKind;
 use ruleset_text::{Mapped, Name, NamedCondition};
 
-/// How many of `left` bytes are left behind the canonical line of a source and its variants, with its line feed: none
+/// How many of `left` bytes are left after the canonical line of a source and its variants, with its line feed: none
 /// if they are too few. Version 1 doesn't limit the canonical text.
 pub fn left_after_entry(version: Version, entry: &[Mapped], left: usize) -> Option<usize>
     requires some { 0 < length entry.now }
@@ -41,7 +41,7 @@ fn left_after_line(entry: &[Mapped], left: usize) -> Option<usize>
     Some(rest)
 }
 
-/// How many bytes are left behind a source or a variant, and one byte more: that of what follows it.
+/// How many bytes are left after a source or a variant, and one byte more: that of what follows it.
 fn left_after_mapped(mapped: &Mapped, left: usize) -> Option<usize>
     requires some { 0 < length mapped.now.points.items }
     requires short { length mapped.now.points.items ≤ 8 }
@@ -51,7 +51,7 @@ fn left_after_mapped(mapped: &Mapped, left: usize) -> Option<usize>
     left_after_names(mapped, rest)
 }
 
-/// How many bytes are left behind its tags and its condition.
+/// How many bytes are left after its tags and its condition.
 fn left_after_names(mapped: &Mapped, left: usize) -> Option<usize>
     ensures { IsLeft left (length (tags_text (form_of mapped.now).tags ++ condition_text (form_of mapped.now).condition)) result }
 {
@@ -59,7 +59,7 @@ fn left_after_names(mapped: &Mapped, left: usize) -> Option<usize>
     left_after_condition(&mapped.condition, rest)
 }
 
-/// How many bytes are left behind tags: ` as ` and their names, with commas between them.
+/// How many bytes are left after tags: ` as ` and their names, with commas between them.
 fn left_after_tags(tags: &[Name], left: usize) -> Option<usize>
     ensures { IsLeft left (length (tags_text tags.now)) result }
 {
@@ -73,7 +73,7 @@ fn left_after_tags(tags: &[Name], left: usize) -> Option<usize>
     Some(rest)
 }
 
-/// How many bytes are left behind a condition.
+/// How many bytes are left after a condition.
 fn left_after_condition(condition: &Option<NamedCondition>, left: usize) -> Option<usize>
     ensures { IsLeft left (length (condition_text condition.now)) result }
 {
@@ -118,7 +118,7 @@ fn sequence_len(sequence: &[u32]) -> usize
     len
 }
 
-/// How many of `left` bytes are left behind the canonical lines of a range of `count` code points from `first` on, with
+/// How many of `left` bytes are left after the canonical lines of a range of `count` code points from `first` on, with
 /// what stands at its source: none if they are too few. Version 1 doesn't limit the canonical text.
 pub fn left_after_range(
     version: Version,
@@ -148,7 +148,7 @@ fn left_after_points(source: &Mapped, first: u32, count: usize, left: usize) -> 
     Some(rest)
 }
 
-/// How many bytes are left behind a source with this code point, and one byte more: that of the line feed.
+/// How many bytes are left after a source with this code point, and one byte more: that of the line feed.
 fn left_after_point(source: &Mapped, point: u32, left: usize) -> Option<usize>
     ensures { IsLeft left (length (mapped_text (with_point (form_of source.now) point) None) + 1) result }
 {

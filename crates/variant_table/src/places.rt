@@ -4,7 +4,7 @@ ghost use Rattle.std.specs.Iterator.{YieldsFirst, item_count};
 ghost use Rattle.variant_table.specs.Places.{entries_at as entries_at_place};
 
 use crate::entry::Entry;
-use crate::rows::{LookUp, Rows};
+use crate::ordered_entries::{LookUp, OrderedEntries};
 use std::marker::Model;
 
 /// The most code points of a source.
@@ -14,7 +14,7 @@ const SOURCE_LIMIT: usize = 8;
 /// iterator of at most 8 items, and takes no memory.
 #[derive(Drop)]
 pub struct EntriesAt<'a> {
-    rows: &'a Rows,
+    entries: &'a OrderedEntries,
     label: &'a [u32],
     place: usize,
     /// The sources longer than this are still to come; at the limit there are none.
@@ -27,18 +27,18 @@ impl<'a> Model for EntriesAt<'a> {
 
     ghost Value = { List EntryValue };
 
-    ghost view = { λ s. entries_longer s.rows.now s.label.now s.place s.len };
+    ghost view = { λ s. entries_longer s.entries.now s.label.now s.place s.len };
 
     ghost invariant = { λ s. (s.place ≤ length s.label.now) × (s.len ≤ 8) };
 }
 
 impl<'a> EntriesAt<'a> {
-    pub(crate) fn new(rows: &'a Rows, label: &'a [u32], place: usize) -> Self
+    pub(crate) fn new(entries: &'a OrderedEntries, label: &'a [u32], place: usize) -> Self
         requires { place ≤ length label.now }
-        ensures { result ≡ entries_at_place rows.now label.now place }
+        ensures { result ≡ entries_at_place entries.now label.now place }
     {
         EntriesAt {
-            rows,
+            entries,
             label,
             place,
             len: 0,
@@ -53,7 +53,7 @@ impl<'a> EntriesAt<'a> {
         while self.len < SOURCE_LIMIT && self.place + self.len < self.label.len() {
             self.len += 1;
             let sequence = &self.label[self.place..self.place + self.len];
-            let LookUp { entry, has_longer } = self.rows.look_up(sequence);
+            let LookUp { entry, has_longer } = self.entries.look_up(sequence);
             if !has_longer {
                 self.len = SOURCE_LIMIT;
             }

@@ -18,7 +18,7 @@ use crate::definition_lines::{fault_in, keyword_in};
 use crate::fault::TableFault;
 use crate::forms::{has_form, take_sequences};
 use crate::lengths::{left_after_entry, left_after_range};
-use crate::rows::Rows;
+use crate::ordered_entries::OrderedEntries;
 use crate::sequences::Sequences;
 use crate::version::{Notation, Version, head_of};
 use idn_text::without_carriage_return;
@@ -27,15 +27,15 @@ use std::alloc::Global;
 
 /// What a text spells.
 #[derive(Drop)]
-pub struct Spelled {
+pub struct ReadText {
     pub version: Version,
     pub definitions: Definitions,
-    pub rows: Rows,
+    pub entries: OrderedEntries,
 }
 
 /// The version of a text, the definitions and the entries that it spells.
 #[tactic(auto, unfolding(crate::specs::Reading::table_of_lines))]
-pub fn read_text(alloc: Global, notation: Notation, text: &[u8]) -> Result<Spelled, TableFault>
+pub fn read_text(alloc: Global, notation: Notation, text: &[u8]) -> Result<ReadText, TableFault>
     ensures { Reads result (table_of_text notation text.now) }
 {
     let Some(head) = head_of(notation, text) else {
@@ -49,10 +49,10 @@ pub fn read_text(alloc: Global, notation: Notation, text: &[u8]) -> Result<Spell
         reader.add_raw_line(number, bytes, line)?;
         bytes += line.len() + 1;
     }
-    Ok(Spelled {
+    Ok(ReadText {
         version: reader.version,
         definitions: reader.definitions,
-        rows: reader.rows,
+        entries: reader.entries,
     })
 }
 
@@ -64,7 +64,7 @@ struct Reader {
     /// The sequences of the entry that is being added. Their memory is used again for each line.
     sequences: Sequences,
     definitions: Definitions,
-    rows: Rows,
+    entries: OrderedEntries,
     /// How many bytes the canonical text may have more, where the version limits them.
     left: usize,
 }
@@ -74,16 +74,16 @@ impl Reader {
     fn new(alloc: Global, version: Version) -> Self
         ensures version { result.version ≡ version }
         ensures definitions { result.definitions ≡ nothing_defined }
-        ensures rows { result.rows ≡ [] }
-        ensures counted { IsCounted result.version result.definitions result.left result.rows }
+        ensures entries { result.entries ≡ [] }
+        ensures counted { IsCounted result.version result.definitions result.left result.entries }
     {
         Reader {
             alloc,
             version,
             sequences: Sequences::new(alloc),
             definitions: Definitions::new(alloc),
-            rows: Rows::new(alloc),
-            left: left_behind_head(version),
+            entries: OrderedEntries::new(alloc),
+            left: left_after_head(version),
         }
     }
 
@@ -91,10 +91,10 @@ impl Reader {
     #[tactic(auto, unfolding(crate::specs::Reading::with_raw_line))]
     fn add_raw_line(&mut self, number: u64, bytes: usize, line: &[u8]) -> Result<(), TableFault>
         requires bytes { bytes ≤ text_limit self.old.version }
-        requires counted { IsCounted self.old.version self.old.definitions self.old.left self.old.rows }
-        ensures read { Leaves number result (table_of self.old.version self.new.definitions self.new.rows) (with_raw_line bytes (table_of self.old.version self.old.definitions self.old.rows) line.now) }
+        requires counted { IsCounted self.old.version self.old.definitions self.old.left self.old.entries }
+        ensures read { Leaves number result (table_of self.old.version self.new.definitions self.new.entries) (with_raw_line bytes (table_of self.old.version self.old.definitions self.old.entries) line.now) }
         ensures within { OnOk result (bytes + length line.now + 1 ≤ text_limit self.old.version) }
-        ensures counted { OnOk result (IsCounted self.old.version self.new.definitions self.new.left self.new.rows) }
+        ensures counted { OnOk result (IsCounted self.old.version self.new.definitions self.new.left self.new.entries) }
         ensures version { self.new.version ≡ self.old.version }
     {
         let version = self.version;
@@ -107,36 +107,36 @@ impl Reader {
     /// Adds what the line of this number says.
     #[tactic(auto, unfolding(crate::specs::Reading::with_line))]
     fn add_line(&mut self, number: u64, line: &[u8]) -> Result<(), TableFault>
-        requires { IsCounted self.old.version self.old.definitions self.old.left self.old.rows }
-        ensures read { Leaves number result (table_of self.old.version self.new.definitions self.new.rows) (with_line (table_of self.old.version self.old.definitions self.old.rows) line.now) }
-        ensures counted { OnOk result (IsCounted self.old.version self.new.definitions self.new.left self.new.rows) }
+        requires { IsCounted self.old.version self.old.definitions self.old.left self.old.entries }
+        ensures read { Leaves number result (table_of self.old.version self.new.definitions self.new.entries) (with_line (table_of self.old.version self.old.definitions self.old.entries) line.now) }
+        ensures counted { OnOk result (IsCounted self.old.version self.new.definitions self.new.left self.new.entries) }
         ensures version { self.new.version ≡ self.old.version }
     {
         if is_skipped(line) {
             return Ok(());
         }
-        if let Some((keyword, behind)) = keyword_in(self.version, line) {
-            return self.add_definition(number, keyword, behind);
+        if let Some((keyword, after)) = keyword_in(self.version, line) {
+            return self.add_definition(number, keyword, after);
         }
         self.add_entries(number, line)
     }
 
-    /// Adds what a keyword and the text behind it define, unless it has a fault.
+    /// Adds what a keyword and the text after it define, unless it has a fault.
     #[tactic(auto, unfolding(crate::specs::Reading::with_definition))]
     fn add_definition(
         &mut self,
         number: u64,
         keyword: Keyword,
-        behind: &[u8],
+        after: &[u8],
     ) -> Result<(), TableFault>
         requires ruleset { self.old.version ≡ Three }
-        requires counted { IsCounted self.old.version self.old.definitions self.old.left self.old.rows }
-        ensures read { Leaves number result (table_of self.old.version self.new.definitions self.new.rows) (with_definition (table_of self.old.version self.old.definitions self.old.rows) keyword (lexemes behind.now)) }
-        ensures counted { OnOk result (IsCounted self.old.version self.new.definitions self.new.left self.new.rows) }
+        requires counted { IsCounted self.old.version self.old.definitions self.old.left self.old.entries }
+        ensures read { Leaves number result (table_of self.old.version self.new.definitions self.new.entries) (with_definition (table_of self.old.version self.old.definitions self.old.entries) keyword (lexemes after.now)) }
+        ensures counted { OnOk result (IsCounted self.old.version self.new.definitions self.new.left self.new.entries) }
         ensures version { self.new.version ≡ self.old.version }
     {
         let room = self.left + self.definitions.canonical_len();
-        match self.definitions.define(self.alloc, room, keyword, behind) {
+        match self.definitions.define(self.alloc, room, keyword, after) {
             Ok(()) => {
                 self.left = room - self.definitions.canonical_len();
                 Ok(())
@@ -147,9 +147,9 @@ impl Reader {
 
     /// Adds the entries that the line of this number spells, if they are without a fault.
     fn add_entries(&mut self, number: u64, line: &[u8]) -> Result<(), TableFault>
-        requires { IsCounted self.old.version self.old.definitions self.old.left self.old.rows }
-        ensures read { Leaves number result self.new.rows (with_entry_words self.old.version self.old.definitions self.old.rows (lexemes line.now)) }
-        ensures counted { OnOk result (IsCounted self.old.version self.new.definitions self.new.left self.new.rows) }
+        requires { IsCounted self.old.version self.old.definitions self.old.left self.old.entries }
+        ensures read { Leaves number result self.new.entries (with_entry_words self.old.version self.old.definitions self.old.entries (lexemes line.now)) }
+        ensures counted { OnOk result (IsCounted self.old.version self.new.definitions self.new.left self.new.entries) }
         ensures version { self.new.version ≡ self.old.version }
         ensures definitions { self.new.definitions ≡ self.old.definitions }
     {
@@ -168,13 +168,13 @@ impl Reader {
     /// Adds the entry of a source and its variants, unless it has a fault.
     fn add_entry(&mut self, number: u64, mapped: &[Mapped]) -> Result<(), TableFault>
         requires form { IsForm (map form_of mapped.now) None }
-        requires counted { IsCounted self.old.version self.old.definitions self.old.left self.old.rows }
-        ensures read { Leaves number result self.new.rows (with_form self.old.version self.old.definitions self.old.rows (record { mapped = map form_of mapped.now; last = None })) }
-        ensures counted { OnOk result (IsCounted self.old.version self.new.definitions self.new.left self.new.rows) }
+        requires counted { IsCounted self.old.version self.old.definitions self.old.left self.old.entries }
+        ensures read { Leaves number result self.new.entries (with_form self.old.version self.old.definitions self.old.entries (record { mapped = map form_of mapped.now; last = None })) }
+        ensures counted { OnOk result (IsCounted self.old.version self.new.definitions self.new.left self.new.entries) }
         ensures version { self.new.version ≡ self.old.version }
         ensures definitions { self.new.definitions ≡ self.old.definitions }
     {
-        if self.rows.len() >= self.version.entry_limit() || is_too_large(mapped) {
+        if self.entries.len() >= self.version.entry_limit() || is_too_large(mapped) {
             return Err(TableFault::Limit { line: number });
         }
         let Some(left) = left_after_entry(self.version, mapped, self.left) else {
@@ -190,7 +190,7 @@ impl Reader {
         if has_repeat(sequences) {
             return Err(TableFault::SameVariant { line: number });
         }
-        self.rows.push(number, sequences)?;
+        self.entries.push(number, sequences)?;
         self.left = left;
         Ok(())
     }
@@ -198,9 +198,9 @@ impl Reader {
     /// Adds the entries of a range from its source, one code point, to the last code point, unless one has a fault.
     fn add_range(&mut self, number: u64, mapped: &[Mapped], last: u32) -> Result<(), TableFault>
         requires form { IsForm (map form_of mapped.now) (Some last) }
-        requires counted { IsCounted self.old.version self.old.definitions self.old.left self.old.rows }
-        ensures read { Leaves number result self.new.rows (with_form self.old.version self.old.definitions self.old.rows (record { mapped = map form_of mapped.now; last = Some last })) }
-        ensures counted { OnOk result (IsCounted self.old.version self.new.definitions self.new.left self.new.rows) }
+        requires counted { IsCounted self.old.version self.old.definitions self.old.left self.old.entries }
+        ensures read { Leaves number result self.new.entries (with_form self.old.version self.old.definitions self.old.entries (record { mapped = map form_of mapped.now; last = Some last })) }
+        ensures counted { OnOk result (IsCounted self.old.version self.new.definitions self.new.left self.new.entries) }
         ensures version { self.new.version ≡ self.old.version }
         ensures definitions { self.new.definitions ≡ self.old.definitions }
     {
@@ -208,7 +208,7 @@ impl Reader {
         let first = source.points[0];
         let count = (last - first) as usize + 1;
         let limit = self.version.entry_limit();
-        if count > limit || self.rows.len() > limit - count {
+        if count > limit || self.entries.len() > limit - count {
             return Err(TableFault::Limit { line: number });
         }
         let Some(left) = left_after_range(self.version, source, first, count, self.left) else {
@@ -222,7 +222,7 @@ impl Reader {
         }
         push_points(
             self.alloc,
-            &mut self.rows,
+            &mut self.entries,
             number,
             &self.sequences,
             first,
@@ -233,8 +233,8 @@ impl Reader {
     }
 }
 
-/// How many bytes a canonical text may have behind its version line, where the version limits them.
-fn left_behind_head(version: Version) -> usize
+/// How many bytes a canonical text may have after its version line, where the version limits them.
+fn left_after_head(version: Version) -> usize
     ensures { IsCounted version nothing_defined result [] }
 {
     version.text_limit() - version.head().len()
@@ -244,7 +244,7 @@ fn left_behind_head(version: Version) -> usize
 /// sequences, if their sources are new.
 fn push_points(
     alloc: Global,
-    rows: &mut Rows,
+    entries: &mut OrderedEntries,
     number: u64,
     range: &Sequences,
     first: u32,
@@ -252,19 +252,19 @@ fn push_points(
 ) -> Result<(), TableFault>
     requires some { 0 < length range.now }
     requires last { first + count ≤ 2 ^ 32 }
-    requires room { length rows.old + count ≤ 65536 }
-    ensures { Leaves number result rows.new (with_new_sources rows.old (map (entry_in_range (source_of (entry_from range.now))) (range_with_len first count))) }
+    requires room { length entries.old + count ≤ 65536 }
+    ensures { Leaves number result entries.new (with_new_sources entries.old (map (entry_in_range (source_of (entry_from range.now))) (range_with_len first count))) }
 {
     let mut sequences = Sequences::new(alloc);
     for offset in 0..count {
         sequences.clear();
         sequences.push(
             &[first + offset as u32],
-            range.is_blocked(0),
+            range.is_marked(0),
             range.tags(0),
             range.condition(0),
         )?;
-        rows.push(number, &sequences)?;
+        entries.push(number, &sequences)?;
     }
     Ok(())
 }

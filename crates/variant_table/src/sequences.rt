@@ -1,6 +1,5 @@
 //! Sequences of code points, as parts of one vector.
 ghost use Rattle.std.specs.Prelude.{◌≡◌, ◌<◌, ◌≤◌, [], ◌∷◌, ◌++◌, length, OnOk, OnErr, slice_get, Some, drop, map, take};
-ghost use Rattle.std.specs.List.{list_any};
 ghost use Rattle.variant_table.specs.Entries.{sequences_in};
 ghost use Rattle.std.specs.Iterator.{YieldsFirstRef, item_count};
 
@@ -16,23 +15,23 @@ pub struct Span {
     pub end: usize,
 }
 
-/// A sequence as a part of a vector of code points, whether it is blocked, its tags and its condition. A ruleset
-/// may have a million of them, so a part is kept within 32 bytes.
+/// A sequence as a part of a vector of code points, whether it is marked with `!`, its tags and its condition. A
+/// ruleset may have a million of them, so one is kept within 32 bytes.
 #[derive(Drop)]
-pub struct Part {
+pub struct HeldSequence {
     pub span: Span,
     pub tags: Tags,
-    pub blocked: bool,
+    pub marked: bool,
     pub condition: Option<Condition>,
 }
 
-const _: () = prove!(size_of::<Part>() == 32);
+const _: () = prove!(size_of::<HeldSequence>() == 32);
 
-/// Sequences of code points, each of which may be blocked, and may have tags and a condition.
+/// Sequences of code points, each of which may be marked, and may have tags and a condition.
 #[derive(Drop)]
 pub struct Sequences {
     points: Vec<u32>,
-    parts: Vec<Part>,
+    parts: Vec<HeldSequence>,
 }
 
 impl Model for Sequences {
@@ -71,12 +70,12 @@ impl Sequences {
         &self.points[span.start..span.end]
     }
 
-    /// Whether the sequence of this number is blocked.
-    pub fn is_blocked(&self, index: usize) -> bool
+    /// Whether the sequence of this number is marked: a blocked variant, or an outside source.
+    pub fn is_marked(&self, index: usize) -> bool
         requires { index < length self.now }
-        ensures { slice_get (map (λ v. v.blocked) self.now) index ≡ Some result }
+        ensures { slice_get (map (λ v. v.marked) self.now) index ≡ Some result }
     {
-        self.parts[index].blocked
+        self.parts[index].marked
     }
 
     /// The tags of the sequence of this number.
@@ -94,18 +93,6 @@ impl Sequences {
         ensures { slice_get (map (λ v. v.condition) self.now) index ≡ Some result }
     {
         self.parts[index].condition
-    }
-
-    /// Whether some sequence is blocked.
-    pub fn has_blocked(&self) -> bool
-        ensures { result ≡ list_any (λ v. v.blocked) self.now }
-    {
-        for index in 0..self.len() {
-            if self.is_blocked(index) {
-                return true;
-            }
-        }
-        false
     }
 
     pub fn iter(&self) -> Iter<'_>
@@ -135,21 +122,21 @@ impl Sequences {
     pub fn push(
         &mut self,
         sequence: &[u32],
-        blocked: bool,
+        marked: bool,
         tags: &[u8],
         condition: Option<Condition>,
     ) -> Result<(), AllocError>
         requires { length tags.now ≤ 8 }
-        ensures ok { OnOk result (self.new ≡ self.old ++ record { sequence = sequence.now; blocked = blocked; tags = tags.now; condition = condition } ∷ []) }
+        ensures ok { OnOk result (self.new ≡ self.old ++ record { sequence = sequence.now; marked = marked; tags = tags.now; condition = condition } ∷ []) }
         ensures err { OnErr result (self.new ≡ self.old) }
     {
         let start = self.points.len();
         self.points.extend_from_slice(sequence)?;
         let end = self.points.len();
-        self.parts.push(Part {
+        self.parts.push(HeldSequence {
             span: Span { start, end },
             tags: Tags::of(tags),
-            blocked,
+            marked,
             condition,
         })?;
         Ok(())
@@ -163,7 +150,7 @@ impl Sequences {
         for index in 0..others.len() {
             self.push(
                 others.get(index),
-                others.is_blocked(index),
+                others.is_marked(index),
                 others.tags(index),
                 others.condition(index),
             )?;

@@ -8,6 +8,6 @@ abbrev pub begun_text : List Field → List ℕ
 begun_text [] = 123 ∷ []
 begun_text (field ∷ fields) = 123 ∷ (field_text field ++ fields_text fields [])
 
--- behind what stood before, an object has these members so far
+-- after what stood before, an object has these members so far
 pub record IsBegun (before : List ℕ) (fields : List Field) (bytes : List ℕ) : Type 0 where
   pub text : bytes ≡ before ++ begun_text fields

@@ -23,7 +23,7 @@ value_text nothing = codes "null"
 unfoldable pub field_text : Field → List ℕ
 field_text field = quoted field.0 ++ 58 ∷ value_text field.1
 
--- each behind a comma, and then the rest
+-- each after a comma, and then the rest
 abbrev pub fields_text : List Field → List ℕ → List ℕ
 fields_text [] rest = rest
 fields_text (field ∷ fields) rest = 44 ∷ (field_text field ++ fields_text fields rest)

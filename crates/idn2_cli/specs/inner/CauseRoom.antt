@@ -3,11 +3,12 @@
 use Rattle.std.specs.Prelude.{ℕ, ◌+◌, ◌≤◌, List, length}
 use Rattle.std.specs.Fmt.{decimal}
 use Rattle.idn2_cli.specs.declared.refusals.cause.LineCause.{LineCause}
-use Rattle.idn2_cli.specs.declared.refusals.cause.LineCause.TheVariants.{OfName, OfALabel}
+use Rattle.idn2_cli.specs.declared.refusals.cause.LineCause.TheVariants.{OfName, OfALabel, Misplaced}
 
 abbrev pub cause_room : LineCause → ℕ
 cause_room (OfName cause) = 94
 cause_room (OfALabel cause) = 81
+cause_room (Misplaced place c kind rule) = 79
 cause_room other = 72
 
 -- the words before the number of a line, the number and the cause leave room for the rest of 160 bytes

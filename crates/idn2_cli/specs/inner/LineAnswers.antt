@@ -3,6 +3,7 @@ use Rattle.std.specs.Prelude.{◌≡◌, ℕ, ◌==◌, Bool, false, List, [], �
 use Rattle.idn_text.specs.declared.refusal.Refusal.{Refusal}
 use Rattle.idn_text.specs.declared.refusal.Refusal.TheVariants.{Empty}
 use Rattle.idn_text.specs.Lines.{Numbered}
+use Rattle.idn_label.specs.Decode.{decode_utf8_answer}
 use Rattle.idn_label.specs.Lookup.{utf8_answer}
 use Rattle.idn2_options.specs.declared.command_line.form.Form.{Form}
 use Rattle.idn2_cli.specs.Answers.{LineAnswer}
@@ -26,6 +27,10 @@ with_feed (Err refusal) = Err refusal
 -- the same of lookup, by the bytes of the name: they need not be decoded to be looked up
 unfoldable pub query_answer : List ℕ → Bool → Result (List ℕ) Refusal
 query_answer bytes std3 = if length bytes == 0 then Err Empty else utf8_answer bytes std3
+
+-- the same of decoding
+unfoldable pub decoded_answer : List ℕ → Result (List ℕ) Refusal
+decoded_answer bytes = if length bytes == 0 then Err Empty else decode_utf8_answer bytes
 
 -- ---- an answer of one text
 

@@ -75,10 +75,10 @@ pub(crate) fn write_block<W: Sink, E: Sink>(
     'variants: loop {
         match cursor.seek(alloc, &mut judge, &mut tries, &mut steps)? {
             Outcome::Found => {}
-            Outcome::Spent => {
+            Outcome::OutOfTries => {
                 return write_stop(asked, count, cursor.last(), &mut judge.line, console);
             }
-            Outcome::Halted => {
+            Outcome::OutOfSteps => {
                 return write_stop(asked, count, cursor.last(), &mut judge.line, console);
             }
             Outcome::Ended => return write_end(asked, count, console),

@@ -5,7 +5,7 @@ ghost use Rattle.std.specs.Prelude.{◌≡◌, ◌∷◌, [], IfErr, OnOk};
 
 use crate::output::object::{Object, write_object};
 use crate::output::stop::Stop;
-use answer_json::ObjectLine;
+use answer_json::ObjectRoom;
 use idn_text::{Sink, WriteFault, write_text};
 use std::marker::Model;
 
@@ -17,7 +17,7 @@ pub(crate) struct Console<'o, 'm, W: Sink, E: Sink> {
     /// Takes what is reported of refusals and faults.
     pub messages: &'m mut E,
     /// Room for an object and a line feed. What is left in it says nothing.
-    pub room: ObjectLine,
+    pub room: ObjectRoom,
 }
 
 impl<'o, 'm, W: Sink, E: Sink> Model for Console<'o, 'm, W, E> {
@@ -61,8 +61,8 @@ impl<'o, 'm, W: Sink, E: Sink> Console<'o, 'm, W, E> {
         ensures written { Emits self.old self.new (pieces.Output (line_of (object_told object.now)) ∷ []) result }
         ensures why { IfErr result (λ why. why ≡ stop.Output) }
     {
-        write_object(&mut self.room, object);
-        match write_line(self.output, self.room.as_slice()) {
+        let line = write_object(&mut self.room, object);
+        match write_line(self.output, line) {
             Ok(()) => Ok(()),
             Err(_fault) => Err(Stop::Output),
         }

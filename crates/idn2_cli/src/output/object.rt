@@ -5,7 +5,7 @@ ghost use Rattle.answer_json.specs.Answers.{line_of};
 ghost use Rattle.idn2_cli.specs.inner.Objects.{HasSpace, object_told};
 
 use answer_json::{
-    Disposition, Input, ObjectLine, RefusalMembers, write_checked, write_decoded, write_gap,
+    Disposition, Input, ObjectRoom, RefusalMembers, write_checked, write_decoded, write_gap,
     write_least, write_looked_up, write_refused, write_registered, write_registered_fault,
     write_table_fault, write_trailer, write_variant,
 };
@@ -38,13 +38,13 @@ pub(crate) enum Object<'a> {
     RegisteredFault(u64, Refusal, &'a RefusalMembers<'a>),
 }
 
-/// Writes an object and a line feed in place of what was in `out`.
+/// Writes an object and a line feed.
 ///
 /// Always inline: where it is called, the kind of the object is known.
 #[inline(always)]
-pub(crate) fn write_object(out: &mut ObjectLine, object: &Object<'_>)
+pub(crate) fn write_object<'a>(out: &'a mut ObjectRoom, object: &Object<'_>) -> &'a [u8]
     requires { HasSpace object.now }
-    ensures { out.new.items ≡ line_of (object_told object.now) }
+    ensures { result.now ≡ line_of (object_told object.now) }
 {
     match object {
         Object::LookedUp(line, input, ascii) => write_looked_up(out, *line, input, ascii),

@@ -3,11 +3,14 @@ ghost use Rattle.std.specs.Prelude.{◌≡◌, ◌≤◌, ℕ, List, IfOk, None,
 ghost use Rattle.std.specs.Option.{option_copied};
 ghost use Rattle.std.specs.Result.{IsOk};
 ghost use Rattle.idn_text.specs.Points.{AreScalarValues, IsUtf8Of, utf8_of};
+ghost use Rattle.ruleset_text.specs.Definitions.{rule_name};
 ghost use Rattle.answer_json.specs.Details.{given_len};
 ghost use Rattle.idn_cause.specs.NameCauses.{name_cause, query_cause};
 ghost use Rattle.idn2_cli.specs.Explained.{bad_byte, body_cause, if_wanted, outside_cause, points_cause, registered_cause, table_cause, text_cause, unless_unexplained};
+ghost use Rattle.idn2_cli.specs.Explained.{invalid_cause as invalid_cause_of, validity_cause as validity_cause_of};
 ghost use Rattle.idn2_cli.specs.inner.Explaining.{explained_by};
 
+use crate::output::buffers::append;
 use crate::request::label_of_request;
 use arrayvec::ArrayVec;
 use idn_cause::{
@@ -15,10 +18,13 @@ use idn_cause::{
 };
 use idn_label::{MAX_LABEL_LEN, code_point_at, has_ace_prefix};
 use idn_text::{MAX_LINE_LEN, Refusal, decode_points, write_points};
+use label_patterns::ConditionKind;
+use ruleset_text::DemandKind;
 use std::alloc::{AllocError, Global};
 use std::str;
-use valid_labels::furthest;
-use variant_table::{FaultPlace, Table};
+use table_cause::FaultPlace;
+use valid_labels::{ValidityCause, furthest, invalid_cause};
+use variant_table::Table;
 
 /// How a mode explains what it refuses.
 #[derive(Clone, Copy)]
@@ -42,7 +48,10 @@ pub(crate) enum Explaining<'t> {
 /// A lexeme that is quoted, for whose bytes there is space; nothing where none is.
 pub(crate) type Quoted = ArrayVec<u8, 32>;
 
-/// Why a line is refused. Places and labels are counted from 0.
+/// The name of a rule.
+pub(crate) type RuleName = ArrayVec<u8, 32>;
+
+/// Why a line is refused. Places, labels and demands are counted from 0.
 #[derive(Drop)]
 pub(crate) enum LineCause {
     /// The place of the first byte that no UTF-8 goes on with, and the byte.
@@ -57,6 +66,11 @@ pub(crate) enum LineCause {
     OfName(NameCause),
     /// A length that the DNS does not allow.
     OfQuery(LengthCause),
+    /// A source stands at this place of a label, with this code point, where its condition fails: so it is asked of the rule
+    /// of this name.
+    Misplaced(usize, u32, ConditionKind, RuleName),
+    /// A label breaks the demand of this number and kind.
+    Broken(usize, DemandKind),
     /// Where a label ends before it differs from the one before it.
     Ends(usize),
     /// Where a line of a table has its fault, and the lexeme there, if it is quoted.
@@ -221,6 +235,7 @@ fn cause_of_query(
 }
 
 /// The cause of the fault of a label under a table.
+#[tactic(auto, unfolding(crate::specs::Explained::table_cause))]
 fn cause_by_table(
     alloc: Global,
     label: &[u32],
@@ -228,15 +243,16 @@ fn cause_by_table(
     table: &Table,
 ) -> Result<Option<LineCause>, AllocError>
     requires { AreScalarValues label.now }
-    ensures { IfOk result (λ cause. cause ≡ option_map LineCause.OfLabel (table_cause table.now label.now refusal)) }
+    ensures { IfOk result (λ cause. cause ≡ table_cause table.now label.now refusal) }
 {
     match refusal {
         Refusal::NotInTable => Ok(of_label(outside_cause(label, table))),
+        Refusal::NotValid => cause_by_ruleset(alloc, label, table),
         _ => Ok(of_label(cause_of(alloc, label, refusal)?)),
     }
 }
 
-/// The code point behind those that sources of a table reach.
+/// The code point after those that sources of a table reach.
 fn outside_cause(label: &[u32], table: &Table) -> Option<Cause>
     ensures { result ≡ outside_cause table.now label.now }
 {
@@ -245,4 +261,45 @@ fn outside_cause(label: &[u32], table: &Table) -> Option<Cause>
     }
     let place = furthest(table, label);
     Some(Cause::Point(place, code_point_at(label, place)))
+}
+
+/// Why a label that is made of sources of a ruleset isn't valid.
+fn cause_by_ruleset(
+    alloc: Global,
+    label: &[u32],
+    table: &Table,
+) -> Result<Option<LineCause>, AllocError>
+    ensures { IfOk result (λ cause. cause ≡ invalid_cause_of table.now label.now) }
+{
+    if label.len() > MAX_LABEL_LEN {
+        return Ok(None);
+    }
+    match invalid_cause(alloc, table, label)? {
+        Some(cause) => Ok(Some(validity_cause(label, table, cause))),
+        None => Ok(None),
+    }
+}
+
+/// The condition that fails by the name of its rule, or the demand.
+fn validity_cause(label: &[u32], table: &Table, cause: ValidityCause) -> LineCause
+    ensures { result ≡ validity_cause_of table.now label.now cause }
+{
+    match cause {
+        ValidityCause::Misplaced(place, condition) => LineCause::Misplaced(
+            place,
+            code_point_at(label, place),
+            condition.kind,
+            name_of_rule(table, condition.rule),
+        ),
+        ValidityCause::Broken(number, kind) => LineCause::Broken(number, kind),
+    }
+}
+
+/// The name of the rule of this number.
+fn name_of_rule(table: &Table, rule: u8) -> RuleName
+    ensures { result.items ≡ rule_name table.now.definitions rule }
+{
+    let mut name = RuleName::new();
+    append(&mut name, table.definitions().rule_name(rule));
+    name
 }

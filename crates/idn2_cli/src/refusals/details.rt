@@ -1,18 +1,19 @@
 //! Causes as the objects of refusals tell them. Places, labels and bytes are counted from 1 here.
-ghost use Rattle.std.specs.Prelude.{◌≡◌, ◌≤◌, ◌+◌, ◌++◌, codes, length, option_map};
+ghost use Rattle.std.specs.Prelude.{◌≡◌, ◌≤◌, ◌+◌, ◌++◌, Some, codes, length, option_map};
 ghost use Rattle.std.specs.Option.{option_copied};
 ghost use Rattle.answer_json.specs.Details.{HasShortTexts, details_of, given_len};
-ghost use Rattle.idn2_cli.specs.CauseDetails.{a_label_details, barring_rule, cause_details, condition_rule, context_rule, fault_place_details, length_details, line_details, placed, told_details};
+ghost use Rattle.idn2_cli.specs.CauseDetails.{a_label_details, barring_rule, cause_details, condition_rule, context_rule, fault_place_details, length_details, line_details, placed, placed_by, told_details};
 ghost use Rattle.idn2_cli.specs.CauseDetails.{at_byte as at_byte_of};
-ghost use Rattle.idn2_cli.specs.CauseTexts.{appendix_text, bidi_text};
+ghost use Rattle.idn2_cli.specs.CauseTexts.{appendix_text, bidi_text, condition_text};
 
-use crate::refusals::cause::LineCause;
-use crate::refusals::explaining::name_of_class;
+use crate::refusals::cause::{LineCause, RuleName};
+use crate::refusals::explaining::{name_of_class, word_of_condition, word_of_demand};
 use answer_json::RefusalMembers;
 use idn_cause::{ALabelCause, Cause, LengthCause};
-use idn_class::{BarringLine, Condition};
+use idn_class::{BarringLine, BidiCondition};
 use idn_text::Refusal;
-use variant_table::FaultPlace;
+use label_patterns::ConditionKind;
+use table_cause::FaultPlace;
 
 /// The code point of the hyphen.
 const HYPHEN: u32 = 0x2D;
@@ -51,6 +52,15 @@ fn details_of_line<'a>(refusal: &Refusal, cause: &'a LineCause) -> RefusalMember
             members
         }
         LineCause::OfQuery(cause) => details_of_length(cause),
+        LineCause::Misplaced(place, point, kind, rule) => {
+            details_of_condition(*place, *point, *kind, rule)
+        }
+        LineCause::Broken(number, kind) => {
+            let mut members = RefusalMembers::NONE;
+            members.demand = Some(counted(*number));
+            members.kind = Some(word_of_demand(*kind));
+            members
+        }
         LineCause::Ends(place) => {
             let mut members = RefusalMembers::NONE;
             members.place = Some(counted(*place));
@@ -160,6 +170,24 @@ fn details_of_a_label<'a>(refusal: &Refusal, cause: &'a ALabelCause) -> RefusalM
     }
 }
 
+/// What it says of a source that stands where its condition fails.
+fn details_of_condition<'a>(
+    place: usize,
+    point: u32,
+    kind: ConditionKind,
+    rule: &'a RuleName,
+) -> RefusalMembers<'a>
+    ensures members { details_of result ≡ record (placed_by place point rule.now.items) { condition = Some (condition_text kind) } }
+    ensures short { HasShortTexts (details_of result) }
+{
+    let mut members = RefusalMembers::NONE;
+    members.rule = Some(rule.as_slice());
+    members.condition = Some(word_of_condition(kind));
+    members.code_point = Some(point);
+    members.place = Some(counted(place));
+    members
+}
+
 /// What it says of a length that the DNS does not allow.
 fn details_of_length(cause: &LengthCause) -> RefusalMembers<'static>
     ensures members { details_of result ≡ length_details cause.now }
@@ -241,15 +269,15 @@ fn rule_of_appendix(point: u32) -> &'static [u8]
 }
 
 /// A condition of the Bidi rule.
-fn rule_of_condition(condition: Condition) -> &'static [u8]
+fn rule_of_condition(condition: BidiCondition) -> &'static [u8]
     ensures text { result.now ≡ condition_rule condition }
     ensures short { length result.now ≤ 64 }
 {
     match condition {
-        Condition::First => b"RFC 5893 2 condition 1",
-        Condition::RtlHolds => b"RFC 5893 2 condition 2",
-        Condition::RtlEnds => b"RFC 5893 2 condition 3",
-        Condition::RtlNumbers => b"RFC 5893 2 condition 4",
-        Condition::LtrHolds => b"RFC 5893 2 condition 5",
+        BidiCondition::First => b"RFC 5893 2 condition 1",
+        BidiCondition::RtlHolds => b"RFC 5893 2 condition 2",
+        BidiCondition::RtlEnds => b"RFC 5893 2 condition 3",
+        BidiCondition::RtlNumbers => b"RFC 5893 2 condition 4",
+        BidiCondition::LtrHolds => b"RFC 5893 2 condition 5",
     }
 }

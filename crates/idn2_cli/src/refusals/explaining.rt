@@ -1,18 +1,21 @@
 //! Causes as messages tell them. Places and labels are counted from 1 here.
 ghost use Rattle.std.specs.Prelude.{◌≡◌, ◌≤◌, ◌<◌, ◌+◌, [], ◌∷◌, ◌++◌, codes, decimal, length};
 ghost use Rattle.arrayvec.specs.ArrayVec.{array_vec_len};
-ghost use Rattle.ruleset_text.specs.Canonical.{four_digits, hex_digit, point_text};
+ghost use Rattle.ruleset_text.specs.Canonical.{point_text};
+ghost use Rattle.idn_text.specs.Points.{four_digits, hex_digit};
 ghost use Rattle.idn2_cli.specs.inner.CauseRoom.{cause_room};
-ghost use Rattle.idn2_cli.specs.CauseTexts.{a_label_text, appendix_text, at_byte_text, barring_text, bidi_text, byte_text, cause_text, code_point_text, context_text, fault_place_text, form_text, hyphen_text, length_text, lexeme_text, line_cause_text, name_text, place_text, separator_text};
+ghost use Rattle.idn2_cli.specs.CauseTexts.{a_label_text, appendix_text, at_byte_text, barring_text, bidi_text, byte_text, cause_text, code_point_text, condition_text, context_text, demand_text, fault_place_text, form_text, hyphen_text, length_text, lexeme_text, line_cause_text, name_text, place_text, separator_text};
 
 use crate::output::buffers::append;
-use crate::refusals::cause::{LineCause, Quoted};
+use crate::refusals::cause::{LineCause, Quoted, RuleName};
 use arrayvec::ArrayVec;
 use idn_cause::{ALabelCause, Cause, LengthCause, NameCause};
 use idn_class::{BarringLine, BidiClass};
 use idn_text::Refusal;
 use itoa::{Buffer, Integer};
-use variant_table::FaultPlace;
+use label_patterns::ConditionKind;
+use ruleset_text::DemandKind;
+use table_cause::FaultPlace;
 
 /// A message with a cause: at most 160 bytes.
 pub(crate) type ExplainedMessage = ArrayVec<u8, 160>;
@@ -30,6 +33,10 @@ pub(crate) fn push_line_cause(text: &mut ExplainedMessage, refusal: &Refusal, ca
         LineCause::OfALabel(cause) => push_a_label_cause(text, refusal, cause),
         LineCause::OfName(cause) => push_name_cause(text, refusal, cause),
         LineCause::OfQuery(cause) => push_length_cause(text, cause),
+        LineCause::Misplaced(place, point, kind, rule) => {
+            push_misplaced(text, *place, *point, *kind, rule)
+        }
+        LineCause::Broken(number, kind) => push_broken(text, *number, *kind),
         LineCause::Ends(place) => push_end(text, *place),
         LineCause::OfTable(place, quoted) => push_fault_place(text, place, quoted),
     }
@@ -130,6 +137,59 @@ fn push_byte_at(text: &mut ExplainedMessage, place: usize, byte: u8)
     push_byte(text, byte);
     append(text, b" at byte ");
     push_counted(text, place);
+}
+
+/// Appends a code point and its place, and what is asked of the rule of this name.
+fn push_misplaced(
+    text: &mut ExplainedMessage,
+    place: usize,
+    point: u32,
+    kind: ConditionKind,
+    rule: &RuleName,
+)
+    requires { array_vec_len text.old ≤ 81 }
+    ensures items { text.new.items ≡ text.old.items ++ (place_text place point ++ (codes ": " ++ (condition_text kind ++ (codes " " ++ rule.now.items)))) }
+    ensures short { array_vec_len text.new ≤ array_vec_len text.old + 79 }
+{
+    push_place(text, place, point);
+    append(text, b": ");
+    append(text, word_of_condition(kind));
+    append(text, b" ");
+    append(text, rule.as_slice());
+}
+
+/// The word for what is asked of a rule.
+pub(crate) fn word_of_condition(kind: ConditionKind) -> &'static [u8]
+    ensures text { result.now ≡ condition_text kind }
+    ensures short { length result.now ≤ 6 }
+{
+    match kind {
+        ConditionKind::When => b"when",
+        ConditionKind::Unless => b"unless",
+    }
+}
+
+/// Appends the number of a demand, and its kind.
+fn push_broken(text: &mut ExplainedMessage, number: usize, kind: DemandKind)
+    requires { array_vec_len text.old ≤ 125 }
+    ensures items { text.new.items ≡ text.old.items ++ (codes "demand " ++ (decimal (number + 1) ++ (codes ", " ++ demand_text kind))) }
+    ensures short { array_vec_len text.new ≤ array_vec_len text.old + 35 }
+{
+    append(text, b"demand ");
+    push_counted(text, number);
+    append(text, b", ");
+    append(text, word_of_demand(kind));
+}
+
+/// The word for what a demand asks.
+pub(crate) fn word_of_demand(kind: DemandKind) -> &'static [u8]
+    ensures text { result.now ≡ demand_text kind }
+    ensures short { length result.now ≤ 6 }
+{
+    match kind {
+        DemandKind::Never => b"never",
+        DemandKind::Always => b"always",
+    }
 }
 
 /// Appends the place at which a label ends.

@@ -25,7 +25,7 @@ use std::alloc::Global;
 use variant_table::{Notation, TableFault};
 
 /// Tells the fault of the table that a text is to spell, with its cause, if causes are wanted, and gives the status of the
-/// run. Want of memory is no fault of the table: nothing is reported, and the run stops. A cause may take memory.
+/// run. Lack of memory is no fault of the table: nothing is reported, and the run stops. A cause may take memory.
 pub(crate) fn refuse_table<W: Sink, E: Sink>(
     alloc: Global,
     form: Form,
@@ -89,7 +89,7 @@ fn write_message<W: Sink, E: Sink>(
     }
 }
 
-/// What is told of a table that is not read. There is nothing for want of memory.
+/// What is told of a table that is not read. There is nothing for lack of memory.
 fn told_of(fault: TableFault) -> Option<(u64, Refusal)>
     ensures { result ≡ told_of fault }
 {

@@ -9,7 +9,8 @@ ghost use Rattle.idn2_cli.specs.inner.CauseRoom.{cause_room};
 use crate::output::buffers::append;
 use crate::refusals::cause::{LineCause, Quoted};
 use std::alloc::{AllocError, Global};
-use variant_table::{FaultPlace, Notation, TableFault, fault_place, faulty_line};
+use table_cause::{FaultPlace, fault_place, faulty_line};
+use variant_table::{Notation, TableFault};
 
 /// The most bytes of a lexeme that is quoted.
 const MAX_QUOTED: usize = 32;

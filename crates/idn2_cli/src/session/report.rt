@@ -13,7 +13,7 @@ use crate::refusals::cause::LineCause;
 use crate::refusals::details::details_of_refusal;
 use crate::refusals::message::{explained_message, registered_message};
 use crate::refusals::wrong_line::cause_if_wanted;
-use answer_json::ObjectLine;
+use answer_json::MAX_OBJECT_LEN;
 use idn_text::{Refusal, Sink, write_text};
 use idn2_options::{Form, Options};
 use registered_labels::RegisterFault;
@@ -85,13 +85,11 @@ fn tell_wrong_line<W: Sink, E: Sink>(
     match form {
         Form::Plain => report_wrong_line(line, refusal, cause, err),
         Form::Json => {
-            let mut object = ObjectLine::new();
+            let mut room = [0; MAX_OBJECT_LEN];
             let members = details_of_refusal(refusal, cause);
-            write_object(
-                &mut object,
-                &Object::RegisteredFault(line, *refusal, &members),
-            );
-            match write_text(out, object.as_slice()) {
+            let fault = Object::RegisteredFault(line, *refusal, &members);
+            let object = write_object(&mut room, &fault);
+            match write_text(out, object) {
                 Ok(()) => Status::Unusable,
                 Err(_fault) => report(&Refusal::WriteFault, err),
             }

@@ -24,7 +24,7 @@ use crate::refusals::cause::Explaining;
 use crate::refusals::table::refuse_table;
 use crate::session::lines::serve_lines;
 use crate::session::report::report;
-use answer_json::ObjectLine;
+use answer_json::MAX_OBJECT_LEN;
 use idn_text::{Lines, Sink, Source};
 use idn2_options::{Form, Mode, Options};
 use registered_labels::RegisteredLabels;
@@ -89,7 +89,7 @@ pub fn run_among<R: Source, W: Sink, E: Sink>(
     let mut console = Console {
         output: out,
         messages: err,
-        room: ObjectLine::new(),
+        room: [0; MAX_OBJECT_LEN],
     };
     let status = serve(alloc, options, table, registered, input, &mut console);
     // Both writers are given back.

@@ -2,12 +2,12 @@
 use Rattle.std.specs.Prelude.{ℕ, ◌+◌, ◌≤◌, List, ◌++◌, length, slice_range, Option, Some, None, if◌then◌else◌}
 use Rattle.std.specs.Io.KnownBytes.{Consumes}
 use Rattle.idn_text.specs.Lines.{HasNoFeed, is_long_line}
-use Rattle.idn_text.specs.Taking.{Input, left}
-use Rattle.idn_text.specs.declared.input.LinePlace.{LinePlace}
-use Rattle.idn_text.specs.declared.input.LinePlace.TheVariants.{Text, TooLong}
+use Rattle.idn_text.specs.Taking.{BufferedReader, left}
+use Rattle.idn_text.specs.declared.buffered_reader.LinePlace.{LinePlace}
+use Rattle.idn_text.specs.declared.buffered_reader.LinePlace.TheVariants.{Text, TooLong}
 
 -- these bytes without a line feed, and then these, were taken; of the read calls between, none uncounted, all but so many gave a byte
-pub record Takes (old new : Input) (line feed : List ℕ) (idle : ℕ) : Type 0 where
+pub record TakesLine (old new : BufferedReader) (line feed : List ℕ) (idle : ℕ) : Type 0 where
   pub no_feed : HasNoFeed line
   pub taken : Consumes (left old) (left new) (line ++ feed)
   pub asked : new.reads + length old.held ≤ old.reads + length (line ++ feed) + length new.held + idle

@@ -34,4 +34,4 @@ abbrev pub HasForm : Definition → Type 0
 HasForm (definition.Tag name) = IsTrue (is_name name)
 HasForm (definition.Set name spans) = IsTrue (is_name name) × (0 < length spans) × Rise spans
 HasForm (definition.Rule name contexts) = IsTrue (is_name name) × Is Whole contexts × IsTrue (is_rule contexts)
-HasForm (definition.Demand kind p) = Is Whole p × (has sign.Place p ≡ false)
+HasForm (definition.Demand kind p) = Is Whole p × (has sign.Anchor p ≡ false)

@@ -13,7 +13,7 @@ some_defined = record {
   set_names = codes "A" ∷ [];
   sets = (span 97 97 ∷ []) ∷ [];
   rule_names = codes "r" ∷ [];
-  rules = patterns.Then patterns.Place (patterns.Point 98) ∷ [];
+  rules = patterns.Then patterns.Anchor (patterns.Point 98) ∷ [];
   demands = [];
 }
 

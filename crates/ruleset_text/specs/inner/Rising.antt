@@ -1,4 +1,4 @@
--- Spans that rise, and what may stand behind them.
+-- Spans that rise, and what may stand after them.
 use Rattle.std.specs.Prelude.{ℕ, ◌<◌, List}
 use Rattle.std.specs.List.{AllByRecursion}
 use Rattle.label_patterns.specs.declared.span.Span.{Span}

@@ -8,7 +8,7 @@ use Rattle.variant_table.specs.Entries.{Entry, TableValue, Variant}
 use Rattle.valid_labels.specs.Segmentations.{seen_under}
 use Rattle.variant_list.specs.Labels.{IsRising}
 use Rattle.variant_list.specs.declared.part.Part.TheVariants.{Whole}
-use Rattle.variant_list.specs.Parts.{marked}
+use Rattle.variant_list.specs.Parts.{full_replacements}
 use Rattle.variant_list.specs.inner.Places.{SpellsFrom}
 use Rattle.variant_list.specs.LabelSet.{labels_of}
 
@@ -46,4 +46,4 @@ ReplacementGives table label place e endings r q = HoldsFor table label place e 
 -- q is a replacement of the entry, which is not outside and may stand there, and then one of the endings
 abbrev pub EntryGives : TableValue → List ℕ → ℕ → List (List ℕ) → Entry → List ℕ → Type 0
 EntryGives table label place endings e q =
-    (e.outside ≡ false) × HoldsFor table label place e e.condition × SomeGives (ReplacementGives table label place e endings) (marked e) q
+    (e.outside ≡ false) × HoldsFor table label place e e.condition × SomeGives (ReplacementGives table label place e endings) (full_replacements e) q

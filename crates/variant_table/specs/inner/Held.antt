@@ -6,7 +6,7 @@ use Rattle.ruleset_text.specs.declared.entry_form.NamedCondition.{NamedCondition
 use Rattle.ruleset_text.specs.Definitions.{Definitions}
 use Rattle.ruleset_text.specs.Entries.{Mapped}
 use Rattle.variant_table.specs.declared.sequences.Span.{Span}
-use Rattle.variant_table.specs.declared.sequences.Part.{Part}
+use Rattle.variant_table.specs.declared.sequences.HeldSequence.{HeldSequence}
 use Rattle.variant_table.specs.Entries.{Variant, Entry, entry_from}
 use Rattle.variant_table.specs.declared.version.Version.{Version}
 use Rattle.variant_table.specs.declared.version.Version.TheVariants.{One, Two, Three}
@@ -20,15 +20,15 @@ abbrev pub part_at : {X : Type 0} → List X → Span → List X
 part_at xs s = slice_range xs s.start s.end
 
 -- the sequences that the parts of a list of code points name, with their marks, tags and conditions
-abbrev pub parts_of : List ℕ → List Part → List Variant
-parts_of points parts = map (λ p. record { sequence = part_at points p.span; blocked = p.blocked; tags = p.tags; condition = p.condition }) parts
+abbrev pub parts_of : List ℕ → List HeldSequence → List Variant
+parts_of points parts = map (λ p. record { sequence = part_at points p.span; marked = p.marked; tags = p.tags; condition = p.condition }) parts
 
 -- a span within the limit
 abbrev pub IsSpanBelow : ℕ → Span → Type 0
 IsSpanBelow limit s = (s.start ≤ s.end) × (s.end ≤ limit)
 
 -- parts within the limit
-abbrev pub AreSpansBelow : ℕ → List Part → Type 0
+abbrev pub AreSpansBelow : ℕ → List HeldSequence → Type 0
 AreSpansBelow limit parts = All (λ p. IsSpanBelow limit p.span) parts
 
 -- a span within the limit that is not empty
@@ -62,7 +62,7 @@ pub record IsCounted (version : Version) (definitions : Definitions) (left : ℕ
   pub count : counted version (table_text version definitions table) + left ≡ text_limit version
   pub named : AllByRecursion (IsNamed definitions) table
 
--- what is left of so many bytes behind others: nothing, if these are more
+-- what is left of so many bytes after others: nothing, if these are more
 abbrev pub IsLeft : ℕ → ℕ → Option ℕ → Type 0
 IsLeft left count None = left < count
 IsLeft left count (Some rest) = count + rest ≡ left

@@ -4,8 +4,8 @@ use Rattle.std.specs.Ordering.{nat_cmp}
 use Rattle.std.specs.declared.cmp.Ordering.TheVariants.{Less, Greater}
 use Rattle.std.specs.Cmp.Lexicographic.{slice_cmp}
 use Rattle.std.specs.List.{range_with_len, starts_with}
-use Rattle.variant_table.specs.declared.rows.Place.{Place}
-use Rattle.variant_table.specs.declared.rows.Place.TheVariants.{Found, Absent}
+use Rattle.variant_table.specs.declared.ordered_entries.SourcePlace.{SourcePlace}
+use Rattle.variant_table.specs.declared.ordered_entries.SourcePlace.TheVariants.{Found, Absent}
 use Rattle.variant_table.specs.Entries.{Entry, entry_from}
 
 -- the source of the entry whose number stands at the place
@@ -21,10 +21,10 @@ pub record IsOrderOf (table : List Entry) (order : List ℕ) : Type 0 where
 pub record IsGapFor (table : List Entry) (order : List ℕ) (source : List ℕ) (place : ℕ) : Type 0 where
   pub within : place ≤ length order
   pub before : (i : ℕ) → i < place → slice_cmp nat_cmp (source_at table order i) source ≡ Less
-  pub behind : (i : ℕ) → place ≤ i → i < length order → slice_cmp nat_cmp (source_at table order i) source ≡ Greater
+  pub after : (i : ℕ) → place ≤ i → i < length order → slice_cmp nat_cmp (source_at table order i) source ≡ Greater
 
 -- the source stands at the place that is found; or it stands nowhere, and the place is where it would stand
-abbrev pub IsPlaceFor : List Entry → List ℕ → List ℕ → Place → Type 0
+abbrev pub IsPlaceFor : List Entry → List ℕ → List ℕ → SourcePlace → Type 0
 IsPlaceFor table order source (Found place) = (place < length order) × (source_at table order place ≡ source)
 IsPlaceFor table order source (Absent place) = IsGapFor table order source place
 

@@ -5,7 +5,7 @@ use Rattle.ruleset_text.specs.declared.fault.DefinitionFault.TheVariants as defi
 use Rattle.variant_table.specs.declared.fault.TableFault.{TableFault}
 use Rattle.variant_table.specs.declared.fault.TableFault.TheVariants as tables
 use Rattle.variant_table.specs.Faults.{LineFault, Limit, Syntax, BadClass, SameVariant, SameSource, NoSuchName, SameName, table_fault}
-use Rattle.variant_table.specs.declared.reading.Spelled.{Spelled}
+use Rattle.variant_table.specs.declared.reading.ReadText.{ReadText}
 use Rattle.variant_table.specs.Entries.{Entry, TableValue, table_of}
 use Rattle.variant_table.specs.Conditions.{has_source_in}
 use Rattle.variant_table.specs.Reading.{◌>>=◌}
@@ -40,8 +40,8 @@ abbrev pub FailsIn : {Y : Type 0} → TableFault → Result Y (ℕ × LineFault)
 FailsIn {Y} fault read = (fault ≡ tables.Memory) ⊎ ((line : ℕ) × (kind : LineFault) × (fault ≡ table_fault line kind) × (read ≡ Err (line, kind)))
 
 -- the answer is that of the function, unless memory was refused
-abbrev pub Reads : Result Spelled TableFault → Result TableValue (ℕ × LineFault) → Type 0
-Reads (Ok s) read = read ≡ Ok (table_of s.version s.definitions s.rows)
+abbrev pub Reads : Result ReadText TableFault → Result TableValue (ℕ × LineFault) → Type 0
+Reads (Ok s) read = read ≡ Ok (table_of s.version s.definitions s.entries)
 Reads (Err fault) read = FailsIn fault read
 
 -- the fault of a table, by the number of its line and the fault of the definition on it

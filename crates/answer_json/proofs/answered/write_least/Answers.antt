@@ -3,4 +3,4 @@ use Rattle.answer_json.proofs.Members.{ended, with_one}
 use Rattle.answer_json.proofs.answered.write_least.Goals as goal
 
 pub returns : goal.returns
-returns c = c.end_line.ensures ∙ ended (with_one _ c.begin_line.ensures.begun c.put_least.ensures.field)
+returns c = c.end_line.ensures ∙ ended (with_one _ c.begin_line-at.ensures.begun c.put_least-end.ensures.field)

@@ -4,4 +4,4 @@ use Rattle.answer_json.proofs.answered.write_registered.Goals as goal
 
 pub returns : goal.returns
 returns c =
-    c.end_line.ensures ∙ ended (with_one _ (with_one _ c.begin_line.ensures.begun c.put_text.ensures.field) c.put_text-2.ensures.field)
+    c.end_line.ensures ∙ ended (with_one _ (with_one _ c.begin_line-at.ensures.begun c.put_text-next.ensures.field) c.put_text-end.ensures.field)

@@ -1,4 +1,4 @@
-use Rattle.std.proofs.Common.{◌≡◌, ◌∷◌, ◌++◌, codes}
+use Rattle.std.proofs.Common.{◌≡◌, ◌∷◌, ◌++◌, codes, take}
 use Rattle.answer_json.specs.Answers.{Field, text}
 use Rattle.answer_json.specs.Objects.{disposition_text}
 use Rattle.answer_json.specs.inner.Texts.{field_text}
@@ -8,5 +8,5 @@ use Rattle.answer_json.proofs.block.put_disposition.Goals as goal
 pub returns-in-Some-clause-field : goal.returns-in-Some-clause-field
 returns-in-Some-clause-field c =
     let told : Field = (codes "disposition", text (disposition_text c.in-Some.disposition)) in
-    let e : c.put_text.new.out.items ≡ c.args.out.now.items ++ 44 ∷ field_text told = cc in
+    let e : take c.put_text.result c.put_text.new.out ≡ take c.args.at c.args.out.now ++ 44 ∷ field_text told = cc in
     rw c.in-Some.is (one_field _ _ told e)

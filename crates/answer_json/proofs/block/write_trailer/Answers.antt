@@ -8,4 +8,4 @@ pub returns : goal.returns
 returns c =
     let stop = option_copied c.args.stop in
     c.end_line.ensures
-    ∙ ended (with_all (end_fields stop) (with_one _ c.begin_line.ensures.begun c.put_number.ensures.field) c.put_end.ensures.fields)
+    ∙ ended (with_all (end_fields stop) (with_one _ c.begin_line-at.ensures.begun c.put_number-next.ensures.field) c.put_end-end.ensures.fields)

@@ -1,4 +1,4 @@
-use Rattle.std.proofs.Common.{◌++◌, codes}
+use Rattle.std.proofs.Common.{◌++◌, codes, take}
 use Rattle.std.specs.Option.{option_copied}
 use Rattle.answer_json.specs.Answers.{count, if_given, text}
 use Rattle.answer_json.proofs.Members.{more_fields}
@@ -6,12 +6,12 @@ use Rattle.answer_json.proofs.details.put_lengths.Goals as goal
 
 pub returns-clause-fields : goal.returns-clause-fields
 returns-clause-fields c =
-    let old = c.args.out.now.items in
+    let old = take c.args.at c.args.out.now in
     let told = c.args.members.now in
     let code_points = if_given (codes "code_points") count told.code_points in
     let octets = if_given (codes "octets") count told.octets in
     let alabel = if_given (codes "alabel") text (option_copied told.alabel) in
     let byte = if_given (codes "byte") count told.byte in
     more_fields old (code_points ++ octets ++ alabel) byte
-    (more_fields old (code_points ++ octets) alabel (more_fields old code_points octets c.put_number_if.ensures.field c.put_number_if-2.ensures.field) c.put_text_if.ensures.field)
-    c.put_number_if-3.ensures.field
+    (more_fields old (code_points ++ octets) alabel (more_fields old code_points octets c.put_number_if-octets.ensures.field c.put_number_if-alabel.ensures.field) c.put_text_if-byte.ensures.field)
+    c.put_number_if.ensures.field

@@ -1,13 +1,12 @@
-use Rattle.std.proofs.Common.{[], ◌∷◌, ◌++◌, codes, Some, ap, ◌∙◌}
+use Rattle.std.proofs.Common.{[], codes, Some, ◌∙◌}
 use Rattle.answer_json.specs.Answers.{Field, count}
 use Rattle.answer_json.specs.Details.{details_of, refusal_fields}
-use Rattle.answer_json.specs.inner.Texts.{field_text}
 use Rattle.answer_json.proofs.Members.{ended_with, first}
 use Rattle.answer_json.proofs.refused.write_table_fault.Goals as goal
 
 pub returns : goal.returns
 returns c =
     let line : Field = (codes "table_line", count c.args.line) in
-    let begun = first [] line _ (c.put_number.ensures.field ∙ ap (λ l. l ++ 123 ∷ field_text line) c.clear.ensures) in
+    let begun = first [] line _ c.put_number-at.ensures.field in
     c.end_line.ensures
-    ∙ ended_with (Some (refusal_fields c.args.refusal (details_of c.args.members.now))) begun c.put_refusal.ensures.object
+    ∙ ended_with (Some (refusal_fields c.args.refusal (details_of c.args.members.now))) begun c.put_refusal-end.ensures.object

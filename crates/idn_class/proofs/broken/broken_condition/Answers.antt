@@ -1,5 +1,5 @@
 use Rattle.std.proofs.Common.{sym, ap, ◌∙◌}
-use Rattle.idn_class.specs.declared.broken.Condition.TheVariants.{LtrHolds}
+use Rattle.idn_class.specs.declared.broken.BidiCondition.TheVariants.{LtrHolds}
 use Rattle.idn_class.specs.Causes.{broken_at, broken_in_ltr}
 use Rattle.idn_class.proofs.BidiLemmas.{list_any-classes}
 use Rattle.idn_class.proofs.CauseLemmas.{condition-ltr, condition-first}

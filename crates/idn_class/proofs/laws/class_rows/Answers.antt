@@ -1,5 +1,5 @@
 use Rattle.std.proofs.Common.{refl}
-use Rattle.idn_class.specs.Rows.{latin_1, exceptions, examples}
+use Rattle.idn_class.specs.WorkedRows.{latin_1, exceptions, examples}
 use Rattle.idn_class.proofs.ComputedLabels.{in_table, HasClasses-rows_ok}
 use Rattle.idn_class.proofs.laws.class_rows.Goals as goal
 

@@ -2,7 +2,7 @@ use Rattle.std.proofs.Common.{◌≡◌, ℕ, ◌-◌, ◌<◌, not, ◌==◌, t
 use Rattle.std.specs.List.{suffix_len}
 use Rattle.std.proofs.lemmas.List.{take_rest}
 use Rattle.idna.specs.Punycode.{delimiter}
-use Rattle.idn_punycode.proofs.DelimiterSteps.{after_delimiter, extended_part-behind}
+use Rattle.idn_punycode.proofs.DelimiterSteps.{after_delimiter, extended_part-after}
 use Rattle.idn_punycode.proofs.UnitLemmas.{codes_length, codes_take, codes_drop}
 use Rattle.idn_punycode.proofs.decoding.split_at_delimiter.Goals as goal
 
@@ -25,4 +25,4 @@ returns-else-after-le1-clause-extended g c =
     rw take_rest
     (sym (codes_drop g.U.Unit.code g.U.Unit.codes g.met.U.Unit.codes_are units c.place_after_delimiter-after.result)
     ∙ ap (λ n. drop n code) after
-    ∙ sym (extended_part-behind code (subst (λ (n : ℕ). 1 < n) after c.if-after-le1.false)))
+    ∙ sym (extended_part-after code (subst (λ (n : ℕ). 1 < n) after c.if-after-le1.false)))

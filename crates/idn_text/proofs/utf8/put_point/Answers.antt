@@ -3,7 +3,7 @@ use Rattle.std.proofs.lemmas.Grind.{take-set_at}
 use Rattle.idn_text.proofs.Utf8Lemmas.{encode_utf8-two, encode_utf8-three, encode_utf8-four}
 use Rattle.idn_text.proofs.utf8.put_point.Goals as goal
 
--- bytes written one behind the other from a place on
+-- bytes written one after the other from a place on
 module _ (room : List ℕ) (at : ℕ) (enough : at + 4 ≤ length room) where
   one : (a : ℕ) → take (at + 1) (set room at a) ≡ take at room ++ a ∷ []
   one a = take-set_at room at (at + 1) a refl (omega (arith, enough))

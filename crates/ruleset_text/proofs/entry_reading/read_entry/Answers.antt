@@ -3,7 +3,7 @@ use Rattle.std.specs.Prelude.{IfOk}
 use Rattle.std.specs.Option.{option_map}
 use Rattle.ruleset_text.specs.Entries.{EntryForm}
 use Rattle.ruleset_text.specs.EntryForms.{entry_form}
-use Rattle.ruleset_text.specs.inner.EntrySteps.{state, step}
+use Rattle.ruleset_text.specs.EntrySteps.{state, step}
 use Rattle.ruleset_text.specs.inner.EntryTaken.{taken_as}
 use Rattle.ruleset_text.specs.Lexemes.{lexemes}
 use Rattle.ruleset_text.proofs.EntryExactLemmas.{read_found, all_found}

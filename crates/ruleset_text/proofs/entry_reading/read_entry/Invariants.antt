@@ -1,5 +1,5 @@
 use Rattle.std.proofs.Common.{length}
-use Rattle.ruleset_text.specs.inner.EntrySteps.{state}
+use Rattle.ruleset_text.specs.EntrySteps.{state}
 use Rattle.ruleset_text.proofs.EntryLemmas.{Reads}
 use Rattle.ruleset_text.proofs.entry_reading.read_entry.Given as goal
 

@@ -1,6 +1,6 @@
 use Rattle.std.proofs.Common.{refl}
 use Rattle.idn_text.specs.Points.{point_of_hex}
-use Rattle.ruleset_text.specs.inner.EntrySteps.{entry_in}
+use Rattle.ruleset_text.specs.EntrySteps.{entry_in}
 use Rattle.ruleset_text.proofs.laws.definitions_compute_the_entries.Goals as goal
 
 pub returns-clause-entry : goal.returns-clause-entry

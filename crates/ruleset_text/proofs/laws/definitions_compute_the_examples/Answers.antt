@@ -74,25 +74,25 @@ pub returns-clause-contexts : goal.returns-clause-contexts
 unfolding pattern_of spans_in tokens_in number_of point_of_hex
 returns-clause-contexts c = refl
 
-pub returns-clause-place_alone : goal.returns-clause-place_alone
+pub returns-clause-anchor_alone : goal.returns-clause-anchor_alone
 unfolding pattern_of spans_in tokens_in number_of point_of_hex
-returns-clause-place_alone c = refl
+returns-clause-anchor_alone c = refl
 
-pub returns-clause-no_place : goal.returns-clause-no_place
+pub returns-clause-no_anchor : goal.returns-clause-no_anchor
 unfolding pattern_of spans_in tokens_in number_of point_of_hex
-returns-clause-no_place c = refl
+returns-clause-no_anchor c = refl
 
-pub returns-clause-two_places : goal.returns-clause-two_places
+pub returns-clause-two_anchors : goal.returns-clause-two_anchors
 unfolding pattern_of spans_in tokens_in number_of point_of_hex
-returns-clause-two_places c = refl
+returns-clause-two_anchors c = refl
 
 pub returns-clause-branch_without : goal.returns-clause-branch_without
 unfolding pattern_of spans_in tokens_in number_of point_of_hex
 returns-clause-branch_without c = refl
 
-pub returns-clause-place_in_a_group : goal.returns-clause-place_in_a_group
+pub returns-clause-anchor_in_a_group : goal.returns-clause-anchor_in_a_group
 unfolding pattern_of spans_in tokens_in number_of point_of_hex
-returns-clause-place_in_a_group c = refl
+returns-clause-anchor_in_a_group c = refl
 
 pub returns-clause-end_before : goal.returns-clause-end_before
 unfolding pattern_of spans_in tokens_in number_of point_of_hex

@@ -89,13 +89,13 @@ pub returns-clause-long_name : goal.returns-clause-long_name
 unfolding with_definition names_on canonical_size all_atoms point_text pattern_of spans_in tokens_in number_of point_of_hex
 returns-clause-long_name c = refl
 
-pub returns-clause-no_place : goal.returns-clause-no_place
+pub returns-clause-no_anchor : goal.returns-clause-no_anchor
 unfolding with_definition names_on canonical_size all_atoms point_text pattern_of spans_in tokens_in number_of point_of_hex
-returns-clause-no_place c = refl
+returns-clause-no_anchor c = refl
 
-pub returns-clause-two_places : goal.returns-clause-two_places
+pub returns-clause-two_anchors : goal.returns-clause-two_anchors
 unfolding with_definition names_on canonical_size all_atoms point_text pattern_of spans_in tokens_in number_of point_of_hex
-returns-clause-two_places c = refl
+returns-clause-two_anchors c = refl
 
 pub returns-clause-no_context : goal.returns-clause-no_context
 unfolding with_definition names_on canonical_size all_atoms point_text pattern_of spans_in tokens_in number_of point_of_hex

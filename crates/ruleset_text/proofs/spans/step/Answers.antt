@@ -23,6 +23,6 @@ returns-in_ok-push-in-Range-Point-clause-rising c =
     let first = c.in-Range-Point.first in
     let last = c.in-Range-Point.last in
     let rising = subst (IsRising spans) c.in-Range-Point.is-0 c.requires in
-    let more : last < least c.behind.result = subst (λ h. last < least h) (sym c.behind.ensures) (omega arith) in
-    subst (λ l. IsRising l c.behind.result) (sym (c.in_ok-push-in-Range-Point.ensures {u = tt}).items)
-    (rising-push spans first last (held.Range first) c.behind.result refl (omega (arith, c.if-first-last.false)) more rising)
+    let more : last < least c.after.result = subst (λ h. last < least h) (sym c.after.ensures) (omega arith) in
+    subst (λ l. IsRising l c.after.result) (sym (c.in_ok-push-in-Range-Point.ensures {u = tt}).items)
+    (rising-push spans first last (held.Range first) c.after.result refl (omega (arith, c.if-first-last.false)) more rising)

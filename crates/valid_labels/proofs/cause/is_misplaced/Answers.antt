@@ -1,7 +1,8 @@
 use Rattle.std.proofs.Common.{◌≡◌, ◌+◌, length, refl, drop, sym, ap, ◌∙◌, arith}
 use Rattle.valid_labels.specs.Tests.{holds_in, is_made_of_sources}
-use Rattle.valid_labels.proofs.CauseLemmas.{holds-test, misplaced-held, misplaced-else, made-test, some-same}
+use Rattle.valid_labels.proofs.CauseLemmas.{holds-test, misplaced-held, misplaced-else, made-test}
 use Rattle.valid_labels.proofs.cause.is_misplaced.Goals as goal
+use Rattle.std.proofs.lemmas.Option.{same_Some}
 
 pub returns-then-holds : goal.returns-then-holds
 returns-then-holds c =
@@ -9,7 +10,7 @@ returns-then-holds c =
     let label = c.args.label.now in
     let place = c.args.place in
     let e = c.args.entry.now in
-    let condition : c.condition.result ≡ e.condition = sym (some-same e.condition c.condition.result c.condition.ensures) in
+    let condition : c.condition.result ≡ e.condition = sym (same_Some e.condition c.condition.result c.condition.ensures) in
     let end : place + length c.source.result.now ≡ place + length e.source = ap (λ s. place + length s) c.source.ensures in
     let l = c.requires.inside in
     let t = holds-test table label c.definitions.result.now c.args.seen.now c.condition.result place (place + length c.source.result.now) c.holds.result c.definitions.ensures.is c.requires.seen (omega (arith, l)) (omega (arith, l, end)) c.holds.ensures in
@@ -22,7 +23,7 @@ returns c =
     let label = c.args.label.now in
     let place = c.args.place in
     let e = c.args.entry.now in
-    let condition : c.condition.result ≡ e.condition = sym (some-same e.condition c.condition.result c.condition.ensures) in
+    let condition : c.condition.result ≡ e.condition = sym (same_Some e.condition c.condition.result c.condition.ensures) in
     let end : place + length c.source.result.now ≡ place + length e.source = ap (λ s. place + length s) c.source.ensures in
     let l = c.requires.inside in
     let t = holds-test table label c.definitions.result.now c.args.seen.now c.condition.result place (place + length c.source.result.now) c.holds.result c.definitions.ensures.is c.requires.seen (omega (arith, l)) (omega (arith, l, end)) c.holds.ensures in

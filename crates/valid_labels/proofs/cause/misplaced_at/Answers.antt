@@ -4,8 +4,9 @@ use Rattle.variant_table.specs.Entries.{Entry}
 use Rattle.variant_table.specs.Places.{AreEntriesAt}
 use Rattle.variant_table.proofs.MemberLemmas.{Contains-head, Contains-later}
 use Rattle.valid_labels.specs.Causes.{is_misplaced, last_misplaced}
-use Rattle.valid_labels.proofs.CauseLemmas.{at-inside, some-same}
+use Rattle.valid_labels.proofs.CauseLemmas.{at-inside}
 use Rattle.valid_labels.proofs.cause.misplaced_at.Goals as goal
+use Rattle.std.proofs.lemmas.Option.{same_Some}
 
 pub is_misplaced-requires-clause-inside : goal.is_misplaced-requires-clause-inside
 is_misplaced-requires-clause-inside c =
@@ -22,7 +23,7 @@ loop-entry-preserved-then-is_misplaced c =
     let e = c.in-Some.entry in
     let rest = c.next.new.self in
     let test : is_misplaced table label place e ≡ true = sym c.is_misplaced.ensures ∙ c.if-is_misplaced.true in
-    let condition : c.condition-found.result ≡ e.condition = sym (some-same e.condition c.condition-found.result c.condition-found.ensures) in
+    let condition : c.condition-found.result ≡ e.condition = sym (same_Some e.condition c.condition-found.result c.condition-found.ensures) in
     record {
       rest = λ f h. c.loop-entry.invariant.rest f (subst (λ (es : List Entry). Contains es f) (sym c.in-Some.ensures.steps) (Contains-later e rest f h));
       found = ap (λ o. last_misplaced table label place o rest) (condition ∙ ap (λ b. cond b e.condition c.loop-entry.found) (sym test))

@@ -2,8 +2,9 @@ use Rattle.std.proofs.Common.{◌≡◌, ℕ, ◌+◌, ◌++◌, ◌∷◌, [], 
 use Rattle.std.proofs.lemmas.List.{map_more, map_push, take_all, append-nil}
 use Rattle.variant_table.specs.Entries.{Entry}
 use Rattle.valid_labels.specs.inner.Pieces.{items_of}
-use Rattle.valid_labels.proofs.LoneLemmas.{IsMost, most-more, most-longest, take-next}
+use Rattle.valid_labels.proofs.LoneLemmas.{IsMost, most-more, most-longest}
 use Rattle.valid_labels.proofs.pieces.longest_piece.Goals as goal
+use Rattle.variant_table.proofs.ListLemmas.{take_next}
 
 pub loop-number-preserved : goal.loop-number-preserved
 loop-number-preserved c =
@@ -11,7 +12,7 @@ loop-number-preserved c =
     let f : Entry → List ℕ = λ e. e.source in
     let n = c.loop-number.number in
     let more : map f (take (n + 1) entries) ≡ map f (take n entries) ++ c.entry.result.source ∷ [] =
-    ap (map f) (take-next entries n c.entry.result c.entry.ensures) ∙ map_push f (take n entries) c.entry.result in
+    ap (map f) (take_next entries n c.entry.result c.entry.ensures) ∙ map_push f (take n entries) c.entry.result in
     let is : IsMost (map f (take n entries) ++ c.entry.result.source ∷ []) c.greater-longest.result =
     subst (IsMost (map f (take n entries) ++ c.entry.result.source ∷ [])) (ap (λ s. max c.loop-number.longest (length s)) (sym c.source.ensures) ∙ sym c.greater-longest.ensures)
     (most-more (map f (take n entries)) c.entry.result.source c.loop-number.longest c.loop-number.invariant) in

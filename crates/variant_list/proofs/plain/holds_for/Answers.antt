@@ -1,4 +1,4 @@
-use Rattle.std.proofs.Common.{◌≡◌, ℕ, ◌+◌, ◌↔◌, List, length, Some, slice_get, sym, ap, ◌∙◌, subst}
+use Rattle.std.proofs.Common.{◌≡◌, ℕ, ◌+◌, ◌↔◌, List, length, sym, ap, ◌∙◌, subst}
 use Rattle.std.specs.Prelude.{IsTrue, Bool, Option}
 use Rattle.std.specs.List.{AllByRecursion}
 use Rattle.label_patterns.specs.declared.condition.Condition.{Condition}

@@ -9,8 +9,8 @@ use Rattle.variant_list.specs.inner.Layouts.{Draft, HasTaken}
 use Rattle.variant_list.specs.Uses.{Use, use_of}
 use Rattle.variant_list.proofs.PlanLemmas.{Contains-at}
 use Rattle.variant_list.proofs.DraftLemmas.{HasTaken-more}
-use Rattle.variant_list.proofs.TakenUses.{take-next}
 use Rattle.variant_list.proofs.uses.add_all.Goals as goal
+use Rattle.variant_table.proofs.ListLemmas.{take_next}
 
 pub add_use-requires-clause-filled : goal.add_use-requires-clause-filled
 add_use-requires-clause-filled c =
@@ -27,7 +27,7 @@ loop-number-preserved c =
     let new : Draft = c.add_use.new.self in
     let at : slice_get (map (use_of e) (replacements e)) i ≡ Some (use_of e r) =
     slice_get-map (use_of e) (replacements e) i ∙ ap (option_map (use_of e)) c.replacement.ensures in
-    let next : take (i + 1) (map (use_of e) (replacements e)) ≡ take i (map (use_of e) (replacements e)) ++ use_of e r ∷ [] = take-next (map (use_of e) (replacements e)) i (use_of e r) at in
+    let next : take (i + 1) (map (use_of e) (replacements e)) ≡ take i (map (use_of e) (replacements e)) ++ use_of e r ∷ [] = take_next (map (use_of e) (replacements e)) i (use_of e r) at in
     let covers : length c.source-covers.result.now ≡ length e.source = ap (λ (s : List ℕ). length s) c.source-covers.ensures in
     let taken : HasTaken old (use_of e r ∷ []) new = subst (λ n. HasTaken old (use_with n r ∷ []) new) covers c.in_ok-add_use.ensures in
     subst (λ us. HasTaken c.args.draft.now us new) (sym next)

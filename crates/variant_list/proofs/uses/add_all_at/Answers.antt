@@ -1,4 +1,4 @@
-use Rattle.std.proofs.Common.{◌≡◌, ℕ, ◌+◌, ◌≤◌, Bool, true, false, List, ◌∷◌, length, refl, sym, ap, subst, ◌∙◌, arith}
+use Rattle.std.proofs.Common.{◌≡◌, ℕ, ◌+◌, ◌≤◌, Bool, true, false, List, ◌∷◌, length, sym, ap, subst, ◌∙◌, arith}
 use Rattle.std.specs.Prelude.{None, not, All}
 use Rattle.std.specs.List.{Contains, filter, flat_map}
 use Rattle.std.proofs.lemmas.List.Elements.{All-contains}
@@ -10,7 +10,7 @@ use Rattle.variant_list.specs.declared.part.Part.{Part}
 use Rattle.variant_list.specs.declared.part.Part.TheVariants.{Whole}
 use Rattle.variant_list.proofs.HeldLemmas.{stands-free, uses-free}
 use Rattle.variant_list.specs.inner.Layouts.{Draft, HasTaken}
-use Rattle.variant_list.specs.Uses.{Use, may_stand, uses_of_entry, uses_at}
+use Rattle.variant_list.specs.Uses.{Use, may_stand, uses_of_entry}
 use Rattle.variant_list.proofs.TakenUses.{HasEntries, HasEntries-more, HasEntries-skip, HasEntries-next, HasEntries-all}
 use Rattle.variant_list.proofs.UsesLemmas.{IsWithin-at}
 use Rattle.variant_list.proofs.uses.add_all_at.Goals as goal

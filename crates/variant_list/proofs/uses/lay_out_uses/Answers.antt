@@ -24,12 +24,12 @@ loop-count-preserved c =
     let new : Draft = c.end_place.new.self in
     let laid : IsLaid (uses_at c.args.uses.now.part table label position ∷ later) new =
     c.in_ok-end_place.ensures.uses later (uses_at c.args.uses.now.part table label position) (c.in_ok-add_at.ensures.uses later [] c.loop-count.invariant.open_place) in
-    let behind : length label - count ≡ suc position = omega (arith, less) in
+    let after : length label - count ≡ suc position = omega (arith, less) in
     let here : position ≡ length label - (count + 1) = omega arith in
     let more : suc count ≡ count + 1 = omega arith in
     subst (λ n. IsLaid (uses_from c.args.uses.now.part table label (length label - (count + 1)) n) new) more
     (subst (λ p. IsLaid (uses_from c.args.uses.now.part table label p (suc count)) new) here
-    (subst (λ p. IsLaid (uses_at c.args.uses.now.part table label position ∷ uses_from c.args.uses.now.part table label p count) new) behind laid))
+    (subst (λ p. IsLaid (uses_at c.args.uses.now.part table label position ∷ uses_from c.args.uses.now.part table label p count) new) after laid))
 
 pub returns : goal.returns
 returns c =

@@ -5,4 +5,4 @@ use Rattle.variant_table.proofs.entries.take_unblocked.Given as goal
 
 -- the source and the variants so far that are not blocked
 abbrev pub invariant-loop-number : goal.invariant-loop-number
-invariant-loop-number l = l.sequences ≡ source_of l.entry ∷ filter (λ v. not v.blocked) (take (l.number - 1) l.entry.variants)
+invariant-loop-number l = l.sequences ≡ source_of l.entry ∷ filter (λ v. not v.marked) (take (l.number - 1) l.entry.variants)

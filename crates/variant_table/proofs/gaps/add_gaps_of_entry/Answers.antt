@@ -10,7 +10,7 @@ use Rattle.variant_table.proofs.gaps.add_gaps_of_entry.Goals as goal
 pub loop-number-preserved : goal.loop-number-preserved
 loop-number-preserved c =
     let e : Entry = c.args.entry.now in
-    let t : List Entry = c.args.rows.now in
+    let t : List Entry = c.args.entries.now in
     let n : ℕ = c.loop-number.number in
     let v : List ℕ = c.replacement.result.now in
     let old : List (List ℕ × List ℕ) = pairs_of c.args.gaps.now.keys in

@@ -6,4 +6,4 @@ use Rattle.variant_table.proofs.gaps.add_gaps_of_entry.Given as goal
 
 -- what the variants so far ask for
 abbrev pub invariant-loop-number : goal.invariant-loop-number
-invariant-loop-number l = pairs_of l.gaps.keys ≡ inserted (pairs_of l.fn.gaps.keys) (flat_map (gaps_through l.rows l.entry) (take (l.number - 1) (sequences_in l.entry.variants)))
+invariant-loop-number l = pairs_of l.gaps.keys ≡ inserted (pairs_of l.fn.gaps.keys) (flat_map (gaps_through l.entries l.entry) (take (l.number - 1) (sequences_in l.entry.variants)))

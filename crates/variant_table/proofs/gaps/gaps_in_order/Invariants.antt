@@ -5,4 +5,4 @@ use Rattle.variant_table.proofs.gaps.gaps_in_order.Given as goal
 
 -- the gaps that the entries so far ask for
 abbrev pub invariant-loop-number : goal.invariant-loop-number
-invariant-loop-number l = pairs_of l.gaps.keys ≡ inserted [] (flat_map (gaps_of_entry l.rows) (take l.number l.rows))
+invariant-loop-number l = pairs_of l.gaps.keys ≡ inserted [] (flat_map (gaps_of_entry l.entries) (take l.number l.entries))

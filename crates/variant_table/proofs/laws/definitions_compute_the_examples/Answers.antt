@@ -9,7 +9,7 @@ use Rattle.variant_table.specs.Reading.{◌>>=◌, in_line, table_of_lines, with
 use Rattle.variant_table.proofs.ExampleLemmas.{letter, with_form-capital, with_form-own_variant, with_form-letter, with_form-letter_again}
 use Rattle.variant_table.proofs.laws.definitions_compute_the_examples.Goals as goal
 use Rattle.ruleset_text.specs.Canonical.{point_text}
-use Rattle.ruleset_text.specs.inner.EntrySteps.{entry_in}
+use Rattle.ruleset_text.specs.EntrySteps.{entry_in}
 
 pub returns-clause-read : goal.returns-clause-read
 unfolding point_of_hex point_text entry_in table_of_lines with_lines with_raw_line with_line with_form with_entries
@@ -63,7 +63,7 @@ returns-clause-places c = refl
 abbrev read : ℕ → TableValue → Result (List Entry) LineFault → Result TableValue (ℕ × LineFault)
 read number t r = in_line number (r >>= λ all. Ok (record t { entries = all })) >>= λ u. Ok u
 
--- what a line of this number gives, with a last line behind it, which comes after so many bytes
+-- what a line of this number gives, with a last line after it, which comes after so many bytes
 abbrev then : ℕ → ℕ → List ℕ → Result (List Entry) LineFault → Result TableValue (ℕ × LineFault)
 then number bytes line r = in_line number (r >>= λ all. Ok (table_of One nothing_defined all)) >>= λ t. in_line (number + 1) (with_raw_line bytes t line) >>= λ u. Ok u
 

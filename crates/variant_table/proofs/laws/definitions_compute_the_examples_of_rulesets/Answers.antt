@@ -10,7 +10,7 @@ use Rattle.ruleset_text.specs.Tokens.{tokens_in}
 use Rattle.variant_table.specs.Reading.{table_of_lines, with_definition, with_lines, with_raw_line, with_line, with_form, with_entries}
 use Rattle.variant_table.proofs.laws.definitions_compute_the_examples_of_rulesets.Goals as goal
 use Rattle.ruleset_text.specs.Canonical.{point_text}
-use Rattle.ruleset_text.specs.inner.EntrySteps.{entry_in}
+use Rattle.ruleset_text.specs.EntrySteps.{entry_in}
 
 pub returns-clause-empty : goal.returns-clause-empty
 unfolding point_of_hex point_text entry_in table_of_lines with_lines with_raw_line with_line with_form with_entries

@@ -10,7 +10,7 @@ use Rattle.variant_table.specs.Reading.{◌>>=◌, in_line, table_of_lines, with
 use Rattle.variant_table.proofs.ExampleLemmas.{three, with_form-range, with_form-blocked, with_form-marked_twice, with_form-from_capital, with_form-b, with_form-b_again}
 use Rattle.variant_table.proofs.laws.definitions_compute_the_examples_of_version_2.Goals as goal
 use Rattle.ruleset_text.specs.Canonical.{point_text}
-use Rattle.ruleset_text.specs.inner.EntrySteps.{entry_in}
+use Rattle.ruleset_text.specs.EntrySteps.{entry_in}
 
 pub returns-clause-written : goal.returns-clause-written
 unfolding point_of_hex point_text entry_in table_of_lines with_lines with_raw_line with_line with_form with_entries
@@ -56,7 +56,7 @@ returns-clause-limit c = refl
 abbrev read : ℕ → TableValue → Result (List Entry) LineFault → Result TableValue (ℕ × LineFault)
 read number t r = in_line number (r >>= λ all. Ok (record t { entries = all })) >>= λ u. Ok u
 
--- what a line of this number gives, with a last line behind it, which comes after so many bytes
+-- what a line of this number gives, with a last line after it, which comes after so many bytes
 abbrev then : ℕ → ℕ → List ℕ → Result (List Entry) LineFault → Result TableValue (ℕ × LineFault)
 then number bytes line r = in_line number (r >>= λ all. Ok (table_of Two nothing_defined all)) >>= λ t. in_line (number + 1) (with_raw_line bytes t line) >>= λ u. Ok u
 

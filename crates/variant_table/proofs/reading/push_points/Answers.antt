@@ -13,17 +13,17 @@ pub returns-in_err-push-2 : goal.returns-in_err-push-2
 returns-in_err-push-2 c =
     let first : ℕ = c.args.first in
     let v : Variant = source_of (entry_from c.args.range.now) in
-    let w : Variant = record { sequence = (first + c.loop-offset.offset) ∷ []; blocked = c.is_blocked.result; tags = c.tags.result.now; condition = c.condition.result } in
+    let w : Variant = record { sequence = (first + c.loop-offset.offset) ∷ []; marked = c.is_marked.result; tags = c.tags.result.now; condition = c.condition.result } in
     let here : w ≡ record v { sequence = (first + c.loop-offset.offset) ∷ [] } =
-    of_source c.args.range.now ((first + c.loop-offset.offset) ∷ []) c.is_blocked.result c.tags.result.now c.condition.result c.is_blocked.ensures c.tags.ensures.tags c.condition.ensures in
+    of_source c.args.range.now ((first + c.loop-offset.offset) ∷ []) c.is_marked.result c.tags.result.now c.condition.result c.is_marked.ensures c.tags.ensures.tags c.condition.ensures in
     let i : ℕ = c.loop-offset.offset in
-    let t : List Entry = c.loop-offset.rows in
+    let t : List Entry = c.loop-offset.entries in
     let e : Entry = entry_in_range v (first + i) in
     let fault = c.in_err-push-2.field-0.0 in
     let rest : List Entry = points_from v (first + (i + 1)) (c.args.count - (i + 1)) in
     let is : entry_from c.push.new.self ≡ e = ap entry_from (c.in_ok-push.ensures.ok ∙ ap (λ ss. ss ++ w ∷ []) c.clear.ensures ∙ ap (λ x. x ∷ []) here) in
     let failed : Fails c.args.number fault (with_new_source t e) = subst (λ x. Fails c.args.number fault (with_new_source t x)) is c.in_err-push-2.ensures.read in
-    let fails : Fails c.args.number fault (with_new_sources c.args.rows.now (points_from v first c.args.count)) =
+    let fails : Fails c.args.number fault (with_new_sources c.args.entries.now (points_from v first c.args.count)) =
     subst (Fails c.args.number fault) (sym (ap (with_new_sources t) (points_next v first c.args.count i c.loop-offset-test.true)) ∙ c.loop-offset.invariant.same) (fails_then c.args.number fault (with_new_source t e) (λ x. with_new_sources x rest) failed) in
     search rules
 
@@ -31,11 +31,11 @@ pub loop-offset-preserved : goal.loop-offset-preserved
 loop-offset-preserved c =
     let first : ℕ = c.args.first in
     let v : Variant = source_of (entry_from c.args.range.now) in
-    let w : Variant = record { sequence = (first + c.loop-offset.offset) ∷ []; blocked = c.is_blocked.result; tags = c.tags.result.now; condition = c.condition.result } in
+    let w : Variant = record { sequence = (first + c.loop-offset.offset) ∷ []; marked = c.is_marked.result; tags = c.tags.result.now; condition = c.condition.result } in
     let here : w ≡ record v { sequence = (first + c.loop-offset.offset) ∷ [] } =
-    of_source c.args.range.now ((first + c.loop-offset.offset) ∷ []) c.is_blocked.result c.tags.result.now c.condition.result c.is_blocked.ensures c.tags.ensures.tags c.condition.ensures in
+    of_source c.args.range.now ((first + c.loop-offset.offset) ∷ []) c.is_marked.result c.tags.result.now c.condition.result c.is_marked.ensures c.tags.ensures.tags c.condition.ensures in
     let i : ℕ = c.loop-offset.offset in
-    let t : List Entry = c.loop-offset.rows in
+    let t : List Entry = c.loop-offset.entries in
     let t' : List Entry = c.push-in-loop-offset.new.self in
     let e : Entry = entry_in_range v (first + i) in
     let rest : List Entry = points_from v (first + (i + 1)) (c.args.count - (i + 1)) in

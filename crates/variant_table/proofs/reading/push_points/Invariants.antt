@@ -7,6 +7,6 @@ use Rattle.variant_table.proofs.reading.push_points.Given as goal
 -- the entries that are left are added to those so far
 abbrev pub invariant-loop-offset : goal.invariant-loop-offset
 invariant-loop-offset l = record {
-  same : with_new_sources l.rows (points_from (source_of (entry_from l.range)) (l.first + l.offset) (l.count - l.offset)) ≡ with_new_sources l.fn.rows (points_from (source_of (entry_from l.range)) l.first l.count);
-  room : length l.rows + (l.count - l.offset) ≤ 65536;
+  same : with_new_sources l.entries (points_from (source_of (entry_from l.range)) (l.first + l.offset) (l.count - l.offset)) ≡ with_new_sources l.fn.entries (points_from (source_of (entry_from l.range)) l.first l.count);
+  room : length l.entries + (l.count - l.offset) ≤ 65536;
 }

@@ -1,16 +1,11 @@
-use Rattle.std.proofs.Common.{◌≡◌, ◌↔◌, Bool, true, false, IsTrue, Option, Some, None, if◌then◌else◌, refl, ap, sym, ◌∙◌}
+use Rattle.std.proofs.Common.{◌≡◌, ◌↔◌, Bool, true, false, IsTrue, Option, Some, None, if◌then◌else◌, ap, sym, ◌∙◌}
 use Rattle.variant_table.specs.Entries.{TableValue}
 use Rattle.valid_labels.specs.Tests.{asks_nothing}
 use Rattle.valid_labels.specs.Validity.{AsksNothing}
 use Rattle.valid_labels.proofs.TestLemmas.{tests-agree}
 use Rattle.idn2_cli.specs.inner.Ruling.{ruling_of}
 use Rattle.idn2_cli.proofs.modes.admission.ruling_of_table.Goals as goal
-
--- two tests of one fact
-same_test : (a b : Bool) → (a ≡ true → b ≡ true) → (b ≡ true → a ≡ true) → a ≡ b
-same_test true b there back = sym (there refl)
-same_test false true there back = back refl
-same_test false false there back = refl
+use Rattle.idn_class.proofs.TestLemmas.{same_test}
 
 -- what is ruled by, where it is known whether anything is asked
 ruled : (table : TableValue) (b told : Bool) → IsTrue b ↔ AsksNothing table → b ≡ told → (let r : Option TableValue = if told then None else Some table in r) ≡ ruling_of table

@@ -8,7 +8,7 @@ use Rattle.variant_list.specs.declared.cursor.Outcome.TheVariants as outcome
 use Rattle.idn2_cli.specs.inner.KeptLines.{IsBegun}
 use Rattle.std.proofs.lemmas.Result.{err_from_is_err_and}
 use Rattle.variant_list.proofs.CallAnswers.{not_ok}
-use Rattle.variant_list.specs.Positions.{Built, Position, tested_ahead}
+use Rattle.variant_list.specs.Positions.{Position, tested_ahead}
 use Rattle.variant_list.specs.Steps.{Decides, SeeksOver, moved_over}
 use Rattle.variant_list.specs.Stepping.{StepsTo}
 use Rattle.idn_label.specs.Memory.{NeedsNoMemory}
@@ -80,22 +80,22 @@ variants-init g c = record {
 pub write_stop-requires-clause-scalar_values : goal.write_stop-requires-clause-scalar_values
 write_stop-requires-clause-scalar_values g c =
     (subst IsWritable (sym c.last.ensures.value)
-    (spent-writable (filter_by (ruling_in c.args.validity)) (said_text c.args.asked.now.form (asked_line c.args.asked.now)) (field_by c.args.dispositions.now) _ _ _ _ c.variants.cursor c.seek.new.self c.variants.count c.variants.tries c.seek.new.tries c.variants.steps c.seek.new.steps c.requires.spelled c.variants.invariant.listing (spent-from (filter_by (ruling_in c.args.validity)) c.variants.cursor c.seek.new.self c.variants.tries c.seek.new.tries c.variants.steps c.seek.new.steps c.seek.result c.in_ok-seek.field-0 c.in_ok-seek.was (decided_by (filter_by (ruling_in c.variants.judge.validity)) (filter_by (ruling_in c.args.validity)) c.variants.cursor c.variants.tries c.seek.new.tries c.seek.result c.variants.invariant.same_filter c.seek.ensures.decided) (moves_by (filter_by (ruling_in c.variants.judge.validity)) (filter_by (ruling_in c.args.validity)) (c.variants.tries - c.seek.new.tries) c.seek.result c.variants.cursor c.seek.new.self c.variants.invariant.same_filter c.seek.ensures.moves) (steps_by (filter_by (ruling_in c.variants.judge.validity)) (filter_by (ruling_in c.args.validity)) c.variants.cursor c.seek.new.self c.variants.steps c.seek.new.steps c.seek.result c.variants.invariant.same_filter c.seek.ensures.steps) c.in-Spent.is))).scalar_values
+    (spent-writable (filter_by (ruling_in c.args.validity)) (said_text c.args.asked.now.form (asked_line c.args.asked.now)) (field_by c.args.dispositions.now) _ _ _ _ c.variants.cursor c.seek.new.self c.variants.count c.variants.tries c.seek.new.tries c.variants.steps c.seek.new.steps c.requires.spelled c.variants.invariant.listing (spent-from (filter_by (ruling_in c.args.validity)) c.variants.cursor c.seek.new.self c.variants.tries c.seek.new.tries c.variants.steps c.seek.new.steps c.seek.result c.in_ok-seek.field-0 c.in_ok-seek.was (decided_by (filter_by (ruling_in c.variants.judge.validity)) (filter_by (ruling_in c.args.validity)) c.variants.cursor c.variants.tries c.seek.new.tries c.seek.result c.variants.invariant.same_filter c.seek.ensures.decided) (moves_by (filter_by (ruling_in c.variants.judge.validity)) (filter_by (ruling_in c.args.validity)) (c.variants.tries - c.seek.new.tries) c.seek.result c.variants.cursor c.seek.new.self c.variants.invariant.same_filter c.seek.ensures.moves) (steps_by (filter_by (ruling_in c.variants.judge.validity)) (filter_by (ruling_in c.args.validity)) c.variants.cursor c.seek.new.self c.variants.steps c.seek.new.steps c.seek.result c.variants.invariant.same_filter c.seek.ensures.steps) c.in-OutOfTries.is))).scalar_values
 
-pub write_stop-requires-in-Halted-clause-scalar_values : goal.write_stop-requires-in-Halted-clause-scalar_values
-write_stop-requires-in-Halted-clause-scalar_values g c =
-    (subst IsWritable (sym c.last-in-Halted.ensures.value)
-    (halted-writable (filter_by (ruling_in c.args.validity)) (said_text c.args.asked.now.form (asked_line c.args.asked.now)) (field_by c.args.dispositions.now) _ _ _ _ c.variants.cursor c.seek.new.self c.variants.count c.variants.tries c.seek.new.tries c.variants.steps c.seek.new.steps c.requires.spelled c.variants.invariant.listing (halted-from (filter_by (ruling_in c.args.validity)) c.variants.cursor c.seek.new.self c.variants.tries c.seek.new.tries c.variants.steps c.seek.new.steps c.seek.result c.in_ok-seek.field-0 c.in_ok-seek.was (decided_by (filter_by (ruling_in c.variants.judge.validity)) (filter_by (ruling_in c.args.validity)) c.variants.cursor c.variants.tries c.seek.new.tries c.seek.result c.variants.invariant.same_filter c.seek.ensures.decided) (moves_by (filter_by (ruling_in c.variants.judge.validity)) (filter_by (ruling_in c.args.validity)) (c.variants.tries - c.seek.new.tries) c.seek.result c.variants.cursor c.seek.new.self c.variants.invariant.same_filter c.seek.ensures.moves) (steps_by (filter_by (ruling_in c.variants.judge.validity)) (filter_by (ruling_in c.args.validity)) c.variants.cursor c.seek.new.self c.variants.steps c.seek.new.steps c.seek.result c.variants.invariant.same_filter c.seek.ensures.steps) c.in-Halted.is))).scalar_values
+pub write_stop-requires-in-OutOfSteps-clause-scalar_values : goal.write_stop-requires-in-OutOfSteps-clause-scalar_values
+write_stop-requires-in-OutOfSteps-clause-scalar_values g c =
+    (subst IsWritable (sym c.last-in-OutOfSteps.ensures.value)
+    (halted-writable (filter_by (ruling_in c.args.validity)) (said_text c.args.asked.now.form (asked_line c.args.asked.now)) (field_by c.args.dispositions.now) _ _ _ _ c.variants.cursor c.seek.new.self c.variants.count c.variants.tries c.seek.new.tries c.variants.steps c.seek.new.steps c.requires.spelled c.variants.invariant.listing (halted-from (filter_by (ruling_in c.args.validity)) c.variants.cursor c.seek.new.self c.variants.tries c.seek.new.tries c.variants.steps c.seek.new.steps c.seek.result c.in_ok-seek.field-0 c.in_ok-seek.was (decided_by (filter_by (ruling_in c.variants.judge.validity)) (filter_by (ruling_in c.args.validity)) c.variants.cursor c.variants.tries c.seek.new.tries c.seek.result c.variants.invariant.same_filter c.seek.ensures.decided) (moves_by (filter_by (ruling_in c.variants.judge.validity)) (filter_by (ruling_in c.args.validity)) (c.variants.tries - c.seek.new.tries) c.seek.result c.variants.cursor c.seek.new.self c.variants.invariant.same_filter c.seek.ensures.moves) (steps_by (filter_by (ruling_in c.variants.judge.validity)) (filter_by (ruling_in c.args.validity)) c.variants.cursor c.seek.new.self c.variants.steps c.seek.new.steps c.seek.result c.variants.invariant.same_filter c.seek.ensures.steps) c.in-OutOfSteps.is))).scalar_values
 
-pub returns-in-Spent-clause-written : goal.returns-in-Spent-clause-written
-returns-in-Spent-clause-written g c =
-    let spent = spent-from (filter_by (ruling_in c.args.validity)) c.variants.cursor c.seek.new.self c.variants.tries c.seek.new.tries c.variants.steps c.seek.new.steps c.seek.result c.in_ok-seek.field-0 c.in_ok-seek.was (decided_by (filter_by (ruling_in c.variants.judge.validity)) (filter_by (ruling_in c.args.validity)) c.variants.cursor c.variants.tries c.seek.new.tries c.seek.result c.variants.invariant.same_filter c.seek.ensures.decided) (moves_by (filter_by (ruling_in c.variants.judge.validity)) (filter_by (ruling_in c.args.validity)) (c.variants.tries - c.seek.new.tries) c.seek.result c.variants.cursor c.seek.new.self c.variants.invariant.same_filter c.seek.ensures.moves) (steps_by (filter_by (ruling_in c.variants.judge.validity)) (filter_by (ruling_in c.args.validity)) c.variants.cursor c.seek.new.self c.variants.steps c.seek.new.steps c.seek.result c.variants.invariant.same_filter c.seek.ensures.steps) c.in-Spent.is in
+pub returns-in-OutOfTries-clause-written : goal.returns-in-OutOfTries-clause-written
+returns-in-OutOfTries-clause-written g c =
+    let spent = spent-from (filter_by (ruling_in c.args.validity)) c.variants.cursor c.seek.new.self c.variants.tries c.seek.new.tries c.variants.steps c.seek.new.steps c.seek.result c.in_ok-seek.field-0 c.in_ok-seek.was (decided_by (filter_by (ruling_in c.variants.judge.validity)) (filter_by (ruling_in c.args.validity)) c.variants.cursor c.variants.tries c.seek.new.tries c.seek.result c.variants.invariant.same_filter c.seek.ensures.decided) (moves_by (filter_by (ruling_in c.variants.judge.validity)) (filter_by (ruling_in c.args.validity)) (c.variants.tries - c.seek.new.tries) c.seek.result c.variants.cursor c.seek.new.self c.variants.invariant.same_filter c.seek.ensures.moves) (steps_by (filter_by (ruling_in c.variants.judge.validity)) (filter_by (ruling_in c.args.validity)) c.variants.cursor c.seek.new.self c.variants.steps c.seek.new.steps c.seek.result c.variants.invariant.same_filter c.seek.ensures.steps) c.in-OutOfTries.is in
     listing-spent (filter_by (ruling_in c.args.validity)) (said_text c.args.asked.now.form (asked_line c.args.asked.now)) (field_by c.args.dispositions.now) _ _ _ _ _ c.variants.cursor c.seek.new.self c.variants.count c.variants.tries c.seek.new.tries c.variants.steps c.seek.new.steps c.last.result.now c.write_stop.result c.variants.invariant.listing spent c.last.ensures.value c.write_stop.ensures.written
 
-pub returns-in-Halted-clause-written : goal.returns-in-Halted-clause-written
-returns-in-Halted-clause-written g c =
-    let halted = halted-from (filter_by (ruling_in c.args.validity)) c.variants.cursor c.seek.new.self c.variants.tries c.seek.new.tries c.variants.steps c.seek.new.steps c.seek.result c.in_ok-seek.field-0 c.in_ok-seek.was (decided_by (filter_by (ruling_in c.variants.judge.validity)) (filter_by (ruling_in c.args.validity)) c.variants.cursor c.variants.tries c.seek.new.tries c.seek.result c.variants.invariant.same_filter c.seek.ensures.decided) (moves_by (filter_by (ruling_in c.variants.judge.validity)) (filter_by (ruling_in c.args.validity)) (c.variants.tries - c.seek.new.tries) c.seek.result c.variants.cursor c.seek.new.self c.variants.invariant.same_filter c.seek.ensures.moves) (steps_by (filter_by (ruling_in c.variants.judge.validity)) (filter_by (ruling_in c.args.validity)) c.variants.cursor c.seek.new.self c.variants.steps c.seek.new.steps c.seek.result c.variants.invariant.same_filter c.seek.ensures.steps) c.in-Halted.is in
-    listing-halted (filter_by (ruling_in c.args.validity)) (said_text c.args.asked.now.form (asked_line c.args.asked.now)) (field_by c.args.dispositions.now) _ _ _ _ _ c.variants.cursor c.seek.new.self c.variants.count c.variants.tries c.seek.new.tries c.variants.steps c.seek.new.steps c.last-in-Halted.result.now c.write_stop-in-Halted.result c.variants.invariant.listing halted c.last-in-Halted.ensures.value c.write_stop-in-Halted.ensures.written
+pub returns-in-OutOfSteps-clause-written : goal.returns-in-OutOfSteps-clause-written
+returns-in-OutOfSteps-clause-written g c =
+    let halted = halted-from (filter_by (ruling_in c.args.validity)) c.variants.cursor c.seek.new.self c.variants.tries c.seek.new.tries c.variants.steps c.seek.new.steps c.seek.result c.in_ok-seek.field-0 c.in_ok-seek.was (decided_by (filter_by (ruling_in c.variants.judge.validity)) (filter_by (ruling_in c.args.validity)) c.variants.cursor c.variants.tries c.seek.new.tries c.seek.result c.variants.invariant.same_filter c.seek.ensures.decided) (moves_by (filter_by (ruling_in c.variants.judge.validity)) (filter_by (ruling_in c.args.validity)) (c.variants.tries - c.seek.new.tries) c.seek.result c.variants.cursor c.seek.new.self c.variants.invariant.same_filter c.seek.ensures.moves) (steps_by (filter_by (ruling_in c.variants.judge.validity)) (filter_by (ruling_in c.args.validity)) c.variants.cursor c.seek.new.self c.variants.steps c.seek.new.steps c.seek.result c.variants.invariant.same_filter c.seek.ensures.steps) c.in-OutOfSteps.is in
+    listing-halted (filter_by (ruling_in c.args.validity)) (said_text c.args.asked.now.form (asked_line c.args.asked.now)) (field_by c.args.dispositions.now) _ _ _ _ _ c.variants.cursor c.seek.new.self c.variants.count c.variants.tries c.seek.new.tries c.variants.steps c.seek.new.steps c.last-in-OutOfSteps.result.now c.write_stop-in-OutOfSteps.result c.variants.invariant.listing halted c.last-in-OutOfSteps.ensures.value c.write_stop-in-OutOfSteps.ensures.written
 
 pub returns-in-Ended-clause-written : goal.returns-in-Ended-clause-written
 returns-in-Ended-clause-written g c =

@@ -6,8 +6,8 @@ use Rattle.idn2_cli.specs.Said.{variant_line}
 use Rattle.idn2_cli.specs.Transcript.{Output}
 use Rattle.idn2_cli.specs.inner.Emitting.{Emits}
 use Rattle.idn_text.proofs.Utf8Lemmas.{length-utf8_of-le}
+use Rattle.idn_label.proofs.ALabels.{registrable_scalars}
 use Rattle.idn_label.proofs.RequirementLemmas.{MeetsRequirements-registrable}
-use Rattle.idn2_cli.proofs.DecodedLemmas.{registrable-scalar}
 use Rattle.idn2_cli.proofs.modes.block.write_variant_line.Goals.{then-not-is_empty, else-not-is_empty}
 use Rattle.idn2_cli.proofs.modes.block.write_variant_line.Goals as goal
 
@@ -15,7 +15,7 @@ pub begin-requires-clause-short : goal.begin-requires-clause-short
 begin-requires-clause-short g c = (MeetsRequirements-registrable c.args.label.now c.requires.registrable).points
 
 pub begin-requires-clause-scalar_values : goal.begin-requires-clause-scalar_values
-begin-requires-clause-scalar_values g c = registrable-scalar c.args.label.now c.requires.registrable
+begin-requires-clause-scalar_values g c = registrable_scalars c.args.label.now c.requires.registrable
 
 pub append-requires : goal.append-requires
 append-requires g c =

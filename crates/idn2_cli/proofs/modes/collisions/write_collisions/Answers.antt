@@ -16,7 +16,6 @@ use Rattle.idn2_cli.specs.inner.Allocations.{Allowed}
 use Rattle.idn2_cli.specs.inner.Dispositions.{field_by}
 use Rattle.idn2_cli.specs.inner.KeptLines.{IsBegun}
 use Rattle.idn2_cli.specs.declared.modes.dispositions.Dispositions.{Dispositions}
-use Rattle.variant_list.specs.Positions.{Built}
 use Rattle.idn2_cli.specs.inner.LineAnswers.{reaches}
 use Rattle.idn2_cli.specs.Transcript.{Output}
 use Rattle.idn2_cli.proofs.WrittenPieces.{stops_first, emits_as, writes_as}

@@ -2,10 +2,10 @@ use Rattle.std.proofs.Common.{◌≡◌, ◌≤◌, ◌∙◌, ℕ, List, Bool, 
 use Rattle.idna.specs.Validity.{has_ace_prefix}
 use Rattle.idn_text.specs.Points.{utf8_of}
 use Rattle.idn_text.proofs.Utf8Lemmas.{IsUtf8-from_points}
+use Rattle.idn_label.proofs.ALabels.{registrable_scalars}
 use Rattle.idn_label.proofs.AnswerLemmas.{u_label_answer-from}
 use Rattle.idn_label.specs.Register.{register_utf8_answer}
 use Rattle.idn2_cli.specs.Answers.{u_label_of}
-use Rattle.idn2_cli.proofs.DecodedLemmas.{registrable-scalar}
 use Rattle.idn2_cli.proofs.RegisteredLines.{is_registered, prefix_by_octets, registered-points, registered-registrable, registered-utf8, registrable-octets, stands_for-decoded, stands_for-itself}
 use Rattle.idn2_cli.proofs.modes.register.reply_object.Goals as goal
 
@@ -25,7 +25,7 @@ pub reply_decoded-requires-clause-scalar_values : goal.reply_decoded-requires-cl
 reply_decoded-requires-clause-scalar_values g c =
     let text = c.args.asked.text.now in
     let prefixed = by_octets text c.args.a_label.now c.requires.registered true (sym c.has_ace_prefix.ensures ∙ c.if-has_ace_prefix.true) in
-    registrable-scalar c.args.u_label.now (u_label_answer-from (chars text) c.args.u_label.now (c.requires.u_label prefixed)).0
+    registrable_scalars c.args.u_label.now (u_label_answer-from (chars text) c.args.u_label.now (c.requires.u_label prefixed)).0
 
 pub returns-then-has_ace_prefix-clause-written : goal.returns-then-has_ace_prefix-clause-written
 returns-then-has_ace_prefix-clause-written g c =

@@ -12,8 +12,8 @@ overlapped name first end some few within is =
     let eight = length-take-le 8 name (omega arith) in
     let front = take-append-le from (take 8 name) (replicate 8 97) (omega (arith, eight)) ∙ take-take from 8 name (omega arith) in
     let count : from + (end - from) ≡ length (take 8 name) + from = omega (arith, eight) in
-    let behind = drop-append-add (take 8 name) (replicate 8 97) from ∙ drop-replicate from 8 97 ∙ ap (λ n. replicate n 97) (let e : 8 - from ≡ 16 - end = omega arith in e) in
-    ap₂ (λ a b. a ++ (slice_range name from end ++ b)) (ap (take from) is ∙ front) (drop-drop (end - from) from first ∙ ap₂ drop count is ∙ behind)
+    let after = drop-append-add (take 8 name) (replicate 8 97) from ∙ drop-replicate from 8 97 ∙ ap (λ n. replicate n 97) (let e : 8 - from ≡ 16 - end = omega arith in e) in
+    ap₂ (λ a b. a ++ (slice_range name from end ++ b)) (ap (take from) is ∙ front) (drop-drop (end - from) from first ∙ ap₂ drop count is ∙ after)
     ∙ sym (append_assoc (take from name) (slice_range name from end) (replicate (16 - end) 97))
     ∙ ap (λ x. x ++ replicate (16 - end) 97) (take-slice_range name from end (omega arith))
 

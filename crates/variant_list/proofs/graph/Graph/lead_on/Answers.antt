@@ -37,7 +37,7 @@ loop-place-preserved c =
     let same = c.loop-place.invariant.row in
     let has : Holds old c.args.row place = (led.others c.args.row place c.requires.apart).0 (subst (λ r. Holds now r place) same c.in-Some.ensures.found.0) in
     let from = c.in-Some.ensures.found.1 in
-    let behind = c.in-Some.ensures.ahead.0 in
+    let moved = c.in-Some.ensures.ahead.0 in
     let below : place < length net.rests = c.requires.inside place has in
     let up = c.places-places.ensures.is_net.laid_out.rising next place from (omega (arith, below)) in
     let passed = IsLed-skip net old c.args.row c.args.into c.args.least c.args.within c.places-places.ensures.is_net now next place c.loop-place.found from (omega (arith, below))
@@ -50,10 +50,10 @@ loop-place-preserved c =
       ahead = IsAhead-same now new c.next_place.new.ahead c.follow-found.ensures.size
           (λ p. subst (λ r. Holds new r p ↔ Holds now r p) (sym row) (same_row p)) c.in-Some.ensures.ahead.1;
       row = row;
-      inside = omega (arith, below, behind);
-      led = subst (λ n. IsLed net old new c.args.row c.args.into (slice_index net.starts n) c.args.least c.args.within c.follow-found.result) (sym behind) after;
+      inside = omega (arith, below, moved);
+      led = subst (λ n. IsLed net old new c.args.row c.args.into (slice_index net.starts n) c.args.least c.args.within c.follow-found.result) (sym moved) after;
       size = c.follow-found.ensures.size ∙ c.loop-place.invariant.size;
-      looks = subst (λ n. c.follow-found.new.looks ≤ c.args.looks.now + slice_index net.starts n) (sym behind) (omega (arith, c.follow-found.ensures.looks, c.loop-place.invariant.looks, up));
+      looks = subst (λ n. c.follow-found.new.looks ≤ c.args.looks.now + slice_index net.starts n) (sym moved) (omega (arith, c.follow-found.ensures.looks, c.loop-place.invariant.looks, up));
     }
 
 -- all places of the row were looked at

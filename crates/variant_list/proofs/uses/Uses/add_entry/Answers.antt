@@ -5,7 +5,7 @@ use Rattle.std.proofs.lemmas.List.Elements.{All-contains}
 use Rattle.variant_table.specs.Entries.{Entry, Variant, replacements}
 use Rattle.variant_table.specs.WellFormed.{IsSequence}
 use Rattle.variant_list.specs.inner.Layouts.{Draft, HasTaken}
-use Rattle.variant_list.specs.Parts.{marked}
+use Rattle.variant_list.specs.Parts.{full_replacements}
 use Rattle.variant_list.specs.Uses.{Use, may_replace}
 use Rattle.variant_list.proofs.PlanLemmas.{Contains-at}
 use Rattle.variant_list.proofs.DraftLemmas.{HasTaken-none}
@@ -28,7 +28,7 @@ loop-number-preserved c =
     let mid : Draft = c.loop-number.draft in
     let inside : i < length (replacements e) = omega (arith, c.loop-number-test.true, c.replacements-number-end.ensures) in
     let covers : length c.source-covers.result.now ≡ length e.source = ap (λ (s : List ℕ). length s) c.source-covers.ensures in
-    let told : slice_get (map test (marked e)) i ≡ Some c.may_replace.result = c.may_replace.ensures in
+    let told : slice_get (map test (full_replacements e)) i ≡ Some c.may_replace.result = c.may_replace.ensures in
     elim c.if-may_replace.branch [
       | then-may_replace+in_ok-add_use w ↦
           (let made : ℕ → Use = λ (n : ℕ). record { covers = n; points = w.replacement.result.now } in

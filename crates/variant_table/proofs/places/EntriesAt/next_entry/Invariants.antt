@@ -4,7 +4,7 @@ use Rattle.variant_table.proofs.places.EntriesAt.next_entry.Given as goal
 
 abbrev pub invariant-loop-self : goal.invariant-loop-self
 invariant-loop-self l = record {
-  same : entries_longer l.self-inside.rows.now l.self-inside.label.now l.self-inside.place l.self-inside.len ≡ l.fn.self;
+  same : entries_longer l.self-inside.entries.now l.self-inside.label.now l.self-inside.place l.self-inside.len ≡ l.fn.self;
   within : l.self-inside.place ≤ length l.self-inside.label.now;
   limited : l.self-inside.len ≤ 8;
 }

@@ -9,27 +9,27 @@ use Rattle.variant_table.proofs.reading.Reader.add_definition.Goals as goal
 
 pub overflow_add-room : goal.overflow_add-room
 overflow_add-room c =
-    let within = room_within c.args.self.now.version c.args.self.now.definitions c.args.self.now.rows c.args.self.now.left c.canonical_len.result c.requires.ruleset c.requires.counted c.canonical_len.ensures.size in
+    let within = room_within c.args.self.now.version c.args.self.now.definitions c.args.self.now.entries c.args.self.now.left c.canonical_len.result c.requires.ruleset c.requires.counted c.canonical_len.ensures.size in
     let few : c.args.self.now.left + c.canonical_len.result ≤ 8388608 = omega (arith, within, text_limit-most c.args.self.now.version) in
     search rules
 
 pub overflow_sub-self : goal.overflow_sub-self
 overflow_sub-self c =
-    definitions_fit c.args.self.now.version c.args.self.now.definitions c.args.self.now.rows c.args.self.now.left c.canonical_len.result c.requires.ruleset c.requires.counted c.canonical_len.ensures.size
-    c.args.keyword (lexemes c.args.behind.now) c.define.new.self c.canonical_len-in-Ok.result c.canonical_len.ensures.without_fault c.in-Ok.ensures.read c.canonical_len-in-Ok.ensures.size
+    definitions_fit c.args.self.now.version c.args.self.now.definitions c.args.self.now.entries c.args.self.now.left c.canonical_len.result c.requires.ruleset c.requires.counted c.canonical_len.ensures.size
+    c.args.keyword (lexemes c.args.after.now) c.define.new.self c.canonical_len-in-Ok.result c.canonical_len.ensures.without_fault c.in-Ok.ensures.read c.canonical_len-in-Ok.ensures.size
 
 pub returns-in-Ok-clause-read : goal.returns-in-Ok-clause-read
 returns-in-Ok-clause-read c =
-    definition_read c.args.self.now.version c.args.self.now.definitions c.args.self.now.rows c.args.self.now.left c.canonical_len.result c.requires.ruleset c.requires.counted c.canonical_len.ensures.size
-    c.args.keyword (lexemes c.args.behind.now) c.define.new.self c.in-Ok.ensures.read
+    definition_read c.args.self.now.version c.args.self.now.definitions c.args.self.now.entries c.args.self.now.left c.canonical_len.result c.requires.ruleset c.requires.counted c.canonical_len.ensures.size
+    c.args.keyword (lexemes c.args.after.now) c.define.new.self c.in-Ok.ensures.read
 
 pub returns-in-Ok-clause-counted : goal.returns-in-Ok-clause-counted
 returns-in-Ok-clause-counted c =
-    definitions_counted c.args.self.now.version c.args.self.now.definitions c.args.self.now.rows c.args.self.now.left c.canonical_len.result c.requires.ruleset c.requires.counted c.canonical_len.ensures.size
-    c.args.keyword (lexemes c.args.behind.now) c.define.new.self c.canonical_len-in-Ok.result c.canonical_len.ensures.without_fault c.in-Ok.ensures.read c.canonical_len-in-Ok.ensures.size
+    definitions_counted c.args.self.now.version c.args.self.now.definitions c.args.self.now.entries c.args.self.now.left c.canonical_len.result c.requires.ruleset c.requires.counted c.canonical_len.ensures.size
+    c.args.keyword (lexemes c.args.after.now) c.define.new.self c.canonical_len-in-Ok.result c.canonical_len.ensures.without_fault c.in-Ok.ensures.read c.canonical_len-in-Ok.ensures.size
 
 pub returns-in-Err-clause-read : goal.returns-in-Err-clause-read
 returns-in-Err-clause-read c =
-    subst (λ fault. Fails c.args.number fault (with_definition (table_of c.args.self.now.version c.args.self.now.definitions c.args.self.now.rows) c.args.keyword (lexemes c.args.behind.now))) (sym c.fault_in.ensures)
-    (definition_fails c.args.self.now.version c.args.self.now.definitions c.args.self.now.rows c.args.self.now.left c.canonical_len.result c.requires.ruleset c.requires.counted c.canonical_len.ensures.size
-    c.args.keyword (lexemes c.args.behind.now) c.args.number c.in-Err.fault c.define.new.self c.in-Err.ensures.read)
+    subst (λ fault. Fails c.args.number fault (with_definition (table_of c.args.self.now.version c.args.self.now.definitions c.args.self.now.entries) c.args.keyword (lexemes c.args.after.now))) (sym c.fault_in.ensures)
+    (definition_fails c.args.self.now.version c.args.self.now.definitions c.args.self.now.entries c.args.self.now.left c.canonical_len.result c.requires.ruleset c.requires.counted c.canonical_len.ensures.size
+    c.args.keyword (lexemes c.args.after.now) c.args.number c.in-Err.fault c.define.new.self c.in-Err.ensures.read)

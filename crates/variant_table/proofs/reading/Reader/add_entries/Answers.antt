@@ -13,14 +13,14 @@ use Rattle.variant_table.proofs.reading.Reader.add_entries.Goals as goal
 pub returns-in_default-clause-read : goal.returns-in_default-clause-read
 returns-in_default-clause-read c =
     let none = none_spelled c.args.line.now c.in_ok-form.field-0 c.in_default.is (c.in_ok-form.ensures {u = tt}) in
-    (refl, ap (λ r. r >>= with_form c.args.self.now.version c.args.self.now.definitions c.args.self.now.rows) (formless_words c.args.self.now.version c.args.line.now (λ form h. none form h.0)))
+    (refl, ap (λ r. r >>= with_form c.args.self.now.version c.args.self.now.definitions c.args.self.now.entries) (formless_words c.args.self.now.version c.args.line.now (λ form h. none form h.0)))
 
 pub returns-then-not-has_form-clause-read : goal.returns-then-not-has_form-clause-read
 returns-then-not-has_form-clause-read c =
     let read : IsEntryLine (entry_form c.in-Some.form) c.args.line.now = one_spelled c.args.line.now c.in_ok-form.field-0 c.in-Some.form c.in-Some.is (c.in_ok-form.ensures {u = tt}) in
     let other : has_form c.args.self.now.version (entry_form c.in-Some.form) ≡ false = sym c.has_form.ensures ∙ c.if-not-has_form.true in (
       refl,
-      ap (λ r. r >>= with_form c.args.self.now.version c.args.self.now.definitions c.args.self.now.rows) (formless_words c.args.self.now.version c.args.line.now (other_version c.args.self.now.version c.args.line.now (entry_form c.in-Some.form) read other)),
+      ap (λ r. r >>= with_form c.args.self.now.version c.args.self.now.definitions c.args.self.now.entries) (formless_words c.args.self.now.version c.args.line.now (other_version c.args.self.now.version c.args.line.now (entry_form c.in-Some.form) read other)),
     )
 
 pub add_entry-requires-clause-form : goal.add_entry-requires-clause-form
@@ -40,8 +40,8 @@ returns-in-None-clause-read c =
     let form : EntryForm = record { mapped = map mapped c.deref.result.now; last = None } in
     let same : entry_form c.in-Some.form ≡ form =
     ap (λ o. record { mapped = map mapped c.in-Some.form.mapped.items; last = o }) c.in-None.is ∙ ap (λ xs. record { mapped = map mapped xs; last = None }) (sym c.deref.ensures.value) in
-    let is = ap (λ r. r >>= with_form c.args.self.now.version c.args.self.now.definitions c.args.self.now.rows) (form_read c.args.self.now.version c.args.line.now (entry_form c.in-Some.form) (read, has)) ∙ ap (with_form c.args.self.now.version c.args.self.now.definitions c.args.self.now.rows) same in
-    subst (Leaves c.args.number c.add_entry.result c.add_entry.new.self.rows) (sym is) c.add_entry.ensures.read
+    let is = ap (λ r. r >>= with_form c.args.self.now.version c.args.self.now.definitions c.args.self.now.entries) (form_read c.args.self.now.version c.args.line.now (entry_form c.in-Some.form) (read, has)) ∙ ap (with_form c.args.self.now.version c.args.self.now.definitions c.args.self.now.entries) same in
+    subst (Leaves c.args.number c.add_entry.result c.add_entry.new.self.entries) (sym is) c.add_entry.ensures.read
 
 pub returns-clause-read : goal.returns-clause-read
 returns-clause-read c =
@@ -51,5 +51,5 @@ returns-clause-read c =
     let same : entry_form c.in-Some.form ≡ form =
     ap (λ o. record { mapped = map mapped c.in-Some.form.mapped.items; last = o }) c.in-Some-last.is
     ∙ ap (λ xs. record { mapped = map mapped xs; last = Some c.in-Some-last.last }) (sym c.deref-in-Some-last.ensures.value) in
-    let is = ap (λ r. r >>= with_form c.args.self.now.version c.args.self.now.definitions c.args.self.now.rows) (form_read c.args.self.now.version c.args.line.now (entry_form c.in-Some.form) (read, has)) ∙ ap (with_form c.args.self.now.version c.args.self.now.definitions c.args.self.now.rows) same in
-    subst (Leaves c.args.number c.add_range.result c.add_range.new.self.rows) (sym is) c.add_range.ensures.read
+    let is = ap (λ r. r >>= with_form c.args.self.now.version c.args.self.now.definitions c.args.self.now.entries) (form_read c.args.self.now.version c.args.line.now (entry_form c.in-Some.form) (read, has)) ∙ ap (with_form c.args.self.now.version c.args.self.now.definitions c.args.self.now.entries) same in
+    subst (Leaves c.args.number c.add_range.result c.add_range.new.self.entries) (sym is) c.add_range.ensures.read

@@ -19,11 +19,11 @@ returns-then-count-limit-clause-read c =
     let first : ℕ = c.index-first.result.now in
     let last : ℕ = c.args.last in
     let range = range_of items x first last c.requires.form c.index-mapped-0.is c.index-first.ensures in
-    let over : entry_limit c.args.self.now.version < length c.args.self.now.rows + (last - first + 1) = elim c.then-count-limit.branch [
+    let over : entry_limit c.args.self.now.version < length c.args.self.now.entries + (last - first + 1) = elim c.then-count-limit.branch [
       | then-count-limit-via-then-count-limit w ↦ omega (arith, w.if-count-limit.true, c.entry_limit-limit.ensures.limit)
       | then-count-limit-via-else-count-limit+then-len-limit w ↦ omega (arith, w.if-len-limit.true, w.if-count-limit.false, w.len.ensures, c.entry_limit-limit.ensures.limit)
     ] in
-    (refl, ap (λ xs. with_form c.args.self.now.version c.args.self.now.definitions c.args.self.now.rows (record { mapped = map mapped xs; last = Some last })) range.one ∙ range_too_many c.args.self.now.version c.args.self.now.definitions c.args.self.now.rows (mapped x) first last (last - first + 1) c.args.self.now.left c.requires.counted range.first_is refl range.rises over)
+    (refl, ap (λ xs. with_form c.args.self.now.version c.args.self.now.definitions c.args.self.now.entries (record { mapped = map mapped xs; last = Some last })) range.one ∙ range_too_many c.args.self.now.version c.args.self.now.definitions c.args.self.now.entries (mapped x) first last (last - first + 1) c.args.self.now.left c.requires.counted range.first_is refl range.rises over)
 
 pub returns-in_default-clause-read : goal.returns-in_default-clause-read
 returns-in_default-clause-read c =
@@ -32,7 +32,7 @@ returns-in_default-clause-read c =
     let first : ℕ = c.index-first.result.now in
     let last : ℕ = c.args.last in
     let range = range_of items x first last c.requires.form c.index-mapped-0.is c.index-first.ensures in
-    (refl, ap (λ xs. with_form c.args.self.now.version c.args.self.now.definitions c.args.self.now.rows (record { mapped = map mapped xs; last = Some last })) range.one ∙ range_too_long c.args.self.now.version c.args.self.now.definitions c.args.self.now.rows (mapped x) first last (last - first + 1) c.args.self.now.left c.requires.counted range.first_is refl range.rises c.in_default.ensures)
+    (refl, ap (λ xs. with_form c.args.self.now.version c.args.self.now.definitions c.args.self.now.entries (record { mapped = map mapped xs; last = Some last })) range.one ∙ range_too_long c.args.self.now.version c.args.self.now.definitions c.args.self.now.entries (mapped x) first last (last - first + 1) c.args.self.now.left c.requires.counted range.first_is refl range.rises c.in_default.ensures)
 
 pub returns-then-not-branch-clause-read : goal.returns-then-not-branch-clause-read
 returns-then-not-branch-clause-read c =
@@ -41,7 +41,7 @@ returns-then-not-branch-clause-read c =
     let first : ℕ = c.index-first.result.now in
     let last : ℕ = c.args.last in
     let range = range_of items x first last c.requires.form c.index-mapped-0.is c.index-first.ensures in
-    (refl, ap (λ xs. with_form c.args.self.now.version c.args.self.now.definitions c.args.self.now.rows (record { mapped = map mapped xs; last = Some last })) range.one ∙ range_unnamed c.args.self.now.version c.args.self.now.definitions c.args.self.now.rows (mapped x) first last (last - first + 1) c.args.self.now.left c.requires.counted range.first_is refl range.rises (subst (λ xs. IsForm (map mapped xs) (Some last)) range.one c.requires.form) (omega (arith, c.entry_limit-limit.ensures.limit, c.if-count-limit.false, c.if-len-limit.false, c.len.ensures)) c.in-Some.left c.in-Some.ensures (ap (λ xs. knows_all c.args.self.now.definitions (map mapped xs)) (sym range.one) ∙ sym c.in_ok-take_sequences.ensures.known ∙ c.if-not-branch.true))
+    (refl, ap (λ xs. with_form c.args.self.now.version c.args.self.now.definitions c.args.self.now.entries (record { mapped = map mapped xs; last = Some last })) range.one ∙ range_unnamed c.args.self.now.version c.args.self.now.definitions c.args.self.now.entries (mapped x) first last (last - first + 1) c.args.self.now.left c.requires.counted range.first_is refl range.rises (subst (λ xs. IsForm (map mapped xs) (Some last)) range.one c.requires.form) (omega (arith, c.entry_limit-limit.ensures.limit, c.if-count-limit.false, c.if-len-limit.false, c.len.ensures)) c.in-Some.left c.in-Some.ensures (ap (λ xs. knows_all c.args.self.now.definitions (map mapped xs)) (sym range.one) ∙ sym c.in_ok-take_sequences.ensures.known ∙ c.if-not-branch.true))
 
 pub returns-then-branch-clause-read : goal.returns-then-branch-clause-read
 returns-then-branch-clause-read c =
@@ -51,7 +51,7 @@ returns-then-branch-clause-read c =
     let last : ℕ = c.args.last in
     let range = range_of items x first last c.requires.form c.index-mapped-0.is c.index-first.ensures in
     let v : Variant = variant_of c.args.self.now.definitions (mapped x) in
-    (refl, ap (λ xs. with_form c.args.self.now.version c.args.self.now.definitions c.args.self.now.rows (record { mapped = map mapped xs; last = Some last })) range.one ∙ range_bad c.args.self.now.version c.args.self.now.definitions c.args.self.now.rows (mapped x) first last (last - first + 1) c.args.self.now.left c.requires.counted range.first_is refl range.rises (subst (λ xs. IsForm (map mapped xs) (Some last)) range.one c.requires.form) (omega (arith, c.entry_limit-limit.ensures.limit, c.if-count-limit.false, c.if-len-limit.false, c.len.ensures)) c.in-Some.left c.in-Some.ensures (ap (λ xs. knows_all c.args.self.now.definitions (map mapped xs)) (sym range.one) ∙ sym c.in_ok-take_sequences.ensures.known ∙ c.if-not-branch.false) (sym (c.in_ok-has_bad_class_in.ensures {u = tt} v) ∙ c.if-branch.true))
+    (refl, ap (λ xs. with_form c.args.self.now.version c.args.self.now.definitions c.args.self.now.entries (record { mapped = map mapped xs; last = Some last })) range.one ∙ range_bad c.args.self.now.version c.args.self.now.definitions c.args.self.now.entries (mapped x) first last (last - first + 1) c.args.self.now.left c.requires.counted range.first_is refl range.rises (subst (λ xs. IsForm (map mapped xs) (Some last)) range.one c.requires.form) (omega (arith, c.entry_limit-limit.ensures.limit, c.if-count-limit.false, c.if-len-limit.false, c.len.ensures)) c.in-Some.left c.in-Some.ensures (ap (λ xs. knows_all c.args.self.now.definitions (map mapped xs)) (sym range.one) ∙ sym c.in_ok-take_sequences.ensures.known ∙ c.if-not-branch.false) (sym (c.in_ok-has_bad_class_in.ensures {u = tt} v) ∙ c.if-branch.true))
 
 pub returns-in_err-push_points-clause-read : goal.returns-in_err-push_points-clause-read
 returns-in_err-push_points-clause-read c =
@@ -63,10 +63,10 @@ returns-in_err-push_points-clause-read c =
     let v : Variant = variant_of c.args.self.now.definitions (mapped x) in
     let taken : source_of (entry_from c.take_sequences.new.sequences) ≡ v =
     ap (λ ss. source_of (entry_from ss)) (c.in_ok-take_sequences.ensures.taken c.if-not-branch.false ∙ ap (λ xs. map (variant_of c.args.self.now.definitions) (map mapped xs)) range.one) in
-    let pushed : with_new_sources c.args.self.now.rows (points_from (source_of (entry_from c.take_sequences.new.sequences)) first (last - first + 1)) ≡ with_new_sources c.args.self.now.rows (points_from v first (last - first + 1)) =
-    ap (λ u. with_new_sources c.args.self.now.rows (points_from u first (last - first + 1))) taken in
-    let is = ap (λ xs. with_form c.args.self.now.version c.args.self.now.definitions c.args.self.now.rows (record { mapped = map mapped xs; last = Some last })) range.one ∙ range_good c.args.self.now.version c.args.self.now.definitions c.args.self.now.rows (mapped x) first last (last - first + 1) c.args.self.now.left c.requires.counted range.first_is refl range.rises (subst (λ xs. IsForm (map mapped xs) (Some last)) range.one c.requires.form) (omega (arith, c.entry_limit-limit.ensures.limit, c.if-count-limit.false, c.if-len-limit.false, c.len.ensures)) c.in-Some.left c.in-Some.ensures (ap (λ xs. knows_all c.args.self.now.definitions (map mapped xs)) (sym range.one) ∙ sym c.in_ok-take_sequences.ensures.known ∙ c.if-not-branch.false) (sym (c.in_ok-has_bad_class_in.ensures {u = tt} v) ∙ c.if-branch.false) ∙ sym pushed in
-    let fails : Fails c.args.number c.in_err-push_points.field-0.0 (with_form c.args.self.now.version c.args.self.now.definitions c.args.self.now.rows (record { mapped = map mapped items; last = Some last })) =
+    let pushed : with_new_sources c.args.self.now.entries (points_from (source_of (entry_from c.take_sequences.new.sequences)) first (last - first + 1)) ≡ with_new_sources c.args.self.now.entries (points_from v first (last - first + 1)) =
+    ap (λ u. with_new_sources c.args.self.now.entries (points_from u first (last - first + 1))) taken in
+    let is = ap (λ xs. with_form c.args.self.now.version c.args.self.now.definitions c.args.self.now.entries (record { mapped = map mapped xs; last = Some last })) range.one ∙ range_good c.args.self.now.version c.args.self.now.definitions c.args.self.now.entries (mapped x) first last (last - first + 1) c.args.self.now.left c.requires.counted range.first_is refl range.rises (subst (λ xs. IsForm (map mapped xs) (Some last)) range.one c.requires.form) (omega (arith, c.entry_limit-limit.ensures.limit, c.if-count-limit.false, c.if-len-limit.false, c.len.ensures)) c.in-Some.left c.in-Some.ensures (ap (λ xs. knows_all c.args.self.now.definitions (map mapped xs)) (sym range.one) ∙ sym c.in_ok-take_sequences.ensures.known ∙ c.if-not-branch.false) (sym (c.in_ok-has_bad_class_in.ensures {u = tt} v) ∙ c.if-branch.false) ∙ sym pushed in
+    let fails : Fails c.args.number c.in_err-push_points.field-0.0 (with_form c.args.self.now.version c.args.self.now.definitions c.args.self.now.entries (record { mapped = map mapped items; last = Some last })) =
     subst (Fails c.args.number c.in_err-push_points.field-0.0) (sym is) c.in_err-push_points.ensures in
     search rules
 
@@ -80,9 +80,9 @@ returns-clause-read c =
     let v : Variant = variant_of c.args.self.now.definitions (mapped x) in
     let taken : source_of (entry_from c.take_sequences.new.sequences) ≡ v =
     ap (λ ss. source_of (entry_from ss)) (c.in_ok-take_sequences.ensures.taken c.if-not-branch.false ∙ ap (λ xs. map (variant_of c.args.self.now.definitions) (map mapped xs)) range.one) in
-    let pushed : with_new_sources c.args.self.now.rows (points_from (source_of (entry_from c.take_sequences.new.sequences)) first (last - first + 1)) ≡ with_new_sources c.args.self.now.rows (points_from v first (last - first + 1)) =
-    ap (λ u. with_new_sources c.args.self.now.rows (points_from u first (last - first + 1))) taken in
-    ap (λ xs. with_form c.args.self.now.version c.args.self.now.definitions c.args.self.now.rows (record { mapped = map mapped xs; last = Some last })) range.one ∙ range_good c.args.self.now.version c.args.self.now.definitions c.args.self.now.rows (mapped x) first last (last - first + 1) c.args.self.now.left c.requires.counted range.first_is refl range.rises (subst (λ xs. IsForm (map mapped xs) (Some last)) range.one c.requires.form) (omega (arith, c.entry_limit-limit.ensures.limit, c.if-count-limit.false, c.if-len-limit.false, c.len.ensures)) c.in-Some.left c.in-Some.ensures (ap (λ xs. knows_all c.args.self.now.definitions (map mapped xs)) (sym range.one) ∙ sym c.in_ok-take_sequences.ensures.known ∙ c.if-not-branch.false) (sym (c.in_ok-has_bad_class_in.ensures {u = tt} v) ∙ c.if-branch.false) ∙ sym pushed ∙ c.in_ok-push_points.ensures
+    let pushed : with_new_sources c.args.self.now.entries (points_from (source_of (entry_from c.take_sequences.new.sequences)) first (last - first + 1)) ≡ with_new_sources c.args.self.now.entries (points_from v first (last - first + 1)) =
+    ap (λ u. with_new_sources c.args.self.now.entries (points_from u first (last - first + 1))) taken in
+    ap (λ xs. with_form c.args.self.now.version c.args.self.now.definitions c.args.self.now.entries (record { mapped = map mapped xs; last = Some last })) range.one ∙ range_good c.args.self.now.version c.args.self.now.definitions c.args.self.now.entries (mapped x) first last (last - first + 1) c.args.self.now.left c.requires.counted range.first_is refl range.rises (subst (λ xs. IsForm (map mapped xs) (Some last)) range.one c.requires.form) (omega (arith, c.entry_limit-limit.ensures.limit, c.if-count-limit.false, c.if-len-limit.false, c.len.ensures)) c.in-Some.left c.in-Some.ensures (ap (λ xs. knows_all c.args.self.now.definitions (map mapped xs)) (sym range.one) ∙ sym c.in_ok-take_sequences.ensures.known ∙ c.if-not-branch.false) (sym (c.in_ok-has_bad_class_in.ensures {u = tt} v) ∙ c.if-branch.false) ∙ sym pushed ∙ c.in_ok-push_points.ensures
 
 pub returns-clause-counted : goal.returns-clause-counted
 returns-clause-counted c =
@@ -94,6 +94,6 @@ returns-clause-counted c =
     let v : Variant = variant_of c.args.self.now.definitions (mapped x) in
     let taken : source_of (entry_from c.take_sequences.new.sequences) ≡ v =
     ap (λ ss. source_of (entry_from ss)) (c.in_ok-take_sequences.ensures.taken c.if-not-branch.false ∙ ap (λ xs. map (variant_of c.args.self.now.definitions) (map mapped xs)) range.one) in
-    let pushed : with_new_sources c.args.self.now.rows (points_from (source_of (entry_from c.take_sequences.new.sequences)) first (last - first + 1)) ≡ with_new_sources c.args.self.now.rows (points_from v first (last - first + 1)) =
-    ap (λ u. with_new_sources c.args.self.now.rows (points_from u first (last - first + 1))) taken in
-    range_counted c.args.self.now.version c.args.self.now.definitions c.args.self.now.rows (mapped x) first last (last - first + 1) c.args.self.now.left c.requires.counted range.first_is refl range.rises (subst (λ xs. IsForm (map mapped xs) (Some last)) range.one c.requires.form) (omega (arith, c.entry_limit-limit.ensures.limit, c.if-count-limit.false, c.if-len-limit.false, c.len.ensures)) c.in-Some.left c.in-Some.ensures (ap (λ xs. knows_all c.args.self.now.definitions (map mapped xs)) (sym range.one) ∙ sym c.in_ok-take_sequences.ensures.known ∙ c.if-not-branch.false) c.push_points.new.rows (sym pushed ∙ c.in_ok-push_points.ensures)
+    let pushed : with_new_sources c.args.self.now.entries (points_from (source_of (entry_from c.take_sequences.new.sequences)) first (last - first + 1)) ≡ with_new_sources c.args.self.now.entries (points_from v first (last - first + 1)) =
+    ap (λ u. with_new_sources c.args.self.now.entries (points_from u first (last - first + 1))) taken in
+    range_counted c.args.self.now.version c.args.self.now.definitions c.args.self.now.entries (mapped x) first last (last - first + 1) c.args.self.now.left c.requires.counted range.first_is refl range.rises (subst (λ xs. IsForm (map mapped xs) (Some last)) range.one c.requires.form) (omega (arith, c.entry_limit-limit.ensures.limit, c.if-count-limit.false, c.if-len-limit.false, c.len.ensures)) c.in-Some.left c.in-Some.ensures (ap (λ xs. knows_all c.args.self.now.definitions (map mapped xs)) (sym range.one) ∙ sym c.in_ok-take_sequences.ensures.known ∙ c.if-not-branch.false) c.push_points.new.entries (sym pushed ∙ c.in_ok-push_points.ensures)

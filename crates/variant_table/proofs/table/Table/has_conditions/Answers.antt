@@ -1,4 +1,4 @@
-use Rattle.std.proofs.Common.{arith, ◌≡◌, ℕ, Option, Some, None, length, ap, sym, subst, refl, ◌∙◌}
+use Rattle.std.proofs.Common.{arith, ◌≡◌, Option, Some, None, length, ap, sym, subst, refl, ◌∙◌}
 use Rattle.std.proofs.lemmas.Bool.{not-false, eqb-true}
 use Rattle.label_patterns.specs.declared.condition.Condition.{Condition}
 use Rattle.ruleset_text.specs.Definitions.{Definitions}

@@ -19,15 +19,15 @@ returns-in_err-spelled-clause-canonical c = λ table h named is.
 
 pub invariant_of-result : goal.invariant_of-result
 invariant_of-result c =
-    let table : TableValue = table_of c.in_ok-spelled.spelled.version c.in_ok-spelled.spelled.definitions c.in_ok-spelled.spelled.rows in
+    let table : TableValue = table_of c.in_ok-spelled.spelled.version c.in_ok-spelled.spelled.definitions c.in_ok-spelled.spelled.entries in
     (read_text c.args.notation c.args.text.now table c.in_ok-spelled.ensures).lines.well_formed
 
 pub returns-clause-table : goal.returns-clause-table
 returns-clause-table c =
-    let table : TableValue = table_of c.in_ok-spelled.spelled.version c.in_ok-spelled.spelled.definitions c.in_ok-spelled.spelled.rows in
+    let table : TableValue = table_of c.in_ok-spelled.spelled.version c.in_ok-spelled.spelled.definitions c.in_ok-spelled.spelled.entries in
     read_text c.args.notation c.args.text.now table c.in_ok-spelled.ensures
 
 pub returns-clause-canonical : goal.returns-clause-canonical
 returns-clause-canonical c = λ table h named is.
-    let read : TableValue = table_of c.in_ok-spelled.spelled.version c.in_ok-spelled.spelled.definitions c.in_ok-spelled.spelled.rows in
+    let read : TableValue = table_of c.in_ok-spelled.spelled.version c.in_ok-spelled.spelled.definitions c.in_ok-spelled.spelled.entries in
     one_table c.args.notation c.args.text.now read table (read_text c.args.notation c.args.text.now read c.in_ok-spelled.ensures) (rw is (rw named (canonical_spelled table h)))

@@ -1,4 +1,4 @@
-use Rattle.std.proofs.Common.{◌≡◌, ℕ, Option, Some, None, List, [], ◌∷◌, sym, ap, subst, ◌∙◌}
+use Rattle.std.proofs.Common.{◌≡◌, ℕ, Option, Some, None, List, [], ◌∷◌, sym, ap, subst}
 use Rattle.std.specs.Prelude.{MatchOption}
 use Rattle.variant_table.specs.Entries.{Entry, TableValue}
 use Rattle.variant_table.specs.Places.{entry_with}
@@ -15,4 +15,4 @@ pub returns-else-has_longer : goal.returns-else-has_longer
 returns-else-has_longer c =
     let same = ap (λ (t : TableValue). t.entries) c.self.view_is in
     subst (λ es. MatchOption c.look_up-entry.result.entry (Unit {0}) (IsSingle es c.args.point)) same
-    (single-is c.self.inside.rows c.args.point c.look_up-entry.result.entry c.look_up-entry.ensures.entry (c.look_up-entry.ensures.longer c.if-has_longer.false))
+    (single-is c.self.inside.entries c.args.point c.look_up-entry.result.entry c.look_up-entry.ensures.entry (c.look_up-entry.ensures.longer c.if-has_longer.false))

@@ -1,6 +1,7 @@
-use Rattle.std.proofs.Common.{◌≡◌, ◌∙◌, ◌||◌, ℕ, Bool, true, false, List, sym, ap, inl, refl}
+use Rattle.std.proofs.Common.{◌≡◌, ◌∙◌, ◌||◌, ℕ, Bool, true, false, List, sym, ap, inl}
 use Rattle.std.specs.Prelude.{bytes_eq}
 use Rattle.std.specs.List.{list_any}
+use Rattle.std.proofs.Math.Bool.{or-false}
 use Rattle.variant_list.specs.Positions.{Built}
 use Rattle.idn2_cli.specs.Answers.{is_among}
 use Rattle.idn2_cli.specs.inner.Allocations.{Allowed, allowed_of, allows}
@@ -8,10 +9,6 @@ use Rattle.idn2_cli.specs.declared.modes.allocations.Tests.{Tests}
 use Rattle.idn2_cli.proofs.AllocationLemmas.{is_among-by, true-or}
 use Rattle.idn2_cli.proofs.modes.allocations.Allocations.allow.Goals.{in-Unblocked, in-OfTags+then-eq, in-OfTags+else-eq}
 use Rattle.idn2_cli.proofs.modes.allocations.Allocations.allow.Goals as goal
-
-or-false : (b : Bool) → (b || false) ≡ b
-or-false true = refl
-or-false false = refl
 
 pub returns-clause-told : goal.returns-clause-told
 returns-clause-told c =

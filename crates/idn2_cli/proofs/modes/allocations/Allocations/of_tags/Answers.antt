@@ -1,10 +1,10 @@
-use Rattle.std.proofs.Common.{◌≡◌, ◌↔◌, ℕ, ◌+◌, List, [], ◌∷◌, ◌++◌, Some, refl, sym, ap, ◌∙◌, subst, arith}
+use Rattle.std.proofs.Common.{◌≡◌, ◌↔◌, ℕ, ◌+◌, List, ◌++◌, Some, sym, ap, ◌∙◌, subst, arith}
 use Rattle.std.specs.List.{Contains}
 use Rattle.variant_table.specs.Entries.{TableValue}
 use Rattle.variant_list.specs.declared.part.Part.TheVariants.{Tagged}
 use Rattle.variant_list.specs.Positions.{Built}
 use Rattle.variant_list.specs.Spelling.{PartSpells}
-use Rattle.idn2_cli.proofs.AllocationLemmas.{AreOfTags, AreOfTags-none, AreOfTags-more, AreOfTags-nothing, allows-tagged}
+use Rattle.idn2_cli.proofs.AllocationLemmas.{AreOfTags, AreOfTags-more, AreOfTags-nothing, allows-tagged}
 use Rattle.idn2_cli.proofs.modes.allocations.Allocations.of_tags.Goals.{in-Ok+in_ok-new-in-Ok+in_ok-push-in-Ok, in-Err-NothingSpelled}
 use Rattle.idn2_cli.proofs.modes.allocations.Allocations.of_tags.Goals as goal
 

@@ -1,4 +1,4 @@
-use Rattle.std.proofs.Common.{◌≡◌, ◌↔◌, ℕ, List, [], ◌∷◌, refl, sym, subst}
+use Rattle.std.proofs.Common.{◌↔◌, ℕ, List, [], ◌∷◌, refl, sym, subst}
 use Rattle.std.specs.List.{Contains}
 use Rattle.variant_table.specs.Entries.{TableValue}
 use Rattle.variant_list.specs.declared.part.Part.TheVariants.{Unblocked}

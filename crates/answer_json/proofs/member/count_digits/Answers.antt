@@ -1,0 +1,18 @@
+use Rattle.std.proofs.Common.{arith}
+use Rattle.std.proofs.lemmas.Fmt.{length-decimal-le}
+use Rattle.itoa.proofs.Decimal.{length_four}
+use Rattle.answer_json.proofs.member.count_digits.Goals as goal
+
+pub overflow_add-count : goal.overflow_add-count
+overflow_add-count c = let most = length-decimal-le 20 c.args.number (omega arith) (omega arith) (omega arith) in let so_far = c.loop-left.invariant.digits in omega arith
+
+pub loop-left-preserved : goal.loop-left-preserved
+loop-left-preserved c = record {
+  digits = let four = length_four c.loop-left.left (omega arith) (omega arith) in let so_far = c.loop-left.invariant.digits in omega arith;
+}
+
+pub overflow_add-result : goal.overflow_add-result
+overflow_add-result c = let most = length-decimal-le 20 c.args.number (omega arith) (omega arith) (omega arith) in let so_far = c.loop-left.invariant.digits in omega arith
+
+pub returns-clause-few : goal.returns-clause-few
+returns-clause-few c = let most = length-decimal-le 20 c.args.number (omega arith) (omega arith) (omega arith) in let so_far = c.loop-left.invariant.digits in omega arith

@@ -1,0 +1,56 @@
+-- How far a label goes before it is hopeless, code point by code point.
+use Rattle.std.specs.Prelude.{◌≡◌, ℕ, ◌≤◌, ◌<◌, Bool, true, false, ◌&&◌, ◌||◌, ◌==◌, List, length, map, take, Option, Some, None, if◌then◌else◌}
+use Rattle.std.specs.List.{list_any}
+use Rattle.idn_class.specs.declared.bidi_class.BidiClass.{BidiClass}
+use Rattle.idn_class.specs.declared.bidi_class.BidiClass.TheVariants.{L, R, AL, AN, EN}
+use Rattle.idn_class.specs.declared.direction.Direction.{Direction}
+use Rattle.idn_class.specs.declared.direction.Direction.TheVariants.{Ltr, Rtl, RtlEuropean, RtlArabic}
+use Rattle.idn_class.specs.BidiClass.{bidi_class}
+use Rattle.idn_class.specs.BidiRule.{is_rtl_class}
+use Rattle.idn_class.specs.LeadingMark.{is_mark}
+use Rattle.idn_class.specs.Tests.{leading_mark, is_en, is_an, is_rtl}
+use Rattle.idn_class.specs.Hopeless.{begins_with_hyphen, breaks_bidi, is_l}
+
+-- the first n code points pass the test, and no fewer do
+pub record IsShortest (test : List ℕ → Bool) (label : List ℕ) (n : ℕ) : Type 0 where
+  pub within : n ≤ length label
+  pub holds : test (take n label) ≡ true
+  pub first : (k : ℕ) → k < n → test (take k label) ≡ false
+
+-- neither a beginning nor the whole passes the test
+abbrev pub HasNone : (List ℕ → Bool) → List ℕ → Type 0
+HasNone test label = (k : ℕ) → test (take k label) ≡ false
+
+-- a list is hopeless by its first code point or by the Bidi rule
+abbrev pub breaks_at_first : List ℕ → Bool
+breaks_at_first w = begins_with_hyphen w || leading_mark w || breaks_bidi (is_rtl (map bidi_class w)) (map bidi_class w)
+
+-- after code points of this direction, a list breaks the Bidi rule for good
+abbrev pub breaks_after : Direction → List ℕ → Bool
+breaks_after Ltr w = list_any is_rtl_class (map bidi_class w)
+breaks_after Rtl w = list_any is_l (map bidi_class w) || (list_any is_en (map bidi_class w) && list_any is_an (map bidi_class w))
+breaks_after RtlEuropean w = list_any is_l (map bidi_class w) || list_any is_an (map bidi_class w)
+breaks_after RtlArabic w = list_any is_l (map bidi_class w) || list_any is_en (map bidi_class w)
+
+-- the direction of a first class, where a label may begin with it
+abbrev pub begun_by : BidiClass → Option Direction
+begun_by R = Some Rtl
+begun_by AL = Some Rtl
+begun_by AN = None
+begun_by _ = Some Ltr
+
+abbrev pub begun : ℕ → Option Direction
+begun c = if (c == 0x2D) || is_mark c then None else begun_by (bidi_class c)
+
+abbrev pub rtl_lengthened : Direction → BidiClass → Option Direction
+rtl_lengthened direction L = None
+rtl_lengthened Rtl EN = Some RtlEuropean
+rtl_lengthened RtlArabic EN = None
+rtl_lengthened Rtl AN = Some RtlArabic
+rtl_lengthened RtlEuropean AN = None
+rtl_lengthened direction class = Some direction
+
+-- the direction once a code point follows, where it may
+abbrev pub lengthened : Direction → ℕ → Option Direction
+lengthened Ltr c = if is_rtl_class (bidi_class c) then None else Some Ltr
+lengthened direction c = rtl_lengthened direction (bidi_class c)

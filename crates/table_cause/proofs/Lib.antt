@@ -1,0 +1,16 @@
+-- Lexemes with their places.
+pub mod PlacedLemmas
+-- The parts that an entry has.
+pub mod EntryPartLemmas
+-- Where a line stops being an entry or a range.
+pub mod WrongPlaceLemmas
+-- The same of a line that is to define something.
+pub mod DefinitionPlaceLemmas
+-- The first lexeme on a line that names what is not known.
+pub mod LineNameLaws
+-- The first of a list that a test is true of.
+pub mod FindLemmas
+-- What the lines before a faulty line define.
+pub mod PlaceNameLemmas
+-- The places that are told are those that are defined.
+pub mod PlaceLawLemmas

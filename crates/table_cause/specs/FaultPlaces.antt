@@ -1,0 +1,205 @@
+-- Where a line of a table has its fault. Places are bytes of the line, counted from 0.
+use Rattle.std.specs.Prelude.{ℕ, ◌-◌, nat_lt, ◌==◌, Bool, true, false, ◌||◌, ◌&&◌, not, Option, Some, None, List, [], ◌∷◌, ◌++◌, length, take, codes, find, bytes_eq, slice_get, if◌then◌else◌}
+use Rattle.std.specs.List.{range_with_len}
+use Rattle.std.specs.Option.{option_map}
+use Rattle.std.specs.Str.Lines.{strip_carriage_return}
+use Rattle.idn_class.specs.Class.{class_of}
+use Rattle.idn_text.specs.Lines.{raw_lines}
+use Rattle.table_cause.specs.declared.entry_place.EntryParts.{EntryParts}
+use Rattle.table_cause.specs.declared.entry_place.WrongPlace.{WrongPlace}
+use Rattle.table_cause.specs.declared.entry_place.WrongPlace.TheVariants as wrong
+use Rattle.table_cause.specs.declared.line_point.LinePoint.{LinePoint}
+use Rattle.ruleset_text.specs.declared.entry_form.NamedCondition.{NamedCondition}
+use Rattle.ruleset_text.specs.Entries.{EntryForm, Mapped}
+use Rattle.ruleset_text.specs.EntrySteps.{entry_in}
+use Rattle.table_cause.specs.DefinitionWrongSteps.{wrong_definition}
+use Rattle.table_cause.specs.WrongSteps.{wrong_place}
+use Rattle.ruleset_text.specs.Lexemes.{is_blank, lexemes}
+use Rattle.table_cause.specs.LineNames.{definition_points, second_place, unknown_name, unknown_set}
+use Rattle.table_cause.specs.LinePoints.{line_points}
+use Rattle.table_cause.specs.PlacedLexemes.{placed_lexemes}
+use Rattle.variant_table.specs.declared.fault.TableFault.{TableFault}
+use Rattle.variant_table.specs.declared.fault.TableFault.TheVariants as tables
+use Rattle.table_cause.specs.declared.place.FaultPlace.{FaultPlace}
+use Rattle.table_cause.specs.declared.place.FaultPlace.TheVariants.{Lexeme, End, Point, InRange, Variant, Source, Byte, NinthPoint, SeventeenthVariant}
+use Rattle.variant_table.specs.Conditions.{is_same_kind}
+use Rattle.table_cause.specs.DefinitionPlaces.{definition_limit, names_defined}
+use Rattle.variant_table.specs.declared.version.Notation.{Notation}
+use Rattle.variant_table.specs.declared.version.Version.{Version}
+use Rattle.variant_table.specs.declared.version.Version.TheVariants.{One, Two, Three}
+use Rattle.variant_table.specs.Limits.{line_limit}
+use Rattle.variant_table.specs.Ranges.{range_size}
+use Rattle.variant_table.specs.Versions.{version_of}
+use Rattle.variant_table.specs.WellFormed.{is_table_class}
+
+-- ---- syntax
+
+-- version 1 has no '!' and no ranges, version 2 no outside sources, and neither has tags or conditions
+abbrev pub parts_of : Version → EntryParts
+parts_of One = record { outside = false; blocked = false; ranges = false; named = false }
+parts_of Two = record { outside = false; blocked = true; ranges = true; named = false }
+parts_of Three = record { outside = true; blocked = true; ranges = true; named = true }
+
+-- '%' is the first byte that is no blank
+abbrev pub begins_in_percent : List ℕ → Bool
+begins_in_percent [] = false
+begins_in_percent (c ∷ cs) = if is_blank c then begins_in_percent cs else c == 37
+
+-- a line of version 3 that is to define something
+abbrev pub defines : Version → List ℕ → Bool
+defines One line = false
+defines Two line = false
+defines Three line = begins_in_percent line
+
+abbrev pub as_fault : WrongPlace → FaultPlace
+as_fault (wrong.Lexeme place len) = Lexeme place len
+as_fault (wrong.End place) = End place
+
+-- the lexeme that can't stand there, or the end
+abbrev pub syntax_place : Version → List ℕ → Option FaultPlace
+syntax_place version line = option_map as_fault (if defines version line then wrong_definition line else wrong_place (parts_of version) line)
+
+-- ---- classes
+
+abbrev pub is_bad_point : ℕ → Bool
+is_bad_point c = not (is_table_class (class_of c))
+
+-- the first code point that is bad
+abbrev pub point_place : List LinePoint → Option FaultPlace
+point_place points = option_map (λ p. Point p.place p.point) (find (λ p. is_bad_point p.point) points)
+
+-- of a range, the first in it, told where the range begins
+abbrev pub range_place : List LinePoint → ℕ → Option FaultPlace
+range_place [] last = None
+range_place (p ∷ points) last = option_map (InRange p.place) (find is_bad_point (range_with_len p.point (range_size p.point last)))
+
+abbrev pub class_place : Option ℕ → List LinePoint → Option FaultPlace
+class_place None points = point_place points
+class_place (Some last) points = range_place points last
+
+-- ---- what is given twice
+
+-- two conditions, which differ
+abbrev pub are_other : Option NamedCondition → Option NamedCondition → Bool
+are_other (Some c) (Some d) = not (is_same_kind c.kind d.kind && bytes_eq c.rule d.rule)
+are_other c d = false
+
+-- the same sequence again: that of the source, or of a variant, unless each of the two has a condition of its own
+abbrev pub is_again : Bool → Mapped → Mapped → Bool
+is_again is_source m n = bytes_eq m.points n.points && (is_source || not (are_other m.condition n.condition))
+
+-- it stands in a list, of which the first is the source, or all are variants
+abbrev pub stands_in : Bool → List Mapped → Mapped → Bool
+stands_in is_source [] n = false
+stands_in is_source (m ∷ mapped) n = is_again is_source m n || stands_in false mapped n
+
+-- the number of the first that stands before it, of which these stand before the list
+abbrev pub first_again : List Mapped → List Mapped → Option ℕ
+first_again before [] = None
+first_again before (m ∷ mapped) = if stands_in true before m then Some (length before) else first_again (before ++ m ∷ []) mapped
+
+-- where the sequence of this number begins
+abbrev pub sequence_place : List LinePoint → Option ℕ → Option FaultPlace
+sequence_place points None = None
+sequence_place points (Some number) = option_map (λ p. Variant p.place) (find (λ p. p.sequence == number) points)
+
+-- the later of the first two that are equal
+abbrev pub variant_place : EntryForm → List LinePoint → Option FaultPlace
+variant_place form points = sequence_place points (first_again [] form.mapped)
+
+abbrev pub source_place : List LinePoint → Option FaultPlace
+source_place [] = None
+source_place (p ∷ points) = Some (Source p.place)
+
+-- ---- limits
+
+-- the ninth code point of a sequence, or the first one of the seventeenth variant
+abbrev pub is_past : LinePoint → Bool
+is_past p = p.index == 8 || p.sequence == 17
+
+abbrev pub past_place : LinePoint → FaultPlace
+past_place p = if p.index == 8 then NinthPoint p.place p.point else SeventeenthVariant p.place p.point
+
+-- the first of these; none where nothing but the table has too many entries, or the text is too long
+abbrev pub limit_place : List LinePoint → Option FaultPlace
+limit_place points = option_map past_place (find is_past points)
+
+-- ---- all faults
+
+-- of an entry or a range
+abbrev pub form_place : TableFault → Option EntryForm → List LinePoint → Option FaultPlace
+form_place fault None points = None
+form_place (tables.BadClass number) (Some form) points = class_place form.last points
+form_place (tables.SameVariant number) (Some form) points = variant_place form points
+form_place (tables.SameSource number) (Some form) points = source_place points
+form_place (tables.Limit number) (Some form) points = limit_place points
+form_place (tables.Syntax number) (Some form) points = None
+form_place (tables.NoSuchName number) (Some form) points = None
+form_place (tables.SameName number) (Some form) points = None
+form_place tables.Memory (Some form) points = None
+
+abbrev pub entry_place : TableFault → List ℕ → Option FaultPlace
+entry_place fault line = form_place fault (entry_in (lexemes line)) (line_points line)
+
+-- a tag or a rule of an entry that none of the lines before defines
+abbrev pub unknown_place : List (List ℕ) → List ℕ → Option FaultPlace
+unknown_place before line =
+    option_map as_fault (unknown_name (names_defined (codes "%tag") before) (names_defined (codes "%rule") before) (placed_lexemes line))
+
+-- of a line that is to define something: the name that none of the lines before has, or that one has; the first code point that is
+-- bad; what is past a limit
+abbrev pub definition_place : List (List ℕ) → TableFault → List ℕ → Option FaultPlace
+definition_place before (tables.NoSuchName number) line = option_map as_fault (unknown_set (names_defined (codes "%set") before) (placed_lexemes line))
+definition_place before (tables.SameName number) line = option_map as_fault (second_place (placed_lexemes line))
+definition_place before (tables.BadClass number) line = point_place (definition_points line)
+definition_place before (tables.Limit number) line = option_map as_fault (definition_limit before line)
+definition_place before fault line = None
+
+-- of an entry or a range
+abbrev pub other_place : List (List ℕ) → TableFault → List ℕ → Option FaultPlace
+other_place before (tables.NoSuchName number) line = unknown_place before line
+other_place before fault line = entry_place fault line
+
+abbrev pub body_place : Version → List (List ℕ) → TableFault → List ℕ → Option FaultPlace
+body_place version before (tables.Syntax number) line = syntax_place version line
+body_place version before fault line = if defines version line then definition_place before fault line else other_place before fault line
+
+-- of a line as it stands in the text: the first byte past its limit, or what is within it, less one carriage return at its end
+abbrev pub line_place : Version → List (List ℕ) → TableFault → List ℕ → Option FaultPlace
+line_place version before fault line =
+    if nat_lt (line_limit version) (length line) then Some (Byte (line_limit version)) else body_place version before fault (strip_carriage_return line)
+
+-- the line of a fault, from 1
+abbrev pub line_number : TableFault → Option ℕ
+line_number (tables.Syntax line) = Some line
+line_number (tables.SameSource line) = Some line
+line_number (tables.SameVariant line) = Some line
+line_number (tables.BadClass line) = Some line
+line_number (tables.Limit line) = Some line
+line_number (tables.NoSuchName line) = Some line
+line_number (tables.SameName line) = Some line
+line_number tables.Memory = None
+
+-- the line of this number
+abbrev pub line_at : List (List ℕ) → Option ℕ → Option (List ℕ)
+line_at lines None = None
+line_at lines (Some number) = slice_get lines (number - 1)
+
+-- that of a fault, as it stands in the text
+abbrev pub faulty_line : List ℕ → TableFault → Option (List ℕ)
+faulty_line text fault = line_at (raw_lines text) (line_number fault)
+
+-- the lines before the one of this number
+abbrev pub lines_before : List (List ℕ) → Option ℕ → List (List ℕ)
+lines_before lines None = []
+lines_before lines (Some number) = take (number - 1) lines
+
+-- none of a text that lacks its version
+abbrev pub place_in : Option Version → List (List ℕ) → Option (List ℕ) → TableFault → Option FaultPlace
+place_in None before line fault = None
+place_in (Some version) before None fault = None
+place_in (Some version) before (Some line) fault = line_place version before fault line
+
+-- where the line of the fault has it, if a place is told
+unfoldable pub fault_place : Notation → List ℕ → TableFault → Option FaultPlace
+fault_place notation text fault = place_in (version_of notation (raw_lines text)) (lines_before (raw_lines text) (line_number fault)) (faulty_line text fault) fault

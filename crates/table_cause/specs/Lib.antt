@@ -1,0 +1,14 @@
+pub mod PlacedLexemes
+pub mod ExpectedNames
+pub mod LineNames
+pub mod LinePoints
+pub mod EntryParts
+pub mod WrongPlaces
+pub mod WrongSteps
+pub mod WrongDefinitions
+pub mod DefinitionWrongSteps
+pub mod DefinitionPlaces
+pub mod FaultPlaces
+pub mod ToldPlaces
+pub mod PlaceExamples
+pub mod inner

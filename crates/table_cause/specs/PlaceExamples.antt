@@ -1,0 +1,25 @@
+-- Examples of places, by computation. Places are bytes, counted from 0.
+use Rattle.std.specs.Prelude.{◌≡◌, Some, None, ◌∷◌, ◌++◌, codes}
+use Rattle.variant_table.specs.declared.fault.TableFault.TheVariants as tables
+use Rattle.table_cause.specs.declared.place.FaultPlace.TheVariants.{Lexeme, End, Variant, Source, NinthPoint}
+use Rattle.variant_table.specs.declared.version.Notation.TheVariants.{Table, Ruleset}
+use Rattle.table_cause.specs.FaultPlaces.{fault_place}
+
+pub record ExamplesOfPlaces : Type 0 where
+  pub bar : fault_place Table (codes "0061||0062") (tables.Syntax 1) ≡ Some (Lexeme 5 1)
+  pub ends : fault_place Table (codes "0061|") (tables.Syntax 1) ≡ Some (End 5)
+  pub word : fault_place Table (codes "0061 0062") (tables.Syntax 1) ≡ Some (Lexeme 5 4)
+  pub range : fault_place Table (codes "0061..0063") (tables.Syntax 1) ≡ Some (Lexeme 4 2)
+  pub falling : fault_place Table (codes "%version 2" ++ 10 ∷ codes "0063..0061") (tables.Syntax 2) ≡ Some (Lexeme 6 4)
+  pub source : fault_place Table (codes "%version 2" ++ 10 ∷ codes "!0061") (tables.Syntax 2) ≡ Some (Lexeme 0 1)
+  pub marks : fault_place Ruleset (codes "%version 3" ++ 10 ∷ codes "!!0061") (tables.Syntax 2) ≡ Some (Lexeme 1 1)
+  pub set : fault_place Ruleset (codes "%version 3" ++ 10 ∷ codes "%set C 0062 0061") (tables.Syntax 2) ≡ Some (Lexeme 12 4)
+  pub rule : fault_place Ruleset (codes "%version 3" ++ 10 ∷ codes "%rule r ^ (. _)") (tables.Syntax 2) ≡ Some (Lexeme 13 1)
+  pub rule_ends : fault_place Ruleset (codes "%version 3" ++ 10 ∷ codes "%rule r ^ .") (tables.Syntax 2) ≡ Some (End 11)
+  pub keyword : fault_place Ruleset (codes "%version 3" ++ 10 ∷ codes "%sets C 0061") (tables.Syntax 2) ≡ Some (Lexeme 0 5)
+  pub unknown : fault_place Ruleset (codes "%version 3" ++ 10 ∷ codes "%set A 0061" ++ 10 ∷ codes "%never @A @B") (tables.NoSuchName 3) ≡ Some (Lexeme 10 2)
+  pub same_name : fault_place Ruleset (codes "%version 3" ++ 10 ∷ codes "%tag t" ++ 10 ∷ codes "%set t 0061") (tables.SameName 3) ≡ Some (Lexeme 5 1)
+  pub no_version : fault_place Ruleset (codes "0061") (tables.Syntax 1) ≡ None
+  pub variant : fault_place Table (codes "0061|0062:0063:0062") (tables.SameVariant 1) ≡ Some (Variant 15)
+  pub again : fault_place Table (codes "0061" ++ 10 ∷ codes " 0061") (tables.SameSource 2) ≡ Some (Source 1)
+  pub ninth : fault_place Table (codes "0061-0061-0061-0061-0061-0061-0061-0061-0062") (tables.Limit 1) ≡ Some (NinthPoint 40 0x62)

@@ -1,0 +1,38 @@
+-- What the places are that are told of a faulty line.
+use Rattle.std.specs.Prelude.{◌≡◌, ◌⊎◌, ℕ, true, false, List, ◌∷◌, ◌++◌, IsTrue}
+use Rattle.std.specs.List.{AllByRecursion}
+use Rattle.table_cause.specs.declared.entry_place.WrongPlace.{WrongPlace}
+use Rattle.table_cause.specs.declared.entry_place.WrongPlace.TheVariants as wrong
+use Rattle.table_cause.specs.WrongDefinitions as definitions
+use Rattle.table_cause.specs.declared.line_point.LinePoint.{LinePoint}
+use Rattle.table_cause.specs.WrongPlaces.{IsWrongPlace}
+use Rattle.table_cause.specs.declared.place.FaultPlace.{FaultPlace}
+use Rattle.table_cause.specs.declared.place.FaultPlace.TheVariants.{Lexeme, End, Point}
+use Rattle.variant_table.specs.declared.version.Version.{Version}
+use Rattle.table_cause.specs.FaultPlaces.{defines, is_bad_point, parts_of}
+
+-- no form of the version goes on with the lexeme, or no definition does; or each goes on, and the line ends
+abbrev pub IsWrongIn : Version → List ℕ → WrongPlace → Type 0
+IsWrongIn version line place =
+    ((defines version line ≡ true) × definitions.IsWrongPlace line place)
+    ⊎ ((defines version line ≡ false) × IsWrongPlace (parts_of version) line place)
+
+abbrev pub IsSyntaxPlace : Version → List ℕ → FaultPlace → Type 0
+IsSyntaxPlace version line (Lexeme place len) = IsWrongIn version line (wrong.Lexeme place len)
+IsSyntaxPlace version line (End place) = IsWrongIn version line (wrong.End place)
+IsSyntaxPlace version line other = ⊥
+
+-- a code point of the line is bad, and none before it is
+pub record IsFirstBadPoint (points : List LinePoint) (place c : ℕ) : Type 0 where
+  pub before : List LinePoint
+  pub p : LinePoint
+  pub after : List LinePoint
+  pub cut : points ≡ before ++ p ∷ after
+  pub good : AllByRecursion (λ q. is_bad_point q.point ≡ false) before
+  pub bad : IsTrue (is_bad_point p.point)
+  pub is_place : p.place ≡ place
+  pub is_point : p.point ≡ c
+
+abbrev pub IsFirstBad : List LinePoint → FaultPlace → Type 0
+IsFirstBad points (Point place c) = IsFirstBadPoint points place c
+IsFirstBad points other = ⊥

@@ -1,0 +1,2 @@
+-- Words of inner functions and of private fields. No public contract cites them.
+pub mod PlaceSteps

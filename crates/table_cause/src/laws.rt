@@ -1,0 +1,60 @@
+//! Laws of the places of faults, each the contract of a function that does nothing.
+ghost use Rattle.std.specs.Prelude.{is_some, not, ◌≡◌, ◌↔◌, ℕ, List, None, Some};
+ghost use Rattle.table_cause.specs.declared.line_point.LinePoint.{LinePoint};
+ghost use Rattle.ruleset_text.specs.Entries.{EntryForm};
+ghost use Rattle.table_cause.specs.EntryParts.{has_parts};
+ghost use Rattle.ruleset_text.specs.Lexemes.{lexemes};
+ghost use Rattle.ruleset_text.specs.SetNames.{set_name};
+ghost use Rattle.table_cause.specs.DefinitionWrongSteps.{wrong_definition};
+ghost use Rattle.table_cause.specs.LineNames.{IsFirstLexeme, IsFirstUnknown, is_unknown, unknown_name, unknown_set};
+ghost use Rattle.table_cause.specs.PlacedLexemes.{Placed};
+ghost use Rattle.table_cause.specs.WrongDefinitions as definitions;
+ghost use Rattle.table_cause.specs.WrongDefinitions.{definition_in};
+ghost use Rattle.table_cause.specs.WrongPlaces.{FitsNames, IsWhole, IsWrongPlace};
+ghost use Rattle.table_cause.specs.WrongSteps.{wrong_place};
+ghost use Rattle.table_cause.specs.declared.expected.Expected.TheVariants.{Nothing};
+ghost use Rattle.table_cause.specs.FaultPlaces.{parts_of, point_place, syntax_place};
+ghost use Rattle.variant_table.specs.Forms.{has_form};
+ghost use Rattle.table_cause.specs.PlaceExamples.{ExamplesOfPlaces};
+ghost use Rattle.table_cause.specs.ToldPlaces.{IsFirstBad, IsSyntaxPlace};
+
+use crate::entry_place::{EntryParts, WrongPlace};
+use crate::place::FaultPlace;
+use variant_table::Version;
+
+/// The place that is told of a line without a form, or that defines nothing, is that of the lexeme at which each form of the version
+/// or each definition ends, or its end; and of code points that no table may hold the first is told.
+pub fn places_are_told()
+    ensures parts { (version : Version) (form : EntryForm) → has_form version form ≡ has_parts (parts_of version) form }
+    ensures syntax { (version : Version) (line : List ℕ) (place : FaultPlace) → FitsNames (parts_of version) line →
+        (syntax_place version line ≡ Some place) ↔ IsSyntaxPlace version line place }
+    ensures class { (points : List LinePoint) (place : FaultPlace) → (point_place points ≡ Some place) ↔ IsFirstBad points place }
+{}
+
+/// Examples, which the definitions compute.
+pub fn definitions_compute_the_places()
+    ensures { ExamplesOfPlaces }
+{}
+
+/// The place that is told of a line that is no entry and no range of some parts is the one that the grammar gives it, if it has at
+/// most 8,192 bytes or no tags; and none is told of one that is.
+pub fn wrong_places_are_told()
+    ensures place { (parts : EntryParts) (line : List ℕ) (place : WrongPlace) → FitsNames parts line →
+        (wrong_place parts line ≡ Some place) ↔ IsWrongPlace parts line place }
+    ensures whole { (parts : EntryParts) (line : List ℕ) → (wrong_place parts line ≡ None) ↔ IsWhole parts line }
+{}
+
+/// The place that is told of a line that defines nothing is the one that the grammar gives it. None is told of a line that defines
+/// something, however its sets are numbered, and of no other.
+pub fn wrong_definitions_are_told()
+    ensures place { (line : List ℕ) (place : WrongPlace) → (wrong_definition line ≡ Some place) ↔ definitions.IsWrongPlace line place }
+    ensures whole { (names : List (List ℕ)) (line : List ℕ) → is_some (wrong_definition line) ≡ not (is_some (definition_in names (lexemes line))) }
+{}
+
+/// The place that is told of a name is that of the first lexeme that names a set, a tag or a rule that is none of those given.
+pub fn unknown_names_are_told()
+    ensures sets { (sets : List (List ℕ)) (ws : List Placed) (place : WrongPlace) →
+        (unknown_set sets ws ≡ Some place) ↔ IsFirstLexeme (λ lexeme. is_unknown sets (set_name lexeme)) ws place }
+    ensures names { (tags rules : List (List ℕ)) (ws : List Placed) (place : WrongPlace) →
+        (unknown_name tags rules ws ≡ Some place) ↔ IsFirstUnknown tags rules Nothing ws place }
+{}

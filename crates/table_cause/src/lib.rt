@@ -1,0 +1,21 @@
+//! Why a table is refused: where its first faulty line has the fault. It is looked for only once the fault is told, and
+//! reading knows nothing of it.
+#![tactic(auto)]
+
+mod definition_place;
+mod entry_place;
+mod expected;
+pub mod laws;
+mod line_names;
+mod line_point;
+mod lines_before;
+mod place;
+mod placed;
+
+pub use definition_place::wrong_definition;
+pub use entry_place::{EntryParts, WrongPlace, wrong_place};
+pub use line_names::{
+    defined_name, keyword_place, name_place, ninth_group, unknown_name, unknown_set,
+};
+pub use line_point::{LinePoint, definition_points, line_points};
+pub use place::{FaultPlace, fault_place, faulty_line};

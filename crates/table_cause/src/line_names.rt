@@ -1,0 +1,116 @@
+//! The names on a line, and where what a definition may not have stands on its line. It is looked for only once the line is
+//! known to be faulty.
+ghost use Rattle.std.specs.Prelude.{◌≡◌, ◌≤◌};
+ghost use Rattle.std.specs.Option.{option_copied};
+ghost use Rattle.ruleset_text.specs.Lexemes.{lexemes};
+ghost use Rattle.table_cause.specs.LineNames as lines;
+ghost use Rattle.table_cause.specs.PlacedLexemes.{placed_lexemes};
+ghost use Rattle.ruleset_text.specs.SetNames.{set_name as set_name_of};
+
+use crate::entry_place::WrongPlace;
+use crate::expected::{Expected, expected_next};
+use crate::placed::next_placed;
+use ruleset_text::{Name, is_one_of, next_lexeme, set_name};
+
+/// The name that a line defines by a keyword, if it begins with it.
+pub fn defined_name<'a>(keyword: &[u8], line: &'a [u8]) -> Option<&'a [u8]>
+    ensures { option_copied result ≡ lines.defined_name keyword.now (lexemes line.now) }
+{
+    let (word, rest) = next_lexeme(line)?;
+    let (name, _) = next_lexeme(rest)?;
+    if word == keyword { Some(name) } else { None }
+}
+
+/// Where the first lexeme of a line stands: that of a definition is its keyword.
+pub fn keyword_place(line: &[u8]) -> Option<WrongPlace>
+    ensures { result ≡ lines.first_place (placed_lexemes line.now) }
+{
+    let (place, lexeme, _) = next_placed(0, line)?;
+    Some(WrongPlace::Lexeme(place, lexeme.len()))
+}
+
+/// Where the second lexeme of a line stands: that of a tag, a set or a rule is its name.
+pub fn name_place(line: &[u8]) -> Option<WrongPlace>
+    ensures { result ≡ lines.second_place (placed_lexemes line.now) }
+{
+    let (place, lexeme, rest) = next_placed(0, line)?;
+    let (place, lexeme, _) = next_placed(place + lexeme.len(), rest)?;
+    Some(WrongPlace::Lexeme(place, lexeme.len()))
+}
+
+/// Where a line first names a set by `@` and a name that is none of these.
+pub fn unknown_set(sets: &[Name], line: &[u8]) -> Option<WrongPlace>
+    ensures { result ≡ lines.unknown_set sets.now (placed_lexemes line.now) }
+{
+    let mut before = 0;
+    let mut rest = line;
+    while let Some((place, lexeme, others)) = next_placed(before, rest) {
+        if is_unknown(sets, set_name(lexeme)) {
+            return Some(WrongPlace::Lexeme(place, lexeme.len()));
+        }
+        before = place + lexeme.len();
+        rest = others;
+    }
+    None
+}
+
+fn is_unknown(sets: &[Name], name: Option<&[u8]>) -> bool
+    ensures { result ≡ lines.is_unknown sets.now (option_copied name.entry) }
+{
+    match name {
+        Some(name) => !is_one_of(sets, name),
+        None => false,
+    }
+}
+
+/// Where an entry first names a tag or a rule that is none of these.
+pub fn unknown_name(tags: &[Name], rules: &[Name], line: &[u8]) -> Option<WrongPlace>
+    ensures { result ≡ lines.unknown_name tags.now rules.now (placed_lexemes line.now) }
+{
+    let mut expected = Expected::Nothing;
+    let mut before = 0;
+    let mut rest = line;
+    while let Some((place, lexeme, others)) = next_placed(before, rest) {
+        if is_unexpected(tags, rules, expected, lexeme) {
+            return Some(WrongPlace::Lexeme(place, lexeme.len()));
+        }
+        expected = expected_next(expected, lexeme);
+        before = place + lexeme.len();
+        rest = others;
+    }
+    None
+}
+
+fn is_unexpected(tags: &[Name], rules: &[Name], expected: Expected, lexeme: &[u8]) -> bool
+    ensures { result ≡ lines.is_unexpected tags.now rules.now expected lexeme.now }
+{
+    match expected {
+        Expected::Nothing => false,
+        Expected::Tag => !is_one_of(tags, lexeme),
+        Expected::Rule => !is_one_of(rules, lexeme),
+    }
+}
+
+/// Where the first group begins that stands within eight others.
+pub fn ninth_group(line: &[u8]) -> Option<WrongPlace>
+    ensures { result ≡ lines.ninth_group (placed_lexemes line.now) }
+{
+    let mut groups = 0;
+    let mut before = 0;
+    let mut rest = line;
+    while let Some((place, lexeme, others)) = next_placed(before, rest) {
+        match lexeme {
+            b"(" => {
+                if groups == 8 {
+                    return Some(WrongPlace::Lexeme(place, lexeme.len()));
+                }
+                groups += 1;
+            }
+            b")" => groups = u64::saturating_sub(groups, 1),
+            _ => {}
+        }
+        before = place + lexeme.len();
+        rest = others;
+    }
+    None
+}

@@ -1,0 +1,127 @@
+//! What the lines before a faulty line of a ruleset define.
+ghost use Rattle.std.specs.Prelude.{◌≡◌, ◌++◌, [], IfOk, OnOk, if◌then◌else◌};
+ghost use Rattle.ruleset_text.specs.Lexemes.{lexemes};
+ghost use Rattle.table_cause.specs.LineNames.{defined_name as defined_in};
+ghost use Rattle.table_cause.specs.DefinitionPlaces as definitions;
+ghost use Rattle.table_cause.specs.inner.PlaceSteps.{lines_of};
+
+use crate::entry_place::WrongPlace;
+use crate::line_names::{defined_name, keyword_place, ninth_group};
+use idn_text::{TextLines, without_carriage_return};
+use ruleset_text::{Keyword, Name, keyword_of, next_lexeme};
+use std::alloc::{AllocError, Global};
+
+/// The first lines of a text.
+#[derive(Clone, Copy)]
+pub(crate) struct LinesBefore<'a> {
+    pub text: &'a [u8],
+    /// How many there are of them, or more.
+    pub count: u64,
+}
+
+impl<'a> LinesBefore<'a> {
+    /// The names that these lines define by a keyword.
+    pub(crate) fn names_defined(
+        &self,
+        alloc: Global,
+        keyword: &[u8],
+    ) -> Result<Vec<Name>, AllocError>
+        ensures { IfOk result (λ names. names.items ≡ definitions.names_defined keyword.now (lines_of self.now)) }
+    {
+        let mut names = Vec::new(alloc);
+        let mut lines = TextLines::new(self.text);
+        let mut left = self.count;
+        while left > 0 {
+            let Some(line) = lines.next() else {
+                return Ok(names);
+            };
+            add_name(alloc, keyword, without_carriage_return(line), &mut names)?;
+            left -= 1;
+        }
+        Ok(names)
+    }
+
+    /// What is past a limit in a line that is to define something: its keyword, if these lines define as many as may be, or the
+    /// first group within eight others.
+    pub(crate) fn limit_place(&self, line: &[u8]) -> Option<WrongPlace>
+        ensures { result ≡ definitions.definition_limit (lines_of self.now) line.now }
+    {
+        let keyword = first_keyword(line)?;
+        if self.has_most(keyword) {
+            keyword_place(line)
+        } else {
+            ninth_group(line)
+        }
+    }
+
+    /// Whether these lines define as many of what is counted with a keyword as may be.
+    fn has_most(&self, keyword: Keyword) -> bool
+        ensures { result ≡ definitions.has_most keyword (lines_of self.now) }
+    {
+        let most = most_defined(keyword);
+        let mut found = 0;
+        let mut lines = TextLines::new(self.text);
+        let mut left = self.count;
+        while left > 0 && found < most {
+            let Some(line) = lines.next() else {
+                return false;
+            };
+            let counts = is_counted_with(keyword, first_keyword(without_carriage_return(line)));
+            found += one_if(counts);
+            left -= 1;
+        }
+        found == most
+    }
+}
+
+/// Adds the name that a line defines by a keyword, if it defines one.
+fn add_name(
+    alloc: Global,
+    keyword: &[u8],
+    line: &[u8],
+    names: &mut Vec<Name>,
+) -> Result<(), AllocError>
+    ensures { OnOk result (names.new.items ≡ names.old.items ++ definitions.and_name (defined_in keyword.now (lexemes line.now)) []) }
+{
+    if let Some(name) = defined_name(keyword, line) {
+        names.push(Name::copied(alloc, name)?)?;
+    }
+    Ok(())
+}
+
+/// The keyword with which a line begins, if it does.
+fn first_keyword(line: &[u8]) -> Option<Keyword>
+    ensures { result ≡ definitions.first_keyword (lexemes line.now) }
+{
+    let (word, _) = next_lexeme(line)?;
+    keyword_of(word)
+}
+
+/// Whether what two keywords define is counted together.
+fn is_counted_with(keyword: Keyword, other: Option<Keyword>) -> bool
+    ensures { result ≡ definitions.is_counted_with keyword other }
+{
+    match (keyword, other) {
+        (_, None) => false,
+        (Keyword::Tag, Some(Keyword::Tag)) | (Keyword::Set, Some(Keyword::Set)) => true,
+        (Keyword::Tag | Keyword::Set, _) => false,
+        (_, Some(Keyword::Tag | Keyword::Set)) => false,
+        _ => true,
+    }
+}
+
+/// 1 for what counts, else 0.
+fn one_if(counts: bool) -> u64
+    ensures { result ≡ (if counts then 1 else 0) }
+{
+    if counts { 1 } else { 0 }
+}
+
+fn most_defined(keyword: Keyword) -> u64
+    ensures { result ≡ definitions.most_defined keyword }
+{
+    match keyword {
+        Keyword::Tag => 8,
+        Keyword::Set | Keyword::Rule | Keyword::Never | Keyword::Always => 256,
+    }
+}

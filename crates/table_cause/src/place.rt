@@ -1,0 +1,446 @@
+//! Where a line of a table has its fault. It is looked for only once the fault is told, and reading knows nothing of it.
+ghost use Rattle.std.specs.Prelude.{◌≡◌, ◌<◌, ◌&&◌, true, [], IfOk, Some, length, take, find, bytes_eq, slice_index_or};
+ghost use Rattle.std.specs.List.{range_with_len};
+ghost use Rattle.std.specs.Option.{option_copied, option_map};
+ghost use Rattle.ruleset_text.specs.Entries.{Mapped as Form};
+ghost use Rattle.ruleset_text.specs.EntryForms.{entry_form, mapped as form_of};
+ghost use Rattle.idn_text.specs.Lines.{raw_lines};
+ghost use Rattle.variant_table.specs.Conditions.{is_same_kind};
+ghost use Rattle.table_cause.specs.FaultPlaces as places;
+ghost use Rattle.table_cause.specs.FaultPlaces.{is_bad_point as is_bad, line_at as line_of};
+ghost use Rattle.variant_table.specs.Ranges.{range_size};
+ghost use Rattle.table_cause.specs.inner.PlaceSteps.{forms_of, lines_of};
+
+use crate::definition_place::wrong_definition;
+use crate::entry_place::{EntryParts, WrongPlace, wrong_place};
+use crate::line_names::{name_place, unknown_name, unknown_set};
+use crate::line_point::{LinePoint, definition_points, line_points};
+use crate::lines_before::LinesBefore;
+use idn_class::{Class, class_of};
+use idn_text::{TextLines, without_carriage_return};
+use ruleset_text::{EntryForm, Mapped, NamedCondition, read_entry, without_blanks};
+use std::alloc::{AllocError, Global};
+use variant_table::{Notation, TableFault, Version, head_of};
+
+/// Where a line has its fault. A place is a byte of the line, counted from 0: the first one of what is named.
+#[derive(Clone, Copy, Debug, PartialEq, Eq)]
+pub enum FaultPlace {
+    /// A lexeme that can't stand there, and how many bytes it has.
+    Lexeme(usize, usize),
+    /// The end of the line, at which something is missing.
+    End(usize),
+    /// A code point that no table may hold.
+    Point(usize, u32),
+    /// The first code point of a range that no table may hold, and the place of the range.
+    InRange(usize, u32),
+    /// A variant that is given again.
+    Variant(usize),
+    /// A source that an earlier entry has.
+    Source(usize),
+    /// The first byte past the limit of a line.
+    Byte(usize),
+    /// The ninth code point of a sequence.
+    NinthPoint(usize, u32),
+    /// The seventeenth variant, and its first code point.
+    SeventeenthVariant(usize, u32),
+}
+
+/// Where the line of a fault of this text has it, if a place is told: none in a text that lacks its version, and where no part of
+/// the line goes past a limit, as of an entry too many, of a text that is too long, or of atoms and `*` in a pattern.
+#[tactic(auto, unfolding(crate::specs::FaultPlaces::fault_place))]
+pub fn fault_place(
+    alloc: Global,
+    notation: Notation,
+    text: &[u8],
+    fault: TableFault,
+) -> Result<Option<FaultPlace>, AllocError>
+    ensures { IfOk result (λ place. place ≡ places.fault_place notation text.now fault) }
+{
+    let Some(head) = head_of(notation, text) else {
+        return Ok(None);
+    };
+    match faulty_line(text, fault) {
+        Some(line) => line_place(alloc, head.version, &before_fault(text, fault), fault, line),
+        None => Ok(None),
+    }
+}
+
+/// The line of a fault, as it stands in the text.
+pub fn faulty_line(text: &[u8], fault: TableFault) -> Option<&[u8]>
+    ensures { option_copied result ≡ places.faulty_line text.now fault }
+{
+    line_at(text, line_number(fault))
+}
+
+/// The number of the line of a fault.
+fn line_number(fault: TableFault) -> Option<u64>
+    ensures { result ≡ places.line_number fault }
+{
+    match fault {
+        TableFault::Syntax { line }
+        | TableFault::SameSource { line }
+        | TableFault::SameVariant { line }
+        | TableFault::BadClass { line }
+        | TableFault::Limit { line }
+        | TableFault::NoSuchName { line }
+        | TableFault::SameName { line } => Some(line),
+        TableFault::Memory => None,
+    }
+}
+
+/// The line of this number, from 1.
+fn line_at(text: &[u8], number: Option<u64>) -> Option<&[u8]>
+    ensures { option_copied result ≡ line_of (raw_lines text.now) number }
+{
+    let number = number?;
+    TextLines::new(text).nth(number.saturating_sub(1) as usize)
+}
+
+/// The lines before that of a fault.
+fn before_fault(text: &[u8], fault: TableFault) -> LinesBefore<'_>
+    ensures { lines_of result ≡ places.lines_before (raw_lines text.now) (places.line_number fault) }
+{
+    let count = match line_number(fault) {
+        Some(number) => number.saturating_sub(1),
+        None => 0,
+    };
+    LinesBefore { text, count }
+}
+
+/// The place in a line as it stands in the text.
+fn line_place(
+    alloc: Global,
+    version: Version,
+    before: &LinesBefore<'_>,
+    fault: TableFault,
+    line: &[u8],
+) -> Result<Option<FaultPlace>, AllocError>
+    ensures { IfOk result (λ place. place ≡ places.line_place version (lines_of before.now) fault line.now) }
+{
+    if line.len() > version.line_limit() {
+        return Ok(Some(FaultPlace::Byte(version.line_limit())));
+    }
+    body_place(alloc, version, before, fault, without_carriage_return(line))
+}
+
+fn body_place(
+    alloc: Global,
+    version: Version,
+    before: &LinesBefore<'_>,
+    fault: TableFault,
+    line: &[u8],
+) -> Result<Option<FaultPlace>, AllocError>
+    ensures { IfOk result (λ place. place ≡ places.body_place version (lines_of before.now) fault line.now) }
+{
+    match fault {
+        TableFault::Syntax { line: _ } => syntax_place(alloc, version, line),
+        _ => {
+            if defines(version, line) {
+                definition_place(alloc, before, fault, line)
+            } else {
+                other_place(alloc, before, fault, line)
+            }
+        }
+    }
+}
+
+/// The lexeme of a line that can't stand there, or its end.
+fn syntax_place(
+    alloc: Global,
+    version: Version,
+    line: &[u8],
+) -> Result<Option<FaultPlace>, AllocError>
+    ensures { IfOk result (λ place. place ≡ places.syntax_place version line.now) }
+{
+    if defines(version, line) {
+        return Ok(as_fault(wrong_definition(line)));
+    }
+    Ok(as_fault(wrong_place(alloc, parts_of(version), line)?))
+}
+
+/// The place in a line that is to define something: the name that none of the lines before has, or that one has; the first code
+/// point that no table may hold; what is past a limit.
+fn definition_place(
+    alloc: Global,
+    before: &LinesBefore<'_>,
+    fault: TableFault,
+    line: &[u8],
+) -> Result<Option<FaultPlace>, AllocError>
+    ensures { IfOk result (λ place. place ≡ places.definition_place (lines_of before.now) fault line.now) }
+{
+    match fault {
+        TableFault::NoSuchName { line: _ } => {
+            let sets = before.names_defined(alloc, b"%set")?;
+            Ok(as_fault(unknown_set(&sets, line)))
+        }
+        TableFault::SameName { line: _ } => Ok(as_fault(name_place(line))),
+        TableFault::BadClass { line: _ } => point_place(alloc, &definition_points(alloc, line)?),
+        TableFault::Limit { line: _ } => Ok(as_fault(before.limit_place(line))),
+        _ => Ok(None),
+    }
+}
+
+/// The place in the line of an entry or of a range.
+fn other_place(
+    alloc: Global,
+    before: &LinesBefore<'_>,
+    fault: TableFault,
+    line: &[u8],
+) -> Result<Option<FaultPlace>, AllocError>
+    ensures { IfOk result (λ place. place ≡ places.other_place (lines_of before.now) fault line.now) }
+{
+    match fault {
+        TableFault::NoSuchName { line: _ } => {
+            let tags = before.names_defined(alloc, b"%tag")?;
+            let rules = before.names_defined(alloc, b"%rule")?;
+            Ok(as_fault(unknown_name(&tags, &rules, line)))
+        }
+        _ => entry_place(alloc, fault, line),
+    }
+}
+
+fn as_fault(place: Option<WrongPlace>) -> Option<FaultPlace>
+    ensures { result ≡ option_map places.as_fault place }
+{
+    match place {
+        Some(WrongPlace::Lexeme(place, len)) => Some(FaultPlace::Lexeme(place, len)),
+        Some(WrongPlace::End(place)) => Some(FaultPlace::End(place)),
+        None => None,
+    }
+}
+
+/// The parts that entries and ranges of a version may have.
+fn parts_of(version: Version) -> EntryParts
+    ensures { result ≡ places.parts_of version }
+{
+    let (outside, blocked, ranges, named) = match version {
+        Version::One => (false, false, false, false),
+        Version::Two => (false, true, true, false),
+        Version::Three => (true, true, true, true),
+    };
+    EntryParts {
+        outside,
+        blocked,
+        ranges,
+        named,
+    }
+}
+
+/// Whether a line begins with `%` in version 3: it is to define something.
+fn defines(version: Version, line: &[u8]) -> bool
+    ensures { result ≡ places.defines version line.now }
+{
+    match version {
+        Version::One | Version::Two => false,
+        Version::Three => begins_in_percent(line),
+    }
+}
+
+fn begins_in_percent(line: &[u8]) -> bool
+    ensures { result ≡ places.begins_in_percent line.now }
+{
+    match without_blanks(line).first() {
+        None => false,
+        Some(first) => *first == b'%',
+    }
+}
+
+/// The same of a fault that goes by no name.
+fn entry_place(
+    alloc: Global,
+    fault: TableFault,
+    line: &[u8],
+) -> Result<Option<FaultPlace>, AllocError>
+    ensures { IfOk result (λ place. place ≡ places.entry_place fault line.now) }
+{
+    let form = read_entry(alloc, line)?;
+    let points = line_points(alloc, line)?;
+    match form {
+        Some(form) => form_place(alloc, fault, &form, &points),
+        None => Ok(None),
+    }
+}
+
+fn form_place(
+    alloc: Global,
+    fault: TableFault,
+    form: &EntryForm,
+    points: &[LinePoint],
+) -> Result<Option<FaultPlace>, AllocError>
+    ensures { IfOk result (λ place. place ≡ places.form_place fault (Some (entry_form form.now)) points.now) }
+{
+    match fault {
+        TableFault::BadClass { line: _ } => class_place(alloc, form.last, points),
+        TableFault::SameVariant { line: _ } => {
+            Ok(sequence_place(points, first_again(&form.mapped)))
+        }
+        TableFault::SameSource { line: _ } => Ok(source_place(points)),
+        TableFault::Limit { line: _ } => Ok(limit_place(points)),
+        _ => Ok(None),
+    }
+}
+
+/// The first code point that no table may hold. Of a range it is told where the range begins.
+fn class_place(
+    alloc: Global,
+    last: Option<u32>,
+    points: &[LinePoint],
+) -> Result<Option<FaultPlace>, AllocError>
+    ensures { IfOk result (λ place. place ≡ places.class_place last points.now) }
+{
+    match last {
+        None => point_place(alloc, points),
+        Some(last) => range_place(alloc, points, last),
+    }
+}
+
+fn point_place(alloc: Global, points: &[LinePoint]) -> Result<Option<FaultPlace>, AllocError>
+    ensures { IfOk result (λ place. place ≡ places.point_place points.now) }
+{
+    for p in points {
+        if is_bad_point(alloc, p.point)? {
+            return Ok(Some(FaultPlace::Point(p.place, p.point)));
+        }
+    }
+    Ok(None)
+}
+
+fn range_place(
+    alloc: Global,
+    points: &[LinePoint],
+    last: u32,
+) -> Result<Option<FaultPlace>, AllocError>
+    ensures { IfOk result (λ place. place ≡ places.range_place points.now last) }
+{
+    let Some(first) = points.first() else {
+        return Ok(None);
+    };
+    match bad_in_range(alloc, first.point, last)? {
+        Some(point) => Ok(Some(FaultPlace::InRange(first.place, point))),
+        None => Ok(None),
+    }
+}
+
+/// The first code point of a range that no table may hold.
+fn bad_in_range(alloc: Global, first: u32, last: u32) -> Result<Option<u32>, AllocError>
+    ensures { IfOk result (λ point. point ≡ find is_bad (range_with_len first (range_size first last))) }
+{
+    let count = (u64::from(last) + 1).saturating_sub(u64::from(first));
+    for offset in 0..count {
+        let point = first + offset as u32;
+        if is_bad_point(alloc, point)? {
+            return Ok(Some(point));
+        }
+    }
+    Ok(None)
+}
+
+/// Whether the class of a code point is one that no table may hold.
+fn is_bad_point(alloc: Global, point: u32) -> Result<bool, AllocError>
+    ensures { IfOk result (λ bad. bad ≡ is_bad point) }
+{
+    let class = class_of(alloc, point)?;
+    Ok(!matches!(class, Class::Pvalid | Class::Contextj | Class::Contexto))
+}
+
+/// The number of the first source or variant that stands before it.
+fn first_again(mapped: &[Mapped]) -> Option<usize>
+    ensures { result ≡ places.first_again [] (forms_of mapped.now) }
+{
+    for number in 0..mapped.len() {
+        if is_before(mapped, number) {
+            return Some(number);
+        }
+    }
+    None
+}
+
+/// Whether that of this number stands before it.
+fn is_before(mapped: &[Mapped], number: usize) -> bool
+    requires { number < length mapped.now }
+    ensures { (d : Form) → result ≡ places.stands_in true (take number (forms_of mapped.now)) (slice_index_or (forms_of mapped.now) number d) }
+{
+    for other in 0..number {
+        if is_again(other == 0, &mapped[other], &mapped[number]) {
+            return true;
+        }
+    }
+    false
+}
+
+/// Whether a sequence is that of the source, or of a variant, unless each of the two has a condition of its own.
+fn is_again(is_source: bool, earlier: &Mapped, later: &Mapped) -> bool
+    ensures { result ≡ places.is_again is_source (form_of earlier.now) (form_of later.now) }
+{
+    earlier.points.as_slice() == later.points.as_slice()
+        && (is_source || !are_other(&earlier.condition, &later.condition))
+}
+
+/// Whether these are two conditions, which differ.
+fn are_other(one: &Option<NamedCondition>, other: &Option<NamedCondition>) -> bool
+    ensures { result ≡ places.are_other one.now other.now }
+{
+    let Some(one) = one else {
+        return false;
+    };
+    match other {
+        Some(other) => !is_same(one, other),
+        None => false,
+    }
+}
+
+fn is_same(one: &NamedCondition, other: &NamedCondition) -> bool
+    ensures { result ≡ (is_same_kind one.now.kind other.now.kind && bytes_eq one.now.rule other.now.rule) }
+{
+    one.kind == other.kind && one.rule.as_slice() == other.rule.as_slice()
+}
+
+/// Where the sequence of this number begins.
+fn sequence_place(points: &[LinePoint], number: Option<usize>) -> Option<FaultPlace>
+    ensures { result ≡ places.sequence_place points.now number }
+{
+    let number = number?;
+    for p in points {
+        if p.sequence == number {
+            return Some(FaultPlace::Variant(p.place));
+        }
+    }
+    None
+}
+
+fn source_place(points: &[LinePoint]) -> Option<FaultPlace>
+    ensures { result ≡ places.source_place points.now }
+{
+    match points.first() {
+        Some(p) => Some(FaultPlace::Source(p.place)),
+        None => None,
+    }
+}
+
+/// The first code point that is the ninth of its sequence, or of the seventeenth variant.
+fn limit_place(points: &[LinePoint]) -> Option<FaultPlace>
+    ensures { result ≡ places.limit_place points.now }
+{
+    for p in points {
+        if is_past(p) {
+            return Some(past_place(p));
+        }
+    }
+    None
+}
+
+fn is_past(p: &LinePoint) -> bool
+    ensures { result ≡ places.is_past p.now }
+{
+    p.index == 8 || p.sequence == 17
+}
+
+fn past_place(p: &LinePoint) -> FaultPlace
+    ensures { result ≡ places.past_place p.now }
+{
+    if p.index == 8 {
+        FaultPlace::NinthPoint(p.place, p.point)
+    } else {
+        FaultPlace::SeventeenthVariant(p.place, p.point)
+    }
+}

@@ -1,0 +1,160 @@
+//! Entries with different sources, and the order of their sources.
+ghost use Rattle.std.specs.Prelude.{◌≡◌, ◌<◌, ◌^◌, [], length, slice_get, Some, IfOk, OnErr, false};
+ghost use Rattle.variant_table.specs.Entries.{unblocked, entry_from};
+ghost use Rattle.variant_table.specs.inner.Order.{IsOrderOf, IsPlaceFor, begins_at as begins_at_place, HasNoLonger};
+ghost use Rattle.variant_table.specs.Places.{entry_with};
+ghost use Rattle.variant_table.specs.inner.ReadingSteps.{Leaves, with_new_source};
+
+use crate::entries::Entries;
+use crate::entry::Entry;
+use crate::fault::TableFault;
+use crate::sequences::Sequences;
+use std::alloc::{AllocError, Global};
+use std::cmp::Ordering;
+use std::marker::Model;
+
+/// Entries with different sources, and their numbers in the order of their sources.
+#[derive(Drop)]
+pub struct OrderedEntries {
+    entries: Entries,
+    order: Vec<u16>,
+}
+
+impl Model for OrderedEntries {
+    ghost use Rattle.std.specs.Prelude.{List};
+    ghost use Rattle.variant_table.specs.inner.Order.{IsOrderOf};
+    ghost use Rattle.variant_table.specs.Places.{EntryValue};
+
+    ghost Value = { List EntryValue };
+
+    ghost view = { λ r. r.entries };
+
+    ghost invariant = { λ r. IsOrderOf r.entries r.order.items };
+}
+
+impl OrderedEntries {
+    pub fn new(alloc: Global) -> Self
+        ensures { result ≡ [] }
+    {
+        OrderedEntries {
+            entries: Entries::new(alloc),
+            order: Vec::new(alloc),
+        }
+    }
+
+    pub fn len(&self) -> usize
+        ensures { result ≡ length self.now }
+    {
+        self.entries.len()
+    }
+
+    /// The entry of this number.
+    pub fn get(&self, number: usize) -> Entry<'_>
+        requires { number < length self.now }
+        ensures { slice_get self.now number ≡ Some result }
+    {
+        self.entries.get(number)
+    }
+
+    /// The entry with this source.
+    pub fn find(&self, source: &[u32]) -> Option<Entry<'_>>
+        ensures { result ≡ entry_with self.now source.now }
+    {
+        self.look_up(source).entry
+    }
+
+    /// The entry with this source, and whether a longer source may begin with it.
+    pub fn look_up(&self, source: &[u32]) -> LookUp<'_>
+        ensures entry { result.entry ≡ entry_with self.now source.now }
+        ensures longer { result.has_longer ≡ false → HasNoLonger self.now source.now }
+    {
+        match search(&self.entries, &self.order, source) {
+            SourcePlace::Found(place) => LookUp {
+                entry: Some(self.entries.get(self.order[place] as usize)),
+                has_longer: begins_at(&self.entries, &self.order, place + 1, source),
+            },
+            SourcePlace::Absent(place) => LookUp {
+                entry: None,
+                has_longer: begins_at(&self.entries, &self.order, place, source),
+            },
+        }
+    }
+
+    /// Adds the entry of these sequences, of which the first is the source, unless another entry has that
+    /// source. They stand on the line of this number. An `Err` changes nothing.
+    pub fn push(&mut self, number: u64, sequences: &Sequences) -> Result<(), TableFault>
+        requires some { 0 < length sequences.now }
+        requires room { length self.old < 2 ^ 16 }
+        ensures read { Leaves number result self.new (with_new_source self.old (entry_from sequences.now)) }
+        ensures err { OnErr result (self.new ≡ self.old) }
+    {
+        let SourcePlace::Absent(place) = search(&self.entries, &self.order, sequences.get(0)) else {
+            return Err(TableFault::SameSource { line: number });
+        };
+        let entry = self.entries.len() as u16;
+        self.order.reserve(1)?;
+        self.entries.push(sequences)?;
+        self.order.insert(place, entry).unwrap();
+        Ok(())
+    }
+
+    /// The entries without their blocked variants. Their sources keep their order.
+    pub fn unblocked(&self, alloc: Global) -> Result<OrderedEntries, AllocError>
+        ensures { IfOk result (λ entries. entries ≡ unblocked self.now) }
+    {
+        Ok(OrderedEntries {
+            entries: self.entries.unblocked(alloc)?,
+            order: Vec::from_slice(alloc, &self.order)?,
+        })
+    }
+}
+
+/// What a search for a sequence finds among the sources.
+#[derive(Drop)]
+pub struct LookUp<'a> {
+    /// The entry whose source it is.
+    pub entry: Option<Entry<'a>>,
+    /// Whether a longer source may begin with it. If this is false, none does.
+    pub has_longer: bool,
+}
+
+/// Where a source stands in the order of the sources.
+#[derive(Clone, Copy, Debug, PartialEq, Eq)]
+enum SourcePlace {
+    /// At this place.
+    Found(usize),
+    /// Nowhere: it would stand at this place.
+    Absent(usize),
+}
+
+/// The place of a source in the order of the sources.
+fn search(entries: &Entries, order: &[u16], source: &[u32]) -> SourcePlace
+    requires { IsOrderOf entries.now order.now }
+    ensures { IsPlaceFor entries.now order.now source.now result }
+{
+    let mut low = 0;
+    let mut high = order.len();
+    // The last source is compared first, since the sources of most tables rise.
+    let mut place = high.saturating_sub(1);
+    while low < high {
+        match entries.get(order[place] as usize).source().cmp(&source) {
+            Ordering::Less => low = place + 1,
+            Ordering::Equal => return SourcePlace::Found(place),
+            Ordering::Greater => high = place,
+        }
+        place = low + (high - low) / 2;
+    }
+    SourcePlace::Absent(low)
+}
+
+/// Whether there is a source at this place of the order that begins with a sequence.
+fn begins_at(entries: &Entries, order: &[u16], place: usize, sequence: &[u32]) -> bool
+    requires { IsOrderOf entries.now order.now }
+    ensures { result ≡ begins_at_place entries.now order.now place sequence.now }
+{
+    place < order.len()
+        && entries
+            .get(order[place] as usize)
+            .source()
+            .starts_with(sequence)
+}
