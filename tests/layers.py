@@ -157,6 +157,14 @@ def says_what_each_crate_stands_on(folder):
             assert said[crate] == set(below), (crate, said[crate] ^ set(below))
 
 
+def names_no_module_as_a_library(folder):
+    """A module that has the name of a library of its crate would hide it. Only rt ci refuses it, at the end of the gate."""
+    libraries = reach(crates()) | {"std"}
+    for crate in crates():
+        words = {word for module in sources(crate) for word in module.split("/")}
+        assert not words & libraries, (crate, words & libraries)
+
+
 def leads_a_line_through_functions_that_are_there(folder):
     """Each function of the tables that follow a line stands in the file beside it."""
     rows = re.findall(r"^\| \d+ \| (.*?) \| `(\w+)/([\w/]+\.rt)` \|", text_of("docs", "ARCHITECTURE.md"), re.MULTILINE)
@@ -199,6 +207,7 @@ TESTS = [
     names_no_laws,
     lists_the_lowest_crate_first,
     says_what_each_crate_stands_on,
+    names_no_module_as_a_library,
     leads_a_line_through_functions_that_are_there,
 ]
 

@@ -3,8 +3,8 @@
 pub(crate) mod cause;
 pub(crate) mod details;
 pub(crate) mod explaining;
+pub(crate) mod fault_cause;
 pub(crate) mod message;
 pub(crate) mod refusing;
 pub(crate) mod table;
-pub(crate) mod table_cause;
 pub(crate) mod wrong_line;

@@ -18,7 +18,7 @@ use crate::output::stop::Stop;
 use crate::refusals::cause::LineCause;
 use crate::refusals::details::details_of_refusal;
 use crate::refusals::message::{explained_message, table_message};
-use crate::refusals::table_cause::fault_cause_if_wanted;
+use crate::refusals::fault_cause::fault_cause_if_wanted;
 use idn_text::{Refusal, Sink};
 use idn2_options::Form;
 use std::alloc::Global;
