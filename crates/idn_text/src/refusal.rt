@@ -42,11 +42,11 @@ pub enum Refusal {
     LookupInvalid,
     /// A name, or a label of it, whose length the DNS refuses (RFC 1035 section 2.3.4).
     LookupLength,
-    /// A line of a table that is no entry, comment or blank line.
+    /// A line of a table that is not blank, and is no comment, no entry and no definition.
     Syntax,
     /// A source that an earlier line of the table has.
     SameSource,
-    /// A variant that its entry has twice, or that is the source itself.
+    /// A variant that its entry has twice under the same condition, or that is the source itself.
     SameVariant,
     /// A code point that a table may not hold.
     BadClass,

@@ -19,7 +19,7 @@ pub enum TableFault {
     /// Two equal variants, or a variant equal to its source.
     #[error("variant given twice")]
     SameVariant { line: u64 },
-    /// A set that no earlier line defines.
+    /// A tag, a set or a rule that no earlier line defines.
     #[error("name not defined")]
     NoSuchName { line: u64 },
     /// A tag, a set or a rule with the name of an earlier one.

@@ -8,8 +8,8 @@ ghost use Rattle.variant_table.specs.Versions.{version_number};
 
 use idn_text::{TextLines, without_carriage_return};
 
-/// Version 2 adds ranges of code points and blocked variants to version 1. Version 3, that of a ruleset,
-/// adds larger limits, outside sources and definitions.
+/// Version 2 adds ranges of code points and blocked variants to version 1. Version 3, that of a ruleset, adds sources
+/// that are outside, conditions, tags and definitions, and has larger limits.
 #[derive(Clone, Copy, Debug, PartialEq, Eq)]
 pub enum Version {
     One,
