@@ -23,7 +23,7 @@ use Rattle.idn2_cli.specs.declared.refusals.cause.LineCause.TheVariants.{Byte, L
 abbrev pub placed : ℕ → ℕ → Details
 placed place c = record no_details { code_point = Some c; place = Some (place + 1) }
 
--- the same with the rule that it is against
+-- a code point and its place, with the rule that it is against
 abbrev pub placed_by : ℕ → ℕ → List ℕ → Details
 placed_by place c rule = record (placed place c) { rule = Some rule }
 
@@ -109,7 +109,7 @@ line_details refusal (BrokenDemand number kind) = record no_details { demand = S
 line_details refusal (Ends place) = record no_details { place = Some (place + 1) }
 line_details refusal (OfTable place quoted) = fault_place_details place
 
--- the same, if there is a cause
+-- what an object says of the cause, if there is one
 abbrev pub told_details : Refusal → Option LineCause → Details
 told_details refusal None = no_details
 told_details refusal (Some cause) = line_details refusal cause

@@ -45,7 +45,7 @@ explained_by_mode Variants o table = ByTable table
 explained_by_mode Jump o table = ByRequest table
 explained_by_mode CheckTable o table = Unexplained
 
--- the same, if causes are wanted
+-- how a mode explains, if causes are wanted
 abbrev pub if_wanted : Bool → Explained → Explained
 if_wanted explain explained = if explain then explained else Unexplained
 

@@ -163,7 +163,7 @@ lines_statements how answer lines = flat_map (λ line. answer_statements how lin
 abbrev pub outputs : {X : Type 0} → (X → List ℕ) → List X → List Piece
 outputs text xs = map (λ x. Output (text x)) xs
 
--- the same as it is written: the pieces of an answer
+-- the pieces of an answer, or of a refusal, as they are written
 abbrev pub pieces_for : Form → Explained → Numbered → LineAnswer → List Piece
 pieces_for form how line (Ok said) = outputs (said_text form line) said
 pieces_for form how line (Err refusal) = piece_in form (Refuses line refusal (body_cause how line.body refusal)) ∷ []
@@ -190,9 +190,8 @@ status_if refused = if refused then Refused else Clean
 abbrev pub check_findings : List Entry → List Finding
 check_findings table = map Gap (gaps_of table) ++ Counted (length table) (length (gaps_of table)) ∷ []
 
--- the same, by what it has to be
--- each pair that symmetry or transitivity requires and the table lacks, in order, and then how many entries and how many such pairs
--- there are
+-- what a check finds, by what it has to be: each pair that symmetry or transitivity requires and the table lacks, in
+-- order, and then how many entries and how many such pairs there are
 pub record IsCheck (table : List Entry) (findings : List Finding) : Type 0 where
   pub gaps : List (List ℕ × List ℕ)
   pub exactly : AreGapsOf table gaps
@@ -203,7 +202,7 @@ abbrev pub check_statements : Bool → TableGiven → List Statement
 check_statements wanted (Err fault) = Faults fault.0 fault.1 (told_if wanted fault.2) ∷ []
 check_statements wanted (Ok table) = map Finds (check_findings table.entries)
 
--- the same as it is written
+-- what is said of a table, as it is written
 abbrev pub check_pieces : Form → Bool → TableGiven → List Piece
 check_pieces form wanted (Err fault) = piece_in form (Faults fault.0 fault.1 (told_if wanted fault.2)) ∷ []
 check_pieces form wanted (Ok table) = outputs (finding_text form) (check_findings table.entries)

@@ -49,6 +49,6 @@ MayTakeMemory text number OutOfOrder = ⊥
 MayTakeMemory text number FileTooLong = ⊥
 MayTakeMemory text number refusal = body_at text number ≢ None
 
--- the same, if causes are wanted
+-- the cause of a wrong line, if causes are wanted
 abbrev pub told_of_wrong_line : Bool → List ℕ → ℕ → Refusal → Option LineCause
 told_of_wrong_line wanted text number refusal = if wanted then wrong_line_cause text number refusal else None

@@ -32,7 +32,7 @@ abbrev pub barred_by : List ℕ → ℕ → Option BarringLine → Option Cause
 barred_by label place None = None
 barred_by label place (Some line) = Some (Barred place (slice_index label place) line)
 
--- the same of a place that may be none
+-- the code point at a place, with the line that bars it, if there is such a place
 abbrev pub barred_at : List ℕ → Option ℕ → Option Cause
 barred_at label None = None
 barred_at label (Some place) = barred_by label place (barring_line (slice_index label place))

@@ -39,7 +39,7 @@ cause_at_label refusal (Some (number, label)) = at_label number (a_label_cause (
 unfoldable pub name_cause : List ℕ → Refusal → Option NameCause
 name_cause name refusal = cause_at_label refusal (first_failing_label is_decoded 0 (labels_of name))
 
--- the same by what it has to be
+-- the cause of a refused name, by what it has to be
 abbrev pub IsNameCause : List ℕ → Refusal → NameCause → Type 0
 IsNameCause name refusal cause =
     (label : List ℕ) × IsFirstFailingLabel (labels_of name) (λ other. IsTrue (is_decoded other)) cause.label label
@@ -64,7 +64,7 @@ length_cause_or octets None = if nat_lt 253 octets then Some (NameOctets octets)
 abbrev pub length_cause : List ℕ → Option LengthCause
 length_cause ascii = length_cause_or (length (without_root ascii)) (first_failing_label has_label_length 0 (labels_of (without_root ascii)))
 
--- the same of what a name in UTF-8 is in a query, if that is a name
+-- the cause of a wrong length of what ToASCII makes of a name, if it makes something of it
 abbrev pub length_cause_of : Option (List ℕ) → Option LengthCause
 length_cause_of None = None
 length_cause_of (Some ascii) = length_cause ascii
@@ -74,7 +74,7 @@ unfoldable pub query_cause : List ℕ → Bool → Refusal → Option LengthCaus
 query_cause utf8 std3 LookupLength = length_cause_of (to_ascii (deny_list std3) Allow Ignore utf8)
 query_cause utf8 std3 refusal = None
 
--- the same by what it has to be
+-- the cause of a wrong length, by what it has to be
 abbrev pub IsLengthCause : List ℕ → LengthCause → Type 0
 IsLengthCause name (LabelOctets number octets) =
     (label : List ℕ) × IsFirstFailingLabel (labels_of name) (λ other. IsTrue (has_label_length other)) number label × (octets ≡ length label)

@@ -3,9 +3,9 @@
 /// What is asked of a rule: RFC 7940, section 5.2, calls them "when" and "not-when".
 #[derive(Clone, Copy, Debug, PartialEq, Eq)]
 pub enum ConditionKind {
-    /// It holds.
+    /// The rule has to hold.
     When,
-    /// It doesn't hold.
+    /// The rule must not hold.
     Unless,
 }
 

@@ -16,9 +16,9 @@ use std::alloc::{AllocError, Global};
 /// What a demand asks of each label.
 #[derive(Clone, Copy, Debug, PartialEq, Eq)]
 pub enum DemandKind {
-    /// No part of it matches the pattern.
+    /// No part of a label matches the pattern.
     Never,
-    /// Some part of it does.
+    /// Some part of each label matches the pattern.
     Always,
 }
 

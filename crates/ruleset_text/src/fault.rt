@@ -9,14 +9,14 @@ use std::alloc::{AllocError, AllocFailed};
 pub enum DefinitionFault {
     /// The line has not the form of its keyword.
     Syntax,
-    /// It goes past a limit: 8 tags, 256 sets, 256 rules and demands together, 4,096 atoms in all patterns, 8 groups or
-    /// two `*` within each other, 8,192 bytes of a canonical line, or the room for the canonical text.
+    /// The line goes past a limit: 8 tags, 256 sets, 256 rules and demands together, 4,096 atoms in all patterns, 8
+    /// groups or two `*` within each other, 8,192 bytes of a canonical line, or the room for the canonical text.
     Limit,
-    /// It names a set that no earlier line defines.
+    /// The line names a set that no earlier line defines.
     NoSuchName,
-    /// A code point is written on it whose class is none of PVALID, CONTEXTJ and CONTEXTO.
+    /// A code point is written on the line whose class is none of PVALID, CONTEXTJ and CONTEXTO.
     BadClass,
-    /// An earlier line defines its name.
+    /// The line defines a name that an earlier line defines.
     SameName,
     /// Memory was refused.
     Memory,

@@ -13,14 +13,14 @@ enum Last {
     Nothing,
     /// What `?` and `*` may stand after.
     Atom,
-    /// Anything else.
+    /// An item after which neither of the two may stand.
     Item,
 }
 
 /// How far a pattern was read.
 #[derive(Clone, Copy, Debug, PartialEq, Eq)]
 struct PatternState {
-    /// It is that of a rule, so `_` stands once in each branch.
+    /// The pattern is that of a rule, so `_` stands once in each branch.
     is_rule: bool,
     /// How many groups are open.
     groups: usize,

@@ -19,7 +19,7 @@ pub struct LinePoint {
     pub point: u32,
     /// The number of its sequence in the line. That of the source is 0.
     pub sequence: usize,
-    /// Its number in the sequence.
+    /// The number of the code point in its sequence.
     pub index: usize,
 }
 

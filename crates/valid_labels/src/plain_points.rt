@@ -13,7 +13,7 @@ const NO_POINT: u32 = u32::MAX;
 #[derive(Drop)]
 pub struct PlainPoints<'a> {
     pieces: &'a Pieces<'a>,
-    /// Such code points, each in the slot of its last bits.
+    /// Code points of which it is known that they stand for themselves alone, each in the slot of its last bits.
     known: [u32; SLOTS],
 }
 

@@ -3,11 +3,11 @@
 /// Whether a label may be asked about.
 #[derive(Clone, Copy, Debug, PartialEq, Eq)]
 pub enum Admission {
-    /// It can't be cut into sources of the table, whatever their conditions. Outside sources don't count.
+    /// The label can't be cut into sources of the table, whatever their conditions. Outside sources don't count.
     NotMade,
-    /// It can be cut into sources, but not so that their conditions hold; or it breaks a demand.
+    /// The label can be cut into sources, but not so that their conditions hold; or it breaks a demand.
     NotValid,
-    /// It may be asked about.
+    /// The label may be asked about.
     Admitted,
 }
 
@@ -16,8 +16,8 @@ pub enum Admission {
 pub enum Validity {
     /// The first code points, as many as told, are the shortest beginning with which no valid label begins.
     Lost(usize),
-    /// It is valid.
+    /// The label is valid.
     Valid,
-    /// It isn't valid, but has no lost beginning.
+    /// The label isn't valid, but has no lost beginning.
     NotValid,
 }

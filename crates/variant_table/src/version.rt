@@ -17,7 +17,7 @@ pub enum Version {
     Three,
 }
 
-/// As what a text is read. No text is both.
+/// How a text is read: as a table or as a ruleset. No text is both.
 #[derive(Clone, Copy, Debug, PartialEq, Eq)]
 pub enum Notation {
     /// A table of version 1, or of version 2 if its first line is `%version 2`.

@@ -24,11 +24,11 @@ abbrev pub with_feed : Result (List ℕ) Refusal → Result (List ℕ) Refusal
 with_feed (Ok line) = Ok (line ++ 10 ∷ [])
 with_feed (Err refusal) = Err refusal
 
--- the same of lookup, by the bytes of the name: they need not be decoded to be looked up
+-- the answer of lookup, by the bytes of the name: they need not be decoded to be looked up
 unfoldable pub query_answer : List ℕ → Bool → Result (List ℕ) Refusal
 query_answer bytes std3 = if length bytes == 0 then Err Empty else utf8_answer bytes std3
 
--- the same of decoding
+-- the answer of decoding, by the bytes of the name
 unfoldable pub decoded_answer : List ℕ → Result (List ℕ) Refusal
 decoded_answer bytes = if length bytes == 0 then Err Empty else decode_utf8_answer bytes
 

@@ -26,7 +26,7 @@ impl Answering for Decode {
 
     ghost needs_none = { λ _ name. DecodesLineWithoutMemory name };
 
-    // It is called once for each line.
+    // Always inline: it is called once for each line.
     #[inline(always)]
     fn answer<W: Sink, E: Sink>(
         &self,
@@ -47,7 +47,7 @@ impl Answering for Decode {
 
 /// Writes into `line` a name with U-labels in place of its A-labels and a line feed, and returns the length of that. Where
 /// the name is refused, what is left says nothing. `u_label` is room for what an A-label stands for.
-// It is called once for each line.
+// Always inline: it is called once for each line.
 #[inline(always)]
 fn fill_line(
     alloc: Global,

@@ -14,7 +14,7 @@ use variant_table::Table;
 /// spells under them.
 #[derive(Drop)]
 pub(crate) enum Dispositions<T> {
-    /// None is told: the table is of version 1.
+    /// No disposition is told: the table is of version 1.
     Unstated,
     /// Each variant may be allocated: the table has no blocked one, and no tags.
     AllAllocatable,

@@ -41,7 +41,7 @@ pub(crate) enum Explaining<'t> {
     Sources(&'t Table),
     /// By the label of a request, and how far sources of this table reach in it.
     Request(&'t Table),
-    /// By a label, as it stands.
+    /// By a label as it stands: a line of the file of registered labels.
     Test,
 }
 

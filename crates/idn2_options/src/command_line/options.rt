@@ -21,7 +21,7 @@ pub struct Options {
     pub form: Form,
     /// The name of the file of the table or ruleset. Empty where the mode has none.
     pub file: String,
-    /// As what that file is read. `Table` where the mode has none.
+    /// How that file is read: as a table or as a ruleset. `Table` where the mode has none.
     pub notation: Notation,
     /// The lines given as words. Where there are none, the standard input is read.
     pub strings: Vec<String>,

@@ -129,7 +129,7 @@ pub(crate) fn checks(matches: &ArgMatches<'_>) -> bool
     checked_file(matches).is_some()
 }
 
-/// As what the file is read.
+/// How the file is read: as a table or as a ruleset.
 pub(crate) fn notation_of(matches: &ArgMatches<'_>) -> Notation
     ensures { result ≡ notation_of (rows_of (found_of matches.now)) }
 {
