@@ -535,6 +535,23 @@ def has_an_example_by_each_definition(folder):
     assert len(parts) > 35 and not lacking, lacking
 
 
+def lists_definitions_where_they_stand(folder):
+    """Each name of the tables after the tour is defined in the file above its table. Twice named are only those that are said to
+    be two definitions."""
+    tables = text_of("docs", "DEFINITIONS.md").partition("\n# All definitions\n")[2]
+    rows, absent = collections.Counter(), []
+    for file, table in re.findall(r"^In (\S+\.antt):\n\n((?:\|.*\n)+)", tables, re.MULTILINE):
+        defined = names_in(r"^(?:abbrev |unfoldable )?pub (?:record |data )?(\S+)", text_of("crates", file))
+        named = re.findall(r"^\| `(\S+)` \|", table, re.MULTILINE)
+        rows.update(named)
+        absent += [(file, name) for name in named if name not in defined]
+    said = tables.partition("\n## ")[0]
+    twice = {name for cell in re.findall(r"^\| (`.*?) \|", said, re.MULTILINE) for name in re.findall(r"`(\S+?)`", cell)}
+    assert sum(rows.values()) > 400 and not absent, (sum(rows.values()), absent)
+    repeated = {name for name, count in rows.items() if count > 1}
+    assert repeated == twice, repeated ^ twice
+
+
 def prose_lines(document):
     """The lines of a document with their numbers: no table, no session, no script."""
     fenced = False
@@ -585,6 +602,7 @@ TESTS = [
     tells_which_answers_changed,
     quotes_definitions_as_they_stand,
     has_an_example_by_each_definition,
+    lists_definitions_where_they_stand,
     keeps_the_lines_of_its_prose_short,
     needs_no_newer_python_than_is_said,
 ]
