@@ -176,6 +176,21 @@ def leads_a_line_through_functions_that_are_there(folder):
     assert len(named) > 90 and not absent, (len(named), absent)
 
 
+def names_what_is_in_other_files(folder):
+    """What a row of these tables says of another file stands there: `name` in `file.rt`, beside the file of the row or below
+    crates/."""
+    rows = re.findall(r"^\| \d+ \| .*? \| `(\w+)/([\w/]+\.rt)` \| (.*) \|$", text_of("docs", "ARCHITECTURE.md"), re.MULTILINE)
+    named = [(name, other if other.split("/")[0] in crates() else os.path.join(crate, os.path.dirname(file), other))
+             for crate, file, said in rows for name, other in re.findall(r"`(?:\w+::)?(\w+)` in `([\w/]+\.rt)`", said)]
+    absent = []
+    for name, path in named:
+        crate, _, file = path.partition("/")
+        path = os.path.join(ROOT, "crates", crate, "src", file)
+        if not os.path.exists(path) or not re.search(rf"\b(?:fn|struct|enum|trait) {name}\b", text_of(path)):
+            absent.append((name, path))
+    assert len(named) > 10 and not absent, (len(named), absent)
+
+
 def has_a_row_for_each_module(folder):
     """The tables of rooms have each module of their crate once, and each crate but the one with rooms of its own."""
     section = text_of("docs", "ARCHITECTURE.md").partition("\n## The rooms of each crate\n")[2].partition("\n## ")[0]
@@ -221,6 +236,7 @@ TESTS = [
     says_what_each_crate_stands_on,
     names_no_module_as_a_library,
     leads_a_line_through_functions_that_are_there,
+    names_what_is_in_other_files,
     has_a_row_for_each_module,
 ]
 
