@@ -71,7 +71,8 @@ validity_cause table label (validity.Misplaced place condition) =
     Misplaced place (slice_index label place) condition.kind (record { items = rule_name table.definitions condition.rule })
 validity_cause table label (validity.Broken number kind) = Broken number kind
 
--- the same of a label that is short enough to be registered (RFC 7940, sections 6.3 and 7)
+-- why a label that is short enough to be registered, and made of sources, may not be asked about (RFC 7940, sections
+-- 5.2 and 7)
 abbrev pub invalid_cause : TableValue → List ℕ → Option LineCause
 invalid_cause table label =
     if nat_le (length label) 63 then option_map (validity_cause table label) (validity_causes.cause_of table label) else None

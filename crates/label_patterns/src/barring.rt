@@ -62,7 +62,8 @@ pub fn one_ends_before(rule: &PatternTree, seen: &SeenLabel, start: usize) -> bo
     }
 }
 
-/// The same for a context in which nothing stands after `_`.
+/// Whether what stands before `_` is found before a place of the label, in one of the rule's contexts in which nothing
+/// stands after `_`.
 pub fn one_is_done(rule: &PatternTree, seen: &SeenLabel, start: usize) -> bool
     requires known { HasItsSets (length seen.now.sets) (pattern rule.now) }
     requires start { start ≤ length seen.now.label }

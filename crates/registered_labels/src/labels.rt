@@ -18,7 +18,8 @@ use memchr::memchr;
 use std::alloc::{AllocError, AllocFailed, Global};
 use std::marker::Model;
 
-/// The most code points of a label (RFC 1034, section 3.1).
+/// The most code points of a label: the A-label of a longer one has more octets than the 63 that a label has in the DNS
+/// (RFC 1035, section 2.3.4).
 pub(crate) const MAX_LABEL_LEN: usize = 63;
 
 /// The most bytes of a label in UTF-8.
@@ -137,7 +138,7 @@ impl<'a> RegisteredLabels<'a> {
         requires { index < length self.now }
         ensures { slice_get self.now index ≡ Some points.new.items }
     {
-        // Naming a field makes the invariant of the type known.
+        // Only for the proof: where a field is read, the invariant of its type is known.
         let _ = &self.text;
         let Ok(()) = decode_points(self.line(index), points) else {
             unreachable!()
@@ -179,7 +180,7 @@ impl<'a> RegisteredLabels<'a> {
         requires scalar_values { AreScalarValues label.now }
         ensures { IsFirstFrom self.now from label.now result }
     {
-        // How many there are is read for its contract alone: the labels are in label order.
+        // Only for the proof: the contract of `len` says that the labels are in label order.
         let _count = self.len();
         let mut room = [0; MAX_KEY_LEN];
         let len = put_points(label, &mut room, 0);

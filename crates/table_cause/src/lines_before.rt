@@ -15,7 +15,7 @@ use std::alloc::{AllocError, Global};
 #[derive(Clone, Copy)]
 pub(crate) struct LinesBefore<'a> {
     pub text: &'a [u8],
-    /// How many there are of them, or more.
+    /// How many lines these are. If the text has fewer, they are all its lines.
     pub count: u64,
 }
 

@@ -19,7 +19,8 @@ pub fn reached<A: Asking>(table: &Table, sequences: &[Vec<u32>], label: &[u32], 
     reached_over(table, sequences, label, asking, 0)
 }
 
-/// The same, where `plain` has places of which it is known that one code point, and nothing else, stands there.
+/// The places up to which a label can be cut, as `reached` tells them, where `plain` has places of which it is known
+/// that one code point, and nothing else, stands there.
 pub fn reached_over<A: Asking>(
     table: &Table,
     sequences: &[Vec<u32>],
@@ -33,7 +34,7 @@ pub fn reached_over<A: Asking>(
     requires plain { ArePlain (StepIs (A.asks asking.now) table.now.entries (map (λ v. v.items) sequences.now) label.now) (length label.now) plain }
     ensures { (j : _) → Has result j ↔ Rounds (StepIs (A.asks asking.now) table.now.entries (map (λ v. v.items) sequences.now) label.now) 0 j }
 {
-    // The length is read for its contract alone: no source is empty.
+    // Only for the proof: the contract of `len` says that no source is empty.
     let _entries = table.len();
     let mut found = 1;
     for place in 0..label.len() {

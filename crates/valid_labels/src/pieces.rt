@@ -72,7 +72,7 @@ impl<'a> Pieces<'a> {
     pub(crate) fn is_plain(&self, point: u32) -> bool
         ensures { IsTrue result → IsPlain self.now point }
     {
-        // The length is read for its contract alone: no two sources are equal.
+        // Only for the proof: the contract of `len` says that no two sources are equal.
         let _entries = self.table.len();
         let lone: &[Vec<u32>] = &self.lone;
         if one_begins(lone, point) {
@@ -84,7 +84,7 @@ impl<'a> Pieces<'a> {
         }
     }
 
-    /// Reads of the table that it is sound.
+    /// Does nothing. It is only for the proof: its contract says that the table is sound.
     pub(crate) fn be_sound(&self)
         ensures { IsSound self.now }
     {
@@ -112,7 +112,7 @@ fn lone_variants(alloc: Global, table: &Table) -> Result<Vec<Vec<u32>>, AllocErr
     Ok(lone)
 }
 
-/// Adds those of an entry.
+/// Adds the variants of an entry that are not made of sources.
 fn add_lone(
     lone: &mut Vec<Vec<u32>>,
     alloc: Global,

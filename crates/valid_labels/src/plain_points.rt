@@ -35,7 +35,7 @@ impl<'a> PlainPoints<'a> {
     ghost use Rattle.std.specs.Prelude.{◌≡◌, IsTrue};
     ghost use Rattle.valid_labels.specs.inner.Pieces.{IsPlain};
 
-    /// Those of a table.
+    /// The code points of a table that stand for themselves alone, of which none is kept yet.
     pub fn new(pieces: &'a Pieces<'a>) -> Self
         ensures { result ≡ pieces.now }
     {

@@ -99,7 +99,7 @@ impl Notation {
         }
     }
 
-    /// The version of a text with such a line.
+    /// The version of a text that begins with the version line.
     fn version_named(self) -> Version
         ensures { result ≡ versions.version_named self }
     {
@@ -109,7 +109,7 @@ impl Notation {
         }
     }
 
-    /// The version of a text without such a line, if it has one.
+    /// The version of a text that does not begin with the version line, if it has one.
     fn version_unnamed(self) -> Option<Version>
         ensures { result ≡ versions.version_unnamed self }
     {

@@ -75,7 +75,7 @@ impl<'t, 'p, 'r, 'b> PointAnswering for Variants<'t, 'p, 'r, 'b> {
     }
 }
 
-/// Writes the block of a net's label.
+/// Writes the block of a net's label: its variants up to the stop, or those that are registered.
 fn write_lines<W: Sink, E: Sink>(
     alloc: Global,
     mode: &Variants<'_, '_, '_, '_>,

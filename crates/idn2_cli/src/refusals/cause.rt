@@ -39,7 +39,7 @@ pub(crate) enum Explaining<'t> {
     Query(bool),
     /// By a label, and how far sources of this table reach in it.
     Sources(&'t Table),
-    /// By the label of a request, and how far they reach in it.
+    /// By the label of a request, and how far sources of this table reach in it.
     Request(&'t Table),
     /// By a label, as it stands.
     Test,

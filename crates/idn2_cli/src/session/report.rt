@@ -116,7 +116,7 @@ fn report_wrong_line<E: Sink>(
     }
 }
 
-/// Writes such a message, and answers the status.
+/// Writes this message of a wrong line of the registered labels, and answers the status.
 fn tell_wrong<E: Sink>(message: &[u8], err: &mut E) -> Status
     ensures { TellsWrong message.now (E.state err.old) (E.state err.new) result }
 {
