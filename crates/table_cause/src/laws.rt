@@ -3,13 +3,17 @@ ghost use Rattle.std.specs.Prelude.{is_some, not, ◌≡◌, ◌↔◌, ℕ, Lis
 ghost use Rattle.table_cause.specs.declared.line_point.LinePoint.{LinePoint};
 ghost use Rattle.ruleset_text.specs.Entries.{EntryForm};
 ghost use Rattle.table_cause.specs.EntryParts.{has_parts};
+ghost use Rattle.ruleset_text.specs.Definition.{Definition};
+ghost use Rattle.ruleset_text.specs.Definitions.{definition_atoms};
 ghost use Rattle.ruleset_text.specs.Lexemes.{lexemes};
 ghost use Rattle.ruleset_text.specs.SetNames.{set_name};
 ghost use Rattle.table_cause.specs.DefinitionWrongSteps.{wrong_definition};
 ghost use Rattle.table_cause.specs.LineNames.{IsFirstLexeme, IsFirstUnknown, is_unknown, unknown_name, unknown_set};
-ghost use Rattle.table_cause.specs.PlacedLexemes.{Placed};
+ghost use Rattle.table_cause.specs.PastLimits.{IsFirstPast, is_definition_past};
+ghost use Rattle.table_cause.specs.PatternLimits.{atoms_among, first_past, pattern_in};
+ghost use Rattle.table_cause.specs.PlacedLexemes.{Placed, placed_lexemes};
 ghost use Rattle.table_cause.specs.WrongDefinitions as definitions;
-ghost use Rattle.table_cause.specs.WrongDefinitions.{definition_in};
+ghost use Rattle.table_cause.specs.WrongDefinitions.{Define, definition_in};
 ghost use Rattle.table_cause.specs.WrongPlaces.{FitsNames, IsWhole, IsWrongPlace};
 ghost use Rattle.table_cause.specs.WrongSteps.{wrong_place};
 ghost use Rattle.table_cause.specs.declared.expected.Expected.TheVariants.{Nothing};
@@ -57,4 +61,16 @@ pub fn unknown_names_are_told()
         (unknown_set sets ws ≡ Some place) ↔ IsFirstLexeme (λ lexeme. is_unknown sets (set_name lexeme)) ws place }
     ensures names { (tags rules : List (List ℕ)) (ws : List Placed) (place : WrongPlace) →
         (unknown_name tags rules ws ≡ Some place) ↔ IsFirstUnknown tags rules Nothing ws place }
+{}
+
+/// The lexeme that is told of a pattern past a limit is the first with which no pattern within the limits begins, or which is an
+/// atom too many. One is told of a definition exactly if its pattern is past a limit. The atoms that are counted on a line are
+/// those of what it defines, however its sets are numbered.
+pub fn patterns_past_limits_are_told()
+    ensures place { (left : ℕ) (line : List ℕ) (place : WrongPlace) → Define (lexemes line) →
+        (first_past left (pattern_in (placed_lexemes line)) ≡ Some place) ↔ IsFirstPast left (pattern_in (placed_lexemes line)) place }
+    ensures whole { (names : List (List ℕ)) (line : List ℕ) (left : ℕ) (definition : Definition) → definition_in names (lexemes line) ≡ Some definition →
+        is_some (first_past left (pattern_in (placed_lexemes line))) ≡ is_definition_past left definition }
+    ensures atoms { (names : List (List ℕ)) (line : List ℕ) (definition : Definition) → definition_in names (lexemes line) ≡ Some definition →
+        atoms_among (pattern_in (placed_lexemes line)) ≡ definition_atoms definition }
 {}
