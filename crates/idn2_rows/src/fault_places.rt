@@ -187,10 +187,7 @@ const SIX_ATOMS: [(&str, Option<FaultPlace>); 10] = [
         "%set abcd 0061 0062 0063..0069\n%never . . .\r\n0061\n# .\n%rule r . . _ . $",
         Some(FaultPlace::Lexeme(16, 1)),
     ),
-    (
-        "%never ((.*)*)* . . . .",
-        Some(FaultPlace::Lexeme(14, 1)),
-    ),
+    ("%never ((.*)*)* . . . .", Some(FaultPlace::Lexeme(14, 1))),
     (
         "%never . . . . . . . ((.*)*)*",
         Some(FaultPlace::Lexeme(19, 1)),
