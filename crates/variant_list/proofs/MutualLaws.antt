@@ -1,5 +1,5 @@
 -- The variants of labels that are variants of each other.
-use Rattle.std.proofs.Common.{◌≡◌, ℕ, Bool, List, ◌↔◌}
+use Rattle.std.proofs.Common.{ℕ, Bool, List}
 use Rattle.std.specs.Prelude.{IsTrue}
 use Rattle.variant_table.specs.Entries.{TableValue}
 use Rattle.variant_list.specs.Labels.{IsBelow, IsListOf}
