@@ -5,9 +5,14 @@ use Rattle.std.specs.Str.{is_utf8}
 use Rattle.idn_text.specs.Lines.{Numbered}
 use Rattle.idn_text.specs.declared.refusal.Refusal.{Refusal}
 use Rattle.idn_text.specs.declared.refusal.Refusal.TheVariants.{Empty, NotUtf8}
-use Rattle.ruleset_text.specs.Definitions.{Definitions}
+use Rattle.ruleset_text.specs.Definitions.{Definitions, nothing_defined}
 use Rattle.variant_table.specs.declared.version.Version.{Version}
-use Rattle.variant_table.specs.declared.version.Version.TheVariants.{Two, Three}
+use Rattle.variant_table.specs.declared.version.Version.TheVariants.{One, Two, Three}
+use Rattle.variant_table.specs.declared.version.Notation.TheVariants.{Table, Ruleset}
+use Rattle.variant_table.specs.Canonical.{head_text}
+use Rattle.variant_table.specs.Texts.{IsTextOf}
+use Rattle.variant_table.specs.WellFormed.{AreOfVersion}
+use Rattle.variant_table.proofs.RulesetLemmas.{as_three}
 use Rattle.variant_table.specs.Entries.{Entry, TableValue, table_of}
 use Rattle.valid_labels.specs.Furthest.{furthest}
 use Rattle.valid_labels.specs.Segmentations.{IsMadeOfSources}
@@ -26,6 +31,19 @@ use Rattle.idn2_cli.specs.ListingLaws.{RulesetsSayTheSame}
 use Rattle.idn2_cli.specs.Transcript.{Refuses, answer_statements, has_refused, lines_statements, mode_statements, mode_status, statements, status_if, status_of}
 use Rattle.idn2_cli.specs.declared.refusals.cause.LineCause.{LineCause}
 use Rattle.idn2_cli.proofs.ListingLaws.{never-invalid}
+
+-- ---- the text
+
+none-defined : (v : Version) (d : Definitions) → v ≡ Two → AreOfVersion v d → d ≡ nothing_defined
+none-defined One d two none = none
+none-defined Two d two none = none
+none-defined Three d two none = absurd (let clash : Three ≡ Two = two in cc)
+
+text-as_ruleset : (lines : List ℕ) (table : TableValue) → table.version ≡ Two → IsTextOf Table (head_text Two ++ lines) table → IsTextOf Ruleset (head_text Three ++ lines) (as_ruleset table)
+text-as_ruleset lines table two is =
+    let none : table.definitions ≡ nothing_defined = none-defined table.version table.definitions two is.lines.well_formed.defined in
+    let same : table ≡ table_of Two nothing_defined table.entries = ap (λ (v : Version). table_of v table.definitions table.entries) two ∙ ap (λ (d : Definitions). table_of Two d table.entries) none in
+    subst (λ (d : Definitions). IsTextOf Ruleset (head_text Three ++ lines) (table_of Three d table.entries)) (sym none) (as_three lines table.entries (subst (IsTextOf Table (head_text Two ++ lines)) same is))
 
 -- ---- what may be allocated, and what is refused
 
@@ -145,6 +163,7 @@ module _ (o : Settings) (definitions : Definitions) (entries : List Entry) where
 
 pub rulesets-say-the-same : RulesetsSayTheSame
 rulesets-say-the-same = record {
+  read = text-as_ruleset;
   said = λ o table lines is.
       subst (λ (v : Version). statements o (Ok (table_of v table.definitions table.entries)) lines ≡ statements o (Ok (as_ruleset table)) lines) (sym is) (mode-statements-same o table.definitions table.entries o.mode lines);
   status = λ o table lines is.
