@@ -73,7 +73,7 @@ holding-steps table T D S lone label places steps t d s are singles holding =
     let of_table : AreHoldingSteps table.definitions.rules (seen_under table label) places steps =
     subst (λ y. AreHoldingSteps y.rules (seen_under table label) places steps) same (subst (λ z. AreHoldingSteps D.rules z places steps) s holding) in
     subst (λ x. P x D S) (sym t) (subst (λ y. P table y S) (sym same) (subst (P table table.definitions) (sym s)
-        (steps-of (HoldsIn table label) (λ a b. tt) table label lone places steps are singles of_table.known of_table.leading)))
+    (steps-of (HoldsIn table label) (λ a b. tt) table label lone places steps are singles of_table.known of_table.leading)))
 
 -- and where conditions aren't barred, if nothing is asked
 pub unbarred-steps : (table T : TableValue) (D : Definitions) (S : Seen) (lone : List (List ℕ)) (label : List ℕ) (places : SinglePlaces) (steps : SingleSteps) → T ≡ table → D ≡ T.definitions → S ≡ seen_under table label → AreLone table lone → AreSingles (length label) table label places
@@ -82,9 +82,9 @@ unbarred-steps table T D S lone label places steps t d s are singles known leadi
     let P : TableValue → Definitions → Seen → Type 0 = λ x y z. AreSteps (StepIs (λ e a _. IsBarred y.rules z e.condition a → ⊥) x.entries lone label) (length label) steps in
     let free : (a b : ℕ) → IsBarred table.definitions.rules (seen_under table label) None a → ⊥ = λ a b k. k in
     subst (λ x. P x D S) (sym t) (subst (λ y. P table y S) (sym (d ∙ ap (λ (x : TableValue). x.definitions) t)) (subst (P table table.definitions) (sym s)
-        (steps-of (λ c a b. IsBarred table.definitions.rules (seen_under table label) c a → ⊥) free table label lone places steps are singles
-        (λ i h. (None, subst (λ n. Has n i) known h, λ none. subst (λ n. Has n i) (known ∙ sym leading) h))
-        (λ i h. (None, subst (λ n. Has n i) leading h, free i (i + 1))))))
+    (steps-of (λ c a b. IsBarred table.definitions.rules (seen_under table label) c a → ⊥) free table label lone places steps are singles
+    (λ i h. (None, subst (λ n. Has n i) known h, λ none. subst (λ n. Has n i) (known ∙ sym leading) h))
+    (λ i h. (None, subst (λ n. Has n i) leading h, free i (i + 1))))))
 
 -- ---- single places of a label that begins like another
 

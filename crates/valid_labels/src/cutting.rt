@@ -25,7 +25,10 @@ pub fn reached<A: Asking>(table: &Table, sequences: &[Vec<u32>], label: &[u32], 
     requires filled { AllByRecursion (λ v. 0 < length v.items) sequences.now }
     ensures { (j : _) → Has result j ↔ Rounds (StepIs (A.asks asking.now) table.now.entries (map (λ v. v.items) sequences.now) label.now) 0 j }
 {
-    let none = SingleSteps { known: 0, leading: 0 };
+    let none = SingleSteps {
+        known: 0,
+        leading: 0,
+    };
     reached_over(table, sequences, label, asking, none)
 }
 

@@ -121,7 +121,10 @@ impl SinglePlaces {
             if asked != 0 {
                 let holding = holding_points(&rules[number], seen);
                 known = either(known, asked);
-                leading = either(leading, either(both(when, holding), without(unless, holding)));
+                leading = either(
+                    leading,
+                    either(both(when, holding), without(unless, holding)),
+                );
             }
         }
         SingleSteps { known, leading }

@@ -117,7 +117,8 @@ impl<'a> ValidityTest<'a> {
         ensures same_table { self.new.table ≡ self.old.table }
     {
         let shared = shared.min(label.len()).min(self.kept.len());
-        self.singles.renew(&mut self.points, &self.kept, label, shared);
+        self.singles
+            .renew(&mut self.points, &self.kept, label, shared);
         self.kept.keep(shared);
         for place in shared..label.len() {
             self.kept.push(label[place]);

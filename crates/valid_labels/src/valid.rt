@@ -58,7 +58,12 @@ pub fn validity(
 }
 
 /// Whether a label is valid.
-fn is_valid(pieces: &Pieces<'_>, seen: &SeenLabel<'_>, label: &[u32], singles: &SinglePlaces) -> bool
+fn is_valid(
+    pieces: &Pieces<'_>,
+    seen: &SeenLabel<'_>,
+    label: &[u32],
+    singles: &SinglePlaces,
+) -> bool
     requires short { length label.now ≤ 63 }
     requires seen { seen.now ≡ seen_under pieces.now label.now }
     requires room { HasRoom (length pieces.now.definitions.rules) singles.now }
@@ -82,7 +87,12 @@ fn has_segmentation(table: &Table, seen: &SeenLabel<'_>, label: &[u32]) -> bool
 }
 
 /// Whether a label can be cut into pieces that may stand where they do.
-fn is_made_of_pieces(pieces: &Pieces<'_>, seen: &SeenLabel<'_>, label: &[u32], singles: &SinglePlaces) -> bool
+fn is_made_of_pieces(
+    pieces: &Pieces<'_>,
+    seen: &SeenLabel<'_>,
+    label: &[u32],
+    singles: &SinglePlaces,
+) -> bool
     requires short { length label.now ≤ 63 }
     requires seen { seen.now ≡ seen_under pieces.now label.now }
     requires room { HasRoom (length pieces.now.definitions.rules) singles.now }
