@@ -97,7 +97,7 @@ impl<'a> Pieces<'a> {
     }
 
     /// Does nothing. It is only for the proof: its contract says that the table is sound.
-    pub(crate) fn be_sound(&self)
+    pub(crate) fn recall_soundness(&self)
         ensures { IsSound self.now }
     {
         let _entries = self.table.len();
