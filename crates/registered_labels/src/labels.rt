@@ -6,7 +6,7 @@ ghost use Rattle.std.specs.List.{list_all};
 ghost use Rattle.idn_label.specs.Steps.{is_ldh_point};
 ghost use Rattle.idn_text.specs.Points.{AreScalarValues, utf8_of};
 ghost use Rattle.variant_list.specs.Labels.{label_cmp};
-ghost use Rattle.registered_labels.specs.declared.labels.RegisterFault.TheVariants as faults;
+ghost use Rattle.registered_labels.specs.declared.labels.RegisteredFileFault.TheVariants as faults;
 ghost use Rattle.registered_labels.specs.Registered.{AreRegistered, IsBetween, IsFirstFrom, IsFirstAfter};
 ghost use Rattle.registered_labels.specs.inner.Readings.{IsLineEnd, IsReadAs};
 
@@ -30,7 +30,7 @@ const MAX_TEXT_LEN: usize = 0xFFFF_FFFF;
 
 /// Why a text is not read as registered labels. Lines are numbered from 1.
 #[derive(Clone, Copy, Debug, PartialEq, Eq)]
-pub enum RegisterFault {
+pub enum RegisteredFileFault {
     /// The first line that is wrong: it is no label that may be registered, it is not greater than the one before it, or
     /// it ends after byte 4,294,967,295 of the text.
     Refused { line: u64, refusal: Refusal },
@@ -38,11 +38,11 @@ pub enum RegisterFault {
     Memory,
 }
 
-impl<T: Drop> From<AllocFailed<T>> for RegisterFault {
+impl<T: Drop> From<AllocFailed<T>> for RegisteredFileFault {
     ghost from_gives = { λ _ fault. fault ≡ faults.Memory };
 
-    fn from(_: AllocFailed<T>) -> RegisterFault {
-        RegisterFault::Memory
+    fn from(_: AllocFailed<T>) -> RegisteredFileFault {
+        RegisteredFileFault::Memory
     }
 }
 
@@ -76,7 +76,7 @@ impl<'a> RegisteredLabels<'a> {
 
     /// The labels of a text, one on each line, each greater than the one before; or the first fault of the text. An empty text
     /// takes no memory.
-    pub fn read(alloc: Global, text: &'a [u8]) -> Result<RegisteredLabels<'a>, RegisterFault>
+    pub fn read(alloc: Global, text: &'a [u8]) -> Result<RegisteredLabels<'a>, RegisteredFileFault>
         ensures labels { IfOk result (IsTextOf text.now) }
         ensures fault { IfErr result (IsFaultOf text.now) }
         ensures no_memory { text.now ≡ [] → IsOk result }
@@ -281,11 +281,11 @@ fn read_label(
 }
 
 /// The fault of a line that is refused. Lack of memory is no fault of a line.
-fn refused(line: u64, refusal: Refusal) -> RegisterFault
+fn refused(line: u64, refusal: Refusal) -> RegisteredFileFault
     ensures { result ≡ fault_of line refusal }
 {
     match refusal {
-        Refusal::Memory => RegisterFault::Memory,
-        _ => RegisterFault::Refused { line, refusal },
+        Refusal::Memory => RegisteredFileFault::Memory,
+        _ => RegisteredFileFault::Refused { line, refusal },
     }
 }

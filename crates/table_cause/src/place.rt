@@ -46,7 +46,7 @@ pub enum FaultPlace {
 }
 
 /// Where the line of a fault of this text has it, if a place is told: none in a text that lacks its version, and where no part of
-/// the line goes past a limit, as of an entry too many, of a text that is too long, or of atoms and `*` in a pattern.
+/// the line goes past a limit, as of an entry too many or of a text that is too long.
 #[tactic(auto, unfolding(crate::specs::FaultPlaces::fault_place))]
 pub fn fault_place(
     alloc: Global,

@@ -4,9 +4,9 @@
 #[derive(Clone, Copy, Debug, PartialEq, Eq)]
 pub enum Admission {
     /// The label can't be cut into sources of the table, whatever their conditions. Outside sources don't count.
-    NotMade,
+    NotCut,
     /// The label can be cut into sources, but not so that their conditions hold; or it breaks a demand.
-    NotValid,
+    NotAdmitted,
     /// The label may be asked about.
     Admitted,
 }

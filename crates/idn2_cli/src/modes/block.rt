@@ -64,7 +64,7 @@ pub(crate) fn write_block<W: Sink, E: Sink>(
         console.old console.new result }
 {
     let mut cursor = Cursor::new(alloc, net, &options.after)?;
-    let mut judge = Registrable {
+    let mut judge = VariantJudge {
         beginnings: KeptBeginnings::new(),
         test: KeptALabel::new(),
         line: KeptLine::new(),
@@ -106,14 +106,14 @@ pub(crate) fn write_block<W: Sink, E: Sink>(
 /// Only labels that may be registered are listed (RFC 5891 section 4.2), and under a ruleset only valid ones (RFC 7940
 /// section 8). What a label shares at its start with the one before is neither tested nor taken apart nor written again.
 #[derive(Drop)]
-struct Registrable<'p> {
+struct VariantJudge<'p> {
     beginnings: KeptBeginnings,
     test: KeptALabel,
     line: KeptLine,
     validity: Option<ValidityTest<'p>>,
 }
 
-impl<'p> Judge for Registrable<'p> {
+impl<'p> Judge for VariantJudge<'p> {
     ghost accepted = { λ judge label. (filter_by (ruling_in judge.validity)).accepts label };
 
     ghost lost = { λ judge label. (filter_by (ruling_in judge.validity)).hopeless label };

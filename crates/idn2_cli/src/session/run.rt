@@ -207,7 +207,7 @@ fn serve_variants<R: Source, W: Sink, E: Sink>(
         options,
         registered,
     };
-    let explaining = Explaining::Sources(&table).if_wanted(options.tells_causes());
+    let explaining = Explaining::Table(&table).if_wanted(options.tells_causes());
     let by_points = ByPoints { mode: &mode };
     serve_lines(alloc, options.form, &explaining, &by_points, input, console)
 }

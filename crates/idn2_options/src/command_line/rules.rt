@@ -1,7 +1,7 @@
 //! The program's own rules on its options, which `clap` does not know.
 ghost use Rattle.std.specs.Prelude.{◌≡◌, count_by, option_map};
 ghost use Rattle.clap.specs.Words.{found_of, rows_of};
-ghost use Rattle.idn2_options.specs.Words.{among_of, bounds_listing, bounds_variants, checked_file, checks, checks_alone, file_of, has_counts, has_short_start, is_allowed, is_bound_if_given, is_count_if_given, jumps_by_table, listing_file, lists, names_one_mode, notation_of, start_of, suits_among};
+ghost use Rattle.idn2_options.specs.Words.{among_of, has_listing_option, listing_options_fit, checked_file, checks, checks_alone, file_of, has_counts, has_short_start, is_allowed, is_bound_if_given, is_count_if_given, jumps_by_table, listing_file, lists, names_one_mode, notation_of, start_of, suits_among};
 
 use crate::command_line::arguments::{
     AFTER, AMONG, CHECK_RULESET, CHECK_TABLE, DECODE, JUMP, LIMIT, LOOKUP, REGISTER, RULESET,
@@ -19,7 +19,7 @@ pub(crate) fn is_allowed(matches: &ArgMatches<'_>) -> bool
     ensures { result ≡ is_allowed (rows_of (found_of matches.now)) }
 {
     names_one_mode(matches)
-        && bounds_variants(matches)
+        && listing_options_fit(matches)
         && jumps_by_table(matches)
         && suits_among(matches)
         && has_counts(matches)
@@ -61,15 +61,15 @@ fn count_true(tests: &[bool]) -> usize
 }
 
 /// Whether options of a listing are given only where variants are listed.
-fn bounds_variants(matches: &ArgMatches<'_>) -> bool
-    ensures { result ≡ bounds_variants (rows_of (found_of matches.now)) }
+fn listing_options_fit(matches: &ArgMatches<'_>) -> bool
+    ensures { result ≡ listing_options_fit (rows_of (found_of matches.now)) }
 {
-    lists(matches) && !has_flag(matches, JUMP) || !bounds_listing(matches)
+    lists(matches) && !has_flag(matches, JUMP) || !has_listing_option(matches)
 }
 
 /// Whether an option of a listing is given: `--after`, `--limit`, `--tries`, `--steps` or `--among`.
-fn bounds_listing(matches: &ArgMatches<'_>) -> bool
-    ensures { result ≡ bounds_listing (rows_of (found_of matches.now)) }
+fn has_listing_option(matches: &ArgMatches<'_>) -> bool
+    ensures { result ≡ has_listing_option (rows_of (found_of matches.now)) }
 {
     has_value(matches, AFTER)
         || has_value(matches, LIMIT)

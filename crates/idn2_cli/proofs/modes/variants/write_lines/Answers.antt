@@ -1,4 +1,0 @@
-use Rattle.idn2_cli.proofs.modes.variants.write_lines.Goals as goal
-
-pub returns-in-None-clause-begun : goal.returns-in-None-clause-begun
-returns-in-None-clause-begun g c = rw c.in-None.is c.write_block.ensures.begun
