@@ -4,7 +4,7 @@ use Rattle.std.specs.Int.{bit_at, trailing_zeros, w64}
 use Rattle.std.specs.Prelude.{◌↔◌, IsTrue, slice_index}
 use Rattle.std.proofs.lemmas.Bool.{cases_order}
 use Rattle.std.proofs.lemmas.Nat.{pow_below}
-use Rattle.std.proofs.lemmas.Nat.Bits.{bit_at_and, bit_at_or, bit_at-lt, bit_at_cat_low, bit_at_cat_high, bit_at-pow_same, bit_at-pow_other, bit_at-zero, bit_at_ones, bit_at_ones_above, bit_at-trailing_zeros, shr_and_one}
+use Rattle.std.proofs.lemmas.Nat.Bits.{bit_at_and, bit_at_or, bit_at-lt, bit_at_cat_low, bit_at_cat_high, bit_at-pow_same, bit_at-pow_other, bit_at-zero, bit_at_above, bit_at_not, bit_at_ones, bit_at_ones_above, bit_at-trailing_zeros, shr_and_one}
 use Rattle.label_patterns.specs.Places.{Has, AreThePlaces}
 
 pub Has-and : (a b p : ℕ) → Has (bit_and a b) p → Has a p × Has b p
@@ -29,6 +29,21 @@ Has-left a b p h = let e = bit_at_or a b p in let y = bit_at-lt b p in omega (ar
 
 pub Has-right : (a b p : ℕ) → Has b p → Has (bit_or a b) p
 Has-right a b p h = let e = bit_at_or a b p in let x = bit_at-lt a p in omega (arith, h, e, x)
+
+-- the places of a word that are not in another
+pub Has-without : (l r p : ℕ) → l < 2 ^ 64 → r < 2 ^ 64 → Has (bit_and l (18446744073709551615 - r)) p ↔ (Has l p × (Has r p → ⊥))
+Has-without l r p left right =
+    let inside : Has l p → p < 64 = λ h. elim (cases_order p 64) [
+      | inl e ↦ absurd (let z = bit_at_above l 64 p left (omega (arith, e)) in omega (arith, z, h))
+      | inr o ↦ elim o [ inl less ↦ less | inr more ↦ absurd (let z = bit_at_above l 64 p left (omega (arith, more)) in omega (arith, z, h)) ]
+    ] in
+    let other : p < 64 → bit_at (18446744073709551615 - r) p ≡ 1 - bit_at r p = λ small. bit_at_not w64 r p right small in (
+      λ h. let both = Has-and l (18446744073709551615 - r) p h in (both.0, λ k. (let e = other (inside both.0) in omega (arith, e, both.1, k))),
+      λ h. Has-both l (18446744073709551615 - r) p h.0 (elim (cases_order (bit_at r p) 1) [
+        | inl one ↦ absurd (h.1 one)
+        | inr o ↦ (let e = other (inside h.0) in let x = bit_at-lt r p in elim o [ inl less ↦ omega (arith, e, less) | inr more ↦ absurd (omega (arith, x, more)) ])
+      ]),
+    )
 
 -- twice a number has its bits one place higher
 pub twice-up : (n p : ℕ) → Has n p → Has (n * 2) (p + 1)

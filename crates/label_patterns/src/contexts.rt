@@ -1,5 +1,5 @@
 //! The contexts of a rule, and where they hold.
-ghost use Rattle.std.specs.Prelude.{◌≡◌, ◌↔◌, ◌≤◌, length, IsTrue};
+ghost use Rattle.std.specs.Prelude.{◌≡◌, ◌↔◌, ◌+◌, ◌<◌, ◌≤◌, length, IsTrue};
 ghost use Rattle.label_patterns.specs.Matches.{HasItsSets};
 ghost use Rattle.label_patterns.specs.Places.{Has};
 ghost use Rattle.label_patterns.specs.Rules.{is_anchor as is_anchor_pattern, Before, EndsBefore, BeginsAfter, Holds};
@@ -7,7 +7,7 @@ ghost use Rattle.label_patterns.specs.Trees.{pattern};
 
 use crate::ends::ends;
 use crate::pattern_tree::PatternTree;
-use crate::places::{all_places, has};
+use crate::places::{all_places, before, either, has};
 use crate::seen_label::SeenLabel;
 use crate::starts::starts;
 
@@ -108,5 +108,36 @@ pub fn holds(rule: &PatternTree, seen: &SeenLabel, start: usize, end: usize) -> 
         PatternTree::Group(_) => false,
         PatternTree::Optional(_) => false,
         PatternTree::Many(_) => false,
+    }
+}
+
+/// The places of a label such that one context holds for the code point that stands there.
+fn points_in_context(context: &PatternTree, seen: &SeenLabel) -> u64
+    requires { HasItsSets (length seen.now.sets) (pattern context.now) }
+    ensures { (i : _) → i < length seen.now.label → (Has result i ↔ (EndsBefore seen.now (pattern context.now) i × BeginsAfter seen.now (pattern context.now) (i + 1))) }
+{
+    before(places_after(context, seen), places_before(context, seen))
+}
+
+/// The places of a label such that a rule holds for the code point that stands there.
+pub fn holding_points(rule: &PatternTree, seen: &SeenLabel) -> u64
+    requires { HasItsSets (length seen.now.sets) (pattern rule.now) }
+    ensures { (i : _) → i < length seen.now.label → (Has result i ↔ Holds seen.now (pattern rule.now) i (i + 1)) }
+{
+    match rule {
+        PatternTree::Either(context, others) => either(
+            points_in_context(context, seen),
+            holding_points(others, seen),
+        ),
+        PatternTree::Then(_, _) => points_in_context(rule, seen),
+        PatternTree::Anchor => all_places(seen.len()),
+        PatternTree::Point(_) => 0,
+        PatternTree::Set(_) => 0,
+        PatternTree::Any => 0,
+        PatternTree::Start => 0,
+        PatternTree::End => 0,
+        PatternTree::Group(_) => 0,
+        PatternTree::Optional(_) => 0,
+        PatternTree::Many(_) => 0,
     }
 }

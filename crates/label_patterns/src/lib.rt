@@ -19,13 +19,13 @@ mod starts;
 pub use asking::{condition_holds, is_barred};
 pub use barring::has_no_end;
 pub use condition::{Condition, ConditionKind};
-pub use contexts::{holds, places_after, places_before};
+pub use contexts::{holding_points, holds, places_after, places_before};
 pub use demands::{first_end, occurs};
 pub use laws::{
     barred_for_good, barring_stays, before_stays, matches_are_parts, matches_stay, tests_agree,
 };
 pub use pattern_tree::PatternTree;
-pub use places::{both, either, has, point_places, with_place_if};
+pub use places::{both, either, has, point_places, with_place_if, without};
 pub use point_set::PointSet;
 pub use seen_label::{SeenLabel, renew_masks};
 pub use span::Span;

@@ -83,3 +83,10 @@ pub fn both(left: u64, right: u64) -> u64
 {
     left & right
 }
+
+/// The places that are in the first set, and not in the second.
+pub fn without(left: u64, right: u64) -> u64
+    ensures { (p : _) → Has result p ↔ (Has left p × (Has right p → ⊥)) }
+{
+    left & !right
+}

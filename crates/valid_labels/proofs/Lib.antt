@@ -36,5 +36,5 @@ pub mod LostPlaces
 pub mod CauseLemmas
 -- The cause that is told is the one that there is.
 pub mod CauseLawLemmas
--- Code points that stand for themselves alone.
-pub mod PlainLemmas
+-- Single code points, and where they stand.
+pub mod SingleLemmas

@@ -1,12 +1,13 @@
 -- Steps from place to place.
-use Rattle.std.proofs.Common.{refl, subst, true, zero, suc, ◌+◌, [], ◌∷◌, take, drop, get_or, ◌≡◌, ℕ, ◌-◌, ◌<◌, ◌≤◌, ◌⊎◌, inl, inr, List, length, map, sym, ap, ◌∙◌, arith, Vec, Global}
+use Rattle.std.proofs.Common.{refl, subst, Bool, zero, suc, ◌+◌, [], ◌∷◌, take, drop, get_or, ◌≡◌, ℕ, ◌-◌, ◌<◌, ◌≤◌, ◌⊎◌, inl, inr, List, length, map, sym, ap, ◌∙◌, arith, Vec, Global}
 use Rattle.std.specs.Prelude.{◌↔◌, IsTrue, Option, None}
 use Rattle.std.proofs.lemmas.List.{drop_more}
 use Rattle.label_patterns.specs.declared.condition.Condition.{Condition}
 use Rattle.label_patterns.proofs.PlaceLemmas.{not-in-none}
 use Rattle.variant_table.specs.Entries.{TableValue}
 use Rattle.valid_labels.specs.Pieces.{IsPiece}
-use Rattle.valid_labels.specs.inner.Pieces.{AreLone, IsPlain}
+use Rattle.valid_labels.specs.inner.Pieces.{AreLone}
+use Rattle.valid_labels.specs.inner.Singles.{IsSingle}
 use Rattle.valid_labels.proofs.PieceSteps.{step-piece}
 use Rattle.std.specs.List.{AllByRecursion, slice_range}
 use Rattle.std.proofs.lemmas.List.Elements.{All-contains, All-from_recursion}
@@ -50,24 +51,30 @@ step-ends asks entries sequences label place sources others both first second pa
   λ h. elim h [ inl a ↦ (parts j).1 ((first j).1 a) | inr b ↦ (parts j).2 ((second j).1 b) ],
 )
 
--- one code point leads on from a plain place
-pub plain-ends : (R : ℕ → ℕ → Type 0) (place ends : ℕ) → ((p : ℕ) → Has ends p ↔ (Has 0 p ⊎ (IsTrue true × (p ≡ place + 1)))) → ((j : ℕ) → R place j ↔ (j ≡ place + 1)) → (j : ℕ) → Has ends j ↔ R place j
-plain-ends R place ends with_end is j = (
-  λ h. (is j).1 (elim ((with_end j).0 h) [ inl none ↦ absurd (not-in-none j none) | inr e ↦ e.1 ]),
-  λ h. (with_end j).1 (inr (refl, (is j).0 h)),
+-- one code point leads on from a single place, if the place is open
+pub single-ends : (R : ℕ → ℕ → Type 0) (Leading : Type 0) (place ends : ℕ) (leading : Bool) → (IsTrue leading ↔ Leading) → ((p : ℕ) → Has ends p ↔ (Has 0 p ⊎ (IsTrue leading × (p ≡ place + 1))))
+    → ((j : ℕ) → R place j ↔ ((j ≡ place + 1) × Leading)) → (j : ℕ) → Has ends j ↔ R place j
+single-ends R Leading place ends leading tells with_end is j = (
+  λ h. (is j).1 (elim ((with_end j).0 h) [ inl none ↦ absurd (not-in-none j none) | inr e ↦ (e.1, tells.0 e.0) ]),
+  λ h. let b = (is j).0 h in (with_end j).1 (inr (tells.1 b.1, b.0)),
 )
 
--- where each piece that begins with the code point is this code point alone, without a condition, and there is such a piece
-pub plain-steps : (A : Option Condition → ℕ → ℕ → Type 0) (free : (i j : ℕ) → A None i j) (table : TableValue) (label : List ℕ) (lone : List (List ℕ)) → AreLone table lone → (i : ℕ) → i < length label → IsPlain table (get_or label i 0)
-    → (j : ℕ) → StepIs (λ e a b. A e.condition a b) table.entries lone label i j ↔ (j ≡ i + 1)
-plain-steps A free table label lone are i l plain j =
+-- from a single code point that code point alone leads on, if what is asked of it is so
+pub single-steps : (A : Option Condition → ℕ → ℕ → Type 0) (free : (i j : ℕ) → A None i j) (table : TableValue) (label : List ℕ) (lone : List (List ℕ)) → AreLone table lone
+    → (i : ℕ) (d : Option Condition) → i < length label → IsSingle table (get_or label i 0) d → (j : ℕ) → StepIs (λ e a b. A e.condition a b) table.entries lone label i j ↔ ((j ≡ i + 1) × A d i (i + 1))
+single-steps A free table label lone are i d l single j =
     let same = step-piece A free table label lone are i j in
     let here : drop i label ≡ get_or label i 0 ∷ drop (i + 1) label = drop_more label i 0 l in
     let one : slice_range label i (i + 1) ≡ get_or label i 0 ∷ [] = first-part label i (get_or label i 0 ∷ []) (drop (i + 1) label) here in (
       λ step.
           let p = same.0 step in
-          by_end j p.0 p.1.0 p.1.1 p.1.2 (cut i j l p.1.0),
-      λ e. same.1 (None, ((omega (arith, e)), (omega (arith, e, l)), subst (λ n. IsPiece table (slice_range label i n) None) (sym e) (subst (λ s. IsPiece table s None) (sym one) plain.piece)), free i j),
+          let at = by_end j p.0 p.1.0 p.1.1 p.1.2 (cut i j l p.1.0) in
+          (at.0, subst (λ n. A d i n) at.0 (subst (λ c. A c i j) at.1 p.2)),
+      λ h. same.1 (
+        d,
+        ((let e = h.0 in omega (arith, e)), (let e = h.0 in omega (arith, e, l)), subst (λ n. IsPiece table (slice_range label i n) d) (sym h.0) (subst (λ s. IsPiece table s d) (sym one) single.piece)),
+        subst (λ n. A d i n) (sym h.0) h.1,
+      ),
     )
   where
     -- the part begins with the code point
@@ -79,11 +86,11 @@ plain-steps A free table label lone are i l plain j =
         by_size (suc n) e = inr (take n (drop (a + 1) label), ap (λ m. take m (drop a label)) e ∙ ap (take (suc n)) (drop_more label a 0 inside))
 
     by_end : (b : ℕ) (c : Option Condition) → i ≤ b → b ≤ length label → IsPiece table (slice_range label i b) c
-        → (slice_range label i b ≡ []) ⊎ ((rest : List ℕ) × (slice_range label i b ≡ get_or label i 0 ∷ rest)) → b ≡ i + 1
+        → (slice_range label i b ≡ []) ⊎ ((rest : List ℕ) × (slice_range label i b ≡ get_or label i 0 ∷ rest)) → (b ≡ i + 1) × (c ≡ d)
     by_end b c le m piece (inl none) =
-        absurd (let some = piece-filled table (slice_range label i b) c plain.formed piece in let z = ap length none in omega (arith, some, z))
+        absurd (let some = piece-filled table (slice_range label i b) c single.formed piece in let z = ap length none in omega (arith, some, z))
     by_end b c le m piece (inr more) =
-        let alone = plain.alone more.0 c (subst (λ s. IsPiece table s c) more.1 piece) in
+        let alone = single.alone more.0 c (subst (λ s. IsPiece table s c) more.1 piece) in
         let size = part-length label i b le m in
-        let whole : length (slice_range label i b) ≡ 1 = ap length (more.1 ∙ ap (λ r. get_or label i 0 ∷ r) alone) in
-        omega (arith, size, whole, le)
+        let whole : length (slice_range label i b) ≡ 1 = ap length (more.1 ∙ ap (λ r. get_or label i 0 ∷ r) alone.0) in
+        (omega (arith, size, whole, le), alone.1)

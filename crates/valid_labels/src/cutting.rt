@@ -3,11 +3,20 @@ ghost use Rattle.std.specs.Prelude.{◌≡◌, ◌↔◌, ◌+◌, ◌≤◌, �
 ghost use Rattle.std.specs.List.{AllByRecursion, slice_range};
 ghost use Rattle.label_patterns.specs.Matches.{Rounds};
 ghost use Rattle.label_patterns.specs.Places.{Has};
-ghost use Rattle.valid_labels.specs.inner.Steps.{ArePlain, SequenceIs, SourceIs, StepIs};
+ghost use Rattle.valid_labels.specs.inner.Steps.{AreSteps, SequenceIs, SourceIs, StepIs};
 
 use crate::asking::Asking;
 use label_patterns::{either, has, with_place_if};
 use variant_table::Table;
+
+/// Places of a label from which one code point leads on, or nothing does.
+#[derive(Clone, Copy, Debug, PartialEq, Eq)]
+pub struct SingleSteps {
+    /// These places.
+    pub known: u64,
+    /// Those of them from which a code point leads on.
+    pub leading: u64,
+}
 
 /// The places up to which a label can be cut into sources of which what is asked is so, and into these sequences.
 pub fn reached<A: Asking>(table: &Table, sequences: &[Vec<u32>], label: &[u32], asking: &A) -> u64
@@ -16,21 +25,25 @@ pub fn reached<A: Asking>(table: &Table, sequences: &[Vec<u32>], label: &[u32], 
     requires filled { AllByRecursion (λ v. 0 < length v.items) sequences.now }
     ensures { (j : _) → Has result j ↔ Rounds (StepIs (A.asks asking.now) table.now.entries (map (λ v. v.items) sequences.now) label.now) 0 j }
 {
-    reached_over(table, sequences, label, asking, 0)
+    let none = SingleSteps {
+        known: 0,
+        leading: 0,
+    };
+    reached_over(table, sequences, label, asking, none)
 }
 
-/// The same, where `plain` has places of which it is known that one code point, and nothing else, stands there.
+/// The same, where it is known of some places whether one code point leads on from there, and that nothing else does.
 pub fn reached_over<A: Asking>(
     table: &Table,
     sequences: &[Vec<u32>],
     label: &[u32],
     asking: &A,
-    plain: u64,
+    steps: SingleSteps,
 ) -> u64
     requires short { length label.now ≤ 63 }
     requires ready { A.can_ask asking.now (length label.now) }
     requires filled { AllByRecursion (λ v. 0 < length v.items) sequences.now }
-    requires plain { ArePlain (StepIs (A.asks asking.now) table.now.entries (map (λ v. v.items) sequences.now) label.now) (length label.now) plain }
+    requires steps { AreSteps (StepIs (A.asks asking.now) table.now.entries (map (λ v. v.items) sequences.now) label.now) (length label.now) steps }
     ensures { (j : _) → Has result j ↔ Rounds (StepIs (A.asks asking.now) table.now.entries (map (λ v. v.items) sequences.now) label.now) 0 j }
 {
     // The length is read for its contract alone: no source is empty.
@@ -38,8 +51,8 @@ pub fn reached_over<A: Asking>(
     let mut found = 1;
     for place in 0..label.len() {
         if has(found, place) {
-            let ends = if has(plain, place) {
-                with_place_if(0, place + 1, true)
+            let ends = if has(steps.known, place) {
+                with_place_if(0, place + 1, has(steps.leading, place))
             } else {
                 step_ends(table, sequences, label, place, asking)
             };

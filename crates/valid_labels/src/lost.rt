@@ -2,35 +2,37 @@
 ghost use Rattle.std.specs.Prelude.{◌≡◌, ◌≤◌, length, MatchOption};
 ghost use Rattle.valid_labels.specs.Segmentations.{seen_under};
 ghost use Rattle.valid_labels.specs.Validity.{HasNoLostBeginning, IsShortestLost};
-ghost use Rattle.valid_labels.specs.inner.Pieces.{ArePlainBelow};
+ghost use Rattle.valid_labels.specs.inner.Singles.{AreSingles};
 ghost use Rattle.valid_labels.specs.inner.Ends.{IsLeastLost, IsRefusedAt, NoneIsLost, NoneRefuses};
 
 use crate::asking::UnbarredSource;
 use crate::cutting::reached_over;
 use crate::demands::refused_end;
 use crate::pieces::Pieces;
+use crate::single_places::SinglePlaces;
 use crate::sources::last_place;
 use label_patterns::SeenLabel;
 use variant_table::Table;
 
 /// How many code points the shortest lost beginning of a label has. `None` where neither a beginning nor the whole label
-/// is lost. `plain` has places of code points that stand for themselves alone.
+/// is lost. `singles` has places at which single points stand.
 pub fn shortest_lost(
     pieces: &Pieces<'_>,
     seen: &SeenLabel<'_>,
     label: &[u32],
-    plain: u64,
+    singles: &SinglePlaces,
 ) -> Option<usize>
     requires short { length label.now ≤ 63 }
     requires seen { seen.now ≡ seen_under pieces.now label.now }
-    requires plain { ArePlainBelow (length label.now) pieces.now label.now plain }
+    requires singles { AreSingles (length label.now) pieces.now label.now singles.now }
     ensures { MatchOption result (HasNoLostBeginning pieces.now label.now) (IsShortestLost pieces.now label.now) }
 {
     pieces.be_sound();
     let table = pieces.table();
     let definitions = table.definitions();
     let asking = UnbarredSource { definitions, seen };
-    let places = reached_over(table, pieces.lone(), label, &asking, plain);
+    let steps = singles.free_steps();
+    let places = reached_over(table, pieces.lone(), label, &asking, steps);
     // No piece leads from the last of these places past this one, and none from another place.
     let nowhere = last_place(places, label.len()) + pieces.longest();
     let refused = refused_by(table, seen);

@@ -1,16 +1,25 @@
 //! What is found of a table once, so that its labels can be tested.
-ghost use Rattle.std.specs.Prelude.{[], ◌∷◌, false, ◌≡◌, ◌↔◌, ◌<◌, ◌≤◌, ◌++◌, length, map, max, filter, not, IsTrue, IfOk, OnOk};
+ghost use Rattle.std.specs.Prelude.{[], ◌∷◌, false, ◌≡◌, ◌↔◌, ◌<◌, ◌≤◌, ◌++◌, length, map, max, filter, not, IfOk, MatchOption, OnOk};
 ghost use Rattle.std.specs.List.{AllByRecursion};
 ghost use Rattle.variant_table.specs.Entries.{sequences_in};
 ghost use Rattle.variant_table.specs.WellFormed.{IsWellFormed};
 ghost use Rattle.valid_labels.specs.Validity.{IsSound};
-ghost use Rattle.valid_labels.specs.inner.Pieces.{AreLone, IsLongest, IsPlain, NoneBegins, items_of};
+ghost use Rattle.valid_labels.specs.inner.Pieces.{AreLone, IsLongest, NoneBegins, items_of};
+ghost use Rattle.valid_labels.specs.inner.Singles.{IsSingle};
 ghost use Rattle.valid_labels.specs.Tests.{is_covered as is_made};
 
 use crate::sources::is_covered;
+use label_patterns::Condition;
 use std::alloc::{AllocError, Global};
 use std::marker::Model;
 use variant_table::{Entry, Table};
+
+/// A code point that is a source with which no other piece begins, and the condition of that source.
+#[derive(Clone, Copy, Debug, PartialEq, Eq)]
+pub struct SinglePoint {
+    pub point: u32,
+    pub condition: Option<Condition>,
+}
 
 /// What is found of a table once: which of its variants are pieces of their own, and how long a piece is.
 #[derive(Drop)]
@@ -68,19 +77,22 @@ impl<'a> Pieces<'a> {
         self.longest
     }
 
-    /// Whether it is known of a code point that it is a piece without a condition, and that no other piece begins with it.
-    pub(crate) fn is_plain(&self, point: u32) -> bool
-        ensures { IsTrue result → IsPlain self.now point }
+    /// A code point as a source with which no other piece begins, if that is known of it.
+    pub(crate) fn single(&self, point: u32) -> Option<SinglePoint>
+        ensures { MatchOption result (Unit {0}) (λ s. (s.point ≡ point) × IsSingle self.now point s.condition) }
     {
         // The length is read for its contract alone: no two sources are equal.
         let _entries = self.table.len();
         let lone: &[Vec<u32>] = &self.lone;
         if one_begins(lone, point) {
-            return false;
+            return None;
         }
         match self.table.single(point) {
-            Some(entry) => entry.condition(0).is_none(),
-            None => false,
+            Some(entry) => Some(SinglePoint {
+                point,
+                condition: entry.condition(0),
+            }),
+            None => None,
         }
     }
 

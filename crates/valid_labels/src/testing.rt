@@ -1,14 +1,12 @@
 //! Tests of labels under a table.
-ghost use Rattle.std.specs.Prelude.{◌≡◌, ◌≤◌, length, take};
-ghost use Rattle.valid_labels.specs.inner.Pieces.{ArePlainBelow};
-
 use crate::pieces::Pieces;
-use crate::plain_points::PlainPoints;
+use crate::single_places::SinglePlaces;
+use crate::single_points::SinglePoints;
 use crate::sources::is_made_of_sources;
 use crate::valid::{is_admitted, validity};
 use crate::validity::{Admission, Validity};
 use idn_class::KeptLabel;
-use label_patterns::{both, point_places, renew_masks, with_place_if};
+use label_patterns::renew_masks;
 use std::alloc::{AllocError, Global};
 use std::marker::Model;
 
@@ -16,19 +14,19 @@ use std::marker::Model;
 /// begin alike. That changes no answer.
 #[derive(Drop)]
 pub struct ValidityTest<'a> {
-    points: PlainPoints<'a>,
+    points: SinglePoints<'a>,
     /// The label that was tested last.
     kept: KeptLabel,
     /// For each set its places in that label.
     masks: Vec<u64>,
-    /// Places of that label at which a code point stands for itself alone.
-    plain: u64,
+    /// Where single points stand in that label.
+    singles: SinglePlaces,
 }
 
 impl<'a> Model for ValidityTest<'a> {
     ghost use Rattle.std.specs.Prelude.{length};
     ghost use Rattle.label_patterns.specs.inner.Masks.{AreMasks};
-    ghost use Rattle.valid_labels.specs.inner.Pieces.{ArePlainBelow};
+    ghost use Rattle.valid_labels.specs.inner.Singles.{AreSingles, HasRoom};
     ghost use Rattle.valid_labels.specs.Testing.{Testing, testing_code};
 
     ghost Value = { Testing };
@@ -37,7 +35,7 @@ impl<'a> Model for ValidityTest<'a> {
 
     ghost view = { λ t. record { table = t.points; kept = t.kept } };
 
-    ghost invariant = { λ t. AreMasks t.points.definitions.sets t.kept t.masks.items × ArePlainBelow (length t.kept) t.points t.kept t.plain };
+    ghost invariant = { λ t. AreMasks t.points.definitions.sets t.kept t.masks.items × HasRoom (length t.points.definitions.rules) t.singles × AreSingles (length t.kept) t.points t.kept t.singles };
 }
 
 impl<'a> ValidityTest<'a> {
@@ -55,10 +53,10 @@ impl<'a> ValidityTest<'a> {
             masks.push(0)?;
         }
         Ok(ValidityTest {
-            points: PlainPoints::new(pieces),
+            points: SinglePoints::new(pieces),
             kept: KeptLabel::new(),
             masks,
-            plain: 0,
+            singles: SinglePlaces::new(alloc, pieces.table().definitions().rules().len())?,
         })
     }
 
@@ -99,7 +97,7 @@ impl<'a> ValidityTest<'a> {
         let pieces = self.points.pieces();
         let sets = pieces.table().definitions().sets();
         let masks: &[u64] = &self.masks;
-        validity(pieces, sets, label, masks, self.plain)
+        validity(pieces, sets, label, masks, &self.singles)
     }
 
     /// Keeps nothing of the label that was tested last.
@@ -119,36 +117,13 @@ impl<'a> ValidityTest<'a> {
         ensures same_table { self.new.table ≡ self.old.table }
     {
         let shared = shared.min(label.len()).min(self.kept.len());
-        let plain = plain_places(&mut self.points, &self.kept, self.plain, label, shared);
+        self.singles
+            .renew(&mut self.points, &self.kept, label, shared);
         self.kept.keep(shared);
         for place in shared..label.len() {
             self.kept.push(label[place]);
         }
-        self.plain = plain;
         let sets = self.points.pieces().table().definitions().sets();
         renew_masks(sets, label, shared, &mut self.masks);
     }
-}
-
-/// Places of a label at which a code point stands for itself alone, where `plain` has such places of one that begins with
-/// the same `shared` code points.
-fn plain_places(
-    points: &mut PlainPoints<'_>,
-    kept: &KeptLabel,
-    plain: u64,
-    label: &[u32],
-    shared: usize,
-) -> u64
-    requires short { length label.now ≤ 63 }
-    requires shared { shared ≤ length label.now }
-    requires same { take shared kept.now ≡ take shared label.now }
-    requires plain { ArePlainBelow (length kept.now) points.old kept.now plain }
-    ensures plain { ArePlainBelow (length label.now) points.old label.now result }
-    ensures same { points.new ≡ points.old }
-{
-    let mut found = both(plain, point_places(shared));
-    for place in shared..label.len() {
-        found = with_place_if(found, place, points.contains(label[place]));
-    }
-    found
 }

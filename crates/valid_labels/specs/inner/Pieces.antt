@@ -28,20 +28,6 @@ pub record ArePieces (table : TableValue) (sequences : List (Vec ℕ Global)) (m
   pub longest : IsLongest table most
   pub short : most ≤ 8
 
--- a code point is a piece without a condition, and no other piece begins with it
-pub record IsPlain (table : TableValue) (point : ℕ) : Type 0 where
-  pub formed : IsWellFormed table.entries
-  pub piece : IsPiece table (point ∷ []) None
-  pub alone : (rest : List ℕ) (c : Option Condition) → IsPiece table (point ∷ rest) c → rest ≡ []
-
--- of the first n code points of a label those at these places are plain
-abbrev pub ArePlainBelow : ℕ → TableValue → List ℕ → ℕ → Type 0
-ArePlainBelow n table label places = (p : ℕ) → Has places p → (p < n) × IsPlain table (slice_index label p)
-
 -- none of the sequences begins with the code point
 abbrev pub NoneBegins : List (List ℕ) → ℕ → Type 0
 NoneBegins sequences point = (rest : List ℕ) → Contains sequences (point ∷ rest) → ⊥
-
--- each of these is plain, or stands for none
-abbrev pub AreKnown : TableValue → List ℕ → Type 0
-AreKnown table points = (k : ℕ) → k < length points → (slice_index points k ≡ 4294967295) ⊎ IsPlain table (slice_index points k)

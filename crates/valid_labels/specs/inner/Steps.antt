@@ -3,6 +3,7 @@ use Rattle.std.specs.Prelude.{◌≡◌, ◌⊎◌, ◌↔◌, ℕ, ◌+◌, ◌
 use Rattle.std.specs.List.{slice_range}
 use Rattle.label_patterns.specs.Places.{Has}
 use Rattle.variant_table.specs.Entries.{Entry}
+use Rattle.valid_labels.specs.declared.cutting.SingleSteps.{SingleSteps}
 
 -- a source stands from i to j, and what is asked of its entry is so
 abbrev pub SourceIs : (Entry → ℕ → ℕ → Type 0) → List Entry → List ℕ → ℕ → ℕ → Type 0
@@ -16,6 +17,6 @@ SequenceIs sequences label i j = (i ≤ j) × (j ≤ length label) × Contains s
 abbrev pub StepIs : (Entry → ℕ → ℕ → Type 0) → List Entry → List (List ℕ) → List ℕ → ℕ → ℕ → Type 0
 StepIs asks entries sequences label i j = SourceIs asks entries label i j ⊎ SequenceIs sequences label i j
 
--- from each of these places, which are in a label of n code points, one code point leads on, and nothing else
-abbrev pub ArePlain : (ℕ → ℕ → Type 0) → ℕ → ℕ → Type 0
-ArePlain R n places = (i : ℕ) → Has places i → (i < n) × ((j : ℕ) → R i j ↔ (j ≡ i + 1))
+-- the known places are in a label of n code points; from the leading ones one code point leads on, and nothing else does
+abbrev pub AreSteps : (ℕ → ℕ → Type 0) → ℕ → SingleSteps → Type 0
+AreSteps R n steps = (i : ℕ) → Has steps.known i → (i < n) × ((j : ℕ) → R i j ↔ ((j ≡ i + 1) × Has steps.leading i))

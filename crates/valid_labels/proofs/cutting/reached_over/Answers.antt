@@ -3,7 +3,7 @@ use Rattle.std.specs.Prelude.{◌↔◌}
 use Rattle.label_patterns.specs.Places.{Has}
 use Rattle.valid_labels.specs.inner.Steps.{StepIs}
 use Rattle.valid_labels.proofs.ReachedLemmas.{IsFound, found-start, found-more, found-same, found-all}
-use Rattle.valid_labels.proofs.StepLemmas.{items_of, steps-on, steps-inside, plain-ends}
+use Rattle.valid_labels.proofs.StepLemmas.{items_of, steps-on, steps-inside, single-ends}
 use Rattle.valid_labels.proofs.cutting.reached_over.Goals as goal
 use Rattle.valid_labels.proofs.cutting.reached_over.Goals.{then-has, then-has-2, else-has-2, else-has}
 
@@ -26,7 +26,7 @@ loop-place-preserved g c =
       | then-has w ↦
           let are : (j : ℕ) → Has w.if-has-2.ends j ↔ R place j = elim w.if-has-2.branch [
             | then-has-2 v ↦ subst (λ n. (j : ℕ) → Has n j ↔ R place j) (sym v.ends-is)
-                (plain-ends R place v.with_place_if-ends.result v.with_place_if-ends.ensures (c.requires.plain place (w.has-then-has.ensures.0 v.if-has-2.true)).1)
+                (single-ends R (Has c.args.steps.leading place) place v.with_place_if-ends.result v.has-then-has-2.result v.has-then-has-2.ensures v.with_place_if-ends.ensures (c.requires.steps place (w.has-then-has.ensures.0 v.if-has-2.true)).1)
             | else-has-2 v ↦ subst (λ n. (j : ℕ) → Has n j ↔ R place j) (sym v.ends-is) v.step_ends-ends.ensures
           ] in
           subst (IsFound R (place + 1)) (sym w.found-is)

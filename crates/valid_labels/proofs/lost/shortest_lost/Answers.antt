@@ -7,7 +7,7 @@ use Rattle.valid_labels.specs.inner.Ends.{IsRefusedAt, NoneRefuses}
 use Rattle.valid_labels.specs.inner.Pieces.{items_of}
 use Rattle.valid_labels.proofs.LostPlaces.{shortest-lost}
 use Rattle.valid_labels.proofs.PieceSteps.{unbarred-pieces}
-use Rattle.valid_labels.proofs.PlainLemmas.{unbarred-plain}
+use Rattle.valid_labels.proofs.SingleLemmas.{unbarred-steps}
 use Rattle.valid_labels.proofs.lost.shortest_lost.Goals as goal
 
 pub last_place-requires : goal.last_place-requires
@@ -26,7 +26,7 @@ returns c =
     ((same c.last_place.result).0 ((c.reached_over-places.ensures c.last_place.result).0 c.last_place.ensures.member))
     (λ p l m may. c.last_place.ensures.greatest p l m ((c.reached_over-places.ensures p).1 ((same p).1 may))) c.longest.ensures.longest c.shortest.result c.shortest.ensures
 
-pub reached_over-places-requires-clause-plain : goal.reached_over-places-requires-clause-plain
-reached_over-places-requires-clause-plain c =
-    unbarred-plain c.args.pieces.now c.table-table.result.now c.definitions-definitions.result.now c.args.seen.now (items_of c.lone.result.now) c.args.label.now c.args.plain
-    c.table-table.ensures c.definitions-definitions.ensures.is c.requires.seen c.lone.ensures.lone c.requires.plain
+pub reached_over-places-requires-clause-steps : goal.reached_over-places-requires-clause-steps
+reached_over-places-requires-clause-steps c =
+    unbarred-steps c.args.pieces.now c.table-table.result.now c.definitions-definitions.result.now c.args.seen.now (items_of c.lone.result.now) c.args.label.now c.args.singles.now c.free_steps-steps.result
+    c.table-table.ensures c.definitions-definitions.ensures.is c.requires.seen c.lone.ensures.lone c.requires.singles c.free_steps-steps.ensures.known c.free_steps-steps.ensures.leading

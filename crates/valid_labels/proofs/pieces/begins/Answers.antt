@@ -1,6 +1,6 @@
 use Rattle.std.proofs.Common.{◌≡◌, true, false, get_or, sym, ◌∙◌}
 use Rattle.std.proofs.lemmas.Bool.{eq-eqb}
-use Rattle.valid_labels.proofs.PlainLemmas.{begins-other}
+use Rattle.valid_labels.proofs.SingleLemmas.{begins-other}
 use Rattle.valid_labels.proofs.pieces.begins.Goals as goal
 
 pub returns-then-points-gt0 : goal.returns-then-points-gt0

@@ -1,7 +1,7 @@
 use Rattle.std.proofs.Common.{◌≡◌, ℕ, ◌+◌, List, [], ◌∷◌, ◌++◌, map, take, Vec, Global, sym, ap, subst, ◌∙◌, arith}
 use Rattle.std.proofs.lemmas.List.{map_more, take_all}
 use Rattle.valid_labels.specs.inner.Pieces.{NoneBegins, items_of}
-use Rattle.valid_labels.proofs.PlainLemmas.{no-begins, more-begins}
+use Rattle.valid_labels.proofs.SingleLemmas.{no-begins, more-begins}
 use Rattle.valid_labels.proofs.pieces.one_begins.Goals as goal
 
 pub loop-sequence-init : goal.loop-sequence-init

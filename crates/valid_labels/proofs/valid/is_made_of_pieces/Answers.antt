@@ -1,7 +1,8 @@
-use Rattle.std.proofs.Common.{length}
+use Rattle.std.proofs.Common.{length, subst}
 use Rattle.valid_labels.specs.inner.Pieces.{items_of}
+use Rattle.valid_labels.specs.inner.Singles.{AreHoldingSteps}
 use Rattle.valid_labels.proofs.PieceSteps.{holding-pieces}
-use Rattle.valid_labels.proofs.PlainLemmas.{holding-plain}
+use Rattle.valid_labels.proofs.SingleLemmas.{holding-steps}
 use Rattle.valid_labels.proofs.valid.is_made_of_pieces.Goals as goal
 
 pub returns : goal.returns
@@ -11,7 +12,8 @@ returns c =
     let r = c.reached_over-places.ensures (length c.args.label.now) in
     (λ h. s.0 (r.0 (c.has.ensures.0 h)), λ h. c.has.ensures.1 (r.1 (s.1 h)))
 
-pub reached_over-places-requires-clause-plain : goal.reached_over-places-requires-clause-plain
-reached_over-places-requires-clause-plain c =
-    holding-plain c.args.pieces.now c.table-table.result.now c.definitions-definitions.result.now c.args.seen.now (items_of c.lone.result.now) c.args.label.now c.args.plain
-    c.table-table.ensures c.definitions-definitions.ensures.is c.requires.seen c.lone.ensures.lone c.requires.plain
+pub reached_over-places-requires-clause-steps : goal.reached_over-places-requires-clause-steps
+reached_over-places-requires-clause-steps c =
+    holding-steps c.args.pieces.now c.table-table.result.now c.definitions-definitions.result.now c.args.seen.now (items_of c.lone.result.now) c.args.label.now c.args.singles.now c.holding_steps-steps.result
+    c.table-table.ensures c.definitions-definitions.ensures.is c.requires.seen c.lone.ensures.lone c.requires.singles
+    (subst (λ rules. AreHoldingSteps rules c.args.seen.now c.args.singles.now c.holding_steps-steps.result) c.rules.ensures.is c.holding_steps-steps.ensures)

@@ -7,4 +7,5 @@ invariant-loop-place l = record {
   kept : l.self-inside.kept ≡ take l.place l.label;
   points : l.self-inside.points ≡ l.initial.self-inside.points;
   masks : l.self-inside.masks ≡ l.initial.self-inside.masks;
+  singles : l.self-inside.singles ≡ l.initial.self-inside.singles;
 }
