@@ -3,10 +3,11 @@
 from notation.points import spelled as spelled_points
 
 TAGS, RULES = ("simp", "trad", "T3"), ("r", "follows", "R_2")
-# Lines with a fault, wherever they stand, or where what they name isn't defined.
+# Lines with a fault, wherever they stand, or where what they name isn't defined, or where other patterns have more than six atoms.
 FAULTY_LINES = (
     "%tag", "%tag a b", "% tag t", "%Tag t", "%set A 0063..0061", "%set A", "%rule x _ _", "%rule x 0061", "%rule x 0061 $ _",
-    "%rule x _ (^)", "%rule x ((0061*)*)* _", "%never", "%never _", "%never (0061", "%always 0061**", "%never @nope",
+    "%rule x _ (^)", "%rule x ((0061*)*)* _", "%never (0061 (0062* ^)*)*", "%rule x _ ((((((((( $ )))))))))", "%always " + "^" * 4090,
+    "%never", "%never _", "%never (0061", "%always 0061**", "%never @nope",
     "%rule x 0041 _", "%set C 0041", "0061 when nope", "0061 unless", "0061 as nope", "0061 as t,t", "!0061 as simp",
     "0061 when r as simp", "0061|0062 when nope", "0061|0062 as", "0061 as simp,", "%always 0041", "0061|0062 when r:0062",
     "0061..0063 when nope", "0061 when r:0062", "%rule r _", "%tag simp", "%set simp 0061",

@@ -3,7 +3,9 @@
 `of_fault` gives what the message of a faulty line goes on with where causes are told, or None. A lexeme can't stand where it is if
 no entry, range or definition of the version begins with the lexemes up to it: whether one does is tried out by what may come after."""
 
+import bisect
 import collections
+import itertools
 import re
 
 from notation.forms import Tokens, entry_of
@@ -28,7 +30,10 @@ NAME = re.compile(rb"[A-Za-z][A-Za-z0-9_]{0,31}")
 # What completes a beginning of a definition that is no pattern: a keyword, a name, what stands after it.
 DEFINITION_ENDS = ENDS + [[b"%tag", b"a"], [b"a"], [b"a", b"0061"], [b"a", b"_"]]
 # How many definitions there may be of a kind, by their keywords.
-MOST = {(b"%tag",): 8, (b"%set",): 256, (b"%rule", b"%never", b"%always"): 256}
+PATTERNS = (b"%rule", b"%never", b"%always")
+MOST = {(b"%tag",): 8, (b"%set",): 256, PATTERNS: 256}
+# How many atoms all patterns may have together.
+MOST_ATOMS = 4096
 
 
 def of_fault(text, line_number, number, may_stand):
@@ -145,8 +150,37 @@ def definition_place(line, found, number, may_stand, before):
     [(kind, most)] = [(kind, most) for kind, most in MOST.items() if lexemes[0] in kind]
     if sum(each[0] in kind for each in before if each) >= most:
         return quoted(*found[0])
-    groups = [lexemes[:count].count(b"(") - lexemes[:count].count(b")") for count in range(1, len(found) + 1)]
-    return next((quoted(*found[place]) for place, depth in enumerate(groups) if depth == 9), None)
+    if lexemes[0] not in PATTERNS:
+        return None
+    left = MOST_ATOMS - sum(atoms_in(pattern_of(each)) for each in before if each[:1] and each[0] in PATTERNS)
+    pattern = pattern_of(lexemes)
+    past = bisect.bisect_left(range(len(pattern)), True, key=lambda last: is_past(pattern[: last + 1], left))
+    return None if past == len(pattern) else quoted(*found[len(found) - len(pattern) + past])
+
+
+def pattern_of(lexemes):
+    return lexemes[2 if lexemes[0] == b"%rule" else 1:]
+
+
+def atoms_in(lexemes):
+    return sum(pattern_kind(lexeme) in ("A", "(") or lexeme in (b"^", b"$") for lexeme in lexemes)
+
+
+def is_past(lexemes, left):
+    """Whether the beginning of a pattern, which may have so many atoms, goes past a limit. More lexemes never take it back."""
+    depths = itertools.accumulate((lexeme == b"(") - (lexeme == b")") for lexeme in lexemes)
+    return max(depths) > 8 or stars_within_each_other(lexemes) > 2 or atoms_in(lexemes) > left
+
+
+def stars_within_each_other(lexemes):
+    """Reduces atoms with '*', and groups, to the depth of '*' in them, innermost first."""
+    kinds = "".join("0" if kind == "A" else kind for kind in map(pattern_kind, lexemes))
+    while True:
+        reduced = re.sub(r"(\d)\*", lambda match: str(int(match[1]) + 1), kinds)
+        reduced = re.sub(r"\(([^()*]*)\)", lambda match: max(re.findall(r"\d", match[1]), default="0"), reduced)
+        if reduced == kinds:
+            return max(map(int, re.findall(r"\d", kinds)), default=0)
+        kinds = reduced
 
 
 def begins_a_definition(lexemes):

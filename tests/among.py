@@ -404,7 +404,7 @@ def text_of(chance, table):
 
 
 def drawn_labels(chance, table):
-    """Labels that are cut into sources, and registered labels: some of what these spell, and neighbours of that."""
+    """Labels that are cut into sources, and registered labels: some of what these spell, and neighbors of that."""
     labels = [label for label in ("".join(chance.choices([*table], k=chance.randint(1, 4))) for _ in range(12))
               if is_registrable(label)]
     near = {label for each in labels for label in spelled(table, each)}

@@ -1,15 +1,17 @@
 #!/usr/bin/env python3
 """Tests that each wrong body can be applied, also those that the gate doesn't try: each text that an edit replaces stands
-exactly once in its file. Whether the checker refuses the edit is another question, which takes it far longer to answer.
+exactly once in its file; and that each one that a document names is there. Whether the checker refuses the edit is another question, which takes it far longer to answer.
 The last line is 'N passed, M failed', and the exit status is 0 where nothing failed."""
 
 import glob
 import os
+import re
 import sys
 
 from program import ROOT, run_tests
 
 FOLDERS = ("must-fail", "planted", "wrong-bodies")
+NAMED = re.compile(r"`(\w+/(?:%s)/\w+-[\w-]+)`" % "|".join(FOLDERS))
 
 
 def text_of(path):
@@ -56,5 +58,12 @@ def apply_to_their_files(folder):
     assert edits and not faults, faults
 
 
+def are_where_documents_say(folder):
+    documents = glob.glob(os.path.join(ROOT, "*.md")) + glob.glob(os.path.join(ROOT, "docs", "*.md"))
+    named = {name for document in documents for name in NAMED.findall(text_of(document))}
+    missing = [name for name in sorted(named) if not os.path.isfile(os.path.join(ROOT, "crates", f"{name}.edit"))]
+    assert named and not missing, missing
+
+
 if __name__ == "__main__":
-    sys.exit(run_tests("edits", [apply_to_their_files]))
+    sys.exit(run_tests("edits", [apply_to_their_files, are_where_documents_say]))

@@ -169,6 +169,8 @@ SYNTAX, TWICE, AGAIN = "30 table syntax", "32 variant given twice", "31 source g
 CLASS, OVER = "33 code point not allowed in a table", "34 table limit"
 NINE = "-".join(f"{point:04X}" for point in range(0x61, 0x6A))
 SEVENTEEN = ":".join(f"{point:04X}" for point in range(0x62, 0x73))
+# As many atoms as all patterns of a ruleset may have.
+ATOMS = "%never" + " ." * 4000 + "\n%always" + " ." * 96 + "\n"
 
 # Tables, or rulesets where they begin as such: the number of the faulty line, its message, and where the fault is in the line. A
 # lexeme that can't stand there is quoted, unless it is longer than 32 bytes or has other bytes than those of ASCII that are seen.
@@ -233,7 +235,17 @@ TABLE_ROWS = [
     (VERSION_3 + "".join(f"%tag t{n}\n" for n in range(9)), 10, OVER, "'%tag' at byte 1"),
     (VERSION_3 + "".join(f"%set t{n} 0061\n" for n in range(257)), 258, OVER, "'%set' at byte 1"),
     (VERSION_3 + "%rule r (((((((((0061))))))))) _\n", 2, OVER, "'(' at byte 17"),
-    (VERSION_3 + "%rule r ((0061*)*)* _\n", 2, OVER, None),
+    (VERSION_3 + "%rule r ((0061*)*)* _\n", 2, OVER, "'*' at byte 19"),
+    (VERSION_3 + "%never (0061* (0062*)* / .) (.* (0061*)*)*\n", 2, OVER, "'*' at byte 42"),
+    # the first lexeme past a limit, whichever limit it is
+    (VERSION_3 + "%never ((0061*)*)* / (((((((((0061)))))))))\n", 2, OVER, "'*' at byte 18"),
+    (VERSION_3 + "%never (((((((((0061))))))))) / ((0061*)*)*\n", 2, OVER, "'(' at byte 16"),
+    (VERSION_3 + "%never .\n" * 256 + "%rule r ((0061*)*)* _\n", 258, OVER, "'%rule' at byte 1"),
+    (VERSION_3 + ATOMS + "%never @C\n", 4, OVER, "'@C' at byte 8"),
+    (VERSION_3 + ATOMS + "%tag t\n%rule abcd _ / (0061) _\n", 5, OVER, "'(' at byte 16"),
+    (VERSION_3 + ATOMS + "%rule r _\n\t%never ^\r\n", 5, OVER, "'^' at byte 9"),
+    (VERSION_3 + "%never " + "^" * 4097 + "\n", 2, OVER, "'^' at byte 4104"),
+    (VERSION_3 + "%never " + "^" * 4096 + "\n", 2, OVER, None),
     ("0061\n0041\n", 2, CLASS, "U+0041 at byte 1"),
     ("0061|0062-U+0640:0041\n", 1, CLASS, "U+0640 at byte 11"),
     (VERSION_3 + "%tag abcd\n0061 as abcd|0041\n", 3, CLASS, "U+0041 at byte 14"),

@@ -136,6 +136,16 @@ def has_each_script_in_the_guide(folder):
         assert not lists or "--tries" in text and "--steps" in text, f"{name} lists without --tries or --steps"
 
 
+def lists_each_script_at_its_head(folder):
+    """The guide lists each script once, with the section that has it and the scripts that it calls."""
+    listed = re.findall(r"^\| `(\w+\.\w+)` \| \[(.*)\]\(\S*\) \| (.*)\|$", GUIDE, re.MULTILINE)
+    calls = {name: set(re.findall(r"\$here/(\S+?)\"", text)) for name, text in SCRIPTS.items() if not name.endswith(".xml")}
+    assert {name: set(re.findall(r"`(\S+)`", cell)) for name, _, cell in listed} == calls and len(listed) == len(calls), listed
+    for name, heading, _ in listed:
+        [section] = re.findall(rf"^##+ {heading}\n((?:(?!##).*\n)*)", GUIDE, re.MULTILINE)
+        assert name in dict(markdown_files(section)), (name, heading)
+
+
 @in_each_setting
 def accepts_and_refuses_labels(kit):
     kit.write("registered.txt", "haus\nstrasse\n")
@@ -1052,6 +1062,7 @@ def fails_with_the_program_of_libidn2(kit):
 
 TESTS = [
     has_each_script_in_the_guide,
+    lists_each_script_at_its_head,
     makes_each_file_of_an_output_by_its_status,
     leaves_a_file_as_it_was_where_its_recipe_fails,
     installs_nothing_of_an_archive_with_a_wrong_sum,

@@ -1,7 +1,7 @@
 #!/usr/bin/env python3
 """Tests that crates and modules stand in layers, as docs/ARCHITECTURE.md draws them: no `use` goes up, and none goes in a
-circle; and that the functions through which it leads a line stand where it says. It reads the source alone, in less than a
-second. The last line is 'N passed, M failed', and the exit status is 0 where nothing failed. `--draw` draws the layers in that
+circle; that the functions through which it leads a line stand where it says; and that it says of each module what it is for. It
+reads the source alone, in less than a second. The last line is 'N passed, M failed', and the exit status is 0 where nothing failed. `--draw` draws the layers in that
 document as the source has them now."""
 
 import collections
@@ -17,6 +17,8 @@ from program import ROOT, run_tests, text_of
 # The drawing of the crates themselves, and the crate of which nothing is drawn: each file of it is a test.
 OF_CRATES = "the crates"
 UNDRAWN = "idn2_rows"
+# The crate whose modules stand in folders, each a room with a row of its own.
+OF_ROOMS = "idn2_cli"
 
 # What a file names of its own crate: in code by `crate::`, in contracts by the types that it declares.
 IN_CODE = re.compile(r"\bcrate::((?:\w+::)*\w+)")
@@ -174,6 +176,31 @@ def leads_a_line_through_functions_that_are_there(folder):
     assert len(named) > 90 and not absent, (len(named), absent)
 
 
+def names_what_is_in_other_files(folder):
+    """What a row of these tables says of another file stands there: `name` in `file.rt`, beside the file of the row or below
+    crates/."""
+    rows = re.findall(r"^\| \d+ \| .*? \| `(\w+)/([\w/]+\.rt)` \| (.*) \|$", text_of("docs", "ARCHITECTURE.md"), re.MULTILINE)
+    named = [(name, other if other.split("/")[0] in crates() else os.path.join(crate, os.path.dirname(file), other))
+             for crate, file, said in rows for name, other in re.findall(r"`(?:\w+::)?(\w+)` in `([\w/]+\.rt)`", said)]
+    absent = []
+    for name, path in named:
+        crate, _, file = path.partition("/")
+        path = os.path.join(ROOT, "crates", crate, "src", file)
+        if not os.path.exists(path) or not re.search(rf"\b(?:fn|struct|enum|trait) {name}\b", text_of(path)):
+            absent.append((name, path))
+    assert len(named) > 10 and not absent, (len(named), absent)
+
+
+def has_a_row_for_each_module(folder):
+    """The tables of rooms have each module of their crate once, and each crate but the one with rooms of its own."""
+    section = text_of("docs", "ARCHITECTURE.md").partition("\n## The rooms of each crate\n")[2].partition("\n## ")[0]
+    parts = re.findall(r"^`crates/(\w+)/src`:\n\n((?:\|.*\n)+)", section, re.MULTILINE)
+    assert [crate for crate, _ in parts] == [crate for crate in crates() if crate not in (UNDRAWN, OF_ROOMS)], parts
+    for crate, table in parts:
+        rows, modules = re.findall(r"^\| `([\w/]+)\.rt` \|", table, re.MULTILINE), set(sources(crate)) - {"laws"}
+        assert sorted(rows) == sorted(modules), (crate, set(rows) ^ modules)
+
+
 def drawn_again(graph):
     """The layers of what is drawn, each module as low as what it uses allows."""
     @functools.cache
@@ -209,6 +236,8 @@ TESTS = [
     says_what_each_crate_stands_on,
     names_no_module_as_a_library,
     leads_a_line_through_functions_that_are_there,
+    names_what_is_in_other_files,
+    has_a_row_for_each_module,
 ]
 
 

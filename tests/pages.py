@@ -1,7 +1,7 @@
 #!/usr/bin/env python3
 """Tests what the documents state, where a program can tell it: figures, paths, the manual page, what is installed and
-packed. The sessions that the documents show are run by program.py. The last line is 'N passed, M failed', and the exit
-status is 0 where nothing failed."""
+packed. The sessions that the documents show are run by program.py. Some tests run the program, and fail with 'build first:
+make' where it isn't built. The last line is 'N passed, M failed', and the exit status is 0 where nothing failed."""
 
 import ast
 import collections
@@ -66,6 +66,15 @@ def folded(text):
     return " ".join(text.split())
 
 
+def runs_the_program(test):
+    """Marks a test that runs the built program. Where none is built it fails, and says what to do first."""
+    @functools.wraps(test)
+    def marked(folder):
+        assert os.access(PROGRAM, os.X_OK), "build first: make"
+        test(folder)
+    return marked
+
+
 @functools.cache
 def figures():
     return Figures(Kit())
@@ -90,6 +99,7 @@ def counts_the_figures_of_the_profile(folder):
     assert not left, left
 
 
+@runs_the_program
 def registers_the_code_points_that_are_counted(folder):
     """Each code point by itself: those that may stand in a label are those that are refused neither with 10 nor by 11."""
     points = [point for point in (*range(0xD800), *range(0xE000, 0x110000)) if chr(point) not in "\r\n"]
@@ -108,6 +118,7 @@ def shown_rows(text):
             yield "".join(chr(int(point, 16)) for point in points), here, there
 
 
+@runs_the_program
 def answers_as_the_profile_shows(folder):
     """Here by the program, and by the standards over Unicode's own properties."""
     unicode = figures().unicode
@@ -147,6 +158,7 @@ def formats_the_manual_page(folder):
     expect_well_formed(MANUAL_PAGE)
 
 
+@runs_the_program
 def breaks_no_option_of_the_manual_page(folder):
     """At each width of a line an option stands as often as the page has it."""
     if not any(command[0] == "groff" for command in formatters()):
@@ -165,12 +177,14 @@ def options_of_the_help():
     return {row.replace("<", "").replace(">", "") for row in rows}
 
 
+@runs_the_program
 def shows_help_in_80_columns(folder):
     lines = run(["--help"]).stdout.decode().splitlines()
     wide = [line for line in lines if len(line) > 80]
     assert len(lines) > 20 and not wide, wide
 
 
+@runs_the_program
 def has_the_options_of_the_help_in_each_page(folder):
     """The manual page under OPTIONS, with forms and values; its synopsis, and the README, with the forms."""
     helped = options_of_the_help()
@@ -250,6 +264,7 @@ def names_what_comes_with_the_program(folder):
         assert f"\n.SH {section}\n" in page, section
 
 
+@runs_the_program
 def answers_alike_in_each_locale(folder):
     """Also where there is no environment at all. In Turkish the capital I has another small letter than elsewhere."""
     given = "I\nfaß\nFaß\nä\n\xa0\n".encode() + b"\xff\n"
@@ -260,6 +275,7 @@ def answers_alike_in_each_locale(folder):
         assert len({(done.stdout, done.stderr, done.returncode) for done in answers}) == 1, answers
 
 
+@runs_the_program
 def installs_under_another_name(folder):
     """The program, its page and its completions have that name; the page's examples run, and its messages stay."""
     done = make(folder, "install", f"PREFIX={folder}", f"PROGRAM_NAME={OTHER_NAME}")
@@ -301,6 +317,7 @@ def installs_under_no_name_of_a_path(folder):
     assert os.listdir(folder) == [], os.listdir(folder)
 
 
+@runs_the_program
 def packs_each_path_that_its_documents_name(folder):
     done = make(folder, "dist", f"DIST={folder}")
     assert done.returncode == 0, done
@@ -469,6 +486,7 @@ def names_only_paths_that_are_there(folder):
     assert len(named) > 50 and not absent, absent
 
 
+@runs_the_program
 def ends_as_the_readme_shows(folder):
     """What `make run` prints at its end."""
     shown = re.search(r"`make run` ends with .*:\n\n((?:    .*\n)+)", text_of("README.md")).group(1)
@@ -477,6 +495,7 @@ def ends_as_the_readme_shows(folder):
     assert done.stdout.endswith("\n" + re.sub("(?m)^    ", "", shown)), (shown, done)
 
 
+@runs_the_program
 def tells_which_answers_changed(folder):
     """What docs/UNICODE.md compares programs with: none differs from itself; one that reads other letters is told."""
     script = os.path.join(ROOT, "conformance", "changed_answers.py")
@@ -514,6 +533,23 @@ def has_an_example_by_each_definition(folder):
     parts = re.split(r"^(?=\*\*)", tour, flags=re.MULTILINE)[1:]
     lacking = [part.splitlines()[0] for part in parts if not quoted.BLOCK.search(part) or part.count("*Example.*") != 1]
     assert len(parts) > 35 and not lacking, lacking
+
+
+def lists_definitions_where_they_stand(folder):
+    """Each name of the tables after the tour is defined in the file above its table. Twice named are only those that are said to
+    be two definitions."""
+    tables = text_of("docs", "DEFINITIONS.md").partition("\n# All definitions\n")[2]
+    rows, absent = collections.Counter(), []
+    for file, table in re.findall(r"^In (\S+\.antt):\n\n((?:\|.*\n)+)", tables, re.MULTILINE):
+        defined = names_in(r"^(?:abbrev |unfoldable )?pub (?:record |data )?(\S+)", text_of("crates", file))
+        named = re.findall(r"^\| `(\S+)` \|", table, re.MULTILINE)
+        rows.update(named)
+        absent += [(file, name) for name in named if name not in defined]
+    said = tables.partition("\n## ")[0]
+    twice = {name for cell in re.findall(r"^\| (`.*?) \|", said, re.MULTILINE) for name in re.findall(r"`(\S+?)`", cell)}
+    assert sum(rows.values()) > 400 and not absent, (sum(rows.values()), absent)
+    repeated = {name for name, count in rows.items() if count > 1}
+    assert repeated == twice, repeated ^ twice
 
 
 def prose_lines(document):
@@ -566,6 +602,7 @@ TESTS = [
     tells_which_answers_changed,
     quotes_definitions_as_they_stand,
     has_an_example_by_each_definition,
+    lists_definitions_where_they_stand,
     keeps_the_lines_of_its_prose_short,
     needs_no_newer_python_than_is_said,
 ]

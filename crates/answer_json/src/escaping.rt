@@ -28,8 +28,8 @@ pub(crate) fn put_escaped(out: &mut ObjectRoom, at: usize, text: &[u8]) -> usize
     }
 }
 
-/// Copies a text, and tells whether each of its bytes stands as it is. Windows of one length are copied and looked at, the
-/// last of which may share bytes with the one before it.
+/// Copies a text, and tells whether none of its bytes needs an escape. Windows of one length are copied and looked at,
+/// the last of which may share bytes with the one before it.
 #[inline(always)]
 fn copy_plain(copy: &mut [u8], text: &[u8]) -> bool
     requires { length copy.old ≡ length text.now }
@@ -50,7 +50,7 @@ fn copy_plain(copy: &mut [u8], text: &[u8]) -> bool
     plain & copy_window::<WINDOW_LEN>(&mut copy[last..], &text[last..])
 }
 
-/// The same of a text that is shorter than a window.
+/// Copies a text that is shorter than a window, and tells whether none of its bytes needs an escape.
 #[inline(always)]
 fn copy_short(copy: &mut [u8], text: &[u8]) -> bool
     requires short { length text.now < WINDOW_LEN }
@@ -67,7 +67,8 @@ fn copy_short(copy: &mut [u8], text: &[u8]) -> bool
     }
 }
 
-/// The same of a text that its first and its last bytes, so many of each, are all of.
+/// Copies a text of `N` to `2 * N` bytes, by its first `N` and its last `N` bytes, and tells whether none needs an
+/// escape.
 #[inline(always)]
 fn copy_ends<const N: usize>(copy: &mut [u8], text: &[u8]) -> bool
     requires few { N ≤ 64 }
@@ -82,7 +83,7 @@ fn copy_ends<const N: usize>(copy: &mut [u8], text: &[u8]) -> bool
         & copy_window::<N>(&mut copy[last..], &text[last..])
 }
 
-/// The same of a text of `N` bytes, which are copied at once, and looked at at once.
+/// Copies a text of `N` bytes at once, and tells whether none of them needs an escape.
 #[inline(always)]
 fn copy_window<const N: usize>(copy: &mut [u8], text: &[u8]) -> bool
     requires few { N ≤ 64 }
@@ -99,7 +100,7 @@ fn copy_window<const N: usize>(copy: &mut [u8], text: &[u8]) -> bool
     escaped.to_bitmask() == 0
 }
 
-/// The same, byte by byte.
+/// Copies a text byte by byte, and tells whether none of its bytes needs an escape.
 #[inline(always)]
 fn copy_few(copy: &mut [u8], text: &[u8]) -> bool
     requires { length copy.old ≡ length text.now }

@@ -15,8 +15,6 @@ mod member;
 mod refusal_members;
 mod refused;
 mod room;
-#[cfg(test)]
-mod worked_rows;
 
 pub use answered::{write_decoded, write_least, write_looked_up, write_registered};
 pub use block::{Disposition, write_trailer, write_variant};

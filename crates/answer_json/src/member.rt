@@ -68,7 +68,7 @@ fn count_digits(number: u64) -> usize
     count + count_short(left)
 }
 
-/// The same of a number of at most four.
+/// How many decimal digits a number has that has at most four.
 fn count_short(number: u64) -> usize
     requires { number < 10_000 }
     ensures { result ≡ length (decimal number) }

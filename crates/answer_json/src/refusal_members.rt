@@ -3,13 +3,13 @@
 /// The members of a refusal after its number and its text: those that its cause has. Numbers count from 1.
 #[derive(Clone, Copy, Debug)]
 pub struct RefusalMembers<'a> {
-    /// The number of the label in its name.
+    /// The number of the label in the name.
     pub label: Option<u128>,
     /// Whether the cause is of what an A-label stands for.
     pub decoded: bool,
     /// A code point.
     pub code_point: Option<u32>,
-    /// Its place, in code points.
+    /// The place of the code point, in code points.
     pub place: Option<u128>,
     /// What a ruleset asks of a rule: that it holds, `when`, or that it doesn't, `unless`.
     pub condition: Option<&'a [u8]>,
@@ -21,7 +21,7 @@ pub struct RefusalMembers<'a> {
     pub nfc: Option<u32>,
     /// The number of the demand of a ruleset that is broken.
     pub demand: Option<u128>,
-    /// Its kind: `never` or `always`.
+    /// The kind of the demand: `never` or `always`.
     pub kind: Option<&'a [u8]>,
     /// How many code points the label has.
     pub code_points: Option<u128>,

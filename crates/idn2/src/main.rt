@@ -13,7 +13,7 @@ use idn_text::{Device, Lines, Refusal};
 use idn2_cli::{
     Options, Status, Usage, input_text, read_options, report, report_registered, run_among,
 };
-use registered_labels::{RegisterFault, RegisteredLabels};
+use registered_labels::{RegisteredFileFault, RegisteredLabels};
 use std::alloc::Global;
 use std::io::{BufWriter, Stdout, Write};
 use std::process::ExitCode;
@@ -68,7 +68,7 @@ fn serve(rt: &HostRuntime) -> Result<Status, Refusal>
 fn labels_of(
     alloc: Global,
     file: &Option<Vec<u8>>,
-) -> Result<Option<RegisteredLabels<'_>>, RegisterFault> {
+) -> Result<Option<RegisteredLabels<'_>>, RegisteredFileFault> {
     match file {
         Some(text) => Ok(Some(RegisteredLabels::read(alloc, text)?)),
         None => Ok(None),

@@ -11,7 +11,7 @@ use std::io::{self, BufWriter, ErrorKind, Read, Stdout};
 /// One byte more than a table's text may have: no later byte changes what is wrong with it.
 const TABLE_BYTES: u64 = 1_048_577;
 
-/// The same of a ruleset's text.
+/// One byte more than a ruleset's text may have: no later byte changes what is wrong with it.
 const RULESET_BYTES: u64 = 8_388_609;
 
 /// As many bytes of the file of registered labels as can matter: 2^32, and after these a line of 1,024 bytes with its line

@@ -62,3 +62,7 @@ pub mod FormLemmas
 pub mod RegisteredLines
 -- The lines of registered labels, and their code points.
 mod WrongLineLemmas
+-- Laws of the labels that are listed.
+pub mod ListingLaws
+-- Over a table of version 2 and over the ruleset of the same entries a run says the same.
+pub mod RulesetLaws

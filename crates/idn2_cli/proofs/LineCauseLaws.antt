@@ -42,8 +42,8 @@ use Rattle.idn2_options.specs.Settings.{Settings}
 use Rattle.idn2_options.specs.declared.command_line.mode.Mode.{Mode}
 use Rattle.idn2_options.specs.declared.command_line.mode.Mode.TheVariants as modes
 use Rattle.idn2_cli.specs.Answers.{IsRefusedAs, LineAnswer, if_admitted, line_answer, mode_answer, one_answer, requested_label, text_answer}
-use Rattle.idn2_cli.specs.Explained.{Explained, Unexplained, ByLabel, ByName, ByQuery, ByTable, ByRequest, ByTest, bad_byte, body_cause, explained_by_mode, explained_in, if_wanted, invalid_cause, outside_cause, points_cause, registered_cause, table_cause, unless_unexplained, validity_cause}
-use Rattle.idn2_cli.specs.LineCauses.{IsBadByte, IsInvalidCause, IsLineCause, IsOf, IsOutsideCause, IsPointsCause, IsRegisteredCause, IsTableCause, RefusalsAreExplained}
+use Rattle.idn2_cli.specs.Explained.{Explained, Unexplained, ByLabel, ByName, ByQuery, ByTable, ByRequest, ByRegisteredLine, bad_byte, body_cause, explained_by_mode, explained_in, if_wanted, invalid_cause, outside_cause, points_cause, registration_cause, table_cause, unless_unexplained, validity_cause}
+use Rattle.idn2_cli.specs.LineCauses.{IsBadByte, IsInvalidCause, IsLineCause, IsOf, IsOutsideCause, IsPointsCause, IsRegistrationCause, IsTableCause, RefusalsAreExplained}
 use Rattle.idn2_cli.specs.Said.{Said}
 use Rattle.idn2_cli.specs.Transcript.{Refuses, pieces_for, piece_in}
 use Rattle.idn2_cli.specs.declared.refusals.cause.LineCause.{LineCause}
@@ -66,10 +66,10 @@ of-part {X} of (Some x) Is cause is = (
       ap Some (ap of same ∙ sym has.2),
 )
 
-registered-is : (label : List ℕ) (refusal : Refusal) (cause : LineCause) → (registered_cause label refusal ≡ Some cause) ↔ IsRegisteredCause label refusal cause
+registered-is : (label : List ℕ) (refusal : Refusal) (cause : LineCause) → (registration_cause label refusal ≡ Some cause) ↔ IsRegistrationCause label refusal cause
 registered-is label refusal cause = by_prefix (has_ace_prefix label) refl
   where
-    by_prefix : (coded : Bool) → has_ace_prefix label ≡ coded → (cond coded (option_map OfALabel (a_label_cause label refusal)) (option_map OfLabel (cause_of label refusal)) ≡ Some cause) ↔ IsRegisteredCause label refusal cause
+    by_prefix : (coded : Bool) → has_ace_prefix label ≡ coded → (cond coded (option_map OfALabel (a_label_cause label refusal)) (option_map OfLabel (cause_of label refusal)) ≡ Some cause) ↔ IsRegistrationCause label refusal cause
     by_prefix true e =
         let is = of-part OfALabel (a_label_cause label refusal) (IsALabelCause label refusal) cause (a_label_cause-is label refusal) in
         (λ h. inl (e, is.0 h), λ has. elim has [ inl coded ↦ is.1 coded.1 | inr plain ↦ absurd (let clash : true ≡ false = sym e ∙ plain.0 in cc) ])
@@ -129,7 +129,7 @@ points-is (ByQuery std3) points refusal cause by =
     of-part OfQuery (query_cause (utf8_of points) std3 refusal) (IsQueryCause (utf8_of points) std3 refusal) cause (query_cause-is (utf8_of points) std3 refusal)
 points-is (ByTable table) points refusal cause by = table-is table points refusal cause by
 points-is (ByRequest table) points refusal cause by = table-is table (requested_label points) refusal cause by
-points-is ByTest points refusal cause by = of-part OfLabel (cause_of points refusal) (IsCause points refusal) cause (cause-is points refusal)
+points-is ByRegisteredLine points refusal cause by = of-part OfLabel (cause_of points refusal) (IsCause points refusal) cause (cause-is points refusal)
 
 -- ---- and each refusal of code points but for two has one
 
@@ -150,7 +150,7 @@ then-refused (Ok value) f refusal h = let clash : Ok (f value) ≡ Err refusal =
 then-refused (Err other) f refusal h = let same : other ≡ refusal = cc in ap Err same
 
 -- registration
-registered-told : (label : List ℕ) (refusal : Refusal) → register_answer label ≡ Err refusal → refusal ≢ refusals.Empty → registered_cause label refusal ≢ None
+registered-told : (label : List ℕ) (refusal : Refusal) → register_answer label ≡ Err refusal → refusal ≢ refusals.Empty → registration_cause label refusal ≢ None
 unfolding register_answer tested_answer
 registered-told label refusal refused some none = by_prefix (has_ace_prefix label) refused none
   where

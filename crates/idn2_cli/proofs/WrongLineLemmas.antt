@@ -10,7 +10,7 @@ use Rattle.std.specs.Option.{option_map}
 use Rattle.idn_text.specs.declared.refusal.Refusal.{Refusal}
 use Rattle.idn_cause.specs.declared.cause.Cause.{Cause}
 use Rattle.idn_cause.specs.Causes.{cause_of, shared}
-use Rattle.idn2_cli.specs.Explained.{ByTest, bad_byte, body_cause, points_cause}
+use Rattle.idn2_cli.specs.Explained.{ByRegisteredLine, bad_byte, body_cause, points_cause}
 use Rattle.idn2_cli.specs.inner.CauseRoom.{cause_room}
 use Rattle.idn2_cli.specs.declared.refusals.cause.LineCause.{LineCause}
 use Rattle.idn2_cli.specs.declared.refusals.cause.LineCause.TheVariants.{OfLabel}
@@ -64,7 +64,7 @@ order_told before label b l again place found is_before is_label is_again at got
     ap (differs_at place) (got ∙ ap (λ (x : List ℕ). slice_get x place) is_again) ∙ ap (λ (n : ℕ). differs_at n (slice_get label n)) where_
 
 -- the cause of a label that is tested as it stands leaves room for the words before it
-pub test_cause-short : (body : Option (List ℕ)) (refusal : Refusal) → IfSome (body_cause ByTest body refusal) (λ cause. cause_room cause ≤ 72)
+pub test_cause-short : (body : Option (List ℕ)) (refusal : Refusal) → IfSome (body_cause ByRegisteredLine body refusal) (λ cause. cause_room cause ≤ 72)
 unfolding points_cause
 test_cause-short None refusal = omega arith
 test_cause-short (Some bytes) refusal = by_utf8 (is_utf8 bytes)

@@ -3,8 +3,8 @@ use Rattle.std.specs.Prelude.{◌≡◌, ℕ, List, ◌⊎◌, ◌++◌, codes, 
 use Rattle.std.specs.Io.KnownBytes.{Appends}
 use Rattle.idn_text.specs.Writers.{Writer, Fails, TakesWhole, TakesPart}
 use Rattle.idn2_cli.specs.Transcript.{Piece, output_of, messages_of, Output, Message, told, lines_pieces, has_refused, registered_message, registered_object, status_if, transcript, status_of, TableGiven}
-use Rattle.registered_labels.specs.declared.labels.RegisterFault.{RegisterFault}
-use Rattle.registered_labels.specs.declared.labels.RegisterFault.TheVariants as registers
+use Rattle.registered_labels.specs.declared.labels.RegisteredFileFault.{RegisteredFileFault}
+use Rattle.registered_labels.specs.declared.labels.RegisteredFileFault.TheVariants as registers
 use Rattle.idn_text.specs.declared.refusal.Refusal.{Refusal}
 use Rattle.idn_text.specs.declared.refusal.Refusal.TheVariants.{Usage, ReadFault, WriteFault, Memory}
 use Rattle.idn2_cli.specs.declared.output.status.Status.{Status}
@@ -219,7 +219,7 @@ TellsMemory old new status =
 
 -- what a file leads to that is not read as registered labels: its wrong line is told, where causes are wanted with its cause, unless
 -- memory runs out for a cause that may take some
-abbrev pub TellsUnread : Settings → List ℕ → RegisterFault → (old new : Held) → Status → Type 0
+abbrev pub TellsUnread : Settings → List ℕ → RegisteredFileFault → (old new : Held) → Status → Type 0
 TellsUnread o text (registers.Refused line refusal) old new status =
     TellsWrongLine o.form line refusal (told_of_wrong_line (tells_causes o) text line refusal) old new status
     ⊎ ((tells_causes o ≡ true) × MayTakeMemory text line refusal × TellsMemory old new status)

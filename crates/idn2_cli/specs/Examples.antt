@@ -2,16 +2,17 @@
 use Rattle.std.specs.Prelude.{◌≡◌, ℕ, List, [], ◌∷◌, ◌++◌, true, false, Some, None, Option, Ok, Err, codes, map}
 use Rattle.idn_text.specs.Points.{utf8_of}
 use Rattle.idn_text.specs.Lines.{lines_of}
-use Rattle.idn_text.specs.declared.refusal.Refusal.TheVariants.{Disallowed, Empty, LineTooLong, NotUtf8, Syntax, WriteFault}
+use Rattle.idn_text.specs.declared.refusal.Refusal.TheVariants.{Disallowed, Empty, LineTooLong, NotInTable, NotUtf8, NotValid, Syntax, WriteFault}
 use Rattle.variant_table.specs.declared.version.Version.TheVariants.{Two}
-use Rattle.variant_table.specs.Entries.{Variant, TableValue, empty_table, plain_variant}
+use Rattle.variant_table.specs.Entries.{TableValue, empty_table}
 use Rattle.variant_table.specs.Ranges.{range_entries}
-use Rattle.variant_list.specs.Examples.{allocatable, entry, a_or_two, letter_or_hyphen}
+use Rattle.valid_labels.specs.Examples.{digits, edges, half_ra, leads, signs, some_a}
+use Rattle.variant_list.specs.Examples.{allocatable, entry, a_or_two, a_tag_of_its_own, b_outside, blocked, letter_or_hyphen, simplified_or_traditional, tags_of_two_cuttings}
 use Rattle.idn2_options.specs.Settings.{Settings}
 use Rattle.idn2_options.specs.Examples.{plain_run}
 use Rattle.idn2_cli.specs.Transcript.{Output, Message, line_message, table_message, transcript, status_of, no_table}
 use Rattle.idn2_cli.specs.Ends.{closing_message}
-use Rattle.idn2_cli.specs.Answers.{block, nth, nth_if_given, lesser_label, up_to, LineAnswer, line_answer}
+use Rattle.idn2_cli.specs.Answers.{block, if_admitted, is_allocatable, nth, nth_if_given, lesser_label, up_to, LineAnswer, line_answer}
 use Rattle.idn2_cli.specs.Said.{said_line, table_line, trailer_line}
 use Rattle.idn2_options.specs.declared.command_line.mode.Mode.TheVariants.{Register, Variants}
 use Rattle.idn2_cli.specs.declared.output.status.Status.TheVariants.{Refused}
@@ -45,10 +46,6 @@ pub record ExamplesOfLines (answer : List ℕ → LineAnswer) : Type 0 where
 abbrev pub listing : Option ℕ → ℕ → Settings
 listing limit tries = record (plain_run Variants []) { file = codes "t"; limit = limit; tries = tries }
 
--- a variant that is blocked
-abbrev pub blocked : List ℕ → Variant
-blocked s = plain_variant true s
-
 -- the table 0061..0063, 0078|!0079:007A of version 2
 abbrev pub y_or_z : TableValue
 y_or_z = record (empty_table Two) { entries = range_entries false 0x61 0x63 ++ entry (codes "x") (blocked (codes "y") ∷ allocatable (codes "z") ∷ []) ∷ [] }
@@ -68,6 +65,35 @@ pub record ExamplesOfBlocks : Type 0 where
   pub y_blocked : map said_line (block (listing None 1000000) y_or_z (codes "ax")) ≡ codes "ax\tax\tallocatable" ∷ codes "ay\tay\tblocked" ∷ codes "az\taz\tallocatable" ∷ codes "#end 3" ∷ []
   pub allocatable_by_one_cutting : map said_line (block (listing None 1000000) one_or_both (codes "aa"))
       ≡ codes "aa\taa\tallocatable" ∷ codes "ab\tab\tblocked" ∷ codes "ba\tba\tblocked" ∷ codes "bb\tbb\tallocatable" ∷ codes "#end 4" ∷ []
+
+-- a mixture of both kinds may be allocated where it is the label itself; what is of one kind may be, and no other mixture; nor what
+-- is in no sub-table as a whole, or has a blocked part; and by another cutting of the label a variant may be
+pub record ExamplesOfAllocations : Type 0 where
+  pub mixture : is_allocatable simplified_or_traditional (22269 ∷ 23416 ∷ []) (22269 ∷ 23416 ∷ []) ≡ true
+  pub one_kind : is_allocatable simplified_or_traditional (22269 ∷ 23416 ∷ []) (22269 ∷ 23398 ∷ []) ≡ true
+  pub other_kind : is_allocatable simplified_or_traditional (22269 ∷ 23416 ∷ []) (22283 ∷ 23416 ∷ []) ≡ true
+  pub other_mixture : is_allocatable simplified_or_traditional (22269 ∷ 23416 ∷ []) (22283 ∷ 23398 ∷ []) ≡ false
+  pub of_both_tags : is_allocatable a_tag_of_its_own (codes "aae") (codes "dbe") ≡ true
+  pub of_two_tags : is_allocatable a_tag_of_its_own (codes "aae") (codes "abe") ≡ false
+  pub blocked_one : is_allocatable a_tag_of_its_own (codes "aae") (codes "cce") ≡ false
+  pub by_the_other_cutting : is_allocatable tags_of_two_cuttings (codes "ac") (codes "bd") ≡ true
+  pub by_no_cutting : is_allocatable tags_of_two_cuttings (codes "ac") (codes "ad") ≡ false
+
+-- labels under rulesets, and whether they are answered, and if not, why: a vowel sign after another one, and a code point that is no
+-- source; a vowel that stands after its consonant; a hyphen in the third place; digits of two kinds; no a where each label has one;
+-- half a letter where it may not stand; a source that is outside
+pub record ExamplesOfRefusals : Type 0 where
+  pub sign : if_admitted signs (2325 ∷ 2366 ∷ []) [] ≡ Ok []
+  pub sign_after_sign : if_admitted signs (2325 ∷ 2366 ∷ 2366 ∷ []) [] ≡ Err NotValid
+  pub no_source : if_admitted signs (2325 ∷ 2366 ∷ 2366 ∷ 97 ∷ []) [] ≡ Err NotInTable
+  pub lead_at_end : if_admitted leads (3585 ∷ 3648 ∷ []) [] ≡ Err NotValid
+  pub hyphen_third : if_admitted edges (codes "ab-c") [] ≡ Err NotValid
+  pub hyphen_fourth : if_admitted edges (codes "abc-d") [] ≡ Ok []
+  pub two_kinds : if_admitted digits (48 ∷ 2407 ∷ []) [] ≡ Err NotValid
+  pub no_a : if_admitted some_a (codes "bb") [] ≡ Err NotValid
+  pub half_letter : if_admitted half_ra (2325 ∷ 2353 ∷ 2381 ∷ 2325 ∷ []) [] ≡ Err NotValid
+  pub other_half : if_admitted half_ra (2353 ∷ 2325 ∷ []) [] ≡ Err NotInTable
+  pub outside : if_admitted b_outside (codes "b") [] ≡ Err NotInTable
 
 -- three lines, of which the second is refused
 abbrev pub three_lines : List ℕ

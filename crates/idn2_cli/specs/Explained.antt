@@ -34,7 +34,7 @@ pub data Explained : Type 0 where
   ByQuery : (std3 : Bool) → Explained
   ByTable : (table : TableValue) → Explained
   ByRequest : (table : TableValue) → Explained
-  ByTest : Explained
+  ByRegisteredLine : Explained
 
 -- how a mode explains
 abbrev pub explained_by_mode : Mode → Settings → TableValue → Explained
@@ -55,8 +55,8 @@ explained_in mode o table = if_wanted (tells_causes o) (explained_by_mode mode o
 -- ---- the cause of a refusal
 
 -- of a label, or of what it stands for if it begins with "xn--"
-abbrev pub registered_cause : List ℕ → Refusal → Option LineCause
-registered_cause label refusal =
+abbrev pub registration_cause : List ℕ → Refusal → Option LineCause
+registration_cause label refusal =
     if has_ace_prefix label then option_map OfALabel (a_label_cause label refusal) else option_map OfLabel (cause_of label refusal)
 
 -- the code point after those that sources of the table reach, of a label that is short enough to be registered (RFC 7940, section 8.1)
@@ -71,7 +71,8 @@ validity_cause table label (validity.Misplaced place condition) =
     Misplaced place (slice_index label place) condition.kind (record { items = rule_name table.definitions condition.rule })
 validity_cause table label (validity.Broken number kind) = Broken number kind
 
--- the same of a label that is short enough to be registered (RFC 7940, sections 6.3 and 7)
+-- why a label that is short enough to be registered, and made of sources, may not be asked about (RFC 7940, sections
+-- 5.2 and 7)
 abbrev pub invalid_cause : TableValue → List ℕ → Option LineCause
 invalid_cause table label =
     if nat_le (length label) 63 then option_map (validity_cause table label) (validity_causes.cause_of table label) else None
@@ -85,12 +86,12 @@ table_cause table label refusal = option_map OfLabel (cause_of label refusal)
 -- of the code points of a line
 unfoldable pub points_cause : Explained → List ℕ → Refusal → Option LineCause
 points_cause Unexplained points refusal = None
-points_cause ByLabel points refusal = registered_cause points refusal
+points_cause ByLabel points refusal = registration_cause points refusal
 points_cause ByName points refusal = option_map OfName (name_cause points refusal)
 points_cause (ByQuery std3) points refusal = option_map OfQuery (query_cause (utf8_of points) std3 refusal)
 points_cause (ByTable table) points refusal = table_cause table points refusal
 points_cause (ByRequest table) points refusal = table_cause table (requested_label points) refusal
-points_cause ByTest points refusal = option_map OfLabel (cause_of points refusal)
+points_cause ByRegisteredLine points refusal = option_map OfLabel (cause_of points refusal)
 
 -- the first byte that no UTF-8 goes on with (RFC 3629, section 3)
 abbrev pub bad_byte : List ℕ → LineCause

@@ -19,7 +19,7 @@ use Rattle.idn2_options.specs.Settings.{Settings, tells_causes}
 use Rattle.idn2_options.specs.declared.command_line.mode.Mode.{Mode}
 use Rattle.idn2_options.specs.declared.command_line.mode.Mode.TheVariants.{CheckTable}
 use Rattle.idn2_cli.specs.Answers.{line_answer, mode_answer, requested_label}
-use Rattle.idn2_cli.specs.Explained.{Explained, Unexplained, ByLabel, ByName, ByQuery, ByTable, ByRequest, ByTest, body_cause, explained_in, validity_cause}
+use Rattle.idn2_cli.specs.Explained.{Explained, Unexplained, ByLabel, ByName, ByQuery, ByTable, ByRequest, ByRegisteredLine, body_cause, explained_in, validity_cause}
 use Rattle.idn2_cli.specs.Transcript.{Refuses, line_pieces, piece_in}
 use Rattle.idn2_cli.specs.declared.refusals.cause.LineCause.{LineCause}
 use Rattle.idn2_cli.specs.declared.refusals.cause.LineCause.TheVariants.{Byte, LongLine, OfLabel, OfALabel, OfName, OfQuery}
@@ -29,8 +29,8 @@ abbrev pub IsOf : {X : Type 0} → (X → LineCause) → (X → Type 0) → Line
 IsOf {X} of Is cause = (x : X) × Is x × (cause ≡ of x)
 
 -- of a label that is registered, or of what it stands for if it begins with "xn--"
-abbrev pub IsRegisteredCause : List ℕ → Refusal → LineCause → Type 0
-IsRegisteredCause label refusal cause =
+abbrev pub IsRegistrationCause : List ℕ → Refusal → LineCause → Type 0
+IsRegistrationCause label refusal cause =
     ((has_ace_prefix label ≡ true) × IsOf OfALabel (IsALabelCause label refusal) cause)
     ⊎ ((has_ace_prefix label ≡ false) × IsOf OfLabel (IsCause label refusal) cause)
 
@@ -39,8 +39,8 @@ abbrev pub IsOutsideCause : TableValue → List ℕ → Cause → Type 0
 IsOutsideCause table label cause =
     (place : ℕ) × IsFurthest table label place × (place < length label) × (cause ≡ Point place (slice_index label place))
 
--- of a label that is made of sources of a ruleset and isn't valid: a source whose condition fails, or a demand (RFC 7940,
--- sections 6.3 and 7)
+-- of a label that is made of sources of a ruleset and isn't valid: a source whose condition fails, or a demand (RFC
+-- 7940, sections 5.2 and 7)
 abbrev pub IsInvalidCause : TableValue → List ℕ → LineCause → Type 0
 IsInvalidCause table label cause = IsOf (validity_cause table label) (validity_causes.IsCause table label) cause
 
@@ -53,12 +53,12 @@ IsTableCause table label refusal cause = IsOf OfLabel (IsCause label refusal) ca
 -- of the code points of a line
 abbrev pub IsPointsCause : Explained → List ℕ → Refusal → LineCause → Type 0
 IsPointsCause Unexplained points refusal cause = ⊥
-IsPointsCause ByLabel points refusal cause = IsRegisteredCause points refusal cause
+IsPointsCause ByLabel points refusal cause = IsRegistrationCause points refusal cause
 IsPointsCause ByName points refusal cause = IsOf OfName (IsNameCause points refusal) cause
 IsPointsCause (ByQuery std3) points refusal cause = IsOf OfQuery (IsQueryCause (utf8_of points) std3 refusal) cause
 IsPointsCause (ByTable table) points refusal cause = IsTableCause table points refusal cause
 IsPointsCause (ByRequest table) points refusal cause = IsTableCause table (requested_label points) refusal cause
-IsPointsCause ByTest points refusal cause = IsOf OfLabel (IsCause points refusal) cause
+IsPointsCause ByRegisteredLine points refusal cause = IsOf OfLabel (IsCause points refusal) cause
 
 -- the first byte that no UTF-8 goes on with (RFC 3629, section 3)
 abbrev pub IsBadByte : List ℕ → LineCause → Type 0

@@ -6,7 +6,7 @@ use Rattle.idn_text.specs.declared.refusal.Refusal.{Refusal}
 use Rattle.idn_text.specs.declared.refusal.Refusal.TheVariants.{OutOfOrder, FileTooLong}
 use Rattle.idn_cause.specs.Causes.{shared}
 use Rattle.idn_cause.specs.declared.cause.Cause.TheVariants.{Point}
-use Rattle.idn2_cli.specs.Explained.{ByTest, body_cause}
+use Rattle.idn2_cli.specs.Explained.{ByRegisteredLine, body_cause}
 use Rattle.idn2_cli.specs.declared.refusals.cause.LineCause.{LineCause}
 use Rattle.idn2_cli.specs.declared.refusals.cause.LineCause.TheVariants.{OfLabel, Ends}
 
@@ -41,7 +41,7 @@ order_cause before label = differs_at (shared label before) (slice_get label (sh
 abbrev pub wrong_line_cause : List ℕ → ℕ → Refusal → Option LineCause
 wrong_line_cause text number OutOfOrder = Some (order_cause (points_at text (number - 1)) (points_at text number))
 wrong_line_cause text number FileTooLong = None
-wrong_line_cause text number refusal = body_cause ByTest (body_at text number) refusal
+wrong_line_cause text number refusal = body_cause ByRegisteredLine (body_at text number) refusal
 
 -- the cause may take memory: not that of the order of two labels, nor that of a file or a line that is too long
 abbrev pub MayTakeMemory : List ℕ → ℕ → Refusal → Type 0

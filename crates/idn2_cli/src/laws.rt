@@ -2,13 +2,35 @@
 ghost use Rattle.std.specs.Prelude.{ℕ, List};
 ghost use Rattle.idn2_cli.specs.Answers.{LineAnswer};
 ghost use Rattle.idn2_cli.specs.Laws.{CausesAreTold, DispositionsAreTold, FormsSayTheSame};
+ghost use Rattle.idn2_cli.specs.ListingLaws.{AdmittedAreListed, ListedAreMutual, NotValidIsTold, RulesetsSayTheSame};
 ghost use Rattle.idn2_cli.specs.LineCauses.{RefusalsAreExplained};
 ghost use Rattle.idn2_cli.specs.CauseExamples.{ExamplesOfCauses};
-ghost use Rattle.idn2_cli.specs.Examples.{ExamplesOfARun, ExamplesOfLines, ExamplesOfBlocks, ExamplesOfTranscripts};
+ghost use Rattle.idn2_cli.specs.Examples.{ExamplesOfAllocations, ExamplesOfARun, ExamplesOfBlocks, ExamplesOfLines, ExamplesOfRefusals, ExamplesOfTranscripts};
 
 /// The disposition of a variant, by what the table blocks.
 pub fn dispositions_are_told()
     ensures { DispositionsAreTold }
+{}
+
+/// A label that may be asked about is among its own variants, and may be allocated.
+pub fn admitted_labels_are_listed()
+    ensures { AdmittedAreListed }
+{}
+
+/// In a table without gaps, of single code points and without conditions at variants, labels that are variants of each
+/// other have the same variants, and so the same least one; and others don't.
+pub fn listed_labels_are_mutual()
+    ensures { ListedAreMutual }
+{}
+
+/// A ruleset says what the table of version 2 with the same entries says.
+pub fn rulesets_say_the_same()
+    ensures { RulesetsSayTheSame }
+{}
+
+/// Where a table asks nothing of its labels, none is refused as not valid.
+pub fn not_valid_is_told()
+    ensures { NotValidIsTold }
 {}
 
 /// What the message of a refused line goes on with.
@@ -32,5 +54,7 @@ pub fn examples_hold()
     ensures run { ExamplesOfARun }
     ensures lines { (answer : List ℕ → LineAnswer) → ExamplesOfLines answer }
     ensures blocks { ExamplesOfBlocks }
+    ensures allocations { ExamplesOfAllocations }
+    ensures refusals { ExamplesOfRefusals }
     ensures transcripts { ExamplesOfTranscripts }
 {}

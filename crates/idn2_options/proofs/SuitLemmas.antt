@@ -9,7 +9,7 @@ use Rattle.std.proofs.lemmas.Str.{chars-nil}
 use Rattle.clap.specs.Words.{Row, Text}
 use Rattle.variant_table.specs.declared.version.Notation.TheVariants.{Table, Ruleset}
 use Rattle.idn2_options.specs.Settings.{SuitsMode}
-use Rattle.idn2_options.specs.Words.{among_of, bounds_variants, checked_file, checks, checks_alone, count_of, file_of, has_counts, has_flag, has_short_start, has_strings, has_value, is_allowed, jumps_by_table, listing_file, lists, mode_of, names_one_mode, notation_of, settings_of, start_of, steps_of, strings_of, suits_among, value_of}
+use Rattle.idn2_options.specs.Words.{among_of, listing_options_fit, checked_file, checks, checks_alone, count_of, file_of, has_counts, has_flag, has_short_start, has_strings, has_value, is_allowed, jumps_by_table, listing_file, lists, mode_of, names_one_mode, notation_of, settings_of, start_of, steps_of, strings_of, suits_among, value_of}
 use Rattle.idn2_options.specs.declared.command_line.mode.Mode.{Mode}
 use Rattle.idn2_options.specs.declared.command_line.mode.Mode.TheVariants.{Lookup, Register, Decode, Variants, Jump, CheckTable}
 use Rattle.idn2_options.proofs.LimitLemmas.{le-test}
@@ -89,20 +89,20 @@ neither-given (Some x) b none = absurd (let bad : true ≡ false = none in cc)
 
 pub record Rules (rows : List Row) : Type 0 where
   pub one : IsOne (has_flag LOOKUP.now rows) (has_flag REGISTER.now rows) (has_flag DECODE.now rows) (lists rows) (checks rows)
-  pub bounds : bounds_variants rows ≡ true
+  pub bounds : listing_options_fit rows ≡ true
   pub jumps : jumps_by_table rows ≡ true
   pub among : suits_among rows ≡ true
   pub alone : checks_alone rows ≡ true
 
 pub rules : (rows : List Row) → is_allowed rows ≡ true → Rules rows
 rules rows allowed =
-    let tests : Bool = names_one_mode rows && bounds_variants rows && jumps_by_table rows && suits_among rows in
+    let tests : Bool = names_one_mode rows && listing_options_fit rows && jumps_by_table rows && suits_among rows in
     let last = and_parts (tests && has_counts rows && has_short_start rows) (checks_alone rows) allowed in
     let start = and_parts (tests && has_counts rows) (has_short_start rows) last.0 in
     let counts = and_parts tests (has_counts rows) start.0 in
-    let among = and_parts (names_one_mode rows && bounds_variants rows && jumps_by_table rows) (suits_among rows) counts.0 in
-    let jumps = and_parts (names_one_mode rows && bounds_variants rows) (jumps_by_table rows) among.0 in
-    let first = and_parts (names_one_mode rows) (bounds_variants rows) jumps.0 in
+    let among = and_parts (names_one_mode rows && listing_options_fit rows && jumps_by_table rows) (suits_among rows) counts.0 in
+    let jumps = and_parts (names_one_mode rows && listing_options_fit rows) (jumps_by_table rows) among.0 in
+    let first = and_parts (names_one_mode rows) (listing_options_fit rows) jumps.0 in
     record { one = fewer-named _ _ _ (value_of VARIANTS.now rows) (value_of RULESET.now rows) (value_of CHECK_TABLE.now rows) (value_of CHECK_RULESET.now rows) (le-test _ 1 first.0); bounds = first.1; jumps = jumps.1; among = among.1; alone = last.1 }
 
 -- a test of two that holds nowhere but in another mode

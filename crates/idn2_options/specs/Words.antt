@@ -116,13 +116,13 @@ names_one_mode rows = nat_le (count_by (λ named. named)
     ∷ has_value RULESET.now rows ∷ has_value CHECK_RULESET.now rows ∷ [])) 1
 
 -- `--after`, `--limit`, `--tries`, `--steps` or `--among` is given, which say what a listing has
-abbrev pub bounds_listing : List Row → Bool
-bounds_listing rows =
+abbrev pub has_listing_option : List Row → Bool
+has_listing_option rows =
     has_value AFTER.now rows || has_value LIMIT.now rows || has_value TRIES.now rows || has_value STEPS.now rows || has_value AMONG.now rows
 
 -- these come with `--variants` or `--ruleset` alone, and not with `--jump`, which lists nothing
-abbrev pub bounds_variants : List Row → Bool
-bounds_variants rows = (lists rows && not (has_flag JUMP.now rows)) || not (bounds_listing rows)
+abbrev pub listing_options_fit : List Row → Bool
+listing_options_fit rows = (lists rows && not (has_flag JUMP.now rows)) || not (has_listing_option rows)
 
 -- `--jump` comes with `--variants` or `--ruleset` alone
 abbrev pub jumps_by_table : List Row → Bool
@@ -154,7 +154,7 @@ checks_alone rows = not (checks rows) || not (has_strings rows)
 -- all of these rules hold
 abbrev pub is_allowed : List Row → Bool
 is_allowed rows =
-    names_one_mode rows && bounds_variants rows && jumps_by_table rows && suits_among rows && has_counts rows && has_short_start rows
+    names_one_mode rows && listing_options_fit rows && jumps_by_table rows && suits_among rows && has_counts rows && has_short_start rows
     && checks_alone rows
 
 -- ---- the options

@@ -125,7 +125,7 @@ fn labels_that_spell_more_than_a_memory_holds(rt: HostRuntime) -> Result<(), Fai
     Ok(())
 }
 
-/// The same label has a thousand candidates and more, of which the shortest has 32 code points.
+/// This label has a thousand candidates and more, of which the shortest has 32 code points.
 #[test]
 fn a_thousand_candidates(rt: HostRuntime) -> Result<(), Fail> {
     let net = net(rt.alloc(), SHARP_S, LONG)?;

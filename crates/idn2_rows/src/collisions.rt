@@ -3,7 +3,7 @@
 use crate::label_calls::points_of;
 use crate::nets::{BLIND, SHARP_S, net, points};
 use idn_text::Refusal;
-use registered_labels::{Collisions, RegisterFault, RegisteredLabels};
+use registered_labels::{Collisions, RegisteredFileFault, RegisteredLabels};
 use std::alloc::Global;
 use std::process::Abort;
 use std::test::Fail;
@@ -78,7 +78,7 @@ fn collisions_and_the_jumps_that_find_them(rt: HostRuntime) -> Result<(), Fail> 
 }
 
 /// The fault of a file.
-fn fault(alloc: Global, file: &[u8]) -> Result<RegisterFault, Fail> {
+fn fault(alloc: Global, file: &[u8]) -> Result<RegisteredFileFault, Fail> {
     match RegisteredLabels::read(alloc, file) {
         Ok(_) => Err("no fault".into()),
         Err(fault) => Ok(fault),
@@ -101,7 +101,7 @@ const FAULTS: [(&[u8], u64, Refusal); 8] = [
 fn faults_of_files(rt: HostRuntime) -> Result<(), Fail> {
     for (file, line, refusal) in FAULTS.iter() {
         let got = fault(rt.alloc(), file)?;
-        let want = RegisterFault::Refused {
+        let want = RegisteredFileFault::Refused {
             line: *line,
             refusal: *refusal,
         };

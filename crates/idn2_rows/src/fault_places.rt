@@ -102,6 +102,120 @@ fn places_in_rulesets(rt: HostRuntime) {
     }
 }
 
+/// Lines after the version line whose pattern reaches a limit, or goes past it: eight groups, or two `*`, within each other. The first
+/// lexeme past a limit is told, whichever limit it is.
+const PATTERNS: [(&str, Option<FaultPlace>); 14] = [
+    ("%rule r ((((((((0061)))))))) _", None),
+    (
+        "%rule r (((((((((0061))))))))) _",
+        Some(FaultPlace::Lexeme(16, 1)),
+    ),
+    (
+        "%never ((0061)) ((((((( ( (.)))))))))",
+        Some(FaultPlace::Lexeme(26, 1)),
+    ),
+    ("%rule r (0061*)* _ ((.*)? $)*", None),
+    ("%rule r ((0061*)*)* _", Some(FaultPlace::Lexeme(18, 1))),
+    (
+        "%rule r _ ( ( 0061 * ) * ) *",
+        Some(FaultPlace::Lexeme(27, 1)),
+    ),
+    ("%never (0061* (0062*)*)*", Some(FaultPlace::Lexeme(23, 1))),
+    ("%never (0061* (0062*)*) 0063*", None),
+    (
+        "%never ((0061* / 0062)* 0063)*",
+        Some(FaultPlace::Lexeme(29, 1)),
+    ),
+    (
+        "%always 0061 (((.* ^)* 0062?)?)*",
+        Some(FaultPlace::Lexeme(31, 1)),
+    ),
+    (
+        "%never ((0061*)*)* ((0061*)*)*",
+        Some(FaultPlace::Lexeme(17, 1)),
+    ),
+    (
+        "%never ((0061*)*)* / (((((((((0061)))))))))",
+        Some(FaultPlace::Lexeme(17, 1)),
+    ),
+    (
+        "%never (((((((((0061))))))))) / ((0061*)*)*",
+        Some(FaultPlace::Lexeme(15, 1)),
+    ),
+    (
+        "%rule r ((0061*)*)* @C _ 0041",
+        Some(FaultPlace::Lexeme(18, 1)),
+    ),
+];
+
+#[test]
+fn places_in_patterns(rt: HostRuntime) -> Result<(), Fail> {
+    let alloc = rt.alloc();
+    for (line, wanted) in PATTERNS {
+        let text = format!(in alloc; "%version 3\n{line}")?;
+        assert_eq!(&rt; place(&rt, Notation::Ruleset, &text), wanted, "{line:?}");
+    }
+    Ok(())
+}
+
+/// Lines after patterns of 4,090 atoms, so that six more may follow. A group is one at its `(`, and `^` and `$` are. The name of a rule,
+/// a set, `_`, `?`, `*` and `/` are none.
+const SIX_ATOMS: [(&str, Option<FaultPlace>); 10] = [
+    ("%never 0061 (0062) ^ . $", None),
+    (
+        "%never 0061 (0062) ^ . $ @C",
+        Some(FaultPlace::Lexeme(25, 2)),
+    ),
+    ("%rule abcd 0061? . . _ . . .*", None),
+    (
+        "%rule abcd 0061? . . _ . . .* / _ $",
+        Some(FaultPlace::Lexeme(34, 1)),
+    ),
+    (
+        "\t%always . . . / . . (U+0061)",
+        Some(FaultPlace::Lexeme(22, 6)),
+    ),
+    (
+        "%always . . . / . . . (0061)",
+        Some(FaultPlace::Lexeme(22, 1)),
+    ),
+    (
+        "%set abcd 0061 0062 0063..0069\n%never . . .\n0061\n# .\n%rule r . . _ $",
+        None,
+    ),
+    (
+        "%set abcd 0061 0062 0063..0069\n%never . . .\r\n0061\n# .\n%rule r . . _ . $",
+        Some(FaultPlace::Lexeme(16, 1)),
+    ),
+    ("%never ((.*)*)* . . . .", Some(FaultPlace::Lexeme(14, 1))),
+    (
+        "%never . . . . . . . ((.*)*)*",
+        Some(FaultPlace::Lexeme(19, 1)),
+    ),
+];
+
+#[test]
+fn places_of_atoms_too_many(rt: HostRuntime) -> Result<(), Fail> {
+    let alloc = rt.alloc();
+    for (lines, wanted) in SIX_ATOMS {
+        let mut text = format!(in alloc; "%version 3\n%set C 0061\n%rule start _\n%never")?;
+        add_atoms(&mut text, 4000)?;
+        text.push_str("\n%always")?;
+        add_atoms(&mut text, 90)?;
+        text.push('\n')?;
+        text.push_str(lines)?;
+        assert_eq!(&rt; place(&rt, Notation::Ruleset, &text), wanted, "{lines:?}");
+    }
+    Ok(())
+}
+
+fn add_atoms(text: &mut String, count: usize) -> Result<(), Fail> {
+    for _ in 0..count {
+        text.push_str(" .")?;
+    }
+    Ok(())
+}
+
 /// Code points that no table may hold, what is given twice, and limits.
 const ENTRIES: [(&str, FaultPlace); 15] = [
     ("0041", FaultPlace::Point(0, 0x41)),

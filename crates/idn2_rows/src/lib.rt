@@ -39,6 +39,8 @@ mod messages;
 #[cfg(test)]
 mod nets;
 #[cfg(test)]
+mod objects;
+#[cfg(test)]
 mod options;
 #[cfg(test)]
 mod parts;

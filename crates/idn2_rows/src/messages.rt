@@ -5,7 +5,7 @@ use crate::row::{options_of, shown};
 use idn_text::hostile::StopWriter;
 use idn_text::{Device, ReadFault, Refusal, WriteFault};
 use idn2_cli::{report, report_registered};
-use registered_labels::RegisterFault;
+use registered_labels::RegisteredFileFault;
 use std::alloc::Global;
 use std::process::Abort;
 use std::test::Fail;
@@ -77,7 +77,7 @@ fn last_messages_cut(rt: HostRuntime) -> Result<(), Fail> {
 struct Unread<'a> {
     words: &'a [&'a str],
     text: &'a [u8],
-    fault: RegisterFault,
+    fault: RegisteredFileFault,
     output: &'a str,
     message: &'a str,
     status: u8,
@@ -111,8 +111,8 @@ fn tells_of_file(rt: &impl Abort, alloc: Global, unread: &Unread<'_>) -> Result<
 }
 
 /// The fault of a line.
-fn refused(line: u64, refusal: Refusal) -> RegisterFault {
-    RegisterFault::Refused { line, refusal }
+fn refused(line: u64, refusal: Refusal) -> RegisteredFileFault {
+    RegisteredFileFault::Refused { line, refusal }
 }
 
 #[test]
@@ -137,7 +137,7 @@ fn faults_of_registered_labels(rt: HostRuntime) -> Result<(), Fail> {
         Unread {
             words: &["-r", "--json"],
             text: b"",
-            fault: RegisterFault::Memory,
+            fault: RegisteredFileFault::Memory,
             output: "",
             message: "idn2: 70 out of memory\n",
             status: 4,

@@ -33,7 +33,7 @@ pub fn net_of(alloc: Global, table: &Table, label: &[u32]) -> Result<Net, Fail> 
     Ok(Net::build(alloc, table, label)?)
 }
 
-/// The same from the text of the table.
+/// The net of a label in UTF-8 under the table that a text spells, where it has 1 to 63 code points.
 pub fn net(alloc: Global, table: &[u8], label: &str) -> Result<Net, Fail> {
     net_of(
         alloc,
@@ -42,7 +42,7 @@ pub fn net(alloc: Global, table: &[u8], label: &str) -> Result<Net, Fail> {
     )
 }
 
-/// The same of a label of so many times a code point.
+/// The net of a label that is so many times the same code point, under the table that a text spells.
 pub fn net_of_times(alloc: Global, table: &[u8], point: u32, count: usize) -> Result<Net, Fail> {
     let label: Vec<u32> = vec![in alloc; point; count]?;
     net_of(alloc, &Table::read(alloc, Notation::Table, table)?, &label)

@@ -28,7 +28,7 @@ fn spelled_lines(alloc: Global, input: &[u8], stop: Stop) -> Result<String, Fail
     spelled_lines_of(alloc, Device::new(reader))
 }
 
-/// The same of what a device gives from here on.
+/// What is read of the lines that a device gives from here on.
 fn spelled_lines_of(alloc: Global, reader: Device<StopReader<'_>>) -> Result<String, Fail> {
     let mut spelled = String::new(alloc);
     let mut lines = Lines::new(reader);

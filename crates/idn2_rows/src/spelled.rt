@@ -46,7 +46,7 @@ impl Numbers {
         Ok(text)
     }
 
-    /// The same as a ruleset, in which a third of the sources are outside.
+    /// A ruleset of 1 to 5 entries, of which a third of the sources are outside.
     fn ruleset(&mut self, alloc: Global) -> Result<String, Fail> {
         let mut text = String::new(alloc);
         text.push_str("%version 3\n")?;
@@ -152,7 +152,8 @@ fn assert_spelled(
     Ok(())
 }
 
-/// The same for a table and a label. There is no net exactly where the plain lister has no label.
+/// The net of a label under a table spells the labels of the plain lister, and a listing lists them. There is no net
+/// exactly where the plain lister has no label.
 fn assert_case(
     rt: &impl Abort,
     alloc: Global,
@@ -178,7 +179,7 @@ fn assert_case(
     Ok(assert_listed(rt, &net, &labels, &mut cursor, after))
 }
 
-/// The same for a text in a notation, where it spells a table.
+/// What `assert_case` tests, of the table that a text spells in a notation, if it spells one.
 fn assert_text(
     rt: &impl Abort,
     alloc: Global,

@@ -123,7 +123,7 @@ fn assert_goes_on<F: Filter>(
     Ok(())
 }
 
-/// The same after a text.
+/// What a new listing finds after a text, with so many tries.
 fn assert_found<F: Filter>(
     rt: &impl Abort,
     alloc: Global,

@@ -29,7 +29,8 @@ pub fn causes_are_told()
     ensures examples { HaveCauses causes }
 {}
 
-/// The same of what begins with `xn--`: each fault but one has its cause.
+/// What is told of a fault of what begins with `xn--` is its cause, and nothing else is. Each fault but `Empty` has a
+/// cause.
 pub fn a_label_causes_are_told()
     ensures exactly { (given : List ℕ) (refusal : Refusal) (cause : ALabelCause) →
         (a_label_cause given refusal ≡ Some cause) ↔ IsALabelCause given refusal cause }
@@ -38,7 +39,8 @@ pub fn a_label_causes_are_told()
     ensures examples { ExamplesOfALabels }
 {}
 
-/// The same of a name that is decoded.
+/// What is told of a fault of a name that is decoded is its cause, and nothing else is. Each fault but `Empty` has a
+/// cause.
 pub fn name_causes_are_told()
     ensures exactly { (name : List ℕ) (refusal : Refusal) (cause : NameCause) →
         (name_cause name refusal ≡ Some cause) ↔ IsNameCause name refusal cause }
@@ -46,7 +48,7 @@ pub fn name_causes_are_told()
         refusal ≢ Empty → name_cause name refusal ≢ None }
 {}
 
-/// The same of a name that is looked up and has a wrong length.
+/// What is told of a fault of a name that is looked up is its cause, and nothing else is. A wrong length has a cause.
 pub fn query_causes_are_told()
     ensures exactly { (name : List ℕ) (std3 : Bool) (refusal : Refusal) (cause : LengthCause) →
         (query_cause name std3 refusal ≡ Some cause) ↔ IsQueryCause name std3 refusal cause }

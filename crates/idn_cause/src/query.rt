@@ -45,7 +45,8 @@ pub fn query_cause(
     }
 }
 
-/// The same of a name that has a wrong length.
+/// The first length that the DNS does not allow in what ToASCII makes of a name in UTF-8. `None` where ToASCII refuses
+/// the name.
 fn length_cause_of(
     alloc: Global,
     name: &[u8],

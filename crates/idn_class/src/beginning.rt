@@ -1,3 +1,4 @@
+//! Hopeless beginnings: no label that begins so may be registered, whatever follows.
 ghost use Rattle.std.specs.Prelude.{◌≡◌, ◌↔◌, IsTrue, None, MatchOption};
 ghost use Rattle.idn_class.specs.Hopeless.{has_hyphens_third_and_fourth, hopeless, IsHopeless, IsShortestHopeless, HasHope};
 ghost use Rattle.idn_class.specs.Directions.{IsShortest, HasNone, breaks_at_first};
@@ -6,9 +7,10 @@ use crate::direction::Direction;
 
 const HYPHEN: u32 = 0x2D;
 
-/// Whether no label that begins so may be registered (RFC 5891, section 4.2), whatever follows: a test
-/// of its hyphens, of a leading mark, or of the Bidi rule has failed for good. The empty list is not
-/// hopeless, and a number that is no scalar value counts as an LTR letter.
+/// Whether no label that begins so may be registered (RFC 5891, section 4.2), whatever follows: a test of its hyphens,
+/// of a leading mark, or of the Bidi rule has failed for good. The empty list is not hopeless, and a number that is no
+/// scalar value counts as an LTR letter. Only tests call this and `shortest_hopeless`: a run asks `KeptBeginnings`,
+/// which keeps what it found for the next label.
 pub fn hopeless(label: &[u32]) -> bool
     ensures rule { IsTrue result ↔ IsHopeless label.now }
     ensures test { result ≡ hopeless label.now }
@@ -16,8 +18,8 @@ pub fn hopeless(label: &[u32]) -> bool
     shortest_hopeless(label).is_some()
 }
 
-/// How many code points the shortest hopeless beginning of a label has, by one pass over the label.
-/// `None` where neither a beginning nor the whole label is hopeless.
+/// How many code points the shortest hopeless beginning of a label has, by one pass over the label. `None` where
+/// neither a beginning nor the whole label is hopeless. It says in one call what `KeptBeginnings` tells.
 pub fn shortest_hopeless(label: &[u32]) -> Option<usize>
     ensures { MatchOption result (HasHope label.now) (IsShortestHopeless label.now) }
 {
@@ -44,8 +46,8 @@ fn has_hyphens_third_and_fourth(label: &[u32]) -> bool
     matches!(label, [_, _, HYPHEN, HYPHEN, ..])
 }
 
-/// The same without the hyphens third and fourth: the first code point gives a direction, and the
-/// others must keep it.
+/// How many code points the shortest beginning has that breaks a test of the first code point or the Bidi rule for
+/// good. The first code point gives a direction, and the others must keep it.
 fn shortest_breaking(label: &[u32]) -> Option<usize>
     ensures { MatchOption result (HasNone breaks_at_first label.now) (IsShortest breaks_at_first label.now) }
 {

@@ -1,3 +1,4 @@
+//! Bidi_Class, by the list of this profile.
 ghost use Rattle.std.specs.Prelude.{◌≡◌};
 ghost use Rattle.idn_class.specs.BidiClass.{is_boundary_neutral, is_european_separator, is_european_number, is_arabic_number, is_nonspacing, is_right_to_left, is_arabic_letter, bidi_class};
 

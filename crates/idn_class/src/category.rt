@@ -1,3 +1,4 @@
+//! The General_Category and the Script of numbers, by the kit's tables.
 ghost use Rattle.std.specs.Prelude.{◌≡◌, ◌<◌};
 ghost use Rattle.unicode.specs.GeneralCategory.{general_category};
 ghost use Rattle.unicode.specs.Script.{script};

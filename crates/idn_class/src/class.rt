@@ -1,3 +1,4 @@
+//! The class of a code point (RFC 5892), by one look-up in a table.
 ghost use Rattle.std.specs.Prelude.{◌≡◌, false, IfOk, IsOk, if◌then◌else◌};
 ghost use Rattle.idn_class.specs.Class.{class_of, is_left_open, is_unstable};
 

@@ -1,3 +1,4 @@
+//! The context rules of the joiners, U+200C and U+200D (RFC 5892, appendix A.1 and A.2).
 ghost use Rattle.std.specs.Prelude.{◌≡◌, ◌↔◌, ◌<◌, ◌≤◌, length, IsTrue, MatchOption};
 ghost use Rattle.idn_class.specs.ContextJ.{FollowsVirama, JoinsBefore, JoinsAfter, JoinerPasses, PassesContextJ};
 ghost use Rattle.idn_class.specs.Tests.{contextj_ok};

@@ -1,3 +1,4 @@
+//! The context rules of the other code points that have one (RFC 5892, appendix A.3 to A.9).
 ghost use Rattle.std.specs.Prelude.{◌≡◌, ◌↔◌, ◌<◌, length, IsTrue, MatchOption, IsSomeAnd, Any};
 ghost use Rattle.unicode.specs.Script.{script};
 ghost use Rattle.idn_class.specs.ContextO.{is_arabic_digit, is_extended_arabic_digit, is_japanese, OtherPasses, PassesContextO};

@@ -1,3 +1,4 @@
+//! What may follow the first code points of a label under the Bidi rule.
 ghost use Rattle.std.specs.Prelude.{◌≡◌, MatchOption};
 ghost use Rattle.idn_class.specs.Directions.{IsShortest, HasNone, begun, lengthened, rtl_lengthened, breaks_after};
 
@@ -12,9 +13,9 @@ pub(crate) enum Direction {
     Ltr,
     /// The first is R or AL: no L may follow, and EN and AN may not both follow. Neither is there yet.
     Rtl,
-    /// The same with an EN: no L and no AN may follow.
+    /// The first is R or AL, and an EN is there: no L and no AN may follow.
     RtlEuropean,
-    /// The same with an AN: no L and no EN may follow.
+    /// The first is R or AL, and an AN is there: no L and no EN may follow.
     RtlArabic,
 }
 
@@ -62,7 +63,7 @@ impl Direction {
         }
     }
 
-    /// The same after R or AL, by the Bidi class of the code point.
+    /// The direction once a code point of this Bidi class follows, where the first is R or AL. `None` where it may not.
     fn rtl_lengthened(self, class: BidiClass) -> Option<Direction>
         ensures { result ≡ rtl_lengthened self class }
     {

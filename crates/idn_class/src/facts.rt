@@ -1,3 +1,4 @@
+//! Facts: which tests a label may need, by one look-up for each of its code points.
 ghost use Rattle.std.specs.Prelude.{◌≡◌, ◌||◌, ◌<◌, ◌↔◌, false, IsTrue};
 ghost use Rattle.idn_class.specs.Facts.{AreFactsOf, contains, has_fact, place_of};
 
@@ -90,7 +91,7 @@ impl Facts {
         facts
     }
 
-    /// The facts of both.
+    /// The facts that one of the two has, or both.
     #[inline]
     pub fn joined(self, other: Facts) -> Facts
         ensures { (fact : Fact) → contains result fact ≡ (contains self fact || contains other fact) }
@@ -100,7 +101,7 @@ impl Facts {
         }
     }
 
-    /// Whether a fact is among them.
+    /// Whether this fact is one of them.
     #[inline]
     pub fn contains(self, fact: Fact) -> bool
         ensures { result ≡ contains self fact }
@@ -108,7 +109,7 @@ impl Facts {
         self.absent >> fact.place() & 1 == 0
     }
 
-    /// Whether there is none.
+    /// Whether there is no fact.
     #[inline]
     pub fn is_empty(self) -> bool
         ensures { IsTrue result ↔ ((fact : Fact) → contains self fact ≡ false) }

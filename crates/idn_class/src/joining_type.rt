@@ -1,3 +1,4 @@
+//! Joining_Type and the viramas, by the lists of this profile. The context rules of the joiners ask for them.
 ghost use Rattle.std.specs.Prelude.{◌≡◌};
 ghost use Rattle.idn_class.specs.JoiningType.{is_virama, is_right_joining, is_dual_joining, is_transparent, joining_type};
 

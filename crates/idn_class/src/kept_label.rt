@@ -1,7 +1,8 @@
 //! A label of which a beginning is kept.
 use std::marker::Model;
 
-/// The most code points of a label (RFC 1034, section 3.1).
+/// The most code points of a label: the A-label of a longer one has more octets than the 63 that a label has in the DNS
+/// (RFC 1035, section 2.3.4).
 pub(crate) const MAX_LABEL_LEN: usize = 63;
 
 /// A label of at most 63 code points, of which a beginning is kept for the next one. Unlike an `ArrayVec`, it leaves what

@@ -1,3 +1,4 @@
+//! The code points next to a place of a label.
 ghost use Rattle.std.specs.Prelude.{◌≡◌, ◌<◌, length};
 ghost use Rattle.idn_class.specs.Neighbors.{before, after};
 

@@ -1,3 +1,4 @@
+//! Stability: whether normalization and case folding change a character (RFC 5892, section 2.2).
 ghost use Rattle.std.specs.Prelude.{◌≡◌, IfOk};
 ghost use Rattle.caseless.specs.Caseless.{default_case_fold};
 ghost use Rattle.idn_class.specs.Class.{is_unstable};

@@ -1,3 +1,4 @@
+//! The entry of a code point in the first table, that of the classes.
 ghost use Rattle.std.specs.Prelude.{◌<◌};
 
 use unicode::case::full_folding;

@@ -1,3 +1,4 @@
+//! The facts that a code point does not have, for the second table.
 ghost use Rattle.std.specs.Prelude.{◌<◌};
 
 use crate::entry::{Entry, entry_of};

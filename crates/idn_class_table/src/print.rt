@@ -1,3 +1,5 @@
+//! Printing the two tables as the source of a module.
+
 use crate::trie::Trie;
 use std::fmt::Display;
 use std::io;

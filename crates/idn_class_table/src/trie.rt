@@ -1,3 +1,4 @@
+//! A table of all code points in blocks, of which equal ones are held once.
 ghost use Rattle.std.specs.Prelude.{◌<◌, ◌≤◌};
 
 use std::alloc::Global;

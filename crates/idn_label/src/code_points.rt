@@ -10,7 +10,7 @@ use std::alloc::{AllocError, Global};
 
 /// Reads a label in UTF-8 (RFC 3629) once: leaves its code points at the start of `room`, and returns how many they are
 /// and their facts. `None` where the octets are no UTF-8.
-// Each of its callers reads all of its labels by it.
+// Always inline: each of its callers reads all of its labels by it.
 #[inline(always)]
 pub(crate) fn read_points(label: &[u8], room: &mut [u32; MAX_LINE_LEN]) -> Option<(usize, Facts)>
     requires { length label.now ≤ MAX_LINE_LEN }

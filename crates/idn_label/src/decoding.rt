@@ -64,6 +64,7 @@ pub fn decode_utf8(
 /// The name with each A-label turned into what it stands for (RFC 5891 section 5.3). A label that begins with `xn--` in
 /// any ASCII case is put into lower case and decoded, or refuses the name as `BadALabel` or by the first fault of what
 /// it stands for; any other label stays as it is. The first refused label decides. `Memory` says nothing of the name.
+/// Only tests call this: a run calls `decode_utf8`, which gives the same answer for the bytes of a line.
 // A number that no UTF-8 can hold stays, too, so the name isn't written as UTF-8 to be decoded.
 #[tactic(auto, using(crate::proofs::ALabels::back))]
 pub fn decode_name(alloc: Global, name: &[u32]) -> Result<Vec<u32>, Refusal>

@@ -27,8 +27,8 @@ pub fn label_end<U: Unit>(name: &[U], start: usize) -> usize
     name.len()
 }
 
-/// The same in 16 octets or more, so that a whole chunk can always be read. How many of them a label has can't be
-/// foretold: they are searched in chunks, which takes few turns.
+/// The place where the label that begins at `start` ends, in a name of 16 octets or more, so that a whole chunk can
+/// always be read. How many of them a label has can't be foretold: they are searched in chunks, which takes few turns.
 fn end_in_octets(name: &[u8], start: usize) -> usize
     requires begins { start ≤ length name.now }
     requires wide { CHUNK_LEN ≤ length name.now }

@@ -34,7 +34,7 @@ impl Model for KeptALabel {
 }
 
 impl KeptALabel {
-    /// Of no label yet.
+    /// No A-label is kept, and no label is taken apart.
     pub fn new() -> KeptALabel
         ensures text { result.text ≡ [] }
         ensures apart { (label : List ℕ) → IsTakenApart label result }
@@ -84,7 +84,7 @@ impl KeptALabel {
         self.a_label.encode(label).or(Err(Refusal::LabelTooLong))
     }
 
-    /// Keeps a label in ASCII, which is its own A-label. It stands apart, so that other labels don't make room for it.
+    /// Keeps a label in ASCII, which is its own A-label. Not inlined, so that other labels need no stack space for it.
     #[inline(never)]
     fn keep_ascii(&mut self, label: &[u32])
         requires short { length label.now ≤ 63 }

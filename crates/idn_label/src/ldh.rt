@@ -31,7 +31,8 @@ pub fn ldh_end(text: &[u8], start: usize) -> usize
     text.len()
 }
 
-/// The same, octet by octet.
+/// The place of the first octet from `start` on that is no lower-case letter, digit or hyphen of ASCII, or the text's
+/// end: found octet by octet.
 fn ldh_end_in_few(text: &[u8], start: usize) -> usize
     requires { start ≤ length text.now }
     ensures { IsLdhEnd text.now start result }

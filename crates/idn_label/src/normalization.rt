@@ -35,8 +35,8 @@ pub(crate) fn is_nfc(alloc: Global, label: &[u32], facts: Facts) -> Result<bool,
     }
 }
 
-/// Whether a label of at most 63 code points is in Normalization Form C. It stands apart, so that labels which need not be
-/// asked don't make room for its characters.
+/// Whether a label of at most 63 code points is in Normalization Form C. Not inlined, so that labels which need no such
+/// test need no stack space for its characters.
 #[inline(never)]
 fn is_nfc_short(alloc: Global, label: &[u32]) -> Result<bool, AllocError>
     requires short { length label.now ≤ MAX_LABEL_LEN }

@@ -24,7 +24,8 @@ use std::alloc::Global;
 use std::str;
 
 /// The name as a query sends it: the ToASCII operation of UTS 46 without transitional processing, with the checks of
-/// joiners and of the Bidi rule, and with UseSTD3ASCIIRules if `std3`. A full stop at its end stays.
+/// joiners and of the Bidi rule, and with UseSTD3ASCIIRules if `std3`. A full stop at its end stays. Only tests call
+/// this: a run calls `lookup_utf8`, which gives the same answer for the bytes of a line.
 ///
 /// `LookupInvalid` where that operation refuses the name, and `LookupLength` where its answer, a full stop at the end
 /// put aside, has not 1 to 253 octets or a label of it not 1 to 63. `Memory` says nothing of the name.

@@ -96,7 +96,7 @@ pub(crate) fn tested_u_label<U: Unit>(
     check_label(alloc, label.as_slice(), facts)
 }
 
-/// What stands after the prefix.
+/// What stands after the prefix of an A-label.
 #[inline]
 #[tactic(auto, using(crate::proofs::LowerCase::past_prefix))]
 fn code_of<U: Unit>(given: &[U]) -> &[U]

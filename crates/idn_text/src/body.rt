@@ -7,7 +7,8 @@ use arrayvec::ArrayVec;
 /// The most bytes of a line, a carriage return at its end counted. So no line has more code points.
 pub const MAX_LINE_LEN: usize = 1024;
 
-/// A line without its end: the line feed, and one carriage return before it, are left out.
+/// A line without its end: the line feed, and one carriage return before it, are left out. Only `next_line` gives it,
+/// which only tests call.
 #[derive(Debug, Drop)]
 pub enum Body {
     Text(ArrayVec<u8, MAX_LINE_LEN>),

@@ -7,11 +7,11 @@ ghost use Rattle.idn_text.specs.Points.{IsScalarValue};
 /// The least character that three octets encode.
 const LEAST_OF_THREE: u32 = 0x800;
 
-/// The least that four octets encode.
+/// The least character that four octets encode.
 const LEAST_OF_FOUR: u32 = 0x1_0000;
 
 /// The character at a place of a text, and the place after it. `None` where no character in UTF-8 stands there.
-// The loops that read a text by it want no call for each character.
+// Always inline: the loops that read a text by it want no call for each character.
 #[inline(always)]
 pub fn character_at(text: &[u8], at: usize) -> Option<(char, usize)>
     requires { at < length text.now }

@@ -11,7 +11,7 @@ use std::marker::Model;
 /// The most lines.
 const LINE_LIMIT: u64 = 1 << 32;
 
-/// A line and its number, from 1.
+/// A line and its number, from 1, as `next_line` gives it.
 #[derive(Debug, Drop)]
 pub struct Line {
     /// From 1 to 4,294,967,296. A line that is too long counts too.
@@ -135,7 +135,8 @@ impl<R: Source> Lines<R> {
         }
     }
 
-    /// The next line, or `None` at the end, for good; a fault as `advance` tells it.
+    /// The next line, or `None` at the end, for good; a fault as `advance` tells it. Only tests call this: a run calls
+    /// `advance` and `text`, and copies no line.
     pub fn next_line(&mut self) -> Result<Option<Line>, ReadFault>
         ensures lines { (start : Reading) (given : List ℕ) (lines : List Numbered) → HasRead start self.old given lines →
             (more : List ℕ) × HasRead start self.new (given ++ more) (lines ++ answered (has_line result) self.new) }

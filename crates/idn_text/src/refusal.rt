@@ -42,11 +42,12 @@ pub enum Refusal {
     LookupInvalid,
     /// A name, or a label of it, whose length the DNS refuses (RFC 1035 section 2.3.4).
     LookupLength,
-    /// A line of a table that is no entry, comment or blank line.
+    /// A line of a table that is not blank, and is no comment, no entry, no range and no definition; or the first line
+    /// of a text that lacks its version.
     Syntax,
     /// A source that an earlier line of the table has.
     SameSource,
-    /// A variant that its entry has twice, or that is the source itself.
+    /// A variant that its entry has twice, unless each time under another condition; or one that is the source itself.
     SameVariant,
     /// A code point that a table may not hold.
     BadClass,
@@ -56,9 +57,11 @@ pub enum Refusal {
     NoSuchName,
     /// A name that an earlier line of a ruleset defines.
     SameName,
-    /// A label that has no segmentation into sources of the table.
+    /// A label that can't be cut into sources of the table, whatever their conditions; outside sources don't count (RFC
+    /// 7940 section 8.1).
     NotInTable,
-    /// A label that breaks a condition or a demand of a ruleset (RFC 7940 sections 6.3 and 7).
+    /// A label that can be cut into sources of a ruleset, but not so that their conditions hold (RFC 7940 section 5.2),
+    /// or that breaks a demand (section 7).
     NotValid,
     /// Words of the command line that are refused.
     Usage,

@@ -7,7 +7,7 @@ use Rattle.label_patterns.specs.declared.condition.ConditionKind.TheVariants.{Wh
 use Rattle.label_patterns.specs.declared.span.Span.{Span}
 use Rattle.label_patterns.specs.Barring.{ends_in_anchor, OneEndsBefore, OneIsDone, IsBarredBy}
 use Rattle.label_patterns.specs.Conditions.{rule_at, IsAsked}
-use Rattle.label_patterns.specs.Laws.{seen, HasNoEndBefore}
+use Rattle.label_patterns.specs.Laws.{seen, IgnoresEndBefore}
 use Rattle.label_patterns.specs.TestLaws.{BarredForGood, BarringStays}
 use Rattle.label_patterns.specs.Matches.{Seen}
 use Rattle.label_patterns.specs.Patterns.{Pattern, Point, Set, Any, Start, End, Anchor, Group, Optional, Many, Then, Either}
@@ -33,26 +33,26 @@ nothing-after s (Then p q) j e = by_item (is_anchor p) refl e (nothing-after s q
 nothing-after s (Either p q) j e = absurd (let f : false ≡ true = e in cc)
 
 module _ (sets : List (List Span)) (label more : List ℕ) (i : ℕ) (l : i ≤ length label) where
-  none-later : (contexts : List Pattern) (j : ℕ) → AllByRecursion HasNoEndBefore contexts → (OneEndsBefore (seen sets label) contexts i → ⊥) → HoldsInOne (seen sets (label ++ more)) contexts i j → ⊥
+  none-later : (contexts : List Pattern) (j : ℕ) → AllByRecursion IgnoresEndBefore contexts → (OneEndsBefore (seen sets label) contexts i → ⊥) → HoldsInOne (seen sets (label ++ more)) contexts i j → ⊥
   none-later [] j none barred h = h
   none-later (context ∷ others) j none barred h = elim h [
     | inl here ↦ barred (inl ((stays-before context sets label more i none.0 l).1 here.0))
     | inr later ↦ none-later others j none.1 (λ b. barred (inr b)) later
   ]
 
-  done-later : (contexts : List Pattern) (j : ℕ) → AllByRecursion HasNoEndBefore contexts → OneIsDone (seen sets label) contexts i → HoldsInOne (seen sets (label ++ more)) contexts i j
+  done-later : (contexts : List Pattern) (j : ℕ) → AllByRecursion IgnoresEndBefore contexts → OneIsDone (seen sets label) contexts i → HoldsInOne (seen sets (label ++ more)) contexts i j
   done-later [] j none h = h
   done-later (context ∷ others) j none h = elim h [
     | inl here ↦ inl ((stays-before context sets label more i none.0 l).0 here.1, nothing-after (seen sets (label ++ more)) context j here.0)
     | inr later ↦ inr (done-later others j none.1 later)
   ]
 
-  by_kind : (kind : ConditionKind) (rule : Pattern) (j : ℕ) → AllByRecursion HasNoEndBefore (branches rule) → IsBarredBy kind (seen sets label) rule i → IsAsked kind (Holds (seen sets (label ++ more)) rule i j) → ⊥
+  by_kind : (kind : ConditionKind) (rule : Pattern) (j : ℕ) → AllByRecursion IgnoresEndBefore (branches rule) → IsBarredBy kind (seen sets label) rule i → IsAsked kind (Holds (seen sets (label ++ more)) rule i j) → ⊥
   by_kind When rule j none barred holds = none-later (branches rule) j none barred holds
   by_kind Unless rule j none barred fails = fails (done-later (branches rule) j none barred)
 
 -- the rule of a number is one of them, or one without contexts
-rule-at : (rules : List Pattern) (n : ℕ) → AllByRecursion (λ rule. AllByRecursion HasNoEndBefore (branches rule)) rules → AllByRecursion HasNoEndBefore (branches (rule_at rules n))
+rule-at : (rules : List Pattern) (n : ℕ) → AllByRecursion (λ rule. AllByRecursion IgnoresEndBefore (branches rule)) rules → AllByRecursion IgnoresEndBefore (branches (rule_at rules n))
 rule-at [] n all = (tt, tt)
 rule-at (rule ∷ rules) zero all = all.0
 rule-at (rule ∷ rules) (suc n) all = rule-at rules n all.1
@@ -64,7 +64,7 @@ barred-for-good rules sets label more (Some c) i j none l barred holds = by_kind
 -- ---- whether it is barred depends on what stands before alone
 
 module _ (sets : List (List Span)) (label more : List ℕ) (i : ℕ) (l : i ≤ length label) where
-  one-stays : (contexts : List Pattern) → AllByRecursion HasNoEndBefore contexts → OneEndsBefore (seen sets label) contexts i ↔ OneEndsBefore (seen sets (label ++ more)) contexts i
+  one-stays : (contexts : List Pattern) → AllByRecursion IgnoresEndBefore contexts → OneEndsBefore (seen sets label) contexts i ↔ OneEndsBefore (seen sets (label ++ more)) contexts i
   one-stays [] none = (λ h. h, λ h. h)
   one-stays (context ∷ others) none =
       let here = stays-before context sets label more i none.0 l in
@@ -73,7 +73,7 @@ module _ (sets : List (List Span)) (label more : List ℕ) (i : ℕ) (l : i ≤ 
         λ h. elim h [ inl b ↦ inl (here.1 b) | inr r ↦ inr (rest.1 r) ],
       )
 
-  done-stays : (contexts : List Pattern) → AllByRecursion HasNoEndBefore contexts → OneIsDone (seen sets label) contexts i ↔ OneIsDone (seen sets (label ++ more)) contexts i
+  done-stays : (contexts : List Pattern) → AllByRecursion IgnoresEndBefore contexts → OneIsDone (seen sets label) contexts i ↔ OneIsDone (seen sets (label ++ more)) contexts i
   done-stays [] none = (λ h. h, λ h. h)
   done-stays (context ∷ others) none =
       let here = stays-before context sets label more i none.0 l in
@@ -82,7 +82,7 @@ module _ (sets : List (List Span)) (label more : List ℕ) (i : ℕ) (l : i ≤ 
         λ h. elim h [ inl b ↦ inl (b.0, here.1 b.1) | inr r ↦ inr (rest.1 r) ],
       )
 
-  kind-stays : (kind : ConditionKind) (rule : Pattern) → AllByRecursion HasNoEndBefore (branches rule) → IsBarredBy kind (seen sets label) rule i ↔ IsBarredBy kind (seen sets (label ++ more)) rule i
+  kind-stays : (kind : ConditionKind) (rule : Pattern) → AllByRecursion IgnoresEndBefore (branches rule) → IsBarredBy kind (seen sets label) rule i ↔ IsBarredBy kind (seen sets (label ++ more)) rule i
   kind-stays When rule none =
       let one = one-stays (branches rule) none in
       (λ h b. h (one.1 b), λ h b. h (one.0 b))

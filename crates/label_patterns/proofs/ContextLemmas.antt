@@ -2,7 +2,7 @@
 use Rattle.std.proofs.Common.{◌≡◌, ℕ, ◌≤◌, inl, inr, true, false, not, List, ◌++◌, length, refl, sym, ◌∙◌, arith}
 use Rattle.std.specs.Prelude.{◌↔◌}
 use Rattle.label_patterns.specs.declared.span.Span.{Span}
-use Rattle.label_patterns.specs.Laws.{seen, HasNoEndBefore, BeforeStays}
+use Rattle.label_patterns.specs.Laws.{seen, IgnoresEndBefore, BeforeStays}
 use Rattle.label_patterns.specs.Patterns.{Pattern, Point, Set, Any, Start, End, Anchor, Group, Optional, Many, Then, Either}
 use Rattle.label_patterns.specs.Places.{Has, AreEnds, AreStarts}
 use Rattle.label_patterns.specs.Matches.{Seen, Matches}
@@ -90,7 +90,7 @@ anchor-alone (Either p q) s i j e h = cc
 abbrev Stays : Pattern → List (List Span) → List ℕ → List ℕ → ℕ → ℕ → Type 0
 Stays p sets label more k i = Before (seen sets label) p k i ↔ Before (seen sets (label ++ more)) p k i
 
-before-stays : (p : Pattern) (sets : List (List Span)) (label more : List ℕ) (k i : ℕ) → HasNoEndBefore p → i ≤ length label → Stays p sets label more k i
+before-stays : (p : Pattern) (sets : List (List Span)) (label more : List ℕ) (k i : ℕ) → IgnoresEndBefore p → i ≤ length label → Stays p sets label more k i
 before-stays (Point c) sets label more k i none l = (λ h. h, λ h. h)
 before-stays (Set n) sets label more k i none l = (λ h. h, λ h. h)
 before-stays Any sets label more k i none l = (λ h. h, λ h. h)

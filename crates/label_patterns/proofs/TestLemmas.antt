@@ -10,14 +10,14 @@ use Rattle.label_patterns.specs.declared.condition.ConditionKind.{ConditionKind}
 use Rattle.label_patterns.specs.declared.condition.ConditionKind.TheVariants.{When, Unless}
 use Rattle.label_patterns.specs.Barring.{ends_in_anchor, OneEndsBefore, OneIsDone, IsBarredBy, IsBarred}
 use Rattle.label_patterns.specs.Conditions.{rule_at, IsAsked, ConditionHolds}
-use Rattle.label_patterns.specs.Laws.{HasNoEnd}
+use Rattle.label_patterns.specs.Laws.{IgnoresEnd}
 use Rattle.label_patterns.specs.TestLaws.{TestsAgree}
 use Rattle.label_patterns.specs.Matches.{Seen, Matches, MatchesOne, MatchesAt}
 use Rattle.label_patterns.specs.Patterns.{Pattern, Point, Set, Any, Start, End, Anchor, Group, Optional, Many, Then, Either}
 use Rattle.label_patterns.specs.Places.{Has, AreEnds, StandsAt, AreThePlaces}
 use Rattle.label_patterns.specs.Rules.{branches, is_anchor, Before, EndsBefore, BeginsAfter, HoldsInOne, Holds, Occurs}
 use Rattle.label_patterns.specs.Sets.{is_in}
-use Rattle.label_patterns.specs.Tests.{has_place, places_of, every_place, ends_from, occurs_in, before_from, ends_before, begins_after, rule_holds, is_asked, condition_holds, is_barred_by, condition_barred, has_no_end}
+use Rattle.label_patterns.specs.Tests.{has_place, places_of, every_place, ends_from, occurs_in, before_from, ends_before, begins_after, rule_holds, is_asked, condition_holds, is_barred_by, condition_barred, ignores_end}
 use Rattle.label_patterns.proofs.ContextLemmas.{from-all, item-before, anchor-alone}
 use Rattle.label_patterns.proofs.DemandLemmas.{some-from, some-to}
 use Rattle.label_patterns.proofs.GrownLemmas.{IsWithin, or-parts, grown-ends}
@@ -275,7 +275,7 @@ pub barred-agrees : (rules : List Pattern) (s : Seen) (c : Option Condition) (i 
 barred-agrees rules s None i l = (λ h. absurd (let f : false ≡ true = h in cc), λ h. absurd h)
 barred-agrees rules s (Some c) i l = barred-by-agrees c.kind s (rule_at rules c.rule) i l
 
-pub no-end-agrees : (p : Pattern) → IsTrue (has_no_end p) ↔ HasNoEnd p
+pub no-end-agrees : (p : Pattern) → IsTrue (ignores_end p) ↔ IgnoresEnd p
 no-end-agrees (Point c) = (λ h. tt, λ h. refl)
 no-end-agrees (Set n) = (λ h. tt, λ h. refl)
 no-end-agrees Any = (λ h. tt, λ h. refl)
@@ -286,10 +286,10 @@ no-end-agrees (Group p) = no-end-agrees p
 no-end-agrees (Optional p) = no-end-agrees p
 no-end-agrees (Many p) = no-end-agrees p
 no-end-agrees (Then p q) =
-    let both = and-both (has_no_end p) (has_no_end q) in let first = no-end-agrees p in let rest = no-end-agrees q in
+    let both = and-both (ignores_end p) (ignores_end q) in let first = no-end-agrees p in let rest = no-end-agrees q in
     (λ h. (let b = both.0 h in (first.0 b.0, rest.0 b.1)), λ h. both.1 (first.1 h.0, rest.1 h.1))
 no-end-agrees (Either p q) =
-    let both = and-both (has_no_end p) (has_no_end q) in let first = no-end-agrees p in let rest = no-end-agrees q in
+    let both = and-both (ignores_end p) (ignores_end q) in let first = no-end-agrees p in let rest = no-end-agrees q in
     (λ h. (let b = both.0 h in (first.0 b.0, rest.0 b.1)), λ h. both.1 (first.1 h.0, rest.1 h.1))
 
 pub tests-agree : TestsAgree

@@ -6,18 +6,18 @@ use Rattle.label_patterns.specs.Matches.{Seen, Matches}
 use Rattle.label_patterns.specs.Rules.{is_anchor, EndsBefore}
 
 -- the pattern doesn't ask for the end of the label
-abbrev pub HasNoEnd : Pattern → Type 0
-HasNoEnd End = ⊥
-HasNoEnd (Group p) = HasNoEnd p
-HasNoEnd (Optional p) = HasNoEnd p
-HasNoEnd (Many p) = HasNoEnd p
-HasNoEnd (Then p q) = HasNoEnd p × HasNoEnd q
-HasNoEnd (Either p q) = HasNoEnd p × HasNoEnd q
-HasNoEnd (Point c) = Unit {0}
-HasNoEnd (Set n) = Unit {0}
-HasNoEnd Any = Unit {0}
-HasNoEnd Start = Unit {0}
-HasNoEnd Anchor = Unit {0}
+abbrev pub IgnoresEnd : Pattern → Type 0
+IgnoresEnd End = ⊥
+IgnoresEnd (Group p) = IgnoresEnd p
+IgnoresEnd (Optional p) = IgnoresEnd p
+IgnoresEnd (Many p) = IgnoresEnd p
+IgnoresEnd (Then p q) = IgnoresEnd p × IgnoresEnd q
+IgnoresEnd (Either p q) = IgnoresEnd p × IgnoresEnd q
+IgnoresEnd (Point c) = Unit {0}
+IgnoresEnd (Set n) = Unit {0}
+IgnoresEnd Any = Unit {0}
+IgnoresEnd Start = Unit {0}
+IgnoresEnd Anchor = Unit {0}
 
 -- a label under sets
 abbrev pub seen : List (List Span) → List ℕ → Seen
@@ -26,17 +26,17 @@ seen sets label = record { sets = sets; label = label }
 -- a part of a label matches a pattern that doesn't ask for the end exactly if it matches it with whatever follows the
 -- label: a label that a 'never' pattern refuses for a part of it is refused with whatever follows
 abbrev pub MatchesStay : Type 0
-MatchesStay = (p : Pattern) (sets : List (List Span)) (label more : List ℕ) (i j : ℕ) → HasNoEnd p → j ≤ length label →
+MatchesStay = (p : Pattern) (sets : List (List Span)) (label more : List ℕ) (i j : ℕ) → IgnoresEnd p → j ≤ length label →
     Matches (seen sets label) p i j ↔ Matches (seen sets (label ++ more)) p i j
 
 -- what stands before '_' in a context doesn't ask for the end of the label
-abbrev pub HasNoEndBefore : Pattern → Type 0
-HasNoEndBefore (Then p q) = IsTrue (is_anchor p) ⊎ (HasNoEnd p × HasNoEndBefore q)
-HasNoEndBefore p = Unit {0}
+abbrev pub IgnoresEndBefore : Pattern → Type 0
+IgnoresEndBefore (Then p q) = IsTrue (is_anchor p) ⊎ (IgnoresEnd p × IgnoresEndBefore q)
+IgnoresEndBefore p = Unit {0}
 
 -- what stands before a place of a label depends on the code points before it alone
 abbrev pub BeforeStays : Type 0
-BeforeStays = (context : Pattern) (sets : List (List Span)) (label more : List ℕ) (i : ℕ) → HasNoEndBefore context → i ≤ length label →
+BeforeStays = (context : Pattern) (sets : List (List Span)) (label more : List ℕ) (i : ℕ) → IgnoresEndBefore context → i ≤ length label →
     EndsBefore (seen sets label) context i ↔ EndsBefore (seen sets (label ++ more)) context i
 
 -- a pattern matches no part that ends before it begins, or after the label's end

@@ -88,15 +88,15 @@ condition_barred rules seen None i = false
 condition_barred rules seen (Some c) i = is_barred_by c.kind seen (rule_at rules c.rule) i
 
 -- the pattern doesn't ask for the end of the label
-abbrev pub has_no_end : Pattern → Bool
-has_no_end End = false
-has_no_end (Group p) = has_no_end p
-has_no_end (Optional p) = has_no_end p
-has_no_end (Many p) = has_no_end p
-has_no_end (Then p q) = has_no_end p && has_no_end q
-has_no_end (Either p q) = has_no_end p && has_no_end q
-has_no_end (Point c) = true
-has_no_end (Set n) = true
-has_no_end Any = true
-has_no_end Start = true
-has_no_end Anchor = true
+abbrev pub ignores_end : Pattern → Bool
+ignores_end End = false
+ignores_end (Group p) = ignores_end p
+ignores_end (Optional p) = ignores_end p
+ignores_end (Many p) = ignores_end p
+ignores_end (Then p q) = ignores_end p && ignores_end q
+ignores_end (Either p q) = ignores_end p && ignores_end q
+ignores_end (Point c) = true
+ignores_end (Set n) = true
+ignores_end Any = true
+ignores_end Start = true
+ignores_end Anchor = true

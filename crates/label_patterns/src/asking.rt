@@ -83,7 +83,8 @@ fn may_hold(number: usize, rules: &[PatternTree], seen: &SeenLabel, start: usize
     number < rules.len() && one_ends_before(&rules[number], seen, start)
 }
 
-/// The same for a context in which nothing stands after `_`.
+/// Whether what stands before `_` is found before a place, in a context of the rule of this number in which nothing
+/// stands after `_`.
 fn is_done(number: usize, rules: &[PatternTree], seen: &SeenLabel, start: usize) -> bool
     requires known { AllByRecursion (HasItsSets (length seen.now.sets)) (map pattern rules.now) }
     requires start { start ≤ length seen.now.label }

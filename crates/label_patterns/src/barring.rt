@@ -1,7 +1,7 @@
 //! Conditions that fail whatever follows a beginning of a label.
 ghost use Rattle.std.specs.Prelude.{◌≡◌, ◌↔◌, ◌≤◌, length, IsTrue};
 ghost use Rattle.label_patterns.specs.Barring.{ends_in_anchor as ends_in_anchor_pattern, OneEndsBefore, OneIsDone};
-ghost use Rattle.label_patterns.specs.Laws.{HasNoEnd};
+ghost use Rattle.label_patterns.specs.Laws.{IgnoresEnd};
 ghost use Rattle.label_patterns.specs.Matches.{HasItsSets};
 ghost use Rattle.label_patterns.specs.Rules.{branches, EndsBefore};
 ghost use Rattle.label_patterns.specs.Trees.{pattern};
@@ -62,7 +62,8 @@ pub fn one_ends_before(rule: &PatternTree, seen: &SeenLabel, start: usize) -> bo
     }
 }
 
-/// The same for a context in which nothing stands after `_`.
+/// Whether what stands before `_` is found before a place of the label, in one of the rule's contexts in which nothing
+/// stands after `_`.
 pub fn one_is_done(rule: &PatternTree, seen: &SeenLabel, start: usize) -> bool
     requires known { HasItsSets (length seen.now.sets) (pattern rule.now) }
     requires start { start ≤ length seen.now.label }
@@ -95,16 +96,16 @@ fn is_done(context: &PatternTree, seen: &SeenLabel, start: usize) -> bool
 }
 
 /// Whether a pattern doesn't ask for the end of the label.
-pub fn has_no_end(tree: &PatternTree) -> bool
-    ensures { IsTrue result ↔ HasNoEnd (pattern tree.now) }
+pub fn ignores_end(tree: &PatternTree) -> bool
+    ensures { IsTrue result ↔ IgnoresEnd (pattern tree.now) }
 {
     match tree {
         PatternTree::End => false,
-        PatternTree::Group(part) => has_no_end(part),
-        PatternTree::Optional(part) => has_no_end(part),
-        PatternTree::Many(part) => has_no_end(part),
-        PatternTree::Then(first, rest) => has_no_end(first) && has_no_end(rest),
-        PatternTree::Either(left, right) => has_no_end(left) && has_no_end(right),
+        PatternTree::Group(part) => ignores_end(part),
+        PatternTree::Optional(part) => ignores_end(part),
+        PatternTree::Many(part) => ignores_end(part),
+        PatternTree::Then(first, rest) => ignores_end(first) && ignores_end(rest),
+        PatternTree::Either(left, right) => ignores_end(left) && ignores_end(right),
         PatternTree::Point(_) => true,
         PatternTree::Set(_) => true,
         PatternTree::Any => true,

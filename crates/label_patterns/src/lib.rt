@@ -17,7 +17,7 @@ mod span;
 mod starts;
 
 pub use asking::{condition_holds, is_barred};
-pub use barring::has_no_end;
+pub use barring::ignores_end;
 pub use condition::{Condition, ConditionKind};
 pub use contexts::{holding_points, holds, places_after, places_before};
 pub use demands::{first_end, occurs};

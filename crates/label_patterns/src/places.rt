@@ -17,7 +17,7 @@ pub fn has(places: u64, place: usize) -> bool
     place < 64 && places >> place & 1 == 1
 }
 
-/// The places at which a label of this many code points has one.
+/// The places at which a label of this many code points has a code point.
 pub fn point_places(len: usize) -> u64
     requires { len ≤ 63 }
     ensures { (p : _) → Has result p ↔ (p < len) }
@@ -61,7 +61,7 @@ pub fn before(ends: u64, members: u64) -> u64
     (ends >> 1) & members
 }
 
-/// The place itself, if it is in the set.
+/// The set of this place alone, if it is in the set; else the empty set.
 pub fn only(starts: u64, place: usize) -> u64
     requires { place < 64 }
     ensures { AreEnds (λ i j. (i ≡ place) × (j ≡ place)) starts result }
@@ -69,7 +69,7 @@ pub fn only(starts: u64, place: usize) -> u64
     starts & (1 << place)
 }
 
-/// The places of both sets.
+/// The places that are in at least one of the sets.
 pub fn either(left: u64, right: u64) -> u64
     ensures places { (p : _) → (Has result p → Has left p ⊎ Has right p) × (Has left p → Has result p) × (Has right p → Has result p) }
     ensures more { left ≤ result }

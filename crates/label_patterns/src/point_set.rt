@@ -76,7 +76,8 @@ impl PointSet {
         places
     }
 
-    /// The same, where `places` tells it of the first `shared` code points.
+    /// The places of a label at which the set's code points stand, where `places` has those of the first `shared` code
+    /// points.
     pub fn places_after(&self, label: &[u32], shared: usize, places: u64) -> u64
         requires short { length label.now ≤ 63 }
         requires shared { shared ≤ length label.now }

@@ -7,8 +7,8 @@ use Rattle.idn_text.specs.declared.refusal.Refusal.TheVariants.{LineTooLong, Out
 use Rattle.idn_text.specs.declared.refusal.Refusal.TheVariants as refusals
 use Rattle.idn_label.specs.FirstFault.{utf8_fault, IsRegistrable}
 use Rattle.variant_list.specs.Labels.{IsBelow}
-use Rattle.registered_labels.specs.declared.labels.RegisterFault.{RegisterFault}
-use Rattle.registered_labels.specs.declared.labels.RegisterFault.TheVariants.{Refused, Memory}
+use Rattle.registered_labels.specs.declared.labels.RegisteredFileFault.{RegisteredFileFault}
+use Rattle.registered_labels.specs.declared.labels.RegisteredFileFault.TheVariants.{Refused, Memory}
 use Rattle.registered_labels.specs.Registered.{AreRegistered}
 
 -- these lines are the UTF-8 of these labels, in their order; one carriage return at the end of a line doesn't count
@@ -64,11 +64,11 @@ IsWrongBy refusal at labels line =
     × (2 ^ 32 ≤ at + length line))
 
 -- the first fault of a text; lack of memory is none of a text
-abbrev pub IsFaultOf : List ℕ → RegisterFault → Type 0
+abbrev pub IsFaultOf : List ℕ → RegisteredFileFault → Type 0
 IsFaultOf text (Refused line refusal) = IsFirstWrong text line (IsWrongBy refusal)
 IsFaultOf text Memory = Unit {0}
 
 -- the fault of a line that is refused; lack of memory is none
-abbrev pub fault_of : ℕ → Refusal → RegisterFault
+abbrev pub fault_of : ℕ → Refusal → RegisteredFileFault
 fault_of line refusals.Memory = Memory
 fault_of line refusal = Refused line refusal

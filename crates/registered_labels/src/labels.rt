@@ -6,7 +6,7 @@ ghost use Rattle.std.specs.List.{list_all};
 ghost use Rattle.idn_label.specs.Steps.{is_ldh_point};
 ghost use Rattle.idn_text.specs.Points.{AreScalarValues, utf8_of};
 ghost use Rattle.variant_list.specs.Labels.{label_cmp};
-ghost use Rattle.registered_labels.specs.declared.labels.RegisterFault.TheVariants as faults;
+ghost use Rattle.registered_labels.specs.declared.labels.RegisteredFileFault.TheVariants as faults;
 ghost use Rattle.registered_labels.specs.Registered.{AreRegistered, IsBetween, IsFirstFrom, IsFirstAfter};
 ghost use Rattle.registered_labels.specs.inner.Readings.{IsLineEnd, IsReadAs};
 
@@ -18,7 +18,8 @@ use memchr::memchr;
 use std::alloc::{AllocError, AllocFailed, Global};
 use std::marker::Model;
 
-/// The most code points of a label (RFC 1034, section 3.1).
+/// The most code points of a label: the A-label of a longer one has more octets than the 63 that a label has in the DNS
+/// (RFC 1035, section 2.3.4).
 pub(crate) const MAX_LABEL_LEN: usize = 63;
 
 /// The most bytes of a label in UTF-8.
@@ -29,7 +30,7 @@ const MAX_TEXT_LEN: usize = 0xFFFF_FFFF;
 
 /// Why a text is not read as registered labels. Lines are numbered from 1.
 #[derive(Clone, Copy, Debug, PartialEq, Eq)]
-pub enum RegisterFault {
+pub enum RegisteredFileFault {
     /// The first line that is wrong: it is no label that may be registered, it is not greater than the one before it, or
     /// it ends after byte 4,294,967,295 of the text.
     Refused { line: u64, refusal: Refusal },
@@ -37,11 +38,11 @@ pub enum RegisterFault {
     Memory,
 }
 
-impl<T: Drop> From<AllocFailed<T>> for RegisterFault {
+impl<T: Drop> From<AllocFailed<T>> for RegisteredFileFault {
     ghost from_gives = { λ _ fault. fault ≡ faults.Memory };
 
-    fn from(_: AllocFailed<T>) -> RegisterFault {
-        RegisterFault::Memory
+    fn from(_: AllocFailed<T>) -> RegisteredFileFault {
+        RegisteredFileFault::Memory
     }
 }
 
@@ -75,7 +76,7 @@ impl<'a> RegisteredLabels<'a> {
 
     /// The labels of a text, one on each line, each greater than the one before; or the first fault of the text. An empty text
     /// takes no memory.
-    pub fn read(alloc: Global, text: &'a [u8]) -> Result<RegisteredLabels<'a>, RegisterFault>
+    pub fn read(alloc: Global, text: &'a [u8]) -> Result<RegisteredLabels<'a>, RegisteredFileFault>
         ensures labels { IfOk result (IsTextOf text.now) }
         ensures fault { IfErr result (IsFaultOf text.now) }
         ensures no_memory { text.now ≡ [] → IsOk result }
@@ -137,7 +138,7 @@ impl<'a> RegisteredLabels<'a> {
         requires { index < length self.now }
         ensures { slice_get self.now index ≡ Some points.new.items }
     {
-        // Naming a field makes the invariant of the type known.
+        // Only for the proof: where a field is read, the invariant of its type is known.
         let _ = &self.text;
         let Ok(()) = decode_points(self.line(index), points) else {
             unreachable!()
@@ -179,7 +180,7 @@ impl<'a> RegisteredLabels<'a> {
         requires scalar_values { AreScalarValues label.now }
         ensures { IsFirstFrom self.now from label.now result }
     {
-        // How many there are is read for its contract alone: the labels are in label order.
+        // Only for the proof: the contract of `len` says that the labels are in label order.
         let _count = self.len();
         let mut room = [0; MAX_KEY_LEN];
         let len = put_points(label, &mut room, 0);
@@ -280,11 +281,11 @@ fn read_label(
 }
 
 /// The fault of a line that is refused. Lack of memory is no fault of a line.
-fn refused(line: u64, refusal: Refusal) -> RegisterFault
+fn refused(line: u64, refusal: Refusal) -> RegisteredFileFault
     ensures { result ≡ fault_of line refusal }
 {
     match refusal {
-        Refusal::Memory => RegisterFault::Memory,
-        _ => RegisterFault::Refused { line, refusal },
+        Refusal::Memory => RegisteredFileFault::Memory,
+        _ => RegisteredFileFault::Refused { line, refusal },
     }
 }

@@ -7,4 +7,4 @@ pub mod laws;
 mod order;
 
 pub use collisions::Collisions;
-pub use labels::{RegisterFault, RegisteredLabels};
+pub use labels::{RegisteredFileFault, RegisteredLabels};

@@ -30,7 +30,7 @@ pub fn has_bad_point(alloc: Global, tree: &PatternTree) -> Result<bool, AllocErr
     }
 }
 
-/// Whether an end of a span of the set has such a class. What is between the ends may.
+/// Whether an end of a span of the set has a class that no label can have. What is between the ends may have one.
 pub fn has_bad_end(alloc: Global, set: &PointSet) -> Result<bool, AllocError>
     ensures { IfOk result (λ bad. bad ≡ classes.has_bad_end set.now) }
 {

@@ -37,7 +37,8 @@ pub fn read_line(
     }
 }
 
-/// The same, where each set that the text names has one of the names.
+/// What a line defines, by its keyword and the text after it, if it has the form. Each set that the text names has one
+/// of these names.
 fn read_with_names(
     alloc: Global,
     names: &[Name],

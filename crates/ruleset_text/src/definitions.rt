@@ -221,7 +221,8 @@ impl Definitions {
     }
 
     /// Adds what a line defines: its first word is the keyword. The canonical text of the definitions may have `limit`
-    /// bytes. An `Err` changes nothing.
+    /// bytes. An `Err` changes nothing. Only tests call this: reading a table finds the keyword first, and calls
+    /// `define`.
     pub fn define_line(
         &mut self,
         alloc: Global,

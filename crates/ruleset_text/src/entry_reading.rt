@@ -70,7 +70,7 @@ pub struct EntryState {
 }
 
 /// The entry or the range that a text spells, or none if it spells none. Tags and rules go by their names.
-// It stands in line where a table is read, whoever else calls it, and so do each step and the end.
+// Always inline, so that it is where a table is read, whoever else calls it. So are each step and the end.
 #[inline(always)]
 pub fn read_entry(alloc: Global, text: &[u8]) -> Result<Option<EntryForm>, AllocError>
     ensures { IfOk result (λ found. MatchOption found ((form : entries.EntryForm) → IsEntryLine form text.now → ⊥) (λ read. IsEntryLine (forms.entry_form read) text.now)) }

@@ -5,7 +5,7 @@ ghost use Rattle.ruleset_text.specs.Lexemes as lexemes;
 ghost use Rattle.ruleset_text.specs.Lexemes.{lexemes as lexemes_of};
 
 /// The first lexeme of a line, and what follows it.
-// Reading an entry calls it for each lexeme, so it stands there in line, with all that it calls.
+// Always inline, with all that it calls: reading an entry calls it for each lexeme.
 #[inline(always)]
 pub fn next_lexeme(line: &[u8]) -> Option<(&[u8], &[u8])>
     ensures is { MatchOption result (lexemes_of line.now ≡ []) (λ found. lexemes_of line.now ≡ found.0.now ∷ lexemes_of found.1.now) }

@@ -65,7 +65,7 @@ if_some (Some x) f = f x
 -- ---- tokens: those that a pattern has without its signs, and where the signs may stand
 
 -- groups, branches and '?' and '*' are where they may be
-abbrev shaped : ℕ → Last → List Token → Bool
+abbrev pub shaped : ℕ → Last → List Token → Bool
 shaped d l [] = (d == 0) && not (is_nothing l)
 shaped d l (token.Point c ∷ ts) = shaped d last.Atom ts
 shaped d l (token.Set n ∷ ts) = shaped d last.Atom ts
@@ -202,7 +202,7 @@ next_some d = grind (arith, nat_tests)
 zero_suc : (n : ℕ) → (0 == suc n) ≡ false
 zero_suc n = grind (arith, nat_tests)
 
-suc_zero : (n : ℕ) → (suc n == 0) ≡ false
+pub suc_zero : (n : ℕ) → (suc n == 0) ≡ false
 suc_zero n = grind (arith, nat_tests)
 
 atom_fits : (d : ℕ) (l : Last) (p : Pattern) (s : State) → fits_at d last.Atom (Some s) ≡ fits_at d l (Some (record { inner = read.with_atom p s.inner; outer = s.outer }))
@@ -346,7 +346,7 @@ ended_fits AtMostOnce items branches [] = refl
 ended_fits AnyNumber items branches [] = refl
 ended_fits x items branches (f ∷ outer) = ap (λ b. b && fits last.Nothing x (is_some items)) (zero_suc (length outer))
 
-shaped_pattern : (ts : List Token) → shaped 0 last.Nothing ts ≡ is_some (pattern_of ts)
+pub shaped_pattern : (ts : List Token) → shaped 0 last.Nothing ts ≡ is_some (pattern_of ts)
 unfolding pattern_of
 shaped_pattern ts = shape_is ts 0 last.Nothing ∙ by (state_of ts)
   where
@@ -458,7 +458,7 @@ may_many false p = refl
 into : (d : ℕ) → d + 1 ≡ suc d
 into d = omega arith
 
-out_of : (d : ℕ) → suc d - 1 ≡ d
+pub out_of : (d : ℕ) → suc d - 1 ≡ d
 out_of d = omega arith
 
 -- within a group
@@ -956,7 +956,7 @@ run_good (w ∷ ws) s t good e = by (step s w) refl (λ u k h. run_good ws u t k
     by None at later e = none_some (IsGood t) t (sym (run_none ws) ∙ e)
     by (Some u) at later e = later u (step_good s u w at good) e
 
-some_is : {X : Type 0} (o : Option X) → is_some o ≡ true → (x : X) × (o ≡ Some x)
+pub some_is : {X : Type 0} (o : Option X) → is_some o ≡ true → (x : X) × (o ≡ Some x)
 some_is {X} None e = absurd (let clash : false ≡ true = e in cc)
 some_is {X} (Some x) e = (x, refl)
 
@@ -983,7 +983,7 @@ whole_by_run ws s e = ap (accepts Nothing) (sym (append-nil ws)) ∙ accepts_run
 
 -- ---- the place
 
-unplaced_append : (xs ys : List Placed) → unplaced (xs ++ ys) ≡ unplaced xs ++ unplaced ys
+pub unplaced_append : (xs ys : List Placed) → unplaced (xs ++ ys) ≡ unplaced xs ++ unplaced ys
 unplaced_append [] ys = refl
 unplaced_append (x ∷ xs) ys = ap (λ l. x.lexeme ∷ l) (unplaced_append xs ys)
 

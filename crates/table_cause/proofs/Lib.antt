@@ -6,6 +6,10 @@ pub mod EntryPartLemmas
 pub mod WrongPlaceLemmas
 -- The same of a line that is to define something.
 pub mod DefinitionPlaceLemmas
+-- Where the pattern of a line goes past a limit.
+pub mod PastLimitLemmas
+-- What is counted on the lines before it.
+pub mod CountedLimitLemmas
 -- The first lexeme on a line that names what is not known.
 pub mod LineNameLaws
 -- The first of a list that a test is true of.

@@ -4,7 +4,9 @@ use Rattle.std.specs.Str.Lines.{strip_carriage_return}
 use Rattle.ruleset_text.specs.declared.keyword.Keyword.{Keyword}
 use Rattle.table_cause.specs.LineNames.{defined_name}
 use Rattle.ruleset_text.specs.Lexemes.{lexemes}
-use Rattle.table_cause.specs.DefinitionPlaces.{and_name, names_defined, counted_with, first_keyword, is_counted_with}
+use Rattle.table_cause.specs.DefinitionPlaces.{and_name, names_defined, counted_with, first_keyword, is_counted_with, atoms_defined}
+use Rattle.table_cause.specs.PatternLimits.{atoms_among, pattern_in}
+use Rattle.table_cause.specs.PlacedLexemes.{placed_lexemes}
 
 -- the first of some lines, and those after it
 take-first : (line : List ℕ) (lines : List (List ℕ)) (left : ℕ) → 0 < left → take left (line ∷ lines) ≡ line ∷ take (left - 1) lines
@@ -37,3 +39,13 @@ counted_next k body line rest lines left found one counts some cut is test adds 
 pub one_at_most : (one : ℕ) (counts : Bool) → one ≡ cond counts 1 0 → one < 2
 one_at_most one true e = omega arith
 one_at_most one false e = omega arith
+
+less_both : (left a b : ℕ) → left - a - b ≡ left - (a + b)
+less_both left a b = omega arith
+
+pub atoms_next : (body line : List ℕ) (rest lines : List (List ℕ)) (left atoms less : ℕ) → 0 < left → lines ≡ line ∷ rest → body ≡ strip_carriage_return line
+    → less ≡ atoms - atoms_among (pattern_in (placed_lexemes body)) → less - atoms_defined (take (left - 1) rest) ≡ atoms - atoms_defined (take left lines)
+atoms_next body line rest lines left atoms less some cut is taken =
+    ap (λ n. n - atoms_defined (take (left - 1) rest)) (taken ∙ ap (λ b. atoms - atoms_among (pattern_in (placed_lexemes b))) is)
+    ∙ less_both atoms (atoms_among (pattern_in (placed_lexemes (strip_carriage_return line)))) (atoms_defined (take (left - 1) rest))
+    ∙ ap (λ l. atoms - atoms_defined l) (sym (ap (take left) cut ∙ take-first line rest left some))

@@ -1,12 +1,13 @@
 -- Where a line of a ruleset that is to define something has its fault. Places are bytes of the line, counted from 0.
-use Rattle.std.specs.Prelude.{ℕ, ◌+◌, nat_le, Bool, true, false, Option, Some, None, List, [], ◌∷◌, if◌then◌else◌}
+use Rattle.std.specs.Prelude.{ℕ, ◌+◌, ◌-◌, nat_le, Bool, true, false, Option, Some, None, List, [], ◌∷◌, if◌then◌else◌}
 use Rattle.std.specs.Str.Lines.{strip_carriage_return}
 use Rattle.table_cause.specs.declared.entry_place.WrongPlace.{WrongPlace}
 use Rattle.ruleset_text.specs.declared.keyword.Keyword.{Keyword}
 use Rattle.ruleset_text.specs.declared.keyword.Keyword.TheVariants as keyword
 use Rattle.ruleset_text.specs.Definition.{keyword_of}
-use Rattle.table_cause.specs.LineNames.{defined_name, first_place, ninth_group}
+use Rattle.table_cause.specs.LineNames.{defined_name, first_place}
 use Rattle.ruleset_text.specs.Lexemes.{lexemes}
+use Rattle.table_cause.specs.PatternLimits.{atoms_among, first_past, pattern_in}
 use Rattle.table_cause.specs.PlacedLexemes.{placed_lexemes}
 
 -- ---- what the lines before define, as they stand in the text
@@ -50,14 +51,23 @@ most_defined k = 256
 abbrev pub has_most : Keyword → List (List ℕ) → Bool
 has_most k lines = nat_le (most_defined k) (counted_with k lines)
 
+-- how many atoms the patterns of these lines have
+abbrev pub atoms_defined : List (List ℕ) → ℕ
+atoms_defined [] = 0
+atoms_defined (line ∷ lines) = atoms_among (pattern_in (placed_lexemes (strip_carriage_return line))) + atoms_defined lines
+
+-- how many a further pattern may have
+abbrev pub atoms_after : List (List ℕ) → ℕ
+atoms_after lines = 4096 - atoms_defined lines
+
 -- ---- what is past a limit
 
--- a definition too many, told by its keyword; or the first group within eight others. Of atoms, of '*' within each other and of a
+-- a definition too many, told by its keyword; or the first lexeme with which its pattern goes past a limit. Of a canonical line or a
 -- text that is too long none is told
 abbrev pub limit_after : List (List ℕ) → List ℕ → Option Keyword → Option WrongPlace
 limit_after before line None = None
 limit_after before line (Some k) =
-    if has_most k before then first_place (placed_lexemes line) else ninth_group (placed_lexemes line)
+    if has_most k before then first_place (placed_lexemes line) else first_past (atoms_after before) (pattern_in (placed_lexemes line))
 
 abbrev pub definition_limit : List (List ℕ) → List ℕ → Option WrongPlace
 definition_limit before line = limit_after before line (first_keyword (lexemes line))

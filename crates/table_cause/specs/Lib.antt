@@ -7,6 +7,8 @@ pub mod WrongPlaces
 pub mod WrongSteps
 pub mod WrongDefinitions
 pub mod DefinitionWrongSteps
+pub mod PatternLimits
+pub mod PastLimits
 pub mod DefinitionPlaces
 pub mod FaultPlaces
 pub mod ToldPlaces

@@ -1,5 +1,5 @@
 -- The names on a line, and where what a definition may not have stands on its line. Places are bytes, counted from 0.
-use Rattle.std.specs.Prelude.{◌≡◌, ℕ, ◌+◌, ◌-◌, ◌==◌, Bool, true, false, not, Option, Some, None, List, [], ◌∷◌, ◌++◌, length, bytes_eq, codes, if◌then◌else◌}
+use Rattle.std.specs.Prelude.{◌≡◌, ℕ, Bool, true, false, not, Option, Some, None, List, [], ◌∷◌, ◌++◌, length, bytes_eq, if◌then◌else◌}
 use Rattle.std.specs.List.{AllByRecursion}
 use Rattle.table_cause.specs.declared.entry_place.WrongPlace.{WrongPlace}
 use Rattle.table_cause.specs.declared.entry_place.WrongPlace.TheVariants.{Lexeme}
@@ -89,7 +89,7 @@ pub record IsFirstUnknown (tags rules : List (List ℕ)) (e : Expected) (ws : Li
   pub unknown : is_unexpected tags rules (expected_after e before) w.lexeme ≡ true
   pub told : place ≡ place_of w
 
--- ---- code points and groups
+-- ---- code points
 
 -- what stands after the keyword, and after the name of a tag, a set or a rule
 abbrev pub after_keyword : Option Keyword → List Placed → List Placed
@@ -105,13 +105,3 @@ after_name (w ∷ ws) = after_keyword (keyword_of w.lexeme) ws
 -- the code points that it names there
 abbrev pub definition_points : List ℕ → List LinePoint
 definition_points line = points_in (after_name (placed_lexemes line))
-
--- the first '(' within eight groups
-abbrev pub ninth_group_from : ℕ → List Placed → Option WrongPlace
-ninth_group_from groups [] = None
-ninth_group_from groups (w ∷ ws) =
-    if bytes_eq w.lexeme (codes "(") then (if groups == 8 then Some (place_of w) else ninth_group_from (groups + 1) ws) else
-    if bytes_eq w.lexeme (codes ")") then ninth_group_from (groups - 1) ws else ninth_group_from groups ws
-
-abbrev pub ninth_group : List Placed → Option WrongPlace
-ninth_group ws = ninth_group_from 0 ws

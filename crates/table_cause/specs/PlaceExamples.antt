@@ -3,7 +3,10 @@ use Rattle.std.specs.Prelude.{◌≡◌, Some, None, ◌∷◌, ◌++◌, codes}
 use Rattle.variant_table.specs.declared.fault.TableFault.TheVariants as tables
 use Rattle.table_cause.specs.declared.place.FaultPlace.TheVariants.{Lexeme, End, Variant, Source, NinthPoint}
 use Rattle.variant_table.specs.declared.version.Notation.TheVariants.{Table, Ruleset}
+use Rattle.table_cause.specs.declared.entry_place.WrongPlace.TheVariants as wrong
 use Rattle.table_cause.specs.FaultPlaces.{fault_place}
+use Rattle.table_cause.specs.PatternLimits.{first_past, pattern_in}
+use Rattle.table_cause.specs.PlacedLexemes.{placed_lexemes}
 
 pub record ExamplesOfPlaces : Type 0 where
   pub bar : fault_place Table (codes "0061||0062") (tables.Syntax 1) ≡ Some (Lexeme 5 1)
@@ -19,6 +22,10 @@ pub record ExamplesOfPlaces : Type 0 where
   pub keyword : fault_place Ruleset (codes "%version 3" ++ 10 ∷ codes "%sets C 0061") (tables.Syntax 2) ≡ Some (Lexeme 0 5)
   pub unknown : fault_place Ruleset (codes "%version 3" ++ 10 ∷ codes "%set A 0061" ++ 10 ∷ codes "%never @A @B") (tables.NoSuchName 3) ≡ Some (Lexeme 10 2)
   pub same_name : fault_place Ruleset (codes "%version 3" ++ 10 ∷ codes "%tag t" ++ 10 ∷ codes "%set t 0061") (tables.SameName 3) ≡ Some (Lexeme 5 1)
+  pub stars : fault_place Ruleset (codes "%version 3" ++ 10 ∷ codes "%rule r ((0061*)*)* _") (tables.Limit 2) ≡ Some (Lexeme 18 1)
+  pub groups : fault_place Ruleset (codes "%version 3" ++ 10 ∷ codes "%never ((((((((( . ))))))))) / ((.*)*)*") (tables.Limit 2) ≡ Some (Lexeme 15 1)
+  pub atoms : first_past 3 (pattern_in (placed_lexemes (codes "%rule abcd (0061)* ^ _ @C"))) ≡ Some (wrong.Lexeme 23 2)
+  pub few_atoms : first_past 4 (pattern_in (placed_lexemes (codes "%rule abcd (0061)* ^ _ @C"))) ≡ None
   pub no_version : fault_place Ruleset (codes "0061") (tables.Syntax 1) ≡ None
   pub variant : fault_place Table (codes "0061|0062:0063:0062") (tables.SameVariant 1) ≡ Some (Variant 15)
   pub again : fault_place Table (codes "0061" ++ 10 ∷ codes " 0061") (tables.SameSource 2) ≡ Some (Source 1)

@@ -1,2 +1,3 @@
 -- Words of inner functions and of private fields. No public contract cites them.
+pub mod NestingSteps
 pub mod PlaceSteps

@@ -204,7 +204,7 @@ fn with_last(pattern: PatternState, last: Last) -> PatternState
     }
 }
 
-/// With `_` in the branch of a rule.
+/// The pattern of a rule once `_` is read in a branch.
 fn with_anchor(pattern: PatternState) -> PatternState
     ensures { result ≡ steps.with_anchor pattern }
 {
@@ -216,7 +216,7 @@ fn with_anchor(pattern: PatternState) -> PatternState
     }
 }
 
-/// With a group more that is open.
+/// The pattern once a further group is open.
 fn opened(pattern: PatternState) -> PatternState
     requires { pattern.groups + 1 < 2 ^ 64 }
     ensures { result ≡ steps.opened pattern }
@@ -229,7 +229,7 @@ fn opened(pattern: PatternState) -> PatternState
     }
 }
 
-/// With the last group closed.
+/// The pattern once the last group is closed.
 fn closed(pattern: PatternState) -> PatternState
     ensures { result ≡ steps.closed pattern }
 {
@@ -241,7 +241,7 @@ fn closed(pattern: PatternState) -> PatternState
     }
 }
 
-/// `/` within a group, or between the branches of the whole pattern.
+/// The pattern once `/` is read, within a group or between the branches of the whole pattern, if it may stand there.
 fn at_bar(pattern: PatternState) -> Option<PatternState>
     ensures state { result ≡ steps.at_bar pattern }
     ensures groups { IfSome result (λ next. next.groups ≡ pattern.groups) }
@@ -255,7 +255,7 @@ fn at_bar(pattern: PatternState) -> Option<PatternState>
     }
 }
 
-/// With a further branch.
+/// The pattern once a further branch begins.
 fn branched(pattern: PatternState) -> PatternState
     ensures { result ≡ steps.branched pattern }
 {

@@ -1,20 +1,30 @@
 //! Laws of the places of faults, each the contract of a function that does nothing.
-ghost use Rattle.std.specs.Prelude.{is_some, not, ◌≡◌, ◌↔◌, ℕ, List, None, Some};
+ghost use Rattle.std.specs.Prelude.{is_some, not, true, ◌≡◌, ◌↔◌, ℕ, List, ◌∷◌, None, Some};
 ghost use Rattle.table_cause.specs.declared.line_point.LinePoint.{LinePoint};
 ghost use Rattle.ruleset_text.specs.Entries.{EntryForm};
 ghost use Rattle.table_cause.specs.EntryParts.{has_parts};
+ghost use Rattle.ruleset_text.specs.Definition.{Definition};
+ghost use Rattle.ruleset_text.specs.Definitions.{definition_atoms, is_one_too_many};
 ghost use Rattle.ruleset_text.specs.Lexemes.{lexemes};
 ghost use Rattle.ruleset_text.specs.SetNames.{set_name};
+ghost use Rattle.table_cause.specs.DefinitionPlaces.{definition_limit};
 ghost use Rattle.table_cause.specs.DefinitionWrongSteps.{wrong_definition};
 ghost use Rattle.table_cause.specs.LineNames.{IsFirstLexeme, IsFirstUnknown, is_unknown, unknown_name, unknown_set};
-ghost use Rattle.table_cause.specs.PlacedLexemes.{Placed};
+ghost use Rattle.table_cause.specs.PastLimits.{IsFirstPast, is_definition_past};
+ghost use Rattle.table_cause.specs.PatternLimits.{atoms_among, first_past, pattern_in};
+ghost use Rattle.table_cause.specs.PlacedLexemes.{Placed, placed_lexemes};
 ghost use Rattle.table_cause.specs.WrongDefinitions as definitions;
-ghost use Rattle.table_cause.specs.WrongDefinitions.{definition_in};
+ghost use Rattle.table_cause.specs.WrongDefinitions.{Define, definition_in};
 ghost use Rattle.table_cause.specs.WrongPlaces.{FitsNames, IsWhole, IsWrongPlace};
 ghost use Rattle.table_cause.specs.WrongSteps.{wrong_place};
 ghost use Rattle.table_cause.specs.declared.expected.Expected.TheVariants.{Nothing};
 ghost use Rattle.table_cause.specs.FaultPlaces.{parts_of, point_place, syntax_place};
+ghost use Rattle.variant_table.specs.declared.version.Notation.TheVariants.{Ruleset};
+ghost use Rattle.variant_table.specs.declared.version.Version.TheVariants.{Three};
+ghost use Rattle.variant_table.specs.Entries.{TableValue, empty_table};
 ghost use Rattle.variant_table.specs.Forms.{has_form};
+ghost use Rattle.variant_table.specs.Texts.{LinesSpell};
+ghost use Rattle.variant_table.specs.Versions.{is_version_line};
 ghost use Rattle.table_cause.specs.PlaceExamples.{ExamplesOfPlaces};
 ghost use Rattle.table_cause.specs.ToldPlaces.{IsFirstBad, IsSyntaxPlace};
 
@@ -57,4 +67,25 @@ pub fn unknown_names_are_told()
         (unknown_set sets ws ≡ Some place) ↔ IsFirstLexeme (λ lexeme. is_unknown sets (set_name lexeme)) ws place }
     ensures names { (tags rules : List (List ℕ)) (ws : List Placed) (place : WrongPlace) →
         (unknown_name tags rules ws ≡ Some place) ↔ IsFirstUnknown tags rules Nothing ws place }
+{}
+
+/// The lexeme that is told of a pattern past a limit is the first with which no pattern within the limits begins, or which is an
+/// atom too many. One is told of a definition exactly if its pattern is past a limit. The atoms that are counted on a line are
+/// those of what it defines, however its sets are numbered.
+pub fn patterns_past_limits_are_told()
+    ensures place { (left : ℕ) (line : List ℕ) (place : WrongPlace) → Define (lexemes line) →
+        (first_past left (pattern_in (placed_lexemes line)) ≡ Some place) ↔ IsFirstPast left (pattern_in (placed_lexemes line)) place }
+    ensures whole { (names : List (List ℕ)) (line : List ℕ) (left : ℕ) (definition : Definition) → definition_in names (lexemes line) ≡ Some definition →
+        is_some (first_past left (pattern_in (placed_lexemes line))) ≡ is_definition_past left definition }
+    ensures atoms { (names : List (List ℕ)) (line : List ℕ) (definition : Definition) → definition_in names (lexemes line) ≡ Some definition →
+        atoms_among (pattern_in (placed_lexemes line)) ≡ definition_atoms definition }
+{}
+
+/// A place is told of a definition past a limit exactly if it is one too many for the table that the lines before it spell, after
+/// their version line: if it is one of its kind too many, or its pattern has too many groups or `*` within each other, or too many
+/// atoms. So what is counted on the lines before is what reading has kept of them.
+pub fn definitions_past_limits_are_told()
+    ensures { (head : List ℕ) (before : List (List ℕ)) (table : TableValue) (names : List (List ℕ)) (line : List ℕ) (definition : Definition) →
+        is_version_line Ruleset head ≡ true → LinesSpell (empty_table Three) before table → definition_in names (lexemes line) ≡ Some definition →
+        is_some (definition_limit (head ∷ before) line) ≡ is_one_too_many table.definitions definition }
 {}

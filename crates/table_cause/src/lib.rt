@@ -9,13 +9,13 @@ pub mod laws;
 mod line_names;
 mod line_point;
 mod lines_before;
+mod pattern_limit;
 mod place;
 mod placed;
 
 pub use definition_place::wrong_definition;
 pub use entry_place::{EntryParts, WrongPlace, wrong_place};
-pub use line_names::{
-    defined_name, keyword_place, name_place, ninth_group, unknown_name, unknown_set,
-};
+pub use line_names::{defined_name, keyword_place, name_place, unknown_name, unknown_set};
 pub use line_point::{LinePoint, definition_points, line_points};
+pub use pattern_limit::{atoms_left, first_past};
 pub use place::{FaultPlace, fault_place, faulty_line};

@@ -1,6 +1,6 @@
 //! The names on a line, and where what a definition may not have stands on its line. It is looked for only once the line is
 //! known to be faulty.
-ghost use Rattle.std.specs.Prelude.{◌≡◌, ◌≤◌};
+ghost use Rattle.std.specs.Prelude.{◌≡◌};
 ghost use Rattle.std.specs.Option.{option_copied};
 ghost use Rattle.ruleset_text.specs.Lexemes.{lexemes};
 ghost use Rattle.table_cause.specs.LineNames as lines;
@@ -89,28 +89,4 @@ fn is_unexpected(tags: &[Name], rules: &[Name], expected: Expected, lexeme: &[u8
         Expected::Tag => !is_one_of(tags, lexeme),
         Expected::Rule => !is_one_of(rules, lexeme),
     }
-}
-
-/// Where the first group begins that stands within eight others.
-pub fn ninth_group(line: &[u8]) -> Option<WrongPlace>
-    ensures { result ≡ lines.ninth_group (placed_lexemes line.now) }
-{
-    let mut groups = 0;
-    let mut before = 0;
-    let mut rest = line;
-    while let Some((place, lexeme, others)) = next_placed(before, rest) {
-        match lexeme {
-            b"(" => {
-                if groups == 8 {
-                    return Some(WrongPlace::Lexeme(place, lexeme.len()));
-                }
-                groups += 1;
-            }
-            b")" => groups = u64::saturating_sub(groups, 1),
-            _ => {}
-        }
-        before = place + lexeme.len();
-        rest = others;
-    }
-    None
 }

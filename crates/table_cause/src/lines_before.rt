@@ -6,16 +6,20 @@ ghost use Rattle.table_cause.specs.DefinitionPlaces as definitions;
 ghost use Rattle.table_cause.specs.inner.PlaceSteps.{lines_of};
 
 use crate::entry_place::WrongPlace;
-use crate::line_names::{defined_name, keyword_place, ninth_group};
+use crate::line_names::{defined_name, keyword_place};
+use crate::pattern_limit::{atoms_left, first_past};
 use idn_text::{TextLines, without_carriage_return};
 use ruleset_text::{Keyword, Name, keyword_of, next_lexeme};
 use std::alloc::{AllocError, Global};
+
+/// The most atoms of all patterns together.
+const ATOM_LIMIT: usize = 4096;
 
 /// The first lines of a text.
 #[derive(Clone, Copy)]
 pub(crate) struct LinesBefore<'a> {
     pub text: &'a [u8],
-    /// How many there are of them, or more.
+    /// How many lines these are. If the text has fewer, they are all its lines.
     pub count: u64,
 }
 
@@ -42,7 +46,7 @@ impl<'a> LinesBefore<'a> {
     }
 
     /// What is past a limit in a line that is to define something: its keyword, if these lines define as many as may be, or the
-    /// first group within eight others.
+    /// first lexeme with which its pattern goes past a limit.
     pub(crate) fn limit_place(&self, line: &[u8]) -> Option<WrongPlace>
         ensures { result ≡ definitions.definition_limit (lines_of self.now) line.now }
     {
@@ -50,7 +54,7 @@ impl<'a> LinesBefore<'a> {
         if self.has_most(keyword) {
             keyword_place(line)
         } else {
-            ninth_group(line)
+            first_past(self.atoms_after(), line)
         }
     }
 
@@ -71,6 +75,23 @@ impl<'a> LinesBefore<'a> {
             left -= 1;
         }
         found == most
+    }
+
+    /// How many atoms a further pattern may have.
+    fn atoms_after(&self) -> usize
+        ensures { result ≡ definitions.atoms_after (lines_of self.now) }
+    {
+        let mut atoms = ATOM_LIMIT;
+        let mut lines = TextLines::new(self.text);
+        let mut left = self.count;
+        while left > 0 {
+            let Some(line) = lines.next() else {
+                return atoms;
+            };
+            atoms = atoms_left(atoms, without_carriage_return(line));
+            left -= 1;
+        }
+        atoms
     }
 }
 

@@ -46,7 +46,7 @@ pub enum FaultPlace {
 }
 
 /// Where the line of a fault of this text has it, if a place is told: none in a text that lacks its version, and where no part of
-/// the line goes past a limit, as of an entry too many, of a text that is too long, or of atoms and `*` in a pattern.
+/// the line goes past a limit, as of an entry too many or of a text that is too long.
 #[tactic(auto, unfolding(crate::specs::FaultPlaces::fault_place))]
 pub fn fault_place(
     alloc: Global,
@@ -245,7 +245,7 @@ fn begins_in_percent(line: &[u8]) -> bool
     }
 }
 
-/// The same of a fault that goes by no name.
+/// The place in the line of an entry or of a range, where the fault is not about a name.
 fn entry_place(
     alloc: Global,
     fault: TableFault,
@@ -343,7 +343,8 @@ fn is_bad_point(alloc: Global, point: u32) -> Result<bool, AllocError>
     Ok(!matches!(class, Class::Pvalid | Class::Contextj | Class::Contexto))
 }
 
-/// The number of the first source or variant that stands before it.
+/// The number of the first variant that repeats the source or an earlier variant, where it may not. The source has the
+/// number 0.
 fn first_again(mapped: &[Mapped]) -> Option<usize>
     ensures { result ≡ places.first_again [] (forms_of mapped.now) }
 {
@@ -355,7 +356,7 @@ fn first_again(mapped: &[Mapped]) -> Option<usize>
     None
 }
 
-/// Whether that of this number stands before it.
+/// Whether the variant of this number repeats the source or an earlier variant, where it may not.
 fn is_before(mapped: &[Mapped], number: usize) -> bool
     requires { number < length mapped.now }
     ensures { (d : Form) → result ≡ places.stands_in true (take number (forms_of mapped.now)) (slice_index_or (forms_of mapped.now) number d) }
@@ -368,7 +369,8 @@ fn is_before(mapped: &[Mapped], number: usize) -> bool
     false
 }
 
-/// Whether a sequence is that of the source, or of a variant, unless each of the two has a condition of its own.
+/// Whether a sequence is that of the source; or that of a variant, unless each of the two has a condition and the two
+/// conditions differ.
 fn is_again(is_source: bool, earlier: &Mapped, later: &Mapped) -> bool
     ensures { result ≡ places.is_again is_source (form_of earlier.now) (form_of later.now) }
 {

@@ -1,15 +1,19 @@
 -- Labels that may be asked about, and tables that ask nothing.
-use Rattle.std.proofs.Common.{◌≡◌, ℕ, ◌+◌, ◌≤◌, inl, inr, Bool, true, false, List, [], ◌∷◌, ◌++◌, length, drop, refl, sym, ap, subst, ◌∙◌, arith, length-append, length-drop, append_assoc, ◌-◌}
+use Rattle.std.proofs.Common.{◌≡◌, ◌≢◌, ℕ, ◌+◌, ◌≤◌, inl, inr, Bool, true, false, List, [], ◌∷◌, ◌++◌, length, drop, refl, sym, ap, subst, ◌∙◌, arith, length-append, length-drop, append_assoc, ◌-◌}
 use Rattle.std.specs.Prelude.{◌↔◌, IsTrue, None}
-use Rattle.std.specs.List.{AllByRecursion, Contains, flat_map, slice_range}
-use Rattle.std.proofs.lemmas.List.Elements.{All-contains, All-from_recursion}
+use Rattle.std.specs.List.{All, AllByRecursion, Contains, flat_map, slice_range}
+use Rattle.std.proofs.lemmas.List.Elements.{All-contains, All-from_recursion, recursion_from_All}
 use Rattle.label_patterns.specs.Matches.{Rounds, no_round, one_more}
-use Rattle.variant_table.specs.Entries.{Entry, TableValue, replacements, sequences_in}
-use Rattle.variant_table.proofs.MemberLemmas.{Contains-cases}
-use Rattle.valid_labels.specs.Segmentations.{seen_under}
+use Rattle.ruleset_text.specs.Definitions.{Definitions}
+use Rattle.variant_table.specs.declared.version.Version.{Version}
+use Rattle.variant_table.specs.declared.version.Version.TheVariants.{One, Two, Three}
+use Rattle.variant_table.specs.Entries.{Entry, TableValue, IsOfVersion, IsPlain, replacements, sequences_in, source_of, whole}
+use Rattle.variant_table.specs.WellFormed.{AreOfVersion, IsTable}
+use Rattle.variant_table.proofs.MemberLemmas.{Contains-cases, Contains-head}
+use Rattle.valid_labels.specs.Segmentations.{IsMadeOfSources, seen_under}
 use Rattle.valid_labels.specs.Pieces.{IsCovered, IsVariant, IsPiece, PieceStands}
 use Rattle.valid_labels.specs.Demands.{IsMet, MeetsDemands}
-use Rattle.valid_labels.specs.Validity.{AsksNothing, IsSound, IsValid}
+use Rattle.valid_labels.specs.Validity.{AsksNothing, IsAdmitted, IsSound, IsValid}
 use Rattle.valid_labels.specs.Tests.{is_covered}
 use Rattle.valid_labels.specs.Laws.{AdmittedAreValid, IsMadeOfReplacements, NothingIsAsked}
 use Rattle.valid_labels.proofs.CutLemmas.{EntryStands, cut-steps}
@@ -92,8 +96,35 @@ module _ (table : TableValue) (label : List ℕ) (sound : IsSound table) (nothin
     met = no-demands table label nothing.demands;
   }
 
+-- ---- tables of versions 1 and 2
+
+plain-source : (e : Entry) → All IsPlain (whole e) → e.condition ≡ None
+plain-source e plain = (All-contains IsPlain (whole e) (source_of e) plain (Contains-head (source_of e) e.variants)).1
+
+free-in : (v : Version) (es : List Entry) → v ≢ Three → AllByRecursion (IsOfVersion v) es → AllByRecursion (λ e. e.condition ≡ None) es
+free-in v [] older each = tt
+free-in One (e ∷ es) older each = (plain-source e each.0.2, free-in One es older each.1)
+free-in Two (e ∷ es) older each = (plain-source e each.0.1, free-in Two es older each.1)
+free-in Three (e ∷ es) older each = absurd (older refl)
+
+none-demanded : (v : Version) (d : Definitions) → v ≢ Three → AreOfVersion v d → d.demands ≡ []
+none-demanded One d older none = ap (λ (x : Definitions). x.demands) none
+none-demanded Two d older none = ap (λ (x : Definitions). x.demands) none
+none-demanded Three d older none = absurd (older refl)
+
+pub older-asks_nothing : (table : TableValue) → IsTable table → table.version ≢ Three → AsksNothing table
+older-asks_nothing table is older = record {
+  conditions = free-in table.version table.entries older (recursion_from_All (IsOfVersion table.version) table.entries is.of_version);
+  demands = none-demanded table.version table.definitions older is.defined;
+}
+
+pub admitted-if_made : (table : TableValue) (label : List ℕ) → AsksNothing table → IsMadeOfSources table label → IsAdmitted table label
+admitted-if_made table label nothing made = record { cut = segmentation-free table label nothing.conditions made; met = no-demands table label nothing.demands }
+
 pub nothing-is-asked : NothingIsAsked
 nothing-is-asked = record {
-  admitted = λ table label nothing made. record { cut = segmentation-free table label nothing.conditions made; met = no-demands table label nothing.demands };
+  admitted = admitted-if_made;
+  never_invalid = λ table label nothing refused. refused.1 (admitted-if_made table label nothing refused.0);
   valid = λ table label sound nothing made. replacements-valid table label sound nothing made;
+  older = older-asks_nothing;
 }

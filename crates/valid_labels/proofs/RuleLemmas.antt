@@ -3,7 +3,7 @@ use Rattle.std.proofs.Common.{◌≡◌, ℕ, inl, inr, Bool, true, false, not, 
 use Rattle.std.specs.Prelude.{IsTrue}
 use Rattle.std.specs.List.{AllByRecursion}
 use Rattle.std.proofs.lemmas.Bool.{or_parts}
-use Rattle.label_patterns.specs.Laws.{HasNoEnd, HasNoEndBefore}
+use Rattle.label_patterns.specs.Laws.{IgnoresEnd, IgnoresEndBefore}
 use Rattle.label_patterns.specs.Patterns.{Pattern, Point, Set, Any, Start, End, Anchor, Group, Optional, Many, Then, Either}
 use Rattle.label_patterns.specs.Rules as rules
 use Rattle.label_patterns.specs.Rules.{branches}
@@ -16,7 +16,7 @@ use Rattle.ruleset_text.proofs.KnownPatternLemmas.{all_before, rules_in, demands
 use Rattle.valid_labels.proofs.ListLemmas.{not-true}
 use Rattle.label_patterns.proofs.TestLemmas.{and-both}
 
-no-end : (p : Pattern) → has sign.End p ≡ false → HasNoEnd p
+no-end : (p : Pattern) → has sign.End p ≡ false → IgnoresEnd p
 no-end (Point c) h = tt
 no-end (Set n) h = tt
 no-end Any h = tt
@@ -47,17 +47,17 @@ same-anchor (Then p q) h = not-true h
 same-anchor (Either p q) h = not-true h
 
 -- an item and what follows it
-item-before : (p q : Pattern) → (is_context q ≡ true → HasNoEndBefore q) → cond (is_anchor p) (is_after q) (is_before p && is_context q) ≡ true → HasNoEndBefore (Then p q)
+item-before : (p q : Pattern) → (is_context q ≡ true → IgnoresEndBefore q) → cond (is_anchor p) (is_after q) (is_before p && is_context q) ≡ true → IgnoresEndBefore (Then p q)
 item-before p q later = by_item (is_anchor p) refl
   where
-    by_item : (b : Bool) → is_anchor p ≡ b → cond b (is_after q) (is_before p && is_context q) ≡ true → HasNoEndBefore (Then p q)
+    by_item : (b : Bool) → is_anchor p ≡ b → cond b (is_after q) (is_before p && is_context q) ≡ true → IgnoresEndBefore (Then p q)
     by_item true is h = inl (same-anchor p is)
     by_item false is h =
         let two = (and-both (is_before p) (is_context q)).0 h in
         let parts = (and-both (not (has sign.Anchor p)) (not (has sign.End p))).0 two.0 in
         inr (no-end p (not-is (has sign.End p) parts.1), later two.1)
 
-context-before : (p : Pattern) → is_context p ≡ true → HasNoEndBefore p
+context-before : (p : Pattern) → is_context p ≡ true → IgnoresEndBefore p
 context-before (Point c) h = tt
 context-before (Set n) h = tt
 context-before Any h = tt
@@ -70,7 +70,7 @@ context-before (Many p) h = tt
 context-before (Then p q) h = item-before p q (context-before q) h
 context-before (Either p q) h = tt
 
-pub rule-before : (p : Pattern) → is_rule p ≡ true → AllByRecursion HasNoEndBefore (branches p)
+pub rule-before : (p : Pattern) → is_rule p ≡ true → AllByRecursion IgnoresEndBefore (branches p)
 rule-before (Point c) h = (tt, tt)
 rule-before (Set n) h = (tt, tt)
 rule-before Any h = (tt, tt)
@@ -84,11 +84,11 @@ rule-before (Then p q) h = (item-before p q (context-before q) h, tt)
 rule-before (Either p q) h = let two = (and-both (is_context p) (is_rule q)).0 h in (context-before p two.0, rule-before q two.1)
 
 rules-from : (sets names : List (List ℕ)) (rules : List Pattern) → length names ≡ length rules → AllByRecursion (IsDefinition sets) (named definition.Rule names rules)
-    → AllByRecursion (λ rule. AllByRecursion HasNoEndBefore (branches rule)) rules
+    → AllByRecursion (λ rule. AllByRecursion IgnoresEndBefore (branches rule)) rules
 rules-from sets [] [] same all = tt
 rules-from sets [] (p ∷ rules) same all = absurd (omega (arith, same))
 rules-from sets (name ∷ names) [] same all = tt
 rules-from sets (name ∷ names) (p ∷ rules) same all = (rule-before p all.0.parts.1, rules-from sets names rules (omega (arith, same)) all.1)
 
-pub rules-before : (d : Definitions) → AreDefinitions d → AllByRecursion (λ rule. AllByRecursion HasNoEndBefore (branches rule)) d.rules
+pub rules-before : (d : Definitions) → AreDefinitions d → AllByRecursion (λ rule. AllByRecursion IgnoresEndBefore (branches rule)) d.rules
 rules-before d are = rules-from d.set_names d.rule_names d.rules are.named_rules (all_before (IsDefinition d.set_names) (rules_in d) (demands_in d) (patterns d are))

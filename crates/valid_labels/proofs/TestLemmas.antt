@@ -9,7 +9,7 @@ use Rattle.label_patterns.specs.declared.condition.Condition.{Condition}
 use Rattle.label_patterns.specs.Barring.{IsBarred}
 use Rattle.label_patterns.specs.Matches.{Seen, Rounds, no_round, one_more}
 use Rattle.label_patterns.specs.Rules.{Occurs}
-use Rattle.label_patterns.specs.Tests.{has_place, condition_barred, has_no_end, occurs_in}
+use Rattle.label_patterns.specs.Tests.{has_place, condition_barred, ignores_end, occurs_in}
 use Rattle.label_patterns.proofs.TestLemmas.{condition-agrees, barred-agrees, occurs-agrees, no-end-agrees, place-tested, and-both, or-one, not-false}
 use Rattle.ruleset_text.specs.declared.definition.DemandKind.{DemandKind}
 use Rattle.ruleset_text.specs.declared.definition.DemandKind.TheVariants.{Never, Always}
@@ -213,9 +213,9 @@ never-agrees Always = (λ h. not-true h, λ h. ap is_never h)
 pub refused-agrees : (table : TableValue) (label : List ℕ) → IsTrue (is_refused table label) ↔ IsRefused table label
 refused-agrees table label =
     let s = seen_under table label in
-    let any = any-one (λ (d : Demand). is_never d.kind && (has_no_end d.pattern && occurs_in s d.pattern)) table.definitions.demands in
-    let split = λ (d : Demand). and-both (is_never d.kind) (has_no_end d.pattern && occurs_in s d.pattern) in
-    let more = λ (d : Demand). and-both (has_no_end d.pattern) (occurs_in s d.pattern) in (
+    let any = any-one (λ (d : Demand). is_never d.kind && (ignores_end d.pattern && occurs_in s d.pattern)) table.definitions.demands in
+    let split = λ (d : Demand). and-both (is_never d.kind) (ignores_end d.pattern && occurs_in s d.pattern) in
+    let more = λ (d : Demand). and-both (ignores_end d.pattern) (occurs_in s d.pattern) in (
       λ h.
           let g = any.0 h in
           let b = (split g.0).0 g.2 in

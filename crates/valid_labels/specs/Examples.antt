@@ -27,6 +27,10 @@ when_first = Some (record { kind = When; rule = 0 })
 abbrev pub unless_first : Option Condition
 unless_first = Some (record { kind = Unless; rule = 0 })
 
+-- that on the second
+abbrev pub when_second : Option Condition
+when_second = Some (record { kind = When; rule = 1 })
+
 -- a source with its condition and its variants
 abbrev pub source : List ℕ → Option Condition → List (List ℕ) → Entry
 source points condition variants = record { source = points; outside = false; tags = []; condition = condition; variants = map (plain_variant false) variants }
@@ -82,6 +86,36 @@ after_a = table_with [] (Then (Point 97) Anchor ∷ []) [] (source (codes "a") N
 abbrev pub several : TableValue
 several = table_with [] [] [] (source (codes "a") None [] ∷ source (codes "ab") None [] ∷ source (codes "bc") None [] ∷ [])
 
+-- no label has two a
+abbrev pub one_a : TableValue
+one_a = table_with [] [] (never (Then (Point 97) (Then (Many Any) (Point 97))) ∷ []) (letters (codes "abc"))
+
+-- a vowel sign follows a consonant; the consonant 0915 may be replaced by a vowel
+abbrev pub vowel_for_consonant : TableValue
+vowel_for_consonant = table_with ((record { first = 2325; last = 2361 } ∷ []) ∷ []) (Then (Set 0) Anchor ∷ []) []
+    (source (2325 ∷ []) None ((2309 ∷ []) ∷ []) ∷ source (2366 ∷ []) when_first [] ∷ letters (2309 ∷ 2326 ∷ []))
+
+-- a source outside, of one code point, that may not stand at the end
+abbrev pub outside_within : TableValue
+outside_within = table_with [] (Then Anchor End ∷ []) [] (source (codes "a") None ((1072 ∷ []) ∷ []) ∷ record (source (1072 ∷ []) unless_first []) { outside = true } ∷ letters (codes "b"))
+
+-- the consonant 0931 stands only with a virama, and that only before 092F or 0939; another virama follows a consonant
+abbrev pub half_ra : TableValue
+half_ra = table_with ((record { first = 2325; last = 2352 } ∷ record { first = 2354; last = 2361 } ∷ []) ∷ []) (Either (Then Anchor (Point 2351)) (Then Anchor (Point 2361)) ∷ Then (Set 0) Anchor ∷ []) []
+    (source (2353 ∷ 2381 ∷ []) when_first [] ∷ source (2381 ∷ []) when_second [] ∷ letters (2325 ∷ 2351 ∷ []))
+
+-- b stands after a alone; c may be replaced by two letters, which are sources
+abbrev pub two_for_one : TableValue
+two_for_one = table_with [] (Then (Point 97) Anchor ∷ []) [] (source (codes "a") None [] ∷ source (codes "c") None (codes "bb" ∷ codes "ba" ∷ []) ∷ source (codes "b") when_first [] ∷ [])
+
+-- no label ends in an a that begins it or follows b, and any number of pairs of c
+abbrev pub no_pairs_at_end : TableValue
+no_pairs_at_end = table_with [] [] (never (Then (Group (Either Start (Point 98))) (Then (Point 97) (Then (Many (Group (Then (Point 99) (Point 99)))) End))) ∷ []) (letters (codes "abc"))
+
+-- b stands after a alone; a may be replaced by c
+abbrev pub c_for_a : TableValue
+c_for_a = table_with [] (Then (Point 97) Anchor ∷ []) [] (source (codes "a") None (codes "c" ∷ []) ∷ source (codes "c") None [] ∷ source (codes "b") when_first [] ∷ [])
+
 -- labels that may be asked about, and such that are refused though they are made of sources; variants that are valid, and such
 -- that aren't; beginnings with which no valid label begins
 pub record ValidityOfExamples : Type 0 where
@@ -120,3 +154,22 @@ pub record ValidityOfExamples : Type 0 where
   pub lone_variant_not_asked : is_made_of_sources after_a (codes "bdc") ≡ false
   pub cut_two_ways : has_segmentation several (codes "abc") ≡ true
   pub not_cut : has_segmentation several (codes "abb") ≡ false
+  pub sign_after_vowel : is_valid vowel_for_consonant (2309 ∷ 2366 ∷ []) ≡ false
+  pub consonant_after_vowel : is_valid vowel_for_consonant (2309 ∷ 2326 ∷ []) ≡ true
+  pub two_leads : is_admitted leads (3648 ∷ 3648 ∷ 3585 ∷ []) ≡ false
+  pub two_kinds_made : is_made_of_sources digits (48 ∷ 2407 ∷ []) ≡ true
+  pub two_a : is_admitted one_a (codes "aba") ≡ false
+  pub two_a_lost : is_lost one_a (codes "aba") ≡ true
+  pub outside_arises : is_valid outside_within (1072 ∷ codes "ba") ≡ true
+  pub outside_at_end : is_valid outside_within (codes "ab" ++ 1072 ∷ []) ≡ false
+  pub outside_not_made : is_made_of_sources outside_within (1072 ∷ codes "b") ≡ false
+  pub half_before_ya : is_admitted half_ra (2325 ∷ 2353 ∷ 2381 ∷ 2351 ∷ []) ≡ true
+  pub half_before_ka : is_admitted half_ra (2325 ∷ 2353 ∷ 2381 ∷ 2325 ∷ []) ≡ false
+  pub half_before_ka_made : is_made_of_sources half_ra (2325 ∷ 2353 ∷ 2381 ∷ 2325 ∷ []) ≡ true
+  pub ra_alone : is_made_of_sources half_ra (2353 ∷ 2325 ∷ []) ≡ false
+  pub covered_variant : is_valid two_for_one (codes "aba") ≡ true
+  pub covered_variant_asked : is_valid two_for_one (codes "abb") ≡ false
+  pub no_pair : is_admitted no_pairs_at_end (codes "acb") ≡ true
+  pub one_pair : is_admitted no_pairs_at_end (codes "cbacc") ≡ false
+  pub b_after_c_lost : is_lost c_for_a (codes "cb") ≡ true
+  pub b_after_a_not_lost : is_lost c_for_a (codes "ab") ≡ false

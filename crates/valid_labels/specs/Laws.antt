@@ -1,8 +1,12 @@
 -- Laws of the definitions.
-use Rattle.std.specs.Prelude.{◌≡◌, ◌↔◌, ℕ, List, ◌++◌, IsTrue, Contains}
+use Rattle.std.specs.Prelude.{◌≡◌, ◌≢◌, ◌↔◌, ℕ, List, ◌++◌, IsTrue, Contains}
 use Rattle.std.specs.List.{flat_map, AllByRecursion}
+use Rattle.variant_table.specs.declared.version.Version.TheVariants.{Three}
 use Rattle.variant_table.specs.Entries.{TableValue, replacements}
+use Rattle.variant_table.specs.WellFormed.{IsTable}
+use Rattle.valid_labels.specs.declared.validity.Admission.TheVariants.{NotAdmitted}
 use Rattle.valid_labels.specs.Segmentations.{IsMadeOfSources, HasSegmentation, HasNoConditions}
+use Rattle.valid_labels.specs.Testing.{IsAdmission}
 use Rattle.valid_labels.specs.Validity.{IsSound, AsksNothing, IsAdmitted, IsValid, IsLost}
 use Rattle.valid_labels.specs.Tests as tests
 
@@ -34,8 +38,10 @@ abbrev pub IsMadeOfReplacements : TableValue → List ℕ → Type 0
 IsMadeOfReplacements table label =
     (parts : List (List ℕ)) × AllByRecursion (Contains (flat_map replacements table.entries)) parts × (flat_map (λ s. s) parts ≡ label)
 
--- under a table that asks nothing a label may be asked about where it is made of sources, and is valid where it is made of
--- sources and variants
+-- under a table that asks nothing a label may be asked about where it is made of sources, so none is refused as not valid; and it
+-- is valid where it is made of sources and variants. A table of version 1 or 2 asks nothing
 pub record NothingIsAsked : Type 0 where
   pub admitted : (table : TableValue) (label : List ℕ) → AsksNothing table → IsMadeOfSources table label → IsAdmitted table label
+  pub never_invalid : (table : TableValue) (label : List ℕ) → AsksNothing table → ¬ IsAdmission table label NotAdmitted
   pub valid : (table : TableValue) (label : List ℕ) → IsSound table → AsksNothing table → IsMadeOfReplacements table label → IsValid table label
+  pub older : (table : TableValue) → IsTable table → table.version ≢ Three → AsksNothing table

@@ -4,7 +4,7 @@ use Rattle.std.specs.Coded.{Coded, code_by, coded×, coded_ℕ, coded_list}
 use Rattle.variant_table.specs.Entries.{TableValue}
 use Rattle.variant_table.specs.TableCodes.{table_code}
 use Rattle.valid_labels.specs.declared.validity.Admission.{Admission}
-use Rattle.valid_labels.specs.declared.validity.Admission.TheVariants.{NotMade, NotValid, Admitted}
+use Rattle.valid_labels.specs.declared.validity.Admission.TheVariants.{NotCut, NotAdmitted, Admitted}
 use Rattle.valid_labels.specs.declared.validity.Validity.{Validity}
 use Rattle.valid_labels.specs.declared.validity.Validity.TheVariants as validity
 use Rattle.valid_labels.specs.Segmentations.{IsMadeOfSources}
@@ -24,8 +24,8 @@ SharesKept shared kept label = take (min shared (length kept)) kept ≡ take (mi
 
 -- whether a label may be asked about, and if not, why
 abbrev pub IsAdmission : TableValue → List ℕ → Admission → Type 0
-IsAdmission table label NotMade = ¬ IsMadeOfSources table label
-IsAdmission table label NotValid = IsMadeOfSources table label × (¬ IsAdmitted table label)
+IsAdmission table label NotCut = ¬ IsMadeOfSources table label
+IsAdmission table label NotAdmitted = IsMadeOfSources table label × (¬ IsAdmitted table label)
 IsAdmission table label Admitted = IsAdmitted table label
 
 -- whether a label is valid, and if not, how long its shortest lost beginning is

@@ -5,7 +5,7 @@ use Rattle.std.specs.Option.{is_some}
 use Rattle.std.specs.List.{list_any, flat_map, slice_range}
 use Rattle.label_patterns.specs.declared.condition.Condition.{Condition}
 use Rattle.label_patterns.specs.Matches.{Seen}
-use Rattle.label_patterns.specs.Tests.{has_place, condition_holds, condition_barred, has_no_end, occurs_in}
+use Rattle.label_patterns.specs.Tests.{has_place, condition_holds, condition_barred, ignores_end, occurs_in}
 use Rattle.ruleset_text.specs.declared.definition.DemandKind.{DemandKind}
 use Rattle.ruleset_text.specs.declared.definition.DemandKind.TheVariants.{Never, Always}
 use Rattle.ruleset_text.specs.Definitions.{Demand}
@@ -114,7 +114,7 @@ is_never Never = true
 is_never Always = false
 
 abbrev pub is_refused : TableValue → List ℕ → Bool
-is_refused table label = list_any (λ d. is_never d.kind && (has_no_end d.pattern && occurs_in (seen_under table label) d.pattern)) table.definitions.demands
+is_refused table label = list_any (λ d. is_never d.kind && (ignores_end d.pattern && occurs_in (seen_under table label) d.pattern)) table.definitions.demands
 
 -- the test is true of a place up to n
 abbrev pub one_up_to : ℕ → (ℕ → Bool) → Bool

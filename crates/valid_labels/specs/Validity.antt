@@ -1,7 +1,7 @@
 -- Which labels are valid under a table (RFC 7940, sections 7 and 8).
 use Rattle.std.specs.Prelude.{◌≡◌, ◌⊎◌, ℕ, ◌+◌, ◌<◌, ◌≤◌, List, [], length, take, Option, Contains}
 use Rattle.label_patterns.specs.declared.condition.Condition.{Condition}
-use Rattle.label_patterns.specs.Laws.{HasNoEnd}
+use Rattle.label_patterns.specs.Laws.{IgnoresEnd}
 use Rattle.label_patterns.specs.Rules.{Occurs}
 use Rattle.ruleset_text.specs.declared.definition.DemandKind.TheVariants.{Never}
 use Rattle.ruleset_text.specs.Definitions.{Demand}
@@ -35,7 +35,7 @@ pub record IsValid (table : TableValue) (label : List ℕ) : Type 0 where
 -- a part of the label matches a pattern that no label may match, and that doesn't ask for the end of the label
 abbrev pub IsRefused : TableValue → List ℕ → Type 0
 IsRefused table label =
-    (d : Demand) × Contains table.definitions.demands d × (d.kind ≡ Never) × HasNoEnd d.pattern × Occurs (seen_under table label) d.pattern
+    (d : Demand) × Contains table.definitions.demands d × (d.kind ≡ Never) × IgnoresEnd d.pattern × Occurs (seen_under table label) d.pattern
 
 -- no piece that begins at a place up to which the label may be cut ends after the label
 abbrev pub LeadsNowhere : TableValue → List ℕ → Type 0

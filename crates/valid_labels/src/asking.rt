@@ -22,7 +22,7 @@ pub trait Asking {
         ensures { IsTrue result ↔ asks self.now entry.now start end };
 }
 
-/// Nothing.
+/// Nothing is asked of the source.
 pub struct AnySource;
 
 impl Asking for AnySource {
@@ -35,7 +35,7 @@ impl Asking for AnySource {
     }
 }
 
-/// The source is not outside.
+/// It is asked that the source is not outside.
 pub struct InsideSource;
 
 impl Asking for InsideSource {
@@ -48,7 +48,7 @@ impl Asking for InsideSource {
     }
 }
 
-/// Its condition holds where it stands.
+/// It is asked that the condition of the source holds where it stands.
 #[derive(Drop)]
 pub struct HoldingSource<'a> {
     pub definitions: &'a Definitions,
@@ -65,7 +65,7 @@ impl<'a> Asking for HoldingSource<'a> {
     }
 }
 
-/// It is not outside, and its condition holds where it stands.
+/// It is asked that the source is not outside, and that its condition holds where it stands.
 #[derive(Drop)]
 pub struct HoldingInside<'a> {
     pub definitions: &'a Definitions,
@@ -82,7 +82,7 @@ impl<'a> Asking for HoldingInside<'a> {
     }
 }
 
-/// Its condition isn't barred where it begins.
+/// It is asked that the condition of the source isn't barred where it begins.
 #[derive(Drop)]
 pub struct UnbarredSource<'a> {
     pub definitions: &'a Definitions,

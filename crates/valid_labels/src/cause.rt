@@ -73,7 +73,7 @@ fn held_places(table: &Table, seen: &SeenLabel<'_>, label: &[u32]) -> u64
     requires seen { seen.now ≡ seen_under table.now label.now }
     ensures { (j : ℕ) → Has result j ↔ Has (held_places_of table.now label.now) j }
 {
-    // The length is read for its contract alone: a table is well-formed.
+    // Only for the proof: the contract of `len` says that a table is well-formed.
     let _entries = table.len();
     let definitions = table.definitions();
     let none: &[Vec<u32>] = &[];
@@ -159,7 +159,7 @@ fn is_misplaced(
     requires inside { place + length entry.now.source ≤ length label.now }
     ensures { result ≡ is_misplaced_by table.now label.now place entry.now }
 {
-    // The length is read for its contract alone: a table is well-formed.
+    // Only for the proof: the contract of `len` says that a table is well-formed.
     let _entries = table.len();
     if entry.is_outside() {
         return false;

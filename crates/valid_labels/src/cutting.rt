@@ -32,7 +32,8 @@ pub fn reached<A: Asking>(table: &Table, sequences: &[Vec<u32>], label: &[u32], 
     reached_over(table, sequences, label, asking, none)
 }
 
-/// The same, where it is known of some places whether one code point leads on from there, and that nothing else does.
+/// The places up to which a label can be cut, as `reached` tells them, where it is known of some places whether one code
+/// point leads on from there, and that nothing else does.
 pub fn reached_over<A: Asking>(
     table: &Table,
     sequences: &[Vec<u32>],
@@ -46,7 +47,7 @@ pub fn reached_over<A: Asking>(
     requires steps { AreSteps (StepIs (A.asks asking.now) table.now.entries (map (λ v. v.items) sequences.now) label.now) (length label.now) steps }
     ensures { (j : _) → Has result j ↔ Rounds (StepIs (A.asks asking.now) table.now.entries (map (λ v. v.items) sequences.now) label.now) 0 j }
 {
-    // The length is read for its contract alone: no source is empty.
+    // Only for the proof: the contract of `len` says that no source is empty.
     let _entries = table.len();
     let mut found = 1;
     for place in 0..label.len() {

@@ -8,7 +8,7 @@ ghost use Rattle.ruleset_text.specs.DemandTrees.{demand};
 ghost use Rattle.valid_labels.specs.Demands.{IsMet};
 ghost use Rattle.valid_labels.specs.inner.Ends.{IsRefusing, IsRefusedAt, NoneRefuses, lesser_of};
 
-use label_patterns::{SeenLabel, first_end, has_no_end, occurs};
+use label_patterns::{SeenLabel, first_end, ignores_end, occurs};
 use ruleset_text::{Demand, DemandKind};
 
 /// Whether a label meets all these demands.
@@ -55,7 +55,7 @@ pub fn refused_end(demands: &[Demand], seen: &SeenLabel) -> Option<usize>
 fn is_refusing(wanted: &Demand) -> bool
     ensures { IsTrue result ↔ IsRefusing (demand wanted.now) }
 {
-    matches!(wanted.kind, DemandKind::Never) && has_no_end(&wanted.pattern)
+    matches!(wanted.kind, DemandKind::Never) && ignores_end(&wanted.pattern)
 }
 
 /// The lesser one of two numbers, each of which may be missing.

@@ -24,8 +24,8 @@ pub fn admitted_are_valid()
     ensures { AdmittedAreValid }
 {}
 
-/// Under a table without conditions and demands a label that is made of sources may be asked about, and what is made
-/// of sources and variants is valid.
+/// Under a table without conditions and demands, as each of version 1 or 2 is, a label that is made of sources may be asked
+/// about, so none is refused as not valid, and what is made of sources and variants is valid.
 pub fn nothing_is_asked()
     ensures { NothingIsAsked }
 {}

@@ -27,7 +27,7 @@ pub fn shortest_lost(
     requires singles { AreSingles (length label.now) pieces.now label.now singles.now }
     ensures { MatchOption result (HasNoLostBeginning pieces.now label.now) (IsShortestLost pieces.now label.now) }
 {
-    pieces.be_sound();
+    pieces.recall_soundness();
     let table = pieces.table();
     let definitions = table.definitions();
     let asking = UnbarredSource { definitions, seen };

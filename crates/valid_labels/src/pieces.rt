@@ -14,13 +14,6 @@ use std::alloc::{AllocError, Global};
 use std::marker::Model;
 use variant_table::{Entry, Table};
 
-/// A code point that is a source with which no other piece begins, and the condition of that source.
-#[derive(Clone, Copy, Debug, PartialEq, Eq)]
-pub struct SinglePoint {
-    pub point: u32,
-    pub condition: Option<Condition>,
-}
-
 /// What is found of a table once: which of its variants are pieces of their own, and how long a piece is.
 #[derive(Drop)]
 pub struct Pieces<'a> {
@@ -45,6 +38,13 @@ impl<'a> Model for Pieces<'a> {
     ghost view = { λ p. p.table.now };
 
     ghost invariant = { λ p. ArePieces p.table.now p.lone.items p.longest };
+}
+
+/// A code point that is a source with which no other piece begins, and the condition of that source.
+#[derive(Clone, Copy, Debug, PartialEq, Eq)]
+pub struct SinglePoint {
+    pub point: u32,
+    pub condition: Option<Condition>,
 }
 
 impl<'a> Pieces<'a> {
@@ -81,7 +81,7 @@ impl<'a> Pieces<'a> {
     pub(crate) fn single(&self, point: u32) -> Option<SinglePoint>
         ensures { MatchOption result (Unit {0}) (λ s. (s.point ≡ point) × IsSingle self.now point s.condition) }
     {
-        // The length is read for its contract alone: no two sources are equal.
+        // Only for the proof: the contract of `len` says that no two sources are equal.
         let _entries = self.table.len();
         let lone: &[Vec<u32>] = &self.lone;
         if one_begins(lone, point) {
@@ -96,8 +96,8 @@ impl<'a> Pieces<'a> {
         }
     }
 
-    /// Reads of the table that it is sound.
-    pub(crate) fn be_sound(&self)
+    /// Does nothing. It is only for the proof: its contract says that the table is sound.
+    pub(crate) fn recall_soundness(&self)
         ensures { IsSound self.now }
     {
         let _entries = self.table.len();
@@ -124,7 +124,7 @@ fn lone_variants(alloc: Global, table: &Table) -> Result<Vec<Vec<u32>>, AllocErr
     Ok(lone)
 }
 
-/// Adds those of an entry.
+/// Adds the variants of an entry that are not made of sources.
 fn add_lone(
     lone: &mut Vec<Vec<u32>>,
     alloc: Global,

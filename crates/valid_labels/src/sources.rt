@@ -35,7 +35,7 @@ pub(crate) fn is_covered(table: &Table, points: &[u32]) -> bool
     requires { length points.now ≤ 63 }
     ensures { result ≡ is_covered_by table.now points.now }
 {
-    // The length is read for its contract alone: a table is well-formed.
+    // Only for the proof: the contract of `len` says that a table is well-formed.
     let _entries = table.len();
     let none: &[Vec<u32>] = &[];
     has(reached(table, none, points, &AnySource), points.len())
@@ -48,7 +48,7 @@ fn inside_places(table: &Table, label: &[u32]) -> u64
     ensures start { Has result 0 }
     ensures made { (j : ℕ) → j ≤ length label.now → (Has result j ↔ IsMadeOfSources table.now (take j label.now)) }
 {
-    // The length is read for its contract alone: a table is well-formed.
+    // Only for the proof: the contract of `len` says that a table is well-formed.
     let _entries = table.len();
     let none: &[Vec<u32>] = &[];
     reached(table, none, label, &InsideSource)

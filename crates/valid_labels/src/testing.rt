@@ -72,14 +72,14 @@ impl<'a> ValidityTest<'a> {
         self.see(label, shared);
         let table = self.points.pieces().table();
         if !is_made_of_sources(table, label) {
-            return Admission::NotMade;
+            return Admission::NotCut;
         }
         let sets = table.definitions().sets();
         let masks: &[u64] = &self.masks;
         if is_admitted(table, sets, label, masks) {
             Admission::Admitted
         } else {
-            Admission::NotValid
+            Admission::NotAdmitted
         }
     }
 

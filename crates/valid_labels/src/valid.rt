@@ -46,7 +46,7 @@ pub fn validity(
     requires singles { AreSingles (length label.now) pieces.now label.now singles.now }
     ensures { IsValidity pieces.now label.now result }
 {
-    pieces.be_sound();
+    pieces.recall_soundness();
     let seen = SeenLabel::of_masks(sets, label, masks);
     if is_valid(pieces, &seen, label, singles) {
         return Validity::Valid;

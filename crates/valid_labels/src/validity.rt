@@ -3,10 +3,10 @@
 /// Whether a label may be asked about.
 #[derive(Clone, Copy, Debug, PartialEq, Eq)]
 pub enum Admission {
-    /// It isn't made of sources of the table.
-    NotMade,
-    /// It is made of sources, but not of such whose conditions hold, or it breaks a demand.
-    NotValid,
+    /// It can't be cut into sources of the table, whatever their conditions. Outside sources don't count.
+    NotCut,
+    /// It can be cut into sources, but not so that their conditions hold; or it breaks a demand.
+    NotAdmitted,
     /// It may be asked about.
     Admitted,
 }
@@ -18,6 +18,6 @@ pub enum Validity {
     Lost(usize),
     /// It is valid.
     Valid,
-    /// It isn't, but has no lost beginning.
+    /// It isn't valid, but has no lost beginning.
     NotValid,
 }

@@ -29,8 +29,8 @@ impl Model for NetDraft {
 }
 
 impl NetDraft {
-    /// Only the end of a label of so many code points. Memory for its places is taken at once, which is much faster than
-    /// by and by.
+    /// A net with only the end of a label of so many code points. Memory for its places is taken at once, which is much
+    /// faster than little by little.
     pub(crate) fn new(alloc: Global, count: usize) -> Result<NetDraft, AllocError>
         ensures { IfOk result (IsLaid []) }
     {

@@ -9,13 +9,13 @@ use crate::verdict::Verdict;
 use std::alloc::{AllocError, Global};
 
 /// A test of labels that keeps what it found out of the last one. It is called for one label after another, and is told
-/// how much both share at their start. What it keeps does not change which labels are accepted and which lists are
+/// how much both share at their start. What it keeps does not change which labels are accepted and which beginnings are
 /// hopeless. So a listing gives the same labels whenever it is resumed.
 pub trait Judge {
     /// Which labels are accepted.
     ghost accepted: { Self → List ℕ → Bool };
 
-    /// Which lists are hopeless: no accepted label begins with one.
+    /// Which beginnings are hopeless: no accepted label begins with one.
     ghost lost: { Self → List ℕ → Bool };
 
     /// What the judge, once it accepted a label, tells of it.
@@ -40,7 +40,7 @@ pub trait Judge {
         ensures same_labels { accepted self.new ≡ accepted self.old }
         ensures same_beginnings { lost self.new ≡ lost self.old };
 
-    /// No accepted label begins with a hopeless list.
+    /// No accepted label begins with a hopeless beginning.
     ghost lost_for_good: { (judge : Self) (w z : List ℕ) → IsTrue (lost judge w) → accepted judge (w ++ z) ≡ false };
 }
 

@@ -3,11 +3,11 @@
 /// Which replacements of a table's entries may stand in the place of their sources.
 #[derive(Clone, Copy, PartialEq, Eq, Debug)]
 pub enum Part {
-    /// All of them.
+    /// All replacements.
     Whole,
-    /// Those that are not blocked. A source is not, as a replacement of itself.
+    /// The replacements that are not blocked. A source never is, as a replacement of itself.
     Unblocked,
-    /// The sub-table of the tag of this number: those that are not blocked, and have this tag or none. So a source that
-    /// has other tags alone does not stand for itself.
+    /// The sub-table of the tag of this number: the replacements that are not blocked, and have this tag or none. So a
+    /// source that has other tags alone does not stand for itself.
     Tagged(u8),
 }

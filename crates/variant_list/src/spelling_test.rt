@@ -36,8 +36,8 @@ impl SpellingTest {
         })
     }
 
-    /// Whether the label of the net spells this one, of any length. Takes no memory. It stands apart, so that variants
-    /// without a disposition don't make room for it.
+    /// Whether the label of the net spells this one, of any length. Takes no memory. Not inlined, so that variants
+    /// without a disposition need no stack space for it.
     #[inline(never)]
     pub fn spells(&mut self, label: &[u32]) -> bool
         ensures spelled { IsTrue result ↔ Contains self.old.spelled label.now }

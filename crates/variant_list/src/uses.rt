@@ -28,7 +28,7 @@ pub(crate) fn lay_out<'a>(
     ensures net { IfOk result (IsNetOf (uses_of part table.now label.now)) }
     ensures well_formed { IsWellFormed table.now.entries }
 {
-    // The length is read for its contract alone: a table is well-formed, so no source is empty.
+    // Only for the proof: the contract of `len` says that a table is well-formed, so no source is empty.
     let _entries = table.len();
     if !table.has_conditions() {
         let seen = None;

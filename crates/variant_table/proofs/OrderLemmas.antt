@@ -1,19 +1,20 @@
 -- The order of a table's sources.
-use Rattle.std.proofs.Common.{◌≡◌, inl, inr, ℕ, zero, suc, ◌+◌, ◌-◌, ◌<◌, ◌≤◌, Bool, true, false, ◌||◌, ◌&&◌, cond, List, [], ◌∷◌, ◌++◌, length, get_or, Option, Some, None, refl, sym, ap, subst, ◌∙◌, arith, add-one, length-append}
+use Rattle.std.proofs.Common.{◌≡◌, inl, inr, ℕ, zero, suc, ◌+◌, ◌-◌, ◌<◌, ◌≤◌, Bool, true, false, ◌||◌, ◌&&◌, cond, List, [], ◌∷◌, ◌++◌, length, take, drop, get_or, Option, Some, None, refl, sym, ap, subst, ◌∙◌, arith, add-one, length-append}
 use Rattle.std.specs.Prelude.{bytes_eq, nat_eq, nat_lt, slice_get, find, is_some, IsPermutation}
 use Rattle.std.specs.Ordering.{nat_cmp, ordering_reverse, ordering_then}
 use Rattle.std.specs.declared.cmp.Ordering.{Ordering}
 use Rattle.std.specs.declared.cmp.Ordering.TheVariants.{Less, Equal, Greater}
 use Rattle.std.specs.Cmp.Lexicographic.{slice_cmp, pointwise}
 use Rattle.std.specs.List.{AllByRecursion, AllPairs, Contains, insert, list_any, range_with_len, starts_with}
-use Rattle.std.proofs.lemmas.Bool.{cases_lt, cases_order, lt-ltb}
+use Rattle.std.proofs.lemmas.Bool.{cases_lt, cases_order, lt-ltb, ltb-true}
 use Rattle.std.proofs.lemmas.Bool.Decides.{nat_tests}
 use Rattle.std.proofs.Math.Seq.{take-append_seam}
 use Rattle.std.proofs.lemmas.Cmp.{nat_cmp_total, nat_list_cmp_total, nat_list_eq_equiv, tied_itself}
-use Rattle.std.proofs.lemmas.List.{get_or_default, get_or-append_right, get_or_append_left}
+use Rattle.std.proofs.lemmas.List.{append-nil, get_or_default, get_or-append_right, get_or_append_left, take-append-drop}
 use Rattle.std.proofs.lemmas.List.Edits.{length-insert, get_or-insert_at, get_or-insert_below, get_or-insert_above}
 use Rattle.std.proofs.lemmas.List.Elements.{All-get_or, All-from_recursion}
 use Rattle.std.proofs.lemmas.List.FromFn.{length-range_with_len, get_or-range_with_len}
+use Rattle.std.proofs.lemmas.Slice.Eq.{bytes_eq-Decides}
 use Rattle.std.proofs.lemmas.List.Sorted.{All-permutation, Contains-permutation, length_permutation, IsPermutation-insert, IsPermutation-push_more}
 use Rattle.variant_table.specs.Entries.{Entry, entry_from}
 use Rattle.variant_table.specs.Conditions.{has_source_in}
@@ -195,6 +196,41 @@ no_longer-found table order place s h l is = no_longer table order h s (place + 
 -- at the place where it would stand
 pub no_longer-gap : (table : List Entry) (order : List ℕ) (place : ℕ) (s : List ℕ) → IsOrderOf table order → IsGapFor table order s place → begins_at table order place s ≡ false → HasNoLonger table s
 no_longer-gap table order place s h gap = no_longer table order h s place (λ i l less. both_less (source_at table order i) s (gap.before i l) less) (λ l. flipped (source_at table order place) s (gap.after place (omega arith) l))
+
+-- a source that begins with the sequence and is another one is longer
+pub longer-there : (table : List Entry) (order : List ℕ) (place : ℕ) (s : List ℕ) → IsOrderOf table order → begins_at table order place s ≡ true → (source_at table order place ≡ s → ⊥) → HasNoLonger table s → ⊥
+longer-there table order place s h begun other none =
+    let parts = both_true (nat_lt place (length order)) (starts_with nat_eq (source_at table order place) s) begun in
+    let within : place < length order = ltb-true place (length order) parts.0 in
+    let n : ℕ = get_or order place 0 in
+    let l = number_below table order h place within in
+    let e : Entry = get_or table n (entry_from []) in
+    let rest : List ℕ = drop (length s) e.source in
+    by_rest e (n, l, get_or_default table n e (entry_from []) l) other rest (sym (take-append-drop (length s) e.source) ∙ ap (λ t. t ++ rest) (sym ((bytes_eq-Decides s (take (length s) e.source)).0 parts.1)))
+  where
+    both_true : (a b : Bool) → (a && b) ≡ true → (a ≡ true) × (b ≡ true)
+    both_true true b e = (refl, e)
+    both_true false b e = absurd (let clash : false ≡ true = e in cc)
+
+    by_rest : (e : Entry) → Contains table e → (e.source ≡ s → ⊥) → (r : List ℕ) → e.source ≡ s ++ r → ⊥
+    by_rest e in_table differs [] is = differs (is ∙ append-nil s)
+    by_rest e in_table differs (c ∷ r) is = none e c r in_table is
+
+-- after the place where the sequence stands
+pub longer-found : (table : List Entry) (order : List ℕ) (place : ℕ) (s : List ℕ) → IsOrderOf table order → source_at table order place ≡ s → begins_at table order (place + 1) s ≡ true → HasNoLonger table s → ⊥
+longer-found table order place s h is begun = longer-there table order (place + 1) s h begun (λ same. not_less (source_at table order place) (source_at table order (place + 1)) (is ∙ sym same) (h.rising place (place + 1) (omega arith) (within (nat_lt (place + 1) (length order)) (starts_with nat_eq (source_at table order (place + 1)) s) refl begun)))
+  where
+    within : (a b : Bool) → nat_lt (place + 1) (length order) ≡ a → (a && b) ≡ true → place + 1 < length order
+    within true b e both = ltb-true (place + 1) (length order) e
+    within false b e both = absurd (let clash : false ≡ true = both in cc)
+
+-- at the place where it would stand
+pub longer-gap : (table : List Entry) (order : List ℕ) (place : ℕ) (s : List ℕ) → IsOrderOf table order → IsGapFor table order s place → begins_at table order place s ≡ true → HasNoLonger table s → ⊥
+longer-gap table order place s h gap begun = longer-there table order place s h begun (λ same. not_greater (source_at table order place) s same (gap.after place (omega arith) (within (nat_lt place (length order)) (starts_with nat_eq (source_at table order place) s) refl begun)))
+  where
+    within : (a b : Bool) → nat_lt place (length order) ≡ a → (a && b) ≡ true → place < length order
+    within true b e both = ltb-true place (length order) e
+    within false b e both = absurd (let clash : false ≡ true = both in cc)
 
 -- ---- whether a source is known
 

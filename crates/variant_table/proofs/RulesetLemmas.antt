@@ -16,8 +16,9 @@ use Rattle.ruleset_text.specs.Definitions.{Definitions, nothing_defined}
 use Rattle.ruleset_text.specs.Lexemes.{lexemes}
 use Rattle.variant_table.specs.DefinitionLines.{keyword_in, Defines}
 use Rattle.variant_table.specs.Entries.{Entry, TableValue, empty_table, table_of}
-use Rattle.variant_table.specs.Canonical.{canonical_text, head_text, version_line}
+use Rattle.variant_table.specs.Canonical.{canonical_text, head_text, table_text, version_line}
 use Rattle.variant_table.specs.Conditions.{is_too_long}
+use Rattle.variant_table.specs.Limits.{text_limit}
 use Rattle.variant_table.specs.WellFormed.{IsTable}
 use Rattle.variant_table.specs.Texts.{LineSpells, LineAdds, LinesSpell, IsTextOf}
 use Rattle.variant_table.specs.Versions.{version_of, is_version_line}
@@ -122,3 +123,17 @@ begins_ruleset (line ∷ lines) v table named e = by_cases (is_version_line Rule
 
 pub not_both_notations : (text : List ℕ) (a b : TableValue) → IsTextOf Table text a → IsTextOf Ruleset text b → ⊥
 not_both_notations text a b h g = begins_ruleset (raw_lines text) b.version a g.version (text_read Table text a h)
+
+-- ---- a ruleset is of version 3
+
+ruleset-version : (lines : List (List ℕ)) (v : Version) → version_of Ruleset lines ≡ Some v → v ≡ Three
+ruleset-version [] v named = absurd (no_version v named)
+ruleset-version (line ∷ lines) v named = by_cases (is_version_line Ruleset line) refl
+  where
+    by_cases : (b : Bool) → is_version_line Ruleset line ≡ b → v ≡ Three
+    by_cases true h = let e : Some Three ≡ Some v = sym (ap (λ b. cond b (Some Three) None) h) ∙ named in cc
+    by_cases false h = absurd (no_version v (sym (ap (λ b. cond b (Some Three) None) h) ∙ named))
+
+pub ruleset-within : (text : List ℕ) (table : TableValue) → IsTextOf Ruleset text table → length (table_text table.version table.definitions table.entries) ≤ 8388608
+ruleset-within text table is =
+    subst (λ v. length (table_text table.version table.definitions table.entries) ≤ text_limit v) (ruleset-version (raw_lines text) table.version is.version) is.lines.well_formed.short

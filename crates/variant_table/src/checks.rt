@@ -39,7 +39,7 @@ pub fn has_bad_class(alloc: Global, sequences: &Sequences) -> Result<bool, Alloc
     Ok(false)
 }
 
-/// Whether one of `count` code points, from `first` on, has such a class.
+/// Whether one of `count` code points, from `first` on, has a class that no table may hold.
 pub fn has_bad_class_in(alloc: Global, first: u32, count: usize) -> Result<bool, AllocError>
     requires { first + count ≤ 2 ^ 32 }
     ensures { IfOk result (λ bad. (v : Variant) → bad ≡ list_any conditions.has_bad_class (map (entry_in_range v) (range_with_len first count))) }
@@ -52,7 +52,7 @@ pub fn has_bad_class_in(alloc: Global, first: u32, count: usize) -> Result<bool,
     Ok(false)
 }
 
-/// Whether a code point of the sequence has such a class.
+/// Whether a code point of the sequence has a class that no table may hold.
 fn has_bad_point(alloc: Global, sequence: &[u32]) -> Result<bool, AllocError>
     ensures { IfOk result (λ bad. bad ≡ conditions.has_bad_point sequence.now) }
 {
@@ -70,7 +70,8 @@ fn is_table_class(class: Class) -> bool
     matches!(class, Class::Pvalid | Class::Contextj | Class::Contexto)
 }
 
-/// Whether a variant is equal to the source; or two variants are equal, unless each has a condition of its own.
+/// Whether a variant is equal to the source; or two variants are equal, unless both have a condition and the two
+/// conditions differ.
 pub fn has_repeat(sequences: &Sequences) -> bool
     requires { 0 < length sequences.now }
     ensures { result ≡ conditions.has_repeat (entry_from sequences.now) }
@@ -93,7 +94,7 @@ pub fn has_repeat(sequences: &Sequences) -> bool
 }
 
 /// Whether a sequence with this condition occurs again at the number `start` or after it.
-// It is asked for each entry, so it stands in line.
+// Always inline, since it is asked for each entry.
 #[inline(always)]
 fn occurs_from(
     sequences: &Sequences,
@@ -111,7 +112,7 @@ fn occurs_from(
     false
 }
 
-/// Whether the variant of this number has the sequence, and they haven't each a condition of its own.
+/// Whether the variant of this number has the sequence, unless both have a condition and the two conditions differ.
 fn is_again(
     sequences: &Sequences,
     number: usize,

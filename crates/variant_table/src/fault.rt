@@ -16,10 +16,10 @@ pub enum TableFault {
     /// A source that an earlier entry has.
     #[error("source given twice")]
     SameSource { line: u64 },
-    /// Two equal variants, or a variant equal to its source.
+    /// Two equal variants, unless each has a condition and the two conditions differ; or a variant equal to its source.
     #[error("variant given twice")]
     SameVariant { line: u64 },
-    /// A set that no earlier line defines.
+    /// A tag, a set or a rule is named that no earlier line defines.
     #[error("name not defined")]
     NoSuchName { line: u64 },
     /// A tag, a set or a rule with the name of an earlier one.

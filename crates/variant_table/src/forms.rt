@@ -56,7 +56,7 @@ fn is_plain(mapped: &Mapped) -> bool
     mapped.tags.is_empty() && mapped.condition.is_none()
 }
 
-/// Whether it has no `!` either.
+/// Whether a source or a variant has no `!`, no tags and no condition.
 fn is_bare(mapped: &Mapped) -> bool
     ensures { result ≡ forms.is_bare (held.mapped mapped.now) }
 {
@@ -95,7 +95,7 @@ pub fn take_sequences(
 }
 
 /// Adds the sequence of a source or a variant, if each tag and the rule that it names are defined.
-// It is called for each sequence that is read, so it stands in line, with all that it calls.
+// Always inline, with all that it calls, since it is called for each sequence that is read.
 #[inline(always)]
 fn take_sequence(
     sequences: &mut Sequences,

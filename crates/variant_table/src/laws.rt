@@ -20,6 +20,7 @@ ghost use Rattle.variant_table.specs.declared.version.Notation.{Notation};
 ghost use Rattle.variant_table.specs.declared.version.Notation.TheVariants as notations;
 ghost use Rattle.variant_table.specs.declared.version.Version.TheVariants as versions;
 ghost use Rattle.variant_table.specs.Gaps.{AreGapsOf, gaps_of};
+ghost use Rattle.variant_table.specs.Limits.{text_limit};
 ghost use Rattle.variant_table.specs.Places.{entries_at};
 ghost use Rattle.variant_table.specs.Faults as faults;
 ghost use Rattle.variant_table.specs.WellFormed.{IsEntry, IsNamed, IsWellFormed, IsTable};
@@ -78,12 +79,16 @@ pub fn canonical_text_is_read_back()
 {}
 
 /// The canonical text of a table of version 1 is at most as long as any text that spells the table, a
-/// line feed added where the last line has none. A canonical line has at most 951 bytes in version 1, 967 in
-/// version 2, and in version 3 968 without tags and conditions, 6,170 with them.
+/// line feed added where the last line has none. In each version it is within the limit of a text, that of a ruleset
+/// within 8 MiB. A canonical line has at most 951 bytes in version 1, 967 in version 2, and in version 3 968 without tags
+/// and conditions, 6,170 with them.
 pub fn canonical_text_is_never_longer()
     ensures text { (notation : Notation) (text : List ℕ) (table : TableValue) →
         IsTextOf notation text table → table.version ≡ versions.One →
         length (table_text table.version table.definitions table.entries) ≤ size_of (raw_lines text) }
+    ensures limit { (table : TableValue) → IsTable table → length (table_text table.version table.definitions table.entries) ≤ text_limit table.version }
+    ensures ruleset { (text : List ℕ) (table : TableValue) → IsTextOf notations.Ruleset text table →
+        length (table_text table.version table.definitions table.entries) ≤ 8388608 }
     ensures line { (d : Definitions) (e : Entry) → IsEntry e → IsOfVersion versions.One e → length (canonical_line d e) ≤ 951 }
     ensures blocked { (d : Definitions) (e : Entry) → IsEntry e → IsOfVersion versions.Two e → length (canonical_line d e) ≤ 967 }
     ensures marked { (d : Definitions) (e : Entry) → IsEntry e → All IsPlain (whole e) → length (canonical_line d e) ≤ 968 }
@@ -160,7 +165,8 @@ pub fn definitions_compute_the_examples_of_version_2()
     ensures limit { table_of_text notations.Table (codes "%version 2" ++ 10 ∷ codes "4E00..5E00") ≡ Err (2, faults.Limit) }
 {}
 
-/// Examples of rulesets: which first line they have, what they have of version 2, and what they define.
+/// Examples of rulesets: which first line they have, what they have of version 2 and what it has not, what they define,
+/// and their gaps.
 pub fn definitions_compute_the_examples_of_rulesets()
     ensures empty { table_of_text notations.Ruleset [] ≡ Err (1, faults.Syntax) }
     ensures unnamed { table_of_text notations.Ruleset (codes "0061") ≡ Err (1, faults.Syntax) }
@@ -190,4 +196,13 @@ pub fn definitions_compute_the_examples_of_rulesets()
         ≡ codes "%version 3" ++ 10 ∷ codes "0061" ++ 10 ∷ codes "0078|!0079" ++ 10 ∷ [] }
     ensures marked { table_text versions.Three nothing_defined (entry_from (plain_variant true (0x61 ∷ 0x62 ∷ []) ∷ point_variant true 0x63 ∷ []) ∷ [])
         ≡ codes "%version 3" ++ 10 ∷ codes "!0061-0062|!0063" ++ 10 ∷ [] }
+    ensures outside_gaps { gaps_of (entry_from (point_variant false 0x61 ∷ point_variant true 0x430 ∷ []) ∷ point_entry false 0x62 ∷ entry_from (point_variant true 0x430 ∷ point_variant true 0x61 ∷ []) ∷ []) ≡ [] }
+    ensures without_outside { gaps_of (entry_from (point_variant false 0x61 ∷ point_variant true 0x430 ∷ []) ∷ point_entry false 0x62 ∷ []) ≡ (0x430 ∷ [], 0x61 ∷ []) ∷ [] }
+    ensures conditional_gaps { gaps_of (entry_from (point_variant false 0x3C3 ∷ conditional 0x3C2 false (Some (kinds.When, 0)) ∷ []) ∷ entry_from (point_variant false 0x3C2 ∷ point_variant false 0x3C3 ∷ []) ∷ []) ≡ [] }
+    ensures without_reverse { gaps_of (entry_from (point_variant false 0x647 ∷ conditional 0x629 true (Some (kinds.Unless, 0)) ∷ conditional 0x629 false (Some (kinds.When, 0)) ∷ []) ∷ point_entry false 0x629 ∷ []) ≡ (0x629 ∷ [], 0x647 ∷ []) ∷ [] }
+    ensures tagged_gaps { gaps_of (entry_from (tagged 0x56FD (0 ∷ []) ∷ tagged 0x570B (1 ∷ []) ∷ []) ∷ entry_from (tagged 0x570B (1 ∷ []) ∷ tagged 0x56FD (0 ∷ []) ∷ []) ∷ []) ≡ [] }
+    ensures condition_in_version_2 { table_of_text notations.Table (codes "%version 2" ++ 10 ∷ codes "0061 when r") ≡ Err (2, faults.Syntax) }
+    ensures tag_in_version_2 { table_of_text notations.Table (codes "%version 2" ++ 10 ∷ codes "0061 as t") ≡ Err (2, faults.Syntax) }
+    ensures demand_in_version_2 { table_of_text notations.Table (codes "%version 2" ++ 10 ∷ codes "%never 0061") ≡ Err (2, faults.Syntax) }
+    ensures capital { table_of_text notations.Ruleset (codes "%version 3" ++ 10 ∷ codes "%Set C 0061") ≡ Err (2, faults.Syntax) }
 {}

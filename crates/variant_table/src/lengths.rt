@@ -27,7 +27,8 @@ pub fn left_after_entry(version: Version, entry: &[Mapped], left: usize) -> Opti
     }
 }
 
-/// The same where the canonical text is limited.
+/// How many of `left` bytes are left after the canonical line of a source and its variants, where the canonical text is
+/// limited: none if they are too few.
 fn left_after_line(entry: &[Mapped], left: usize) -> Option<usize>
     requires some { 0 < length entry.now }
     requires filled { HasNoEmptySequence (map form_of entry.now) }
@@ -51,7 +52,7 @@ fn left_after_mapped(mapped: &Mapped, left: usize) -> Option<usize>
     left_after_names(mapped, rest)
 }
 
-/// How many bytes are left after its tags and its condition.
+/// How many bytes are left after the tags and the condition of a source or a variant.
 fn left_after_names(mapped: &Mapped, left: usize) -> Option<usize>
     ensures { IsLeft left (length (tags_text (form_of mapped.now).tags ++ condition_text (form_of mapped.now).condition)) result }
 {
@@ -136,7 +137,8 @@ pub fn left_after_range(
     }
 }
 
-/// The same where the canonical text is limited.
+/// How many of `left` bytes are left after the canonical lines of a range, where the canonical text is limited: none if
+/// they are too few.
 fn left_after_points(source: &Mapped, first: u32, count: usize, left: usize) -> Option<usize>
     requires last { first + count ≤ 2 ^ 32 }
     ensures { IsLeft left (length (written_text (map (λ c. with_point (form_of source.now) c ∷ []) (range_with_len first count)))) result }

@@ -1,5 +1,5 @@
 //! Entries with different sources, and the order of their sources.
-ghost use Rattle.std.specs.Prelude.{◌≡◌, ◌<◌, ◌^◌, [], length, slice_get, Some, IfOk, OnErr, false};
+ghost use Rattle.std.specs.Prelude.{◌≡◌, ◌↔◌, ◌<◌, ◌^◌, [], length, slice_get, Some, IfOk, OnErr, false};
 ghost use Rattle.variant_table.specs.Entries.{unblocked, entry_from};
 ghost use Rattle.variant_table.specs.inner.Order.{IsOrderOf, IsPlaceFor, begins_at as begins_at_place, HasNoLonger};
 ghost use Rattle.variant_table.specs.Places.{entry_with};
@@ -63,10 +63,10 @@ impl OrderedEntries {
         self.look_up(source).entry
     }
 
-    /// The entry with this source, and whether a longer source may begin with it.
+    /// The entry with this source, and whether a longer source begins with it.
     pub fn look_up(&self, source: &[u32]) -> LookUp<'_>
         ensures entry { result.entry ≡ entry_with self.now source.now }
-        ensures longer { result.has_longer ≡ false → HasNoLonger self.now source.now }
+        ensures longer { (result.has_longer ≡ false) ↔ HasNoLonger self.now source.now }
     {
         match search(&self.entries, &self.order, source) {
             SourcePlace::Found(place) => LookUp {
@@ -114,7 +114,7 @@ impl OrderedEntries {
 pub struct LookUp<'a> {
     /// The entry whose source it is.
     pub entry: Option<Entry<'a>>,
-    /// Whether a longer source may begin with it. If this is false, none does.
+    /// Whether a longer source begins with it.
     pub has_longer: bool,
 }
 

@@ -70,7 +70,7 @@ struct Reader {
 }
 
 impl Reader {
-    /// Nothing yet, of a text of this version.
+    /// A reader that has read nothing yet, of a text of this version.
     fn new(alloc: Global, version: Version) -> Self
         ensures version { result.version ≡ version }
         ensures definitions { result.definitions ≡ nothing_defined }

@@ -49,7 +49,7 @@ impl Tags {
         &self.numbers[..self.count as usize]
     }
 
-    /// These numbers, at most 8.
+    /// The tags of these numbers, at most 8.
     pub fn of(numbers: &[u8]) -> Self
         requires { length numbers.now ≤ 8 }
         ensures { result ≡ numbers.now }

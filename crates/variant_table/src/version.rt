@@ -8,8 +8,8 @@ ghost use Rattle.variant_table.specs.Versions.{version_number};
 
 use idn_text::{TextLines, without_carriage_return};
 
-/// Version 2 adds ranges of code points and blocked variants to version 1. Version 3, that of a ruleset,
-/// adds larger limits, outside sources and definitions.
+/// Version 2 adds ranges of code points and blocked variants to version 1. Version 3, that of a ruleset, adds sources
+/// that are outside, conditions, tags and definitions, and has larger limits.
 #[derive(Clone, Copy, Debug, PartialEq, Eq)]
 pub enum Version {
     One,
@@ -99,7 +99,7 @@ impl Notation {
         }
     }
 
-    /// The version of a text with such a line.
+    /// The version of a text that begins with the version line.
     fn version_named(self) -> Version
         ensures { result ≡ versions.version_named self }
     {
@@ -109,7 +109,7 @@ impl Notation {
         }
     }
 
-    /// The version of a text without such a line, if it has one.
+    /// The version of a text that does not begin with the version line, if it has one.
     fn version_unnamed(self) -> Option<Version>
         ensures { result ≡ versions.version_unnamed self }
     {

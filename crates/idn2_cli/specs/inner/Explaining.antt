@@ -1,5 +1,5 @@
 -- How a mode explains, as the definitions have it.
-use Rattle.idn2_cli.specs.Explained.{Explained, Unexplained, ByLabel, ByName, ByQuery, ByTable, ByRequest, ByTest}
+use Rattle.idn2_cli.specs.Explained.{Explained, Unexplained, ByLabel, ByName, ByQuery, ByTable, ByRequest, ByRegisteredLine}
 use Rattle.idn2_cli.specs.declared.refusals.cause.Explaining.{Explaining}
 use Rattle.idn2_cli.specs.declared.refusals.cause.Explaining.TheVariants as by
 
@@ -8,6 +8,6 @@ explained_by by.Nothing = Unexplained
 explained_by by.Label = ByLabel
 explained_by by.Name = ByName
 explained_by (by.Query std3) = ByQuery std3
-explained_by (by.Sources table) = ByTable table.now
+explained_by (by.Table table) = ByTable table.now
 explained_by (by.Request table) = ByRequest table.now
-explained_by by.Test = ByTest
+explained_by by.RegisteredLine = ByRegisteredLine

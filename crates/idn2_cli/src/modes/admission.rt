@@ -63,8 +63,8 @@ pub(crate) fn admitted_net(
     match validity {
         None => {}
         Some(test) => match test.admission(label, 0) {
-            Admission::NotMade => return Err(Refusal::NotInTable),
-            Admission::NotValid => return Err(Refusal::NotValid),
+            Admission::NotCut => return Err(Refusal::NotInTable),
+            Admission::NotAdmitted => return Err(Refusal::NotValid),
             Admission::Admitted => test.forget(),
         },
     }

@@ -14,14 +14,14 @@ use variant_table::Table;
 /// The sub-tables of a table: the replacements of each may come together in a variant that may be allocated.
 #[derive(Clone, Copy)]
 pub(crate) enum SubTables {
-    /// One, of all that is not blocked: the table has no tags.
+    /// One sub-table, of all that is not blocked: the table has no tags.
     Unblocked,
-    /// One for each of so many tags.
+    /// One sub-table for each of so many tags.
     OfTags(u8),
 }
 
 impl SubTables {
-    /// Those of a table.
+    /// The sub-tables of a table.
     pub fn of_table(table: &Table) -> Self
         ensures { AreSubTablesOf table.now result }
     {
@@ -58,8 +58,8 @@ impl Model for Allocations {
 }
 
 impl Allocations {
-    /// Those of a label that has a segmentation, under the sub-tables of the table. It takes the memory for all of its
-    /// variants.
+    /// What tells which variants may be allocated, of a label that has a segmentation, under the sub-tables of the
+    /// table. It takes the memory for all of its variants.
     pub fn of_label(
         alloc: Global,
         table: &Table,
@@ -78,7 +78,7 @@ impl Allocations {
         }
     }
 
-    /// Those of a label under a table without tags.
+    /// What tells which variants of a label may be allocated, under a table without tags.
     fn of_unblocked(alloc: Global, table: &Table, label: &[u32]) -> Result<Allocations, AllocError>
         requires some { 1 ≤ length label.now }
         requires short { length label.now ≤ 63 }
@@ -97,8 +97,8 @@ impl Allocations {
         }
     }
 
-    /// Those of a label under a table with so many tags. Its sources may have tags that don't go together, so it need not
-    /// spell itself under a sub-table.
+    /// What tells which variants of a label may be allocated, under a table with so many tags. Its sources may have
+    /// tags that don't go together, so it need not spell itself under a sub-table.
     fn of_tags(
         alloc: Global,
         table: &Table,

@@ -27,11 +27,11 @@ use std::alloc::Global;
 /// What became of a line. Two bytes are enough for it, so it is handed back in registers.
 #[derive(Clone, Copy)]
 pub(crate) enum Served {
-    /// It was answered.
+    /// The line was answered.
     Answered,
     /// The run stops.
     Stopped(Stop),
-    /// It is refused, and nothing was written.
+    /// The line is refused, and nothing was written.
     Refused(Refusal),
 }
 
@@ -106,9 +106,9 @@ fn stopped(why: Stop) -> Served
 /// What one text says of a name.
 #[derive(Clone, Copy)]
 pub(crate) enum Kind {
-    /// What it is in a query.
+    /// What the name is in a query.
     LookedUp,
-    /// What it is decoded to.
+    /// What the name is decoded to.
     Decoded,
 }
 
@@ -134,9 +134,9 @@ pub(crate) fn reply<W: Sink, E: Sink>(
     }
 }
 
-/// Writes the object of such an answer.
+/// Writes the object that says what one text says of a name.
 ///
-/// It stands apart: a line that is answered by a text makes no room for an object.
+/// Not inlined: a line that is answered by a text needs no stack space for an object.
 #[inline(never)]
 fn write_object_of<W: Sink, E: Sink>(
     asked: Asked<'_>,

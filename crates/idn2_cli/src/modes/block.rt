@@ -43,7 +43,8 @@ use std::alloc::{AllocError, Global};
 use valid_labels::{Validity, ValidityTest};
 use variant_list::{Cursor, Judge, Net, Outcome, Verdict};
 
-/// Writes the block of a net's label, with all its variants. They are tested for being valid, too, where there is a test.
+/// Writes the block of a net's label: its variants up to the stop, and the trailer. They are tested for being valid,
+/// too, where there is a test.
 pub(crate) fn write_block<W: Sink, E: Sink>(
     alloc: Global,
     asked: &Asked<'_>,
@@ -63,7 +64,7 @@ pub(crate) fn write_block<W: Sink, E: Sink>(
         console.old console.new result }
 {
     let mut cursor = Cursor::new(alloc, net, &options.after)?;
-    let mut judge = Registrable {
+    let mut judge = VariantJudge {
         beginnings: KeptBeginnings::new(),
         test: KeptALabel::new(),
         line: KeptLine::new(),
@@ -105,14 +106,14 @@ pub(crate) fn write_block<W: Sink, E: Sink>(
 /// Only labels that may be registered are listed (RFC 5891 section 4.2), and under a ruleset only valid ones (RFC 7940
 /// section 8). What a label shares at its start with the one before is neither tested nor taken apart nor written again.
 #[derive(Drop)]
-struct Registrable<'p> {
+struct VariantJudge<'p> {
     beginnings: KeptBeginnings,
     test: KeptALabel,
     line: KeptLine,
     validity: Option<ValidityTest<'p>>,
 }
 
-impl<'p> Judge for Registrable<'p> {
+impl<'p> Judge for VariantJudge<'p> {
     ghost accepted = { λ judge label. (filter_by (ruling_in judge.validity)).accepts label };
 
     ghost lost = { λ judge label. (filter_by (ruling_in judge.validity)).hopeless label };
@@ -125,7 +126,7 @@ impl<'p> Judge for Registrable<'p> {
 
     ghost lost_for_good = { λ judge w z lost. none_accepted (ruling_in judge.validity) w z lost };
 
-    /// It takes no memory for a label of which the test needs none.
+    /// Judges a label. It takes no memory for one of which the test needs none.
     fn judge(&mut self, alloc: Global, label: &[u32], shared: usize) -> Result<Verdict, AllocError>
         requires short { length label.now ≤ 63 }
         requires kept { IsKeptOf (λ v. AreKnown v self.old.beginnings × IsTakenApart v self.old.test × IsBegun v self.old.line × KeepsOf v self.old.validity) shared label.now }
@@ -195,7 +196,7 @@ pub(crate) fn write_variant<W: Sink, E: Sink>(
     }
 }
 
-/// Writes them as a line, with the disposition as its third field.
+/// Writes a variant and its A-label as a line, with the disposition as its third field.
 #[inline(always)]
 fn write_variant_line<W: Sink, E: Sink>(
     label: &[u32],

@@ -54,7 +54,7 @@ pub(crate) trait PointAnswering {
         ensures begun { StopsForMemory (goes_on self.now points.now) console.old console.new (result_of result) };
 }
 
-/// A mode that is handed them, as one that is handed bytes.
+/// Turns a mode that is handed the code points of a line into one that is handed its bytes.
 #[derive(Drop)]
 pub(crate) struct ByPoints<'m, M: PointAnswering> {
     pub mode: &'m M,

@@ -55,7 +55,7 @@ pub(crate) fn write_collisions<W: Sink, E: Sink>(
     'collisions: while let Some(shared) = search.advance() {
         line.keep(shared);
         let label = search.label();
-        // A variant that isn't valid is none, though it be registered.
+        // A label that isn't valid is no variant, even if it is registered.
         if !is_valid_by(&mut validity, label, shared) {
             continue;
         }

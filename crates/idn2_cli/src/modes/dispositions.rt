@@ -36,8 +36,8 @@ impl Dispositions<SubTables> {
         Dispositions::BySpelling(SubTables::of_table(table))
     }
 
-    /// What tells those of the variants of a label that can be cut into sources of the table. It takes the memory for
-    /// all of them.
+    /// What tells the dispositions of the variants of a label that can be cut into sources of the table. It takes the
+    /// memory for all of them.
     pub fn of_label(
         &self,
         alloc: Global,

@@ -66,7 +66,7 @@ impl<'t, 'p> PointAnswering for Jumps<'t, 'p> {
     }
 }
 
-/// Answers the least label from a text on that a label spells, which may be registered.
+/// Answers a request whose label may be registered, by the least label from the text on that it spells.
 fn answer_least<W: Sink, E: Sink>(
     alloc: Global,
     mode: &Jumps<'_, '_>,

@@ -40,10 +40,10 @@ impl Answering for Lookup {
             asked.text,
             self.std3,
             &mut buffers.lookup,
-            &mut buffers.query,
+            &mut buffers.answer_line,
         ) {
             Ok(len) => {
-                let line = &buffers.query[..len];
+                let line = &buffers.answer_line[..len];
                 answered(reply(asked, Kind::LookedUp, line, console))
             }
             Err(refusal) => refused(refusal),

@@ -75,8 +75,8 @@ impl<'t, 'p, 'r, 'b> PointAnswering for Variants<'t, 'p, 'r, 'b> {
     }
 }
 
-/// Writes the block of a net's label.
-fn write_lines<W: Sink, E: Sink>(
+/// Writes the block of a net's label: its variants up to the stop, or those that are registered.
+fn write_block_or_collisions<W: Sink, E: Sink>(
     alloc: Global,
     mode: &Variants<'_, '_, '_, '_>,
     asked: &Asked<'_>,
@@ -150,7 +150,7 @@ fn list<W: Sink, E: Sink>(
     };
     match admitted_net(alloc, mode.table, &mut validity, label) {
         Ok(net) => match mode.dispositions.of_label(alloc, mode.table, label) {
-            Ok(mut dispositions) => answered(write_lines(
+            Ok(mut dispositions) => answered(write_block_or_collisions(
                 alloc,
                 mode,
                 asked,

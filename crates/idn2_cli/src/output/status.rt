@@ -1,14 +1,15 @@
+//! How a run ended, and its exit status.
 ghost use Rattle.std.specs.Prelude.{◌≡◌};
 ghost use Rattle.idn2_cli.specs.Statuses.{code_of};
 
 /// How the program ended.
 #[derive(Clone, Copy, Debug, PartialEq, Eq)]
 pub enum Status {
-    /// Nothing was refused.
+    /// Nothing was refused, and no gap was found.
     Clean,
     /// A line was refused, or the table has a gap.
     Refused,
-    /// The words or the table can't be used.
+    /// The words, the table or the registered labels can't be used.
     Unusable,
     /// A read or a write failed.
     Faulty,

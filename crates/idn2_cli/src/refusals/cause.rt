@@ -6,7 +6,7 @@ ghost use Rattle.idn_text.specs.Points.{AreScalarValues, IsUtf8Of, utf8_of};
 ghost use Rattle.ruleset_text.specs.Definitions.{rule_name};
 ghost use Rattle.answer_json.specs.Details.{given_len};
 ghost use Rattle.idn_cause.specs.NameCauses.{name_cause, query_cause};
-ghost use Rattle.idn2_cli.specs.Explained.{bad_byte, body_cause, if_wanted, outside_cause, points_cause, registered_cause, table_cause, text_cause, unless_unexplained};
+ghost use Rattle.idn2_cli.specs.Explained.{bad_byte, body_cause, if_wanted, outside_cause, points_cause, registration_cause, table_cause, text_cause, unless_unexplained};
 ghost use Rattle.idn2_cli.specs.Explained.{invalid_cause as invalid_cause_of, validity_cause as validity_cause_of};
 ghost use Rattle.idn2_cli.specs.inner.Explaining.{explained_by};
 
@@ -38,11 +38,11 @@ pub(crate) enum Explaining<'t> {
     /// By a name that is looked up, with UseSTD3ASCIIRules or without.
     Query(bool),
     /// By a label, and how far sources of this table reach in it.
-    Sources(&'t Table),
-    /// By the label of a request, and how far they reach in it.
+    Table(&'t Table),
+    /// By the label of a request, and how far sources of this table reach in it.
     Request(&'t Table),
     /// By a label, as it stands.
-    Test,
+    RegisteredLine,
 }
 
 /// A lexeme that is quoted, for whose bytes there is space; nothing where none is.
@@ -160,26 +160,26 @@ fn cause_of_points(
 {
     match explaining {
         Explaining::Nothing => Ok(None),
-        Explaining::Label => registered_cause(alloc, points, refusal),
+        Explaining::Label => registration_cause(alloc, points, refusal),
         Explaining::Name => cause_of_name(alloc, points, refusal),
         Explaining::Query(std3) => cause_of_query(alloc, points, *std3, refusal),
-        Explaining::Sources(table) => cause_by_table(alloc, points, refusal, table),
+        Explaining::Table(table) => cause_by_table(alloc, points, refusal, table),
         Explaining::Request(table) => {
             cause_by_table(alloc, label_of_request(points), refusal, table)
         }
-        Explaining::Test => Ok(of_label(cause_of(alloc, points, refusal)?)),
+        Explaining::RegisteredLine => Ok(of_label(cause_of(alloc, points, refusal)?)),
     }
 }
 
 /// The cause of the fault of a label, or of what it stands for if it begins with `xn--`.
-fn registered_cause(
+fn registration_cause(
     alloc: Global,
     label: &[u32],
     refusal: Refusal,
 ) -> Result<Option<LineCause>, AllocError>
     requires short { length label.now ≤ MAX_LINE_LEN }
     requires scalar_values { AreScalarValues label.now }
-    ensures { IfOk result (λ cause. cause ≡ registered_cause label.now refusal) }
+    ensures { IfOk result (λ cause. cause ≡ registration_cause label.now refusal) }
 {
     if has_ace_prefix(label) {
         return match a_label_cause(alloc, label, refusal)? {

@@ -32,7 +32,7 @@ pub(crate) fn details_of_refusal<'a>(
     }
 }
 
-/// What it says of this cause.
+/// What the object of a refused line says of this cause.
 fn details_of_line<'a>(refusal: &Refusal, cause: &'a LineCause) -> RefusalMembers<'a>
     ensures members { details_of result ≡ line_details refusal.now cause.now }
     ensures short { HasShortTexts (details_of result) }
@@ -70,7 +70,7 @@ fn details_of_line<'a>(refusal: &Refusal, cause: &'a LineCause) -> RefusalMember
     }
 }
 
-/// What it says of where a line of a table has its fault.
+/// What the object of a faulty line of a table says of where the fault is.
 fn details_of_place(place: &FaultPlace) -> RefusalMembers<'static>
     ensures members { details_of result ≡ fault_place_details place.now }
     ensures short { HasShortTexts (details_of result) }
@@ -101,7 +101,7 @@ fn at_byte(place: usize) -> RefusalMembers<'static>
     members
 }
 
-/// What it says of the cause of a label's fault.
+/// What an object says of the cause of a label's fault.
 #[tactic(auto, unfolding(crate::specs::CauseDetails::cause_details))]
 fn details_of_cause(refusal: &Refusal, cause: &Cause) -> RefusalMembers<'static>
     ensures members { details_of result ≡ cause_details refusal.now cause.now }
@@ -143,7 +143,7 @@ fn details_of_cause(refusal: &Refusal, cause: &Cause) -> RefusalMembers<'static>
     }
 }
 
-/// What it says of the cause of the fault of what begins with `xn--`.
+/// What an object says of the cause of the fault of what begins with `xn--`.
 #[tactic(auto, unfolding(crate::specs::CauseDetails::a_label_details))]
 fn details_of_a_label<'a>(refusal: &Refusal, cause: &'a ALabelCause) -> RefusalMembers<'a>
     ensures members { details_of result ≡ a_label_details refusal.now cause.now }
@@ -170,7 +170,7 @@ fn details_of_a_label<'a>(refusal: &Refusal, cause: &'a ALabelCause) -> RefusalM
     }
 }
 
-/// What it says of a source that stands where its condition fails.
+/// What an object says of a source that stands where its condition fails.
 fn details_of_condition<'a>(
     place: usize,
     point: u32,
@@ -188,7 +188,7 @@ fn details_of_condition<'a>(
     members
 }
 
-/// What it says of a length that the DNS does not allow.
+/// What an object says of a length that the DNS does not allow.
 fn details_of_length(cause: &LengthCause) -> RefusalMembers<'static>
     ensures members { details_of result ≡ length_details cause.now }
     ensures short { HasShortTexts (details_of result) }
@@ -204,7 +204,7 @@ fn details_of_length(cause: &LengthCause) -> RefusalMembers<'static>
     members
 }
 
-/// A code point and its place.
+/// The members that tell a code point and its place.
 fn placed(place: usize, point: u32) -> RefusalMembers<'static>
     ensures { details_of result ≡ placed place point }
 {

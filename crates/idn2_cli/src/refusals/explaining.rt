@@ -477,7 +477,7 @@ fn push_counted(text: &mut ExplainedMessage, place: usize)
     append(text, digits.format(u128::from(place as u64) + 1).as_bytes());
 }
 
-/// The same of the number of a label.
+/// Appends the number of a label, which is counted from 0, as it is counted from 1.
 fn push_label_number(text: &mut ExplainedMessage, label: u16)
     requires { array_vec_len text.old ≤ 155 }
     ensures items { text.new.items ≡ text.old.items ++ decimal (label + 1) }

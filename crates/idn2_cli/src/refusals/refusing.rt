@@ -51,7 +51,8 @@ pub(crate) fn refuse<R: Source, W: Sink, E: Sink>(
 /// Reports why a line of this number is refused, with the cause, if there is one. Of a line that is too long there is no
 /// text.
 ///
-/// It stands apart, as do parts of what follows: a refusal that is not explained makes no room for a cause.
+/// Not inlined, and neither are some of the functions below: a refusal that is not explained needs no stack space for a
+/// cause.
 #[inline(never)]
 fn explain<W: Sink, E: Sink>(
     alloc: Global,

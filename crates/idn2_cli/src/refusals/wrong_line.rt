@@ -49,7 +49,12 @@ fn cause_of_wrong_line(
     match refusal {
         Refusal::OutOfOrder => Ok(Some(cause_of_order(text, number))),
         Refusal::FileTooLong => Ok(None),
-        _ => cause_of_body(alloc, body_at(text, number), refusal, &Explaining::Test),
+        _ => cause_of_body(
+            alloc,
+            body_at(text, number),
+            refusal,
+            &Explaining::RegisteredLine,
+        ),
     }
 }
 

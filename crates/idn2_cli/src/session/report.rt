@@ -16,7 +16,7 @@ use crate::refusals::wrong_line::cause_if_wanted;
 use answer_json::MAX_OBJECT_LEN;
 use idn_text::{Refusal, Sink, write_text};
 use idn2_options::{Form, Options};
-use registered_labels::RegisterFault;
+use registered_labels::RegisteredFileFault;
 use std::alloc::Global;
 
 /// Writes the message of `Usage`, `ReadFault`, `WriteFault` or `Memory`, and answers its status.
@@ -46,15 +46,15 @@ pub fn report_registered<W: Sink, E: Sink>(
     alloc: Global,
     options: &Options,
     text: &[u8],
-    fault: &RegisterFault,
+    fault: &RegisteredFileFault,
     out: &mut W,
     err: &mut E,
 ) -> Status
     ensures { TellsUnread options.now text.now fault.now (held (W.state out.old) (E.state err.old)) (held (W.state out.new) (E.state err.new)) result }
 {
     match fault {
-        RegisterFault::Memory => report(&Refusal::Memory, err),
-        RegisterFault::Refused { line, refusal } => {
+        RegisteredFileFault::Memory => report(&Refusal::Memory, err),
+        RegisteredFileFault::Refused { line, refusal } => {
             match cause_if_wanted(alloc, options.tells_causes(), text, *line, *refusal) {
                 Ok(cause) => tell_wrong_line(
                     options.form,
@@ -116,7 +116,7 @@ fn report_wrong_line<E: Sink>(
     }
 }
 
-/// Writes such a message, and answers the status.
+/// Writes this message of a wrong line of the registered labels, and answers the status.
 fn tell_wrong<E: Sink>(message: &[u8], err: &mut E) -> Status
     ensures { TellsWrong message.now (E.state err.old) (E.state err.new) result }
 {

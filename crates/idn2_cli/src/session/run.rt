@@ -31,10 +31,10 @@ use registered_labels::RegisteredLabels;
 use std::alloc::Global;
 use variant_table::{Notation, Table, TableFault};
 
-/// Runs a mode over its input, of which no line was read yet. Where nothing fails, the pieces of the
-/// transcript are written, and the status says whether something was refused. A fault of a reader,
-/// of a writer or of memory ends the run at once with a last message. Listings have all variants: for
-/// options that name a file of registered labels there is `run_among`.
+/// Runs a mode over its input, of which no line was read yet. Where nothing fails, the pieces of the transcript are
+/// written, and the status says whether something was refused. A fault of a reader, of a writer or of memory ends the
+/// run at once with a last message. Listings have all variants: for options that name a file of registered labels there
+/// is `run_among`. Only tests call this: the program calls `run_among` in each mode.
 pub fn run<R: Source, W: Sink, E: Sink>(
     alloc: Global,
     options: &Options,
@@ -58,13 +58,13 @@ pub fn run<R: Source, W: Sink, E: Sink>(
         IsJumpAnswer given request (jump_answer given request) }
     ensures check { (given : TableValue) → IsReadAs options.now.notation table.now (Ok given) → IsCheck given.entries (check_findings given.entries) }
 {
-    // Naming a field makes known what the options are seen as: they hold no registered labels.
+    // Only for the proof: where a field is read, it is known what contracts see of the options: no registered labels.
     let _ = &options.mode;
     run_among(alloc, options, table, None, input, out, err)
 }
 
-/// The same, with each listing kept to the registered labels, if there are some: its lines are those of the whole listing
-/// whose label is registered.
+/// Runs a mode over its input, as `run` does, with each listing kept to the registered labels, if there are some: its
+/// lines are those of the whole listing whose label is registered.
 pub fn run_among<R: Source, W: Sink, E: Sink>(
     alloc: Global,
     options: &Options,
@@ -92,12 +92,12 @@ pub fn run_among<R: Source, W: Sink, E: Sink>(
         room: [0; MAX_OBJECT_LEN],
     };
     let status = serve(alloc, options, table, registered, input, &mut console);
-    // Both writers are given back.
+    // Only for the proof: the two writers are given back, so that the contract can say what they hold.
     let (_output, _messages) = (console.output, console.messages);
     status
 }
 
-/// The same over the two writers as one value.
+/// Runs a mode over its input, as `run_among` does, with the two writers as one value.
 fn serve<R: Source, W: Sink, E: Sink>(
     alloc: Global,
     options: &Options,
@@ -207,7 +207,7 @@ fn serve_variants<R: Source, W: Sink, E: Sink>(
         options,
         registered,
     };
-    let explaining = Explaining::Sources(&table).if_wanted(options.tells_causes());
+    let explaining = Explaining::Table(&table).if_wanted(options.tells_causes());
     let by_points = ByPoints { mode: &mode };
     serve_lines(alloc, options.form, &explaining, &by_points, input, console)
 }

@@ -1,3 +1,5 @@
+//! How answers are written.
+
 /// How a run writes its answers.
 #[derive(Clone, Copy, Debug, PartialEq, Eq)]
 pub enum Form {

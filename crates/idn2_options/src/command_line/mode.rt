@@ -1,3 +1,5 @@
+//! What is done with the input.
+
 /// What the program does with its input.
 #[derive(Clone, Copy, Debug, PartialEq, Eq)]
 pub enum Mode {

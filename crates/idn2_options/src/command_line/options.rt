@@ -1,3 +1,5 @@
+//! The options of a run.
+
 use crate::command_line::form::Form;
 use crate::command_line::mode::Mode;
 use std::marker::Model;
@@ -12,7 +14,8 @@ pub struct Options {
     /// Lookup refuses ASCII code points other than letters, digits and hyphens (UseSTD3ASCIIRules
     /// of UTS #46). The other modes don't read it.
     pub std3: bool,
-    /// The messages of refused lines go on with the cause. The check of a table, which reads no line, doesn't read it.
+    /// The messages of refused lines go on with the cause: those of the input, and a faulty line of the table or of the
+    /// registered labels.
     pub explain: bool,
     /// How answers are written. Objects of JSON always tell the cause of a refusal.
     pub form: Form,

@@ -1,7 +1,7 @@
 //! The program's own rules on its options, which `clap` does not know.
 ghost use Rattle.std.specs.Prelude.{◌≡◌, count_by, option_map};
 ghost use Rattle.clap.specs.Words.{found_of, rows_of};
-ghost use Rattle.idn2_options.specs.Words.{among_of, bounds_listing, bounds_variants, checked_file, checks, checks_alone, file_of, has_counts, has_short_start, is_allowed, is_bound_if_given, is_count_if_given, jumps_by_table, listing_file, lists, names_one_mode, notation_of, start_of, suits_among};
+ghost use Rattle.idn2_options.specs.Words.{among_of, has_listing_option, listing_options_fit, checked_file, checks, checks_alone, file_of, has_counts, has_short_start, is_allowed, is_bound_if_given, is_count_if_given, jumps_by_table, listing_file, lists, names_one_mode, notation_of, start_of, suits_among};
 
 use crate::command_line::arguments::{
     AFTER, AMONG, CHECK_RULESET, CHECK_TABLE, DECODE, JUMP, LIMIT, LOOKUP, REGISTER, RULESET,
@@ -19,7 +19,7 @@ pub(crate) fn is_allowed(matches: &ArgMatches<'_>) -> bool
     ensures { result ≡ is_allowed (rows_of (found_of matches.now)) }
 {
     names_one_mode(matches)
-        && bounds_variants(matches)
+        && listing_options_fit(matches)
         && jumps_by_table(matches)
         && suits_among(matches)
         && has_counts(matches)
@@ -37,6 +37,7 @@ pub(crate) fn start_of<'a>(matches: &ArgMatches<'a>) -> &'a str
     }
 }
 
+/// Whether the words name one mode at most.
 fn names_one_mode(matches: &ArgMatches<'_>) -> bool
     ensures { result ≡ names_one_mode (rows_of (found_of matches.now)) }
 {
@@ -52,20 +53,23 @@ fn names_one_mode(matches: &ArgMatches<'_>) -> bool
     count_true(&named) <= 1
 }
 
+/// How many of the tests are true.
 fn count_true(tests: &[bool]) -> usize
     ensures { result ≡ count_by (λ test. test) tests.now }
 {
     tests.iter().filter(|test| **test).count()
 }
 
-fn bounds_variants(matches: &ArgMatches<'_>) -> bool
-    ensures { result ≡ bounds_variants (rows_of (found_of matches.now)) }
+/// Whether options of a listing are given only where variants are listed.
+fn listing_options_fit(matches: &ArgMatches<'_>) -> bool
+    ensures { result ≡ listing_options_fit (rows_of (found_of matches.now)) }
 {
-    lists(matches) && !has_flag(matches, JUMP) || !bounds_listing(matches)
+    lists(matches) && !has_flag(matches, JUMP) || !has_listing_option(matches)
 }
 
-fn bounds_listing(matches: &ArgMatches<'_>) -> bool
-    ensures { result ≡ bounds_listing (rows_of (found_of matches.now)) }
+/// Whether an option of a listing is given: `--after`, `--limit`, `--tries`, `--steps` or `--among`.
+fn has_listing_option(matches: &ArgMatches<'_>) -> bool
+    ensures { result ≡ has_listing_option (rows_of (found_of matches.now)) }
 {
     has_value(matches, AFTER)
         || has_value(matches, LIMIT)
@@ -74,12 +78,14 @@ fn bounds_listing(matches: &ArgMatches<'_>) -> bool
         || has_value(matches, AMONG)
 }
 
+/// Whether `--jump` is given only with a table or ruleset.
 fn jumps_by_table(matches: &ArgMatches<'_>) -> bool
     ensures { result ≡ jumps_by_table (rows_of (found_of matches.now)) }
 {
     lists(matches) || !has_flag(matches, JUMP)
 }
 
+/// Whether what stands with `--among` suits it: neither `--tries` nor `--steps`, and not the same file twice.
 fn suits_among(matches: &ArgMatches<'_>) -> bool
     ensures { result ≡ suits_among (rows_of (found_of matches.now)) }
 {
@@ -145,6 +151,7 @@ pub(crate) fn file_of<'a>(matches: &ArgMatches<'a>) -> &'a str
     }
 }
 
+/// The name of the file of registered labels, which is empty where there is none.
 fn among_of<'a>(matches: &ArgMatches<'a>) -> &'a str
     ensures { result.now ≡ among_of (rows_of (found_of matches.now)) }
 {
@@ -154,6 +161,7 @@ fn among_of<'a>(matches: &ArgMatches<'a>) -> &'a str
     }
 }
 
+/// Whether the numbers of `--limit`, `--tries` and `--steps` are in their ranges, where they are given.
 fn has_counts(matches: &ArgMatches<'_>) -> bool
     ensures { result ≡ has_counts (rows_of (found_of matches.now)) }
 {
@@ -162,6 +170,7 @@ fn has_counts(matches: &ArgMatches<'_>) -> bool
         && is_bound_if_given(matches)
 }
 
+/// Whether the value of this option is a count, where it is given.
 fn is_count_if_given(matches: &ArgMatches<'_>, name: &str) -> bool
     ensures { result ≡ is_count_if_given name.now (rows_of (found_of matches.now)) }
 {
@@ -171,6 +180,7 @@ fn is_count_if_given(matches: &ArgMatches<'_>, name: &str) -> bool
     }
 }
 
+/// Whether the value of `--steps` is a number of steps, where it is given.
 fn is_bound_if_given(matches: &ArgMatches<'_>) -> bool
     ensures { result ≡ is_bound_if_given (rows_of (found_of matches.now)) }
 {
@@ -180,12 +190,14 @@ fn is_bound_if_given(matches: &ArgMatches<'_>) -> bool
     }
 }
 
+/// Whether the text of `--after` is not too long.
 fn has_short_start(matches: &ArgMatches<'_>) -> bool
     ensures { result ≡ has_short_start (rows_of (found_of matches.now)) }
 {
     start_of(matches).len() <= MAX_START
 }
 
+/// Whether there are no STRINGS where a table is checked.
 fn checks_alone(matches: &ArgMatches<'_>) -> bool
     ensures { result ≡ checks_alone (rows_of (found_of matches.now)) }
 {

@@ -1,3 +1,4 @@
+//! Why the words of the command line give no options.
 ghost use Rattle.std.specs.Prelude.{◌≡◌};
 ghost use Rattle.idn2_options.specs.declared.command_line.usage.Usage.TheVariants as usage;
 

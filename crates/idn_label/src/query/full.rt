@@ -13,7 +13,7 @@ use std::alloc::Global;
 use std::str;
 
 /// Leaves in `query` what `lookup_utf8` answers.
-// It is long, and most names do not come here.
+// Not inlined: it is long, and most names do not come here.
 #[inline(never)]
 pub(crate) fn full_lookup(
     alloc: Global,

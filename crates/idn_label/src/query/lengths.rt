@@ -8,7 +8,7 @@ use crate::a_label::MAX_LABEL_LEN;
 /// The most octets of a name in the DNS, a full stop at its end put aside.
 const MAX_NAME_LEN: usize = 253;
 
-/// The same with that full stop.
+/// The most octets of a name in the DNS with a full stop at its end.
 pub(crate) const MAX_QUERY_LEN: usize = 254;
 
 /// Whether a label that begins at `start` and ends before `end` has 1 to 63 octets.

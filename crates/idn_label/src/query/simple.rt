@@ -26,7 +26,7 @@ use unicode_normalization::slice::is_nfc_quick;
 /// Leaves in `buffers.query` what ToASCII (UTS 46 section 4.2) gives of a name in UTF-8, where that has the lengths that
 /// the DNS allows. `None` says nothing of the name, and all of UTS 46 then gives the answer: the name is no UTF-8, a code
 /// point needs more tests, NFC may change the name, a label begins with `xn--`, or the Bidi rule or a length is not met.
-// It is long, and most names do not come here.
+// Not inlined: it is long, and most names do not come here.
 #[inline(never)]
 pub(crate) fn simple_query(name: &[u8], buffers: &mut LookupBuffers) -> Option<()>
     ensures answer { OnSome result ((std3 : Bool) → to_ascii (deny_list std3) Allow Ignore name.now ≡ Some buffers.new.query.items) }

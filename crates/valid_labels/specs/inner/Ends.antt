@@ -1,7 +1,7 @@
 -- Where a beginning of a label is lost by a demand.
 use Rattle.std.specs.Prelude.{◌≡◌, ◌⊎◌, ℕ, ◌<◌, ◌≤◌, min, Option, Some, None, List, length, Contains}
 use Rattle.label_patterns.specs.FirstEnds.{IsFirstEnd}
-use Rattle.label_patterns.specs.Laws.{HasNoEnd}
+use Rattle.label_patterns.specs.Laws.{IgnoresEnd}
 use Rattle.label_patterns.specs.Matches.{Seen, Matches}
 use Rattle.label_patterns.specs.Rules.{Occurs}
 use Rattle.ruleset_text.specs.declared.definition.DemandKind.TheVariants.{Never}
@@ -9,7 +9,7 @@ use Rattle.ruleset_text.specs.Definitions.{Demand}
 
 -- no label may match the pattern, which doesn't ask for the end
 abbrev pub IsRefusing : Demand → Type 0
-IsRefusing d = (d.kind ≡ Never) × HasNoEnd d.pattern
+IsRefusing d = (d.kind ≡ Never) × IgnoresEnd d.pattern
 
 -- no such pattern occurs
 abbrev pub NoneRefuses : Seen → List Demand → Type 0

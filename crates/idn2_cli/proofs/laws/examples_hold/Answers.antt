@@ -27,5 +27,33 @@ returns-clause-lines c = λ answer. record { too_long = refl; empty = refl; not_
 pub returns-clause-blocks : goal.returns-clause-blocks
 returns-clause-blocks c = blocks
 
+pub returns-clause-allocations : goal.returns-clause-allocations
+returns-clause-allocations c = record {
+  mixture = refl;
+  one_kind = refl;
+  other_kind = refl;
+  other_mixture = refl;
+  of_both_tags = refl;
+  of_two_tags = refl;
+  blocked_one = refl;
+  by_the_other_cutting = refl;
+  by_no_cutting = refl;
+}
+
+pub returns-clause-refusals : goal.returns-clause-refusals
+returns-clause-refusals c = record {
+  sign = refl;
+  sign_after_sign = refl;
+  no_source = refl;
+  lead_at_end = refl;
+  hyphen_third = refl;
+  hyphen_fourth = refl;
+  two_kinds = refl;
+  no_a = refl;
+  half_letter = refl;
+  other_half = refl;
+  outside = refl;
+}
+
 pub returns-clause-transcripts : goal.returns-clause-transcripts
 returns-clause-transcripts c = transcripts

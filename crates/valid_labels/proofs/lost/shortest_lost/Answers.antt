@@ -22,7 +22,7 @@ returns c =
     let refused : MatchOption c.refused_by-refused.result (NoneRefuses (seen_under table label) table.definitions.demands) (IsRefusedAt (seen_under table label) table.definitions.demands) =
     subst (λ s. MatchOption c.refused_by-refused.result (NoneRefuses s table.definitions.demands) (IsRefusedAt s table.definitions.demands)) c.requires.seen
     (subst (λ (t : TableValue). MatchOption c.refused_by-refused.result (NoneRefuses c.args.seen.now t.definitions.demands) (IsRefusedAt c.args.seen.now t.definitions.demands)) c.table-table.ensures c.refused_by-refused.ensures) in
-    shortest-lost table label c.be_sound.ensures c.refused_by-refused.result c.last_place.result c.longest.result refused
+    shortest-lost table label c.recall_soundness.ensures c.refused_by-refused.result c.last_place.result c.longest.result refused
     ((same c.last_place.result).0 ((c.reached_over-places.ensures c.last_place.result).0 c.last_place.ensures.member))
     (λ p l m may. c.last_place.ensures.greatest p l m ((c.reached_over-places.ensures p).1 ((same p).1 may))) c.longest.ensures.longest c.shortest.result c.shortest.ensures
 

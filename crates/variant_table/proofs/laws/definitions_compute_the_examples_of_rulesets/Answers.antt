@@ -115,3 +115,34 @@ returns-clause-stars c = refl
 pub returns-clause-demand : goal.returns-clause-demand
 unfolding point_of_hex point_text entry_in table_of_lines with_lines with_raw_line with_line with_form with_entries with_definition with_definition_of canonical_size all_atoms names_on number_of pattern_of spans_in tokens_in
 returns-clause-demand c = refl
+
+pub returns-clause-outside_gaps : goal.returns-clause-outside_gaps
+returns-clause-outside_gaps c = refl
+
+pub returns-clause-without_outside : goal.returns-clause-without_outside
+returns-clause-without_outside c = refl
+
+pub returns-clause-conditional_gaps : goal.returns-clause-conditional_gaps
+returns-clause-conditional_gaps c = refl
+
+pub returns-clause-without_reverse : goal.returns-clause-without_reverse
+returns-clause-without_reverse c = refl
+
+pub returns-clause-tagged_gaps : goal.returns-clause-tagged_gaps
+returns-clause-tagged_gaps c = refl
+
+pub returns-clause-condition_in_version_2 : goal.returns-clause-condition_in_version_2
+unfolding point_of_hex point_text entry_in table_of_lines with_lines with_raw_line with_line with_form with_entries with_definition with_definition_of canonical_size all_atoms names_on number_of pattern_of spans_in tokens_in
+returns-clause-condition_in_version_2 c = refl
+
+pub returns-clause-tag_in_version_2 : goal.returns-clause-tag_in_version_2
+unfolding point_of_hex point_text entry_in table_of_lines with_lines with_raw_line with_line with_form with_entries with_definition with_definition_of canonical_size all_atoms names_on number_of pattern_of spans_in tokens_in
+returns-clause-tag_in_version_2 c = refl
+
+pub returns-clause-demand_in_version_2 : goal.returns-clause-demand_in_version_2
+unfolding point_of_hex point_text entry_in table_of_lines with_lines with_raw_line with_line with_form with_entries with_definition with_definition_of canonical_size all_atoms names_on number_of pattern_of spans_in tokens_in
+returns-clause-demand_in_version_2 c = refl
+
+pub returns-clause-capital : goal.returns-clause-capital
+unfolding point_of_hex point_text entry_in table_of_lines with_lines with_raw_line with_line with_form with_entries with_definition with_definition_of canonical_size all_atoms names_on number_of pattern_of spans_in tokens_in
+returns-clause-capital c = refl

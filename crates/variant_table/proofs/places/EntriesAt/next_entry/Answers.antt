@@ -16,7 +16,7 @@ returns-in-Some c =
     let left : entries_longer next.entries.now next.label.now next.place next.len ≡ entries_longer table label place (len + 1) =
     elim c.if-not-has_longer.branch [
       | then-not-has_longer w ↦
-          ap (λ s. entries_longer s.entries.now s.label.now s.place s.len) w.self-inside-is ∙ longer_stop table label place len (c.look_up-entry.ensures.longer w.if-not-has_longer.true)
+          ap (λ s. entries_longer s.entries.now s.label.now s.place s.len) w.self-inside-is ∙ longer_stop table label place len (c.look_up-entry.ensures.longer.0 w.if-not-has_longer.true)
       | else-not-has_longer w ↦ ap (λ s. entries_longer s.entries.now s.label.now s.place s.len) w.self-inside-is
     ] in
     sym c.loop-self.invariant.same ∙ longer_step table label place len (omega (arith, c.loop-self-test.true)) c.if-self.true
@@ -36,7 +36,7 @@ loop-self-preserved c =
     elim c.if-not-has_longer.branch [
       | then-not-has_longer w ↦ record {
         same = ap (λ s. entries_longer s.entries.now s.label.now s.place s.len) w.self-inside-is
-            ∙ longer_stop table label place len (c.look_up-entry.ensures.longer w.if-not-has_longer.true) ∙ sym step ∙ c.loop-self.invariant.same;
+            ∙ longer_stop table label place len (c.look_up-entry.ensures.longer.0 w.if-not-has_longer.true) ∙ sym step ∙ c.loop-self.invariant.same;
         within = omega (arith, c.loop-self.invariant.within, ap (λ s. s.place) w.self-inside-is, ap (λ s. length s.label.now) w.self-inside-is);
         limited = omega (arith, ap (λ s. s.len) w.self-inside-is);
       }

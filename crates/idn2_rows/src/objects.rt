@@ -4,7 +4,7 @@ ghost use Rattle.std.specs.Option.{option_copied};
 ghost use Rattle.answer_json.specs.Details.{HasShortTexts, details_of, given_len};
 ghost use Rattle.answer_json.specs.Inputs.{told_len};
 
-use crate::{
+use answer_json::{
     Disposition, Input, MAX_OBJECT_LEN, ObjectRoom, RefusalMembers, write_checked, write_decoded,
     write_gap, write_looked_up, write_refused, write_registered, write_table_fault, write_trailer,
     write_variant,

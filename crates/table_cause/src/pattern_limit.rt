@@ -1,0 +1,162 @@
+//! Where the pattern of a rule or a demand goes past a limit. It is looked for only once a line is known to go past one.
+ghost use Rattle.std.specs.Prelude.{◌≡◌, ◌+◌, ◌-◌, ◌<◌, ◌^◌, false, [], length, IfSome, MatchOption};
+ghost use Rattle.table_cause.specs.PatternLimits as limits;
+ghost use Rattle.table_cause.specs.PatternLimits.{is_too_deep as too_deep, no_nesting, with_token as with_token_of};
+ghost use Rattle.table_cause.specs.PlacedLexemes.{placed_from, placed_lexemes};
+ghost use Rattle.table_cause.specs.inner.NestingSteps.{nesting_of};
+
+use crate::entry_place::WrongPlace;
+use crate::placed::next_placed;
+use arrayvec::ArrayVec;
+use ruleset_text::{Keyword, Token, keyword_of, token_of};
+
+/// The most groups within each other, and the most `*`.
+const GROUP_LIMIT: usize = 8;
+
+const STAR_LIMIT: u32 = 2;
+
+/// How many `*` stand within each other in a pattern, as far as it was read.
+#[derive(Drop)]
+struct Nesting {
+    /// In the last atom.
+    last: u32,
+    /// In what was read of the group that is open.
+    group: u32,
+    /// In what was read of each group around it, the innermost last.
+    around: ArrayVec<u32, GROUP_LIMIT>,
+}
+
+/// The first lexeme with which the pattern of a line goes past a limit, if it may have so many atoms: a group within eight
+/// others, a `*` after an atom in which two stand within each other, or an atom too many. It takes no memory.
+pub fn first_past(atoms: usize, line: &[u8]) -> Option<WrongPlace>
+    ensures { result ≡ limits.first_past atoms (limits.pattern_in (placed_lexemes line.now)) }
+{
+    let (start, text) = pattern_text(line)?;
+    let mut left = atoms;
+    let mut nesting = Nesting::new();
+    let mut before = start;
+    let mut rest = text;
+    while let Some((place, lexeme, others)) = next_placed(before, rest) {
+        let token = token_of(&[], lexeme);
+        if nesting.is_too_deep(token) || is_counted(token) && left == 0 {
+            return Some(WrongPlace::Lexeme(place, lexeme.len()));
+        }
+        left = without_atom(left, token);
+        nesting.read(token);
+        before = place + lexeme.len();
+        rest = others;
+    }
+    None
+}
+
+/// How many of so many atoms are left by the pattern of a line, if it has one.
+pub fn atoms_left(atoms: usize, line: &[u8]) -> usize
+    ensures { result ≡ atoms - limits.atoms_among (limits.pattern_in (placed_lexemes line.now)) }
+{
+    let Some((start, text)) = pattern_text(line) else {
+        return atoms;
+    };
+    let mut left = atoms;
+    let mut before = start;
+    let mut rest = text;
+    while let Some((place, lexeme, others)) = next_placed(before, rest) {
+        left = without_atom(left, token_of(&[], lexeme));
+        before = place + lexeme.len();
+        rest = others;
+    }
+    left
+}
+
+/// The text of the pattern of a line, if it is to define a rule or a demand, and how many bytes stand before it.
+fn pattern_text(line: &[u8]) -> Option<(usize, &[u8])>
+    requires { length line.now < 2 ^ 64 }
+    ensures is { MatchOption result (limits.pattern_in (placed_lexemes line.now) ≡ [])
+        (λ found. placed_from found.0 found.1.now ≡ limits.pattern_in (placed_lexemes line.now)) }
+    ensures within { IfSome result (λ found. found.0 + length found.1.now ≡ length line.now) }
+{
+    let (place, word, rest) = next_placed(0, line)?;
+    let before = place + word.len();
+    match keyword_of(word)? {
+        Keyword::Never | Keyword::Always => Some((before, rest)),
+        Keyword::Rule => {
+            let (place, name, rest) = next_placed(before, rest)?;
+            Some((place + name.len(), rest))
+        }
+        Keyword::Tag | Keyword::Set => None,
+    }
+}
+
+fn without_atom(left: usize, token: Token) -> usize
+    ensures { result ≡ left - limits.atoms_at token }
+{
+    if is_counted(token) {
+        left.saturating_sub(1)
+    } else {
+        left
+    }
+}
+
+/// Whether it counts as an atom: so do `^` and `$`, and a group at its `(`.
+fn is_counted(token: Token) -> bool
+    ensures { result ≡ limits.is_counted token }
+{
+    match token {
+        Token::Point(_) | Token::Set(_) | Token::Any | Token::Start | Token::End | Token::Open =>
+            true,
+        Token::Anchor | Token::Close | Token::Optional | Token::Many | Token::Or | Token::Other =>
+            false,
+    }
+}
+
+impl Nesting {
+    fn new() -> Self
+        ensures { nesting_of result ≡ no_nesting }
+    {
+        Nesting {
+            last: 0,
+            group: 0,
+            around: ArrayVec::new(),
+        }
+    }
+
+    /// Whether the token is a group within eight others, or a `*` after an atom in which two stand within each other.
+    fn is_too_deep(&self, token: Token) -> bool
+        ensures { result ≡ too_deep (nesting_of self.now) token }
+    {
+        match token {
+            Token::Open => self.around.len() >= GROUP_LIMIT,
+            Token::Many => self.last >= STAR_LIMIT,
+            _ => false,
+        }
+    }
+
+    /// Reads a token that goes past no limit.
+    fn read(&mut self, token: Token)
+        requires { too_deep (nesting_of self.old) token ≡ false }
+        ensures { nesting_of self.new ≡ with_token_of (nesting_of self.old) token }
+    {
+        match token {
+            Token::Open => {
+                self.around.push(self.group);
+                self.last = 0;
+                self.group = 0;
+            }
+            Token::Close => self.close(),
+            Token::Many => {
+                self.last += 1;
+                self.group = self.group.max(self.last);
+            }
+            _ => self.last = 0,
+        }
+    }
+
+    /// A group is closed: it is the last atom of the one around it.
+    fn close(&mut self)
+        ensures { nesting_of self.new ≡ limits.with_group self.old.group (nesting_of self.old).around }
+    {
+        self.last = self.group;
+        if let Some(group) = self.around.pop() {
+            self.group = self.group.max(group);
+        }
+    }
+}
