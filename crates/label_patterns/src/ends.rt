@@ -13,6 +13,10 @@ pub fn ends(tree: &PatternTree, seen: &SeenLabel, starts: u64) -> u64
     requires { HasItsSets (length seen.now.sets) (pattern tree.now) }
     ensures { AreEnds (Matches seen.now (pattern tree.now)) starts result }
 {
+    // From no place nothing leads on.
+    if starts == 0 {
+        return 0;
+    }
     match tree {
         PatternTree::Point(point) => after(starts, seen.places_of_point(*point)),
         PatternTree::Set(set) => after(starts, seen.places_of_set(*set)),
