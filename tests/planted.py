@@ -10,7 +10,8 @@ What refuses an edit is told after it: a goal in the code; or a proof that was w
 serves, which says less of the contract. An edit that is refused only since a proof names what it takes away says little:
 of wrong-bodies it counts as a failure; the gate tells it and goes on, as rt does for must-fail, and so where something else
 refuses the crate. One that is proved and one that doesn't compile are failures everywhere. Each check begins with what that of the right
-code kept; LANES is how many crates are tried side by side. The last line is 'N passed, M failed', and the exit status is 0
+code kept; LANES is how many crates are tried side by side. What the edits of a crate took of the processor is told after them. The
+last line is 'N passed, M failed', and the exit status is 0
 where nothing failed."""
 
 import collections
@@ -131,6 +132,7 @@ class Copy:
         self.home = os.path.join(self.folder, "crates", crate)
         self.work = os.path.join(self.home, "out", "incremental")
         self.kept = os.path.join(self.folder, "kept")
+        self.seconds = 0.0
         shutil.rmtree(os.path.join(self.home, "must-fail"), ignore_errors=True)
 
     def __enter__(self):
@@ -154,11 +156,15 @@ class Copy:
                 texts[file] = (texts.get(file) or text_of(os.path.join(CRATES, self.crate, file))).replace(old, new)
         for file, text in texts.items():
             self.write(file, text)
-        ran = subprocess.run([os.environ.get("RT", "rt"), "check"], cwd=self.home, stdin=subprocess.DEVNULL,
-                             stdout=subprocess.PIPE, stderr=subprocess.STDOUT, encoding="utf-8", errors="replace")
+        with subprocess.Popen([os.environ.get("RT", "rt"), "check"], cwd=self.home, stdin=subprocess.DEVNULL,
+                              stdout=subprocess.PIPE, stderr=subprocess.STDOUT, encoding="utf-8", errors="replace") as ran:
+            said = ran.stdout.read()
+            _, status, used = os.wait4(ran.pid, 0)
+            ran.returncode = os.waitstatus_to_exitcode(status)
+        self.seconds += used.ru_utime + used.ru_stime
         for file in texts:
             self.write(file, text_of(os.path.join(CRATES, self.crate, file)))
-        return ran.returncode, ran.stdout.splitlines()
+        return ran.returncode, said.splitlines()
 
     def write(self, file, text):
         with open(os.path.join(self.home, file), "w", encoding="utf-8") as it:
@@ -228,6 +234,7 @@ def try_crate(crate, folder):
             for edit, is_refused, said in verdicts(copy, batch):
                 passed, failed = passed + is_refused, failed + (not is_refused)
                 print(f"planted {crate}/{edit.name} ... {'ok' if is_refused else 'FAILED'}: {said}", flush=True)
+        print(f"planted {crate}: {len(edits)} in {copy.seconds:.0f} seconds of the processor", flush=True)
     return passed, failed
 
 
