@@ -7,12 +7,11 @@ one function knows of another is its contract, so no body is refused for what is
 refusal of its own there is tried again by itself. So is one that edits anything but bodies, as a constant.
 
 What refuses an edit is told after it: a goal in the code; or a proof that was written for the right code and no longer
-serves, which says less of the contract. An edit that is refused only since a proof names what it takes away says little:
-of wrong-bodies it counts as a failure; the gate tells it and goes on, as rt does for must-fail, and so where something else
-refuses the crate. One that is proved and one that doesn't compile are failures everywhere. Each check begins with what that of the right
-code kept; LANES is how many crates are tried side by side. What the edits of a crate took of the processor is told after them. The
-last line is 'N passed, M failed', and the exit status is 0
-where nothing failed."""
+serves, which says less of the contract. An edit that is refused only since a proof names what it takes away says little: of
+wrong-bodies it counts as a failure; the gate tells it and goes on, as rt does for must-fail, and so where something else
+refuses the crate. One that is proved and one that doesn't compile are failures everywhere. Each check begins with what that
+of the right code kept; LANES is how many crates are tried side by side. What the edits of a crate took of the processor is
+told after them. The last line is 'N passed, M failed', and the exit status is 0 where nothing failed."""
 
 import collections
 import concurrent.futures
