@@ -4,7 +4,7 @@ use crate::pieces::{Pieces, SinglePoint};
 use std::marker::Model;
 
 /// How many code points are kept of which it is known that they are single.
-const SLOTS: usize = 64;
+const SLOTS: usize = 16;
 
 /// What stands in a slot in which none is kept.
 const NO_POINT: u32 = u32::MAX;
