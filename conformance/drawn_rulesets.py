@@ -2,7 +2,7 @@
 
 from notation.points import spelled as spelled_points
 
-TAGS, RULES = ("simp", "trad", "T3"), ("r", "follows", "R_2")
+TAGS, RULES = ("simp", "trad", "Kana9"), ("r", "follows", "Ends_2")
 # Lines with a fault, wherever they stand, or where what they name isn't defined, or where other patterns have more than six atoms.
 FAULTY_LINES = (
     "%tag", "%tag a b", "% tag t", "%Tag t", "%set A 0063..0061", "%set A", "%rule x _ _", "%rule x 0061", "%rule x 0061 $ _",
