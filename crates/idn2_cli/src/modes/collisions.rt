@@ -35,16 +35,16 @@ pub(crate) fn write_collisions<W: Sink, E: Sink>(
     options: &Options,
     net: &Net,
     registered: &RegisteredLabels<'_>,
-    mut validity: Option<ValidityTest<'_>>,
+    validity: &mut Option<ValidityTest<'_>>,
     dispositions: &mut Dispositions<Allocations>,
     console: &mut Console<'_, '_, W, E>,
 ) -> Result<(), Stop>
     requires few { length asked.now.text.now ≤ MAX_LINE_LEN }
     requires limits { IsWithinLimits options.now }
     requires spelled { All AreScalarValues net.now.spelled }
-    requires new { (v : List ℕ) → KeepsOf v validity }
+    requires new { (v : List ℕ) → KeepsOf v validity.old }
     ensures written { Emits console.old console.new
-        (outputs (said_text asked.now.form (asked_line asked.now)) (block_by (filter_by (ruling_in validity.entry)) (field_by dispositions.old) (keeping (Some registered.now) options.now) net.now.spelled)) result }
+        (outputs (said_text asked.now.form (asked_line asked.now)) (block_by (filter_by (ruling_in validity.old)) (field_by dispositions.old) (keeping (Some registered.now) options.now) net.now.spelled)) result }
     ensures begun { result ≡ Err stop.Memory → console.new ≡ console.old }
 {
     // How many there are is more than the count ever is.
@@ -56,7 +56,7 @@ pub(crate) fn write_collisions<W: Sink, E: Sink>(
         line.keep(shared);
         let label = search.label();
         // A label that isn't valid is no variant, even if it is registered.
-        if !is_valid_by(&mut validity, label, shared) {
+        if !is_valid_by(validity, label, shared) {
             continue;
         }
         let a_label = encode_label(label);

@@ -81,7 +81,7 @@ fn write_block_or_collisions<W: Sink, E: Sink>(
     mode: &Variants<'_, '_, '_, '_>,
     asked: &Asked<'_>,
     net: &Net,
-    validity: Option<ValidityTest<'_>>,
+    mut validity: Option<ValidityTest<'_>>,
     dispositions: &mut Dispositions<Allocations>,
     console: &mut Console<'_, '_, W, E>,
 ) -> Result<(), Stop>
@@ -103,7 +103,7 @@ fn write_block_or_collisions<W: Sink, E: Sink>(
                 mode.options,
                 net,
                 registered,
-                validity,
+                &mut validity,
                 dispositions,
                 console,
             )
