@@ -9,7 +9,8 @@ ghost use Rattle.idn_cause.specs.ALabelCauses.{a_label_cause, code_fault, decode
 use crate::cause::Cause;
 use crate::label::cause_of;
 use arrayvec::ArrayVec;
-use idn_label::{ALabel, MAX_LABEL_LEN, code_point_at, decoded_code, test_label};
+use idn_class::MAX_LABEL_LEN;
+use idn_label::{ALabel, code_point_at, decoded_code, test_label};
 use idn_text::{MAX_LINE_LEN, Refusal};
 use std::alloc::{AllocError, Global};
 

@@ -5,7 +5,8 @@ ghost use Rattle.idn_label.specs.ALabel.{a_label_of};
 ghost use Rattle.idn_cause.specs.Causes.{length_at};
 
 use crate::cause::Cause;
-use idn_label::{MAX_LABEL_LEN, is_all_ascii, short_chars};
+use idn_class::MAX_LABEL_LEN;
+use idn_label::{is_all_ascii, short_chars};
 use idn_punycode::ACE_PREFIX;
 use idna::Errors;
 use idna::punycode::encode;

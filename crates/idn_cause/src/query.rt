@@ -10,13 +10,11 @@ ghost use Rattle.idn_label.specs.Lookup.{deny_list};
 ghost use Rattle.idn_cause.specs.NameLabels.{first_failing_label};
 ghost use Rattle.idn_cause.specs.NameCauses.{has_label_length, length_cause, length_cause_of, query_cause, without_root};
 
-use idn_label::{MAX_LABEL_LEN, code_point_at, deny_list, label_end};
+use idn_class::MAX_LABEL_LEN;
+use idn_label::{MAX_NAME_LEN, code_point_at, deny_list, label_end};
 use idn_text::Refusal;
 use idna::{Errors, domain_to_ascii_cow};
 use std::alloc::{AllocError, Global};
-
-/// The most octets of a name in the DNS, a full stop at its end put aside.
-const MAX_NAME_LEN: usize = 253;
 
 /// A length that the DNS does not allow.
 #[derive(Clone, Copy, Debug, PartialEq, Eq)]

@@ -1,9 +1,9 @@
 //! A label of which a beginning is kept.
 use std::marker::Model;
 
-/// The most code points of a label: the A-label of a longer one has more octets than the 63 that a label has in the DNS
-/// (RFC 1035, section 2.3.4).
-pub(crate) const MAX_LABEL_LEN: usize = 63;
+/// The most octets of a label in the DNS (RFC 1035, section 2.3.4), and so the most code points of a label: the A-label of a
+/// longer one has more octets.
+pub const MAX_LABEL_LEN: usize = 63;
 
 /// A label of at most 63 code points, of which a beginning is kept for the next one. Unlike an `ArrayVec`, it leaves what
 /// it cuts off where it stands. Contracts see the label.

@@ -37,7 +37,7 @@ pub use contexto::{contexto_ok, misplaced_other};
 pub use facts::{Fact, Facts};
 pub use joining_type::JoiningType;
 pub use kept_beginnings::KeptBeginnings;
-pub use kept_label::KeptLabel;
+pub use kept_label::{KeptLabel, MAX_LABEL_LEN};
 pub use laws::{
     barring_lines_are_told, bidi_rows, class_rows, first_faults_are_told, hopeless_for_good,
     hopeless_rows, joiner_rows, lists_of_the_profile, mark_rows, only_rtl_labels_pass, other_rows,

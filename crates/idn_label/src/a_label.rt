@@ -5,13 +5,11 @@ ghost use Rattle.idn_label.specs.ALabel.{a_label_of};
 
 use crate::unit::Unit;
 use arrayvec::ArrayString;
+use idn_class::MAX_LABEL_LEN;
 use idn_punycode::{ACE_PREFIX, Encoder};
 
-/// The most octets that a label has in the DNS (RFC 1035 section 2.3.4). No label has more code points either.
-pub const MAX_LABEL_LEN: usize = 63;
-
 /// An A-label of at most 63 octets. A label in ASCII is its own A-label.
-pub type ALabel = ArrayString<63>;
+pub type ALabel = ArrayString<MAX_LABEL_LEN>;
 
 /// Encodes labels, each into the same text. What is left of one label says nothing of the next.
 #[derive(Drop)]

@@ -7,10 +7,10 @@ ghost use Rattle.idn_label.specs.ALabel.{a_label_of};
 ghost use Rattle.idn_label.specs.FirstFault.{first_fault, IsRegistrable};
 ghost use Rattle.idn_label.specs.Memory.{NeedsNoMemory};
 
-use crate::a_label::{ALabel, MAX_LABEL_LEN, ascii_text};
+use crate::a_label::{ALabel, ascii_text};
 use crate::first_fault::check_label;
 use crate::unit::is_all_ascii;
-use idn_class::Facts;
+use idn_class::{Facts, MAX_LABEL_LEN};
 use idn_punycode::KeptPunycode;
 use idn_text::Refusal;
 use std::alloc::Global;

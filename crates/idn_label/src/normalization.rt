@@ -8,9 +8,8 @@ ghost use Rattle.idn_text.specs.Points.{AreScalarValues};
 ghost use Rattle.idn_class.specs.Facts.{AreFactsOf};
 ghost use Rattle.idn_label.specs.Memory.{NeedsNoMemory};
 
-use crate::a_label::MAX_LABEL_LEN;
 use crate::code_points::{chars_of, short_chars};
-use idn_class::{Fact, Facts};
+use idn_class::{Fact, Facts, MAX_LABEL_LEN};
 use std::alloc::{AllocError, Global};
 use unicode_normalization::IsNormalized;
 use unicode_normalization::slice::{extend_nfc, is_nfc_quick};

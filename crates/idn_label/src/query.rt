@@ -18,6 +18,7 @@ pub use full::deny_list;
 use full::full_lookup;
 use idn_text::Refusal;
 use ldh::ldh_query;
+pub use lengths::MAX_NAME_LEN;
 use lengths::MAX_QUERY_LEN;
 use simple::simple_query;
 use std::alloc::Global;

@@ -9,11 +9,12 @@ ghost use Rattle.idn_label.specs.Answers.{Gives};
 ghost use Rattle.idn_label.specs.Memory.{NeedsNoMemoryDecoded};
 ghost use Rattle.idn_label.specs.Register.{decoded_code, u_label_answer};
 
-use crate::a_label::{MAX_LABEL_LEN, ascii_text};
+use crate::a_label::ascii_text;
 use crate::code_points::points_of;
 use crate::first_fault::{check_label, test_label};
 use crate::unit::{Unit, is_all_ascii, to_lowercase};
 use arrayvec::{ArrayString, ArrayVec};
+use idn_class::MAX_LABEL_LEN;
 use idn_punycode::DecodedLabel;
 use idn_text::{MAX_LINE_LEN, Refusal};
 use idna::{Errors, punycode};

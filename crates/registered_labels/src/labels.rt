@@ -12,15 +12,12 @@ ghost use Rattle.registered_labels.specs.inner.Readings.{IsLineEnd, IsReadAs};
 
 use crate::order::order_of;
 use arrayvec::ArrayVec;
+use idn_class::MAX_LABEL_LEN;
 use idn_label::{ldh_end, test_utf8};
 use idn_text::{MAX_LINE_LEN, Refusal, decode_points, put_points, without_carriage_return};
 use memchr::memchr;
 use std::alloc::{AllocError, AllocFailed, Global};
 use std::marker::Model;
-
-/// The most code points of a label: the A-label of a longer one has more octets than the 63 that a label has in the DNS
-/// (RFC 1035, section 2.3.4).
-pub(crate) const MAX_LABEL_LEN: usize = 63;
 
 /// The most bytes of a label in UTF-8.
 const MAX_KEY_LEN: usize = 4 * MAX_LABEL_LEN;

@@ -20,31 +20,14 @@ use crate::definition_line::{DefinitionLine, read_line};
 use crate::fault::DefinitionFault;
 use crate::keyword::{Keyword, keyword_of};
 use crate::lexemes::next_lexeme;
-use crate::limits::{is_within, without_atoms};
+use crate::limits::{
+    ATOM_LIMIT, DEFINITION_LIMIT, GROUP_LIMIT, PATTERN_LIMIT, SET_LIMIT, STAR_LIMIT, TAG_LIMIT,
+    is_within, without_atoms,
+};
 use crate::names::{Name, copied_names, is_one_of};
 use label_patterns::{PatternTree, PointSet};
 use std::alloc::{AllocError, Global};
 use std::marker::Model;
-
-/// The most tags of a ruleset.
-const TAG_LIMIT: usize = 8;
-
-/// The most sets.
-const SET_LIMIT: usize = 256;
-
-/// The most rules and demands together.
-const PATTERN_LIMIT: usize = 256;
-
-/// The most atoms of all patterns together.
-const ATOM_LIMIT: usize = 4096;
-
-/// The most groups within each other, and the most `*`.
-const GROUP_LIMIT: u32 = 8;
-
-const STAR_LIMIT: u32 = 2;
-
-/// The most bytes of the canonical line of a definition.
-const LINE_LIMIT: usize = 8192;
 
 /// A demand on each label.
 #[derive(Drop)]
@@ -245,7 +228,7 @@ impl Definitions {
     fn is_line_over_limit(&self, limit: usize, len: usize) -> bool
         ensures { result ≡ words.is_line_over_limit limit self.now len }
     {
-        len > LINE_LIMIT || len >= limit.saturating_sub(self.written)
+        len > DEFINITION_LIMIT || len >= limit.saturating_sub(self.written)
     }
 
     /// Whether one more of its kind goes past a limit.

@@ -41,7 +41,10 @@ pub use laws::{
     reading_spans_is_exact, what_lines_define_has_no_fault,
 };
 pub use lexemes::{next_lexeme, without_blanks};
-pub use limits::{has_its_sets, is_within, without_atoms};
+pub use limits::{
+    ATOM_LIMIT, GROUP_LIMIT, PATTERN_LIMIT, SET_LIMIT, STAR_LIMIT, TAG_LIMIT, has_its_sets,
+    is_within, without_atoms,
+};
 pub use names::{Name, is_name, is_one_of, number_of};
 pub use set_names::set_name;
 pub use spans::{Held, SpanPart, part_of, read_spans};

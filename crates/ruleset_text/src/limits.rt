@@ -1,4 +1,4 @@
-//! The limits on a pattern.
+//! The limits on what a ruleset defines, and those on a pattern.
 ghost use Rattle.std.specs.Prelude.{◌≡◌, ◌↔◌, ◌+◌, ◌<◌, ◌≤◌, MatchOption, IsTrue};
 ghost use Rattle.label_patterns.specs.Trees.{pattern};
 ghost use Rattle.ruleset_text.specs.Limits as limits;
@@ -7,8 +7,29 @@ ghost use Rattle.ruleset_text.specs.Limits.{IsWithin};
 
 use label_patterns::PatternTree;
 
+/// The most tags of a ruleset.
+pub const TAG_LIMIT: usize = 8;
+
+/// The most sets.
+pub const SET_LIMIT: usize = 256;
+
+/// The most rules and demands together.
+pub const PATTERN_LIMIT: usize = 256;
+
+/// The most atoms of all patterns together.
+pub const ATOM_LIMIT: usize = 4096;
+
+/// The most groups of a pattern that stand within each other.
+pub const GROUP_LIMIT: usize = 8;
+
+/// The most `*` of a pattern that stand within each other.
+pub const STAR_LIMIT: u32 = 2;
+
+/// The most bytes of the canonical line of a definition.
+pub(crate) const DEFINITION_LIMIT: usize = 8192;
+
 /// Whether at most so many groups, and at most so many `*`, stand within each other.
-pub fn is_within(tree: &PatternTree, groups: u32, stars: u32) -> bool
+pub fn is_within(tree: &PatternTree, groups: usize, stars: u32) -> bool
     ensures { IsTrue result ↔ IsWithin groups stars (pattern tree.now) }
 {
     match tree {

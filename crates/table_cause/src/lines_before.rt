@@ -9,11 +9,10 @@ use crate::entry_place::WrongPlace;
 use crate::line_names::{defined_name, keyword_place};
 use crate::pattern_limit::{atoms_left, first_past};
 use idn_text::{TextLines, without_carriage_return};
-use ruleset_text::{Keyword, Name, keyword_of, next_lexeme};
+use ruleset_text::{
+    ATOM_LIMIT, Keyword, Name, PATTERN_LIMIT, SET_LIMIT, TAG_LIMIT, keyword_of, next_lexeme,
+};
 use std::alloc::{AllocError, Global};
-
-/// The most atoms of all patterns together.
-const ATOM_LIMIT: usize = 4096;
 
 /// The first lines of a text.
 #[derive(Clone, Copy)]
@@ -132,17 +131,19 @@ fn is_counted_with(keyword: Keyword, other: Option<Keyword>) -> bool
 }
 
 /// 1 for what counts, else 0.
-fn one_if(counts: bool) -> u64
+fn one_if(counts: bool) -> usize
     ensures { result ≡ (if counts then 1 else 0) }
 {
     if counts { 1 } else { 0 }
 }
 
-fn most_defined(keyword: Keyword) -> u64
+/// How much may be defined of what is counted with a keyword.
+fn most_defined(keyword: Keyword) -> usize
     ensures { result ≡ definitions.most_defined keyword }
 {
     match keyword {
-        Keyword::Tag => 8,
-        Keyword::Set | Keyword::Rule | Keyword::Never | Keyword::Always => 256,
+        Keyword::Tag => TAG_LIMIT,
+        Keyword::Set => SET_LIMIT,
+        Keyword::Rule | Keyword::Never | Keyword::Always => PATTERN_LIMIT,
     }
 }

@@ -8,12 +8,7 @@ ghost use Rattle.table_cause.specs.inner.NestingSteps.{nesting_of};
 use crate::entry_place::WrongPlace;
 use crate::placed::next_placed;
 use arrayvec::ArrayVec;
-use ruleset_text::{Keyword, Token, keyword_of, token_of};
-
-/// The most groups within each other, and the most `*`.
-const GROUP_LIMIT: usize = 8;
-
-const STAR_LIMIT: u32 = 2;
+use ruleset_text::{GROUP_LIMIT, Keyword, STAR_LIMIT, Token, keyword_of, token_of};
 
 /// How many `*` stand within each other in a pattern, as far as it was read.
 #[derive(Drop)]

@@ -1,10 +1,8 @@
 //! The tags of a sequence.
 ghost use Rattle.std.specs.Prelude.{◌≡◌, ◌<◌, ◌≤◌, [], ◌∷◌, ◌++◌, length};
 
+use ruleset_text::TAG_LIMIT;
 use std::marker::Model;
-
-/// The most tags of a table, so of a sequence, too.
-const TAG_LIMIT: usize = 8;
 
 /// The numbers of tags, in the order in which they were added. They lie in the value itself, in nine bytes.
 #[derive(Drop)]

@@ -16,7 +16,8 @@ use arrayvec::ArrayVec;
 use idn_cause::{
     ALabelCause, Cause, LengthCause, NameCause, a_label_cause, cause_of, name_cause, query_cause,
 };
-use idn_label::{MAX_LABEL_LEN, code_point_at, has_ace_prefix};
+use idn_class::MAX_LABEL_LEN;
+use idn_label::{code_point_at, has_ace_prefix};
 use idn_text::{MAX_LINE_LEN, Refusal, decode_points, write_points};
 use label_patterns::ConditionKind;
 use ruleset_text::DemandKind;

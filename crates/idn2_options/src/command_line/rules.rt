@@ -9,10 +9,8 @@ use crate::command_line::arguments::{
 };
 use crate::command_line::counts::{count_of, steps_of};
 use clap::ArgMatches;
+use idn_text::MAX_LINE_LEN;
 use variant_table::Notation;
-
-/// The most bytes of `--after`.
-const MAX_START: usize = 1_024;
 
 /// Whether the options may stand together, and their values are in their ranges.
 pub(crate) fn is_allowed(matches: &ArgMatches<'_>) -> bool
@@ -194,7 +192,7 @@ fn is_bound_if_given(matches: &ArgMatches<'_>) -> bool
 fn has_short_start(matches: &ArgMatches<'_>) -> bool
     ensures { result ≡ has_short_start (rows_of (found_of matches.now)) }
 {
-    start_of(matches).len() <= MAX_START
+    start_of(matches).len() <= MAX_LINE_LEN
 }
 
 /// Whether there are no STRINGS where a table is checked.

@@ -3,13 +3,13 @@ ghost use Rattle.std.specs.Prelude.{◌≡◌, ◌≤◌, ◌-◌};
 ghost use Rattle.std.specs.Int.{is_in_range};
 ghost use Rattle.idn_label.specs.LdhNames.{may_end};
 
-use crate::a_label::MAX_LABEL_LEN;
+use idn_class::MAX_LABEL_LEN;
 
 /// The most octets of a name in the DNS, a full stop at its end put aside.
-const MAX_NAME_LEN: usize = 253;
+pub const MAX_NAME_LEN: usize = 253;
 
 /// The most octets of a name in the DNS with a full stop at its end.
-pub(crate) const MAX_QUERY_LEN: usize = 254;
+pub(crate) const MAX_QUERY_LEN: usize = MAX_NAME_LEN + 1;
 
 /// Whether a label that begins at `start` and ends before `end` has 1 to 63 octets.
 #[inline]

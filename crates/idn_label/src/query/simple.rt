@@ -11,13 +11,13 @@ ghost use Rattle.idn_label.specs.ALabel.{a_label_of};
 ghost use Rattle.idn_label.specs.inner.SimpleNames.{AreAppended, Cover, IsTested};
 ghost use Rattle.idn_label.specs.Lookup.{deny_list};
 
-use crate::a_label::{ALabelEncoder, MAX_LABEL_LEN};
+use crate::a_label::ALabelEncoder;
 use crate::full_stops::label_end;
 use crate::query::bidi::passes_bidi_rule;
 use crate::query::buffers::{LookupBuffers, Mapped, Query};
 use crate::query::lengths::{has_label_length, may_end};
 use crate::unit::{has_ace_prefix, is_all_ascii};
-use idn_class::{Fact, Facts};
+use idn_class::{Fact, Facts, MAX_LABEL_LEN};
 use idn_text::character_at;
 use ucd_idna_map::{IdnaStatus, idna_mapping};
 use unicode_normalization::IsNormalized;
