@@ -17,8 +17,6 @@ from program import ROOT, run_tests, text_of
 # The drawing of the crates themselves, and the crate of which nothing is drawn: each file of it is a test.
 OF_CRATES = "the crates"
 UNDRAWN = "idn2_rows"
-# The crate whose modules stand in folders, each a room with a row of its own.
-OF_ROOMS = "idn2_cli"
 
 # What a file names of its own crate: in code by `crate::`, in contracts by the types that it declares.
 IN_CODE = re.compile(r"\bcrate::((?:\w+::)*\w+)")
@@ -192,10 +190,10 @@ def names_what_is_in_other_files(folder):
 
 
 def has_a_row_for_each_module(folder):
-    """The tables of rooms have each module of their crate once, and each crate but the one with rooms of its own."""
+    """The tables of rooms have each module of their crate once."""
     section = text_of("docs", "ARCHITECTURE.md").partition("\n## The rooms of each crate\n")[2].partition("\n## ")[0]
     parts = re.findall(r"^`crates/(\w+)/src`:\n\n((?:\|.*\n)+)", section, re.MULTILINE)
-    assert [crate for crate, _ in parts] == [crate for crate in crates() if crate not in (UNDRAWN, OF_ROOMS)], parts
+    assert [crate for crate, _ in parts] == [crate for crate in crates() if crate != UNDRAWN], parts
     for crate, table in parts:
         rows, modules = re.findall(r"^\| `([\w/]+)\.rt` \|", table, re.MULTILINE), set(sources(crate)) - {"laws"}
         assert sorted(rows) == sorted(modules), (crate, set(rows) ^ modules)

@@ -36,8 +36,8 @@ def run_within(space, words, given=b""):
     return run(words, given, preexec_fn=lambda: resource.setrlimit(resource.RLIMIT_AS, (space, space)))
 
 
-def expect(words, given, output, messages, status):
-    done = run(words, given)
+def expect(words, given, output, messages, status, **more):
+    done = run(words, given, **more)
     wanted = (output, messages, status)
     found = (done.stdout, done.stderr, done.returncode)
     assert found == wanted, f"{words}: wanted {wanted}, found {found}"

@@ -18,7 +18,7 @@ use Rattle.variant_table.specs.WellFormed.{IsWellFormed}
 use Rattle.valid_labels.specs.Causes as validity_causes
 use Rattle.valid_labels.specs.Furthest.{IsFurthest, furthest}
 use Rattle.valid_labels.proofs.SourceLemmas.{furthest-told}
-use Rattle.idn2_cli.specs.Explained.{Explained, Unexplained, bad_byte, body_cause, invalid_cause, outside_cause, points_cause, unless_unexplained, table_cause, text_cause, validity_cause}
+use Rattle.idn2_cli.specs.Explained.{Explained, Unexplained, bad_byte, body_cause, invalid_cause, not_in_table_cause, points_cause, unless_unexplained, table_cause, text_cause, validity_cause}
 use Rattle.idn2_cli.specs.CauseTexts.{tail_text}
 use Rattle.idn2_cli.proofs.TextAnswers.{is_not_utf8}
 use Rattle.idn2_cli.specs.inner.Explaining.{explained_by}
@@ -46,15 +46,15 @@ pub bad_byte-at : (bytes : List ℕ) (place : ℕ) → IsValidUpTo bytes place �
 bad_byte-at bytes place valid = ap (λ n. Byte n (slice_index bytes n)) (utf8_valid_len-IsValidUpTo bytes place valid)
 
 -- the code point after the furthest place that sources reach
-pub outside_cause-told : (table : TableValue) (label : List ℕ) (place : ℕ) → IsWellFormed table.entries → length label ≤ 63 → IsFurthest table label place → outside_cause table label ≡ Some (Point place (slice_index label place))
-outside_cause-told table label place formed short is =
+pub not_in_table_cause-told : (table : TableValue) (label : List ℕ) (place : ℕ) → IsWellFormed table.entries → length label ≤ 63 → IsFurthest table label place → not_in_table_cause table label ≡ Some (Point place (slice_index label place))
+not_in_table_cause-told table label place formed short is =
     let within : nat_le (length label) 63 ≡ true = grind (arith, nat_tests) in
     let at : furthest table label ≡ place = sym ((furthest-told.exactly table label place formed).0 is) in
     ap (λ b. cond b (Some (Point (furthest table label) (slice_index label (furthest table label)))) None) within
     ∙ ap (λ n. Some (Point n (slice_index label n))) at
 
 pub outside-told : (table : TableValue) (label : List ℕ) (place : ℕ) → IsWellFormed table.entries → length label ≤ 63 → IsFurthest table label place → table_cause table label NotInTable ≡ Some (OfLabel (Point place (slice_index label place)))
-outside-told table label place formed short is = ap (option_map OfLabel) (outside_cause-told table label place formed short is)
+outside-told table label place formed short is = ap (option_map OfLabel) (not_in_table_cause-told table label place formed short is)
 
 -- of a short label that is made of sources and isn't valid
 pub invalid_cause-told : (table : TableValue) (label : List ℕ) → length label ≤ 63 → invalid_cause table label ≡ option_map (validity_cause table label) (validity_causes.cause_of table label)

@@ -42,13 +42,13 @@ use Rattle.idn2_options.specs.Settings.{Settings}
 use Rattle.idn2_options.specs.declared.command_line.mode.Mode.{Mode}
 use Rattle.idn2_options.specs.declared.command_line.mode.Mode.TheVariants as modes
 use Rattle.idn2_cli.specs.Answers.{IsRefusedAs, LineAnswer, if_admitted, line_answer, mode_answer, one_answer, requested_label, text_answer}
-use Rattle.idn2_cli.specs.Explained.{Explained, Unexplained, ByLabel, ByName, ByQuery, ByTable, ByRequest, ByRegisteredLine, bad_byte, body_cause, explained_by_mode, explained_in, if_wanted, invalid_cause, outside_cause, points_cause, registration_cause, table_cause, unless_unexplained, validity_cause}
-use Rattle.idn2_cli.specs.LineCauses.{IsBadByte, IsInvalidCause, IsLineCause, IsOf, IsOutsideCause, IsPointsCause, IsRegistrationCause, IsTableCause, RefusalsAreExplained}
+use Rattle.idn2_cli.specs.Explained.{Explained, Unexplained, ByLabel, ByName, ByQuery, ByTable, ByRequest, ByRegisteredLine, bad_byte, body_cause, explained_by_mode, explained_in, if_wanted, invalid_cause, not_in_table_cause, points_cause, registration_cause, table_cause, unless_unexplained, validity_cause}
+use Rattle.idn2_cli.specs.LineCauses.{IsBadByte, IsInvalidCause, IsLineCause, IsOf, IsNotInTableCause, IsPointsCause, IsRegistrationCause, IsTableCause, RefusalsAreExplained}
 use Rattle.idn2_cli.specs.Said.{Said}
 use Rattle.idn2_cli.specs.Transcript.{Refuses, pieces_for, piece_in}
 use Rattle.idn2_cli.specs.declared.refusals.cause.LineCause.{LineCause}
 use Rattle.idn2_cli.specs.declared.refusals.cause.LineCause.TheVariants.{LongLine, OfLabel, OfALabel, OfName, OfQuery}
-use Rattle.idn2_cli.proofs.CauseLemmas.{bad_byte-at, invalid_cause-told, outside-told, outside_cause-told}
+use Rattle.idn2_cli.proofs.CauseLemmas.{bad_byte-at, invalid_cause-told, outside-told, not_in_table_cause-told}
 use Rattle.idn2_cli.proofs.AdmittedLabels.{admitted-made, admitted_answer, admitted_or_refused, refused_answer}
 
 -- ---- what is told of code points is their cause
@@ -81,15 +81,15 @@ registered-is label refusal cause = by_prefix (has_ace_prefix label) refl
 abbrev IsOutside : TableValue → List ℕ → Type 0
 IsOutside table label = (length label ≤ 63) × (IsMadeOfSources table label → ⊥)
 
-outside-is : (table : TableValue) (label : List ℕ) (cause : Cause) → IsWellFormed table.entries → IsOutside table label → (outside_cause table label ≡ Some cause) ↔ IsOutsideCause table label cause
+outside-is : (table : TableValue) (label : List ℕ) (cause : Cause) → IsWellFormed table.entries → IsOutside table label → (not_in_table_cause table label ≡ Some cause) ↔ IsNotInTableCause table label cause
 outside-is table label cause formed outside =
     let is = (furthest-told.exactly table label (furthest table label) formed).1 refl in
-    let told = outside_cause-told table label (furthest table label) formed outside.0 is in (
+    let told = not_in_table_cause-told table label (furthest table label) formed outside.0 is in (
       λ h.
           let found : Some (Point (furthest table label) (slice_index label (furthest table label))) ≡ Some cause = sym told ∙ h in
           let same : Point (furthest table label) (slice_index label (furthest table label)) ≡ cause = cc in
           (furthest table label, is, furthest-told.within table label formed outside.1, sym same),
-      λ has. outside_cause-told table label has.0 formed outside.0 has.1 ∙ ap Some (sym has.3),
+      λ has. not_in_table_cause-told table label has.0 formed outside.0 has.1 ∙ ap Some (sym has.3),
     )
 
 -- a label that is refused with 41 is short enough, too, and is made of sources, but may not be asked about
@@ -110,7 +110,7 @@ pub record IsRefusedUnder (table : TableValue) (label : List ℕ) (refusal : Ref
 
 table-is : (table : TableValue) (label : List ℕ) (refusal : Refusal) (cause : LineCause) → IsRefusedUnder table label refusal → (table_cause table label refusal ≡ Some cause) ↔ IsTableCause table label refusal cause
 table-is table label NotInTable cause under =
-    of-part OfLabel (outside_cause table label) (IsOutsideCause table label) cause (λ c. outside-is table label c under.sound.entries (under.outside refl))
+    of-part OfLabel (not_in_table_cause table label) (IsNotInTableCause table label) cause (λ c. outside-is table label c under.sound.entries (under.outside refl))
 table-is table label refusals.NotValid cause under = invalid-is table label cause under.sound (under.invalid refl)
 table-is table label refusal cause under = of-part OfLabel (cause_of label refusal) (IsCause label refusal) cause (cause-is label refusal)
 

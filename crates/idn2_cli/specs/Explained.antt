@@ -60,8 +60,8 @@ registration_cause label refusal =
     if has_ace_prefix label then option_map OfALabel (a_label_cause label refusal) else option_map OfLabel (cause_of label refusal)
 
 -- the code point after those that sources of the table reach, of a label that is short enough to be registered (RFC 7940, section 8.1)
-abbrev pub outside_cause : TableValue → List ℕ → Option Cause
-outside_cause table label =
+abbrev pub not_in_table_cause : TableValue → List ℕ → Option Cause
+not_in_table_cause table label =
     if nat_le (length label) 63 then Some (Point (furthest table label) (slice_index label (furthest table label))) else None
 
 -- why a label that is made of sources may not be asked about: what is asked of the rule of a source that stands at a place, or a
@@ -79,7 +79,7 @@ invalid_cause table label =
 
 -- of a label by the sources of a table, and by what the table asks of its labels
 abbrev pub table_cause : TableValue → List ℕ → Refusal → Option LineCause
-table_cause table label NotInTable = option_map OfLabel (outside_cause table label)
+table_cause table label NotInTable = option_map OfLabel (not_in_table_cause table label)
 table_cause table label NotValid = invalid_cause table label
 table_cause table label refusal = option_map OfLabel (cause_of label refusal)
 

@@ -35,8 +35,8 @@ IsRegistrationCause label refusal cause =
     ⊎ ((has_ace_prefix label ≡ false) × IsOf OfLabel (IsCause label refusal) cause)
 
 -- of a label that isn't made of sources of a table: the code point after the furthest place that they reach (RFC 7940, section 8.1)
-abbrev pub IsOutsideCause : TableValue → List ℕ → Cause → Type 0
-IsOutsideCause table label cause =
+abbrev pub IsNotInTableCause : TableValue → List ℕ → Cause → Type 0
+IsNotInTableCause table label cause =
     (place : ℕ) × IsFurthest table label place × (place < length label) × (cause ≡ Point place (slice_index label place))
 
 -- of a label that is made of sources of a ruleset and isn't valid: a source whose condition fails, or a demand (RFC
@@ -46,7 +46,7 @@ IsInvalidCause table label cause = IsOf (validity_cause table label) (validity_c
 
 -- of a label under a table
 abbrev pub IsTableCause : TableValue → List ℕ → Refusal → LineCause → Type 0
-IsTableCause table label NotInTable cause = IsOf OfLabel (IsOutsideCause table label) cause
+IsTableCause table label NotInTable cause = IsOf OfLabel (IsNotInTableCause table label) cause
 IsTableCause table label NotValid cause = IsInvalidCause table label cause
 IsTableCause table label refusal cause = IsOf OfLabel (IsCause label refusal) cause
 

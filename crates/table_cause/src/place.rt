@@ -349,7 +349,7 @@ fn first_again(mapped: &[Mapped]) -> Option<usize>
     ensures { result ≡ places.first_again [] (forms_of mapped.now) }
 {
     for number in 0..mapped.len() {
-        if is_before(mapped, number) {
+        if is_given_again(mapped, number) {
             return Some(number);
         }
     }
@@ -357,7 +357,7 @@ fn first_again(mapped: &[Mapped]) -> Option<usize>
 }
 
 /// Whether the variant of this number repeats the source or an earlier variant, where it may not.
-fn is_before(mapped: &[Mapped], number: usize) -> bool
+fn is_given_again(mapped: &[Mapped], number: usize) -> bool
     requires { number < length mapped.now }
     ensures { (d : Form) → result ≡ places.stands_in true (take number (forms_of mapped.now)) (slice_index_or (forms_of mapped.now) number d) }
 {

@@ -14,7 +14,7 @@ pub enum Admission {
 /// Whether a label is valid.
 #[derive(Clone, Copy, Debug, PartialEq, Eq)]
 pub enum Validity {
-    /// The first code points, as many as told, are the shortest beginning with which no valid label begins.
+    /// The first code points, as many as told, are the shortest lost beginning. No valid label begins with them.
     Lost(usize),
     /// The label is valid.
     Valid,

@@ -29,7 +29,7 @@ pub(crate) fn ruling_of_table(
 }
 
 /// The test of the labels of one line.
-pub(crate) fn test_by<'p>(
+pub(crate) fn validity_test_by<'p>(
     alloc: Global,
     ruling: &'p Option<Pieces<'p>>,
 ) -> Result<Option<ValidityTest<'p>>, AllocError>

@@ -18,7 +18,7 @@ ghost use Rattle.idn2_cli.specs.inner.ServedLines.{result_of};
 ghost use Rattle.idn2_cli.specs.declared.modes.answering.Served.TheVariants as served;
 ghost use Rattle.idn2_cli.specs.declared.output.stop.Stop.TheVariants as stop;
 
-use crate::modes::admission::{admitted_net, test_by};
+use crate::modes::admission::{admitted_net, validity_test_by};
 use crate::modes::answering::{Served, answered, refused};
 use crate::modes::code_points::PointAnswering;
 use crate::modes::kept_line::KeptLine;
@@ -86,7 +86,7 @@ fn answer_least<W: Sink, E: Sink>(
     ensures begun { result ≡ served.Stopped stop.Memory → console.new ≡ console.old }
 {
     let (label, text) = parts_of(points);
-    let Ok(mut validity) = test_by(alloc, mode.ruling) else {
+    let Ok(mut validity) = validity_test_by(alloc, mode.ruling) else {
         return Served::Stopped(Stop::Memory);
     };
     match admitted_net(alloc, mode.table, &mut validity, label) {

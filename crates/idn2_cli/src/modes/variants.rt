@@ -19,7 +19,7 @@ ghost use Rattle.idn2_cli.specs.inner.LineAnswers.{KeepsIfRefused, refusal_in, r
 ghost use Rattle.idn2_cli.specs.inner.Ruling.{KeepsOf, filter_by, ruling_in, ruling_of};
 ghost use Rattle.idn2_cli.specs.inner.ServedLines.{result_of};
 
-use crate::modes::admission::{admitted_net, test_by};
+use crate::modes::admission::{admitted_net, validity_test_by};
 use crate::modes::allocations::{Allocations, SubTables};
 use crate::modes::answering::{Served, answered, refused};
 use crate::modes::block::write_block;
@@ -145,7 +145,7 @@ fn list<W: Sink, E: Sink>(
         (All NeedsNoMemory (tested_after (filter_of mode.now.table.now) (keeping (option_copied mode.now.registered) mode.now.options.now) (spelled mode.now.table.now label.now)))
         console.old console.new (result_of result) }
 {
-    let Ok(mut validity) = test_by(alloc, mode.ruling) else {
+    let Ok(mut validity) = validity_test_by(alloc, mode.ruling) else {
         return Served::Stopped(Stop::Memory);
     };
     match admitted_net(alloc, mode.table, &mut validity, label) {

@@ -6,7 +6,7 @@ ghost use Rattle.idn_text.specs.Points.{AreScalarValues, IsUtf8Of, utf8_of};
 ghost use Rattle.ruleset_text.specs.Definitions.{rule_name};
 ghost use Rattle.answer_json.specs.Details.{given_len};
 ghost use Rattle.idn_cause.specs.NameCauses.{name_cause, query_cause};
-ghost use Rattle.idn2_cli.specs.Explained.{bad_byte, body_cause, if_wanted, outside_cause, points_cause, registration_cause, table_cause, text_cause, unless_unexplained};
+ghost use Rattle.idn2_cli.specs.Explained.{bad_byte, body_cause, if_wanted, not_in_table_cause, points_cause, registration_cause, table_cause, text_cause, unless_unexplained};
 ghost use Rattle.idn2_cli.specs.Explained.{invalid_cause as invalid_cause_of, validity_cause as validity_cause_of};
 ghost use Rattle.idn2_cli.specs.inner.Explaining.{explained_by};
 
@@ -247,15 +247,15 @@ fn cause_by_table(
     ensures { IfOk result (λ cause. cause ≡ table_cause table.now label.now refusal) }
 {
     match refusal {
-        Refusal::NotInTable => Ok(of_label(outside_cause(label, table))),
+        Refusal::NotInTable => Ok(of_label(not_in_table_cause(label, table))),
         Refusal::NotValid => cause_by_ruleset(alloc, label, table),
         _ => Ok(of_label(cause_of(alloc, label, refusal)?)),
     }
 }
 
 /// The code point after those that sources of a table reach.
-fn outside_cause(label: &[u32], table: &Table) -> Option<Cause>
-    ensures { result ≡ outside_cause table.now label.now }
+fn not_in_table_cause(label: &[u32], table: &Table) -> Option<Cause>
+    ensures { result ≡ not_in_table_cause table.now label.now }
 {
     if label.len() > MAX_LABEL_LEN {
         return None;

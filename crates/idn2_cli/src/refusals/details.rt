@@ -7,7 +7,7 @@ ghost use Rattle.idn2_cli.specs.CauseDetails.{at_byte as at_byte_of};
 ghost use Rattle.idn2_cli.specs.CauseTexts.{appendix_text, bidi_text, condition_text};
 
 use crate::refusals::cause::{LineCause, RuleName};
-use crate::refusals::explaining::{name_of_class, word_of_condition, word_of_demand};
+use crate::refusals::cause_text::{name_of_class, word_of_condition, word_of_demand};
 use answer_json::RefusalMembers;
 use idn_cause::{ALabelCause, Cause, LengthCause};
 use idn_class::{BarringLine, BidiCondition};

@@ -7,7 +7,7 @@ ghost use Rattle.idn2_cli.specs.Transcript.{told, line_message, message_with, ta
 
 use crate::output::buffers::append;
 use crate::refusals::cause::LineCause;
-use crate::refusals::explaining::{ExplainedMessage, push_line_cause};
+use crate::refusals::cause_text::{ExplainedMessage, push_line_cause};
 use arrayvec::ArrayString;
 use idn_text::Refusal;
 use itoa::Buffer;

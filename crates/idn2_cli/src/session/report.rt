@@ -12,7 +12,7 @@ use crate::output::status::Status;
 use crate::refusals::cause::LineCause;
 use crate::refusals::details::details_of_refusal;
 use crate::refusals::message::{explained_message, registered_message};
-use crate::refusals::wrong_line::cause_if_wanted;
+use crate::refusals::registered_cause::cause_if_wanted;
 use answer_json::MAX_OBJECT_LEN;
 use idn_text::{Refusal, Sink, write_text};
 use idn2_options::{Form, Options};

@@ -8,12 +8,12 @@ use Rattle.table_cause.proofs.place.first_again.Goals as goal
 any_form : Form
 any_form = record { marked = false; points = []; tags = []; condition = None }
 
-pub returns-then-is_before : goal.returns-then-is_before
-returns-then-is_before c =
+pub returns-then-is_given_again : goal.returns-then-is_given_again
+returns-then-is_given_again c =
     let ms = c.args.mapped.now in
-    again_here (forms_of ms) c.loop-number.number any_form (omega (arith, length-forms ms)) (sym (c.is_before.ensures any_form) ∙ c.if-is_before.true) c.loop-number.invariant
+    again_here (forms_of ms) c.loop-number.number any_form (omega (arith, length-forms ms)) (sym (c.is_given_again.ensures any_form) ∙ c.if-is_given_again.true) c.loop-number.invariant
 
 pub loop-number-preserved : goal.loop-number-preserved
 loop-number-preserved c =
     let ms = c.args.mapped.now in
-    again_later (forms_of ms) c.loop-number.number any_form (omega (arith, length-forms ms)) (sym (c.is_before.ensures any_form) ∙ c.if-is_before.false) c.loop-number.invariant
+    again_later (forms_of ms) c.loop-number.number any_form (omega (arith, length-forms ms)) (sym (c.is_given_again.ensures any_form) ∙ c.if-is_given_again.false) c.loop-number.invariant

@@ -4,7 +4,7 @@ use Rattle.ruleset_text.specs.EntryForms.{mapped as form_of}
 use Rattle.table_cause.specs.FaultPlaces.{is_again}
 use Rattle.table_cause.specs.inner.PlaceSteps.{forms_of}
 use Rattle.table_cause.proofs.FindLemmas.{form_at, stands_here, stands_later}
-use Rattle.table_cause.proofs.place.is_before.Goals as goal
+use Rattle.table_cause.proofs.place.is_given_again.Goals as goal
 
 -- the form that is looked for is that of the number
 pub returns-then-is_again : goal.returns-then-is_again

@@ -1,6 +1,6 @@
 use Rattle.std.proofs.Common.{ℕ, ◌+◌, length, length-append, ap, arith}
 use Rattle.idn2_cli.proofs.CauseLemmas.{label_digits}
-use Rattle.idn2_cli.proofs.refusals.explaining.push_label_number.Goals as goal
+use Rattle.idn2_cli.proofs.refusals.cause_text.push_label_number.Goals as goal
 
 pub append-requires : goal.append-requires
 append-requires c =

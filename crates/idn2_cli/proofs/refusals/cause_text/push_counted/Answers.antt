@@ -1,6 +1,6 @@
 use Rattle.std.proofs.Common.{ℕ, ◌+◌, length, length-append, ap, arith}
 use Rattle.idn2_cli.proofs.CauseLemmas.{place_digits}
-use Rattle.idn2_cli.proofs.refusals.explaining.push_counted.Goals as goal
+use Rattle.idn2_cli.proofs.refusals.cause_text.push_counted.Goals as goal
 
 pub append-requires : goal.append-requires
 append-requires c =

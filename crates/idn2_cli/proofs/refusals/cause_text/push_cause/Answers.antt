@@ -1,6 +1,6 @@
 use Rattle.std.proofs.Common.{append_assoc}
 use Rattle.idn2_cli.specs.CauseTexts.{cause_text}
-use Rattle.idn2_cli.proofs.refusals.explaining.push_cause.Goals as goal
+use Rattle.idn2_cli.proofs.refusals.cause_text.push_cause.Goals as goal
 
 pub returns-in-Points-clause-items : goal.returns-in-Points-clause-items
 unfolding cause_text

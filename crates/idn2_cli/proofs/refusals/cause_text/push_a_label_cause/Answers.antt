@@ -1,6 +1,6 @@
 use Rattle.std.proofs.Common.{append_assoc}
 use Rattle.idn2_cli.specs.CauseTexts.{a_label_text}
-use Rattle.idn2_cli.proofs.refusals.explaining.push_a_label_cause.Goals as goal
+use Rattle.idn2_cli.proofs.refusals.cause_text.push_a_label_cause.Goals as goal
 
 pub returns-in-Other-clause-items : goal.returns-in-Other-clause-items
 unfolding a_label_text

@@ -3,7 +3,7 @@ use Rattle.std.specs.Prelude.{◌==◌, slice_index_or}
 use Rattle.ruleset_text.specs.Entries.{Mapped as Form}
 use Rattle.table_cause.specs.FaultPlaces.{stands_in}
 use Rattle.table_cause.specs.inner.PlaceSteps.{forms_of}
-use Rattle.table_cause.proofs.place.is_before.Given as goal
+use Rattle.table_cause.proofs.place.is_given_again.Given as goal
 
 -- what is left decides
 abbrev pub invariant-loop-other : goal.invariant-loop-other

@@ -1,7 +1,7 @@
 use Rattle.std.proofs.Common.{ap, ◌∙◌}
 use Rattle.idn2_cli.specs.WrongLines.{points_in}
 use Rattle.idn2_cli.proofs.WrongLineLemmas.{points_read}
-use Rattle.idn2_cli.proofs.refusals.wrong_line.read_label.Goals as goal
+use Rattle.idn2_cli.proofs.refusals.registered_cause.read_label.Goals as goal
 
 pub returns-in-Some : goal.returns-in-Some
 returns-in-Some c =

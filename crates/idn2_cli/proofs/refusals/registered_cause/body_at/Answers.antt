@@ -3,7 +3,7 @@ use Rattle.std.specs.Option.{option_copied, option_map}
 use Rattle.std.proofs.lemmas.Iterator.Consumers.{nth_from_yields_List, YieldsList-from_first}
 use Rattle.idn_text.specs.Lines.{raw_lines}
 use Rattle.idn2_cli.specs.WrongLines.{body_if_any}
-use Rattle.idn2_cli.proofs.refusals.wrong_line.body_at.Goals as goal
+use Rattle.idn2_cli.proofs.refusals.registered_cause.body_at.Goals as goal
 use Rattle.idn_text.proofs.LawLemmas.{body_of-long}
 use Rattle.registered_labels.proofs.TextLines.{body_of-short}
 

@@ -1,7 +1,7 @@
 use Rattle.std.specs.Option.{option_copied}
 use Rattle.idn2_cli.specs.Explained.{ByRegisteredLine, body_cause}
 use Rattle.idn2_cli.proofs.WrongLineLemmas.{test_cause-short, told_short}
-use Rattle.idn2_cli.proofs.refusals.wrong_line.cause_of_wrong_line.Goals as goal
+use Rattle.idn2_cli.proofs.refusals.registered_cause.cause_of_wrong_line.Goals as goal
 
 pub returns-in_default-clause-short : goal.returns-in_default-clause-short
 returns-in_default-clause-short c =

@@ -1,7 +1,7 @@
 use Rattle.std.proofs.Common.{◌-◌, ◌∙◌, Some, None, ap}
 use Rattle.idn2_cli.specs.WrongLines.{points_at}
 use Rattle.idn2_cli.proofs.WrongLineLemmas.{order_told, shared_is}
-use Rattle.idn2_cli.proofs.refusals.wrong_line.cause_of_order.Goals as goal
+use Rattle.idn2_cli.proofs.refusals.registered_cause.cause_of_order.Goals as goal
 
 pub returns-in-Some-clause-cause : goal.returns-in-Some-clause-cause
 returns-in-Some-clause-cause c =
