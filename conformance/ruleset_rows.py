@@ -140,6 +140,9 @@ CONDITIONS = "%rule r _ 0062\n%rule s 0062 _\n"
 # As many entries as there may be.
 FULL = "4E00..9FFF\nAC00..D7A3\n20000..2825B\n"
 
+# All atoms that the patterns of a ruleset may have, but six.
+SIX_ATOMS_LEFT = "%set C 0061\n%rule start _\n%never" + " ." * 4000 + "\n%always" + " ." * 90 + "\n"
+
 # A ruleset, and what the check of it prints.
 CHECKS = [
     ("0061..0063\n0078|!0079:007A\n", "missing 0079|0078\nmissing 007A|0078\n#table 4 2\n"),
@@ -164,6 +167,10 @@ CHECKS = [
     (f"%never {'0061 ' * 1024}\n" * 4, "#table 0 0\n"),
     ("%never " + "(" * 8 + "0061" + ")" * 8 + "\n%never ((0061* 0062)* 0063)\n", "#table 0 0\n"),
     ("%never " + "(0061)" * 1169 + "\n", "#table 0 0\n"),
+    ("%rule r ((((((((0061)))))))) _\n%rule s (0061*)* _ ((.*)? $)*\n%never (0061* (0062*)*) 0063*\n", "#table 0 0\n"),
+    (SIX_ATOMS_LEFT + "%never 0061 (0062) ^ . $\n", "#table 0 0\n"),
+    (SIX_ATOMS_LEFT + "%rule abcd 0061? . . _ . . .*\n", "#table 0 0\n"),
+    (SIX_ATOMS_LEFT + "%set abcd 0061 0062 0063..0069\n%never . . .\n%rule r . . _ $\n", "#table 0 0\n"),
     (FULL, "#table 65536 0\n"),
     ("#" * 8192 + "\n0061\n", "#table 1 0\n"),
     (("#" * 8191 + "\n") * 1023 + "#" * 8180 + "\n", "#table 0 0\n"),
@@ -200,6 +207,13 @@ FAULTS = [
     ("0041 when nope\n", 2, 35), ("%never @nope 0041\n", 2, 35), ("%set C 0041\n", 2, 33), ("%never 0041\n", 2, 33),
     ("%rule r 0041 _\n", 2, 33), ("%set t 0061\n%set t 0041\n", 3, 33), ("0061\n0061|0062:0062\n", 3, 32),
     ("0062\n0061..0063\n", 3, 31), ("%set D 0041..007A\n", 2, 33), ("-".join(["0041"] * 9) + " when nope\n", 2, 34),
+    # A name is defined before the line that uses it.
+    ("%tag\n", 2, 30), ("%tag t u\n", 2, 30), ("% tag t\n", 2, 30), ("%Tag t\n", 2, 30), ("%set C 0062 0061\n", 2, 30),
+    ("%rule r @A\n", 2, 30), ("0061 as t\n%tag t\n", 2, 35), ("0061 when r\n%rule r _\n", 2, 35),
+    ("%tag r\n0061 when r\n", 3, 35), ("%tag t\n0061\n0061 as t\n", 4, 31), ("0061 as t,u\n", 2, 35),
+    ("%rule r _\n0061 when r\n0061..0062 when s\n", 4, 35), ("%always ^*\n", 2, 30), ("%rule r @A _\n%set A 0061\n", 2, 35),
+    ("%set A 0061\n%rule A _\n", 3, 36), ("%tag t\n\n%tag t\n", 4, 36), ("%set A 0041\n", 2, 33),
+    ("%rule r @A 0041 _\n", 2, 35), ("%rule r ((0061*)*)* @A _\n", 2, 34), ("%tag t\n0061\n0061\n", 4, 31),
     # Limits that are passed.
     ("".join(f"%tag t{each}\n" for each in range(9)), 10, 34),
     ("".join(f"%set s{each} 0061\n" for each in range(257)), 258, 34),

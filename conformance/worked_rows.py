@@ -15,7 +15,9 @@ import tempfile
 from compare import HERE, PROGRAM
 
 import check
+import label_rows
 import ruleset_rows
+import run_rows
 from notation import canonical, reading
 from notation.faults import TEXTS as FAULT_TEXTS
 from registration import Registration
@@ -168,6 +170,19 @@ FAULTS = [
     ("%version 2\n0062\n0061..0063\n", 3, 31), ("%version 2\n0061..0063\n0063\n", 3, 31),
     ("%version 2\n0061..0063\n0063..0065\n", 3, 31),
     ("%version 2\n4E00..5E00\n", 2, 34), ("%version 2\n0000..10FFFF\n", 2, 34), ("%version 2\n0061\n4E00..5DFF\n", 3, 34),
+    # Lines of version 1 that are no entry, and the other faults of one.
+    ("|0061\n", 1, 30), ("0061||0062\n", 1, 30), ("0061:0062\n", 1, 30), ("0061|0062:\n", 1, 30), ("0061|:0062\n", 1, 30),
+    ("0061-\n", 1, 30), ("-0061\n", 1, 30), ("0061--0062\n", 1, 30), ("0061 0062\n", 1, 30), ("061\n", 1, 30),
+    ("0000061\n", 1, 30), ("U0061\n", 1, 30), ("U+\n", 1, 30), ("U +0061\n", 1, 30), ("D800\n", 1, 30), ("110000\n", 1, 30),
+    ("0061|0062|0063\n", 1, 30), ("!0061\n", 1, 30), ("%version 1\n", 1, 30), ("0061 # note\n", 1, 30),
+    ("0061\r\r\n", 1, 30), ("0061|30:0031\n", 1, 30), ("# note\r\n0061|\r\n0041\n", 2, 30),
+    ("%version 2\nD7FF..D800\n", 2, 30),
+    ("0061\n0062\n\nu+0061|0063\n", 4, 31), ("0062\n0063\n0061\n0062\n", 4, 31), ("0061|0062:0063:0062\n", 1, 32),
+    ("0061-0062|0063:0061-0062\n", 1, 32), ("0061|0062:0041\n", 1, 33), ("0061|0062-0640\n", 1, 33),
+    ("0061-0061-0061-0061-0061-0061-0061-0061-0061\n", 1, 34),
+    ("0061|0062-0062-0062-0062-0062-0062-0062-0062-0062\n", 1, 34), ("0061\n0041|0041\n", 2, 33),
+    ("0061\n0061|0041\n", 2, 33),
+    ("0061|0041:0041:0041:0041:0041:0041:0041:0041:0041:0041:0041:0041:0041:0041:0041:0041:0041\n", 1, 34),
     # The first of a line's faults, in their order.
     ("%version 2\n0061|!0041:0041\n", 2, 33), ("%version 2\n0061\n0061|0062:!0062\n", 3, 32),
     ("%version 2\n0061\n005A..0061\n", 3, 33), ("%version 2\n0041..1041\n", 2, 34),
@@ -188,7 +203,7 @@ CANONICAL = [
 ]
 
 
-def rows():
+def rows_of_tables():
     """The words, the input, the files and what must be answered: output, messages, status."""
     for words, table, label, output in LISTINGS:
         yield ["--variants", "table", *words, label], "", {"table": table}, (output, "", 0)
@@ -206,7 +221,14 @@ def rows():
         message = f"idn2: table line {line}: {number} {FAULT_TEXTS[number]}\n"
         yield ["--check-table", "table"], "", {"table": table}, ("", message, 2)
         yield ["--variants", "table", "a"], "", {"table": table}, ("", message, 2)
+
+
+def rows():
+    """These, and the rows of rulesets, of whole runs, and of labels and names."""
+    yield from rows_of_tables()
     yield from ruleset_rows.rows()
+    yield from run_rows.rows()
+    yield from label_rows.rows()
 
 
 def in_bytes(text):

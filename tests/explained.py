@@ -171,6 +171,8 @@ NINE = "-".join(f"{point:04X}" for point in range(0x61, 0x6A))
 SEVENTEEN = ":".join(f"{point:04X}" for point in range(0x62, 0x73))
 # As many atoms as all patterns of a ruleset may have.
 ATOMS = "%never" + " ." * 4000 + "\n%always" + " ." * 96 + "\n"
+# Six fewer. A group is one at its `(`, and `^` and `$` are; the name of a rule, `_`, `?`, `*` and `/` are none.
+SIX_ATOMS_LEFT = "%set C 0061\n%rule start _\n%never" + " ." * 4000 + "\n%always" + " ." * 90 + "\n"
 
 # Tables with the number of the faulty line, its message, and where the fault is in the line. A lexeme that can't stand there is
 # quoted, unless it is longer than 32 bytes or has other bytes than those of ASCII that are seen.
@@ -207,6 +209,43 @@ FAULTY_TABLES = [
     (NINE + "\n", 1, OVER, "U+0069 at byte 41: code point 9"),
     ("0061|" + SEVENTEEN + "\n", 1, OVER, "U+0072 at byte 86: variant 17"),
     (VERSION_2 + "4E00..5E00\n", 2, OVER, None),
+    ("0061|", 1, SYNTAX, "the line ends at byte 6"),
+    ("|0061", 1, SYNTAX, "'|' at byte 1"),
+    ("0061||0062", 1, SYNTAX, "'|' at byte 6"),
+    ("0061:0062", 1, SYNTAX, "':' at byte 5"),
+    ("0061-", 1, SYNTAX, "the line ends at byte 6"),
+    ("0061- \t", 1, SYNTAX, "the line ends at byte 8"),
+    ("0061--0062", 1, SYNTAX, "'-' at byte 6"),
+    ("0061 0062", 1, SYNTAX, "'0062' at byte 6"),
+    ("061", 1, SYNTAX, "'061' at byte 1"),
+    ("0061|0062|0063", 1, SYNTAX, "'|' at byte 10"),
+    ("  0061 | 0062 | 0063", 1, SYNTAX, "'|' at byte 15"),
+    ("!0061", 1, SYNTAX, "'!' at byte 1"),
+    ("0061 # note", 1, SYNTAX, "'#' at byte 6"),
+    ("0061\r\r\n", 1, SYNTAX, "word at byte 1"),
+    ("0061|ß", 1, SYNTAX, "word at byte 6"),
+    ("0061 when r", 1, SYNTAX, "'when' at byte 6"),
+    ("%version 3", 1, SYNTAX, "'%version' at byte 1"),
+    (VERSION_2 + "0061...0063", 2, SYNTAX, "'...' at byte 5"),
+    (VERSION_2 + "0061|!!0062", 2, SYNTAX, "'!' at byte 7"),
+    (VERSION_2 + "0061|0062..0063", 2, SYNTAX, "'..' at byte 10"),
+    (VERSION_2 + "0061..0063|0064", 2, SYNTAX, "'|' at byte 11"),
+    (VERSION_2 + "0061 as x", 2, SYNTAX, "'as' at byte 6"),
+    (VERSION_2 + " 0061..0100", 2, CLASS, "U+007B in the range at byte 2"),
+    (VERSION_2 + "0061|0062:!0062", 2, TWICE, "variant at byte 12"),
+    ("0041", 1, CLASS, "U+0041 at byte 1"),
+    ("0061|0062:0041", 1, CLASS, "U+0041 at byte 11"),
+    ("0061|0062-0640", 1, CLASS, "U+0640 at byte 11"),
+    ("u+0061|U+0041:0042", 1, CLASS, "U+0041 at byte 8"),
+    ("0061|0062:0062", 1, TWICE, "variant at byte 11"),
+    ("0061|0062:0063:0062", 1, TWICE, "variant at byte 16"),
+    ("0061|0062:0063:0063:0062", 1, TWICE, "variant at byte 16"),
+    ("0061|0062-0063:0062-0063", 1, TWICE, "variant at byte 16"),
+    ("0061-0062|0061 - 0062", 1, TWICE, "variant at byte 11"),
+    ("0061\n0061\n", 2, AGAIN, "source at byte 1"),
+    ("0061\n0062\n\n  u+0061|0063", 4, AGAIN, "source at byte 3"),
+    ("0041-0042-0043-0044-0045-0046-0047-0048-0049", 1, OVER, "U+0049 at byte 41: code point 9"),
+    ("0061|0062-0063-0064-0065-0066-0067-0068-0069-006A", 1, OVER, "U+006A at byte 46: code point 9"),
 ]
 
 # Rulesets by what stands after the version line, which is line 1.
@@ -266,6 +305,28 @@ FAULTY_RULESETS = [
     ("%tag abcd\n0061 as abcd|0041\n", 3, CLASS, "U+0041 at byte 14"),
     ("%rule r _\n%rule s 0061 _\n0061|0062 when r:0062 when s:0063:0063\n", 4, TWICE, "variant at byte 35"),
     ("0061" + " " * 8189 + "\n", 2, OVER, "the line goes on at byte 8193"),
+    ("\t%set C 0062 0061", 2, SYNTAX, "'0061' at byte 14"),
+    ("%rule r ^ (. _)", 2, SYNTAX, "'_' at byte 14"),
+    ("%rule r ^ .", 2, SYNTAX, "the line ends at byte 12"),
+    ("%set C 0024", 2, CLASS, "U+0024 at byte 8"),
+    ("%tag t\n%tag t", 3, "36 name given twice", "'t' at byte 6"),
+    ("0061 as", 2, SYNTAX, "the line ends at byte 8"),
+    ("%rule r _\n%rule s _\n0061|0063 when r:0063 when s:0064:0064", 4, TWICE, "variant at byte 35"),
+    (" !0061..007B", 2, CLASS, "U+007B in the range at byte 3"),
+    ("%never ((0061)) ((((((( ( (.)))))))))", 2, OVER, "'(' at byte 27"),
+    ("%rule r _ ( ( 0061 * ) * ) *", 2, OVER, "'*' at byte 28"),
+    ("%never (0061* (0062*)*)*", 2, OVER, "'*' at byte 24"),
+    ("%never ((0061* / 0062)* 0063)*", 2, OVER, "'*' at byte 30"),
+    ("%always 0061 (((.* ^)* 0062?)?)*", 2, OVER, "'*' at byte 32"),
+    ("%never ((0061*)*)* ((0061*)*)*", 2, OVER, "'*' at byte 18"),
+    ("%rule r ((0061*)*)* @C _ 0041", 2, OVER, "'*' at byte 19"),
+    (SIX_ATOMS_LEFT + "%never 0061 (0062) ^ . $ @C", 6, OVER, "'@C' at byte 26"),
+    (SIX_ATOMS_LEFT + "%rule abcd 0061? . . _ . . .* / _ $", 6, OVER, "'$' at byte 35"),
+    (SIX_ATOMS_LEFT + "\t%always . . . / . . (U+0061)", 6, OVER, "'U+0061' at byte 23"),
+    (SIX_ATOMS_LEFT + "%always . . . / . . . (0061)", 6, OVER, "'(' at byte 23"),
+    (SIX_ATOMS_LEFT + "%set abcd 0061 0062 0063..0069\n%never . . .\r\n0061\n# .\n%rule r . . _ . $", 10, OVER, "'$' at byte 17"),
+    (SIX_ATOMS_LEFT + "%never ((.*)*)* . . . .", 6, OVER, "'*' at byte 15"),
+    (SIX_ATOMS_LEFT + "%never . . . . . . . ((.*)*)*", 6, OVER, "'.' at byte 20"),
 ]
 
 TABLE_ROWS = FAULTY_TABLES + [(VERSION_3 + text, *told) for text, *told in FAULTY_RULESETS]

@@ -1,8 +1,8 @@
 #!/usr/bin/env python3
-"""Asks the second writing of rulesets (conformance/ruleset_labels.py, tables/notation/) and the program for the worked rows of
-version 3, and for what the rulesets of tables/rulesets/ and of docs/NOTATION.md say. Which labels may be registered, and
-which code points may stand in a table, the program tells the second writing. The last line is 'N passed, M failed', and the
-exit status is 0 where nothing failed."""
+"""Asks the second writing of rulesets (conformance/ruleset_labels.py, tables/notation/) for the worked rows of version 3, and the
+program for what the rulesets of tables/rulesets/ and of docs/NOTATION.md say. Which labels may be registered, and which code
+points may stand in a table, the program tells the second writing. The last line is 'N passed, M failed', and the exit status
+is 0 where nothing failed."""
 
 import functools
 import os
@@ -84,15 +84,6 @@ def second_writing_spells(folder):
         assert found == ruleset_rows.VERSION_LINE + wanted, (text, found)
         again = reading.read(found.encode(), BY_PROGRAM.may_stand)
         assert again == ruleset, (text, again)
-
-
-def program_answers(folder):
-    """Each row, as the program answers it."""
-    for words, given, files, wanted in ruleset_rows.rows():
-        words = [table_file(folder, files["table"].encode()) if word == "table" else word for word in words]
-        done = run(words, given.encode())
-        found = done.stdout.decode(), done.stderr.decode(), done.returncode
-        assert found == wanted, (words, given, files["table"][:400], told(found), told(wanted))
 
 
 # The rulesets of tables/rulesets/: words that are to be accepted, labels that are not, each with its number, and variants that
@@ -259,7 +250,6 @@ def finds_collisions_by_least_variants(folder):
 TESTS = [
     second_writing_answers,
     second_writing_spells,
-    program_answers,
     example_rulesets_hold,
     notation_shows_a_ruleset,
     chinese_ruleset_is_as_others_have_it,

@@ -1,311 +1,59 @@
 #!/usr/bin/env python3
-"""Runs the program on worked examples: labels, names, lines, tables, listings and rulesets. What must be printed was worked
-out by hand from the standards. The last line is 'N passed, M failed', and the exit status is 0 where nothing failed."""
+"""Runs the program on the worked rows of conformance/. The last line is 'N passed, M failed', and the exit status is 0 where
+nothing failed."""
 
+import os
 import sys
 
-from program import expect, run_tests, table_file
+from program import ROOT, run, run_tests, table_file
 
-SHARP_S = "0061\n0065\n0072\n0073\n0074\n0073-0073|00DF\n00DF|0073-0073\n"
-DOUBLED = "0061|0061-0061\n"
-HYPHENS = "0061|002D\n"
-CHINA = "4E2D\n56FD|570B\n570B|56FD\n"
-# Vowel signs follow a consonant, with or without a nukta.
-SIGNS = "%version 3\n%set C 0915..0939\n%rule sign @C 093C? _\n0915..0939\n093C when sign\n093E..0940 when sign\n"
-# Digits of one kind, those of the other kind being blocked variants.
-DIGITS = ("%version 3\n%never (0030 / 0031) .* (0966 / 0967) / (0966 / 0967) .* (0030 / 0031)\n"
-          "0030|!0966\n0031|!0967\n0966|!0030\n0967|!0031\n")
-# Simplified and traditional letters, each with its own.
-SCRIPTS = ("%version 3\n%tag simp\n%tag trad\n4E2D\n56FD as simp|570B as trad\n570B as trad|56FD as simp\n"
-           "5B66 as simp|5B78 as trad\n5B78 as trad|5B66 as simp\n")
-# A letter from outside, and one that only ends a label.
-ENDS = "%version 3\n%rule end _ $\n0061|!0430\n0062|0063 when end\n0063|0062\n!0430|!0061\n"
+sys.path += [os.path.join(ROOT, "conformance"), os.path.join(ROOT, "tables")]
 
-LIST = ["--variants", "t"]
-RULESET = ["--ruleset", "t"]
+import label_rows
+import ruleset_rows
+import run_rows
+import worked_rows
+from worked_rows import in_bytes
 
 
-def refused(*lines):
-    """The messages of the lines that are refused, each with its number and its fault."""
-    return "".join(f"idn2: line {number}: {fault}\n" for number, fault in lines)
+def shown(answer):
+    """What a failure shows of an answer."""
+    return tuple(part[:400] if isinstance(part, str) else part for part in answer)
 
 
-# In each row: the words, the table or ruleset, the input; the output, the messages, the status.
+def expect_rows(folder, rows):
+    for words, given, files, wanted in rows:
+        paths = [table_file(folder, in_bytes(text), name) for name, text in files.items()]
+        done = run(words, in_bytes(given), cwd=folder)
+        found = done.stdout.decode(), done.stderr.decode(), done.returncode
+        assert found == wanted, (words, given[:400], {name: text[:400] for name, text in files.items()}, shown(found), shown(wanted))
+        for path in paths:
+            os.remove(path)
 
-# Labels, their A-labels and their first faults.
-REGISTERED = [
-    # The sharp s is PVALID, and is not mapped to ss (RFC 5892, section 2.6).
-    (["-r"], "", "faß\n",
-     "xn--fa-hia\n", "", 0),
-    # A registrable A-label is its own answer (RFC 5891, section 4.1).
-    (["-r"], "", "xn--fa-hia\n",
-     "xn--fa-hia\n", "", 0),
-    # A capital is not mapped, but refused (RFC 5891, section 4.2.2); the line after it is answered.
-    (["-r"], "", "faß\nFaß\nabc\n",
-     "xn--fa-hia\nabc\n", refused((2, "10 disallowed code point")), 1),
-    # A middle dot may stand between two l alone (RFC 5892, appendix A.3).
-    (["-r"], "", "l·l\na·l\n",
-     "xn--ll-0ea\n", refused((2, "16 code point out of context")), 1),
-    # A zero width non-joiner may stand between letters that join, as in this Persian label (RFC 5892, appendix A.1).
-    (["-r"], "", "\u0646\u0627\u0645\u0647\u200C\u0627\u06CC\na\u200Cb\n",
-     "xn--mgba3gch31f060k\n", refused((2, "15 joiner out of context")), 1),
-    # The other faults: an unassigned code point (RFC 5892, section 2.10), not in NFC, hyphens, a leading mark, labels of
-    # both directions, a full stop (RFC 5891, sections 4.2.1, 4.2.3.1, 4.2.3.2, 4.2.3.4 and 4.2.2).
-    (["-r"], "", "\U00050000\na\u0301\nab--c\na-\n\u0301a\na\u05D0\n\u05D0a\na.b\n",
-     "", refused((1, "11 unassigned code point"), (2, "12 not in NFC"), (3, "13 hyphen out of place"),
-                 (4, "13 hyphen out of place"), (5, "14 leading combining mark"), (6, "17 Bidi rule broken"),
-                 (7, "17 Bidi rule broken"), (8, "10 disallowed code point")), 1),
-    # A label in ASCII has at most 63 octets (RFC 1034, section 3.1).
-    (["-r"], "", "a" * 63 + "\n" + "a" * 64 + "\n",
-     "a" * 63 + "\n", refused((2, "18 label too long")), 1),
-    # An A-label has at most 63 octets, too (RFC 5891, section 4.4).
-    (["-r"], "", "a" * 55 + "ß\n" + "a" * 56 + "ß\n",
-     "xn--" + "a" * 55 + "-une\n", refused((2, "18 label too long")), 1),
-]
 
-# A-labels, and what they stand for.
-DECODED = [
-    # A-labels in either case, and the other labels of a name (RFC 5891, section 5.3).
-    (["-d"], "", "xn--fiqs8s.example\nXN--FA-HIA.de\n",
-     "中国.example\nfaß.de\n", "", 0),
-    # Not A-labels: the prefix and the Punycode of a DISALLOWED code point, of ASCII alone, and of nothing (RFC 5890,
-    # section 2.3.2.1).
-    (["-d"], "", "xn--a\nxn--abc-\nxn--\n",
-     "", refused((1, "10 disallowed code point"), (2, "19 not an A-label"), (3, "19 not an A-label")), 1),
-    # Empty labels and capitals in ASCII stay.
-    (["-d"], "", "a..b\n.\nAB\n",
-     "a..b\n.\nAB\n", "", 0),
-]
+def answers_rows_of_labels_and_names(folder):
+    expect_rows(folder, label_rows.rows())
 
-# Names for a query.
-LOOKED_UP = [
-    # Lookup maps capitals, and keeps the sharp s (UTS #46, section 4, non-transitional).
-    (["-l"], "", "Faß.de\n",
-     "xn--fa-hia.de\n", "", 0),
-    # Lookup is the mode where no word names one.
-    ([], "", "Faß.de\n",
-     "xn--fa-hia.de\n", "", 0),
-    # An underscore and a full stop at the end are no fault; a label of 64 octets is (RFC 1034, section 3.1).
-    ([], "", "a_b\nexample.\n" + "a" * 64 + "\n",
-     "a_b\nexample.\n", refused((3, "21 name or label length")), 1),
-    # UseSTD3ASCIIRules refuses the underscore (UTS #46, section 4.1).
-    (["--usestd3asciirules"], "", "a_b\n",
-     "", refused((1, "20 not a valid name")), 1),
-]
 
-AA = "aa\taa\naaa\taaa\naaaa\taaaa\n#end 3\n"
-# The words of each mode that reads lines, and what is printed for the line `aa`.
-MODES = [(["-r"], "aa\n"), (["-d"], "aa\n"), ([], "aa\n"), (LIST, AA)]
-# A line that each mode refuses, and its fault. The line after it is answered.
-BAD_LINES = [(b"", "3 empty"), (b"a" * 1025, "2 line too long"), (b"\xff", "1 not UTF-8")]
+def answers_rows_of_runs(folder):
+    expect_rows(folder, run_rows.rows())
 
-# Where a line ends, and that the lines after a refused one are answered.
-LINES = [
-    # A label that is not in the table stands between two that are.
-    (LIST, DOUBLED, "aa\nab\naa\n",
-     AA + AA, refused((2, "40 not made of table entries")), 1),
-    # One carriage return at the end of a line is dropped.
-    (LIST, DOUBLED, "aa\r\n", AA, "", 0),
-    # The last line lacks its line feed.
-    (LIST, DOUBLED, "aa", AA, "", 0),
-    # A line of 1,024 bytes is read; one whose carriage return is its 1,025th byte is not; a carriage return alone is an
-    # empty line.
-    (["-r"], "", "a" * 1024 + "\n" + "a" * 1024 + "\r\n\r\n",
-     "", refused((1, "18 label too long"), (2, "2 line too long"), (3, "3 empty")), 1),
-]
 
-# Whole listings, and labels that have none.
-LISTED = [
-    # A variant that replaces two code points; the variant b of a leads to no place from which ab goes on.
-    (LIST, "0061-0062|0063\n0061|0062\n", "ab\n",
-     "ab\tab\nc\tc\n#end 2\n", "", 0),
-    # The sharp s and the double s are variants of each other: either label lists both.
-    (LIST, SHARP_S, "strasse\nstraße\n",
-     "strasse\tstrasse\nstraße\txn--strae-oqa\n#end 2\nstrasse\tstrasse\nstraße\txn--strae-oqa\n#end 2\n", "", 0),
-    # Two segmentations of sss overlap: both count.
-    (LIST, SHARP_S, "sss\n",
-     "sss\tsss\nsß\txn--s-qfa\nßs\txn--s-pfa\n#end 3\n", "", 0),
-    # The label aaa arises in two ways, and is listed once.
-    (LIST, DOUBLED, "aa\n",
-     AA, "", 0),
-    # Three segmentations, and one label.
-    (LIST, "0061\n0061-0061\n", "aaa\n",
-     "aaa\taaa\n#end 1\n", "", 0),
-    # Simplified and traditional characters.
-    (LIST, CHINA, "中国\n",
-     "中国\txn--fiqs8s\n中國\txn--fiqz9s\n#end 2\n", "", 0),
-    # What is not in NFC is no variant (RFC 5891, section 4.2.1).
-    (LIST, "0071|0061\n0301\n", "q\u0301\n",
-     "q\u0301\txn--q-xbb\n#end 1\n", "", 0),
-    # What breaks the Bidi rule is no variant (RFC 5893, section 2).
-    (LIST, "05D0|0061\n05D1\n", "\u05D0\u05D1\n",
-     "\u05D0\u05D1\txn--4dbc\n#end 1\n", "", 0),
-    # The two kinds of Arabic-Indic digits are not mixed (RFC 5892, appendices A.8 and A.9).
-    (LIST, "0627\n0660|06F0\n", "\u0627\u0660\u0660\n",
-     "\u0627\u0660\u0660\txn--mgb8ia\n\u0627۰۰\txn--mgb61ba\n#end 2\n", "", 0),
-    # Hyphens at the start, at the end or in the third and fourth place (RFC 5891, section 4.2.3.1).
-    (LIST, HYPHENS, "aaa\n",
-     "a-a\ta-a\naaa\taaa\n#end 2\n", "", 0),
-    # Labels without a listing: not in the table, a capital, and an A-label, of which nothing is decoded.
-    (LIST, SHARP_S, "sx\nSss\nxn--s-qfa\n",
-     "", refused((1, "40 not made of table entries"), (2, "10 disallowed code point"), (3, "13 hyphen out of place")), 1),
-    # No label is made of entries of the empty table.
-    (LIST, "", "a\n",
-     "", refused((1, "40 not made of table entries")), 1),
-    # Labels of more than 63 code points are no variants (RFC 1034, section 3.1).
-    (LIST, DOUBLED, "a" * 62 + "\n" + "a" * 63 + "\n",
-     "a" * 62 + "\t" + "a" * 62 + "\n" + "a" * 63 + "\t" + "a" * 63 + "\n#end 2\n"
-     + "a" * 63 + "\t" + "a" * 63 + "\n#end 1\n", "", 0),
-]
+def answers_rows_of_tables_collisions_and_jumps(folder):
+    expect_rows(folder, worked_rows.rows_of_tables())
 
-# Listings with a start, a limit or a number of tries, which begin again with each line. Under the table `0061|002D` the labels
-# tested of `aaa` are `a--`, `a-a`, `aa-` and `aaa`: the others that it spells begin with a hyphen.
-BOUNDED = [
-    # A start that the label does not spell.
-    ([*LIST, "--after", "b"], "0061-0062|0063\n0061|0062\n", "ab\n",
-     "c\tc\n#end 1\n", "", 0),
-    # The second label tested has an A-label of more than 63 octets: it is not listed, and the block stops at it.
-    ([*LIST, "--tries", "2"], SHARP_S, "s" * 63 + "\n",
-     "s" * 63 + "\t" + "s" * 63 + "\n#stop 1 " + "s" * 61 + "ß\n", "", 0),
-    # The limit and the tries end the block at one label.
-    ([*LIST, "--limit", "2", "--tries", "2"], SHARP_S, "sss\n",
-     "sss\tsss\nsß\txn--s-qfa\n#stop 2 sß\n", "", 0),
-    # The tries end a block of which nothing is left.
-    ([*LIST, "--tries", "3"], SHARP_S, "sss\n",
-     "sss\tsss\nsß\txn--s-qfa\nßs\txn--s-pfa\n#stop 3 ßs\n", "", 0),
-    # The start is the last label.
-    ([*LIST, "--after", "ßs"], SHARP_S, "sss\n",
-     "#end 0\n", "", 0),
-    # The start is a label in the middle.
-    ([*LIST, "--after", "aaa"], DOUBLED, "aa\n",
-     "aaaa\taaaa\n#end 1\n", "", 0),
-    # The start is no label of the listing, and is greater than all of them, though not as long.
-    ([*LIST, "--after", "aab"], DOUBLED, "aa\n",
-     "#end 0\n", "", 0),
-    # The start is less than all labels.
-    ([*LIST, "--after", "a"], DOUBLED, "aa\n",
-     AA, "", 0),
-    # The start is greater than all labels.
-    ([*LIST, "--after", "aaaaa"], DOUBLED, "aa\n",
-     "#end 0\n", "", 0),
-    # The first variant alone.
-    ([*LIST, "--limit", "1"], CHINA, "中国\n",
-     "中国\txn--fiqs8s\n#stop 1 中国\n", "", 0),
-    # The rest after it.
-    ([*LIST, "--after", "中国"], CHINA, "中国\n",
-     "中國\txn--fiqz9s\n#end 1\n", "", 0),
-    # The limit is the number of variants: the block stops at the last one.
-    ([*LIST, "--limit", "2"], CHINA, "中国\n",
-     "中国\txn--fiqs8s\n中國\txn--fiqz9s\n#stop 2 中國\n", "", 0),
-    # The only label tested is refused.
-    ([*LIST, "--tries", "1"], HYPHENS, "aaa\n",
-     "#stop 0 a--\n", "", 0),
-    # Two labels tested are refused, and the block stops at one of them.
-    ([*LIST, "--tries", "3"], HYPHENS, "aaa\n",
-     "a-a\ta-a\n#stop 1 aa-\n", "", 0),
-    # The tries end at the last label.
-    ([*LIST, "--tries", "4"], HYPHENS, "aaa\n",
-     "a-a\ta-a\naaa\taaa\n#stop 2 aaa\n", "", 0),
-    # The tries end before the limit.
-    ([*LIST, "--limit", "1", "--tries", "1"], HYPHENS, "aaa\n",
-     "#stop 0 a--\n", "", 0),
-    # The start begins with a hyphen.
-    ([*LIST, "--after=-aa"], HYPHENS, "aaa\n",
-     "a-a\ta-a\naaa\taaa\n#end 2\n", "", 0),
-    # The limit ends at a label after one that is refused.
-    ([*LIST, "--limit", "1"], HYPHENS, "aaa\n",
-     "a-a\ta-a\n#stop 1 a-a\n", "", 0),
-    # The limit ends before the tries.
-    ([*LIST, "--limit", "1", "--tries", "5"], HYPHENS, "aaa\n",
-     "a-a\ta-a\n#stop 1 a-a\n", "", 0),
-    # The limit is more than there are variants.
-    ([*LIST, "--limit", "3"], HYPHENS, "aaa\n",
-     "a-a\ta-a\naaa\taaa\n#end 2\n", "", 0),
-    # The tries are more than there are labels tested.
-    ([*LIST, "--tries", "5"], HYPHENS, "aaa\n",
-     "a-a\ta-a\naaa\taaa\n#end 2\n", "", 0),
-    # So many tries as the label spells, and more.
-    ([*LIST, "--tries", "9"], HYPHENS, "aaa\n",
-     "a-a\ta-a\naaa\taaa\n#end 2\n", "", 0),
-    # Of 2 to the power of 63 labels most begin with a hyphen, or have two in the third and fourth place.
-    ([*LIST, "--limit", "1", "--tries", "2"], HYPHENS, "a" * 63 + "\n",
-     "a--a" + "-" * 58 + "a\ta--a" + "-" * 58 + "a\n#stop 1 a--a" + "-" * 58 + "a\n", "", 0),
-    # The limit begins again with each line.
-    ([*LIST, "--limit", "1"], HYPHENS, "aaa\naaa\n",
-     "a-a\ta-a\n#stop 1 a-a\na-a\ta-a\n#stop 1 a-a\n", "", 0),
-]
 
-# Tables, and what the check prints of them.
-CHECKED = [
-    (SHARP_S, "#table 7 0\n"),
-    (DOUBLED, "missing 0061-0061|0061\n#table 1 1\n"),
-    ("0061|0062\n0062|0061:0063\n0063|0062\n", "missing 0061|0063\nmissing 0063|0061\n#table 3 2\n"),
-    ("0061|0062\n0062|0061\n", "#table 2 0\n"),
-    ("0063|0062\n0062|0061\n", "missing 0061|0062\nmissing 0062|0063\nmissing 0063|0061\n#table 2 3\n"),
-    ("0061|0062:0063\n", "missing 0062|0061\nmissing 0063|0061\n#table 1 2\n"),
-    ("", "#table 0 0\n"),
-    ("u+0061 | 0062 : 0063-0064\r\n", "missing 0062|0061\nmissing 0063-0064|0061\n#table 1 2\n"),
-    # A blocked variant counts for gaps as any other.
-    ("%version 2\n0061|!0062\n0062..0063\n", "missing 0062|0061\n#table 3 1\n"),
-]
+def answers_rows_of_rulesets(folder):
+    expect_rows(folder, ruleset_rows.rows())
 
-# Tables, and the line and the fault that are told before any line is read.
-FAULTY = [
-    ("0061|\n", 1, "30 table syntax"),
-    ("0061\n0061\n", 2, "31 source given twice"),
-    ("0061|0062:0062\n", 1, "32 variant given twice"),
-    ("0061|0061\n", 1, "32 variant given twice"),
-    ("0061\n0061|0062:0062\n", 2, "32 variant given twice"),
-    ("0041|0041\n", 1, "33 code point not allowed in a table"),
-    ("0041\n", 1, "33 code point not allowed in a table"),
-    ("-".join(["0041"] * 9) + "\n", 1, "34 table limit"),
-    ("%version 3\n", 1, "30 table syntax"),
-    (SHARP_S[:-len("F|0073-0073\n")], 7, "30 table syntax"),
-]
 
-# Runs by tables of version 2.
-OF_VERSION_2 = [
-    # A label of two entries, and one that has none.
-    (LIST, "%version 2\n0061..0063\n0078|!0079:007A\n", "ax\nay\n",
-     "ax\tax\tallocatable\nay\tay\tblocked\naz\taz\tallocatable\n#end 3\n", refused((2, "40 not made of table entries")), 1),
-    # The label bb is blocked by one segmentation, and allocatable by the other.
-    (LIST, "%version 2\n0061|!0062\n0061-0061|0062-0062\n", "aa\n",
-     "aa\taa\tallocatable\nab\tab\tblocked\nba\tba\tblocked\nbb\tbb\tallocatable\n#end 4\n", "", 0),
-    # The listing begins after a label, and ends at a blocked one.
-    ([*LIST, "--after", "aa", "--limit", "2"], "%version 2\r\n0061|!0062\n0061-0061|0062-0062\n", "aa\n",
-     "ab\tab\tblocked\nba\tba\tblocked\n#stop 2 ba\n", "", 0),
-    # No variant of the table is blocked.
-    (LIST, "%version 2\n0061|0062\n", "a\n",
-     "a\ta\tallocatable\nb\tb\tallocatable\n#end 2\n", "", 0),
-]
-
-OF_RULESETS = [
-    (RULESET, SIGNS, "क\u093C\u093E\nक\u093E\u093E\nकa\n",
-     "क\u093C\u093E\txn--11b2fg\tallocatable\n#end 1\n",
-     refused((2, "41 not valid under the table"), (3, "40 not made of table entries")), 1),
-    ([*RULESET, "--explain"], SIGNS, "क\u093E\u093E\n",
-     "", refused((1, "41 not valid under the table: U+093E at place 3: when sign")), 1),
-    ([*RULESET, "--json"], SIGNS, "क\u093E\u093E\n",
-     '{"line":1,"input":"क\u093E\u093E","refusal":{"number":41,"text":"not valid under the table",'
-     '"code_point":"U+093E","place":3,"condition":"when","rule":"sign"}}\n', "", 1),
-    # A beginning with both kinds of digits is lost: `--tries` doesn't count the labels after it.
-    ([*RULESET, "--tries", "3"], DIGITS, "01\n",
-     "01\t01\tallocatable\n०१\txn--d4bc\tblocked\n#end 2\n", "", 0),
-    ([*RULESET, "--explain"], DIGITS, "0१\n",
-     "", refused((1, "41 not valid under the table: demand 1, never")), 1),
-    ([*RULESET, "--json"], DIGITS, "0१\n",
-     '{"line":1,"input":"0१","refusal":{"number":41,"text":"not valid under the table","demand":1,"kind":"never"}}\n', "", 1),
-    # A variant is allocatable if one sub-table has all of its letters.
-    (RULESET, SCRIPTS, "国學\n",
-     "国学\txn--vcso6h\tallocatable\n国學\txn--vcs27h\tallocatable\n"
-     "國学\txn--9cs44h\tblocked\n國學\txn--9csw6h\tallocatable\n#end 4\n", "", 0),
-    (["--check-ruleset", "t"], SCRIPTS, "", "#table 5 0\n", "", 0),
-    # A condition of a variant is asked in the label that is given; an outside source may only arise.
-    (RULESET, ENDS, "ab\nba\nаb\n",
-     "ab\tab\tallocatable\nac\tac\tallocatable\nаb\txn--b-7sb\tblocked\nаc\txn--c-7sb\tblocked\n#end 4\n"
-     "ba\tba\tallocatable\nbа\txn--b-8sb\tblocked\n#end 2\n", refused((3, "40 not made of table entries")), 1),
-    ([*RULESET, "--jump"], ENDS, "ab\tb\n", "аb\n", "", 0),
-    (["--check-ruleset", "t", "--json"], ENDS, "", '{"entries":4,"gaps":0}\n', "", 0),
+TESTS = [
+    answers_rows_of_labels_and_names,
+    answers_rows_of_runs,
+    answers_rows_of_tables_collisions_and_jumps,
+    answers_rows_of_rulesets,
 ]
 
 
+if __name__ == "__main__":
+    sys.exit(run_tests("worked_runs", TESTS))

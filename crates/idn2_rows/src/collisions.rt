@@ -2,8 +2,7 @@
 //! answers were worked out by hand.
 use crate::label_calls::points_of;
 use crate::nets::{BLIND, SHARP_S, net, points};
-use idn_text::Refusal;
-use registered_labels::{Collisions, RegisteredFileFault, RegisteredLabels};
+use registered_labels::{Collisions, RegisteredLabels};
 use std::alloc::Global;
 use std::process::Abort;
 use std::test::Fail;
@@ -77,39 +76,6 @@ fn collisions_and_the_jumps_that_find_them(rt: HostRuntime) -> Result<(), Fail> 
     Ok(())
 }
 
-/// The fault of a file.
-fn fault(alloc: Global, file: &[u8]) -> Result<RegisteredFileFault, Fail> {
-    match RegisteredLabels::read(alloc, file) {
-        Ok(_) => Err("no fault".into()),
-        Err(fault) => Ok(fault),
-    }
-}
-
-/// Files with the line of their first fault and the refusal.
-const FAULTS: [(&[u8], u64, Refusal); 8] = [
-    (b"a\nb\n\xFF\n", 3, Refusal::NotUtf8),
-    (b"a\n\nb\n", 2, Refusal::Empty),
-    (b"a\nB\n", 2, Refusal::Disallowed),
-    (b"a\nxn--strae-oqa\n", 2, Refusal::Hyphen),
-    (b"a\nc\nb\n", 3, Refusal::OutOfOrder),
-    (b"a\r\na", 2, Refusal::OutOfOrder),
-    (b"\xC3\x9F\nss\n", 2, Refusal::OutOfOrder),
-    (b"a\nb\r\r\n", 2, Refusal::Disallowed),
-];
-
-#[test]
-fn faults_of_files(rt: HostRuntime) -> Result<(), Fail> {
-    for (file, line, refusal) in FAULTS.iter() {
-        let got = fault(rt.alloc(), file)?;
-        let want = RegisteredFileFault::Refused {
-            line: *line,
-            refusal: *refusal,
-        };
-        assert_eq!(&rt; got, want, "{}", file.escape_ascii());
-    }
-    Ok(())
-}
-
 /// The label to which a new cursor jumps from a text on, or `#` where there is none.
 fn jumped(alloc: Global, net: &Net, text: &str) -> Result<Vec<u32>, Fail> {
     let mut cursor = Cursor::new(alloc, net, &[])?;
@@ -121,26 +87,10 @@ fn jumped(alloc: Global, net: &Net, text: &str) -> Result<Vec<u32>, Fail> {
 }
 
 /// Tables, labels and texts, and the least candidates from them on.
-const JUMPS: [(&[u8], &str, &str, &str); 8] = [
-    (SHARP_S, "sss", "", "sss"),
-    (SHARP_S, "sss", "sss", "sss"),
+const JUMPS: [(&[u8], &str, &str, &str); 3] = [
     (SHARP_S, "sss", "ssss", "sß"),
-    (SHARP_S, "sss", "t", "ßs"),
     (SHARP_S, "sss", "ßt", "#"),
     (BLIND, "ab", "ac", "c"),
-    // A text longer than any label.
-    (
-        LETTERS,
-        "ab",
-        "aaaaaaaaaaaaaaaaaaaaaaaaaaaaaaaaaaaaaaaaaaaaaaaaaaaaaaaaaaaaaaaaaaaa",
-        "ab",
-    ),
-    (
-        LETTERS,
-        MANY,
-        "aaaaaaaaaaaaaaaaaaaaaaaaaaaaaaaaaaaaaaaaaaaaaaaaaaaaaaaaaaaaaaaaaaaa",
-        "aaaaaaaaaaaaaaaaaaaaaaaaaaaaaaaaaaaaaaaaaaaaaaaaaaaaaaaaaaaaab",
-    ),
 ];
 
 /// A jump from this text on comes to that label.

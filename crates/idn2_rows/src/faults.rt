@@ -236,6 +236,7 @@ fn assert_stops(
         let given = Given {
             words: case.words,
             table: case.table,
+            registered: None,
             input: &input,
             piece,
             fail_at,
@@ -305,6 +306,7 @@ fn read_fails_after_half_a_line(rt: HostRuntime) -> Result<(), Fail> {
         let given = Given {
             words: VARIANTS,
             table: DOUBLED,
+            registered: None,
             input: b"aa\naa",
             piece,
             fail_at,
@@ -325,6 +327,7 @@ fn both_writers_fail(rt: HostRuntime) -> Result<(), Fail> {
         let given = Given {
             words: VARIANTS,
             table: SHARP_S,
+            registered: None,
             input: b"sss\n",
             piece: ROOM,
             fail_at: 0,

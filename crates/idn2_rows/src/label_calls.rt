@@ -30,7 +30,7 @@ pub fn told(answer: &Result<ALabel, Refusal>) -> Result<&str, Refusal> {
 }
 
 /// An answer as text.
-pub fn texted(answer: &Result<String, Refusal>) -> Result<&str, Refusal> {
+fn texted(answer: &Result<String, Refusal>) -> Result<&str, Refusal> {
     match answer {
         Ok(text) => Ok(text.as_str()),
         Err(refusal) => Err(*refusal),

@@ -1,9 +1,7 @@
-//! Tests of what is called from outside, for every crate: worked rows of the whole program over memory, runs that fail,
-//! and examples of each crate below. Each file is named for what it shows.
+//! Tests of what is called from outside, for every crate: runs of the whole program over memory, runs that fail, and
+//! examples of each crate below. Each file is named for what it shows.
 #![tactic(auto)]
 
-#[cfg(test)]
-mod a_labels_of_others;
 #[cfg(test)]
 mod candidates;
 #[cfg(test)]
@@ -17,21 +15,13 @@ mod definitions;
 #[cfg(test)]
 mod fault_places;
 #[cfg(test)]
-mod faults;
+mod fault_texts;
 #[cfg(test)]
-mod first_faults;
+mod faults;
 #[cfg(test)]
 mod hopeless;
 #[cfg(test)]
 mod label_calls;
-#[cfg(test)]
-mod label_rules;
-#[cfg(test)]
-mod labels;
-#[cfg(test)]
-mod lines;
-#[cfg(test)]
-mod listings;
 #[cfg(test)]
 mod looked_up_names;
 #[cfg(test)]
@@ -53,9 +43,9 @@ mod registration;
 #[cfg(test)]
 mod row;
 #[cfg(test)]
-mod ruleset_labels;
-#[cfg(test)]
 mod ruleset_tables;
+#[cfg(test)]
+mod runs;
 #[cfg(test)]
 mod sizes;
 #[cfg(test)]
@@ -63,11 +53,7 @@ mod spelled;
 #[cfg(test)]
 mod table_entries;
 #[cfg(test)]
-mod table_faults;
-#[cfg(test)]
 mod table_texts;
-#[cfg(test)]
-mod tables;
 #[cfg(test)]
 mod utf8;
 #[cfg(test)]

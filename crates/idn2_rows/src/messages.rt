@@ -119,11 +119,11 @@ fn refused(line: u64, refusal: Refusal) -> RegisteredFileFault {
 fn faults_of_registered_labels(rt: HostRuntime) -> Result<(), Fail> {
     for unread in [
         Unread {
-            words: &["-r"],
-            text: b"b\na\n",
+            words: &["-r", "--explain"],
+            text: b"hausboot\r\nharald\n",
             fault: refused(2, Refusal::OutOfOrder),
             output: "",
-            message: "idn2: registered line 2: 4 out of order\n",
+            message: "idn2: registered line 2: 4 out of order: U+0072 at place 3\n",
             status: 2,
         },
         Unread {
@@ -141,57 +141,6 @@ fn faults_of_registered_labels(rt: HostRuntime) -> Result<(), Fail> {
             output: "",
             message: "idn2: 70 out of memory\n",
             status: 4,
-        },
-    ] {
-        tells_of_file(&rt, rt.alloc(), &unread)?;
-    }
-    Ok(())
-}
-
-/// Wrong lines, told with their causes.
-#[test]
-fn causes_of_registered_labels(rt: HostRuntime) -> Result<(), Fail> {
-    for unread in [
-        Unread {
-            words: &["-r", "--explain"],
-            text: b"hausboot\r\nharald\n",
-            fault: refused(2, Refusal::OutOfOrder),
-            output: "",
-            message: "idn2: registered line 2: 4 out of order: U+0072 at place 3\n",
-            status: 2,
-        },
-        Unread {
-            words: &["-r", "--explain"],
-            text: b"hausboot\nhaus",
-            fault: refused(2, Refusal::OutOfOrder),
-            output: "",
-            message: "idn2: registered line 2: 4 out of order: ends at place 5\n",
-            status: 2,
-        },
-        Unread {
-            words: &["-r", "--json"],
-            text: b"a\na-\n",
-            fault: refused(2, Refusal::Hyphen),
-            output: "{\"registered_line\":2,\"refusal\":{\"number\":13,\"text\":\"hyphen out of place\",\"code_point\":\"U+002D\",\"place\":2}}\n",
-            message: "",
-            status: 2,
-        },
-        // Objects have their causes with `--explain` and without it.
-        Unread {
-            words: &["-r", "--json"],
-            text: b"hausboot\nhaus",
-            fault: refused(2, Refusal::OutOfOrder),
-            output: "{\"registered_line\":2,\"refusal\":{\"number\":4,\"text\":\"out of order\",\"place\":5}}\n",
-            message: "",
-            status: 2,
-        },
-        Unread {
-            words: &["-r", "--json", "--explain"],
-            text: b"hausboot\nhaus",
-            fault: refused(2, Refusal::OutOfOrder),
-            output: "{\"registered_line\":2,\"refusal\":{\"number\":4,\"text\":\"out of order\",\"place\":5}}\n",
-            message: "",
-            status: 2,
         },
     ] {
         tells_of_file(&rt, rt.alloc(), &unread)?;

@@ -42,12 +42,6 @@ pub fn net(alloc: Global, table: &[u8], label: &str) -> Result<Net, Fail> {
     )
 }
 
-/// The net of a label that is so many times the same code point, under the table that a text spells.
-pub fn net_of_times(alloc: Global, table: &[u8], point: u32, count: usize) -> Result<Net, Fail> {
-    let label: Vec<u32> = vec![in alloc; point; count]?;
-    net_of(alloc, &Table::read(alloc, Notation::Table, table)?, &label)
-}
-
 /// Labels with the number of edges of their nets, and the least length that they spell.
 const MEASURED: [(&[u8], &str, u64, usize); 4] = [
     (DOUBLED, "aa", 6, 2),
@@ -130,38 +124,6 @@ fn labels_that_are_spelled_one_after_the_other(rt: HostRuntime) -> Result<(), Fa
             let itself = test.spells(&label_points);
             assert!(&rt; itself, "{label} spells itself, time {time}");
         }
-    }
-    Ok(())
-}
-
-/// Whether a label spells so many letters a with these code points after them.
-fn spells_letters(alloc: Global, net: &Net, count: usize, after: &[u32]) -> Result<bool, Fail> {
-    let mut other: Vec<u32> = vec![in alloc; 0x61; count]?;
-    other.extend_from_slice(after)?;
-    Ok(net.spells(alloc, &other)?)
-}
-
-/// A label of 63 letters a, each of which may be doubled, spells from 63 to 126 of them.
-#[test]
-fn spelled_labels_of_more_than_63_code_points(rt: HostRuntime) -> Result<(), Fail> {
-    let alloc = rt.alloc();
-    let net = net_of_times(alloc, DOUBLED, 0x61, 63)?;
-    for (count, want) in [
-        (0, false),
-        (62, false),
-        (63, true),
-        (64, true),
-        (126, true),
-        (127, false),
-        (1024, false),
-    ] {
-        let alone = spells_letters(alloc, &net, count, &[])?;
-        let with_b = spells_letters(alloc, &net, count, &[0x62])?;
-        assert_eq!(&rt;
-            (alone, with_b),
-            (want, false),
-            "{count} times a, and b after them"
-        );
     }
     Ok(())
 }

@@ -4,57 +4,6 @@ use std::alloc::{AllocError, Global};
 use std::test::Fail;
 use unicode::UNICODE_VERSION;
 
-const HELP: &str = "\
-Converts and tests internationalized domain names, and lists variants.
-
-Usage: idn2 [OPTIONS] [STRINGS]...
-
-Arguments:
-  [STRINGS]...  Lines of input [default: the standard input]
-
-Options:
-  -l, --lookup                Convert each name for a query; the default
-  -r, --register              Test each line, one label, and print its A-label
-  -d, --decode                Turn the A-labels of each name into U-labels
-      --variants <FILE>       List each label's variants by the table in FILE
-      --check-table <FILE>    Print the pairs that the table in FILE lacks
-      --ruleset <FILE>        List each label's variants by the ruleset in FILE
-      --check-ruleset <FILE>  Print the pairs that the ruleset in FILE lacks
-      --among <FILE>          With --variants: list only the labels in FILE
-      --jump                  With --variants: answer LABEL TAB TEXT by a label
-  -N, --tr46nt                Non-transitional lookup, which lookup does anyway
-      --usestd3asciirules     Lookup refuses ASCII but letters, digits, hyphens
-      --explain               Messages of refused lines go on with the cause
-      --json                  Answer by objects of JSON, with causes of refusals
-      --quiet                 Accepted; there is no banner
-      --after <TEXT>          With --variants: list only variants after TEXT
-      --limit <N>             With --variants: stop after N variants of a line
-      --tries <N>             With --variants: stop after N tested labels
-      --steps <N>             With --variants: stop after N steps of the search
-  -h, --help                  Print help
-  -V, --version               Print version
-
-What goes with --variants goes with --ruleset, too.
-Without --limit and --steps there is no limit; without --tries it is 1000000.
-Write --after=TEXT where TEXT begins with '-';
-strings that begin with '-' come after '--'.
-
-Examples:
-  idn2 faß.de
-      answers xn--fa-hia.de
-  idn2 --variants german.txt --limit 100 strasse
-      lists the first 100 variants of strasse
-  idn2 --variants german.txt --among registered.txt strasse
-      lists those of them that are registered
-
-Status:
-  0  every line was answered
-  1  a line was refused, or the table has a gap
-  2  the options or a file can't be used
-  3  reading or writing failed
-  4  memory ran out
-";
-
 /// The options of a command line, which is written with `|` between its words.
 fn read(alloc: Global, line: &str) -> Result<Options, Usage> {
     let words = words_of(alloc, line)?;
@@ -218,77 +167,6 @@ fn read_as_options(rt: HostRuntime) -> Result<(), Fail> {
     Ok(())
 }
 
-/// Words that are refused.
-const REFUSED: [&str; 58] = [
-    "idn2|-r|-d|x",
-    "idn2|--variants|t|--steps|1|x",
-    "idn2|--variants|t|--steps|0|x",
-    "idn2|--variants|t|--steps|1000000000000000001",
-    "idn2|--variants|t|--steps|two|x",
-    "idn2|--variants|t|--among|r|--steps|2|x",
-    "idn2|--jump|--variants|t|--steps|2|x",
-    "idn2|--steps|2|x",
-    "idn2|-l|-d|x",
-    "idn2|-l|--variants|t",
-    "idn2|--variants|t|--check-table|t",
-    "idn2|--variants|t|--ruleset|t|x",
-    "idn2|--ruleset|t|--check-ruleset|t",
-    "idn2|--ruleset|t|--ruleset|t|x",
-    "idn2|--check-ruleset|t|x",
-    "idn2|--check-ruleset|t|--limit|1",
-    "idn2|--check-ruleset|t|--jump",
-    "idn2|--ruleset|t|--among|t|x",
-    "idn2|--ruleset|t|--tries|0|x",
-    "idn2|-r|--register|x",
-    "idn2|--quiet|--quiet",
-    "idn2|--explain|--explain|x",
-    "idn2|--explain=yes|x",
-    "idn2|--json|--json|x",
-    "idn2|--json=yes|x",
-    "idn2|--variants|t|--variants|u",
-    "idn2|--variants",
-    "idn2|--check-table|t|x",
-    "idn2|--check-table|t|",
-    "idn2|--after|a|x",
-    "idn2|--after||x",
-    "idn2|--limit|1|x",
-    "idn2|-r|--tries|1|x",
-    "idn2|--variants|t|--limit|0|x",
-    "idn2|--variants|t|--limit|+5|x",
-    "idn2|--variants|t|--limit| 5|x",
-    "idn2|--variants|t|--limit||x",
-    "idn2|--variants|t|--limit|00000000001|x",
-    "idn2|--variants|t|--limit|1000000001|x",
-    "idn2|--variants|t|--tries|0|x",
-    "idn2|--variants|t|--tries|1000000001|x",
-    "idn2|--variants|t|--after|--",
-    "idn2|--variants|t|--after|-x",
-    "idn2|--after|-h",
-    "idn2|--bogus|-h",
-    "idn2|-T|x",
-    "idn2|--quiet=yes",
-    "idn2|--among|r|x",
-    "idn2|--jump|x",
-    "idn2|-r|--jump|x",
-    "idn2|--check-table|t|--among|r",
-    "idn2|--variants|t|--among|r|--tries|5|x",
-    "idn2|--variants|t|--among|t|x",
-    "idn2|--variants|t|--among|r|--among|s|x",
-    "idn2|--variants|t|--jump|--after|a|x",
-    "idn2|--variants|t|--jump|--limit|1|x",
-    "idn2|--variants|t|--jump|--tries|1|x",
-    "idn2|--variants|t|--jump|--among|r|x",
-];
-
-#[test]
-fn refused(rt: HostRuntime) -> Result<(), Fail> {
-    for line in REFUSED {
-        let got = summary_of(rt.alloc(), line)?;
-        assert_eq!(rt; got.as_str(), "bad", "at {line}");
-    }
-    Ok(())
-}
-
 #[test]
 fn longest_start(rt: HostRuntime) -> Result<(), Fail> {
     let longest = "a".repeat(rt.alloc(), 1_024)?;
@@ -303,22 +181,9 @@ fn longest_start(rt: HostRuntime) -> Result<(), Fail> {
 
 #[test]
 fn shown_as_text(rt: HostRuntime) -> Result<(), Fail> {
-    let lines = [
-        "idn2|-h",
-        "idn2|--help|x",
-        "idn2|-r|-d|-h",
-        "idn2|--limit|0|-h",
-        "idn2|--variants|t|--limit|0|-h",
-    ];
-    for line in lines {
-        let got = summary_of(rt.alloc(), line)?;
-        assert_eq!(rt; got.as_str(), HELP, "at {line}");
-    }
     let (major, minor, update) = UNICODE_VERSION;
     let version = format!(in rt.alloc(); "idn2 0.1.0 (Unicode {major}.{minor}.{update})\n")?;
-    for line in ["idn2|-V", "idn2|--version|--bogus"] {
-        let got = summary_of(rt.alloc(), line)?;
-        assert_eq!(rt; got.as_str(), version.as_str(), "at {line}");
-    }
+    let got = summary_of(rt.alloc(), "idn2|--version|--bogus")?;
+    assert_eq!(rt; got.as_str(), version.as_str());
     Ok(())
 }

@@ -4,7 +4,8 @@ ghost use Rattle.idn2_cli.specs.Settings.{IsWithinLimits};
 
 use idn_text::hostile::{StopReader, StopWriter};
 use idn_text::{Device, Lines};
-use idn2_cli::{Options, read_options, run};
+use idn2_cli::{Options, read_options, run, run_among};
+use registered_labels::RegisteredLabels;
 use std::alloc::{AllocError, Global};
 use std::process::Abort;
 use std::str;
@@ -20,6 +21,8 @@ pub struct Given<'a> {
     pub words: &'a [&'a str],
     /// The text of the table.
     pub table: &'a [u8],
+    /// The registered labels, if there are some.
+    pub registered: Option<&'a [u8]>,
     /// The lines.
     pub input: &'a [u8],
     /// How many bytes a read or a write moves at most, from 1.
@@ -32,11 +35,12 @@ pub struct Given<'a> {
     pub room: (usize, usize),
 }
 
-/// A run that meets no fault: words after the program's name, a table and an input; what then stands on the output and
-/// the messages, and the status.
+/// A run that meets no fault: words after the program's name, a table, registered labels and an input; what then stands on
+/// the output and the messages, and the status.
 pub struct Row {
     pub words: &'static [&'static str],
     pub table: &'static [u8],
+    pub registered: Option<&'static [u8]>,
     pub input: &'static str,
     pub output: &'static str,
     pub messages: &'static str,
@@ -71,6 +75,7 @@ pub fn hold(rt: &impl Abort, alloc: Global, rows: &[Row]) -> Result<(), Fail> {
             let given = Given {
                 words: row.words,
                 table: row.table,
+                registered: row.registered,
                 input: row.input.as_bytes(),
                 piece,
                 fail_at: 0,
@@ -120,8 +125,23 @@ fn served(
     let mut err = Device::new(StopWriter::new(told, piece));
     let reader = StopReader::new(given.input, piece, given.fail_at, given.once);
     let mut input = Lines::new(Device::new(reader));
-    let code = run(alloc, &options, given.table, &mut input, &mut out, &mut err).code();
-    Ok((out.inner().taken(), err.inner().taken(), code))
+    let status = match given.registered {
+        Some(text) => {
+            let labels = RegisteredLabels::read(alloc, text)?;
+            let among = Some(&labels);
+            run_among(
+                alloc,
+                &options,
+                given.table,
+                among,
+                &mut input,
+                &mut out,
+                &mut err,
+            )
+        }
+        None => run(alloc, &options, given.table, &mut input, &mut out, &mut err),
+    };
+    Ok((out.inner().taken(), err.inner().taken(), status.code()))
 }
 
 /// What stands on the output and on the messages, and the status, in one text.

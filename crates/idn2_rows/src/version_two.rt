@@ -1,9 +1,8 @@
-//! Tables of version 2: ranges and blocked variants, and runs by such tables.
-use crate::row::{Row, hold};
+//! Tables of version 2: ranges and blocked variants.
 use std::alloc::Global;
 use std::process::Abort;
 use std::test::Fail;
-use variant_table::{Notation, Table, TableFault};
+use variant_table::{Notation, Table};
 
 /// Texts after the version line, and what their tables are written as after it.
 const TEXTS: [(&str, &str); 6] = [
@@ -48,61 +47,6 @@ fn tables(rt: HostRuntime) -> Result<(), Fail> {
         let want = format!(in alloc; "%version 2\n{want}")?;
         assert_written(&rt, alloc, &text, &want)?;
     }
-    Ok(())
-}
-
-/// Texts after the version line, which is line 1, and their first fault.
-const FAULTY: [(&str, TableFault); 23] = [
-    ("0063..0061", TableFault::Syntax { line: 2 }),
-    ("!0061|0062", TableFault::Syntax { line: 2 }),
-    ("0061|0062..0063", TableFault::Syntax { line: 2 }),
-    ("0061..0063|0064", TableFault::Syntax { line: 2 }),
-    ("0061...0063", TableFault::Syntax { line: 2 }),
-    ("0061.0063", TableFault::Syntax { line: 2 }),
-    ("0061. .0063", TableFault::Syntax { line: 2 }),
-    ("0061..", TableFault::Syntax { line: 2 }),
-    ("0061-0062..0063", TableFault::Syntax { line: 2 }),
-    ("0061..0062..0063", TableFault::Syntax { line: 2 }),
-    ("0061|!!0062", TableFault::Syntax { line: 2 }),
-    ("0061|0062-!0063", TableFault::Syntax { line: 2 }),
-    ("0061|!", TableFault::Syntax { line: 2 }),
-    ("%version 2", TableFault::Syntax { line: 2 }),
-    ("D7FF..D800", TableFault::Syntax { line: 2 }),
-    ("D7FF..E000", TableFault::BadClass { line: 2 }),
-    ("0061|0062:!0062", TableFault::SameVariant { line: 2 }),
-    ("0061|!0061", TableFault::SameVariant { line: 2 }),
-    ("005A..0061", TableFault::BadClass { line: 2 }),
-    ("0062\n0061..0063", TableFault::SameSource { line: 3 }),
-    ("0061..0063\n0063", TableFault::SameSource { line: 3 }),
-    ("4E00..5E00", TableFault::Limit { line: 2 }),
-    ("0000..10FFFF", TableFault::Limit { line: 2 }),
-];
-
-#[test]
-fn faults(rt: HostRuntime) -> Result<(), Fail> {
-    let alloc = rt.alloc();
-    for (body, want) in FAULTY {
-        let text = format!(in alloc; "%version 2\r\n{body}")?;
-        let fault = Table::read(alloc, Notation::Table, text.as_bytes()).err();
-        assert_eq!(&rt; fault, Some(want), "{body:?}");
-    }
-    Ok(())
-}
-
-/// A version line that is not the first line.
-#[test]
-fn late_version(rt: HostRuntime) {
-    let fault = Table::read(rt.alloc(), Notation::Table, b"0061\n%version 2\n").err();
-    assert_eq!(rt; fault, Some(TableFault::Syntax { line: 2 }));
-}
-
-/// A range may have as many code points as a table has entries.
-#[test]
-fn long_ranges(rt: HostRuntime) -> Result<(), Fail> {
-    let table = Table::read(rt.alloc(), Notation::Table, b"%version 2\n4E00..5DFF")?;
-    assert_eq!(&rt; table.len(), 4096);
-    let written = table.write_table(rt.alloc())?;
-    assert_eq!(&rt; written.len(), 11 + 4096 * 5);
     Ok(())
 }
 
@@ -169,77 +113,4 @@ fn tables_without_their_blocked_variants(rt: HostRuntime) -> Result<(), Fail> {
         assert_unblocked(&rt, rt.alloc(), text, version, want)?;
     }
     Ok(())
-}
-
-/// How many gaps the table of a text has.
-fn gap_count(alloc: Global, text: &str) -> Result<usize, Fail> {
-    let table = Table::read(alloc, Notation::Table, text.as_bytes())?;
-    Ok(table.gaps(alloc)?.len())
-}
-
-/// The gaps of a table, blocked or not.
-#[test]
-fn gaps(rt: HostRuntime) -> Result<(), Fail> {
-    for (text, count) in [
-        ("%version 2\n0061|!0062\n0062|0061", 0),
-        ("%version 2\n0061|!0062\n0062", 1),
-    ] {
-        let got = gap_count(rt.alloc(), text)?;
-        assert_eq!(&rt; got, count, "{text:?}");
-    }
-    Ok(())
-}
-
-/// Runs by tables of version 2.
-const SERVED: [Row; 5] = [
-    // A label of two entries, and one that has none.
-    Row {
-        words: &["--variants", "t"],
-        table: b"%version 2\n0061..0063\n0078|!0079:007A\n",
-        input: "ax\nay\n",
-        output: "ax\tax\tallocatable\nay\tay\tblocked\naz\taz\tallocatable\n#end 3\n",
-        messages: "idn2: line 2: 40 not made of table entries\n",
-        status: 1,
-    },
-    // The label bb is blocked by one segmentation, and allocatable by the other.
-    Row {
-        words: &["--variants", "t"],
-        table: b"%version 2\n0061|!0062\n0061-0061|0062-0062\n",
-        input: "aa\n",
-        output: "aa\taa\tallocatable\nab\tab\tblocked\nba\tba\tblocked\nbb\tbb\tallocatable\n#end 4\n",
-        messages: "",
-        status: 0,
-    },
-    // The listing begins after a label, and ends at a blocked one.
-    Row {
-        words: &["--variants", "t", "--after", "aa", "--limit", "2"],
-        table: b"%version 2\r\n0061|!0062\n0061-0061|0062-0062\n",
-        input: "aa\n",
-        output: "ab\tab\tblocked\nba\tba\tblocked\n#stop 2 ba\n",
-        messages: "",
-        status: 0,
-    },
-    // No variant of the table is blocked.
-    Row {
-        words: &["--variants", "t"],
-        table: b"%version 2\n0061|0062\n",
-        input: "a\n",
-        output: "a\ta\tallocatable\nb\tb\tallocatable\n#end 2\n",
-        messages: "",
-        status: 0,
-    },
-    // A blocked variant counts for gaps as any other.
-    Row {
-        words: &["--check-table", "t"],
-        table: b"%version 2\n0061|!0062\n0062..0063\n",
-        input: "not read\n",
-        output: "missing 0062|0061\n#table 3 1\n",
-        messages: "",
-        status: 1,
-    },
-];
-
-#[test]
-fn served(rt: HostRuntime) -> Result<(), Fail> {
-    hold(&rt, rt.alloc(), &SERVED)
 }
