@@ -1,8 +1,8 @@
 """Worked rows of labels and names: what is registered, decoded and looked up, each with its answer or with its first fault.
 
-The A-labels and the queries come from elsewhere: from RFC 3492, and from libidn2's `idn2` 2.3.3. That answers the capital sharp s
-otherwise, which UTS #46 has mapped differently since Unicode 15.1. The faults come from the sections of RFC 5891, RFC 5892 and
-RFC 5893 that are named.
+The A-labels and the queries come from elsewhere: from RFC 3492, and from libidn2's `idn2` 2.3.3. That answers the capital
+sharp s otherwise, which UTS #46 has mapped differently since Unicode 15.1. The faults come from the sections of RFC 5891,
+RFC 5892 and RFC 5893 that are named.
 """
 
 DISALLOWED = "10 disallowed code point"
@@ -17,14 +17,17 @@ TOO_LONG = "18 label too long"
 NO_A_LABEL = "19 not an A-label"
 NOT_VALID = "20 not a valid name"
 LENGTH = "21 name or label length"
-FAULTS = {DISALLOWED, UNASSIGNED, NOT_NFC, HYPHEN, LEADING_MARK, JOINER, CONTEXT, BIDI, TOO_LONG, NO_A_LABEL, NOT_VALID, LENGTH}
+FAULTS = {DISALLOWED, UNASSIGNED, NOT_NFC, HYPHEN, LEADING_MARK, JOINER, CONTEXT, BIDI, TOO_LONG, NO_A_LABEL, NOT_VALID,
+          LENGTH}
 
 # The samples of RFC 3492, section 7.1, that are labels of this profile: B, C, E to G, I, O, Q and R, with I in lower case.
 # A and S hold symbols, H is too long, and the others hold capital letters.
 OF_RFC_3492 = [
     ("他们为什么不说中文", "xn--ihqwcrb4cv8a8dqg056pqjye"), ("他們爲什麽不說中文", "xn--ihqwctvzc91f659drss3x8bo0yb"),
-    ("\u05DC\u05DE\u05D4\u05D4\u05DD\u05E4\u05E9\u05D5\u05D8\u05DC\u05D0\u05DE\u05D3\u05D1\u05E8\u05D9\u05DD\u05E2\u05D1\u05E8\u05D9\u05EA", "xn--4dbcagdahymbxekheh6e0a7fei0b"),
-    ("यहल\u094Bगह\u093Fन\u094Dद\u0940क\u094Dय\u094B\u0902नह\u0940\u0902ब\u094Bलसकत\u0947ह\u0948\u0902", "xn--i1baa7eci9glrd9b2ae1bj0hfcgg6iyaf8o0a1dig0cd"),
+    ("\u05DC\u05DE\u05D4\u05D4\u05DD\u05E4\u05E9\u05D5\u05D8\u05DC\u05D0\u05DE\u05D3\u05D1\u05E8\u05D9\u05DD\u05E2\u05D1\u05E8\u05D9\u05EA",
+     "xn--4dbcagdahymbxekheh6e0a7fei0b"),
+    ("यहल\u094Bगह\u093Fन\u094Dद\u0940क\u094Dय\u094B\u0902नह\u0940\u0902ब\u094Bलसकत\u0947ह\u0948\u0902",
+     "xn--i1baa7eci9glrd9b2ae1bj0hfcgg6iyaf8o0a1dig0cd"),
     ("なぜみんな日本語を話してくれないのか", "xn--n8jok5ay5dzabd5bym9f0cm5685rrjetr6pdxa"),
     ("почемужеонинеговорятпорусски", "xn--b1abfaaepdrnnbgefbadotcwatmq2g4l"), ("ひとつ屋根の下2", "xn--2-u9tlzr9756bt3uc0v"),
     ("パフィーdeルンバ", "xn--de-jg4avhby1noc0d"), ("そのスピードで", "xn--d9juau41awczczp"),

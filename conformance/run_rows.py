@@ -230,6 +230,12 @@ BOUNDED = [
      "a-a\ta-a\n#stop 1 a-a\na-a\ta-a\n#stop 1 a-a\n", "", 0),
 ]
 
+# Labels whose variant has an A-label of more than 63 octets, which is passed over, and counted by the tries.
+LONG_VARIANTS = [(LIST, "0061\n0062|00DF\n", label + "\n", f"{label}\t{label}\n#end 1\n", "", 0)
+                 for label in ("a" * count + "b" for count in range(56, 63))]
+LONG_VARIANTS.append(([*LIST, "--tries", "4"], "0061\n0062|00DF\n", "ab" * 31 + "\n",
+                      "ab" * 31 + "\t" + "ab" * 31 + "\n#stop 1 " + "ab" * 29 + "aßaß\n", "", 0))
+
 # Tables, and what the check prints of them.
 CHECKED = [
     (SHARP_S, "#table 7 0\n"),
@@ -306,9 +312,11 @@ OF_RULESETS = [
 
 def rows():
     """The words, the input, the files and what must be answered: output, messages, status."""
-    for words, table, given, output, messages, status in (REGISTERED + DECODED + LOOKED_UP + LINES + LISTED + BOUNDED + OF_VERSION_2
-                                                          + OF_RULESETS):
+    for words, table, given, output, messages, status in [*REGISTERED, *DECODED, *LOOKED_UP, *LINES, *LISTED, *BOUNDED,
+                                                          *LONG_VARIANTS, *OF_VERSION_2, *OF_RULESETS]:
         yield words, given, {"t": table}, (output, messages, status)
+    for count in (1, 99):
+        yield ["-r", *["a"] * count], "not read\n", {}, ("a\n" * count, "", 0)
     for words, output in MODES:
         yield words, "", {"t": DOUBLED}, ("", "", 0)
         for line, fault in BAD_LINES:

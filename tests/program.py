@@ -67,29 +67,93 @@ def refuses_a_line_and_serves_the_next(folder):
     expect(["-r"], "faß\nFaß\nabc\n".encode(), b"xn--fa-hia\nabc\n", b"idn2: line 2: 10 disallowed code point\n", 1)
 
 
+# Words that are refused, with bars between them.
+REFUSED_WORDS = [
+    "-r|-d|x", "--variants|t|--steps|1|x", "--variants|t|--steps|0|x", "--variants|t|--steps|1000000000000000001",
+    "--variants|t|--steps|two|x", "--variants|t|--among|r|--steps|2|x", "--jump|--variants|t|--steps|2|x", "--steps|2|x",
+    "-l|-d|x", "-l|--variants|t", "--variants|t|--check-table|t", "--variants|t|--ruleset|t|x",
+    "--ruleset|t|--check-ruleset|t", "--ruleset|t|--ruleset|t|x", "--check-ruleset|t|x", "--check-ruleset|t|--limit|1",
+    "--check-ruleset|t|--jump", "--ruleset|t|--among|t|x", "--ruleset|t|--tries|0|x", "-r|--register|x",
+    "--quiet|--quiet", "--explain|--explain|x", "--explain=yes|x", "--json|--json|x", "--json=yes|x",
+    "--variants|t|--variants|u", "--variants", "--check-table|t|x", "--check-table|t|", "--after|a|x", "--after||x",
+    "--limit|1|x", "-r|--tries|1|x", "--variants|t|--limit|0|x", "--variants|t|--limit|+5|x", "--variants|t|--limit| 5|x",
+    "--variants|t|--limit||x", "--variants|t|--limit|00000000001|x", "--variants|t|--limit|1000000001|x",
+    "--variants|t|--tries|0|x", "--variants|t|--tries|1000000001|x", "--variants|t|--after|--", "--variants|t|--after|-x",
+    "--after|-h", "--bogus|-h", "-T|x", "--quiet=yes", "--among|r|x", "--jump|x", "-r|--jump|x",
+    "--check-table|t|--among|r", "--variants|t|--among|r|--tries|5|x", "--variants|t|--among|t|x",
+    "--variants|t|--among|r|--among|s|x", "--variants|t|--jump|--after|a|x", "--variants|t|--jump|--limit|1|x",
+    "--variants|t|--jump|--tries|1|x", "--variants|t|--jump|--among|r|x", "--bogus",
+]
+
+
 def refuses_words(folder):
-    for words in (
-        ["-r", "-d", "x"],
-        ["--limit", "1", "x"],
-        ["--variants", "t", "--limit", "0", "x"],
-        ["--after", "", "x"],
-        ["--bogus"],
-    ):
-        expect(words, b"", b"", b"idn2: 50 usage\n", 2)
+    for words in REFUSED_WORDS:
+        expect(words.split("|"), b"", b"", b"idn2: 50 usage\n", 2)
 
 
 def refuses_words_that_are_not_utf8(folder):
     expect([b"\xff"], b"", b"", b"idn2: 50 usage\n", 2)
 
 
+HELP = """\
+Converts and tests internationalized domain names, and lists variants.
+
+Usage: idn2 [OPTIONS] [STRINGS]...
+
+Arguments:
+  [STRINGS]...  Lines of input [default: the standard input]
+
+Options:
+  -l, --lookup                Convert each name for a query; the default
+  -r, --register              Test each line, one label, and print its A-label
+  -d, --decode                Turn the A-labels of each name into U-labels
+      --variants <FILE>       List each label's variants by the table in FILE
+      --check-table <FILE>    Print the pairs that the table in FILE lacks
+      --ruleset <FILE>        List each label's variants by the ruleset in FILE
+      --check-ruleset <FILE>  Print the pairs that the ruleset in FILE lacks
+      --among <FILE>          With --variants: list only the labels in FILE
+      --jump                  With --variants: answer LABEL TAB TEXT by a label
+  -N, --tr46nt                Non-transitional lookup, which lookup does anyway
+      --usestd3asciirules     Lookup refuses ASCII but letters, digits, hyphens
+      --explain               Messages of refused lines go on with the cause
+      --json                  Answer by objects of JSON, with causes of refusals
+      --quiet                 Accepted; there is no banner
+      --after <TEXT>          With --variants: list only variants after TEXT
+      --limit <N>             With --variants: stop after N variants of a line
+      --tries <N>             With --variants: stop after N tested labels
+      --steps <N>             With --variants: stop after N steps of the search
+  -h, --help                  Print help
+  -V, --version               Print version
+
+What goes with --variants goes with --ruleset, too.
+Without --limit and --steps there is no limit; without --tries it is 1000000.
+Write --after=TEXT where TEXT begins with '-';
+strings that begin with '-' come after '--'.
+
+Examples:
+  idn2 faß.de
+      answers xn--fa-hia.de
+  idn2 --variants german.txt --limit 100 strasse
+      lists the first 100 variants of strasse
+  idn2 --variants german.txt --among registered.txt strasse
+      lists those of them that are registered
+
+Status:
+  0  every line was answered
+  1  a line was refused, or the table has a gap
+  2  the options or a file can't be used
+  3  reading or writing failed
+  4  memory ran out
+"""
+
+
 def shows_help_and_version(folder):
-    for words in (["-h"], ["--help"], ["-V"], ["--version"]):
+    """Whatever else is asked for."""
+    for words in (["-h"], ["--help", "x"], ["-r", "-d", "-h"], ["--limit", "0", "-h"], ["--variants", "t", "--limit", "0", "-h"]):
+        expect(words, b"", HELP.encode(), b"", 0)
+    for words in (["-V"], ["--version", "--bogus"]):
         done = run(words)
-        assert (done.returncode, done.stderr) == (0, b"") and done.stdout, words
-    for option in (b"--register", b"--decode", b"--variants", b"--check-table", b"--ruleset", b"--check-ruleset", b"--among",
-                   b"--jump", b"--after", b"--limit", b"--tries", b"--steps", b"--json"):
-        assert option in run(["--help"]).stdout, option
-    assert b"Unicode" in run(["--version"]).stdout
+        assert (done.returncode, done.stderr) == (0, b"") and b"Unicode" in done.stdout, words
 
 
 def has_the_version_that_the_changes_name(folder):

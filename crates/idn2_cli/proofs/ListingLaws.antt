@@ -12,7 +12,7 @@ use Rattle.variant_list.proofs.MutualLemmas.{variants-first, variants-same}
 use Rattle.variant_list.proofs.NetLemmas.{Spells-itself}
 use Rattle.idn2_options.specs.Settings.{Settings}
 use Rattle.idn2_cli.specs.Answers.{IsKept, IsListed, IsRefusedAs}
-use Rattle.idn2_cli.specs.ListingLaws.{AdmittedAreListed, IsAsked, ListedAreMutual, NotValidIsTold}
+use Rattle.idn2_cli.specs.ListingLaws.{AdmittedAreListed, IsAsked, ListedAreMutual, NotValidIsNeverTold}
 
 -- ---- a label among its own variants
 
@@ -78,7 +78,7 @@ pub never-invalid : (table : TableValue) (label : List ℕ) → AsksNothing tabl
 never-invalid table label nothing (inl h) = absurd (let clash : NotValid ≡ NotInTable = h.1 in cc)
 never-invalid table label nothing (inr h) = h.1 (admitted-if_made table label nothing h.0)
 
-pub not-valid-told : NotValidIsTold
+pub not-valid-told : NotValidIsNeverTold
 not-valid-told = record {
   listing = λ o table label nothing refused. never-invalid table label nothing refused;
   jump = λ table request nothing refused. never-invalid table _ nothing refused;

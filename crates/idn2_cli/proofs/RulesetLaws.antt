@@ -2,15 +2,15 @@
 use Rattle.std.proofs.Common.{◌≡◌, inl, inr, ℕ, ◌==◌, ◌||◌, List, [], ◌∷◌, ◌++◌, length, Bool, true, false, Option, Some, None, Ok, Err, refl, sym, ap, subst, ◌∙◌, if◌then◌else◌}
 use Rattle.std.specs.Prelude.{chars, is_err}
 use Rattle.std.specs.Str.{is_utf8}
-use Rattle.idn_text.specs.Lines.{Numbered}
+use Rattle.idn_text.specs.Lines.{Numbered, raw_lines}
 use Rattle.idn_text.specs.declared.refusal.Refusal.{Refusal}
 use Rattle.idn_text.specs.declared.refusal.Refusal.TheVariants.{Empty, NotUtf8}
 use Rattle.ruleset_text.specs.Definitions.{Definitions, nothing_defined}
 use Rattle.variant_table.specs.declared.version.Version.{Version}
 use Rattle.variant_table.specs.declared.version.Version.TheVariants.{One, Two, Three}
 use Rattle.variant_table.specs.declared.version.Notation.TheVariants.{Table, Ruleset}
-use Rattle.variant_table.specs.Canonical.{head_text}
 use Rattle.variant_table.specs.Texts.{IsTextOf}
+use Rattle.variant_table.specs.Versions.{is_version_line}
 use Rattle.variant_table.specs.WellFormed.{AreOfVersion}
 use Rattle.variant_table.proofs.RulesetLemmas.{as_three}
 use Rattle.variant_table.specs.Entries.{Entry, TableValue, table_of}
@@ -39,11 +39,12 @@ none-defined One d two none = none
 none-defined Two d two none = none
 none-defined Three d two none = absurd (let clash : Three ≡ Two = two in cc)
 
-text-as_ruleset : (lines : List ℕ) (table : TableValue) → table.version ≡ Two → IsTextOf Table (head_text Two ++ lines) table → IsTextOf Ruleset (head_text Three ++ lines) (as_ruleset table)
-text-as_ruleset lines table two is =
+text-as_ruleset : (text other first second : List ℕ) (lines : List (List ℕ)) (table : TableValue) → table.version ≡ Two → raw_lines text ≡ first ∷ lines → raw_lines other ≡ second ∷ lines
+    → is_version_line Table first ≡ true → is_version_line Ruleset second ≡ true → IsTextOf Table text table → IsTextOf Ruleset other (as_ruleset table)
+text-as_ruleset text other first second lines table two cut cut_other begins begins_other is =
     let none : table.definitions ≡ nothing_defined = none-defined table.version table.definitions two is.lines.well_formed.defined in
     let same : table ≡ table_of Two nothing_defined table.entries = ap (λ (v : Version). table_of v table.definitions table.entries) two ∙ ap (λ (d : Definitions). table_of Two d table.entries) none in
-    subst (λ (d : Definitions). IsTextOf Ruleset (head_text Three ++ lines) (table_of Three d table.entries)) (sym none) (as_three lines table.entries (subst (IsTextOf Table (head_text Two ++ lines)) same is))
+    subst (λ (d : Definitions). IsTextOf Ruleset other (table_of Three d table.entries)) (sym none) (as_three text other first second lines table.entries cut cut_other begins begins_other (subst (IsTextOf Table text) same is))
 
 -- ---- what may be allocated, and what is refused
 

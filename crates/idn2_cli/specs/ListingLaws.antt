@@ -1,16 +1,16 @@
 -- Laws of the labels that are listed.
-use Rattle.std.specs.Prelude.{◌≡◌, ◌↔◌, ℕ, List, [], ◌++◌, Ok, Err, Contains}
+use Rattle.std.specs.Prelude.{◌≡◌, ◌↔◌, ℕ, true, List, [], ◌∷◌, Ok, Err, Contains}
 use Rattle.std.specs.List.{slice_get}
-use Rattle.idn_text.specs.Lines.{Numbered}
+use Rattle.idn_text.specs.Lines.{Numbered, raw_lines}
 use Rattle.idn_text.specs.declared.refusal.Refusal.{Refusal}
 use Rattle.idn_text.specs.declared.refusal.Refusal.TheVariants.{NotValid}
 use Rattle.idn_label.specs.FirstFault.{IsRegistrable}
 use Rattle.variant_table.specs.declared.version.Notation.TheVariants.{Table, Ruleset}
-use Rattle.variant_table.specs.declared.version.Version.TheVariants.{Two, Three}
-use Rattle.variant_table.specs.Canonical.{head_text}
+use Rattle.variant_table.specs.declared.version.Version.TheVariants.{Two}
 use Rattle.variant_table.specs.Entries.{TableValue}
 use Rattle.variant_table.specs.Gaps.{gaps_of}
 use Rattle.variant_table.specs.Texts.{IsTextOf}
+use Rattle.variant_table.specs.Versions.{is_version_line}
 use Rattle.variant_table.specs.WellFormed.{IsTable}
 use Rattle.valid_labels.specs.Validity.{AsksNothing, IsAdmitted}
 use Rattle.variant_list.specs.Labels.{IsListOf}
@@ -41,11 +41,12 @@ ListedAreMutual =
     IsMutual table → IsAsked o table label → IsAsked o table other → IsListOf (IsListed o table label) vs → IsListOf (IsListed o table other) ws →
     (Contains vs other ↔ (vs ≡ ws)) × (Contains vs other ↔ (slice_get vs 0 ≡ slice_get ws 0))
 
--- a text of version 2 spells the ruleset of the same entries once its first line says so; over the table and over that ruleset a run
+-- a text of version 2 spells the ruleset of the same entries once its first line says so (first and second are these lines); over the table and over that ruleset a run
 -- says the same, in each mode and with the same status: the same listings, gaps, refusals and causes. The same labels are refused,
 -- none of them as not valid, and the same are allocatable
 pub record RulesetsSayTheSame : Type 0 where
-  pub read : (lines : List ℕ) (table : TableValue) → table.version ≡ Two → IsTextOf Table (head_text Two ++ lines) table → IsTextOf Ruleset (head_text Three ++ lines) (as_ruleset table)
+  pub read : (text other first second : List ℕ) (lines : List (List ℕ)) (table : TableValue) → table.version ≡ Two → raw_lines text ≡ first ∷ lines → raw_lines other ≡ second ∷ lines
+      → is_version_line Table first ≡ true → is_version_line Ruleset second ≡ true → IsTextOf Table text table → IsTextOf Ruleset other (as_ruleset table)
   pub said : (o : Settings) (table : TableValue) (lines : List Numbered) → table.version ≡ Two → statements o (Ok table) lines ≡ statements o (Ok (as_ruleset table)) lines
   pub status : (o : Settings) (table : TableValue) (lines : List Numbered) → table.version ≡ Two → status_of o (Ok table) lines ≡ status_of o (Ok (as_ruleset table)) lines
   pub gaps : (table : TableValue) → gaps_of table.entries ≡ gaps_of (as_ruleset table).entries
@@ -54,6 +55,6 @@ pub record RulesetsSayTheSame : Type 0 where
   pub valid : (table : TableValue) (label : List ℕ) → IsTable table → table.version ≡ Two → ¬ IsRefusedAs table label NotValid
 
 -- where the table asks nothing of its labels, 41 is never answered: not to a label, and not to a request
-pub record NotValidIsTold : Type 0 where
+pub record NotValidIsNeverTold : Type 0 where
   pub listing : (o : Settings) (table : TableValue) (label : List ℕ) → AsksNothing table → ¬ IsListing o table label (Err NotValid)
   pub jump : (table : TableValue) (request : List ℕ) → AsksNothing table → ¬ IsJumpAnswer table request (Err NotValid)

@@ -2,7 +2,7 @@
 ghost use Rattle.std.specs.Prelude.{ℕ, List};
 ghost use Rattle.idn2_cli.specs.Answers.{LineAnswer};
 ghost use Rattle.idn2_cli.specs.Laws.{CausesAreTold, DispositionsAreTold, FormsSayTheSame};
-ghost use Rattle.idn2_cli.specs.ListingLaws.{AdmittedAreListed, ListedAreMutual, NotValidIsTold, RulesetsSayTheSame};
+ghost use Rattle.idn2_cli.specs.ListingLaws.{AdmittedAreListed, ListedAreMutual, NotValidIsNeverTold, RulesetsSayTheSame};
 ghost use Rattle.idn2_cli.specs.LineCauses.{RefusalsAreExplained};
 ghost use Rattle.idn2_cli.specs.CauseExamples.{ExamplesOfCauses};
 ghost use Rattle.idn2_cli.specs.Examples.{ExamplesOfAllocations, ExamplesOfARun, ExamplesOfBlocks, ExamplesOfLines, ExamplesOfRefusals, ExamplesOfTranscripts};
@@ -29,8 +29,8 @@ pub fn rulesets_say_the_same()
 {}
 
 /// Where a table asks nothing of its labels, none is refused as not valid.
-pub fn not_valid_is_told()
-    ensures { NotValidIsTold }
+pub fn not_valid_is_never_told()
+    ensures { NotValidIsNeverTold }
 {}
 
 /// What the message of a refused line goes on with.

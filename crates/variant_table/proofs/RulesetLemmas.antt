@@ -20,11 +20,11 @@ use Rattle.variant_table.specs.Canonical.{canonical_text, head_text, table_text,
 use Rattle.variant_table.specs.Conditions.{is_too_long}
 use Rattle.variant_table.specs.Limits.{text_limit}
 use Rattle.variant_table.specs.WellFormed.{IsTable}
-use Rattle.variant_table.specs.Texts.{LineSpells, LineAdds, LinesSpell, IsTextOf}
-use Rattle.variant_table.specs.Versions.{version_of, is_version_line}
+use Rattle.variant_table.specs.Texts.{AreLinesOf, LineSpells, LineAdds, LinesSpell, IsTextOf}
+use Rattle.variant_table.specs.Versions.{body_of, head_of, version_of, is_version_line}
 use Rattle.variant_table.specs.Reading.{◌>>=◌, in_line, with_line, with_raw_line, with_lines, table_in, table_of_lines}
 use Rattle.variant_table.proofs.FaultlessLemmas.{read_by, text_read, whole_no}
-use Rattle.variant_table.proofs.SizeLemmas.{adds_version}
+use Rattle.variant_table.proofs.SizeLemmas.{adds_version, length-stripped, size_of-cons}
 
 -- ---- a table of version 2 is a ruleset once its first line says so
 
@@ -69,17 +69,26 @@ as_ruleset entries h = record {
   short = omega (arith, h.short, length-append (head_text Two) (canonical_text nothing_defined entries), length-append (head_text Three) (canonical_text nothing_defined entries));
 }
 
-pub as_three : (lines : List ℕ) (entries : List Entry) → IsTextOf Table (head_text Two ++ lines) (table_of Two nothing_defined entries) → IsTextOf Ruleset (head_text Three ++ lines) (table_of Three nothing_defined entries)
-as_three lines entries h =
-    let body : List (List ℕ) = raw_lines lines in
+-- the lines after the version line spell the same entries after that of a ruleset, which is hardly longer
+lines_as_three : (first second : List ℕ) (lines : List (List ℕ)) (entries : List Entry) → strip_carriage_return second ≡ version_line Ruleset → AreLinesOf (first ∷ []) lines (table_of Two nothing_defined entries) → AreLinesOf (second ∷ []) lines (table_of Three nothing_defined entries)
+lines_as_three first second lines entries is h = record {
+  spelled = lines_three (empty_table Two) (table_of Two nothing_defined entries) lines refl h.spelled;
+  short = All-from_recursion (λ line. length line ≤ 8192) lines (shorter lines (recursion_from_All (λ line. length line ≤ 1024) lines h.short));
+  size = omega (arith, h.size, size_of-cons first [], size_of-cons second [], (length-stripped second).1, ap (λ (l : List ℕ). length l) is);
+  well_formed = as_ruleset entries h.well_formed;
+}
+
+pub as_three : (text other first second : List ℕ) (lines : List (List ℕ)) (entries : List Entry) → raw_lines text ≡ first ∷ lines → raw_lines other ≡ second ∷ lines
+    → is_version_line Table first ≡ true → is_version_line Ruleset second ≡ true → IsTextOf Table text (table_of Two nothing_defined entries) → IsTextOf Ruleset other (table_of Three nothing_defined entries)
+as_three text other first second lines entries cut cut_other is is_other h =
+    let given : AreLinesOf (first ∷ []) lines (table_of Two nothing_defined entries) =
+        subst (λ (b : Bool). AreLinesOf (cond b (first ∷ []) []) (cond b lines (first ∷ lines)) (table_of Two nothing_defined entries)) is
+            (subst (λ (ls : List (List ℕ)). AreLinesOf (head_of Table ls) (body_of Table ls) (table_of Two nothing_defined entries)) cut h.lines) in
+    let found = lines_as_three first second lines entries ((bytes_eq-Decides (strip_carriage_return second) (version_line Ruleset)).0 is_other) given in
     record {
-      version = refl;
-      lines = record {
-        spelled = lines_three (empty_table Two) (table_of Two nothing_defined entries) body refl h.lines.spelled;
-        short = All-from_recursion (λ line. length line ≤ 8192) body (shorter body (recursion_from_All (λ line. length line ≤ 1024) body h.lines.short));
-        size = omega (arith, h.lines.size);
-        well_formed = as_ruleset entries h.lines.well_formed;
-      };
+      version = subst (λ (ls : List (List ℕ)). version_of Ruleset ls ≡ Some Three) (sym cut_other) (ap (λ b. cond b (Some Three) None) is_other);
+      lines = subst (λ (ls : List (List ℕ)). AreLinesOf (head_of Ruleset ls) (body_of Ruleset ls) (table_of Three nothing_defined entries)) (sym cut_other)
+          (subst (λ (b : Bool). AreLinesOf (cond b (second ∷ []) []) (cond b lines (second ∷ lines)) (table_of Three nothing_defined entries)) (sym is_other) found);
     }
 
 -- ---- no text is both

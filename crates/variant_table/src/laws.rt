@@ -2,7 +2,7 @@
 ghost use Rattle.std.specs.Prelude.{◌≡◌, ◌↔◌, ◌⊎◌, ◌≤◌, ℕ, true, false, List, [], ◌∷◌, ◌++◌, length, All, Ok, Err, Some, codes};
 ghost use Rattle.idn_text.specs.Lines.{raw_lines, with_last_feed};
 ghost use Rattle.variant_table.specs.Faults.{LineFault};
-ghost use Rattle.variant_table.specs.Canonical.{canonical_line, head_text, table_text};
+ghost use Rattle.variant_table.specs.Canonical.{canonical_line, table_text};
 ghost use Rattle.ruleset_text.specs.Definitions.{Definitions, nothing_defined};
 ghost use Rattle.ruleset_text.specs.Entries.{EntryForm};
 ghost use Rattle.ruleset_text.specs.WellFormed.{AreDefinitions};
@@ -12,7 +12,7 @@ ghost use Rattle.variant_table.specs.Forms.{HasForm};
 ghost use Rattle.variant_table.specs.Reading.{form_in, table_of_text};
 ghost use Rattle.variant_table.specs.Texts.{IsTextOf, IsFaultOf, LineSpells};
 ghost use Rattle.variant_table.specs.declared.version.Version.{Version};
-ghost use Rattle.variant_table.specs.Versions.{notation_of, size_of};
+ghost use Rattle.variant_table.specs.Versions.{is_version_line, notation_of, size_of};
 ghost use Rattle.variant_table.specs.inner.Examples.{conditional, entries_in, repeated, spelled, tagged, text_told, told, two_tags, written, EachTold};
 ghost use Rattle.label_patterns.specs.declared.condition.ConditionKind.TheVariants as kinds;
 ghost use Rattle.variant_table.specs.Ranges.{point_entry, point_variant};
@@ -65,11 +65,13 @@ pub fn no_text_is_a_table_and_a_ruleset()
         IsTextOf notations.Table text a → IsTextOf notations.Ruleset text b → ⊥ }
 {}
 
-/// A table of version 2 is a ruleset of the same entries once its first line says so.
+/// A table of version 2 is a ruleset of the same entries once its first line says so, with a carriage return or without one.
 pub fn a_table_of_version_2_is_a_ruleset()
-    ensures { (lines : List ℕ) (entries : List Entry) →
-        IsTextOf notations.Table (head_text versions.Two ++ lines) (table_of versions.Two nothing_defined entries) →
-        IsTextOf notations.Ruleset (head_text versions.Three ++ lines) (table_of versions.Three nothing_defined entries) }
+    ensures { (text other first second : List ℕ) (lines : List (List ℕ)) (entries : List Entry) →
+        raw_lines text ≡ first ∷ lines → raw_lines other ≡ second ∷ lines →
+        is_version_line notations.Table first ≡ true → is_version_line notations.Ruleset second ≡ true →
+        IsTextOf notations.Table text (table_of versions.Two nothing_defined entries) →
+        IsTextOf notations.Ruleset other (table_of versions.Three nothing_defined entries) }
 {}
 
 /// The canonical text of a well-formed table spells that table, in the notation of its version.
