@@ -10,15 +10,19 @@ ghost use Rattle.ruleset_text.specs.SetNames.{set_name as set_name_of};
 use crate::entry_place::WrongPlace;
 use crate::expected::{Expected, expected_next};
 use crate::placed::next_placed;
-use ruleset_text::{Name, is_one_of, next_lexeme, set_name};
+use ruleset_text::{Keyword, Name, is_one_of, keyword_of, next_lexeme, set_name};
 
 /// The name that a line defines by a keyword, if it begins with it.
-pub fn defined_name<'a>(keyword: &[u8], line: &'a [u8]) -> Option<&'a [u8]>
-    ensures { option_copied result ≡ lines.defined_name keyword.now (lexemes line.now) }
+pub fn defined_name(keyword: Keyword, line: &[u8]) -> Option<&[u8]>
+    ensures { option_copied result ≡ lines.defined_name keyword (lexemes line.now) }
 {
     let (word, rest) = next_lexeme(line)?;
     let (name, _) = next_lexeme(rest)?;
-    if word == keyword { Some(name) } else { None }
+    if keyword_of(word) == Some(keyword) {
+        Some(name)
+    } else {
+        None
+    }
 }
 
 /// Where the first lexeme of a line stands: that of a definition is its keyword.

@@ -18,7 +18,7 @@ use crate::line_point::{LinePoint, definition_points, line_points};
 use crate::lines_before::LinesBefore;
 use idn_class::{Class, class_of};
 use idn_text::{TextLines, without_carriage_return};
-use ruleset_text::{EntryForm, Mapped, NamedCondition, read_entry, without_blanks};
+use ruleset_text::{EntryForm, Keyword, Mapped, NamedCondition, read_entry, without_blanks};
 use std::alloc::{AllocError, Global};
 use variant_table::{Notation, REPLACEMENT_LIMIT, SEQUENCE_LIMIT, TableFault, Version, head_of};
 
@@ -170,7 +170,7 @@ fn definition_place(
 {
     match fault {
         TableFault::NoSuchName { line: _ } => {
-            let sets = before.names_defined(alloc, b"%set")?;
+            let sets = before.names_defined(alloc, Keyword::Set)?;
             Ok(as_fault(unknown_set(&sets, line)))
         }
         TableFault::SameName { line: _ } => Ok(as_fault(name_place(line))),
@@ -191,8 +191,8 @@ fn other_place(
 {
     match fault {
         TableFault::NoSuchName { line: _ } => {
-            let tags = before.names_defined(alloc, b"%tag")?;
-            let rules = before.names_defined(alloc, b"%rule")?;
+            let tags = before.names_defined(alloc, Keyword::Tag)?;
+            let rules = before.names_defined(alloc, Keyword::Rule)?;
             Ok(as_fault(unknown_name(&tags, &rules, line)))
         }
         _ => entry_place(alloc, fault, line),
