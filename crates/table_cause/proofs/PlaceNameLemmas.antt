@@ -17,12 +17,12 @@ named_first : (names rest : List (List ℕ)) (o : Option (List ℕ)) → (names 
 named_first names rest None = ap (λ l. l ++ rest) (append-nil names)
 named_first names rest (Some name) = append_assoc names (name ∷ []) rest
 
-pub names_next : (keyword body line : List ℕ) (names after rest lines : List (List ℕ)) (left : ℕ) → 0 < left → lines ≡ line ∷ rest → body ≡ strip_carriage_return line
-    → after ≡ names ++ and_name (defined_name keyword (lexemes body)) [] → after ++ names_defined keyword (take (left - 1) rest) ≡ names ++ names_defined keyword (take left lines)
-names_next keyword body line names after rest lines left some cut is added =
-    ap (λ l. l ++ names_defined keyword (take (left - 1) rest)) (added ∙ ap (λ b. names ++ and_name (defined_name keyword (lexemes b)) []) is)
-    ∙ named_first names (names_defined keyword (take (left - 1) rest)) (defined_name keyword (lexemes (strip_carriage_return line)))
-    ∙ ap (λ l. names ++ names_defined keyword l) (sym (ap (take left) cut ∙ take-first line rest left some))
+pub names_next : (k : Keyword) (body line : List ℕ) (names after rest lines : List (List ℕ)) (left : ℕ) → 0 < left → lines ≡ line ∷ rest → body ≡ strip_carriage_return line
+    → after ≡ names ++ and_name (defined_name k (lexemes body)) [] → after ++ names_defined k (take (left - 1) rest) ≡ names ++ names_defined k (take left lines)
+names_next k body line names after rest lines left some cut is added =
+    ap (λ l. l ++ names_defined k (take (left - 1) rest)) (added ∙ ap (λ b. names ++ and_name (defined_name k (lexemes b)) []) is)
+    ∙ named_first names (names_defined k (take (left - 1) rest)) (defined_name k (lexemes (strip_carriage_return line)))
+    ∙ ap (λ l. names ++ names_defined k l) (sym (ap (take left) cut ∙ take-first line rest left some))
 
 counted_first : (found rest : ℕ) (counts : Bool) → found + cond counts 1 0 + rest ≡ found + cond counts (rest + 1) rest
 counted_first found rest true = omega arith

@@ -12,14 +12,15 @@ use Rattle.table_cause.specs.PlacedLexemes.{placed_lexemes}
 
 -- ---- what the lines before define, as they stand in the text
 
--- the names after this keyword
+-- the names after this one, if there is one
 abbrev pub and_name : Option (List ℕ) → List (List ℕ) → List (List ℕ)
 and_name None names = names
 and_name (Some name) names = name ∷ names
 
-abbrev pub names_defined : List ℕ → List (List ℕ) → List (List ℕ)
-names_defined keyword [] = []
-names_defined keyword (line ∷ lines) = and_name (defined_name keyword (lexemes (strip_carriage_return line))) (names_defined keyword lines)
+-- the names that lines define by this keyword
+abbrev pub names_defined : Keyword → List (List ℕ) → List (List ℕ)
+names_defined k [] = []
+names_defined k (line ∷ lines) = and_name (defined_name k (lexemes (strip_carriage_return line))) (names_defined k lines)
 
 -- the keyword of lexemes, the first of which it is
 abbrev pub first_keyword : List (List ℕ) → Option Keyword

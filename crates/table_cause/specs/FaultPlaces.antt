@@ -1,5 +1,5 @@
 -- Where a line of a table has its fault. Places are bytes of the line, counted from 0.
-use Rattle.std.specs.Prelude.{ℕ, ◌-◌, nat_lt, ◌==◌, Bool, true, false, ◌||◌, ◌&&◌, not, Option, Some, None, List, [], ◌∷◌, ◌++◌, length, take, codes, find, bytes_eq, slice_get, if◌then◌else◌}
+use Rattle.std.specs.Prelude.{ℕ, ◌-◌, nat_lt, ◌==◌, Bool, true, false, ◌||◌, ◌&&◌, not, Option, Some, None, List, [], ◌∷◌, ◌++◌, length, take, find, bytes_eq, slice_get, if◌then◌else◌}
 use Rattle.std.specs.List.{range_with_len}
 use Rattle.std.specs.Option.{option_map}
 use Rattle.std.specs.Str.Lines.{strip_carriage_return}
@@ -10,6 +10,7 @@ use Rattle.table_cause.specs.declared.entry_place.WrongPlace.{WrongPlace}
 use Rattle.table_cause.specs.declared.entry_place.WrongPlace.TheVariants as wrong
 use Rattle.table_cause.specs.declared.line_point.LinePoint.{LinePoint}
 use Rattle.ruleset_text.specs.declared.entry_form.NamedCondition.{NamedCondition}
+use Rattle.ruleset_text.specs.declared.keyword.Keyword.TheVariants as keyword
 use Rattle.ruleset_text.specs.Entries.{EntryForm, Mapped}
 use Rattle.ruleset_text.specs.EntrySteps.{entry_in}
 use Rattle.table_cause.specs.DefinitionWrongSteps.{wrong_definition}
@@ -144,12 +145,12 @@ entry_place fault line = form_place fault (entry_in (lexemes line)) (line_points
 -- a tag or a rule of an entry that none of the lines before defines
 abbrev pub unknown_place : List (List ℕ) → List ℕ → Option FaultPlace
 unknown_place before line =
-    option_map as_fault (unknown_name (names_defined (codes "%tag") before) (names_defined (codes "%rule") before) (placed_lexemes line))
+    option_map as_fault (unknown_name (names_defined keyword.Tag before) (names_defined keyword.Rule before) (placed_lexemes line))
 
 -- of a line that is to define something: the name that none of the lines before has, or that one has; the first code point that is
 -- bad; what is past a limit
 abbrev pub definition_place : List (List ℕ) → TableFault → List ℕ → Option FaultPlace
-definition_place before (tables.NoSuchName number) line = option_map as_fault (unknown_set (names_defined (codes "%set") before) (placed_lexemes line))
+definition_place before (tables.NoSuchName number) line = option_map as_fault (unknown_set (names_defined keyword.Set before) (placed_lexemes line))
 definition_place before (tables.SameName number) line = option_map as_fault (second_place (placed_lexemes line))
 definition_place before (tables.BadClass number) line = point_place (definition_points line)
 definition_place before (tables.Limit number) line = option_map as_fault (definition_limit before line)

@@ -1,5 +1,5 @@
 -- The names on a line, and where what a definition may not have stands on its line. Places are bytes, counted from 0.
-use Rattle.std.specs.Prelude.{◌≡◌, ℕ, Bool, true, false, not, Option, Some, None, List, [], ◌∷◌, ◌++◌, length, bytes_eq, if◌then◌else◌}
+use Rattle.std.specs.Prelude.{◌≡◌, ℕ, Bool, true, false, not, Option, Some, None, List, [], ◌∷◌, ◌++◌, length, if◌then◌else◌}
 use Rattle.std.specs.List.{AllByRecursion}
 use Rattle.table_cause.specs.declared.entry_place.WrongPlace.{WrongPlace}
 use Rattle.table_cause.specs.declared.entry_place.WrongPlace.TheVariants.{Lexeme}
@@ -15,10 +15,19 @@ use Rattle.ruleset_text.specs.Names.{is_one_of}
 use Rattle.table_cause.specs.PlacedLexemes.{Placed, placed_lexemes}
 use Rattle.ruleset_text.specs.SetNames.{set_name}
 
+-- there is a keyword, and it is this one
+abbrev pub is_keyword : Option Keyword → Keyword → Bool
+is_keyword (Some keyword.Tag) keyword.Tag = true
+is_keyword (Some keyword.Set) keyword.Set = true
+is_keyword (Some keyword.Rule) keyword.Rule = true
+is_keyword (Some keyword.Never) keyword.Never = true
+is_keyword (Some keyword.Always) keyword.Always = true
+is_keyword other k = false
+
 -- the name that a line defines by this keyword
-abbrev pub defined_name : List ℕ → List (List ℕ) → Option (List ℕ)
-defined_name keyword (word ∷ name ∷ words) = if bytes_eq word keyword then Some name else None
-defined_name keyword words = None
+abbrev pub defined_name : Keyword → List (List ℕ) → Option (List ℕ)
+defined_name k (word ∷ name ∷ words) = if is_keyword (keyword_of word) k then Some name else None
+defined_name k words = None
 
 abbrev pub place_of : Placed → WrongPlace
 place_of w = Lexeme w.place (length w.lexeme)

@@ -27,9 +27,9 @@ impl<'a> LinesBefore<'a> {
     pub(crate) fn names_defined(
         &self,
         alloc: Global,
-        keyword: &[u8],
+        keyword: Keyword,
     ) -> Result<Vec<Name>, AllocError>
-        ensures { IfOk result (λ names. names.items ≡ definitions.names_defined keyword.now (lines_of self.now)) }
+        ensures { IfOk result (λ names. names.items ≡ definitions.names_defined keyword (lines_of self.now)) }
     {
         let mut names = Vec::new(alloc);
         let mut lines = TextLines::new(self.text);
@@ -97,11 +97,11 @@ impl<'a> LinesBefore<'a> {
 /// Adds the name that a line defines by a keyword, if it defines one.
 fn add_name(
     alloc: Global,
-    keyword: &[u8],
+    keyword: Keyword,
     line: &[u8],
     names: &mut Vec<Name>,
 ) -> Result<(), AllocError>
-    ensures { OnOk result (names.new.items ≡ names.old.items ++ definitions.and_name (defined_in keyword.now (lexemes line.now)) []) }
+    ensures { OnOk result (names.new.items ≡ names.old.items ++ definitions.and_name (defined_in keyword (lexemes line.now)) []) }
 {
     if let Some(name) = defined_name(keyword, line) {
         names.push(Name::copied(alloc, name)?)?;

@@ -1,5 +1,5 @@
 //! Where a line of a table has its fault. It is looked for only once the fault is told, and reading knows nothing of it.
-ghost use Rattle.std.specs.Prelude.{◌≡◌, ◌<◌, ◌&&◌, true, [], IfOk, Some, length, take, find, bytes_eq, slice_index_or};
+ghost use Rattle.std.specs.Prelude.{◌≡◌, ◌<◌, ◌&&◌, true, [], IfOk, Some, None, length, take, find, bytes_eq, slice_index_or, if◌then◌else◌};
 ghost use Rattle.std.specs.List.{range_with_len};
 ghost use Rattle.std.specs.Option.{option_copied, option_map};
 ghost use Rattle.ruleset_text.specs.Entries.{Mapped as Form};
@@ -18,9 +18,9 @@ use crate::line_point::{LinePoint, definition_points, line_points};
 use crate::lines_before::LinesBefore;
 use idn_class::{Class, class_of};
 use idn_text::{TextLines, without_carriage_return};
-use ruleset_text::{EntryForm, Mapped, NamedCondition, read_entry, without_blanks};
+use ruleset_text::{EntryForm, Keyword, Mapped, NamedCondition, read_entry, without_blanks};
 use std::alloc::{AllocError, Global};
-use variant_table::{Notation, TableFault, Version, head_of};
+use variant_table::{Notation, REPLACEMENT_LIMIT, SEQUENCE_LIMIT, TableFault, Version, head_of};
 
 /// Where a line has its fault. A place is a byte of the line, counted from 0: the first one of what is named.
 #[derive(Clone, Copy, Debug, PartialEq, Eq)]
@@ -170,7 +170,7 @@ fn definition_place(
 {
     match fault {
         TableFault::NoSuchName { line: _ } => {
-            let sets = before.names_defined(alloc, b"%set")?;
+            let sets = before.names_defined(alloc, Keyword::Set)?;
             Ok(as_fault(unknown_set(&sets, line)))
         }
         TableFault::SameName { line: _ } => Ok(as_fault(name_place(line))),
@@ -191,8 +191,8 @@ fn other_place(
 {
     match fault {
         TableFault::NoSuchName { line: _ } => {
-            let tags = before.names_defined(alloc, b"%tag")?;
-            let rules = before.names_defined(alloc, b"%rule")?;
+            let tags = before.names_defined(alloc, Keyword::Tag)?;
+            let rules = before.names_defined(alloc, Keyword::Rule)?;
             Ok(as_fault(unknown_name(&tags, &rules, line)))
         }
         _ => entry_place(alloc, fault, line),
@@ -424,25 +424,23 @@ fn limit_place(points: &[LinePoint]) -> Option<FaultPlace>
     ensures { result ≡ places.limit_place points.now }
 {
     for p in points {
-        if is_past(p) {
-            return Some(past_place(p));
+        if let Some(place) = past_place(p) {
+            return Some(place);
         }
     }
     None
 }
 
-fn is_past(p: &LinePoint) -> bool
-    ensures { result ≡ places.is_past p.now }
+/// What is told of the ninth code point of a sequence, and of one of the seventeenth variant. Both are counted from 0, and the
+/// source is the sequence 0.
+fn past_place(p: &LinePoint) -> Option<FaultPlace>
+    ensures { result ≡ (if places.is_past p.now then Some (places.past_place p.now) else None) }
 {
-    p.index == 8 || p.sequence == 17
-}
-
-fn past_place(p: &LinePoint) -> FaultPlace
-    ensures { result ≡ places.past_place p.now }
-{
-    if p.index == 8 {
-        FaultPlace::NinthPoint(p.place, p.point)
+    if p.index == SEQUENCE_LIMIT {
+        Some(FaultPlace::NinthPoint(p.place, p.point))
+    } else if p.sequence == REPLACEMENT_LIMIT {
+        Some(FaultPlace::SeventeenthVariant(p.place, p.point))
     } else {
-        FaultPlace::SeventeenthVariant(p.place, p.point)
+        None
     }
 }

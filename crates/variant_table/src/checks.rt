@@ -14,10 +14,10 @@ use ruleset_text::Mapped;
 use std::alloc::{AllocError, Global};
 
 /// The most sequences of an entry: a source and 16 variants.
-const REPLACEMENT_LIMIT: usize = 17;
+pub const REPLACEMENT_LIMIT: usize = 17;
 
 /// The most code points of a sequence.
-const SEQUENCE_LIMIT: usize = 8;
+pub const SEQUENCE_LIMIT: usize = 8;
 
 /// Whether a source has too many variants, or one of the sequences too many code points.
 pub fn is_too_large(entry: &[Mapped]) -> bool

@@ -21,6 +21,7 @@ mod tags;
 mod version;
 
 pub use canonical::write_sequence;
+pub use checks::{REPLACEMENT_LIMIT, SEQUENCE_LIMIT};
 pub use entry::Entry;
 pub use fault::TableFault;
 pub use places::EntriesAt;

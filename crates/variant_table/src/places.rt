@@ -3,12 +3,10 @@ ghost use Rattle.std.specs.Prelude.{◌≡◌, ◌≤◌, length};
 ghost use Rattle.std.specs.Iterator.{YieldsFirst, item_count};
 ghost use Rattle.variant_table.specs.Places.{entries_at as entries_at_place};
 
+use crate::checks::SEQUENCE_LIMIT;
 use crate::entry::Entry;
 use crate::ordered_entries::{LookUp, OrderedEntries};
 use std::marker::Model;
-
-/// The most code points of a source.
-const SOURCE_LIMIT: usize = 8;
 
 /// The entries of a table whose source begins a label at a place, by rising source length. It is an
 /// iterator of at most 8 items, and takes no memory.
@@ -50,12 +48,12 @@ impl<'a> EntriesAt<'a> {
     fn next_entry(&mut self) -> Option<Entry<'a>>
         ensures { YieldsFirst (λ s. s) self.old result self.new }
     {
-        while self.len < SOURCE_LIMIT && self.place + self.len < self.label.len() {
+        while self.len < SEQUENCE_LIMIT && self.place + self.len < self.label.len() {
             self.len += 1;
             let sequence = &self.label[self.place..self.place + self.len];
             let LookUp { entry, has_longer } = self.entries.look_up(sequence);
             if !has_longer {
-                self.len = SOURCE_LIMIT;
+                self.len = SEQUENCE_LIMIT;
             }
             if let Some(entry) = entry {
                 return Some(entry);
