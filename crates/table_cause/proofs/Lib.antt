@@ -18,3 +18,5 @@ pub mod FindLemmas
 pub mod PlaceNameLemmas
 -- The places that are told are those that are defined.
 pub mod PlaceLawLemmas
+-- What is told of a line that defines something, and past which limit.
+pub mod WholeLimitLemmas

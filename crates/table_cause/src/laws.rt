@@ -18,7 +18,8 @@ ghost use Rattle.table_cause.specs.WrongDefinitions.{Define, definition_in};
 ghost use Rattle.table_cause.specs.WrongPlaces.{FitsNames, IsWhole, IsWrongPlace};
 ghost use Rattle.table_cause.specs.WrongSteps.{wrong_place};
 ghost use Rattle.table_cause.specs.declared.expected.Expected.TheVariants.{Nothing};
-ghost use Rattle.table_cause.specs.FaultPlaces.{parts_of, point_place, syntax_place};
+ghost use Rattle.table_cause.specs.FaultPlaces.{definition_place, parts_of, point_place, syntax_place};
+ghost use Rattle.variant_table.specs.declared.fault.TableFault.TheVariants as tables;
 ghost use Rattle.variant_table.specs.declared.version.Notation.TheVariants.{Ruleset};
 ghost use Rattle.variant_table.specs.declared.version.Version.TheVariants.{Three};
 ghost use Rattle.variant_table.specs.Entries.{TableValue, empty_table};
@@ -88,4 +89,14 @@ pub fn definitions_past_limits_are_told()
     ensures { (head : List ℕ) (before : List (List ℕ)) (table : TableValue) (names : List (List ℕ)) (line : List ℕ) (definition : Definition) →
         is_version_line Ruleset head ≡ true → LinesSpell (empty_table Three) before table → definition_in names (lexemes line) ≡ Some definition →
         is_some (definition_limit (head ∷ before) line) ≡ is_one_too_many table.definitions definition }
+{}
+
+/// Past a limit a place is told only of a line that defines something, and then exactly if that is one too many for the table that
+/// the lines before it spell. Where a line defines nothing, the limit is that of the text, and no part of the line is told.
+pub fn limits_are_told_of_definitions()
+    ensures nothing { (before : List (List ℕ)) (number : ℕ) (names : List (List ℕ)) (line : List ℕ) → definition_in names (lexemes line) ≡ None →
+        definition_place before (tables.Limit number) line ≡ None }
+    ensures one_too_many { (head : List ℕ) (before : List (List ℕ)) (table : TableValue) (number : ℕ) (names : List (List ℕ)) (line : List ℕ) (definition : Definition) →
+        is_version_line Ruleset head ≡ true → LinesSpell (empty_table Three) before table → definition_in names (lexemes line) ≡ Some definition →
+        is_some (definition_place (head ∷ before) (tables.Limit number) line) ≡ is_one_too_many table.definitions definition }
 {}
