@@ -20,3 +20,7 @@ pub mod PlaceNameLemmas
 pub mod PlaceLawLemmas
 -- What is told of a line that defines something, and past which limit.
 pub mod WholeLimitLemmas
+-- The code points that the line of an entry or of a range names are those of its form.
+pub mod FormPointLemmas
+-- A place is told of an entry where reading refuses it.
+pub mod RefusedPlaceLemmas

@@ -2,9 +2,11 @@
 ghost use Rattle.std.specs.Prelude.{is_some, not, true, ◌≡◌, ◌↔◌, ℕ, List, ◌∷◌, None, Some};
 ghost use Rattle.table_cause.specs.declared.line_point.LinePoint.{LinePoint};
 ghost use Rattle.ruleset_text.specs.Entries.{EntryForm};
+ghost use Rattle.std.specs.List.{list_any};
 ghost use Rattle.table_cause.specs.EntryParts.{has_parts};
 ghost use Rattle.ruleset_text.specs.Definition.{Definition};
-ghost use Rattle.ruleset_text.specs.Definitions.{definition_atoms, is_one_too_many};
+ghost use Rattle.ruleset_text.specs.Definitions.{Definitions, definition_atoms, is_one_too_many};
+ghost use Rattle.ruleset_text.specs.EntrySteps.{entry_in};
 ghost use Rattle.ruleset_text.specs.Lexemes.{lexemes};
 ghost use Rattle.ruleset_text.specs.SetNames.{set_name};
 ghost use Rattle.table_cause.specs.DefinitionPlaces.{definition_limit};
@@ -18,12 +20,14 @@ ghost use Rattle.table_cause.specs.WrongDefinitions.{Define, definition_in};
 ghost use Rattle.table_cause.specs.WrongPlaces.{FitsNames, IsWhole, IsWrongPlace};
 ghost use Rattle.table_cause.specs.WrongSteps.{wrong_place};
 ghost use Rattle.table_cause.specs.declared.expected.Expected.TheVariants.{Nothing};
-ghost use Rattle.table_cause.specs.FaultPlaces.{definition_place, parts_of, point_place, syntax_place};
+ghost use Rattle.table_cause.specs.FaultPlaces.{class_place, definition_place, limit_place, parts_of, point_place, syntax_place};
+ghost use Rattle.table_cause.specs.LinePoints.{line_points};
 ghost use Rattle.variant_table.specs.declared.fault.TableFault.TheVariants as tables;
 ghost use Rattle.variant_table.specs.declared.version.Notation.TheVariants.{Ruleset};
 ghost use Rattle.variant_table.specs.declared.version.Version.TheVariants.{Three};
 ghost use Rattle.variant_table.specs.Entries.{TableValue, empty_table};
-ghost use Rattle.variant_table.specs.Forms.{has_form};
+ghost use Rattle.variant_table.specs.Conditions.{has_bad_class, is_too_large};
+ghost use Rattle.variant_table.specs.Forms.{entries_of, has_form, written_out};
 ghost use Rattle.variant_table.specs.Texts.{LinesSpell};
 ghost use Rattle.variant_table.specs.Versions.{is_version_line};
 ghost use Rattle.table_cause.specs.PlaceExamples.{ExamplesOfPlaces};
@@ -99,4 +103,13 @@ pub fn limits_are_told_of_definitions()
     ensures one_too_many { (head : List ℕ) (before : List (List ℕ)) (table : TableValue) (number : ℕ) (names : List (List ℕ)) (line : List ℕ) (definition : Definition) →
         is_version_line Ruleset head ≡ true → LinesSpell (empty_table Three) before table → definition_in names (lexemes line) ≡ Some definition →
         is_some (definition_place (head ∷ before) (tables.Limit number) line) ≡ is_one_too_many table.definitions definition }
+{}
+
+/// A place is told of an entry or of a range exactly where reading refuses it: past a limit, if it has too many variants or too long
+/// a sequence; and for a class, if some code point of its entries may not be held, whatever is defined.
+pub fn places_are_told_where_reading_refuses()
+    ensures limit { (line : List ℕ) (form : EntryForm) → entry_in (lexemes line) ≡ Some form →
+        is_some (limit_place (line_points line)) ≡ list_any is_too_large (written_out form) }
+    ensures class { (definitions : Definitions) (line : List ℕ) (form : EntryForm) → entry_in (lexemes line) ≡ Some form →
+        is_some (class_place form.last (line_points line)) ≡ list_any has_bad_class (entries_of definitions form) }
 {}
