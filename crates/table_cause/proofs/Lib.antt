@@ -24,3 +24,5 @@ pub mod WholeLimitLemmas
 pub mod FormPointLemmas
 -- A place is told of an entry where reading refuses it.
 pub mod RefusedPlaceLemmas
+-- The names that the lines before define are those of the table.
+pub mod DefinedNameLemmas

@@ -1,5 +1,5 @@
 //! Laws of the places of faults, each the contract of a function that does nothing.
-ghost use Rattle.std.specs.Prelude.{is_some, not, true, ◌≡◌, ◌↔◌, ℕ, List, ◌∷◌, None, Some};
+ghost use Rattle.std.specs.Prelude.{codes, is_some, not, true, ◌≡◌, ◌↔◌, ℕ, List, ◌∷◌, None, Some};
 ghost use Rattle.table_cause.specs.declared.line_point.LinePoint.{LinePoint};
 ghost use Rattle.ruleset_text.specs.Entries.{EntryForm};
 ghost use Rattle.std.specs.List.{list_any};
@@ -9,7 +9,7 @@ ghost use Rattle.ruleset_text.specs.Definitions.{Definitions, definition_atoms, 
 ghost use Rattle.ruleset_text.specs.EntrySteps.{entry_in};
 ghost use Rattle.ruleset_text.specs.Lexemes.{lexemes};
 ghost use Rattle.ruleset_text.specs.SetNames.{set_name};
-ghost use Rattle.table_cause.specs.DefinitionPlaces.{definition_limit};
+ghost use Rattle.table_cause.specs.DefinitionPlaces.{definition_limit, names_defined};
 ghost use Rattle.table_cause.specs.DefinitionWrongSteps.{wrong_definition};
 ghost use Rattle.table_cause.specs.LineNames.{IsFirstLexeme, IsFirstUnknown, is_unknown, unknown_name, unknown_set};
 ghost use Rattle.table_cause.specs.PastLimits.{IsFirstPast, is_definition_past};
@@ -105,9 +105,16 @@ pub fn limits_are_told_of_definitions()
         is_some (definition_place (head ∷ before) (tables.Limit number) line) ≡ is_one_too_many table.definitions definition }
 {}
 
-/// A place is told of an entry or of a range exactly where reading refuses it: past a limit, if it has too many variants or too long
-/// a sequence; and for a class, if some code point of its entries may not be held, whatever is defined.
+/// The names that the lines before define, after their version line, are those of the table that they spell. A place is told of an
+/// entry or of a range exactly where reading refuses it: past a limit, if it has too many variants or too long a sequence; and for a
+/// class, if some code point of its entries may not be held, whatever is defined.
 pub fn places_are_told_where_reading_refuses()
+    ensures tags { (head : List ℕ) (before : List (List ℕ)) (table : TableValue) → is_version_line Ruleset head ≡ true → LinesSpell (empty_table Three) before table →
+        names_defined (codes "%tag") (head ∷ before) ≡ table.definitions.tags }
+    ensures sets { (head : List ℕ) (before : List (List ℕ)) (table : TableValue) → is_version_line Ruleset head ≡ true → LinesSpell (empty_table Three) before table →
+        names_defined (codes "%set") (head ∷ before) ≡ table.definitions.set_names }
+    ensures rules { (head : List ℕ) (before : List (List ℕ)) (table : TableValue) → is_version_line Ruleset head ≡ true → LinesSpell (empty_table Three) before table →
+        names_defined (codes "%rule") (head ∷ before) ≡ table.definitions.rule_names }
     ensures limit { (line : List ℕ) (form : EntryForm) → entry_in (lexemes line) ≡ Some form →
         is_some (limit_place (line_points line)) ≡ list_any is_too_large (written_out form) }
     ensures class { (definitions : Definitions) (line : List ℕ) (form : EntryForm) → entry_in (lexemes line) ≡ Some form →

@@ -1,5 +1,15 @@
+use Rattle.table_cause.proofs.DefinedNameLemmas.{names_are}
 use Rattle.table_cause.proofs.RefusedPlaceLemmas.{class_refused, limit_refused}
 use Rattle.table_cause.proofs.laws.places_are_told_where_reading_refuses.Goals as goal
+
+pub returns-clause-tags : goal.returns-clause-tags
+returns-clause-tags c head before table is spelled = (names_are head before table is spelled).0
+
+pub returns-clause-sets : goal.returns-clause-sets
+returns-clause-sets c head before table is spelled = (names_are head before table is spelled).1
+
+pub returns-clause-rules : goal.returns-clause-rules
+returns-clause-rules c head before table is spelled = (names_are head before table is spelled).2
 
 pub returns-clause-limit : goal.returns-clause-limit
 returns-clause-limit c = limit_refused
