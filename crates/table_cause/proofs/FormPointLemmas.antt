@@ -55,38 +55,38 @@ form_points (Some last) (m ∷ ms) = sequence_points 0 0 m.points ++ record { po
 -- ---- those of words
 
 -- what is named after a word, the code point that it is, and whether a further sequence begins after it
-abbrev after_word : Word → Expected
+abbrev pub after_word : Word → Expected
 after_word words.As = expected.Tag
 after_word words.Comma = expected.Tag
 after_word words.When = expected.Rule
 after_word words.Unless = expected.Rule
 after_word x = expected.Nothing
 
-abbrev word_point : Word → Option ℕ
+abbrev pub word_point : Word → Option ℕ
 word_point (words.Point c) = Some c
 word_point x = None
 
-abbrev divides : Word → Bool
+abbrev pub divides : Word → Bool
 divides words.Bar = true
 divides words.Colon = true
 divides x = false
 
-abbrev and_numbered : ℕ → ℕ → Option ℕ → (ℕ → List Numbered) → List Numbered
+abbrev pub and_numbered : ℕ → ℕ → Option ℕ → (ℕ → List Numbered) → List Numbered
 and_numbered s i None rest = rest i
 and_numbered s i (Some c) rest = record { point = c; sequence = s; index = i } ∷ rest (i + 1)
 
-abbrev points_at : Expected → ℕ → ℕ → List Word → List Numbered
+abbrev pub points_at : Expected → ℕ → ℕ → List Word → List Numbered
 points_at e s i [] = []
 points_at expected.Nothing s i (x ∷ xs) =
     cond (divides x) (points_at (after_word x) (s + 1) 0 xs) (and_numbered s i (word_point x) (λ n. points_at (after_word x) s n xs))
 points_at e s i (x ∷ xs) = points_at expected.Nothing s i xs
 
 -- a name stands only where one is expected
-abbrev IsNoName : Word → Type 0
+abbrev pub IsNoName : Word → Type 0
 IsNoName (words.Name name) = ⊥
 IsNoName x = Unit {0}
 
-abbrev NamesFit : Expected → List Word → Type 0
+abbrev pub NamesFit : Expected → List Word → Type 0
 NamesFit e [] = Unit {0}
 NamesFit expected.Nothing (x ∷ xs) = IsNoName x × NamesFit (after_word x) xs
 NamesFit e (x ∷ xs) = NamesFit expected.Nothing xs
@@ -149,7 +149,7 @@ point_step w ws x xs s i r rest =
     by false None = rest s i
     by false (Some c) = ap (λ (l : List Numbered). record { point = c; sequence = s; index = i } ∷ l) (rest s (i + 1))
 
-points_spelled : (ws : List Placed) (e : Expected) (s i : ℕ) (xs : List Word) → NamesFit e xs → AreWords xs (unplaced ws) → map numbered (points_from s i (without_names e ws)) ≡ points_at e s i xs
+pub points_spelled : (ws : List Placed) (e : Expected) (s i : ℕ) (xs : List Word) → NamesFit e xs → AreWords xs (unplaced ws) → map numbered (points_from s i (without_names e ws)) ≡ points_at e s i xs
 points_spelled [] e s i [] fit are = refl
 points_spelled [] e s i (x ∷ xs) fit are = absurd are
 points_spelled (w ∷ ws) e s i [] fit are = absurd are

@@ -26,3 +26,5 @@ pub mod FormPointLemmas
 pub mod RefusedPlaceLemmas
 -- The names that the lines before define are those of the table.
 pub mod DefinedNameLemmas
+-- A place is told of a definition where reading refuses it.
+pub mod DefinitionPointLemmas

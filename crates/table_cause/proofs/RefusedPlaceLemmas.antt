@@ -30,11 +30,11 @@ found_any {X} p f (x ∷ xs) = by (p x) (found_any p f xs)
     by true rest = refl
     by false rest = rest
 
-any_numbered : (p : Numbered → Bool) (xs : List LinePoint) → list_any (λ x. p (numbered x)) xs ≡ list_any p (map numbered xs)
+pub any_numbered : (p : Numbered → Bool) (xs : List LinePoint) → list_any (λ x. p (numbered x)) xs ≡ list_any p (map numbered xs)
 any_numbered p [] = refl
 any_numbered p (x ∷ xs) = ap (λ b. p (numbered x) || b) (any_numbered p xs)
 
-or_false : (a : Bool) → (a || false) ≡ a
+pub or_false : (a : Bool) → (a || false) ≡ a
 or_false true = refl
 or_false false = refl
 
@@ -128,7 +128,7 @@ limit_refused line form e =
 
 -- ---- classes
 
-abbrev bad : Numbered → Bool
+abbrev pub bad : Numbered → Bool
 bad n = is_bad_point n.point
 
 sequence_bad : (cs : List ℕ) (s i : ℕ) → list_any bad (sequence_points s i cs) ≡ has_bad_point cs

@@ -5,13 +5,14 @@ ghost use Rattle.ruleset_text.specs.Entries.{EntryForm};
 ghost use Rattle.std.specs.List.{list_any};
 ghost use Rattle.table_cause.specs.EntryParts.{has_parts};
 ghost use Rattle.ruleset_text.specs.Definition.{Definition};
+ghost use Rattle.ruleset_text.specs.Definitions as defined;
 ghost use Rattle.ruleset_text.specs.Definitions.{Definitions, definition_atoms, is_one_too_many};
 ghost use Rattle.ruleset_text.specs.EntrySteps.{entry_in};
 ghost use Rattle.ruleset_text.specs.Lexemes.{lexemes};
 ghost use Rattle.ruleset_text.specs.SetNames.{set_name};
 ghost use Rattle.table_cause.specs.DefinitionPlaces.{definition_limit, names_defined};
 ghost use Rattle.table_cause.specs.DefinitionWrongSteps.{wrong_definition};
-ghost use Rattle.table_cause.specs.LineNames.{IsFirstLexeme, IsFirstUnknown, is_unknown, unknown_name, unknown_set};
+ghost use Rattle.table_cause.specs.LineNames.{definition_points, IsFirstLexeme, IsFirstUnknown, is_unknown, unknown_name, unknown_set};
 ghost use Rattle.table_cause.specs.PastLimits.{IsFirstPast, is_definition_past};
 ghost use Rattle.table_cause.specs.PatternLimits.{atoms_among, first_past, pattern_in};
 ghost use Rattle.table_cause.specs.PlacedLexemes.{Placed, placed_lexemes};
@@ -107,7 +108,8 @@ pub fn limits_are_told_of_definitions()
 
 /// The names that the lines before define, after their version line, are those of the table that they spell. A place is told of an
 /// entry or of a range exactly where reading refuses it: past a limit, if it has too many variants or too long a sequence; and for a
-/// class, if some code point of its entries may not be held, whatever is defined.
+/// class, if some code point of its entries may not be held, whatever is defined. One is told of a code point of a definition exactly
+/// if reading refuses the definition for one.
 pub fn places_are_told_where_reading_refuses()
     ensures tags { (head : List ℕ) (before : List (List ℕ)) (table : TableValue) → is_version_line Ruleset head ≡ true → LinesSpell (empty_table Three) before table →
         names_defined (codes "%tag") (head ∷ before) ≡ table.definitions.tags }
@@ -119,4 +121,6 @@ pub fn places_are_told_where_reading_refuses()
         is_some (limit_place (line_points line)) ≡ list_any is_too_large (written_out form) }
     ensures class { (definitions : Definitions) (line : List ℕ) (form : EntryForm) → entry_in (lexemes line) ≡ Some form →
         is_some (class_place form.last (line_points line)) ≡ list_any has_bad_class (entries_of definitions form) }
+    ensures points { (names : List (List ℕ)) (line : List ℕ) (definition : Definition) → definition_in names (lexemes line) ≡ Some definition →
+        is_some (point_place (definition_points line)) ≡ defined.has_bad_class definition }
 {}

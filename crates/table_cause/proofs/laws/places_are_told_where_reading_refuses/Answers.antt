@@ -1,4 +1,5 @@
 use Rattle.table_cause.proofs.DefinedNameLemmas.{names_are}
+use Rattle.table_cause.proofs.DefinitionPointLemmas.{points_refused}
 use Rattle.table_cause.proofs.RefusedPlaceLemmas.{class_refused, limit_refused}
 use Rattle.table_cause.proofs.laws.places_are_told_where_reading_refuses.Goals as goal
 
@@ -16,3 +17,6 @@ returns-clause-limit c = limit_refused
 
 pub returns-clause-class : goal.returns-clause-class
 returns-clause-class c = class_refused
+
+pub returns-clause-points : goal.returns-clause-points
+returns-clause-points c = points_refused
