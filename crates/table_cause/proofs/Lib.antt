@@ -28,3 +28,5 @@ pub mod RefusedPlaceLemmas
 pub mod DefinedNameLemmas
 -- A place is told of a definition where reading refuses it.
 pub mod DefinitionPointLemmas
+-- A place is told of a variant that is given again where reading refuses it.
+pub mod RepeatPlaceLemmas

@@ -86,7 +86,7 @@ last_more s n e = grind (arith, nat_tests)
 fewer : (s : ℕ) → s ≤ 17 → (s == 17) ≡ false → s + 1 ≤ 17
 fewer s l e = grind (arith, nat_tests)
 
-or_true : (b : Bool) → (b || true) ≡ true
+pub or_true : (b : Bool) → (b || true) ≡ true
 or_true true = refl
 or_true false = refl
 

@@ -21,14 +21,14 @@ ghost use Rattle.table_cause.specs.WrongDefinitions.{Define, definition_in};
 ghost use Rattle.table_cause.specs.WrongPlaces.{FitsNames, IsWhole, IsWrongPlace};
 ghost use Rattle.table_cause.specs.WrongSteps.{wrong_place};
 ghost use Rattle.table_cause.specs.declared.expected.Expected.TheVariants.{Nothing};
-ghost use Rattle.table_cause.specs.FaultPlaces.{class_place, definition_place, limit_place, parts_of, point_place, syntax_place};
+ghost use Rattle.table_cause.specs.FaultPlaces.{class_place, definition_place, limit_place, parts_of, point_place, syntax_place, variant_place};
 ghost use Rattle.table_cause.specs.LinePoints.{line_points};
 ghost use Rattle.variant_table.specs.declared.fault.TableFault.TheVariants as tables;
 ghost use Rattle.variant_table.specs.declared.version.Notation.TheVariants.{Ruleset};
 ghost use Rattle.variant_table.specs.declared.version.Version.TheVariants.{Three};
 ghost use Rattle.variant_table.specs.Entries.{TableValue, empty_table};
-ghost use Rattle.variant_table.specs.Conditions.{has_bad_class, is_too_large};
-ghost use Rattle.variant_table.specs.Forms.{entries_of, has_form, written_out};
+ghost use Rattle.variant_table.specs.Conditions.{has_bad_class, has_repeat, is_too_large};
+ghost use Rattle.variant_table.specs.Forms.{entries_of, has_form, knows_all, written_out};
 ghost use Rattle.variant_table.specs.Texts.{LinesSpell};
 ghost use Rattle.variant_table.specs.Versions.{is_version_line};
 ghost use Rattle.table_cause.specs.PlaceExamples.{ExamplesOfPlaces};
@@ -108,7 +108,8 @@ pub fn limits_are_told_of_definitions()
 
 /// The names that the lines before define, after their version line, are those of the table that they spell. A place is told of an
 /// entry or of a range exactly where reading refuses it: past a limit, if it has too many variants or too long a sequence; and for a
-/// class, if some code point of its entries may not be held, whatever is defined. One is told of a code point of a definition exactly
+/// class, if some code point of its entries may not be held, whatever is defined; and for a variant that is given again, if its names
+/// are defined, which reading tests before. One is told of a code point of a definition exactly
 /// if reading refuses the definition for one.
 pub fn places_are_told_where_reading_refuses()
     ensures tags { (head : List ℕ) (before : List (List ℕ)) (table : TableValue) → is_version_line Ruleset head ≡ true → LinesSpell (empty_table Three) before table →
@@ -121,6 +122,8 @@ pub fn places_are_told_where_reading_refuses()
         is_some (limit_place (line_points line)) ≡ list_any is_too_large (written_out form) }
     ensures class { (definitions : Definitions) (line : List ℕ) (form : EntryForm) → entry_in (lexemes line) ≡ Some form →
         is_some (class_place form.last (line_points line)) ≡ list_any has_bad_class (entries_of definitions form) }
+    ensures again { (definitions : Definitions) (line : List ℕ) (form : EntryForm) → entry_in (lexemes line) ≡ Some form → knows_all definitions form.mapped ≡ true →
+        is_some (variant_place form (line_points line)) ≡ list_any has_repeat (entries_of definitions form) }
     ensures points { (names : List (List ℕ)) (line : List ℕ) (definition : Definition) → definition_in names (lexemes line) ≡ Some definition →
         is_some (point_place (definition_points line)) ≡ defined.has_bad_class definition }
 {}

@@ -1,6 +1,7 @@
 use Rattle.table_cause.proofs.DefinedNameLemmas.{names_are}
 use Rattle.table_cause.proofs.DefinitionPointLemmas.{points_refused}
 use Rattle.table_cause.proofs.RefusedPlaceLemmas.{class_refused, limit_refused}
+use Rattle.table_cause.proofs.RepeatPlaceLemmas.{again_refused}
 use Rattle.table_cause.proofs.laws.places_are_told_where_reading_refuses.Goals as goal
 
 pub returns-clause-tags : goal.returns-clause-tags
@@ -17,6 +18,9 @@ returns-clause-limit c = limit_refused
 
 pub returns-clause-class : goal.returns-clause-class
 returns-clause-class c = class_refused
+
+pub returns-clause-again : goal.returns-clause-again
+returns-clause-again c = again_refused
 
 pub returns-clause-points : goal.returns-clause-points
 returns-clause-points c = points_refused
