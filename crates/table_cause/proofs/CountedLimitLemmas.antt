@@ -136,7 +136,7 @@ after_none : (word : List ℕ) (after : List (List ℕ)) (o : Option Keyword) �
 after_none word after None at e = at
 after_none word after (Some k) at e = none_some (keyword_of word ≡ None) (k, after) (sym e)
 
-first_none : (ws : List (List ℕ)) → keyword_in Three ws ≡ None → first_keyword ws ≡ None
+pub first_none : (ws : List (List ℕ)) → keyword_in Three ws ≡ None → first_keyword ws ≡ None
 first_none [] e = refl
 first_none (word ∷ after) e = after_none word after (keyword_of word) refl e
 
@@ -154,7 +154,7 @@ if_not : (b : Bool) (fault : DefinitionFault) (r : Result Definitions Definition
 if_not true fault r e h = absurd (cc)
 if_not false fault r e h = h
 
-found_added : (limit : ℕ) (d : Definitions) (names : List (List ℕ)) (o : Option Definition) (e : Definitions) → with_definition limit d names o ≡ Ok e → (x : Definition) × (o ≡ Some x) × (added d x ≡ e)
+pub found_added : (limit : ℕ) (d : Definitions) (names : List (List ℕ)) (o : Option Definition) (e : Definitions) → with_definition limit d names o ≡ Ok e → (x : Definition) × (o ≡ Some x) × (added d x ≡ e)
 unfolding with_definition
 found_added limit d names None e h = absurd (cc)
 found_added limit d names (Some x) e h =

@@ -45,14 +45,14 @@ have_words names parts first [] = true
 have_words names parts first (x ∷ xs) = has_word names parts first x && have_words names parts false xs
 
 -- a lexeme that names a code point is no other word
-abbrev IsNoWord : EntryWord → Type 0
+abbrev pub IsNoWord : EntryWord → Type 0
 IsNoWord word.Other = Unit {0}
 IsNoWord e = ⊥
 
 no_point : (text w : List ℕ) (c : ℕ) → point_of text ≡ None → w ≡ text → point_of w ≡ Some c → ⊥
 no_point text w c none is e = let bad : None ≡ Some c = sym none ∙ sym (ap point_of is) ∙ e in cc
 
-point_word : (w : List ℕ) (c : ℕ) (e : EntryWord) → IsSpelled e w → point_of w ≡ Some c → IsNoWord e
+pub point_word : (w : List ℕ) (c : ℕ) (e : EntryWord) → IsSpelled e w → point_of w ≡ Some c → IsNoWord e
 unfolding point_of_hex
 point_word w c word.Mark is e = no_point (codes "!") w c refl is e
 point_word w c word.Hyphen is e = no_point (codes "-") w c refl is e

@@ -18,3 +18,15 @@ pub mod FindLemmas
 pub mod PlaceNameLemmas
 -- The places that are told are those that are defined.
 pub mod PlaceLawLemmas
+-- What is told of a line that defines something, and past which limit.
+pub mod WholeLimitLemmas
+-- The code points that the line of an entry or of a range names are those of its form.
+pub mod FormPointLemmas
+-- A place is told of an entry where reading refuses it.
+pub mod RefusedPlaceLemmas
+-- The names that the lines before define are those of the table.
+pub mod DefinedNameLemmas
+-- A place is told of a definition where reading refuses it.
+pub mod DefinitionPointLemmas
+-- A place is told of a variant that is given again where reading refuses it.
+pub mod RepeatPlaceLemmas

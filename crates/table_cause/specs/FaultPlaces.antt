@@ -147,13 +147,18 @@ abbrev pub unknown_place : List (List ℕ) → List ℕ → Option FaultPlace
 unknown_place before line =
     option_map as_fault (unknown_name (names_defined keyword.Tag before) (names_defined keyword.Rule before) (placed_lexemes line))
 
+-- what is past a limit in a line, unless it defines nothing: then the limit is that of the text
+abbrev pub limit_if_whole : Option WrongPlace → List (List ℕ) → List ℕ → Option WrongPlace
+limit_if_whole (Some wrong) before line = None
+limit_if_whole None before line = definition_limit before line
+
 -- of a line that is to define something: the name that none of the lines before has, or that one has; the first code point that is
 -- bad; what is past a limit
 abbrev pub definition_place : List (List ℕ) → TableFault → List ℕ → Option FaultPlace
 definition_place before (tables.NoSuchName number) line = option_map as_fault (unknown_set (names_defined keyword.Set before) (placed_lexemes line))
 definition_place before (tables.SameName number) line = option_map as_fault (second_place (placed_lexemes line))
 definition_place before (tables.BadClass number) line = point_place (definition_points line)
-definition_place before (tables.Limit number) line = option_map as_fault (definition_limit before line)
+definition_place before (tables.Limit number) line = option_map as_fault (limit_if_whole (wrong_definition line) before line)
 definition_place before fault line = None
 
 -- of an entry or a range

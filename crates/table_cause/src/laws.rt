@@ -1,15 +1,18 @@
 //! Laws of the places of faults, each the contract of a function that does nothing.
-ghost use Rattle.std.specs.Prelude.{is_some, not, true, ◌≡◌, ◌↔◌, ℕ, List, ◌∷◌, None, Some};
+ghost use Rattle.std.specs.Prelude.{codes, is_some, not, true, ◌≡◌, ◌↔◌, ℕ, List, ◌∷◌, None, Some};
 ghost use Rattle.table_cause.specs.declared.line_point.LinePoint.{LinePoint};
 ghost use Rattle.ruleset_text.specs.Entries.{EntryForm};
+ghost use Rattle.std.specs.List.{list_any};
 ghost use Rattle.table_cause.specs.EntryParts.{has_parts};
 ghost use Rattle.ruleset_text.specs.Definition.{Definition};
-ghost use Rattle.ruleset_text.specs.Definitions.{definition_atoms, is_one_too_many};
+ghost use Rattle.ruleset_text.specs.Definitions as defined;
+ghost use Rattle.ruleset_text.specs.Definitions.{Definitions, definition_atoms, is_one_too_many};
+ghost use Rattle.ruleset_text.specs.EntrySteps.{entry_in};
 ghost use Rattle.ruleset_text.specs.Lexemes.{lexemes};
 ghost use Rattle.ruleset_text.specs.SetNames.{set_name};
-ghost use Rattle.table_cause.specs.DefinitionPlaces.{definition_limit};
+ghost use Rattle.table_cause.specs.DefinitionPlaces.{definition_limit, names_defined};
 ghost use Rattle.table_cause.specs.DefinitionWrongSteps.{wrong_definition};
-ghost use Rattle.table_cause.specs.LineNames.{IsFirstLexeme, IsFirstUnknown, is_unknown, unknown_name, unknown_set};
+ghost use Rattle.table_cause.specs.LineNames.{definition_points, IsFirstLexeme, IsFirstUnknown, is_unknown, unknown_name, unknown_set};
 ghost use Rattle.table_cause.specs.PastLimits.{IsFirstPast, is_definition_past};
 ghost use Rattle.table_cause.specs.PatternLimits.{atoms_among, first_past, pattern_in};
 ghost use Rattle.table_cause.specs.PlacedLexemes.{Placed, placed_lexemes};
@@ -18,11 +21,14 @@ ghost use Rattle.table_cause.specs.WrongDefinitions.{Define, definition_in};
 ghost use Rattle.table_cause.specs.WrongPlaces.{FitsNames, IsWhole, IsWrongPlace};
 ghost use Rattle.table_cause.specs.WrongSteps.{wrong_place};
 ghost use Rattle.table_cause.specs.declared.expected.Expected.TheVariants.{Nothing};
-ghost use Rattle.table_cause.specs.FaultPlaces.{parts_of, point_place, syntax_place};
+ghost use Rattle.table_cause.specs.FaultPlaces.{class_place, definition_place, limit_place, parts_of, point_place, syntax_place, variant_place};
+ghost use Rattle.table_cause.specs.LinePoints.{line_points};
+ghost use Rattle.variant_table.specs.declared.fault.TableFault.TheVariants as tables;
 ghost use Rattle.variant_table.specs.declared.version.Notation.TheVariants.{Ruleset};
 ghost use Rattle.variant_table.specs.declared.version.Version.TheVariants.{Three};
 ghost use Rattle.variant_table.specs.Entries.{TableValue, empty_table};
-ghost use Rattle.variant_table.specs.Forms.{has_form};
+ghost use Rattle.variant_table.specs.Conditions.{has_bad_class, has_repeat, is_too_large};
+ghost use Rattle.variant_table.specs.Forms.{entries_of, has_form, knows_all, written_out};
 ghost use Rattle.variant_table.specs.Texts.{LinesSpell};
 ghost use Rattle.variant_table.specs.Versions.{is_version_line};
 ghost use Rattle.table_cause.specs.PlaceExamples.{ExamplesOfPlaces};
@@ -88,4 +94,36 @@ pub fn definitions_past_limits_are_told()
     ensures { (head : List ℕ) (before : List (List ℕ)) (table : TableValue) (names : List (List ℕ)) (line : List ℕ) (definition : Definition) →
         is_version_line Ruleset head ≡ true → LinesSpell (empty_table Three) before table → definition_in names (lexemes line) ≡ Some definition →
         is_some (definition_limit (head ∷ before) line) ≡ is_one_too_many table.definitions definition }
+{}
+
+/// Past a limit a place is told only of a line that defines something, and then exactly if that is one too many for the table that
+/// the lines before it spell. Where a line defines nothing, the limit is that of the text, and no part of the line is told.
+pub fn limits_are_told_of_definitions()
+    ensures nothing { (before : List (List ℕ)) (number : ℕ) (names : List (List ℕ)) (line : List ℕ) → definition_in names (lexemes line) ≡ None →
+        definition_place before (tables.Limit number) line ≡ None }
+    ensures one_too_many { (head : List ℕ) (before : List (List ℕ)) (table : TableValue) (number : ℕ) (names : List (List ℕ)) (line : List ℕ) (definition : Definition) →
+        is_version_line Ruleset head ≡ true → LinesSpell (empty_table Three) before table → definition_in names (lexemes line) ≡ Some definition →
+        is_some (definition_place (head ∷ before) (tables.Limit number) line) ≡ is_one_too_many table.definitions definition }
+{}
+
+/// The names that the lines before define, after their version line, are those of the table that they spell. A place is told of an
+/// entry or of a range exactly where reading refuses it: past a limit, if it has too many variants or too long a sequence; and for a
+/// class, if some code point of its entries may not be held, whatever is defined; and for a variant that is given again, if its names
+/// are defined, which reading tests before. One is told of a code point of a definition exactly
+/// if reading refuses the definition for one.
+pub fn places_are_told_where_reading_refuses()
+    ensures tags { (head : List ℕ) (before : List (List ℕ)) (table : TableValue) → is_version_line Ruleset head ≡ true → LinesSpell (empty_table Three) before table →
+        names_defined (codes "%tag") (head ∷ before) ≡ table.definitions.tags }
+    ensures sets { (head : List ℕ) (before : List (List ℕ)) (table : TableValue) → is_version_line Ruleset head ≡ true → LinesSpell (empty_table Three) before table →
+        names_defined (codes "%set") (head ∷ before) ≡ table.definitions.set_names }
+    ensures rules { (head : List ℕ) (before : List (List ℕ)) (table : TableValue) → is_version_line Ruleset head ≡ true → LinesSpell (empty_table Three) before table →
+        names_defined (codes "%rule") (head ∷ before) ≡ table.definitions.rule_names }
+    ensures limit { (line : List ℕ) (form : EntryForm) → entry_in (lexemes line) ≡ Some form →
+        is_some (limit_place (line_points line)) ≡ list_any is_too_large (written_out form) }
+    ensures class { (definitions : Definitions) (line : List ℕ) (form : EntryForm) → entry_in (lexemes line) ≡ Some form →
+        is_some (class_place form.last (line_points line)) ≡ list_any has_bad_class (entries_of definitions form) }
+    ensures again { (definitions : Definitions) (line : List ℕ) (form : EntryForm) → entry_in (lexemes line) ≡ Some form → knows_all definitions form.mapped ≡ true →
+        is_some (variant_place form (line_points line)) ≡ list_any has_repeat (entries_of definitions form) }
+    ensures points { (names : List (List ℕ)) (line : List ℕ) (definition : Definition) → definition_in names (lexemes line) ≡ Some definition →
+        is_some (point_place (definition_points line)) ≡ defined.has_bad_class definition }
 {}

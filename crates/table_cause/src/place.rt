@@ -6,6 +6,7 @@ ghost use Rattle.ruleset_text.specs.Entries.{Mapped as Form};
 ghost use Rattle.ruleset_text.specs.EntryForms.{entry_form, mapped as form_of};
 ghost use Rattle.idn_text.specs.Lines.{raw_lines};
 ghost use Rattle.variant_table.specs.Conditions.{is_same_kind};
+ghost use Rattle.table_cause.specs.DefinitionWrongSteps.{wrong_definition as wrong_in};
 ghost use Rattle.table_cause.specs.FaultPlaces as places;
 ghost use Rattle.table_cause.specs.FaultPlaces.{is_bad_point as is_bad, line_at as line_of};
 ghost use Rattle.variant_table.specs.Ranges.{range_size};
@@ -175,8 +176,18 @@ fn definition_place(
         }
         TableFault::SameName { line: _ } => Ok(as_fault(name_place(line))),
         TableFault::BadClass { line: _ } => point_place(alloc, &definition_points(alloc, line)?),
-        TableFault::Limit { line: _ } => Ok(as_fault(before.limit_place(line))),
+        TableFault::Limit { line: _ } => Ok(as_fault(limit_if_whole(before, line))),
         _ => Ok(None),
+    }
+}
+
+/// What is past a limit in a line, unless it defines nothing: then the limit is that of the text.
+fn limit_if_whole(before: &LinesBefore<'_>, line: &[u8]) -> Option<WrongPlace>
+    ensures { result ≡ places.limit_if_whole (wrong_in line.now) (lines_of before.now) line.now }
+{
+    match wrong_definition(line) {
+        Some(_) => None,
+        None => before.limit_place(line),
     }
 }
 
