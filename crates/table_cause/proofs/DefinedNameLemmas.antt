@@ -17,7 +17,7 @@ use Rattle.ruleset_text.specs.Names.{is_name}
 use Rattle.ruleset_text.specs.SetNames.{names_on}
 use Rattle.ruleset_text.specs.Spans.{spans_in}
 use Rattle.table_cause.specs.DefinitionPlaces.{and_name, first_keyword, names_defined}
-use Rattle.table_cause.specs.LineNames.{defined_name}
+use Rattle.table_cause.specs.LineNames.{defined_name, is_keyword}
 use Rattle.table_cause.proofs.CountedLimitLemmas.{first_none, found_added}
 use Rattle.table_cause.proofs.WrongPlaceLemmas.{none_some}
 use Rattle.variant_table.specs.declared.version.Notation.TheVariants.{Ruleset}
@@ -51,35 +51,28 @@ keyword_text word k e =
     (one_tested word (codes "%rule") keyword.Rule k _ refl
     (one_tested word (codes "%never") keyword.Never k _ refl (one_tested word (codes "%always") keyword.Always k None refl (none_some (word ≡ text_of k) k))))) e
 
-test_failed : (b : Bool) (j : Keyword) (o : Option Keyword) → cond b (Some j) o ≡ None → (b ≡ false) × (o ≡ None)
-test_failed true j o e = absurd (let bad : Some j ≡ None = e in cc)
-test_failed false j o e = (refl, e)
-
 -- ---- the name on a line
 
-name_of : (word key : List ℕ) (rest : List (List ℕ)) → bytes_eq word key ≡ false → defined_name key (word ∷ rest) ≡ None
-name_of word key [] e = refl
-name_of word key (name ∷ rest) e = ap (λ b. let o : Option (List ℕ) = cond b (Some name) None in o) e
+name_of : (word : List ℕ) (k : Keyword) (o : Option Keyword) (rest : List (List ℕ)) → keyword_of word ≡ o → is_keyword o k ≡ false → defined_name k (word ∷ rest) ≡ None
+name_of word k o [] at e = refl
+name_of word k o (name ∷ rest) at e = ap (λ b. let found : Option (List ℕ) = cond b (Some name) None in found) (ap (λ p. is_keyword p k) at ∙ e)
 
 -- what lexemes add to the names of d, so that these are the names of e
 record AddsNames (ws : List (List ℕ)) (d e : Definitions) : Type 0 where
-  tags_more : e.tags ≡ d.tags ++ and_name (defined_name (codes "%tag") ws) []
-  sets_more : e.set_names ≡ d.set_names ++ and_name (defined_name (codes "%set") ws) []
-  rules_more : e.rule_names ≡ d.rule_names ++ and_name (defined_name (codes "%rule") ws) []
+  tags_more : e.tags ≡ d.tags ++ and_name (defined_name keyword.Tag ws) []
+  sets_more : e.set_names ≡ d.set_names ++ and_name (defined_name keyword.Set ws) []
+  rules_more : e.rule_names ≡ d.rule_names ++ and_name (defined_name keyword.Rule ws) []
 
 unchanged : (names : List (List ℕ)) (o : Option (List ℕ)) → o ≡ None → names ≡ names ++ and_name o []
 unchanged names o e = sym (append-nil names) ∙ ap (λ p. names ++ and_name p []) (sym e)
 
 no_names : (ws : List (List ℕ)) (d : Definitions) → first_keyword ws ≡ None → AddsNames ws d d
 no_names [] d e = record { tags_more = unchanged d.tags None refl; sets_more = unchanged d.set_names None refl; rules_more = unchanged d.rule_names None refl }
-no_names (word ∷ rest) d e =
-    let tag = test_failed (bytes_eq word (codes "%tag")) keyword.Tag _ e in
-    let set = test_failed (bytes_eq word (codes "%set")) keyword.Set _ tag.1 in
-    let rule = test_failed (bytes_eq word (codes "%rule")) keyword.Rule _ set.1 in record {
-      tags_more = unchanged d.tags (defined_name (codes "%tag") (word ∷ rest)) (name_of word (codes "%tag") rest tag.0);
-      sets_more = unchanged d.set_names (defined_name (codes "%set") (word ∷ rest)) (name_of word (codes "%set") rest set.0);
-      rules_more = unchanged d.rule_names (defined_name (codes "%rule") (word ∷ rest)) (name_of word (codes "%rule") rest rule.0);
-    }
+no_names (word ∷ rest) d e = record {
+  tags_more = unchanged d.tags (defined_name keyword.Tag (word ∷ rest)) (name_of word keyword.Tag None rest e refl);
+  sets_more = unchanged d.set_names (defined_name keyword.Set (word ∷ rest)) (name_of word keyword.Set None rest e refl);
+  rules_more = unchanged d.rule_names (defined_name keyword.Rule (word ∷ rest)) (name_of word keyword.Rule None rest e refl);
+}
 
 found_if : (b : Bool) (y x : Definition) → cond b (Some y) None ≡ Some x → y ≡ x
 found_if true y x e = cc
@@ -93,12 +86,12 @@ mapped_if : {X : Type 0} (b : Bool) (f : X → Definition) (o : Option X) (x : D
 mapped_if {X} true f o x e = mapped_found f o x e
 mapped_if {X} false f o x e = none_some ((y : X) × (f y ≡ x)) x e
 
-demand_names : (text : List ℕ) (after : List (List ℕ)) (kind : DemandKind) (p : Pattern) (d : Definitions) → bytes_eq text (codes "%tag") ≡ false → bytes_eq text (codes "%set") ≡ false → bytes_eq text (codes "%rule") ≡ false
-    → AddsNames (text ∷ after) d (added d (words.Demand kind p))
-demand_names text after kind p d tag set rule = record {
-  tags_more = unchanged d.tags (defined_name (codes "%tag") (text ∷ after)) (name_of text (codes "%tag") after tag);
-  sets_more = unchanged d.set_names (defined_name (codes "%set") (text ∷ after)) (name_of text (codes "%set") after set);
-  rules_more = unchanged d.rule_names (defined_name (codes "%rule") (text ∷ after)) (name_of text (codes "%rule") after rule);
+demand_names : (text : List ℕ) (after : List (List ℕ)) (kind : DemandKind) (p : Pattern) (d : Definitions) (o : Option Keyword) → keyword_of text ≡ o
+    → is_keyword o keyword.Tag ≡ false → is_keyword o keyword.Set ≡ false → is_keyword o keyword.Rule ≡ false → AddsNames (text ∷ after) d (added d (words.Demand kind p))
+demand_names text after kind p d o at tag set rule = record {
+  tags_more = unchanged d.tags (defined_name keyword.Tag (text ∷ after)) (name_of text keyword.Tag o after at tag);
+  sets_more = unchanged d.set_names (defined_name keyword.Set (text ∷ after)) (name_of text keyword.Set o after at set);
+  rules_more = unchanged d.rule_names (defined_name keyword.Rule (text ∷ after)) (name_of text keyword.Rule o after at rule);
 }
 
 adds_names : (names : List (List ℕ)) (k : Keyword) (after : List (List ℕ)) (x : Definition) (d : Definitions) → definition_of names k after ≡ Some x → AddsNames (text_of k ∷ after) d (added d x)
@@ -119,10 +112,10 @@ adds_names names keyword.Rule (name ∷ ws) x d e =
     (record { tags_more = unchanged d.tags None refl; sets_more = unchanged d.set_names None refl; rules_more = refl })
 adds_names names keyword.Never ws x d e =
     let y = mapped_found (words.Demand demand.Never) (demand_in names ws) x e in
-    subst (λ z. AddsNames (text_of keyword.Never ∷ ws) d (added d z)) y.1 (demand_names (codes "%never") ws demand.Never y.0 d refl refl refl)
+    subst (λ z. AddsNames (text_of keyword.Never ∷ ws) d (added d z)) y.1 (demand_names (codes "%never") ws demand.Never y.0 d (Some keyword.Never) refl refl refl refl)
 adds_names names keyword.Always ws x d e =
     let y = mapped_found (words.Demand demand.Always) (demand_in names ws) x e in
-    subst (λ z. AddsNames (text_of keyword.Always ∷ ws) d (added d z)) y.1 (demand_names (codes "%always") ws demand.Always y.0 d refl refl refl)
+    subst (λ z. AddsNames (text_of keyword.Always ∷ ws) d (added d z)) y.1 (demand_names (codes "%always") ws demand.Always y.0 d (Some keyword.Always) refl refl refl refl)
 
 abbrev keyword_at : Option (Keyword × List (List ℕ)) → Keyword
 keyword_at None = keyword.Tag
@@ -152,9 +145,9 @@ defining_names limit ws after k d e begins read =
 -- ---- lines
 
 record Names (lines : List (List ℕ)) (d e : Definitions) : Type 0 where
-  tags_all : e.tags ≡ d.tags ++ names_defined (codes "%tag") lines
-  sets_all : e.set_names ≡ d.set_names ++ names_defined (codes "%set") lines
-  rules_all : e.rule_names ≡ d.rule_names ++ names_defined (codes "%rule") lines
+  tags_all : e.tags ≡ d.tags ++ names_defined keyword.Tag lines
+  sets_all : e.set_names ≡ d.set_names ++ names_defined keyword.Set lines
+  rules_all : e.rule_names ≡ d.rule_names ++ names_defined keyword.Rule lines
 
 and_then : (o : Option (List ℕ)) (names : List (List ℕ)) → and_name o names ≡ and_name o [] ++ names
 and_then None names = refl
@@ -166,9 +159,9 @@ joined first mid all rest o a b = b ∙ ap (λ l. l ++ rest) a ∙ append_assoc 
 names_next : (line : List ℕ) (lines : List (List ℕ)) (d u e : Definitions) → AddsNames (lexemes (strip_carriage_return line)) d u → Names lines u e → Names (line ∷ lines) d e
 names_next line lines d u e first rest =
     let ws = lexemes (strip_carriage_return line) in record {
-      tags_all = joined d.tags u.tags e.tags (names_defined (codes "%tag") lines) (defined_name (codes "%tag") ws) first.tags_more rest.tags_all;
-      sets_all = joined d.set_names u.set_names e.set_names (names_defined (codes "%set") lines) (defined_name (codes "%set") ws) first.sets_more rest.sets_all;
-      rules_all = joined d.rule_names u.rule_names e.rule_names (names_defined (codes "%rule") lines) (defined_name (codes "%rule") ws) first.rules_more rest.rules_all;
+      tags_all = joined d.tags u.tags e.tags (names_defined keyword.Tag lines) (defined_name keyword.Tag ws) first.tags_more rest.tags_all;
+      sets_all = joined d.set_names u.set_names e.set_names (names_defined keyword.Set lines) (defined_name keyword.Set ws) first.sets_more rest.sets_all;
+      rules_all = joined d.rule_names u.rule_names e.rule_names (names_defined keyword.Rule lines) (defined_name keyword.Rule ws) first.rules_more rest.rules_all;
     }
 
 record LineNames (line : List ℕ) (t u : TableValue) : Type 0 where
@@ -206,7 +199,7 @@ version_first head is =
     ap (λ l. first_keyword (lexemes l)) same ∙ (let nothing : first_keyword (lexemes (codes "%version 3")) ≡ None = refl in nothing)
 
 pub names_are : (head : List ℕ) (before : List (List ℕ)) (table : TableValue) → is_version_line Ruleset head ≡ true → LinesSpell (empty_table Three) before table
-    → (names_defined (codes "%tag") (head ∷ before) ≡ table.definitions.tags) × (names_defined (codes "%set") (head ∷ before) ≡ table.definitions.set_names) × (names_defined (codes "%rule") (head ∷ before) ≡ table.definitions.rule_names)
+    → (names_defined keyword.Tag (head ∷ before) ≡ table.definitions.tags) × (names_defined keyword.Set (head ∷ before) ≡ table.definitions.set_names) × (names_defined keyword.Rule (head ∷ before) ≡ table.definitions.rule_names)
 names_are head before table is spelled =
     let start = empty_table Three in
     let all = names_next head before start.definitions start.definitions table.definitions (no_names (lexemes (strip_carriage_return head)) start.definitions (version_first head is)) (named_by before start table refl spelled) in

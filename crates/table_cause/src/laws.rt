@@ -1,5 +1,5 @@
 //! Laws of the places of faults, each the contract of a function that does nothing.
-ghost use Rattle.std.specs.Prelude.{codes, is_some, not, true, ◌≡◌, ◌↔◌, ℕ, List, ◌∷◌, None, Some};
+ghost use Rattle.std.specs.Prelude.{is_some, not, true, ◌≡◌, ◌↔◌, ℕ, List, ◌∷◌, None, Some};
 ghost use Rattle.table_cause.specs.declared.line_point.LinePoint.{LinePoint};
 ghost use Rattle.ruleset_text.specs.Entries.{EntryForm};
 ghost use Rattle.std.specs.List.{list_any};
@@ -9,6 +9,7 @@ ghost use Rattle.ruleset_text.specs.Definitions as defined;
 ghost use Rattle.ruleset_text.specs.Definitions.{Definitions, definition_atoms, is_one_too_many};
 ghost use Rattle.ruleset_text.specs.EntrySteps.{entry_in};
 ghost use Rattle.ruleset_text.specs.Lexemes.{lexemes};
+ghost use Rattle.ruleset_text.specs.declared.keyword.Keyword.TheVariants as keywords;
 ghost use Rattle.ruleset_text.specs.SetNames.{set_name};
 ghost use Rattle.table_cause.specs.DefinitionPlaces.{definition_limit, names_defined};
 ghost use Rattle.table_cause.specs.DefinitionWrongSteps.{wrong_definition};
@@ -113,11 +114,11 @@ pub fn limits_are_told_of_definitions()
 /// if reading refuses the definition for one.
 pub fn places_are_told_where_reading_refuses()
     ensures tags { (head : List ℕ) (before : List (List ℕ)) (table : TableValue) → is_version_line Ruleset head ≡ true → LinesSpell (empty_table Three) before table →
-        names_defined (codes "%tag") (head ∷ before) ≡ table.definitions.tags }
+        names_defined keywords.Tag (head ∷ before) ≡ table.definitions.tags }
     ensures sets { (head : List ℕ) (before : List (List ℕ)) (table : TableValue) → is_version_line Ruleset head ≡ true → LinesSpell (empty_table Three) before table →
-        names_defined (codes "%set") (head ∷ before) ≡ table.definitions.set_names }
+        names_defined keywords.Set (head ∷ before) ≡ table.definitions.set_names }
     ensures rules { (head : List ℕ) (before : List (List ℕ)) (table : TableValue) → is_version_line Ruleset head ≡ true → LinesSpell (empty_table Three) before table →
-        names_defined (codes "%rule") (head ∷ before) ≡ table.definitions.rule_names }
+        names_defined keywords.Rule (head ∷ before) ≡ table.definitions.rule_names }
     ensures limit { (line : List ℕ) (form : EntryForm) → entry_in (lexemes line) ≡ Some form →
         is_some (limit_place (line_points line)) ≡ list_any is_too_large (written_out form) }
     ensures class { (definitions : Definitions) (line : List ℕ) (form : EntryForm) → entry_in (lexemes line) ≡ Some form →
