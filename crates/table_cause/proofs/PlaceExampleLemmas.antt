@@ -1,5 +1,5 @@
 -- Examples of places of code points that no table may hold: their classes are looked up.
-use Rattle.std.proofs.Common.{◌≡◌, ℕ, Bool, true, false, cond, not, List, [], ◌∷◌, ◌++◌, Some, None, refl, ap, ◌∙◌}
+use Rattle.std.proofs.Common.{◌≡◌, Bool, true, false, cond, not, List, [], ◌∷◌, ◌++◌, Some, refl, ap, ◌∙◌}
 use Rattle.std.specs.Prelude.{codes, find, option_map}
 use Rattle.idn_class.specs.declared.class.Class.TheVariants.{Disallowed, Pvalid}
 use Rattle.idn_class.proofs.ComputedLabels.{in_table, class_of-in_table}
