@@ -1,7 +1,7 @@
 -- A place is told of a code point of a definition exactly where reading refuses it.
-use Rattle.std.proofs.Common.{◌≡◌, ℕ, suc, ◌+◌, nat_le, ◌==◌, Bool, true, false, cond, not, ◌||◌, ◌&&◌, List, [], ◌∷◌, ◌++◌, length, Option, Some, None, refl, sym, ap, subst, ◌∙◌, inl, inr, arith}
+use Rattle.std.proofs.Common.{◌≡◌, ℕ, ◌+◌, nat_le, ◌==◌, Bool, true, false, cond, not, ◌||◌, ◌&&◌, List, [], ◌∷◌, ◌++◌, length, Option, Some, None, refl, sym, ap, subst, ◌∙◌, inl, inr, arith}
 use Rattle.std.specs.Prelude.{bytes_eq, codes, is_some, map}
-use Rattle.std.specs.List.{AllByRecursion, list_all, list_any}
+use Rattle.std.specs.List.{AllByRecursion, list_any}
 use Rattle.std.specs.Option.{option_map}
 use Rattle.std.specs.Str.Parse.{digits_value}
 use Rattle.std.proofs.lemmas.Bool.Decides.{nat_tests}
@@ -10,7 +10,7 @@ use Rattle.std.proofs.lemmas.Slice.Eq.{bytes_eq-Decides}
 use Rattle.idn_class.specs.Class.{class_of}
 use Rattle.idn_class.specs.declared.class.Class.{Class}
 use Rattle.idn_class.specs.declared.class.Class.TheVariants.{Disallowed, Pvalid, Contextj, Contexto, Unassigned}
-use Rattle.idn_text.specs.Points.{is_hex_digit, is_scalar_value, point_of_hex}
+use Rattle.idn_text.specs.Points.{is_scalar_value, point_of_hex}
 use Rattle.label_patterns.specs.declared.span.Span.{Span}
 use Rattle.label_patterns.specs.Patterns.{Pattern, Set, Any, Start, End, Anchor, Group, Optional, Many, Then, Either}
 use Rattle.label_patterns.specs.Patterns as patterns
@@ -34,14 +34,13 @@ use Rattle.ruleset_text.specs.Grammar.{tokens}
 use Rattle.ruleset_text.specs.Lexemes.{lexemes}
 use Rattle.ruleset_text.specs.Names.{is_name, number_of}
 use Rattle.ruleset_text.specs.Reading.{pattern_of}
-use Rattle.ruleset_text.specs.Rules.{has, is_rule}
+use Rattle.ruleset_text.specs.Rules.{is_rule}
 use Rattle.ruleset_text.specs.Spans.{spans_in}
 use Rattle.ruleset_text.specs.SpanWords.{SpellSpans, SpellsSpan}
 use Rattle.ruleset_text.specs.Tokens.{mark_token, point_token, set_token, token_of, tokens_in, word_token}
 use Rattle.ruleset_text.proofs.EntryStateLemmas.{IsSpelled, spelled}
 use Rattle.ruleset_text.proofs.PatternLemmas.{read_spelled}
 use Rattle.ruleset_text.proofs.SpanExactLemmas.{set_spelled}
-use Rattle.table_cause.specs.declared.expected.Expected.{Expected}
 use Rattle.table_cause.specs.declared.expected.Expected.TheVariants as expected
 use Rattle.table_cause.specs.declared.line_point.LinePoint.{LinePoint}
 use Rattle.table_cause.specs.declared.place.FaultPlace.TheVariants.{Point}
@@ -51,7 +50,7 @@ use Rattle.table_cause.specs.LineNames.{after_keyword, after_name, definition_po
 use Rattle.table_cause.specs.LinePoints.{and_point, is_separator, points_from, points_in}
 use Rattle.table_cause.specs.PlacedLexemes.{Placed, placed_lexemes, unplaced}
 use Rattle.table_cause.specs.WrongDefinitions.{definition_by, definition_in}
-use Rattle.table_cause.proofs.FormPointLemmas.{NamesFit, numbered, points_at, points_spelled}
+use Rattle.table_cause.proofs.FormPointLemmas.{NamesFit, points_at, points_spelled}
 use Rattle.table_cause.proofs.PlacedLemmas.{unplaced-from}
 use Rattle.table_cause.proofs.RefusedPlaceLemmas.{any_numbered, bad, found_any, or_false}
 use Rattle.table_cause.proofs.WrongPlaceLemmas.{none_some}

@@ -30,3 +30,5 @@ pub mod DefinedNameLemmas
 pub mod DefinitionPointLemmas
 -- A place is told of a variant that is given again where reading refuses it.
 pub mod RepeatPlaceLemmas
+-- Examples of places.
+pub mod PlaceExampleLemmas

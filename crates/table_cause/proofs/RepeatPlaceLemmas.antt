@@ -1,5 +1,5 @@
 -- A place is told of a variant that is given again exactly where reading refuses it.
-use Rattle.std.proofs.Common.{◌≡◌, ℕ, suc, ◌+◌, ◌<◌, ◌≤◌, ◌==◌, eqb, eq-eqb, Bool, true, false, cond, not, ◌||◌, ◌&&◌, List, [], ◌∷◌, ◌++◌, length, Option, Some, None, refl, sym, ap, ◌∙◌, append_assoc, append-nil, length-append, arith}
+use Rattle.std.proofs.Common.{◌≡◌, ℕ, ◌+◌, ◌<◌, ◌≤◌, ◌==◌, eqb, eq-eqb, Bool, true, false, cond, not, ◌||◌, ◌&&◌, List, [], ◌∷◌, ◌++◌, length, Option, Some, None, refl, sym, ap, ◌∙◌, append_assoc, append-nil, length-append, arith}
 use Rattle.std.specs.Prelude.{bytes_eq, is_some, map, slice_index}
 use Rattle.std.specs.List.{AllByRecursion, list_all, list_any, range_with_len}
 use Rattle.std.specs.Option.{option_map}
@@ -19,7 +19,7 @@ use Rattle.table_cause.specs.declared.place.FaultPlace.TheVariants.{Variant}
 use Rattle.table_cause.specs.FaultPlaces as places
 use Rattle.table_cause.specs.FaultPlaces.{are_other, first_again, sequence_place, stands_in, variant_place}
 use Rattle.table_cause.specs.LinePoints.{line_points}
-use Rattle.table_cause.proofs.FormPointLemmas.{Numbered, entry_points, form_points, mapped_points, numbered, sequence_points}
+use Rattle.table_cause.proofs.FormPointLemmas.{entry_points, form_points, mapped_points, numbered, sequence_points}
 use Rattle.table_cause.proofs.RefusedPlaceLemmas.{any_numbered, found_any, or_false, or_true}
 use Rattle.variant_table.specs.Conditions as conditions
 use Rattle.variant_table.specs.Conditions.{differ, has_repeat, is_same_kind, repeats}

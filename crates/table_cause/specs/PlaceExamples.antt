@@ -1,7 +1,7 @@
 -- Examples of places, by computation. Places are bytes, counted from 0.
-use Rattle.std.specs.Prelude.{◌≡◌, Some, None, ◌∷◌, ◌++◌, codes}
+use Rattle.std.specs.Prelude.{◌≡◌, Some, None, ◌∷◌, ◌++◌, codes, replicate}
 use Rattle.variant_table.specs.declared.fault.TableFault.TheVariants as tables
-use Rattle.table_cause.specs.declared.place.FaultPlace.TheVariants.{Lexeme, End, Variant, Source, NinthPoint}
+use Rattle.table_cause.specs.declared.place.FaultPlace.TheVariants.{Lexeme, End, Point, InRange, Variant, Source, Byte, NinthPoint, SeventeenthVariant}
 use Rattle.variant_table.specs.declared.version.Notation.TheVariants.{Table, Ruleset}
 use Rattle.table_cause.specs.declared.entry_place.WrongPlace.TheVariants as wrong
 use Rattle.table_cause.specs.FaultPlaces.{fault_place}
@@ -30,3 +30,12 @@ pub record ExamplesOfPlaces : Type 0 where
   pub variant : fault_place Table (codes "0061|0062:0063:0062") (tables.SameVariant 1) ≡ Some (Variant 15)
   pub again : fault_place Table (codes "0061" ++ 10 ∷ codes " 0061") (tables.SameSource 2) ≡ Some (Source 1)
   pub ninth : fault_place Table (codes "0061-0061-0061-0061-0061-0061-0061-0061-0062") (tables.Limit 1) ≡ Some (NinthPoint 40 0x62)
+  pub seventeenth : fault_place Table (codes "0061|0062:0063:0064:0065:0066:0067:0068:0069:006A:006B:006C:006D:006E:006F:0070:0071:0072") (tables.Limit 1) ≡ Some (SeventeenthVariant 85 0x72)
+  pub sixteen : fault_place Table (codes "0061|0062:0063:0064:0065:0066:0067:0068:0069:006A:006B:006C:006D:006E:006F:0070:0071") (tables.Limit 1) ≡ None
+  pub long_line : fault_place Table (replicate 1025 35) (tables.Limit 1) ≡ Some (Byte 1024)
+  pub in_range : fault_place Table (codes "%version 2" ++ 10 ∷ codes "007A..007C") (tables.BadClass 2) ≡ Some (InRange 0 0x7B)
+  pub point : fault_place Table (codes "0061|007B:0041") (tables.BadClass 1) ≡ Some (Point 5 0x7B)
+  pub set_point : fault_place Ruleset (codes "%version 3" ++ 10 ∷ codes "%set FB1D 0061 007B") (tables.BadClass 2) ≡ Some (Point 15 0x7B)
+  pub unknown_tag : fault_place Ruleset (codes "%version 3" ++ 10 ∷ codes "%tag t" ++ 10 ∷ codes "%set C 0061" ++ 10 ∷ codes "0061 as t, C") (tables.NoSuchName 4) ≡ Some (Lexeme 11 1)
+  pub unknown_rule : fault_place Ruleset (codes "%version 3" ++ 10 ∷ codes "%tag s" ++ 10 ∷ codes "%rule r _" ++ 10 ∷ codes "0061 as s when s") (tables.NoSuchName 4) ≡ Some (Lexeme 15 1)
+  pub no_definition : fault_place Ruleset (codes "%version 3" ++ 10 ∷ codes "%never ***") (tables.Limit 2) ≡ None

@@ -4,6 +4,7 @@ use Rattle.ruleset_text.specs.EntrySteps.{entry_in}
 use Rattle.table_cause.specs.DefinitionWrongSteps.{wrong_definition}
 use Rattle.table_cause.specs.WrongSteps.{wrong_place}
 use Rattle.table_cause.specs.FaultPlaces.{fault_place}
+use Rattle.table_cause.proofs.PlaceExampleLemmas.{point_told, range_told, set_told}
 use Rattle.table_cause.proofs.laws.definitions_compute_the_places.Goals as goal
 
 pub returns : goal.returns
@@ -30,4 +31,13 @@ returns c = record {
   variant = refl;
   again = refl;
   ninth = refl;
+  seventeenth = refl;
+  sixteen = refl;
+  long_line = refl;
+  in_range = range_told;
+  point = point_told;
+  set_point = set_told;
+  unknown_tag = refl;
+  unknown_rule = refl;
+  no_definition = refl;
 }
