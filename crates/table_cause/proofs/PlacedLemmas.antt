@@ -140,6 +140,22 @@ placed-none n text e = placed-blanks n text ∙ by (drop (first_place text) text
     by [] is = ap (placed_from (n + first_place text)) is
     by (c ∷ cs) is = absurd (some_lexeme c cs (is_blank-first text c cs is) (sym (ap lexemes is) ∙ sym (lexemes-blanks text) ∙ e))
 
+-- ---- there are no more lexemes than bytes
+
+onto_length : (n c k : ℕ) (ws : List Placed) → length ws ≤ k → length (onto_placed n c ws) ≤ k + 1
+onto_length n c k [] few = omega arith
+onto_length n c k (w ∷ ws) few = omega (arith, few)
+
+pub placed-length : (n : ℕ) (text : List ℕ) → length (placed_from n text) ≤ length text
+placed-length n [] = omega arith
+placed-length n (c ∷ cs) = by (is_blank c) (is_joined c cs) (placed-length (n + 1) cs)
+  where
+    by : (b j : Bool) → length (placed_from (n + 1) cs) ≤ length cs
+        → length (cond b (placed_from (n + 1) cs) (cond j (onto_placed n c (placed_from (n + 1) cs)) (record { place = n; lexeme = c ∷ [] } ∷ placed_from (n + 1) cs))) ≤ length (c ∷ cs)
+    by true j few = omega (arith, few)
+    by false true few = omega (arith, onto_length n c (length cs) (placed_from (n + 1) cs) few)
+    by false false few = omega (arith, few)
+
 -- ---- the lexemes without their places
 
 onto_same : (n c : ℕ) (ws : List Placed) → unplaced (onto_placed n c ws) ≡ onto_first c (unplaced ws)

@@ -4,7 +4,7 @@ ghost use Rattle.table_cause.specs.DefinitionWrongSteps as steps;
 ghost use Rattle.table_cause.specs.DefinitionWrongSteps.{groups_in};
 
 use crate::entry_place::WrongPlace;
-use crate::placed::next_placed;
+use crate::placed::PlacedLexemes;
 use ruleset_text::{Held, Keyword, SpanPart, Token, is_name, keyword_of, part_of, token_of};
 
 /// What was read last of a branch.
@@ -47,15 +47,12 @@ pub fn wrong_definition(line: &[u8]) -> Option<WrongPlace>
     ensures { result ≡ steps.wrong_definition line.now }
 {
     let mut state = DefinitionState::Nothing;
-    let mut before = 0;
-    let mut rest = line;
-    while let Some((place, lexeme, others)) = next_placed(before, rest) {
+    let mut lexemes = PlacedLexemes::new(line);
+    while let Some((place, lexeme)) = lexemes.next() {
         let Some(next) = step(state, lexeme) else {
             return Some(WrongPlace::Lexeme(place, lexeme.len()));
         };
         state = next;
-        before = place + lexeme.len();
-        rest = others;
     }
     open_end(state, line.len())
 }

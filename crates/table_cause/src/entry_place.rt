@@ -4,7 +4,7 @@ ghost use Rattle.ruleset_text.specs.EntrySteps.{state as state_of, word_of as wo
 ghost use Rattle.ruleset_text.specs.inner.EntryTaken.{taken_as};
 ghost use Rattle.table_cause.specs.WrongSteps.{is_lacking as is_lacking_word, open_end as open_end_of, step_in, wrong_place as wrong_place_of};
 
-use crate::placed::next_placed;
+use crate::placed::PlacedLexemes;
 use ruleset_text::{EntryState, EntryWord, word_of};
 use std::alloc::{AllocError, Global};
 
@@ -41,15 +41,12 @@ pub fn wrong_place(
 {
     let mut state = EntryState::new(alloc);
     let mut first = true;
-    let mut before = 0;
-    let mut rest = line;
-    while let Some((place, lexeme, others)) = next_placed(before, rest) {
+    let mut lexemes = PlacedLexemes::new(line);
+    while let Some((place, lexeme)) = lexemes.next() {
         if !takes(&mut state, alloc, parts, first, lexeme)? {
             return Ok(Some(WrongPlace::Lexeme(place, lexeme.len())));
         }
         first = false;
-        before = place + lexeme.len();
-        rest = others;
     }
     Ok(open_end(&state, line.len()))
 }

@@ -9,7 +9,7 @@ ghost use Rattle.ruleset_text.specs.SetNames.{set_name as set_name_of};
 
 use crate::entry_place::WrongPlace;
 use crate::expected::{Expected, expected_next};
-use crate::placed::next_placed;
+use crate::placed::PlacedLexemes;
 use ruleset_text::{Keyword, Name, is_one_of, keyword_of, next_lexeme, set_name};
 
 /// The name that a line defines by a keyword, if it begins with it.
@@ -29,7 +29,7 @@ pub fn defined_name(keyword: Keyword, line: &[u8]) -> Option<&[u8]>
 pub fn keyword_place(line: &[u8]) -> Option<WrongPlace>
     ensures { result ≡ lines.first_place (placed_lexemes line.now) }
 {
-    let (place, lexeme, _) = next_placed(0, line)?;
+    let (place, lexeme) = PlacedLexemes::new(line).next()?;
     Some(WrongPlace::Lexeme(place, lexeme.len()))
 }
 
@@ -37,8 +37,9 @@ pub fn keyword_place(line: &[u8]) -> Option<WrongPlace>
 pub fn name_place(line: &[u8]) -> Option<WrongPlace>
     ensures { result ≡ lines.second_place (placed_lexemes line.now) }
 {
-    let (place, lexeme, rest) = next_placed(0, line)?;
-    let (place, lexeme, _) = next_placed(place + lexeme.len(), rest)?;
+    let mut lexemes = PlacedLexemes::new(line);
+    lexemes.next()?;
+    let (place, lexeme) = lexemes.next()?;
     Some(WrongPlace::Lexeme(place, lexeme.len()))
 }
 
@@ -46,14 +47,11 @@ pub fn name_place(line: &[u8]) -> Option<WrongPlace>
 pub fn unknown_set(sets: &[Name], line: &[u8]) -> Option<WrongPlace>
     ensures { result ≡ lines.unknown_set sets.now (placed_lexemes line.now) }
 {
-    let mut before = 0;
-    let mut rest = line;
-    while let Some((place, lexeme, others)) = next_placed(before, rest) {
+    let mut lexemes = PlacedLexemes::new(line);
+    while let Some((place, lexeme)) = lexemes.next() {
         if is_unknown(sets, set_name(lexeme)) {
             return Some(WrongPlace::Lexeme(place, lexeme.len()));
         }
-        before = place + lexeme.len();
-        rest = others;
     }
     None
 }
@@ -72,15 +70,12 @@ pub fn unknown_name(tags: &[Name], rules: &[Name], line: &[u8]) -> Option<WrongP
     ensures { result ≡ lines.unknown_name tags.now rules.now (placed_lexemes line.now) }
 {
     let mut expected = Expected::Nothing;
-    let mut before = 0;
-    let mut rest = line;
-    while let Some((place, lexeme, others)) = next_placed(before, rest) {
+    let mut lexemes = PlacedLexemes::new(line);
+    while let Some((place, lexeme)) = lexemes.next() {
         if is_unexpected(tags, rules, expected, lexeme) {
             return Some(WrongPlace::Lexeme(place, lexeme.len()));
         }
         expected = expected_next(expected, lexeme);
-        before = place + lexeme.len();
-        rest = others;
     }
     None
 }

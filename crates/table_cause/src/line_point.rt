@@ -3,10 +3,10 @@ ghost use Rattle.std.specs.Prelude.{◌≡◌, ◌+◌, ◌<◌, ◌≤◌, ◌^
 ghost use Rattle.table_cause.specs.LinePoints.{is_separator as is_separator_of, line_points as line_points_of, points_from, points_in};
 ghost use Rattle.table_cause.specs.ExpectedNames.{without_names};
 ghost use Rattle.table_cause.specs.LineNames.{definition_points as definition_points_of};
-ghost use Rattle.table_cause.specs.PlacedLexemes.{Placed, placed_from};
+ghost use Rattle.table_cause.specs.PlacedLexemes.{Placed};
 
 use crate::expected::{Expected, expected_next};
-use crate::placed::next_placed;
+use crate::placed::PlacedLexemes;
 use idn_text::hex_point;
 use ruleset_text::{Keyword, keyword_of, without_prefix};
 use std::alloc::{AllocError, Global};
@@ -27,30 +27,30 @@ pub struct LinePoint {
 pub fn line_points(alloc: Global, line: &[u8]) -> Result<Vec<LinePoint>, AllocError>
     ensures { IfOk result (λ points. points.items ≡ line_points_of line.now) }
 {
-    rest_points(alloc, 0, line)
+    points_named(alloc, PlacedLexemes::new(line))
 }
 
 /// The code points that a line names which defines something, after its keyword and, if it has one, its name.
 pub fn definition_points(alloc: Global, line: &[u8]) -> Result<Vec<LinePoint>, AllocError>
     ensures { IfOk result (λ points. points.items ≡ definition_points_of line.now) }
 {
-    let Some((place, word, rest)) = next_placed(0, line) else {
+    let mut lexemes = PlacedLexemes::new(line);
+    let Some((_, word)) = lexemes.next() else {
         return Ok(Vec::new(alloc));
     };
-    let before = place + word.len();
     match keyword_of(word) {
-        Some(Keyword::Never | Keyword::Always) => rest_points(alloc, before, rest),
-        _ => match next_placed(before, rest) {
-            Some((place, name, rest)) => rest_points(alloc, place + name.len(), rest),
+        Some(Keyword::Never | Keyword::Always) => points_named(alloc, lexemes),
+        _ => match lexemes.next() {
+            Some(_) => points_named(alloc, lexemes),
             None => Ok(Vec::new(alloc)),
         },
     }
 }
 
-/// The code points of what is left of a line, after the `before` bytes that stand before that.
-fn rest_points(alloc: Global, start: usize, text: &[u8]) -> Result<Vec<LinePoint>, AllocError>
-    requires { start + length text.now < 2 ^ 63 }
-    ensures { IfOk result (λ points. points.items ≡ points_in (placed_from start text.now)) }
+/// The code points that these lexemes name.
+fn points_named(alloc: Global, mut lexemes: PlacedLexemes<'_>) -> Result<Vec<LinePoint>, AllocError>
+    requires { length lexemes < 2 ^ 63 }
+    ensures { IfOk result (λ points. points.items ≡ points_in lexemes.entry) }
 {
     let mut taken = Taken {
         points: Vec::new(alloc),
@@ -58,12 +58,8 @@ fn rest_points(alloc: Global, start: usize, text: &[u8]) -> Result<Vec<LinePoint
         index: 0,
         expected: Expected::Nothing,
     };
-    let mut before = start;
-    let mut rest = text;
-    while let Some((place, lexeme, others)) = next_placed(before, rest) {
+    while let Some((place, lexeme)) = lexemes.next() {
         taken.take(place, lexeme)?;
-        before = place + lexeme.len();
-        rest = others;
     }
     Ok(taken.points)
 }

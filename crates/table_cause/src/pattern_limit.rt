@@ -1,12 +1,12 @@
 //! Where the pattern of a rule or a demand goes past a limit. It is looked for only once a line is known to go past one.
-ghost use Rattle.std.specs.Prelude.{◌≡◌, ◌+◌, ◌-◌, ◌<◌, ◌^◌, false, [], length, IfSome, MatchOption};
+ghost use Rattle.std.specs.Prelude.{◌≡◌, ◌-◌, false, [], MatchOption};
 ghost use Rattle.table_cause.specs.PatternLimits as limits;
 ghost use Rattle.table_cause.specs.PatternLimits.{is_too_deep as too_deep, no_nesting, with_token as with_token_of};
-ghost use Rattle.table_cause.specs.PlacedLexemes.{placed_from, placed_lexemes};
+ghost use Rattle.table_cause.specs.PlacedLexemes.{placed_lexemes};
 ghost use Rattle.table_cause.specs.inner.NestingSteps.{nesting_of};
 
 use crate::entry_place::WrongPlace;
-use crate::placed::next_placed;
+use crate::placed::PlacedLexemes;
 use arrayvec::ArrayVec;
 use ruleset_text::{GROUP_LIMIT, Keyword, STAR_LIMIT, Token, keyword_of, token_of};
 
@@ -26,20 +26,16 @@ struct Nesting {
 pub fn first_past(atoms: usize, line: &[u8]) -> Option<WrongPlace>
     ensures { result ≡ limits.first_past atoms (limits.pattern_in (placed_lexemes line.now)) }
 {
-    let (start, text) = pattern_text(line)?;
+    let mut lexemes = pattern_lexemes(line)?;
     let mut left = atoms;
     let mut nesting = Nesting::new();
-    let mut before = start;
-    let mut rest = text;
-    while let Some((place, lexeme, others)) = next_placed(before, rest) {
+    while let Some((place, lexeme)) = lexemes.next() {
         let token = token_of(&[], lexeme);
         if nesting.is_too_deep(token) || is_counted(token) && left == 0 {
             return Some(WrongPlace::Lexeme(place, lexeme.len()));
         }
         left = without_atom(left, token);
         nesting.read(token);
-        before = place + lexeme.len();
-        rest = others;
     }
     None
 }
@@ -48,34 +44,27 @@ pub fn first_past(atoms: usize, line: &[u8]) -> Option<WrongPlace>
 pub fn atoms_left(atoms: usize, line: &[u8]) -> usize
     ensures { result ≡ atoms - limits.atoms_among (limits.pattern_in (placed_lexemes line.now)) }
 {
-    let Some((start, text)) = pattern_text(line) else {
+    let Some(mut lexemes) = pattern_lexemes(line) else {
         return atoms;
     };
     let mut left = atoms;
-    let mut before = start;
-    let mut rest = text;
-    while let Some((place, lexeme, others)) = next_placed(before, rest) {
+    while let Some((_, lexeme)) = lexemes.next() {
         left = without_atom(left, token_of(&[], lexeme));
-        before = place + lexeme.len();
-        rest = others;
     }
     left
 }
 
-/// The text of the pattern of a line, if it is to define a rule or a demand, and how many bytes stand before it.
-fn pattern_text(line: &[u8]) -> Option<(usize, &[u8])>
-    requires { length line.now < 2 ^ 64 }
-    ensures is { MatchOption result (limits.pattern_in (placed_lexemes line.now) ≡ [])
-        (λ found. placed_from found.0 found.1.now ≡ limits.pattern_in (placed_lexemes line.now)) }
-    ensures within { IfSome result (λ found. found.0 + length found.1.now ≡ length line.now) }
+/// The lexemes of the pattern of a line, if it is to define a rule or a demand.
+fn pattern_lexemes(line: &[u8]) -> Option<PlacedLexemes<'_>>
+    ensures { MatchOption result (limits.pattern_in (placed_lexemes line.now) ≡ []) (λ lexemes. lexemes ≡ limits.pattern_in (placed_lexemes line.now)) }
 {
-    let (place, word, rest) = next_placed(0, line)?;
-    let before = place + word.len();
+    let mut lexemes = PlacedLexemes::new(line);
+    let (_, word) = lexemes.next()?;
     match keyword_of(word)? {
-        Keyword::Never | Keyword::Always => Some((before, rest)),
+        Keyword::Never | Keyword::Always => Some(lexemes),
         Keyword::Rule => {
-            let (place, name, rest) = next_placed(before, rest)?;
-            Some((place + name.len(), rest))
+            lexemes.next()?;
+            Some(lexemes)
         }
         Keyword::Tag | Keyword::Set => None,
     }

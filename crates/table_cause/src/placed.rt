@@ -1,19 +1,49 @@
 //! The lexemes of a line with their places.
-ghost use Rattle.std.specs.Prelude.{◌≡◌, ◌+◌, ◌<◌, ◌^◌, [], ◌∷◌, length, MatchOption, IfSome};
-ghost use Rattle.table_cause.specs.PlacedLexemes.{placed_from};
+ghost use Rattle.std.specs.Prelude.{◌≡◌, ◌≤◌, [], ◌∷◌, length, MatchOption};
+ghost use Rattle.table_cause.specs.PlacedLexemes.{placed_lexemes};
 
 use ruleset_text::next_lexeme;
+use std::marker::Model;
 
-/// The first lexeme of what is left of a line, after the `before` bytes that stand before that: its place, the lexeme, and
-/// what follows it. The place is a byte of the line, counted from 0.
-pub fn next_placed(before: usize, rest: &[u8]) -> Option<(usize, &[u8], &[u8])>
-    requires { before + length rest.now < 2 ^ 64 }
-    ensures is { MatchOption result (placed_from before rest.now ≡ [])
-        (λ found. placed_from before rest.now ≡ record { place = found.0; lexeme = found.1.now } ∷ placed_from (found.0 + length found.1.now) found.2.now) }
-    ensures within { IfSome result (λ found. found.0 + length found.1.now + length found.2.now ≡ before + length rest.now) }
-    ensures shorter { IfSome result (λ found. length found.2.now < length rest.now) }
-{
-    let (lexeme, others) = next_lexeme(rest)?;
-    let place = before + (rest.len() - others.len() - lexeme.len());
-    Some((place, lexeme, others))
+/// The lexemes of a line that are still to come, with their places. A place is a byte of the line, counted from 0.
+#[derive(Drop)]
+pub(crate) struct PlacedLexemes<'a> {
+    /// How many bytes of the line stand before the rest.
+    before: usize,
+    rest: &'a [u8],
+}
+
+impl<'a> Model for PlacedLexemes<'a> {
+    ghost use Rattle.std.specs.Prelude.{List, ◌+◌, ◌<◌, ◌^◌, length};
+    ghost use Rattle.table_cause.specs.PlacedLexemes.{Placed, placed_from};
+
+    ghost Value = { List Placed };
+
+    ghost view = { λ lexemes. placed_from lexemes.before lexemes.rest.now };
+
+    ghost invariant = { λ lexemes. lexemes.before + length lexemes.rest.now < 2 ^ 64 };
+}
+
+impl<'a> PlacedLexemes<'a> {
+    /// All lexemes of a line.
+    pub(crate) fn new(line: &'a [u8]) -> Self
+        ensures are { result ≡ placed_lexemes line.now }
+        ensures few { length result ≤ length line.now }
+    {
+        PlacedLexemes {
+            before: 0,
+            rest: line,
+        }
+    }
+
+    /// The next lexeme, and before it its place.
+    pub(crate) fn next(&mut self) -> Option<(usize, &'a [u8])>
+        ensures { MatchOption result (self.old ≡ []) (λ found. self.old ≡ record { place = found.0; lexeme = found.1.now } ∷ self.new) }
+    {
+        let (lexeme, others) = next_lexeme(self.rest)?;
+        let place = self.before + (self.rest.len() - others.len() - lexeme.len());
+        self.before = place + lexeme.len();
+        self.rest = others;
+        Some((place, lexeme))
+    }
 }
