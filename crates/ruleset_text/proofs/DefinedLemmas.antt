@@ -27,11 +27,11 @@ use Rattle.ruleset_text.proofs.SpanLemmas.{spans_good}
 
 -- ---- its form
 
-mapped : {A : Type 0} (f : A → Definition) (o : Option A) (x : Definition) → option_map f o ≡ Some x → (a : A) × (o ≡ Some a) × (f a ≡ x)
+pub mapped : {A : Type 0} (f : A → Definition) (o : Option A) (x : Definition) → option_map f o ≡ Some x → (a : A) × (o ≡ Some a) × (f a ≡ x)
 mapped f None x e = absurd (cc)
 mapped f (Some a) x e = (a, refl, cc)
 
-if_true : (b : Bool) (o : Option Definition) (x : Definition) → cond b o None ≡ Some x → (b ≡ true) × (o ≡ Some x)
+pub if_true : (b : Bool) (o : Option Definition) (x : Definition) → cond b o None ≡ Some x → (b ≡ true) × (o ≡ Some x)
 if_true true o x e = (refl, e)
 if_true false o x e = absurd (cc)
 

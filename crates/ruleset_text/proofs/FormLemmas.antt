@@ -10,7 +10,8 @@ use Rattle.ruleset_text.specs.Rules.{has, is_rule}
 use Rattle.ruleset_text.specs.Tokens.{tokens_in}
 use Rattle.ruleset_text.proofs.PatternLemmas.{read_spelled}
 
-if_such_some : (test : Pattern → Bool) (o : Option Pattern) (p : Pattern) → if_such test o ≡ Some p → (o ≡ Some p) × (test p ≡ true)
+-- what is read is the pattern of which the test is true
+pub if_such_some : (test : Pattern → Bool) (o : Option Pattern) (p : Pattern) → if_such test o ≡ Some p → (o ≡ Some p) × (test p ≡ true)
 if_such_some test None p e = absurd (cc)
 if_such_some test (Some q) p e = by_cases (test q) refl e
   where

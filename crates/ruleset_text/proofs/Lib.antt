@@ -19,6 +19,7 @@ mod SpanBackLemmas
 mod LineBackLemmas
 pub mod DefinitionsBackLemmas
 pub mod DefinedLemmas
+pub mod DefinitionOrderLemmas
 pub mod KnownPatternLemmas
 pub mod EntryLemmas
 pub mod EntryStateLemmas

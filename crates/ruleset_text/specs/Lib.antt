@@ -14,6 +14,7 @@ pub mod DefinitionTrees
 pub mod Classes
 pub mod Canonical
 pub mod Definitions
+pub mod DefinitionOrder
 pub mod DemandTrees
 pub mod DefinitionCodes
 pub mod WellFormed

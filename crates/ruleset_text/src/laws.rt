@@ -4,15 +4,17 @@ ghost use Rattle.label_patterns.specs.declared.span.Span.{Span};
 ghost use Rattle.label_patterns.specs.Patterns.{Pattern};
 ghost use Rattle.ruleset_text.specs.declared.definition.DemandKind.TheVariants as demand;
 ghost use Rattle.label_patterns.specs.declared.condition.ConditionKind.TheVariants as condition;
-ghost use Rattle.ruleset_text.specs.declared.fault.DefinitionFault.TheVariants.{Limit, NoSuchName, SameName, Syntax};
+ghost use Rattle.ruleset_text.specs.declared.fault.DefinitionFault.{DefinitionFault};
+ghost use Rattle.ruleset_text.specs.declared.fault.DefinitionFault.TheVariants.{BadClass, Limit, NoSuchName, SameName, Syntax};
 ghost use Rattle.ruleset_text.specs.declared.keyword.Keyword.{Keyword};
 ghost use Rattle.ruleset_text.specs.declared.token.Token.{Token};
 ghost use Rattle.label_patterns.specs.Patterns as patterns;
 ghost use Rattle.label_patterns.specs.Matches.{HasItsSets};
 ghost use Rattle.ruleset_text.specs.Canonical.{HasPoints, pattern_text};
-ghost use Rattle.ruleset_text.specs.Definition.{contexts_of, demand_of};
+ghost use Rattle.ruleset_text.specs.Definition.{Definition, contexts_of, definition_of, demand_of};
 ghost use Rattle.ruleset_text.specs.Definition as definition;
 ghost use Rattle.ruleset_text.specs.Definitions.{Definitions, added, canonical_lines, canonical_size, defined, nothing_defined, with_lines, with_words};
+ghost use Rattle.ruleset_text.specs.DefinitionOrder.{SpellsDefinition, IsDefinitionFault};
 ghost use Rattle.ruleset_text.specs.Grammar.{Is, Whole, SpellsPattern};
 ghost use Rattle.ruleset_text.specs.EntrySteps.{entry_in};
 ghost use Rattle.ruleset_text.specs.inner.Examples.{some_defined, written};
@@ -34,6 +36,18 @@ pub fn reading_a_pattern_is_exact()
 pub fn reading_spans_is_exact()
     ensures exact { (words : List (List ℕ)) (spans : List Span) → (spans_in words ≡ Some spans) ↔ SpellSet words spans }
     ensures one { (words : List (List ℕ)) (spans others : List Span) → SpellSet words spans → SpellSet words others → spans ≡ others }
+{}
+
+/// The function that reads a definition tells exactly what the grammar says of the line; so a line spells one definition at most.
+pub fn reading_a_definition_is_exact()
+    ensures exact { (names : List (List ℕ)) (keyword : Keyword) (words : List (List ℕ)) (x : Definition) → (definition_of names keyword words ≡ Some x) ↔ SpellsDefinition names keyword words x }
+    ensures one { (names : List (List ℕ)) (keyword : Keyword) (words : List (List ℕ)) (x y : Definition) → SpellsDefinition names keyword words x → SpellsDefinition names keyword words y → x ≡ y }
+{}
+
+/// A line that is to define something is refused exactly if some condition of a refusal holds for it, and the fault is that of
+/// the first one that holds.
+pub fn the_first_condition_of_a_definition_is_told()
+    ensures { (limit : ℕ) (d : Definitions) (keyword : Keyword) (words : List (List ℕ)) (fault : DefinitionFault) → (defined limit d keyword words ≡ Err fault) ↔ IsDefinitionFault limit d keyword words fault }
 {}
 
 /// The canonical text of a pattern, cut into tokens, is read as that pattern, where its sets are among those that are named.
@@ -133,10 +147,15 @@ pub fn definitions_compute_the_lines()
     ensures groups { with_words 1000 some_defined (lexemes (codes "%never (((((((((@A)))))))))")) ≡ Err Limit }
     ensures stars { with_words 1000 some_defined (lexemes (codes "%never ((@A* @A)* @A)*")) ≡ Err Limit }
     ensures limit_before_name { with_words 1000 some_defined (lexemes (codes "%never (((((((((@nope)))))))))")) ≡ Err Limit }
+    ensures form_before_limit { with_words 1000 some_defined (lexemes (codes "%never (((((((((@A))))))))) _")) ≡ Err Syntax }
+    ensures limit_before_class { with_words 1000 some_defined (lexemes (codes "%rule s (((((((((0041))))))))) _")) ≡ Err Limit }
     ensures unknown { with_words 1000 some_defined (lexemes (codes "%rule s @B _")) ≡ Err NoSuchName }
     ensures no_set { with_words 1000 some_defined (lexemes (codes "%rule s @r _")) ≡ Err NoSuchName }
     ensures second { with_words 1000 some_defined (lexemes (codes "%never (@A @B)")) ≡ Err NoSuchName }
     ensures name_before_class { with_words 1000 some_defined (lexemes (codes "%never @nope 0041")) ≡ Err NoSuchName }
+    ensures name_before_same_name { with_words 1000 some_defined (lexemes (codes "%rule t @nope _")) ≡ Err NoSuchName }
+    ensures class { with_words 1000 some_defined (lexemes (codes "%set C 0041")) ≡ Err BadClass }
+    ensures class_before_same_name { with_words 1000 some_defined (lexemes (codes "%set t 0041")) ≡ Err BadClass }
     ensures same_tag { with_words 1000 some_defined (lexemes (codes "%tag t")) ≡ Err SameName }
     ensures set_as_tag { with_words 1000 some_defined (lexemes (codes "%tag A")) ≡ Err SameName }
     ensures rule_as_tag { with_words 1000 some_defined (lexemes (codes "%tag r")) ≡ Err SameName }

@@ -37,8 +37,9 @@ pub use fault::DefinitionFault;
 pub use keyword::{Keyword, keyword_of};
 pub use laws::{
     canonical_lines_are_read_back, canonical_text_is_read_back, definitions_compute_the_entries,
-    definitions_compute_the_examples, definitions_compute_the_lines, reading_a_pattern_is_exact,
-    reading_spans_is_exact, what_lines_define_has_no_fault,
+    definitions_compute_the_examples, definitions_compute_the_lines, reading_a_definition_is_exact,
+    reading_a_pattern_is_exact, reading_spans_is_exact,
+    the_first_condition_of_a_definition_is_told, what_lines_define_has_no_fault,
 };
 pub use lexemes::{next_lexeme, without_blanks};
 pub use limits::{

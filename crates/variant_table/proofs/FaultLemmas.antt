@@ -7,6 +7,7 @@ use Rattle.ruleset_text.specs.declared.fault.DefinitionFault.{DefinitionFault}
 use Rattle.ruleset_text.specs.declared.keyword.Keyword.{Keyword}
 use Rattle.ruleset_text.specs.Definitions.{Definitions, defined}
 use Rattle.ruleset_text.specs.Entries.{EntryForm}
+use Rattle.ruleset_text.proofs.DefinitionOrderLemmas.{wrong_is, wrong_from}
 use Rattle.variant_table.specs.Faults.{LineFault, Limit, Syntax, BadClass, SameVariant, SameSource, NoSuchName}
 use Rattle.variant_table.specs.Entries.{Entry, TableValue}
 use Rattle.variant_table.specs.Conditions.{is_too_long, is_over_limit, has_bad_class, has_repeat, has_source_in}
@@ -167,7 +168,7 @@ module _ (bytes : ℕ) (table : TableValue) (line : List ℕ) where
             | defines keyword after s n ↦
                 let w = wrong_definition f (defined (room_for_definitions table) table.definitions keyword after)
                 (sym (definition_err keyword after) ∙ sym (with_line-defines table (strip_carriage_return line) keyword after s n) ∙ here) in
-                inr (h, (keyword, after, w.0, n, w.1, w.2))
+                inr (h, (keyword, after, w.0, n, wrong_is (room_for_definitions table) table.definitions keyword after w.0 w.1, w.2))
             | of_entries form i ↦ inl (entries_fault form i h f _ _ _ _ _ refl refl refl refl refl
                 (sym (with_form-by table.version table.definitions table.entries form _ _ _ _ _ refl refl refl refl refl)
                 ∙ of_entries_err f (with_form table.version table.definitions table.entries form) (sym (with_line-form table (strip_carriage_return line) form i) ∙ here)))
@@ -252,7 +253,7 @@ module _ (bytes : ℕ) (table : TableValue) (line : List ℕ) where
       let not_skipped : is_skipped (strip_carriage_return line) ≡ false = false_from_ne_true (is_skipped (strip_carriage_return line)) (λ k.
       no_keyword keyword after (sym (skipped-no_definition table.version (strip_carriage_return line) k) ∙ n)) in
       raw_line short ∙ with_line-defines table (strip_carriage_return line) keyword after not_skipped n ∙ definition_err keyword after
-      ∙ ap (defining table) e ∙ ap (λ x. Err x) (sym is)
+      ∙ ap (defining table) (wrong_from (room_for_definitions table) table.definitions keyword after wrong e) ∙ ap (λ x. Err x) (sym is)
 
   pub told : (f : LineFault) → IsLineFault bytes table line f → with_raw_line bytes table line ≡ Err f
   told f (inl c) = first_told c.0 c.2 c.3 ∙ ap (λ k. Err k) c.1

@@ -1,10 +1,11 @@
 -- The lines of a ruleset that define something: a tag, a set, a rule or a demand.
-use Rattle.std.specs.Prelude.{◌≡◌, ℕ, ◌-◌, Ok, Err, ◌++◌, length, Option, Some, None, List, [], ◌∷◌}
+use Rattle.std.specs.Prelude.{◌≡◌, ℕ, ◌-◌, Ok, ◌++◌, length, Option, Some, None, List, [], ◌∷◌}
 use Rattle.ruleset_text.specs.declared.fault.DefinitionFault.{DefinitionFault}
 use Rattle.ruleset_text.specs.declared.fault.DefinitionFault.TheVariants as definitions
 use Rattle.ruleset_text.specs.declared.keyword.Keyword.{Keyword}
 use Rattle.ruleset_text.specs.Definition.{keyword_of}
 use Rattle.ruleset_text.specs.Definitions.{Definitions, defined}
+use Rattle.ruleset_text.specs.DefinitionOrder.{IsDefinitionFault}
 use Rattle.ruleset_text.specs.Lexemes.{lexemes}
 use Rattle.variant_table.specs.Canonical.{canonical_text, head_text}
 use Rattle.variant_table.specs.declared.version.Version.{Version}
@@ -43,8 +44,8 @@ line_fault definitions.BadClass = BadClass
 line_fault definitions.SameName = SameName
 line_fault definitions.Memory = Syntax
 
--- the line is to define something, and this is told of it
+-- the line is to define something, and this is told of it: the first thing that is wrong with its definition
 abbrev pub DefinesWrong : TableValue → List ℕ → LineFault → Type 0
 DefinesWrong t line fault =
     (keyword : Keyword) × (after : List (List ℕ)) × (wrong : DefinitionFault) × (keyword_in t.version (lexemes line) ≡ Some (keyword, after))
-    × (defined (room_for_definitions t) t.definitions keyword after ≡ Err wrong) × (fault ≡ line_fault wrong)
+    × IsDefinitionFault (room_for_definitions t) t.definitions keyword after wrong × (fault ≡ line_fault wrong)

@@ -1,13 +1,30 @@
-use Rattle.std.proofs.Common.{refl}
+use Rattle.std.proofs.Common.{◌≡◌, ℕ, true, false, [], ◌∷◌, refl}
+use Rattle.std.specs.Prelude.{codes}
+use Rattle.idn_class.specs.Class.{class_of}
+use Rattle.idn_class.specs.declared.class.Class.TheVariants.{Disallowed}
+use Rattle.idn_class.proofs.ComputedLabels.{in_table, class_of-in_table}
 use Rattle.idn_text.specs.Points.{point_of_hex}
 use Rattle.ruleset_text.specs.Canonical.{point_text}
 use Rattle.ruleset_text.specs.Definitions.{all_atoms, canonical_size, with_definition}
+use Rattle.ruleset_text.specs.Classes.{has_bad_end}
+use Rattle.ruleset_text.specs.declared.keyword.Keyword.TheVariants as keyword
+use Rattle.ruleset_text.specs.Definition as definition
+use Rattle.ruleset_text.specs.inner.Examples.{some_defined}
 use Rattle.ruleset_text.specs.Names.{number_of}
 use Rattle.ruleset_text.specs.Reading.{pattern_of}
 use Rattle.ruleset_text.specs.SetNames.{names_on}
-use Rattle.ruleset_text.specs.Spans.{spans_in}
+use Rattle.ruleset_text.specs.Spans.{span, spans_in}
 use Rattle.ruleset_text.specs.Tokens.{tokens_in}
+use Rattle.ruleset_text.proofs.DefinitionOrderLemmas.{by_tests}
 use Rattle.ruleset_text.proofs.laws.definitions_compute_the_lines.Goals as goal
+
+-- a code point that is DISALLOWED is a bad end, and A is one
+disallowed : (c : ℕ) → class_of c ≡ Disallowed → has_bad_end (span c c ∷ []) ≡ true
+disallowed c e = rw e
+
+bad-41 : has_bad_end (span 65 65 ∷ []) ≡ true
+unfolding in_table
+bad-41 = disallowed 65 (class_of-in_table 65 Disallowed refl)
 
 pub returns-clause-tag : goal.returns-clause-tag
 unfolding with_definition names_on canonical_size all_atoms point_text pattern_of spans_in tokens_in number_of point_of_hex
@@ -137,6 +154,14 @@ pub returns-clause-limit_before_name : goal.returns-clause-limit_before_name
 unfolding with_definition names_on canonical_size all_atoms point_text pattern_of spans_in tokens_in number_of point_of_hex
 returns-clause-limit_before_name c = refl
 
+pub returns-clause-form_before_limit : goal.returns-clause-form_before_limit
+unfolding with_definition names_on canonical_size all_atoms point_text pattern_of spans_in tokens_in number_of point_of_hex
+returns-clause-form_before_limit c = refl
+
+pub returns-clause-limit_before_class : goal.returns-clause-limit_before_class
+unfolding with_definition names_on canonical_size all_atoms point_text pattern_of spans_in tokens_in number_of point_of_hex
+returns-clause-limit_before_class c = refl
+
 pub returns-clause-unknown : goal.returns-clause-unknown
 unfolding with_definition names_on canonical_size all_atoms point_text pattern_of spans_in tokens_in number_of point_of_hex
 returns-clause-unknown c = refl
@@ -152,6 +177,20 @@ returns-clause-second c = refl
 pub returns-clause-name_before_class : goal.returns-clause-name_before_class
 unfolding with_definition names_on canonical_size all_atoms point_text pattern_of spans_in tokens_in number_of point_of_hex
 returns-clause-name_before_class c = refl
+
+pub returns-clause-name_before_same_name : goal.returns-clause-name_before_same_name
+unfolding with_definition names_on canonical_size all_atoms point_text pattern_of spans_in tokens_in number_of point_of_hex
+returns-clause-name_before_same_name c = refl
+
+pub returns-clause-class : goal.returns-clause-class
+unfolding names_on canonical_size all_atoms point_text pattern_of spans_in tokens_in number_of point_of_hex
+returns-clause-class c =
+    by_tests 1000 some_defined keyword.Set (codes "C" ∷ codes "0041" ∷ []) (definition.Set (codes "C") (span 65 65 ∷ [])) refl false true true false refl refl bad-41 refl
+
+pub returns-clause-class_before_same_name : goal.returns-clause-class_before_same_name
+unfolding names_on canonical_size all_atoms point_text pattern_of spans_in tokens_in number_of point_of_hex
+returns-clause-class_before_same_name c =
+    by_tests 1000 some_defined keyword.Set (codes "t" ∷ codes "0041" ∷ []) (definition.Set (codes "t") (span 65 65 ∷ [])) refl false true true true refl refl bad-41 refl
 
 pub returns-clause-same_tag : goal.returns-clause-same_tag
 unfolding with_definition names_on canonical_size all_atoms point_text pattern_of spans_in tokens_in number_of point_of_hex
