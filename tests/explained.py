@@ -174,6 +174,9 @@ ATOMS = "%never" + " ." * 4000 + "\n%always" + " ." * 96 + "\n"
 # Six fewer. A group is one at its `(`, and `^` and `$` are; the name of a rule, `_`, `?`, `*` and `/` are none.
 SIX_ATOMS_LEFT = "%set C 0061\n%rule start _\n%never" + " ." * 4000 + "\n%always" + " ." * 90 + "\n"
 
+# With the version line, ten bytes fewer than a ruleset may have, in 1,025 lines.
+ALMOST_FULL = ("#" * 8191 + "\n") * 1023 + "#" * 8170 + "\n"
+
 # Tables with the number of the faulty line, its message, and where the fault is in the line. A lexeme that can't stand there is
 # quoted, unless it is longer than 32 bytes or has other bytes than those of ASCII that are seen.
 FAULTY_TABLES = [
@@ -327,6 +330,10 @@ FAULTY_RULESETS = [
     (SIX_ATOMS_LEFT + "%set abcd 0061 0062 0063..0069\n%never . . .\r\n0061\n# .\n%rule r . . _ . $", 10, OVER, "'$' at byte 17"),
     (SIX_ATOMS_LEFT + "%never ((.*)*)* . . . .", 6, OVER, "'*' at byte 15"),
     (SIX_ATOMS_LEFT + "%never . . . . . . . ((.*)*)*", 6, OVER, "'.' at byte 20"),
+    # the text is too long by its last line, whatever stands there
+    (ALMOST_FULL + "%never ***\n", 1026, OVER, None),
+    (ALMOST_FULL + "%never ? (((((((((\n", 1026, OVER, None),
+    (ALMOST_FULL + "%never ^\n\n\n", 1028, OVER, None),
 ]
 
 TABLE_ROWS = FAULTY_TABLES + [(VERSION_3 + text, *told) for text, *told in FAULTY_RULESETS]
