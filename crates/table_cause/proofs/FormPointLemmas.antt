@@ -133,6 +133,9 @@ is_read words.As w free is = subst (Reads words.As) (sym is) (record { separator
 is_read words.When w free is = subst (Reads words.When) (sym is) (record { separator = refl; point = refl; next = refl })
 is_read words.Unless w free is = subst (Reads words.Unless) (sym is) (record { separator = refl; point = refl; next = refl })
 
+pub next_word : (x : Word) (w : List ℕ) → IsNoName x → IsWord x w → expected_after (word_of w) ≡ after_word x
+next_word x w free is = let r = is_read x w free is in r.next
+
 point_step : (w : Placed) (ws : List Placed) (x : Word) (xs : List Word) (s i : ℕ) → Reads x w.lexeme → ((t j : ℕ) → map numbered (points_from t j (without_names (after_word x) ws)) ≡ points_at (after_word x) t j xs)
     → map numbered (points_from s i (without_names expected.Nothing (w ∷ ws))) ≡ points_at expected.Nothing s i (x ∷ xs)
 point_step w ws x xs s i r rest =

@@ -32,3 +32,5 @@ pub mod DefinitionPointLemmas
 pub mod RepeatPlaceLemmas
 -- Examples of places.
 pub mod PlaceExampleLemmas
+-- A place is told of an unknown tag or rule where reading refuses it.
+pub mod UnknownPlaceLemmas

@@ -26,7 +26,7 @@ nothing_told before number names line e = by (wrong_definition line) (no_wrong_p
     by None h = absurd cc
     by (Some w) h = refl
 
-some_mapped : (o : Option WrongPlace) → is_some (option_map as_fault o) ≡ is_some o
+pub some_mapped : (o : Option WrongPlace) → is_some (option_map as_fault o) ≡ is_some o
 some_mapped None = refl
 some_mapped (Some w) = refl
 

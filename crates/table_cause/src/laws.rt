@@ -22,7 +22,7 @@ ghost use Rattle.table_cause.specs.WrongDefinitions.{Define, definition_in};
 ghost use Rattle.table_cause.specs.WrongPlaces.{FitsNames, IsWhole, IsWrongPlace};
 ghost use Rattle.table_cause.specs.WrongSteps.{wrong_place};
 ghost use Rattle.table_cause.specs.declared.expected.Expected.TheVariants.{Nothing};
-ghost use Rattle.table_cause.specs.FaultPlaces.{class_place, definition_place, limit_place, parts_of, point_place, syntax_place, variant_place};
+ghost use Rattle.table_cause.specs.FaultPlaces.{class_place, definition_place, limit_place, parts_of, point_place, syntax_place, unknown_place, variant_place};
 ghost use Rattle.table_cause.specs.LinePoints.{line_points};
 ghost use Rattle.variant_table.specs.declared.fault.TableFault.TheVariants as tables;
 ghost use Rattle.variant_table.specs.declared.version.Notation.TheVariants.{Ruleset};
@@ -108,10 +108,10 @@ pub fn limits_are_told_of_definitions()
 {}
 
 /// The names that the lines before define, after their version line, are those of the table that they spell. A place is told of an
-/// entry or of a range exactly where reading refuses it: past a limit, if it has too many variants or too long a sequence; and for a
-/// class, if some code point of its entries may not be held, whatever is defined; and for a variant that is given again, if its names
-/// are defined, which reading tests before. One is told of a code point of a definition exactly
-/// if reading refuses the definition for one.
+/// entry or of a range exactly where reading refuses it: for a name, if that table lacks a tag or a rule that it names; past a limit,
+/// if it has too many variants or too long a sequence; for a class, if some code point of its entries may not be held, whatever is
+/// defined; and for a variant that is given again, if its names are defined, which reading tests before. One is told of a code point
+/// of a definition exactly if reading refuses the definition for one.
 pub fn places_are_told_where_reading_refuses()
     ensures tags { (head : List ℕ) (before : List (List ℕ)) (table : TableValue) → is_version_line Ruleset head ≡ true → LinesSpell (empty_table Three) before table →
         names_defined keywords.Tag (head ∷ before) ≡ table.definitions.tags }
@@ -119,6 +119,9 @@ pub fn places_are_told_where_reading_refuses()
         names_defined keywords.Set (head ∷ before) ≡ table.definitions.set_names }
     ensures rules { (head : List ℕ) (before : List (List ℕ)) (table : TableValue) → is_version_line Ruleset head ≡ true → LinesSpell (empty_table Three) before table →
         names_defined keywords.Rule (head ∷ before) ≡ table.definitions.rule_names }
+    ensures unknown { (head : List ℕ) (before : List (List ℕ)) (table : TableValue) (line : List ℕ) (form : EntryForm) →
+        is_version_line Ruleset head ≡ true → LinesSpell (empty_table Three) before table → entry_in (lexemes line) ≡ Some form →
+        is_some (unknown_place (head ∷ before) line) ≡ not (knows_all table.definitions form.mapped) }
     ensures limit { (line : List ℕ) (form : EntryForm) → entry_in (lexemes line) ≡ Some form →
         is_some (limit_place (line_points line)) ≡ list_any is_too_large (written_out form) }
     ensures class { (definitions : Definitions) (line : List ℕ) (form : EntryForm) → entry_in (lexemes line) ≡ Some form →
