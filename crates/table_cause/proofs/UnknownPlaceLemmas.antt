@@ -1,10 +1,11 @@
 -- A place is told of an unknown tag or rule exactly where reading refuses the entry for it.
 use Rattle.std.proofs.Common.{◌≡◌, ℕ, Bool, true, false, cond, not, ◌||◌, ◌&&◌, List, [], ◌∷◌, ◌++◌, Option, Some, None, refl, sym, ap, subst, ◌∙◌, append_assoc, append-nil}
-use Rattle.std.specs.Prelude.{codes, is_some}
+use Rattle.std.specs.Prelude.{is_some}
 use Rattle.std.specs.List.{AllByRecursion, list_all, list_any}
 use Rattle.label_patterns.specs.declared.condition.ConditionKind.{ConditionKind}
 use Rattle.label_patterns.specs.declared.condition.ConditionKind.TheVariants as condition
 use Rattle.ruleset_text.specs.declared.entry_form.NamedCondition.{NamedCondition}
+use Rattle.ruleset_text.specs.declared.keyword.Keyword.TheVariants as keyword
 use Rattle.ruleset_text.specs.Definitions.{Definitions}
 use Rattle.ruleset_text.specs.Entries.{Mapped, EntryForm}
 use Rattle.ruleset_text.specs.EntrySteps.{entry_in}
@@ -206,7 +207,7 @@ unknown_refused head before table line form is spelled e =
     let read = read_words form (lexemes line) e in
     let has = form_has d form.mapped form.last read.0 in
     let are = subst (AreWords (entry_words form.mapped form.last)) (sym (unplaced-from 0 line)) read.1 in
-    some_mapped (unknown_name (names_defined (codes "%tag") (head ∷ before)) (names_defined (codes "%rule") (head ∷ before)) (placed_lexemes line))
-    ∙ ap (λ tags. is_some (unknown_name tags (names_defined (codes "%rule") (head ∷ before)) (placed_lexemes line))) names.0
+    some_mapped (unknown_name (names_defined keyword.Tag (head ∷ before)) (names_defined keyword.Rule (head ∷ before)) (placed_lexemes line))
+    ∙ ap (λ tags. is_some (unknown_name tags (names_defined keyword.Rule (head ∷ before)) (placed_lexemes line))) names.0
     ∙ ap (λ rules. is_some (unknown_name d.tags rules (placed_lexemes line))) names.2
     ∙ unknown_spelled d (placed_lexemes line) expected.Nothing (entry_words form.mapped form.last) has.0 are ∙ has.1
