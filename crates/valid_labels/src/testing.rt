@@ -48,10 +48,7 @@ impl<'a> ValidityTest<'a> {
         ensures kept { IfOk result (λ test. test.kept ≡ []) }
     {
         let sets = pieces.table().definitions().sets();
-        let mut masks = Vec::new(alloc);
-        for _ in 0..sets.len() {
-            masks.push(0)?;
-        }
+        let masks = vec![in alloc; 0; sets.len()]?;
         Ok(ValidityTest {
             points: SinglePoints::new(pieces),
             kept: KeptLabel::new(),
