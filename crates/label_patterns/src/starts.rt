@@ -14,6 +14,10 @@ pub fn starts(tree: &PatternTree, seen: &SeenLabel, stops: u64) -> u64
     requires { HasItsSets (length seen.now.sets) (pattern tree.now) }
     ensures { AreStarts (Matches seen.now (pattern tree.now)) stops result }
 {
+    // To no place nothing leads.
+    if stops == 0 {
+        return 0;
+    }
     match tree {
         PatternTree::Point(point) => before(stops, seen.places_of_point(*point)),
         PatternTree::Set(set) => before(stops, seen.places_of_set(*set)),

@@ -38,10 +38,7 @@ pub fn invalid_cause(
     ensures { IfOk result (λ cause. cause ≡ cause_of table.now label.now) }
 {
     let sets = table.definitions().sets();
-    let mut masks = Vec::new(alloc);
-    for _ in 0..sets.len() {
-        masks.push(0)?;
-    }
+    let mut masks = vec![in alloc; 0; sets.len()]?;
     renew_masks(sets, label, 0, &mut masks);
     Ok(cause_under(table, sets, label, &masks))
 }

@@ -1,5 +1,5 @@
 //! Where single points stand in a label, by what is asked of them.
-ghost use Rattle.std.specs.Prelude.{◌≡◌, ◌⊎◌, ◌<◌, ◌≤◌, ℕ, length, replicate, slice_index, IfOk};
+ghost use Rattle.std.specs.Prelude.{◌≡◌, ◌⊎◌, ◌<◌, ◌≤◌, ℕ, length, slice_index};
 ghost use Rattle.label_patterns.specs.Places.{Has};
 
 use crate::cutting::SingleSteps;
@@ -39,8 +39,8 @@ impl SinglePlaces {
     {
         Ok(SinglePlaces {
             free: 0,
-            when: no_places(alloc, rules)?,
-            unless: no_places(alloc, rules)?,
+            when: vec![in alloc; 0; rules]?,
+            unless: vec![in alloc; 0; rules]?,
         })
     }
 
@@ -129,17 +129,6 @@ impl SinglePlaces {
         }
         SingleSteps { known, leading }
     }
-}
-
-/// A set without places for each rule.
-fn no_places(alloc: Global, rules: usize) -> Result<Vec<u64>, AllocError>
-    ensures { IfOk result (λ sets. sets.items ≡ replicate rules 0) }
-{
-    let mut sets = Vec::new(alloc);
-    for _ in 0..rules {
-        sets.push(0)?;
-    }
-    Ok(sets)
 }
 
 /// Takes from each of the sets what isn't before a place.

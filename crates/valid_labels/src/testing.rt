@@ -48,10 +48,7 @@ impl<'a> ValidityTest<'a> {
         ensures kept { IfOk result (λ test. test.kept ≡ []) }
     {
         let sets = pieces.table().definitions().sets();
-        let mut masks = Vec::new(alloc);
-        for _ in 0..sets.len() {
-            masks.push(0)?;
-        }
+        let masks = vec![in alloc; 0; sets.len()]?;
         Ok(ValidityTest {
             points: SinglePoints::new(pieces),
             kept: KeptLabel::new(),
@@ -60,23 +57,23 @@ impl<'a> ValidityTest<'a> {
         })
     }
 
-    /// Whether a label of at most 63 code points may be asked about. It has the first `shared` code points
-    /// of the label that was tested last, or all of them if that has fewer. It takes no memory.
-    pub fn admission(&mut self, label: &[u32], shared: usize) -> Admission
+    /// Whether a label of at most 63 code points may be asked about. What is kept of the label that was tested last stays as
+    /// it is. It takes no memory.
+    pub fn admission(&mut self, label: &[u32]) -> Admission
         requires short { length label.now ≤ 63 }
-        requires kept { SharesKept shared self.old.kept label.now }
         ensures admission { IsAdmission self.old.table label.now result }
-        ensures kept { self.new.kept ≡ label.now }
-        ensures same_table { self.new.table ≡ self.old.table }
+        ensures same { self.new ≡ self.old }
     {
-        self.see(label, shared);
         let table = self.points.pieces().table();
         if !is_made_of_sources(table, label) {
             return Admission::NotCut;
         }
         let sets = table.definitions().sets();
-        let masks: &[u64] = &self.masks;
-        if is_admitted(table, sets, label, masks) {
+        renew_masks(sets, label, 0, &mut self.masks);
+        let admitted = is_admitted(table, sets, label, &self.masks);
+        // The masks are again those of the label that is kept.
+        renew_masks(sets, self.kept.as_slice(), 0, &mut self.masks);
+        if admitted {
             Admission::Admitted
         } else {
             Admission::NotAdmitted

@@ -52,7 +52,6 @@ pub(crate) fn admitted_net(
     requires short { length label.now ≤ 63 }
     requires sound { IsSound table.now }
     requires ruling { ruling_in validity.old ≡ ruling_of table.now }
-    requires new { KeepsShared validity.old 0 label.now }
     ensures spelled { IfOk result (λ net. in_order net.spelled ≡ in_order (spelled table.now label.now)) }
     ensures scalar_values { IfOk result (λ net. All AreScalarValues net.spelled) }
     ensures admitted { IfOk result (λ _. IsAdmitted table.now label.now) }
@@ -62,7 +61,7 @@ pub(crate) fn admitted_net(
 {
     match validity {
         None => {}
-        Some(test) => match test.admission(label, 0) {
+        Some(test) => match test.admission(label) {
             Admission::NotCut => return Err(Refusal::NotInTable),
             Admission::NotAdmitted => return Err(Refusal::NotValid),
             Admission::Admitted => test.forget(),
