@@ -1,5 +1,5 @@
 -- A place is told of an unknown set exactly where reading refuses the definition for it.
-use Rattle.std.proofs.Common.{◌≡◌, ℕ, suc, ◌+◌, nat_lt, ◌==◌, Bool, true, false, cond, not, ◌||◌, ◌&&◌, List, [], ◌∷◌, ◌++◌, length, Option, Some, None, refl, sym, ap, subst, ◌∙◌, inl, inr, append_assoc, append-nil, arith}
+use Rattle.std.proofs.Common.{◌≡◌, ℕ, suc, ◌+◌, nat_lt, ◌==◌, Bool, true, false, cond, not, ◌||◌, ◌&&◌, List, [], ◌∷◌, ◌++◌, length, Option, Some, None, refl, sym, ap, ◌∙◌, inl, inr, append_assoc, append-nil, arith}
 use Rattle.std.specs.Prelude.{bytes_eq, codes, drop, is_some, map}
 use Rattle.std.specs.List.{list_any}
 use Rattle.std.specs.Option.{option_map}
@@ -17,8 +17,7 @@ use Rattle.ruleset_text.specs.declared.token.Token.TheVariants as token
 use Rattle.ruleset_text.specs.Definition as definition
 use Rattle.ruleset_text.specs.Definition.{Definition, contexts_in, demand_in, keyword_of, rule_in, set_in, tag_in}
 use Rattle.ruleset_text.specs.Definitions.{has_known_sets}
-use Rattle.ruleset_text.specs.EntryWords as words
-use Rattle.ruleset_text.specs.EntryWords.{AreWords, point_of}
+use Rattle.ruleset_text.specs.EntryWords.{point_of}
 use Rattle.ruleset_text.specs.Grammar.{tokens}
 use Rattle.ruleset_text.specs.Lexemes.{lexemes}
 use Rattle.ruleset_text.specs.Limits.{has_its_sets}
@@ -28,10 +27,9 @@ use Rattle.ruleset_text.specs.Rules.{is_rule}
 use Rattle.ruleset_text.specs.SetNames.{names_on, set_name, with_name, with_word}
 use Rattle.ruleset_text.specs.Spans.{spans_in}
 use Rattle.ruleset_text.specs.SpanWords.{SpellSpans, SpellsSpan}
-use Rattle.ruleset_text.specs.Tokens.{mark_token, point_token, set_token, token_of, tokens_in, word_token}
+use Rattle.ruleset_text.specs.Tokens.{mark_token, point_token, token_of, tokens_in, word_token}
 use Rattle.ruleset_text.proofs.PatternLemmas.{read_spelled}
 use Rattle.ruleset_text.proofs.SpanExactLemmas.{set_spelled}
-use Rattle.table_cause.specs.declared.entry_place.WrongPlace.{WrongPlace}
 use Rattle.table_cause.specs.DefinitionPlaces.{names_defined}
 use Rattle.table_cause.specs.FaultPlaces.{definition_place}
 use Rattle.table_cause.specs.LineNames.{is_unknown, place_of, unknown_set}
