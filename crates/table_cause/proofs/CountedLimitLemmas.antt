@@ -365,3 +365,7 @@ limit_told head before table names line x is spelled e =
     limit_is (head ∷ before) line key.0 key.1
     ∙ ap (λ b. has_most key.0 (head ∷ before) || b) (some_past names line (atoms_after (head ∷ before)) x e)
     ∙ too_many (head ∷ before) table.definitions key.0 x key.2 counts
+
+-- what the lines define has no fault
+pub spelled_sound : (before : List (List ℕ)) (table : TableValue) → LinesSpell (empty_table Three) before table → AreDefinitions table.definitions
+spelled_sound before table spelled = (counted before (empty_table Three) table refl (empty_sound Three).without_fault spelled).without_fault

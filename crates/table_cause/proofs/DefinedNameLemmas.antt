@@ -30,7 +30,7 @@ use Rattle.variant_table.proofs.FormLemmas.{Spelling, none, some, form-no_defini
 
 -- ---- the lexemes of a keyword
 
-abbrev text_of : Keyword → List ℕ
+abbrev pub text_of : Keyword → List ℕ
 text_of keyword.Tag = codes "%tag"
 text_of keyword.Set = codes "%set"
 text_of keyword.Rule = codes "%rule"
@@ -44,7 +44,7 @@ one_tested word text j k o is rest e = by (bytes_eq word text) refl e
     by true h f = let same : j ≡ k = cc in (bytes_eq-Decides word text).0 h ∙ is ∙ ap text_of same
     by false h f = rest f
 
-keyword_text : (word : List ℕ) (k : Keyword) → keyword_of word ≡ Some k → word ≡ text_of k
+pub keyword_text : (word : List ℕ) (k : Keyword) → keyword_of word ≡ Some k → word ≡ text_of k
 keyword_text word k e =
     one_tested word (codes "%tag") keyword.Tag k _ refl
     (one_tested word (codes "%set") keyword.Set k _ refl

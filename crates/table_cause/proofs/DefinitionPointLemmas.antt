@@ -169,7 +169,7 @@ no_digits true true s v = refl
 no_digits true false s v = refl
 no_digits false b s v = refl
 
-at_none : (d : ℕ) (cs : List ℕ) → point_of (64 ∷ d ∷ cs) ≡ None
+pub at_none : (d : ℕ) (cs : List ℕ) → point_of (64 ∷ d ∷ cs) ≡ None
 unfolding point_of_hex
 at_none d cs =
     let digits : List ℕ = 64 ∷ d ∷ cs in no_digits (nat_le 4 (length digits)) (nat_le (length digits) 6) (is_scalar_value (digits_value 16 digits)) (Some (digits_value 16 digits))
@@ -182,7 +182,7 @@ point_back : (o : Option ℕ) → o ≡ token_point (point_token o)
 point_back None = refl
 point_back (Some c) = refl
 
-is_at : (c : ℕ) → (c == 64) ≡ true → c ≡ 64
+pub is_at : (c : ℕ) → (c == 64) ≡ true → c ≡ 64
 is_at c e = grind (arith, nat_tests)
 
 lexeme_point : (names : List (List ℕ)) (w : List ℕ) → IsToken (token_of names w) → point_of w ≡ token_point (token_of names w)
@@ -275,7 +275,7 @@ found_if : (b : Bool) (y x : Definition) → cond b (Some y) None ≡ Some x →
 found_if true y x e = cc
 found_if false y x e = none_some (y ≡ x) x e
 
-mapped_found : {X : Type 0} (f : X → Definition) (o : Option X) (x : Definition) → option_map f o ≡ Some x → (y : X) × (o ≡ Some y) × (f y ≡ x)
+pub mapped_found : {X : Type 0} (f : X → Definition) (o : Option X) (x : Definition) → option_map f o ≡ Some x → (y : X) × (o ≡ Some y) × (f y ≡ x)
 mapped_found {X} f None x e = none_some ((y : X) × (None ≡ Some y) × (f y ≡ x)) x e
 mapped_found {X} f (Some y) x e = (y, refl, cc)
 
@@ -283,7 +283,7 @@ mapped_if : {X : Type 0} (b : Bool) (f : X → Definition) (o : Option X) (x : D
 mapped_if {X} true f o x e = mapped_found f o x e
 mapped_if {X} false f o x e = none_some ((y : X) × (o ≡ Some y) × (f y ≡ x)) x e
 
-such_found : (test : Pattern → Bool) (o : Option Pattern) (p : Pattern) → if_such test o ≡ Some p → o ≡ Some p
+pub such_found : (test : Pattern → Bool) (o : Option Pattern) (p : Pattern) → if_such test o ≡ Some p → o ≡ Some p
 such_found test None p e = none_some (None ≡ Some p) p e
 such_found test (Some q) p e = by (test q) e
   where

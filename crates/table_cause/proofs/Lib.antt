@@ -34,3 +34,5 @@ pub mod RepeatPlaceLemmas
 pub mod PlaceExampleLemmas
 -- A place is told of an unknown tag or rule where reading refuses it.
 pub mod UnknownPlaceLemmas
+-- A place is told of an unknown set where reading refuses it.
+pub mod UnknownSetLemmas

@@ -1,16 +1,16 @@
 //! Laws of the places of faults, each the contract of a function that does nothing.
-ghost use Rattle.std.specs.Prelude.{is_some, not, true, ◌≡◌, ◌↔◌, ℕ, List, ◌∷◌, None, Some};
+ghost use Rattle.std.specs.Prelude.{drop, is_some, length, not, true, ◌≡◌, ◌↔◌, ℕ, List, ◌∷◌, None, Some};
 ghost use Rattle.table_cause.specs.declared.line_point.LinePoint.{LinePoint};
 ghost use Rattle.ruleset_text.specs.Entries.{EntryForm};
 ghost use Rattle.std.specs.List.{list_any};
 ghost use Rattle.table_cause.specs.EntryParts.{has_parts};
 ghost use Rattle.ruleset_text.specs.Definition.{Definition};
 ghost use Rattle.ruleset_text.specs.Definitions as defined;
-ghost use Rattle.ruleset_text.specs.Definitions.{Definitions, definition_atoms, is_one_too_many};
+ghost use Rattle.ruleset_text.specs.Definitions.{Definitions, definition_atoms, has_known_sets, is_one_too_many};
 ghost use Rattle.ruleset_text.specs.EntrySteps.{entry_in};
 ghost use Rattle.ruleset_text.specs.Lexemes.{lexemes};
 ghost use Rattle.ruleset_text.specs.declared.keyword.Keyword.TheVariants as keywords;
-ghost use Rattle.ruleset_text.specs.SetNames.{set_name};
+ghost use Rattle.ruleset_text.specs.SetNames.{names_on, set_name};
 ghost use Rattle.table_cause.specs.DefinitionPlaces.{definition_limit, names_defined};
 ghost use Rattle.table_cause.specs.DefinitionWrongSteps.{wrong_definition};
 ghost use Rattle.table_cause.specs.LineNames.{definition_points, IsFirstLexeme, IsFirstUnknown, is_unknown, unknown_name, unknown_set};
@@ -110,8 +110,8 @@ pub fn limits_are_told_of_definitions()
 /// The names that the lines before define, after their version line, are those of the table that they spell. A place is told of an
 /// entry or of a range exactly where reading refuses it: for a name, if that table lacks a tag or a rule that it names; past a limit,
 /// if it has too many variants or too long a sequence; for a class, if some code point of its entries may not be held, whatever is
-/// defined; and for a variant that is given again, if its names are defined, which reading tests before. One is told of a code point
-/// of a definition exactly if reading refuses the definition for one.
+/// defined; and for a variant that is given again, if its names are defined, which reading tests before. One is told of a set or of a
+/// code point of a definition exactly if reading refuses the definition for one.
 pub fn places_are_told_where_reading_refuses()
     ensures tags { (head : List ℕ) (before : List (List ℕ)) (table : TableValue) → is_version_line Ruleset head ≡ true → LinesSpell (empty_table Three) before table →
         names_defined keywords.Tag (head ∷ before) ≡ table.definitions.tags }
@@ -122,6 +122,10 @@ pub fn places_are_told_where_reading_refuses()
     ensures unknown { (head : List ℕ) (before : List (List ℕ)) (table : TableValue) (line : List ℕ) (form : EntryForm) →
         is_version_line Ruleset head ≡ true → LinesSpell (empty_table Three) before table → entry_in (lexemes line) ≡ Some form →
         is_some (unknown_place (head ∷ before) line) ≡ not (knows_all table.definitions form.mapped) }
+    ensures unknown_set { (head : List ℕ) (before : List (List ℕ)) (table : TableValue) (number : ℕ) (line : List ℕ) (definition : Definition) →
+        is_version_line Ruleset head ≡ true → LinesSpell (empty_table Three) before table →
+        definition_in (names_on table.definitions.set_names (drop 1 (lexemes line))) (lexemes line) ≡ Some definition →
+        is_some (definition_place (head ∷ before) (tables.NoSuchName number) line) ≡ not (has_known_sets (length table.definitions.sets) definition) }
     ensures limit { (line : List ℕ) (form : EntryForm) → entry_in (lexemes line) ≡ Some form →
         is_some (limit_place (line_points line)) ≡ list_any is_too_large (written_out form) }
     ensures class { (definitions : Definitions) (line : List ℕ) (form : EntryForm) → entry_in (lexemes line) ≡ Some form →

@@ -3,6 +3,7 @@ use Rattle.table_cause.proofs.DefinitionPointLemmas.{points_refused}
 use Rattle.table_cause.proofs.RefusedPlaceLemmas.{class_refused, limit_refused}
 use Rattle.table_cause.proofs.RepeatPlaceLemmas.{again_refused}
 use Rattle.table_cause.proofs.UnknownPlaceLemmas.{unknown_refused}
+use Rattle.table_cause.proofs.UnknownSetLemmas.{set_refused}
 use Rattle.table_cause.proofs.laws.places_are_told_where_reading_refuses.Goals as goal
 
 pub returns-clause-tags : goal.returns-clause-tags
@@ -16,6 +17,9 @@ returns-clause-rules c head before table is spelled = (names_are head before tab
 
 pub returns-clause-unknown : goal.returns-clause-unknown
 returns-clause-unknown c = unknown_refused
+
+pub returns-clause-unknown_set : goal.returns-clause-unknown_set
+returns-clause-unknown_set c = set_refused
 
 pub returns-clause-limit : goal.returns-clause-limit
 returns-clause-limit c = limit_refused
