@@ -66,3 +66,5 @@ mod WrongLineLemmas
 pub mod ListingLaws
 -- Over a table of version 2 and over the ruleset of the same entries a run says the same.
 pub mod RulesetLaws
+-- Objects that are read back as they are meant: what is said of a line.
+pub mod ReadBackLemmas

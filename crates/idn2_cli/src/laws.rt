@@ -4,6 +4,7 @@ ghost use Rattle.idn2_cli.specs.Answers.{LineAnswer};
 ghost use Rattle.idn2_cli.specs.Laws.{CausesAreTold, DispositionsAreTold, FormsSayTheSame};
 ghost use Rattle.idn2_cli.specs.ListingLaws.{AdmittedAreListed, ListedAreMutual, NotValidIsTold, RulesetsSayTheSame};
 ghost use Rattle.idn2_cli.specs.LineCauses.{RefusalsAreExplained};
+ghost use Rattle.idn2_cli.specs.ReadBack.{SaidIsReadBack};
 ghost use Rattle.idn2_cli.specs.CauseExamples.{ExamplesOfCauses};
 ghost use Rattle.idn2_cli.specs.Examples.{ExamplesOfAllocations, ExamplesOfARun, ExamplesOfBlocks, ExamplesOfLines, ExamplesOfRefusals, ExamplesOfTranscripts};
 
@@ -47,6 +48,12 @@ pub fn refusals_are_explained()
 /// A run says the same in both forms.
 pub fn forms_say_the_same()
     ensures { FormsSayTheSame }
+{}
+
+/// Each object in answer to a line is read back by the grammar of JSON as it is meant, is one line, and is UTF-8, whatever
+/// the line holds. The number of the line is below 2^64; so is the count at the end of a block.
+pub fn said_is_read_back()
+    ensures { SaidIsReadBack }
 {}
 
 /// Worked examples hold of the definitions themselves.
