@@ -68,3 +68,7 @@ pub mod ListingLaws
 pub mod RulesetLaws
 -- Objects that are read back as they are meant: what is said of a line.
 pub mod ReadBackLemmas
+-- The same of refusals, with what is told of their causes.
+pub mod ReadBackDetails
+-- What the causes of refused lines tell is small, and UTF-8.
+mod ReadBackCauses

@@ -1,16 +1,29 @@
 -- Objects that are read back as they are meant.
-use Rattle.std.specs.Prelude.{◌≡◌, ◌<◌, ◌^◌, true, All, IsUtf8, List, Some, Ok}
+use Rattle.std.specs.Prelude.{◌≡◌, ◌≢◌, ℕ, ◌<◌, ◌≤◌, ◌^◌, true, All, IsUtf8, List, length, Option, Some, None, Ok, Err}
 use Rattle.json.specs.Json.{document}
 use Rattle.idn_text.specs.Lines.{Numbered}
+use Rattle.idn_text.specs.declared.refusal.Refusal.{Refusal}
+use Rattle.idn_cause.specs.declared.cause.Cause.{Cause}
+use Rattle.idn_cause.specs.declared.cause.Cause.TheVariants.{Octets}
+use Rattle.idn_cause.specs.declared.a_label.ALabelCause.{ALabelCause}
+use Rattle.idn_cause.specs.declared.a_label.ALabelCause.TheVariants.{Decoded}
+use Rattle.idn_cause.specs.declared.query.LengthCause.{LengthCause}
+use Rattle.idn_cause.specs.declared.query.LengthCause.TheVariants.{LabelOctets, NameOctets}
 use Rattle.variant_table.specs.Entries.{TableValue}
 use Rattle.valid_labels.specs.Validity.{IsSound}
 use Rattle.answer_json.specs.Answers.{Answer, json_of, text_of}
 use Rattle.answer_json.specs.Clear.{is_clear}
 use Rattle.answer_json.specs.Inputs.{told_of}
-use Rattle.idn2_options.specs.Settings.{Settings}
+use Rattle.answer_json.specs.Objects.{refused}
+use Rattle.idn2_options.specs.Settings.{Settings, tells_causes}
 use Rattle.idn2_options.specs.declared.command_line.mode.Mode.{Mode}
+use Rattle.idn2_options.specs.declared.command_line.mode.Mode.TheVariants.{CheckTable}
 use Rattle.idn2_cli.specs.Answers.{line_answer, mode_answer}
+use Rattle.idn2_cli.specs.CauseDetails.{told_details}
+use Rattle.idn2_cli.specs.Explained.{body_cause, explained_in}
 use Rattle.idn2_cli.specs.Said.{Said, BlockEnd, said_object}
+use Rattle.idn2_cli.specs.declared.refusals.cause.LineCause.{LineCause}
+use Rattle.idn2_cli.specs.declared.refusals.cause.LineCause.TheVariants.{OfLabel, OfALabel, OfName, OfQuery}
 
 -- the grammar of JSON (RFC 8259) reads the text of the object as the object that is meant; the text is one line, and UTF-8
 pub record IsReadBack (answer : Answer) : Type 0 where
@@ -29,3 +42,42 @@ SaidIsReadBack =
     (mode : Mode) (o : Settings) (table : TableValue) (line : Numbered) (said : List Said) → IsSound table → line.number < 2 ^ 64
     → line_answer (mode_answer mode o table) line.body ≡ Ok said
     → All (λ s. CountsFew s → IsReadBack (said_object line.number (told_of line.body) s)) said
+
+-- ---- refusals
+
+-- a line has at most 1,024 bytes, unless none of it is kept
+abbrev pub IsShortBody : Option (List ℕ) → Type 0
+IsShortBody None = Unit {0}
+IsShortBody (Some bytes) = length bytes ≤ 1024
+
+-- what a cause tells the octets of, the A-label of a label or a name in ASCII, has fewer than 2 ^ 64 octets
+abbrev pub HasFewOctets : Cause → Type 0
+HasFewOctets (Octets n) = n < 2 ^ 64
+HasFewOctets _ = Unit {0}
+
+abbrev pub ALabelHasFewOctets : ALabelCause → Type 0
+ALabelHasFewOctets (Decoded cause) = HasFewOctets cause
+ALabelHasFewOctets _ = Unit {0}
+
+abbrev pub NameHasFewOctets : LengthCause → Type 0
+NameHasFewOctets (LabelOctets number octets) = (number < 2 ^ 63) × (octets < 2 ^ 64)
+NameHasFewOctets (NameOctets octets) = octets < 2 ^ 64
+
+abbrev pub TellsFewOctets : LineCause → Type 0
+TellsFewOctets (OfLabel cause) = HasFewOctets cause
+TellsFewOctets (OfALabel cause) = ALabelHasFewOctets cause
+TellsFewOctets (OfName cause) = ALabelHasFewOctets cause.cause
+TellsFewOctets (OfQuery cause) = NameHasFewOctets cause
+TellsFewOctets _ = Unit {0}
+
+abbrev pub TellsFewOctetsIfAny : Option LineCause → Type 0
+TellsFewOctetsIfAny None = Unit {0}
+TellsFewOctetsIfAny (Some cause) = TellsFewOctets cause
+
+-- the object of each line that a mode refuses is read back, whatever the line holds, with the cause that is told
+abbrev pub RefusalsAreReadBack : Type 0
+RefusalsAreReadBack =
+    (mode : Mode) (o : Settings) (table : TableValue) (line : Numbered) (refusal : Refusal) → mode ≢ CheckTable → tells_causes o ≡ true
+    → IsSound table → line.number < 2 ^ 64 → IsShortBody line.body → line_answer (mode_answer mode o table) line.body ≡ Err refusal
+    → TellsFewOctetsIfAny (body_cause (explained_in mode o table) line.body refusal)
+    → IsReadBack (refused line.number (told_of line.body) refusal (told_details refusal (body_cause (explained_in mode o table) line.body refusal)))

@@ -4,7 +4,7 @@ ghost use Rattle.idn2_cli.specs.Answers.{LineAnswer};
 ghost use Rattle.idn2_cli.specs.Laws.{CausesAreTold, DispositionsAreTold, FormsSayTheSame};
 ghost use Rattle.idn2_cli.specs.ListingLaws.{AdmittedAreListed, ListedAreMutual, NotValidIsTold, RulesetsSayTheSame};
 ghost use Rattle.idn2_cli.specs.LineCauses.{RefusalsAreExplained};
-ghost use Rattle.idn2_cli.specs.ReadBack.{SaidIsReadBack};
+ghost use Rattle.idn2_cli.specs.ReadBack.{RefusalsAreReadBack, SaidIsReadBack};
 ghost use Rattle.idn2_cli.specs.CauseExamples.{ExamplesOfCauses};
 ghost use Rattle.idn2_cli.specs.Examples.{ExamplesOfAllocations, ExamplesOfARun, ExamplesOfBlocks, ExamplesOfLines, ExamplesOfRefusals, ExamplesOfTranscripts};
 
@@ -54,6 +54,12 @@ pub fn forms_say_the_same()
 /// the line holds. The number of the line is below 2^64; so is the count at the end of a block.
 pub fn said_is_read_back()
     ensures { SaidIsReadBack }
+{}
+
+/// So is the object of each line that a mode refuses, with its cause. The octets that a cause tells, of an A-label or of a
+/// name, are fewer than 2^64; each other number is within the line or the table.
+pub fn refusals_are_read_back()
+    ensures { RefusalsAreReadBack }
 {}
 
 /// Worked examples hold of the definitions themselves.
