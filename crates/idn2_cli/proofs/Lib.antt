@@ -71,4 +71,6 @@ pub mod ReadBackLemmas
 -- The same of refusals, with what is told of their causes.
 pub mod ReadBackDetails
 -- What the causes of refused lines tell is small, and UTF-8.
-mod ReadBackCauses
+pub mod ReadBackCauses
+-- The same of tables and of registered labels.
+mod ReadBackTables

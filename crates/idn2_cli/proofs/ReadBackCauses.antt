@@ -64,7 +64,7 @@ breaks_within label conditions.LtrHolds place h short = omega (arith, h.1.within
 point_fits : (label : List ℕ) (Passes : ℕ → Type 0) (cause : Cause) → IsFirstPoint label Passes cause → length label < 2 ^ 62 → IsFittingCause cause
 point_fits label Passes cause is short = subst IsFittingCause (sym is.1) (omega (arith, is.2.within, short))
 
-cause_fits : (label : List ℕ) (refusal : Refusal) (cause : Cause) → IsCause label refusal cause → length label < 2 ^ 62 → HasFewOctets cause → IsFittingCause cause
+pub cause_fits : (label : List ℕ) (refusal : Refusal) (cause : Cause) → IsCause label refusal cause → length label < 2 ^ 62 → HasFewOctets cause → IsFittingCause cause
 cause_fits label refusals.Disallowed cause is short few = subst IsFittingCause (sym is.2) (omega (arith, is.3.within, short))
 cause_fits label refusals.Unassigned cause is short few = subst IsFittingCause (sym is.2) (omega (arith, is.3.within, short))
 cause_fits label refusals.NotNfc cause is short few = subst IsFittingCause (sym is.1) (omega (arith, is.3.within_label, short))
@@ -104,7 +104,7 @@ inserted-length (suc turns) n i bias output (c ∷ input) decoded is =
     by_read more (Some (j, rest)) e =
         by_test (insert output (j % count) (n + j / count)) (insert-length output (j % count) (n + j / count)) _ (more (n + j / count) (j % count + 1) (adapt (j - i) count (i == 0)) (insert output (j % count) (n + j / count)) rest) (is_scalar (n + j / count)) e
 
-taken : (n : ℕ) (xs : List ℕ) → length (take n xs) ≤ length xs
+pub taken : (n : ℕ) (xs : List ℕ) → length (take n xs) ≤ length xs
 taken n xs = omega (arith, length-take n xs)
 
 decode-length : (code label : List ℕ) → decode code ≡ Some label → length label ≤ 2 * length code
@@ -238,7 +238,7 @@ points_fit (ByRequest table) points refusal cause is sound short few = table_fit
 points_fit ByRegisteredLine points refusal cause is sound short few =
     subst IsFitting (sym is.2) (cause_fits points refusal is.0 is.1 (omega (arith, short)) (subst TellsFewOctets is.2 few))
 
-points-length : (points : List ℕ) → length points ≤ length (utf8_of points)
+pub points-length : (points : List ℕ) → length points ≤ length (utf8_of points)
 points-length [] = omega arith
 points-length (c ∷ cs) = omega (arith, points-length cs, length-append (encode_utf8 c) (utf8_of cs), (len_utf8_bounds c).0, length-encode c)
 

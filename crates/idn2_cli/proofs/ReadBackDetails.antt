@@ -36,7 +36,7 @@ use Rattle.answer_json.specs.Objects.{refused, registered_fault, table_fault}
 use Rattle.answer_json.specs.Unicode.{AreUnicode}
 use Rattle.idn2_cli.specs.CauseDetails.{a_label_details, at_byte, barring_rule, cause_details, condition_rule, context_rule, fault_place_details, length_details, line_details, point_at_byte, told_details}
 use Rattle.idn2_cli.specs.CauseTexts.{appendix_text, bidi_text, condition_text, demand_text}
-use Rattle.idn2_cli.specs.ReadBack.{IsReadBack}
+use Rattle.idn2_cli.specs.ReadBack.{IsReadBack, byte_of}
 use Rattle.idn2_cli.specs.declared.refusals.cause.LineCause.{LineCause}
 use Rattle.idn2_cli.specs.declared.refusals.cause.LineCause.TheVariants.{Byte, LongLine, OfLabel, OfALabel, OfName, OfQuery, Misplaced, Broken as BrokenDemand, Ends, OfTable}
 use Rattle.idn2_cli.proofs.ReadBackLemmas.{ascii_utf8, input_small, input_unicode, object_read_back}
@@ -46,10 +46,10 @@ use Rattle.idn2_cli.proofs.ReadBackLemmas.{ascii_utf8, input_small, input_unicod
 digit_ascii : (d : ℕ) → d < 16 → is_ascii (hex_digit d) ≡ true
 digit_ascii d small = grind (arith, nat_tests)
 
-ascii_append : (a b : List ℕ) → is_all_ascii a ≡ true → is_all_ascii b ≡ true → is_all_ascii (a ++ b) ≡ true
+pub ascii_append : (a b : List ℕ) → is_all_ascii a ≡ true → is_all_ascii b ≡ true → is_all_ascii (a ++ b) ≡ true
 ascii_append a b first second = list_all-append is_ascii a b ∙ and_from (is_all_ascii a) (is_all_ascii b) first second
 
-ascii_cons : (c : ℕ) (cs : List ℕ) → is_ascii c ≡ true → is_all_ascii cs ≡ true → is_all_ascii (c ∷ cs) ≡ true
+pub ascii_cons : (c : ℕ) (cs : List ℕ) → is_ascii c ≡ true → is_all_ascii cs ≡ true → is_all_ascii (c ∷ cs) ≡ true
 ascii_cons c cs first second = and_from (is_ascii c) (is_all_ascii cs) first second
 
 ascii_unless : (b : Bool) (digit : ℕ) → is_ascii digit ≡ true → is_all_ascii (cond b [] (digit ∷ [])) ≡ true
@@ -59,7 +59,7 @@ ascii_unless false digit h = ascii_cons digit [] h refl
 leading_ascii : (c unit : ℕ) → is_all_ascii (leading_digit c unit) ≡ true
 leading_ascii c unit = ascii_unless (nat_lt c unit) (hex_digit (c / unit % 16)) (digit_ascii (c / unit % 16) (omega arith))
 
-four_ascii : (c : ℕ) → is_all_ascii (four_digits c) ≡ true
+pub four_ascii : (c : ℕ) → is_all_ascii (four_digits c) ≡ true
 four_ascii c =
     let d1 = hex_digit (c / 0x1000 % 16) in
     let d2 = hex_digit (c / 0x100 % 16) in
@@ -234,17 +234,6 @@ IsFittingALabel (Decoded cause) = IsFittingCause cause
 abbrev pub IsFittingLength : LengthCause → Type 0
 IsFittingLength (LabelOctets number octets) = (number < 2 ^ 63) × (octets < 2 ^ 64)
 IsFittingLength (NameOctets octets) = octets < 2 ^ 64
-
-abbrev pub byte_of : FaultPlace → ℕ
-byte_of (places.Lexeme place len) = place
-byte_of (places.End place) = place
-byte_of (places.Point place c) = place
-byte_of (places.InRange place c) = place
-byte_of (places.Variant place) = place
-byte_of (places.Source place) = place
-byte_of (places.Byte place) = place
-byte_of (places.NinthPoint place c) = place
-byte_of (places.SeventeenthVariant place c) = place
 
 abbrev pub IsFitting : LineCause → Type 0
 IsFitting (Byte place byte) = place < 2 ^ 63

@@ -86,7 +86,7 @@ ascii_utf8 text ascii = IsUtf8-from_ascii text (is_all_ascii-octets text ascii)
 pub scalars_utf8 : (points : List ℕ) → AreScalarValues points → IsUtf8 (utf8_of points)
 scalars_utf8 points scalar = IsUtf8-from_points (utf8_of points) points (record { scalar_values = scalar; encoded = refl })
 
-digit_ascii : (d : ℕ) → d < 16 → is_ascii (hex_digit d) ≡ true
+pub digit_ascii : (d : ℕ) → d < 16 → is_ascii (hex_digit d) ≡ true
 digit_ascii d small = grind (arith, nat_tests)
 
 hex_ascii : (bytes : List ℕ) → is_all_ascii (hex_of bytes) ≡ true

@@ -1,5 +1,5 @@
 -- Objects that are read back as they are meant.
-use Rattle.std.specs.Prelude.{◌≡◌, ◌≢◌, ℕ, ◌<◌, ◌≤◌, ◌^◌, true, All, IsUtf8, List, length, Option, Some, None, Ok, Err}
+use Rattle.std.specs.Prelude.{◌≡◌, ◌≢◌, ℕ, ◌<◌, ◌≤◌, ◌^◌, Bool, true, All, IsUtf8, List, length, Option, Some, None, Ok, Err}
 use Rattle.json.specs.Json.{document}
 use Rattle.idn_text.specs.Lines.{Numbered}
 use Rattle.idn_text.specs.declared.refusal.Refusal.{Refusal}
@@ -10,18 +10,27 @@ use Rattle.idn_cause.specs.declared.a_label.ALabelCause.TheVariants.{Decoded}
 use Rattle.idn_cause.specs.declared.query.LengthCause.{LengthCause}
 use Rattle.idn_cause.specs.declared.query.LengthCause.TheVariants.{LabelOctets, NameOctets}
 use Rattle.variant_table.specs.Entries.{TableValue}
+use Rattle.variant_table.specs.Gaps.{gaps_of}
+use Rattle.variant_table.specs.declared.fault.TableFault.{TableFault}
+use Rattle.variant_table.specs.declared.version.Notation.{Notation}
+use Rattle.table_cause.specs.FaultPlaces.{fault_place}
+use Rattle.table_cause.specs.declared.place.FaultPlace.{FaultPlace}
+use Rattle.table_cause.specs.declared.place.FaultPlace.TheVariants as places
 use Rattle.valid_labels.specs.Validity.{IsSound}
 use Rattle.answer_json.specs.Answers.{Answer, json_of, text_of}
 use Rattle.answer_json.specs.Clear.{is_clear}
 use Rattle.answer_json.specs.Inputs.{told_of}
-use Rattle.answer_json.specs.Objects.{refused}
+use Rattle.answer_json.specs.Objects.{refused, registered_fault, table_fault}
 use Rattle.idn2_options.specs.Settings.{Settings, tells_causes}
 use Rattle.idn2_options.specs.declared.command_line.mode.Mode.{Mode}
 use Rattle.idn2_options.specs.declared.command_line.mode.Mode.TheVariants.{CheckTable}
 use Rattle.idn2_cli.specs.Answers.{line_answer, mode_answer}
 use Rattle.idn2_cli.specs.CauseDetails.{told_details}
 use Rattle.idn2_cli.specs.Explained.{body_cause, explained_in}
-use Rattle.idn2_cli.specs.Said.{Said, BlockEnd, said_object}
+use Rattle.idn2_cli.specs.Said.{Said, BlockEnd, finding_object, said_object}
+use Rattle.idn2_cli.specs.TableCauses.{fault_cause, told_if}
+use Rattle.idn2_cli.specs.Transcript.{check_findings}
+use Rattle.idn2_cli.specs.WrongLines.{told_of_wrong_line}
 use Rattle.idn2_cli.specs.declared.refusals.cause.LineCause.{LineCause}
 use Rattle.idn2_cli.specs.declared.refusals.cause.LineCause.TheVariants.{OfLabel, OfALabel, OfName, OfQuery}
 
@@ -81,3 +90,36 @@ RefusalsAreReadBack =
     → IsSound table → line.number < 2 ^ 64 → IsShortBody line.body → line_answer (mode_answer mode o table) line.body ≡ Err refusal
     → TellsFewOctetsIfAny (body_cause (explained_in mode o table) line.body refusal)
     → IsReadBack (refused line.number (told_of line.body) refusal (told_details refusal (body_cause (explained_in mode o table) line.body refusal)))
+
+-- ---- tables, and registered labels
+
+-- each object of the check of a table is read back, where fewer than 2 ^ 64 pairs are missing
+abbrev pub FindingsAreReadBack : Type 0
+FindingsAreReadBack =
+    (table : TableValue) → IsSound table → length (gaps_of table.entries) < 2 ^ 64 → All (λ f. IsReadBack (finding_object f)) (check_findings table.entries)
+
+-- the byte of a line at which it has its fault
+abbrev pub byte_of : FaultPlace → ℕ
+byte_of (places.Lexeme place len) = place
+byte_of (places.End place) = place
+byte_of (places.Point place c) = place
+byte_of (places.InRange place c) = place
+byte_of (places.Variant place) = place
+byte_of (places.Source place) = place
+byte_of (places.Byte place) = place
+byte_of (places.NinthPoint place c) = place
+byte_of (places.SeventeenthVariant place c) = place
+
+-- so is that of the fault of a table, with its cause, where the line of the fault and the place in it are small numbers
+abbrev pub TableFaultsAreReadBack : Type 0
+TableFaultsAreReadBack =
+    (wanted : Bool) (notation : Notation) (text : List ℕ) (fault : TableFault) (line : ℕ) (refusal : Refusal) → line < 2 ^ 64
+    → ((place : FaultPlace) → fault_place notation text fault ≡ Some place → byte_of place < 2 ^ 63)
+    → IsReadBack (table_fault line refusal (told_details refusal (told_if wanted (fault_cause notation text fault))))
+
+-- and that of a wrong line of the registered labels, with its cause
+abbrev pub RegisteredFaultsAreReadBack : Type 0
+RegisteredFaultsAreReadBack =
+    (wanted : Bool) (text : List ℕ) (number : ℕ) (refusal : Refusal) → number < 2 ^ 64
+    → TellsFewOctetsIfAny (told_of_wrong_line wanted text number refusal)
+    → IsReadBack (registered_fault number refusal (told_details refusal (told_of_wrong_line wanted text number refusal)))

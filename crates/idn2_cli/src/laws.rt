@@ -4,7 +4,7 @@ ghost use Rattle.idn2_cli.specs.Answers.{LineAnswer};
 ghost use Rattle.idn2_cli.specs.Laws.{CausesAreTold, DispositionsAreTold, FormsSayTheSame};
 ghost use Rattle.idn2_cli.specs.ListingLaws.{AdmittedAreListed, ListedAreMutual, NotValidIsTold, RulesetsSayTheSame};
 ghost use Rattle.idn2_cli.specs.LineCauses.{RefusalsAreExplained};
-ghost use Rattle.idn2_cli.specs.ReadBack.{RefusalsAreReadBack, SaidIsReadBack};
+ghost use Rattle.idn2_cli.specs.ReadBack.{FindingsAreReadBack, RefusalsAreReadBack, RegisteredFaultsAreReadBack, SaidIsReadBack, TableFaultsAreReadBack};
 ghost use Rattle.idn2_cli.specs.CauseExamples.{ExamplesOfCauses};
 ghost use Rattle.idn2_cli.specs.Examples.{ExamplesOfAllocations, ExamplesOfARun, ExamplesOfBlocks, ExamplesOfLines, ExamplesOfRefusals, ExamplesOfTranscripts};
 
@@ -60,6 +60,14 @@ pub fn said_is_read_back()
 /// name, are fewer than 2^64; each other number is within the line or the table.
 pub fn refusals_are_read_back()
     ensures { RefusalsAreReadBack }
+{}
+
+/// So are the objects of the check of a table, and that of the fault of a table or of the registered labels. Fewer than 2^64
+/// pairs are missing, and the number of the line and the place in it are small.
+pub fn tables_are_read_back()
+    ensures findings { FindingsAreReadBack }
+    ensures faults { TableFaultsAreReadBack }
+    ensures registered { RegisteredFaultsAreReadBack }
 {}
 
 /// Worked examples hold of the definitions themselves.
