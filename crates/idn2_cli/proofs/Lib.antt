@@ -66,3 +66,11 @@ mod WrongLineLemmas
 pub mod ListingLaws
 -- Over a table of version 2 and over the ruleset of the same entries a run says the same.
 pub mod RulesetLaws
+-- Objects that are read back as they are meant: what is said of a line.
+pub mod ReadBackLemmas
+-- The same of refusals, with what is told of their causes.
+pub mod ReadBackDetails
+-- What the causes of refused lines tell is small, and UTF-8.
+pub mod ReadBackCauses
+-- The same of tables and of registered labels.
+mod ReadBackTables

@@ -4,6 +4,7 @@ ghost use Rattle.idn2_cli.specs.Answers.{LineAnswer};
 ghost use Rattle.idn2_cli.specs.Laws.{CausesAreTold, DispositionsAreTold, FormsSayTheSame};
 ghost use Rattle.idn2_cli.specs.ListingLaws.{AdmittedAreListed, ListedAreMutual, NotValidIsNeverTold, RulesetsSayTheSame};
 ghost use Rattle.idn2_cli.specs.LineCauses.{RefusalsAreExplained};
+ghost use Rattle.idn2_cli.specs.ReadBack.{FindingsAreReadBack, RefusalsAreReadBack, RegisteredFaultsAreReadBack, SaidIsReadBack, TableFaultsAreReadBack};
 ghost use Rattle.idn2_cli.specs.CauseExamples.{ExamplesOfCauses};
 ghost use Rattle.idn2_cli.specs.Examples.{ExamplesOfAllocations, ExamplesOfARun, ExamplesOfBlocks, ExamplesOfLines, ExamplesOfRefusals, ExamplesOfTranscripts};
 
@@ -47,6 +48,26 @@ pub fn refusals_are_explained()
 /// A run says the same in both forms.
 pub fn forms_say_the_same()
     ensures { FormsSayTheSame }
+{}
+
+/// Each object in answer to a line is read back by the grammar of JSON as it is meant, is one line, and is UTF-8, whatever
+/// the line holds. The number of the line is below 2^64; so is the count at the end of a block.
+pub fn said_is_read_back()
+    ensures { SaidIsReadBack }
+{}
+
+/// So is the object of each line that a mode refuses, with its cause. The octets that a cause tells, of an A-label or of a
+/// name, are fewer than 2^64; each other number is within the line or the table.
+pub fn refusals_are_read_back()
+    ensures { RefusalsAreReadBack }
+{}
+
+/// So are the objects of the check of a table, and that of the fault of a table or of the registered labels. Fewer than 2^64
+/// pairs are missing, and the number of the line and the place in it are small.
+pub fn tables_are_read_back()
+    ensures findings { FindingsAreReadBack }
+    ensures faults { TableFaultsAreReadBack }
+    ensures registered { RegisteredFaultsAreReadBack }
 {}
 
 /// Worked examples hold of the definitions themselves.
