@@ -1,6 +1,6 @@
 -- A place is told of an unknown set exactly where reading refuses the definition for it.
 use Rattle.std.proofs.Common.{◌≡◌, ℕ, suc, ◌+◌, nat_lt, ◌==◌, Bool, true, false, cond, not, ◌||◌, ◌&&◌, List, [], ◌∷◌, ◌++◌, length, Option, Some, None, refl, sym, ap, ◌∙◌, inl, inr, append_assoc, append-nil, arith}
-use Rattle.std.specs.Prelude.{bytes_eq, codes, drop, is_some, map}
+use Rattle.std.specs.Prelude.{bytes_eq, drop, is_some, map}
 use Rattle.std.specs.List.{list_any}
 use Rattle.std.specs.Option.{option_map}
 use Rattle.std.proofs.Math.Bool.{and-false}
@@ -286,7 +286,7 @@ pub set_refused : (head : List ℕ) (before : List (List ℕ)) (table : TableVal
     → is_some (definition_place (head ∷ before) (tables.NoSuchName number) line) ≡ not (has_known_sets (length table.definitions.sets) x)
 set_refused head before table number line x is spelled e =
     let names = table.definitions.set_names in
-    some_mapped (unknown_set (names_defined (codes "%set") (head ∷ before)) (placed_lexemes line))
+    some_mapped (unknown_set (names_defined keyword.Set (head ∷ before)) (placed_lexemes line))
     ∙ ap (λ sets. is_some (unknown_set sets (placed_lexemes line))) (names_are head before table is spelled).1
     ∙ any_told names (placed_lexemes line) ∙ ap (list_any (unknown names)) (unplaced-from 0 line) ∙ line_told names (lexemes line) x e
     ∙ ap (λ n. not (has_known_sets n x)) (spelled_sound before table spelled).named_sets
