@@ -12,7 +12,7 @@ use Rattle.idn2_cli.specs.inner.LineAnswers.{reaches}
 
 -- ---- comparisons
 
-is_le-below : (v w : List ℕ) → (v ≡ w) ⊎ IsBelow v w → is_le (label_cmp v w) ≡ true
+pub is_le-below : (v w : List ℕ) → (v ≡ w) ⊎ IsBelow v w → is_le (label_cmp v w) ≡ true
 is_le-below v w h = by_order (label_cmp v w) (ranked_labels v w) h
   where
     by_order : (o : Ordering) → MatchOrdering o (IsBelow v w) (v ≡ w) (IsBelow w v) → (v ≡ w) ⊎ IsBelow v w → is_le o ≡ true
@@ -68,11 +68,11 @@ up_to-above : (c : List ℕ) (vs : List (List ℕ)) → AllByRecursion (IsBelow 
 up_to-above c [] h = refl
 up_to-above c (v ∷ vs) h = ap (λ (t : Bool). if t then v ∷ up_to (Some c) vs else up_to (Some c) vs) (is_le-above v c h.0) ∙ up_to-above c vs h.1
 
-up_to-first : (c : List ℕ) (vs : List (List ℕ)) → AllByRecursion (IsBelow c) vs → up_to (Some c) (c ∷ vs) ≡ c ∷ []
+pub up_to-first : (c : List ℕ) (vs : List (List ℕ)) → AllByRecursion (IsBelow c) vs → up_to (Some c) (c ∷ vs) ≡ c ∷ []
 up_to-first c vs h =
     ap (λ (t : Bool). if t then c ∷ up_to (Some c) vs else up_to (Some c) vs) (is_le-below c c (inl refl)) ∙ ap (λ l. c ∷ l) (up_to-above c vs h)
 
-up_to-later : (c : List ℕ) (vs : List (List ℕ)) (r : Option (List ℕ)) → IfSome r (IsBelow c) → up_to r (c ∷ vs) ≡ c ∷ up_to r vs
+pub up_to-later : (c : List ℕ) (vs : List (List ℕ)) (r : Option (List ℕ)) → IfSome r (IsBelow c) → up_to r (c ∷ vs) ≡ c ∷ up_to r vs
 up_to-later c vs None h = refl
 up_to-later c vs (Some b) h = ap (λ (t : Bool). if t then c ∷ up_to (Some b) vs else up_to (Some b) vs) (is_le-below c b (inr h))
 

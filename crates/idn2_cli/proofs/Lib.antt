@@ -74,3 +74,5 @@ pub mod ReadBackDetails
 pub mod ReadBackCauses
 -- The same of tables and of registered labels.
 mod ReadBackTables
+-- What a listing counts.
+pub mod ReadBackCounts

@@ -21,7 +21,7 @@ use Rattle.answer_json.specs.Answers.{Answer, json_of, text_of}
 use Rattle.answer_json.specs.Clear.{is_clear}
 use Rattle.answer_json.specs.Inputs.{told_of}
 use Rattle.answer_json.specs.Objects.{refused, registered_fault, table_fault}
-use Rattle.idn2_options.specs.Settings.{Settings, tells_causes}
+use Rattle.idn2_options.specs.Settings.{IsCount, Settings, tells_causes}
 use Rattle.idn2_options.specs.declared.command_line.mode.Mode.{Mode}
 use Rattle.idn2_options.specs.declared.command_line.mode.Mode.TheVariants.{CheckTable}
 use Rattle.idn2_cli.specs.Answers.{line_answer, mode_answer}
@@ -45,12 +45,13 @@ abbrev pub CountsFew : Said → Type 0
 CountsFew (BlockEnd count stop) = count < 2 ^ 64
 CountsFew _ = Unit {0}
 
--- each object that a mode says in answer to a line is read back, whatever the line holds, if its number is below 2 ^ 64
+-- each object that a mode says in answer to a line is read back, whatever the line holds, if its number is below 2 ^ 64. A listing
+-- counts no more variants than it has tries, unless it is kept to registered labels
 abbrev pub SaidIsReadBack : Type 0
 SaidIsReadBack =
-    (mode : Mode) (o : Settings) (table : TableValue) (line : Numbered) (said : List Said) → IsSound table → line.number < 2 ^ 64
+    (mode : Mode) (o : Settings) (table : TableValue) (line : Numbered) (said : List Said) → IsSound table → IsCount o.tries → line.number < 2 ^ 64
     → line_answer (mode_answer mode o table) line.body ≡ Ok said
-    → All (λ s. CountsFew s → IsReadBack (said_object line.number (told_of line.body) s)) said
+    → All (λ s. (o.registered ≢ None → CountsFew s) → IsReadBack (said_object line.number (told_of line.body) s)) said
 
 -- ---- refusals
 
