@@ -1,60 +1,8 @@
-//! The candidates of a net, step by step: which ones come, after which text, and how many edges a step looks at.
-use crate::nets::{BLIND, DOUBLED, HYPHENS, SHARP_S, net, points};
+//! How many edges a net's search looks at, step by step. Which candidates come is tested in `spelled.rt`.
+use crate::nets::{SHARP_S, net};
 use std::alloc::Global;
-use std::process::Abort;
 use std::test::Fail;
 use variant_list::{Cursor, Net};
-
-/// All candidates of the label after the text, each with a comma after it.
-fn listed(alloc: Global, net: &Net, after: &str) -> Result<Vec<u32>, Fail> {
-    let mut cursor = Cursor::new(alloc, net, &points(alloc, after)?)?;
-    let mut listed = Vec::new(alloc);
-    for _ in 0..100 {
-        match cursor.next_candidate() {
-            Some(label) => listed.extend_from_slice(label)?,
-            None => return Ok(listed),
-        }
-        listed.push(u32::from(b','))?;
-    }
-    Err("a listing without an end".into())
-}
-
-/// Tables, labels and texts, and the candidates after them.
-const FROM_TEXTS: [(&[u8], &str, &str, &str); 10] = [
-    (DOUBLED, "aa", "", "aa,aaa,aaaa,"),
-    (DOUBLED, "aa", "aaa", "aaaa,"),
-    (DOUBLED, "aa", "aab", ""),
-    (DOUBLED, "aa", "a", "aa,aaa,aaaa,"),
-    (DOUBLED, "aa", "aaaaa", ""),
-    (HYPHENS, "aaa", "", "---,--a,-a-,-aa,a--,a-a,aa-,aaa,"),
-    (HYPHENS, "aaa", "-b", "a--,a-a,aa-,aaa,"),
-    (SHARP_S, "sss", "", "sss,sß,ßs,"),
-    (BLIND, "ab", "", "ab,c,"),
-    (BLIND, "ab", "b", "c,"),
-];
-
-/// These candidates come after a text.
-fn assert_listed(
-    rt: &impl Abort,
-    alloc: Global,
-    net: &Net,
-    after: &str,
-    want: &str,
-) -> Result<(), Fail> {
-    let got = listed(alloc, net, after)?;
-    let want = points(alloc, want)?;
-    assert_eq!(rt; got.as_slice(), want.as_slice(), "after {after}");
-    Ok(())
-}
-
-#[test]
-fn each_candidate_once_from_any_text_on(rt: HostRuntime) -> Result<(), Fail> {
-    for (table, label, after, want) in FROM_TEXTS.iter() {
-        let net = net(rt.alloc(), table, label)?;
-        assert_listed(&rt, rt.alloc(), &net, after, want)?;
-    }
-    Ok(())
-}
 
 /// How many edges each of the first steps tests.
 fn looks(alloc: Global, net: &Net) -> Result<[u64; 4], Fail> {
