@@ -82,8 +82,8 @@ pub as_three : (text other first second : List ℕ) (lines : List (List ℕ)) (e
     → is_version_line Table first ≡ true → is_version_line Ruleset second ≡ true → IsTextOf Table text (table_of Two nothing_defined entries) → IsTextOf Ruleset other (table_of Three nothing_defined entries)
 as_three text other first second lines entries cut cut_other is is_other h =
     let given : AreLinesOf (first ∷ []) lines (table_of Two nothing_defined entries) =
-        subst (λ (b : Bool). AreLinesOf (cond b (first ∷ []) []) (cond b lines (first ∷ lines)) (table_of Two nothing_defined entries)) is
-            (subst (λ (ls : List (List ℕ)). AreLinesOf (head_of Table ls) (body_of Table ls) (table_of Two nothing_defined entries)) cut h.lines) in
+    subst (λ (b : Bool). AreLinesOf (cond b (first ∷ []) []) (cond b lines (first ∷ lines)) (table_of Two nothing_defined entries)) is
+    (subst (λ (ls : List (List ℕ)). AreLinesOf (head_of Table ls) (body_of Table ls) (table_of Two nothing_defined entries)) cut h.lines) in
     let found = lines_as_three first second lines entries ((bytes_eq-Decides (strip_carriage_return second) (version_line Ruleset)).0 is_other) given in
     record {
       version = subst (λ (ls : List (List ℕ)). version_of Ruleset ls ≡ Some Three) (sym cut_other) (ap (λ b. cond b (Some Three) None) is_other);
