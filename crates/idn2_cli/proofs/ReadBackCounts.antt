@@ -1,10 +1,12 @@
--- A listing that is kept to no labels counts no more variants than it has tries.
-use Rattle.std.proofs.Common.{◌≡◌, ◌⊎◌, inl, inr, ℕ, zero, suc, ◌-◌, ◌≤◌, Bool, true, false, ◌&&◌, List, [], ◌∷◌, length, Option, Some, None, refl, sym, ap, subst, if◌then◌else◌, Ordering, arith}
+-- A listing counts no more variants than it has tries, or than there are registered labels to which it is kept.
+use Rattle.std.proofs.Common.{◌≡◌, ◌∙◌, ◌⊎◌, inl, inr, ℕ, zero, suc, ◌-◌, ◌≤◌, Bool, true, false, ◌&&◌, List, [], ◌∷◌, length, Option, Some, None, refl, sym, ap, subst, if◌then◌else◌, Ordering, arith}
 use Rattle.std.specs.Prelude.{slice_get}
 use Rattle.std.proofs.lemmas.Bool.{false≢true}
 use Rattle.std.specs.declared.cmp.Ordering.TheVariants.{Less, Equal, Greater}
 use Rattle.std.specs.List.{filter}
-use Rattle.std.specs.Ordering.{MatchOrdering, is_le}
+use Rattle.std.specs.Ordering.{MatchOrdering, is_gt, is_le}
+use Rattle.registered_labels.specs.Collisions.{collisions, is_spelled}
+use Rattle.registered_labels.specs.Registered.{AreRegistered}
 use Rattle.variant_table.specs.Entries.{TableValue}
 use Rattle.variant_list.specs.Beginnings.{has_hope}
 use Rattle.variant_list.specs.Labels.{IsBelow, IsRising, label_cmp}
@@ -18,6 +20,7 @@ use Rattle.variant_list.proofs.TestedLaws.{accepted-tested}
 use Rattle.idn2_options.specs.Settings.{Settings}
 use Rattle.idn2_cli.specs.Answers.{Filter, filter_of, kept_to, lesser_label, nth, nth_if_given, stop_of, unless_kept, up_to, variants_after}
 use Rattle.idn2_cli.proofs.BlockSteps.{get-above, is_le-below, up_to-first, up_to-later}
+use Rattle.idn2_cli.proofs.CollisionSteps.{kept-collisions}
 use Rattle.idn2_cli.proofs.FilterLemmas.{accepted-short, filter_of-IsSound}
 
 -- ---- of two labels
@@ -159,3 +162,14 @@ within_tries o table label some whole = by_kept o.registered whole
         subst (λ (vs : List (List ℕ)). length (up_to (lesser_label (nth_if_given vs o.limit) (lesser_label (nth tested o.tries) (nth_if_given (visited f.hopeless None (candidates_among labels o.after)) o.steps))) vs) ≤ o.tries) (sym same)
         (few (nth_if_given (filter f.accepts tested) o.limit) (nth_if_given (visited f.hopeless None (candidates_among labels o.after)) o.steps))
     by_kept (Some registered) e = absurd (let clash : Some registered ≡ None = e in cc)
+
+-- one that is kept to registered labels counts no more than these
+pub within_registered : (o : Settings) (table : TableValue) (label : List ℕ) (kept : List (List ℕ)) → AreRegistered kept → o.registered ≡ Some kept
+    → (let f : Filter = filter_of table in length (up_to (stop_of f o (spelled table label)) (variants_after f o (spelled table label))) ≤ length kept)
+within_registered o table label kept are is =
+    let f : Filter = filter_of table in
+    let labels = spelled table label in
+    let found = collisions labels kept o.after in
+    let same : variants_after f o labels ≡ filter f.accepts found =
+    ap (λ (r : Option (List (List ℕ))). kept_to r (variants_among f.accepts labels o.after)) is ∙ kept-collisions f o labels kept are in
+    omega (arith, up_to_few (stop_of f o labels) (variants_after f o labels), ap length same, filter_few f.accepts found, filter_few (λ v. is_gt (label_cmp v o.after) && is_spelled labels v) kept)

@@ -1,5 +1,5 @@
 -- What is said of a line has small numbers and texts of UTF-8, so that its object is read back.
-use Rattle.std.proofs.Common.{◌≡◌, ◌≢◌, ℕ, zero, suc, ◌<◌, ◌-◌, ◌/◌, ◌%◌, ◌^◌, ◌==◌, Bool, true, false, ◌&&◌, ◌||◌, List, [], ◌∷◌, ◌++◌, map, codes, length, chars, cond, All, Option, Some, None, Result, Ok, Err, refl, sym, ap, subst, ◌∙◌, if◌then◌else◌, arith}
+use Rattle.std.proofs.Common.{◌≡◌, ℕ, zero, suc, ◌<◌, ◌-◌, ◌/◌, ◌%◌, ◌^◌, ◌==◌, Bool, true, false, ◌&&◌, ◌||◌, List, [], ◌∷◌, ◌++◌, map, codes, length, chars, cond, All, Option, Some, None, Result, Ok, Err, refl, sym, ap, subst, ◌∙◌, if◌then◌else◌, arith}
 use Rattle.std.specs.Prelude.{slice_get, Contains, IsUtf8}
 use Rattle.std.specs.Char.{is_ascii, to_ascii_lowercase}
 use Rattle.std.specs.List.{AllByRecursion, filter}
@@ -64,9 +64,9 @@ use Rattle.answer_json.proofs.OneLine.{print_from-clear}
 use Rattle.answer_json.proofs.Unicode.{answer_utf8, print_from-utf8}
 use Rattle.answer_json.proofs.Written.{answer_clear, answer_depth, answer_numbers}
 use Rattle.idn2_cli.specs.Answers.{Filter, LineAnswer, block, disposition, filter_of, if_admitted, kept_to, least_answer, lesser_label, line_answer, listing_answer, mode_answer, nth, nth_if_given, one_answer, requested_label, requested_text, stop_of, tested_after, u_label_of, unless_kept, up_to, variants_after, visited_in}
-use Rattle.idn2_cli.specs.ReadBack.{IsReadBack, CountsFew, SaidIsReadBack}
+use Rattle.idn2_cli.specs.ReadBack.{IsReadBack, IsKeptToFew, SaidIsReadBack}
 use Rattle.idn2_cli.specs.Said.{Said, LookedUp, Registered, Decoded, Listed, BlockEnd, Least, said_object}
-use Rattle.idn2_cli.proofs.ReadBackCounts.{within_tries}
+use Rattle.idn2_cli.proofs.ReadBackCounts.{within_registered, within_tries}
 use Rattle.idn2_cli.proofs.RegisteredLines.{stands_for-decoded, stands_for-itself}
 use Rattle.idn2_cli.proofs.TextAnswers.{utf8-of_chars}
 
@@ -134,6 +134,11 @@ a_label-utf8 label = by_test (is_all_ascii label) refl
         (list_all-from_AllPass is_ascii (encode label) (All-encode _ label (λ k d lt low. ascii_from _ low) refl digit_low))
 
 -- ---- what is said
+
+-- the end of a block counts few variants
+abbrev pub CountsFew : Said → Type 0
+CountsFew (BlockEnd count stop) = count < 2 ^ 64
+CountsFew _ = Unit {0}
 
 -- its texts are UTF-8
 abbrev pub IsText : Option (List ℕ) → Type 0
@@ -378,68 +383,62 @@ body-texts mode o table (Some bytes) said sound is = by_tests (is_utf8 bytes) re
 
 -- ---- counts
 
--- where a listing is kept to no labels, it counts few variants
-abbrev IsFew : Settings → Said → Type 0
-IsFew o s = o.registered ≡ None → CountsFew s
-
-one-few : (o : Settings) (of : List ℕ → Said) → ((t : List ℕ) → CountsFew (of t)) → (answer : LabelAnswer) (said : List Said) → one_answer of answer ≡ Ok said → AllByRecursion (IsFew o) said
-one-few o of few (Ok t) said is = subst (AllByRecursion (IsFew o)) (let one : of t ∷ [] ≡ said = cc in one) ((λ e. few t), tt)
+one-few : (o : Settings) (of : List ℕ → Said) → ((t : List ℕ) → CountsFew (of t)) → (answer : LabelAnswer) (said : List Said) → one_answer of answer ≡ Ok said → AllByRecursion CountsFew said
+one-few o of few (Ok t) said is = subst (AllByRecursion CountsFew) (let one : of t ∷ [] ≡ said = cc in one) (few t, tt)
 one-few o of few (Err refusal) said is = absurd (let clash : Err refusal ≡ Ok said = is in cc)
 
-listed-few : (o : Settings) (field : List ℕ → Option Disposition) (vs : List (List ℕ)) (n : ℕ) (stop : Option (List ℕ)) → (o.registered ≡ None → n < 2 ^ 64) → AllByRecursion (IsFew o) (map (λ v. Listed (field v) v) vs ++ BlockEnd n stop ∷ [])
+listed-few : (o : Settings) (field : List ℕ → Option Disposition) (vs : List (List ℕ)) (n : ℕ) (stop : Option (List ℕ)) → n < 2 ^ 64 → AllByRecursion CountsFew (map (λ v. Listed (field v) v) vs ++ BlockEnd n stop ∷ [])
 listed-few o field [] n stop few = (few, tt)
-listed-few o field (v ∷ vs) n stop few = ((λ e. tt), listed-few o field vs n stop few)
+listed-few o field (v ∷ vs) n stop few = (tt, listed-few o field vs n stop few)
 
-block-few : (o : Settings) (table : TableValue) (label : List ℕ) → IsCount o.tries → AllByRecursion (IsFew o) (block o table label)
-block-few o table label tries =
+block-few : (o : Settings) (table : TableValue) (label : List ℕ) → IsCount o.tries → IsKeptToFew o.registered → AllByRecursion CountsFew (block o table label)
+block-few o table label tries kept =
     let f : Filter = filter_of table in
     let labels = spelled table label in
     let stop = stop_of f o labels in
     listed-few o (disposition table label) (up_to stop (variants_after f o labels)) (length (up_to stop (variants_after f o labels))) stop
-    (λ e. omega (arith, within_tries o table label tries.0 e, tries.1))
+    (by_kept o.registered refl kept)
+  where
+    by_kept : (r : Option (List (List ℕ))) → o.registered ≡ r → IsKeptToFew r → length (up_to (stop_of (filter_of table) o (spelled table label)) (variants_after (filter_of table) o (spelled table label))) < 2 ^ 64
+    by_kept None e k = omega (arith, within_tries o table label tries.0 e, tries.1)
+    by_kept (Some registered) e k = omega (arith, within_registered o table label registered k.0 e, k.1)
 
-admitted-few : (o : Settings) (table : TableValue) (label : List ℕ) (told said : List Said) → AllByRecursion (IsFew o) told → if_admitted table label told ≡ Ok said → AllByRecursion (IsFew o) said
+admitted-few : (o : Settings) (table : TableValue) (label : List ℕ) (told said : List Said) → AllByRecursion CountsFew told → if_admitted table label told ≡ Ok said → AllByRecursion CountsFew said
 admitted-few o table label told said few is = by_tests (is_admitted table label) (is_made_of_sources table label) is
   where
-    by_tests : (admitted made : Bool) → (let answer : LineAnswer = if admitted then Ok told else (if made then Err NotValid else Err NotInTable) in answer) ≡ Ok said → AllByRecursion (IsFew o) said
-    by_tests true made same = subst (AllByRecursion (IsFew o)) (let one : told ≡ said = cc in one) few
+    by_tests : (admitted made : Bool) → (let answer : LineAnswer = if admitted then Ok told else (if made then Err NotValid else Err NotInTable) in answer) ≡ Ok said → AllByRecursion CountsFew said
+    by_tests true made same = subst (AllByRecursion CountsFew) (let one : told ≡ said = cc in one) few
     by_tests false true same = absurd (let clash : Err NotValid ≡ Ok said = same in cc)
     by_tests false false same = absurd (let clash : Err NotInTable ≡ Ok said = same in cc)
 
-mode-few : (mode : Mode) (o : Settings) (table : TableValue) (points : List ℕ) (said : List Said) → IsCount o.tries → mode_answer mode o table points ≡ Ok said → AllByRecursion (IsFew o) said
-mode-few Lookup o table points said tries is = one-few o LookedUp (λ t. tt) (lookup_answer points o.std3) said is
-mode-few Register o table points said tries is = one-few o (Registered (u_label_of points)) (λ t. tt) (register_answer points) said is
-mode-few Decode o table points said tries is = one-few o Decoded (λ t. tt) (in_utf8 (decode_answer points)) said is
-mode-few Variants o table points said tries is =
-    admitted-few o table points (block o table points) said (block-few o table points tries) (unless-texts (first_fault points) (listing_answer o table points) said is)
-mode-few Jump o table points said tries is =
+mode-few : (mode : Mode) (o : Settings) (table : TableValue) (points : List ℕ) (said : List Said) → IsCount o.tries → IsKeptToFew o.registered → mode_answer mode o table points ≡ Ok said → AllByRecursion CountsFew said
+mode-few Lookup o table points said tries kept is = one-few o LookedUp (λ t. tt) (lookup_answer points o.std3) said is
+mode-few Register o table points said tries kept is = one-few o (Registered (u_label_of points)) (λ t. tt) (register_answer points) said is
+mode-few Decode o table points said tries kept is = one-few o Decoded (λ t. tt) (in_utf8 (decode_answer points)) said is
+mode-few Variants o table points said tries kept is =
+    admitted-few o table points (block o table points) said (block-few o table points tries kept) (unless-texts (first_fault points) (listing_answer o table points) said is)
+mode-few Jump o table points said tries kept is =
     let label = requested_label points in
     let request = requested_text points in
-    admitted-few o table label (Least (slice_get (candidates_from table label request) 0) ∷ []) said ((λ e. tt), tt)
+    admitted-few o table label (Least (slice_get (candidates_from table label request) 0) ∷ []) said (tt, tt)
     (unless-texts (first_fault label) (least_answer table label request) said is)
-mode-few CheckTable o table points said tries is = subst (AllByRecursion (IsFew o)) (let one : [] ≡ said = cc in one) tt
+mode-few CheckTable o table points said tries kept is = subst (AllByRecursion CountsFew) (let one : [] ≡ said = cc in one) tt
 
-body-few : (mode : Mode) (o : Settings) (table : TableValue) (body : Option (List ℕ)) (said : List Said) → IsCount o.tries → line_answer (mode_answer mode o table) body ≡ Ok said → AllByRecursion (IsFew o) said
-body-few mode o table None said tries is = absurd (let clash : Err LineTooLong ≡ Ok said = is in cc)
-body-few mode o table (Some bytes) said tries is = by_tests (is_utf8 bytes) (length bytes == 0) is
+body-few : (mode : Mode) (o : Settings) (table : TableValue) (body : Option (List ℕ)) (said : List Said) → IsCount o.tries → IsKeptToFew o.registered → line_answer (mode_answer mode o table) body ≡ Ok said → AllByRecursion CountsFew said
+body-few mode o table None said tries kept is = absurd (let clash : Err LineTooLong ≡ Ok said = is in cc)
+body-few mode o table (Some bytes) said tries kept is = by_tests (is_utf8 bytes) (length bytes == 0) is
   where
-    by_tests : (utf8 empty : Bool) → (let answer : LineAnswer = if utf8 then (if empty then Err Empty else mode_answer mode o table (chars bytes)) else Err NotUtf8 in answer) ≡ Ok said → AllByRecursion (IsFew o) said
+    by_tests : (utf8 empty : Bool) → (let answer : LineAnswer = if utf8 then (if empty then Err Empty else mode_answer mode o table (chars bytes)) else Err NotUtf8 in answer) ≡ Ok said → AllByRecursion CountsFew said
     by_tests true true same = absurd (let clash : Err Empty ≡ Ok said = same in cc)
-    by_tests true false same = mode-few mode o table (chars bytes) said tries same
+    by_tests true false same = mode-few mode o table (chars bytes) said tries kept same
     by_tests false empty same = absurd (let clash : Err NotUtf8 ≡ Ok said = same in cc)
 
--- kept to labels or not
-few-or : (registered : Option (List (List ℕ))) (s : Said) → (registered ≡ None → CountsFew s) → (registered ≢ None → CountsFew s) → CountsFew s
-few-or None s few kept = few refl
-few-or (Some labels) s few kept = kept (λ e. let clash : Some labels ≡ None = e in cc)
-
-module _ (o : Settings) (line : Numbered) (small : line.number < 2 ^ 64) where
-  all_read_back : (said : List Said) → AllByRecursion HasTexts said → AllByRecursion (IsFew o) said
-      → AllByRecursion (λ s. (o.registered ≢ None → CountsFew s) → IsReadBack (said_object line.number (told_of line.body) s)) said
+module _ (line : Numbered) (small : line.number < 2 ^ 64) where
+  all_read_back : (said : List Said) → AllByRecursion HasTexts said → AllByRecursion CountsFew said → AllByRecursion (λ s. IsReadBack (said_object line.number (told_of line.body) s)) said
   all_read_back [] h few = tt
-  all_read_back (s ∷ said) h few = ((λ kept. said_good line small s h.0 (few-or o.registered s few.0 kept)), all_read_back said h.1 few.1)
+  all_read_back (s ∷ said) h few = (said_good line small s h.0 few.0, all_read_back said h.1 few.1)
 
 pub said_read_back : SaidIsReadBack
-said_read_back mode o table line said sound tries small is =
-    All-from_recursion (λ s. (o.registered ≢ None → CountsFew s) → IsReadBack (said_object line.number (told_of line.body) s)) said
-    (all_read_back o line small said (body-texts mode o table line.body said sound is) (body-few mode o table line.body said tries is))
+said_read_back mode o table line said sound tries kept small is =
+    All-from_recursion (λ s. IsReadBack (said_object line.number (told_of line.body) s)) said
+    (all_read_back line small said (body-texts mode o table line.body said sound is) (body-few mode o table line.body said tries kept is))

@@ -9,6 +9,7 @@ use Rattle.idn_cause.specs.declared.a_label.ALabelCause.{ALabelCause}
 use Rattle.idn_cause.specs.declared.a_label.ALabelCause.TheVariants.{Decoded}
 use Rattle.idn_cause.specs.declared.query.LengthCause.{LengthCause}
 use Rattle.idn_cause.specs.declared.query.LengthCause.TheVariants.{LabelOctets, NameOctets}
+use Rattle.registered_labels.specs.Registered.{AreRegistered}
 use Rattle.variant_table.specs.Entries.{TableValue}
 use Rattle.variant_table.specs.Gaps.{gaps_of}
 use Rattle.variant_table.specs.declared.fault.TableFault.{TableFault}
@@ -27,7 +28,7 @@ use Rattle.idn2_options.specs.declared.command_line.mode.Mode.TheVariants.{Check
 use Rattle.idn2_cli.specs.Answers.{line_answer, mode_answer}
 use Rattle.idn2_cli.specs.CauseDetails.{told_details}
 use Rattle.idn2_cli.specs.Explained.{body_cause, explained_in}
-use Rattle.idn2_cli.specs.Said.{Said, BlockEnd, finding_object, said_object}
+use Rattle.idn2_cli.specs.Said.{Said, finding_object, said_object}
 use Rattle.idn2_cli.specs.TableCauses.{fault_cause, told_if}
 use Rattle.idn2_cli.specs.Transcript.{check_findings}
 use Rattle.idn2_cli.specs.WrongLines.{told_of_wrong_line}
@@ -40,18 +41,17 @@ pub record IsReadBack (answer : Answer) : Type 0 where
   pub one_line : is_clear (text_of (json_of answer)) ≡ true
   pub unicode : IsUtf8 (text_of (json_of answer))
 
--- the end of a block counts fewer than 2 ^ 64 variants
-abbrev pub CountsFew : Said → Type 0
-CountsFew (BlockEnd count stop) = count < 2 ^ 64
-CountsFew _ = Unit {0}
+-- a listing is whole, or kept to registered labels, of which there are fewer than 2 ^ 64
+abbrev pub IsKeptToFew : Option (List (List ℕ)) → Type 0
+IsKeptToFew None = Unit {0}
+IsKeptToFew (Some labels) = AreRegistered labels × (length labels < 2 ^ 64)
 
--- each object that a mode says in answer to a line is read back, whatever the line holds, if its number is below 2 ^ 64. A listing
--- counts no more variants than it has tries, unless it is kept to registered labels
+-- each object that a mode says in answer to a line is read back, whatever the line holds, if its number is below 2 ^ 64
 abbrev pub SaidIsReadBack : Type 0
 SaidIsReadBack =
-    (mode : Mode) (o : Settings) (table : TableValue) (line : Numbered) (said : List Said) → IsSound table → IsCount o.tries → line.number < 2 ^ 64
-    → line_answer (mode_answer mode o table) line.body ≡ Ok said
-    → All (λ s. (o.registered ≢ None → CountsFew s) → IsReadBack (said_object line.number (told_of line.body) s)) said
+    (mode : Mode) (o : Settings) (table : TableValue) (line : Numbered) (said : List Said) → IsSound table → IsCount o.tries → IsKeptToFew o.registered
+    → line.number < 2 ^ 64 → line_answer (mode_answer mode o table) line.body ≡ Ok said
+    → All (λ s. IsReadBack (said_object line.number (told_of line.body) s)) said
 
 -- ---- refusals
 

@@ -51,7 +51,7 @@ pub fn forms_say_the_same()
 {}
 
 /// Each object in answer to a line is read back by the grammar of JSON as it is meant, is one line, and is UTF-8, whatever
-/// the line holds. The number of the line is below 2^64; so is the count of a listing that is kept to registered labels.
+/// the line holds. The number of the line is below 2^64; so is that of the registered labels to which a listing is kept.
 pub fn said_is_read_back()
     ensures { SaidIsReadBack }
 {}
