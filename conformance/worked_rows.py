@@ -244,10 +244,12 @@ def program_answer(program, words, given, files):
 
 
 def answers(run, program, words, given, files):
-    """Who was asked, and the answer: the second writing where it can tell, and the program where it is built."""
+    """Who was asked, and the answer: the second writing where it can tell, which has no objects, and the program where it is
+    built."""
     try:
-        output, messages, status = run.answer(words, given, files)
-        yield "the second writing", (output.decode(), messages.decode(), status)
+        if "--json" not in words:
+            output, messages, status = run.answer(words, given, files)
+            yield "the second writing", (output.decode(), messages.decode(), status)
     except Unknown:
         pass
     if program.exists():
