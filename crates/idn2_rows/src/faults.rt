@@ -236,7 +236,7 @@ fn assert_stops(
         let given = Given {
             words: case.words,
             table: case.table,
-            registered: None,
+            registered: b"",
             input: &input,
             piece,
             fail_at,
@@ -306,7 +306,7 @@ fn read_fails_after_half_a_line(rt: HostRuntime) -> Result<(), Fail> {
         let given = Given {
             words: VARIANTS,
             table: DOUBLED,
-            registered: None,
+            registered: b"",
             input: b"aa\naa",
             piece,
             fail_at,
@@ -327,7 +327,7 @@ fn both_writers_fail(rt: HostRuntime) -> Result<(), Fail> {
         let given = Given {
             words: VARIANTS,
             table: SHARP_S,
-            registered: None,
+            registered: b"",
             input: b"sss\n",
             piece: ROOM,
             fail_at: 0,

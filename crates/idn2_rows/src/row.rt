@@ -21,8 +21,8 @@ pub struct Given<'a> {
     pub words: &'a [&'a str],
     /// The text of the table.
     pub table: &'a [u8],
-    /// The registered labels, if there are some.
-    pub registered: Option<&'a [u8]>,
+    /// The text of the registered labels. It is read if the words name it.
+    pub registered: &'a [u8],
     /// The lines.
     pub input: &'a [u8],
     /// How many bytes a read or a write moves at most, from 1.
@@ -40,7 +40,7 @@ pub struct Given<'a> {
 pub struct Row {
     pub words: &'static [&'static str],
     pub table: &'static [u8],
-    pub registered: Option<&'static [u8]>,
+    pub registered: &'static [u8],
     pub input: &'static str,
     pub output: &'static str,
     pub messages: &'static str,
@@ -125,21 +125,20 @@ fn served(
     let mut err = Device::new(StopWriter::new(told, piece));
     let reader = StopReader::new(given.input, piece, given.fail_at, given.once);
     let mut input = Lines::new(Device::new(reader));
-    let status = match given.registered {
-        Some(text) => {
-            let labels = RegisteredLabels::read(alloc, text)?;
-            let among = Some(&labels);
-            run_among(
-                alloc,
-                &options,
-                given.table,
-                among,
-                &mut input,
-                &mut out,
-                &mut err,
-            )
-        }
-        None => run(alloc, &options, given.table, &mut input, &mut out, &mut err),
+    let status = if options.among.is_some() {
+        let labels = RegisteredLabels::read(alloc, given.registered)?;
+        let among = Some(&labels);
+        run_among(
+            alloc,
+            &options,
+            given.table,
+            among,
+            &mut input,
+            &mut out,
+            &mut err,
+        )
+    } else {
+        run(alloc, &options, given.table, &mut input, &mut out, &mut err)
     };
     Ok((out.inner().taken(), err.inner().taken(), status.code()))
 }

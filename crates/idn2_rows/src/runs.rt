@@ -13,7 +13,7 @@ const ROWS: [Row; 12] = [
     Row {
         words: &["-r"],
         table: b"",
-        registered: None,
+        registered: b"",
         input: "faß\nFaß\nabc\n",
         output: "xn--fa-hia\nabc\n",
         messages: "idn2: line 2: 10 disallowed code point\n",
@@ -22,7 +22,7 @@ const ROWS: [Row; 12] = [
     Row {
         words: &["-r", "--explain"],
         table: b"",
-        registered: None,
+        registered: b"",
         input: "Faß\n",
         output: "",
         messages: "idn2: line 1: 10 disallowed code point: U+0046 at place 1: RFC 5892 2.2 Unstable\n",
@@ -31,7 +31,7 @@ const ROWS: [Row; 12] = [
     Row {
         words: &["-r", "--json"],
         table: b"",
-        registered: None,
+        registered: b"",
         input: "faß\n\n",
         output: "{\"line\":1,\"input\":\"faß\",\"ulabel\":\"faß\",\"alabel\":\"xn--fa-hia\"}\n{\"line\":2,\"input\":\"\",\"refusal\":{\"number\":3,\"text\":\"empty\"}}\n",
         messages: "",
@@ -40,7 +40,7 @@ const ROWS: [Row; 12] = [
     Row {
         words: &["-d"],
         table: b"",
-        registered: None,
+        registered: b"",
         input: "xn--fiqs8s.example\nXN--FA-HIA.de\n",
         output: "中国.example\nfaß.de\n",
         messages: "",
@@ -49,7 +49,7 @@ const ROWS: [Row; 12] = [
     Row {
         words: &[],
         table: b"",
-        registered: None,
+        registered: b"",
         input: "Faß.de\n",
         output: "xn--fa-hia.de\n",
         messages: "",
@@ -59,7 +59,7 @@ const ROWS: [Row; 12] = [
     Row {
         words: &["--variants", "t"],
         table: b"0061|0061-0061\n",
-        registered: None,
+        registered: b"",
         input: "\r\naa\r\nab\naa",
         output: "aa\taa\naaa\taaa\naaaa\taaaa\n#end 3\naa\taa\naaa\taaa\naaaa\taaaa\n#end 3\n",
         messages: "idn2: line 1: 3 empty\nidn2: line 3: 40 not made of table entries\n",
@@ -69,7 +69,7 @@ const ROWS: [Row; 12] = [
     Row {
         words: &["--variants", "t", "--after", "aa", "--limit", "2"],
         table: b"%version 2\r\n0061|!0062\n0061-0061|0062-0062\n",
-        registered: None,
+        registered: b"",
         input: "aa\n",
         output: "ab\tab\tblocked\nba\tba\tblocked\n#stop 2 ba\n",
         messages: "",
@@ -78,7 +78,7 @@ const ROWS: [Row; 12] = [
     Row {
         words: &["--variants", "t", "--among", "r"],
         table: SHARP_S,
-        registered: Some(b"rest\nstrasse\n"),
+        registered: b"rest\nstrasse\n",
         input: "straße\n",
         output: "strasse\tstrasse\n#end 1\n",
         messages: "",
@@ -87,7 +87,7 @@ const ROWS: [Row; 12] = [
     Row {
         words: &["--check-table", "t"],
         table: b"0061|0061-0061\n",
-        registered: None,
+        registered: b"",
         input: "not read\n",
         output: "missing 0061-0061|0061\n#table 1 1\n",
         messages: "",
@@ -96,7 +96,7 @@ const ROWS: [Row; 12] = [
     Row {
         words: &["--variants", "t"],
         table: b"0061\n0061\n",
-        registered: None,
+        registered: b"",
         input: "Aa\n",
         output: "",
         messages: "idn2: table line 2: 31 source given twice\n",
@@ -105,7 +105,7 @@ const ROWS: [Row; 12] = [
     Row {
         words: &["--ruleset", "t"],
         table: SIGNS,
-        registered: None,
+        registered: b"",
         input: "क\u{93C}\u{93E}\nक\u{93E}\u{93E}\nकa\n",
         output: "क\u{93C}\u{93E}\txn--11b2fg\tallocatable\n#end 1\n",
         messages: "idn2: line 2: 41 not valid under the table\nidn2: line 3: 40 not made of table entries\n",
@@ -114,7 +114,7 @@ const ROWS: [Row; 12] = [
     Row {
         words: &["--variants", "t", "--jump"],
         table: SHARP_S,
-        registered: None,
+        registered: b"",
         input: "sss\tssss\n",
         output: "sß\n",
         messages: "",
