@@ -10,9 +10,6 @@ SIGNS = "%version 3\n%set C 0915..0939\n%rule sign @C 093C? _\n0915..0939\n093C 
 # Digits of one kind, those of the other kind being blocked variants.
 DIGITS = ("%version 3\n%never (0030 / 0031) .* (0966 / 0967) / (0966 / 0967) .* (0030 / 0031)\n"
           "0030|!0966\n0031|!0967\n0966|!0030\n0967|!0031\n")
-# Simplified and traditional letters, each with its own.
-SCRIPTS = ("%version 3\n%tag simp\n%tag trad\n4E2D\n56FD as simp|570B as trad\n570B as trad|56FD as simp\n"
-           "5B66 as simp|5B78 as trad\n5B78 as trad|5B66 as simp\n")
 # A letter from outside, and one that only ends a label.
 ENDS = "%version 3\n%rule end _ $\n0061|!0430\n0062|0063 when end\n0063|0062\n!0430|!0061\n"
 
@@ -117,12 +114,6 @@ LISTED = [
     # The sharp s and the double s are variants of each other: either label lists both.
     (LIST, SHARP_S, "strasse\nstraße\n",
      "strasse\tstrasse\nstraße\txn--strae-oqa\n#end 2\nstrasse\tstrasse\nstraße\txn--strae-oqa\n#end 2\n", "", 0),
-    # Two segmentations of sss overlap: both count.
-    (LIST, SHARP_S, "sss\n",
-     "sss\tsss\nsß\txn--s-qfa\nßs\txn--s-pfa\n#end 3\n", "", 0),
-    # The label aaa arises in two ways, and is listed once.
-    (LIST, DOUBLED, "aa\n",
-     AA, "", 0),
     # Three segmentations, and one label.
     (LIST, "0061\n0061-0061\n", "aaa\n",
      "aaa\taaa\n#end 1\n", "", 0),
@@ -243,7 +234,6 @@ CHECKED = [
     ("0061|0062\n0062|0061:0063\n0063|0062\n", "missing 0061|0063\nmissing 0063|0061\n#table 3 2\n"),
     ("0061|0062\n0062|0061\n", "#table 2 0\n"),
     ("0063|0062\n0062|0061\n", "missing 0061|0062\nmissing 0062|0063\nmissing 0063|0061\n#table 2 3\n"),
-    ("0061|0062:0063\n", "missing 0062|0061\nmissing 0063|0061\n#table 1 2\n"),
     ("", "#table 0 0\n"),
     ("u+0061 | 0062 : 0063-0064\r\n", "missing 0062|0061\nmissing 0063-0064|0061\n#table 1 2\n"),
     # A blocked variant counts for gaps as any other.
@@ -260,7 +250,6 @@ FAULTY = [
     ("0041|0041\n", 1, "33 code point not allowed in a table"),
     ("0041\n", 1, "33 code point not allowed in a table"),
     ("-".join(["0041"] * 9) + "\n", 1, "34 table limit"),
-    ("%version 3\n", 1, "30 table syntax"),
     (SHARP_S[:-len("F|0073-0073\n")], 7, "30 table syntax"),
 ]
 
@@ -269,9 +258,6 @@ OF_VERSION_2 = [
     # A label of two entries, and one that has none.
     (LIST, "%version 2\n0061..0063\n0078|!0079:007A\n", "ax\nay\n",
      "ax\tax\tallocatable\nay\tay\tblocked\naz\taz\tallocatable\n#end 3\n", refused((2, "40 not made of table entries")), 1),
-    # The label bb is blocked by one segmentation, and allocatable by the other.
-    (LIST, "%version 2\n0061|!0062\n0061-0061|0062-0062\n", "aa\n",
-     "aa\taa\tallocatable\nab\tab\tblocked\nba\tba\tblocked\nbb\tbb\tallocatable\n#end 4\n", "", 0),
     # The listing begins after a label, and ends at a blocked one.
     ([*LIST, "--after", "aa", "--limit", "2"], "%version 2\r\n0061|!0062\n0061-0061|0062-0062\n", "aa\n",
      "ab\tab\tblocked\nba\tba\tblocked\n#stop 2 ba\n", "", 0),
@@ -296,11 +282,6 @@ OF_RULESETS = [
      "", refused((1, "41 not valid under the table: demand 1, never")), 1),
     ([*RULESET, "--json"], DIGITS, "0१\n",
      '{"line":1,"input":"0१","refusal":{"number":41,"text":"not valid under the table","demand":1,"kind":"never"}}\n', "", 1),
-    # A variant is allocatable if one sub-table has all of its letters.
-    (RULESET, SCRIPTS, "国學\n",
-     "国学\txn--vcso6h\tallocatable\n国學\txn--vcs27h\tallocatable\n"
-     "國学\txn--9cs44h\tblocked\n國學\txn--9csw6h\tallocatable\n#end 4\n", "", 0),
-    (["--check-ruleset", "t"], SCRIPTS, "", "#table 5 0\n", "", 0),
     # A condition of a variant is asked in the label that is given; an outside source may only arise.
     (RULESET, ENDS, "ab\nba\nаb\n",
      "ab\tab\tallocatable\nac\tac\tallocatable\nаb\txn--b-7sb\tblocked\nаc\txn--c-7sb\tblocked\n#end 4\n"

@@ -21,10 +21,9 @@ import run_rows
 from notation import canonical, reading
 from notation.faults import TEXTS as FAULT_TEXTS
 from registration import Registration
+from run_rows import DOUBLED, SHARP_S
 from second_run import TEXTS, Run, Unknown
 from unicode_data import Classes
-
-SHARP_S = "0061\n0065\n0072\n0073\n0074\n0073-0073|00DF\n00DF|0073-0073\n"
 
 # The words before the table's file, the table, the label, and what is printed.
 LISTINGS = [
@@ -33,13 +32,15 @@ LISTINGS = [
     ([], "%version 2\n0061|!0062\n0061-0061|0062-0062\n", "aa",
      "aa\taa\tallocatable\nab\tab\tblocked\nba\tba\tblocked\nbb\tbb\tallocatable\n#end 4\n"),
     ([], "0061|0062\n0061-0061|0062-0062\n", "aa", "aa\taa\nab\tab\nba\tba\nbb\tbb\n#end 4\n"),
+    # Two segmentations of sss overlap: both count.
     ([], SHARP_S, "sss", "sss\tsss\nsß\txn--s-qfa\nßs\txn--s-pfa\n#end 3\n"),
     (["--limit", "2"], "%version 2\n" + SHARP_S, "sss", "sss\tsss\tallocatable\nsß\txn--s-qfa\tallocatable\n#stop 2 sß\n"),
     (["--after=sß"], "%version 2\n" + SHARP_S, "sss", "ßs\txn--s-pfa\tallocatable\n#end 1\n"),
     # The label itself is never blocked.
     ([], "%version 2\r\n0061|!0062\r\n0062|!0061\r\n", "ab",
      "aa\taa\tblocked\nab\tab\tallocatable\nba\tba\tblocked\nbb\tbb\tblocked\n#end 4\n"),
-    ([], "0061|0061-0061\n", "aa", "aa\taa\naaa\taaa\naaaa\taaaa\n#end 3\n"),
+    # The label aaa arises in two ways, and is listed once.
+    ([], DOUBLED, "aa", "aa\taa\naaa\taaa\naaaa\taaaa\n#end 3\n"),
 ]
 
 GERMAN = (HERE.parent / "tables/german.txt").read_text(encoding="utf-8")
