@@ -93,7 +93,16 @@ COLLISIONS = [
     # What a table with a gap tells depends on which of the two labels is asked for.
     (GAP, "b\n", [], "a\n", ("b\tb\n#end 1\n", "", 0)),
     (GAP, "a\n", [], "b\n", ("#end 0\n", "", 0)),
+    # 2^62 variants, none of them registered.
     (TWO_TO_THE_62, "abba\nabc\nbac\nc\nzoo\n", [], "a" * 62 + "\n", ("#end 0\n", "", 0)),
+    # A registered label that the table doesn't cover is no fault of the file.
+    (GERMAN, "haus\nстол\n", [], "haus\n", ("haus\thaus\tallocatable\n#end 1\n", "", 0)),
+    # The text may be longer than any label.
+    (GERMAN, "haus\nstrasse\n", ["--after", "haus" + "a" * 1000], "haus\nstraße\n",
+     ("#end 0\nstrasse\tstrasse\tallocatable\n#end 1\n", "", 0)),
+    (GERMAN, "a" * 63 + "\n", ["--after", "a" * 64], "a" * 63 + "\n", ("#end 0\n", "", 0)),
+    (GERMAN, "a" * 63 + "\n", ["--after", "a" * 62], "a" * 63 + "\n",
+     ("a" * 63 + "\t" + "a" * 63 + "\tallocatable\n#end 1\n", "", 0)),
     (GERMAN, "haus\n", ["--tries", "5"], "haus\n", ("", "idn2: 50 usage\n", 2)),
     (GERMAN, None, [], "haus\n", ("", "idn2: 60 read fault\n", 3)),
     # A faulty table is told of after the registered labels, and a file that isn't there before both.

@@ -13,54 +13,9 @@ import sys
 
 from program import LIMIT, PROGRAM, TABLES, expect, is_registrable, run, run_tests, spelled, table_file
 
-GERMAN, HAN = (os.path.join(TABLES, name) for name in ("german.txt", "han.txt"))
+GERMAN = os.path.join(TABLES, "german.txt")
 ALIKE = "%version 2\n0030\n006F|!0030\n0073\n0074\n0073-0073|00DF\n"
-# 'a' spells 'b', and 'b' doesn't spell 'a'.
-GAP = "0061|0062\n0062\n"
 LETTERS = "0061|0062\n0062|0061\n" + "".join(f"{point:04X}\n" for point in range(0x63, 0x7B))
-OVERLAPPING = "sss\nsß\nßs\n"
-
-# (table, registered labels, options, input, output, messages): what is read and answered.
-LISTINGS = (
-    (GERMAN, "haus\nstrasse\n", "", "straße\n", "strasse\tstrasse\tallocatable\n#end 1\n", ""),
-    (GERMAN, "strasse\nstraße\n", "", "strasse\n",
-     "strasse\tstrasse\tallocatable\nstraße\txn--strae-oqa\tallocatable\n#end 2\n", ""),
-    # A label spells itself.
-    (GERMAN, "haus\n", "", "haus\n", "haus\thaus\tallocatable\n#end 1\n", ""),
-    (GERMAN, "haus\nstrasse\n", "", "maus\n", "#end 0\n", ""),
-    # Both are variants of 'sss', and neither is one of the other.
-    (GERMAN, "ßs\n", "", "sß\n", "#end 0\n", ""),
-    (GERMAN, OVERLAPPING, "--limit 2", "sss\n",
-     "sss\tsss\tallocatable\nsß\txn--s-qfa\tallocatable\n#stop 2 sß\n", ""),
-    (GERMAN, OVERLAPPING, "--after sß", "sss\n", "ßs\txn--s-pfa\tallocatable\n#end 1\n", ""),
-    # The text need not be a label that is spelled.
-    (GERMAN, OVERLAPPING, "--after sz", "sss\n",
-     "sß\txn--s-qfa\tallocatable\nßs\txn--s-pfa\tallocatable\n#end 2\n", ""),
-    # The limit is reached at the last one, and says so.
-    (GERMAN, "sss\nsß\n", "--limit 2", "sss\n",
-     "sss\tsss\tallocatable\nsß\txn--s-qfa\tallocatable\n#stop 2 sß\n", ""),
-    (GERMAN, "haus\nstrasse\n", "", "Haus\nhaus\nстол\nstraße\n",
-     "haus\thaus\tallocatable\n#end 1\nstrasse\tstrasse\tallocatable\n#end 1\n",
-     "idn2: line 1: 10 disallowed code point\nidn2: line 3: 40 not made of table entries\n"),
-    # A blocked variant that is registered counts as any other.
-    (ALIKE, "t0ss\ntoß\n", "", "toss\n", "t0ss\tt0ss\tblocked\ntoß\txn--to-hia\tallocatable\n#end 2\n", ""),
-    (HAN, "中国\n中國\n", "", "中國\n", "中国\txn--fiqs8s\n中國\txn--fiqz9s\n#end 2\n", ""),
-    (GERMAN, "", "", "haus\n", "#end 0\n", ""),
-    # A carriage return at the end of a line doesn't count, and the last line needs no line feed.
-    (GERMAN, "haus\r\nstrasse", "", "straße\n", "strasse\tstrasse\tallocatable\n#end 1\n", ""),
-    (GAP, "b\n", "", "a\n", "b\tb\n#end 1\n", ""),
-    (GAP, "a\n", "", "b\n", "#end 0\n", ""),
-    # 2^62 variants, none of them registered.
-    (LETTERS, "abba\nabc\nbac\nc\nzoo\n", "", "a" * 62 + "\n", "#end 0\n", ""),
-    # A registered label that the table doesn't cover is no fault of the file.
-    (GERMAN, "haus\nстол\n", "", "haus\n", "haus\thaus\tallocatable\n#end 1\n", ""),
-    # The text may be longer than any label.
-    (GERMAN, "haus\nstrasse\n", "--after haus" + "a" * 1000, "haus\nstraße\n",
-     "#end 0\nstrasse\tstrasse\tallocatable\n#end 1\n", ""),
-    (GERMAN, "a" * 63 + "\n", "--after " + "a" * 64, "a" * 63 + "\n", "#end 0\n", ""),
-    (GERMAN, "a" * 63 + "\n", "--after " + "a" * 62, "a" * 63 + "\n",
-     "a" * 63 + "\t" + "a" * 63 + "\tallocatable\n#end 1\n", ""),
-)
 
 # (registered labels, number of the line, number and text of its fault): files that are refused.
 FAULTS = (
@@ -142,13 +97,6 @@ def registered_file(folder, text):
 
 def lines_file(folder, labels):
     return registered_file(folder, "".join(label + "\n" for label in sorted({*labels})))
-
-
-def lists_the_variants_that_are_registered(folder):
-    for table, registered, options, given, output, messages in LISTINGS:
-        file = registered_file(folder, registered)
-        words = ["--variants", table_of(folder, table), "--among", file, *options.split()]
-        expect(words, given.encode(), output.encode(), messages.encode(), 1 if messages else 0)
 
 
 def refuses_a_file_by_its_first_wrong_line(folder):
@@ -486,7 +434,6 @@ def sees_a_collision_from_either_side(folder):
 
 
 TESTS = [
-    lists_the_variants_that_are_registered,
     refuses_a_file_by_its_first_wrong_line,
     measures_labels_as_another_program,
     compares_lines_by_their_bytes,
