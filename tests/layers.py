@@ -190,8 +190,8 @@ def names_what_is_in_other_files(folder):
 
 
 def has_a_row_for_each_module(folder):
-    """The tables of rooms have each module of their crate once."""
-    section = text_of("docs", "ARCHITECTURE.md").partition("\n## The rooms of each crate\n")[2].partition("\n## ")[0]
+    """The tables of modules have each module of their crate once."""
+    section = text_of("docs", "ARCHITECTURE.md").partition("\n## The modules of each crate\n")[2].partition("\n## ")[0]
     parts = re.findall(r"^`crates/(\w+)/src`:\n\n((?:\|.*\n)+)", section, re.MULTILINE)
     assert [crate for crate, _ in parts] == [crate for crate in crates() if crate != UNDRAWN], parts
     for crate, table in parts:
