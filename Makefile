@@ -47,6 +47,7 @@ test-crate:
 
 # The wrong bodies that the gate leaves out, of all crates or of those that CRATES names.
 wrong-bodies:
+	cd crates/idn2_cli && $(RT) all check --jobs $(LANES)
 	RT=$(RT) LANES=$(LANES) python3 tests/planted.py wrong-bodies $(CRATES)
 
 # The program, its manual page and its completions for bash, below $(DESTDIR)$(PREFIX), each under PROGRAM_NAME.

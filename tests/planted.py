@@ -9,9 +9,12 @@ refusal of its own there is tried again by itself. So is one that edits anything
 What refuses an edit is told after it: a goal in the code; or a proof that was written for the right code and no longer
 serves, which says less of the contract. An edit that is refused only since a proof names what it takes away says little: of
 wrong-bodies it counts as a failure; the gate tells it and goes on, as rt does for must-fail, and so where something else
-refuses the crate. One that is proved and one that doesn't compile are failures everywhere. Each check begins with what that
-of the right code kept; LANES is how many crates are tried side by side. What the edits of a crate took of the processor is
-told after them. The last line is 'N passed, M failed', and the exit status is 0 where nothing failed."""
+refuses the crate. One that is proved and one that doesn't compile are failures everywhere.
+
+The crates stand proved before: each check is made over the libraries that rt ci or rt check built of them in out/, and begins
+with what rt check kept there, if it did, and then with what the check before it left. LANES is how many crates are tried side
+by side. What the edits of a crate took of the processor is told after them. The last line is 'N passed, M failed', and the exit
+status is 0 where nothing failed."""
 
 import collections
 import concurrent.futures
@@ -31,8 +34,8 @@ CRATES = os.path.join(ROOT, "crates")
 # How many edits are planted at once, at most, 32 if MOST doesn't say: where one of them doesn't compile, all are tried again
 # one by one.
 MOST = int(os.environ.get("MOST", "32"))
-# Whether all crates were proved right before, as the gate does: what that kept is then what each check begins with.
-IS_PROVED = bool(os.environ.get("IS_PROVED"))
+# The kit, whose first page rt names.
+KIT = os.path.dirname(subprocess.run([os.environ.get("RT", "rt"), "doc"], stdout=subprocess.PIPE, encoding="utf-8", check=True).stdout.strip())
 # Whether a refusal by a name alone is a failure: before a release, but not in the gate.
 STRICT = sys.argv[1:2] == ["wrong-bodies"]
 
@@ -83,30 +86,46 @@ def read_edit(crate, path):
     return Edit(os.path.basename(path), pairs, frozenset() if None in bodies else frozenset(bodies))
 
 
-def batches_of(edits):
-    """Edits of different bodies, up to so many at once; what edits anything else stands alone."""
-    batches = []
-    for edit in edits:
-        room = next((batch for batch in batches if edit.bodies and len(batch) < MOST and batch[0].bodies
-                     and not any(edit.bodies & other.bodies for other in batch)), None)
-        if room is None:
-            batches.append([edit])
-        else:
-            room.append(edit)
-    return batches
+def batch_of(edits, most):
+    """The edits to be tried next: the first, and others of other bodies, up to so many. What edits anything but bodies is tried last, alone."""
+    batch = []
+    for edit in sorted(edits, key=lambda edit: not edit.bodies):
+        if not batch or edit.bodies and len(batch) < most and not any(edit.bodies & other.bodies for other in batch):
+            batch.append(edit)
+    return batch
 
 
-def needed_by(crate):
-    """The lines of crates.txt of the crate and of those that it stands on, by their names."""
-    lines = [line for line in text_of(os.path.join(ROOT, "crates.txt")).splitlines() if line[:1] not in ("", "#")]
-    needs = {line.split(":")[0]: line for line in lines}
-    found, left = {}, [crate]
+def uses():
+    """The libraries that each crate of crates.txt uses, by its name."""
+    lines = [line.split(":") for line in text_of(os.path.join(ROOT, "crates.txt")).splitlines() if line[:1] not in ("", "#")]
+    return {name: used.split() for name, used in lines}
+
+
+def libraries():
+    """The folder of the library that was built of each crate that it was built of."""
+    folders = {crate: os.path.join(CRATES, crate, "out", "rlib") for crate in os.listdir(CRATES)}
+    return {crate: folder for crate, folder in folders.items() if os.path.isfile(os.path.join(folder, f"{crate}.rlib", "format"))}
+
+
+def below(crate, used):
+    """The crates of the repository that a crate stands on."""
+    found, left = set(), [crate]
     while left:
-        name = left.pop()
-        if name in needs and name not in found:
-            found[name] = needs[name]
-            left += needs[name].split(":")[1].split()
+        more = [name for name in used[left.pop()] if name in used and name not in found]
+        found |= {*more}
+        left += more
     return found
+
+
+def check_of(crate, used, built):
+    """The command that checks a library over those that were built of the crates below it."""
+    command = [os.path.join(KIT, "bin", "rattle"), "check", "--crate-name", crate, "src/lib.rt", "--jobs", "1",
+               "--antt-project", f"{KIT}/rattle/logic/antt-project.json", "--logic-built", f"{KIT}/logic_built"]
+    for name in ["std", *used[crate]]:
+        command += ["--extern", f"{name}={built.get(name, f'{KIT}/rlibs')}/{name}.rlib"]
+    for folder in [f"{KIT}/rlibs", *(built[name] for name in sorted(below(crate, used)))]:
+        command += ["-L", f"dependency={folder}"]
+    return command
 
 
 def link_or_copy(source, target):
@@ -118,21 +137,21 @@ def link_or_copy(source, target):
 
 
 class Copy:
-    """A copy of a crate, with what it stands on, in which edits are planted."""
+    """A copy of a crate, in which edits are planted."""
 
-    def __init__(self, crate):
+    def __init__(self, crate, command):
         self.crate = crate
         self.folder = tempfile.mkdtemp(prefix="planted-")
-        needed = needed_by(crate)
-        with open(os.path.join(self.folder, "crates.txt"), "w", encoding="utf-8") as file:
-            file.writelines(line + "\n" for line in needed.values())
-        for name in needed:
-            shutil.copytree(os.path.join(CRATES, name), os.path.join(self.folder, "crates", name), copy_function=link_or_copy)
-        self.home = os.path.join(self.folder, "crates", crate)
-        self.work = os.path.join(self.home, "out", "incremental")
-        self.kept = os.path.join(self.folder, "kept")
+        self.work = os.path.join(self.folder, "incremental")
+        self.command = [*command, "--incremental", self.work]
         self.seconds = 0.0
-        shutil.rmtree(os.path.join(self.home, "must-fail"), ignore_errors=True)
+        for part in ("src", "specs", "proofs"):
+            shutil.copytree(os.path.join(CRATES, crate, part), os.path.join(self.folder, part))
+        kept = os.path.join(CRATES, crate, "out", "incremental")
+        if os.path.isdir(kept):
+            shutil.copytree(kept, self.work, copy_function=link_or_copy)
+        else:
+            os.mkdir(self.work)
 
     def __enter__(self):
         return self
@@ -140,22 +159,15 @@ class Copy:
     def __exit__(self, *_):
         shutil.rmtree(self.folder, ignore_errors=True)
 
-    def keep_work(self):
-        """Has each later check begin with what the last one kept, and not with what one of a wrong body left."""
-        shutil.copytree(self.work, self.kept, copy_function=link_or_copy)
-
-    def check(self, edits=()):
+    def check(self, edits):
         """What the check of the crate with these edits says: its status and its lines."""
-        if os.path.isdir(self.kept):
-            shutil.rmtree(self.work)
-            shutil.copytree(self.kept, self.work, copy_function=link_or_copy)
         texts = {}
         for edit in edits:
             for file, old, new in edit.pairs:
                 texts[file] = (texts.get(file) or text_of(os.path.join(CRATES, self.crate, file))).replace(old, new)
         for file, text in texts.items():
             self.write(file, text)
-        with subprocess.Popen([os.environ.get("RT", "rt"), "check"], cwd=self.home, stdin=subprocess.DEVNULL,
+        with subprocess.Popen(self.command, cwd=self.folder, stdin=subprocess.DEVNULL,
                               stdout=subprocess.PIPE, stderr=subprocess.STDOUT, encoding="utf-8", errors="replace") as ran:
             said = ran.stdout.read()
             _, status, used = os.wait4(ran.pid, 0)
@@ -166,7 +178,7 @@ class Copy:
         return ran.returncode, said.splitlines()
 
     def write(self, file, text):
-        with open(os.path.join(self.home, file), "w", encoding="utf-8") as it:
+        with open(os.path.join(self.folder, file), "w", encoding="utf-8") as it:
             it.write(text)
 
 
@@ -199,42 +211,52 @@ def proofs_of(edit, lines):
 
 
 def verdicts(copy, batch):
-    """(edit, whether it is refused, what is said of it) for each edit of a batch."""
+    """{the name of an edit: whether it is refused, what is said of it} for the edits of a batch that have a refusal of their own
+    there; for one that is alone in any case."""
     status, lines = copy.check(batch)
     unread = next((line for line in lines if UNREADABLE.search(line)), None)
+    found = {}
     for edit in batch:
         refusal = None if status == 0 or unread else refusal_of(edit, lines)
         named = None if unread else next(proofs_of(edit, lines), None)
         if refusal:
-            yield edit, True, refusal
+            found[edit.name] = True, refusal
         elif len(batch) > 1 and not named:
-            yield from verdicts(copy, [edit])
+            continue
         elif status == 0:
-            yield edit, False, "NOT REFUSED: the crate is still proved"
+            found[edit.name] = False, "NOT REFUSED: the crate is still proved"
         elif unread:
-            yield edit, False, f"it doesn't compile: {unread[:160]}"
+            found[edit.name] = False, f"it doesn't compile: {unread[:160]}"
         else:
             # what the prover says of code that it can't take, if it does
             told = next((line for line in lines if ": no proof: " in line), lines[-1] if lines else "")
             is_refused = not STRICT and any(line.startswith("logic=not-proved") for line in lines)
-            yield edit, is_refused, f"refused by a name alone: {': '.join(named)[:160]}" if named else f"no verdict: {told[:300]}"
+            found[edit.name] = is_refused, f"refused by a name alone: {': '.join(named)[:160]}" if named else f"no verdict: {told[:300]}"
+    return found
 
 
 def try_crate(crate, folder):
     """How many edits of a crate are refused, and how many are not."""
-    edits = [read_edit(crate, path) for path in sorted(glob.glob(os.path.join(CRATES, crate, folder, "*.edit")))]
-    passed = failed = 0
-    with Copy(crate) as copy:
-        if not IS_PROVED and copy.check()[0] != 0:
-            print(f"planted {crate}: it isn't proved as it stands", flush=True)
-            return 0, len(edits)
-        copy.keep_work()
-        for batch in batches_of(edits):
-            for edit, is_refused, said in verdicts(copy, batch):
-                passed, failed = passed + is_refused, failed + (not is_refused)
-                print(f"planted {crate}/{edit.name} ... {'ok' if is_refused else 'FAILED'}: {said}", flush=True)
-        print(f"planted {crate}: {len(edits)} in {copy.seconds:.0f} seconds of the processor", flush=True)
-    return passed, failed
+    edits = left = [read_edit(crate, path) for path in sorted(glob.glob(os.path.join(CRATES, crate, folder, "*.edit")))]
+    used, built = uses(), libraries()
+    if lacking := sorted(below(crate, used) - {*built}):
+        print(f"planted {crate}: NOT TRIED, since no library is built of {', '.join(lacking)}", flush=True)
+        return 0, len(edits)
+    passed = checks = 0
+    most = MOST
+    with Copy(crate, check_of(crate, used, built)) as copy:
+        while left:
+            batch = batch_of(left, most)
+            found = verdicts(copy, batch)
+            for name, (is_refused, said) in found.items():
+                passed += is_refused
+                print(f"planted {crate}/{name} ... {'ok' if is_refused else 'FAILED'}: {said}", flush=True)
+            # a function isn't checked that calls one that isn't proved: so the callers are refused once the wrong bodies that they call are
+            left = [edit for edit in left if edit.name not in found]
+            most = MOST if found else max(1, len(batch) // 2)
+            checks += 1
+        print(f"planted {crate}: {len(edits)} in {checks} checks, {copy.seconds:.0f} seconds of the processor", flush=True)
+    return passed, len(edits) - passed
 
 
 def main():

@@ -7,7 +7,6 @@ use std::alloc::Global;
 use std::process::Abort;
 use std::test::Fail;
 use variant_list::{Cursor, Net};
-use variant_table::{Notation, Table};
 
 /// `a` and `b` are variants of each other, and there are other letters.
 const LETTERS: &[u8] = b"0061|0062\n0062|0061\n0063\n006F\n007A\n";
@@ -23,26 +22,33 @@ fn found(
     label: &str,
     after: &str,
 ) -> Result<(String, u64), Fail> {
-    let table = Table::read(alloc, Notation::Table, table)?;
+    let net = net(alloc, table, label)?;
     let registered = RegisteredLabels::read(alloc, file.as_bytes())?;
-    let label = points(alloc, label)?;
     let after = points_of(after)?;
-    if label.is_empty() || label.len() > 63 {
-        return Err("a label of no code point, or of more than 63".into());
-    }
-    let net = Net::build(alloc, &table, &label)?;
-    let mut text = String::new(alloc);
     let mut search = Collisions::new(alloc, &net, &registered, after.as_slice())?;
+    let text = labels_of(alloc, &mut search)?;
+    Ok((text, search.jumps()))
+}
+
+/// The labels that a search finds from where it stands, each with a space after it.
+fn labels_of(alloc: Global, search: &mut Collisions<'_, '_>) -> Result<String, Fail> {
+    let mut text = String::new(alloc);
     for _ in 0..1000 {
         if search.advance().is_none() {
             break;
         }
-        for point in search.label() {
-            text.push(char::from_u32(*point).ok_or("no character")?)?;
-        }
-        text.push(' ')?;
+        push_label(&mut text, search.label())?;
     }
-    Ok((text, search.jumps()))
+    Ok(text)
+}
+
+/// Puts the characters of a label and a space after a text.
+fn push_label(text: &mut String, label: &[u32]) -> Result<(), Fail> {
+    for point in label {
+        text.push(char::from_u32(*point).ok_or("no character")?)?;
+    }
+    text.push(' ')?;
+    Ok(())
 }
 
 /// Tables, files, labels and texts; the collisions, and how many jumps found them.

@@ -43,8 +43,6 @@ mod registration;
 #[cfg(test)]
 mod row;
 #[cfg(test)]
-mod ruleset_tables;
-#[cfg(test)]
 mod runs;
 #[cfg(test)]
 mod sizes;
@@ -58,7 +56,5 @@ mod table_texts;
 mod utf8;
 #[cfg(test)]
 mod variants;
-#[cfg(test)]
-mod version_two;
 #[cfg(test)]
 mod writing;

@@ -1,5 +1,9 @@
 //! Nets and the tables that they are made of, for the tests of listings.
+ghost use Rattle.std.specs.Prelude.{All, IfOk};
+ghost use Rattle.idn_text.specs.Points.{AreScalarValues};
+
 use std::alloc::{AllocError, Global};
+use std::process::Abort;
 use std::test::Fail;
 use variant_list::{Net, NetFault, SpellingTest};
 use variant_table::{Notation, Table};
@@ -26,7 +30,9 @@ pub fn points(alloc: Global, text: &str) -> Result<Vec<u32>, AllocError> {
 }
 
 /// The net of a label, where it has 1 to 63 code points.
-pub fn net_of(alloc: Global, table: &Table, label: &[u32]) -> Result<Net, Fail> {
+pub fn net_of(alloc: Global, table: &Table, label: &[u32]) -> Result<Net, Fail>
+    ensures { IfOk result (λ net. All AreScalarValues net.spelled) }
+{
     if label.is_empty() || label.len() > 63 {
         return Err("a label of no code point, or of more than 63".into());
     }
@@ -34,7 +40,9 @@ pub fn net_of(alloc: Global, table: &Table, label: &[u32]) -> Result<Net, Fail> 
 }
 
 /// The net of a label in UTF-8 under the table that a text spells, where it has 1 to 63 code points.
-pub fn net(alloc: Global, table: &[u8], label: &str) -> Result<Net, Fail> {
+pub fn net(alloc: Global, table: &[u8], label: &str) -> Result<Net, Fail>
+    ensures { IfOk result (λ net. All AreScalarValues net.spelled) }
+{
     net_of(
         alloc,
         &Table::read(alloc, Notation::Table, table)?,
@@ -111,19 +119,27 @@ fn labels_that_are_spelled(rt: HostRuntime) -> Result<(), Fail> {
 }
 
 /// A test answers each label as if it were the first that it is asked.
+fn assert_each_time(
+    rt: &impl Abort,
+    mut test: SpellingTest,
+    label: &[u32],
+    (other, want): (&[u32], bool),
+) {
+    for time in 1..4 {
+        let is_spelled = test.spells(other);
+        assert_eq!(rt; is_spelled, want, "{label:?} spells {other:?}, time {time}");
+        let itself = test.spells(label);
+        assert!(rt; itself, "{label:?} spells itself, time {time}");
+    }
+}
+
 #[test]
 fn labels_that_are_spelled_one_after_the_other(rt: HostRuntime) -> Result<(), Fail> {
     for (table, label, other, want) in SPELLED.iter() {
-        let net = net(rt.alloc(), table, label)?;
-        let mut test = SpellingTest::new(rt.alloc(), net)?;
-        let label_points = points(rt.alloc(), label)?;
-        let other_points = points(rt.alloc(), other)?;
-        for time in 1..4 {
-            let is_spelled = test.spells(&other_points);
-            assert_eq!(&rt; is_spelled, *want, "{label} spells {other}, time {time}");
-            let itself = test.spells(&label_points);
-            assert!(&rt; itself, "{label} spells itself, time {time}");
-        }
+        let test = SpellingTest::new(rt.alloc(), net(rt.alloc(), table, label)?)?;
+        let label = points(rt.alloc(), label)?;
+        let other = points(rt.alloc(), other)?;
+        assert_each_time(&rt, test, &label, (&other, *want));
     }
     Ok(())
 }

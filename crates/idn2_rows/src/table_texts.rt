@@ -1,10 +1,12 @@
-//! The canonical texts of tables and sequences.
+//! The canonical texts of tables, of rulesets, and of sequences; and tables without their blocked variants.
 use arrayvec::ArrayVec;
+use std::alloc::Global;
+use std::process::Abort;
 use std::test::Fail;
 use variant_table::{Notation, Table, write_sequence};
 
 /// Texts, and what the tables that they spell are written as.
-const TEXTS: [(&str, &str); 6] = [
+const TABLES: [(&str, &str); 6] = [
     ("", ""),
     ("u+0061 | 0062 : 0063-0064\r\n", "0061|0062:0063-0064\n"),
     (" \t\r\n#\n\t# 0041\nU+4e2d\t-\t0066 \n", "4E2D-0066\n"),
@@ -20,13 +22,158 @@ const TEXTS: [(&str, &str); 6] = [
     ),
 ];
 
+/// The same of version 2, after the version line: ranges and blocked variants.
+const TABLES_OF_VERSION_2: [(&str, &str); 6] = [
+    ("", ""),
+    (
+        "0061..0063\n0078|!0079:007A\n",
+        "0061\n0062\n0063\n0078|!0079:007A\n",
+    ),
+    ("0061 | ! U+0062 : 0063-0064\r\n", "0061|!0062:0063-0064\n"),
+    ("# note\n\tu+4e2d .. 4E2D", "4E2D\n"),
+    ("0061|!0062-0063:!0064", "0061|!0062-0063:!0064\n"),
+    (
+        "10000..10002\n00DF|!0073-0073",
+        "10000\n10001\n10002\n00DF|!0073-0073\n",
+    ),
+];
+
+/// The same of rulesets, after the version line: definitions come first, by their kind.
+const RULESETS: [(&str, &str); 10] = [
+    ("%tag t\r\n", "%tag t\n"),
+    (
+        "0061|!0062\n%rule end _$\n  %tag\tt\n!0063..0064\n%set A u+0061 0062 .. 0063\n%rule r @A?_/^_",
+        "%tag t\n%set A 0061 0062..0063\n%rule end _ $\n%rule r @A? _ / ^ _\n0061|!0062\n!0063\n!0064\n",
+    ),
+    (
+        "%set A 0900..097F\n%rule r (@A .)* _ (0061 / @A)",
+        "%set A 0900..097F\n%rule r (@A .)* _ (0061 / @A)\n",
+    ),
+    ("# %never 0061\n%tag T\n%tag t\n", "%tag T\n%tag t\n"),
+    (
+        "%tag simp\n%tag trad\n4E2D\n56FD as simp|570B as trad\n570B as  trad|56FD as simp",
+        "%tag simp\n%tag trad\n4E2D\n56FD as simp|570B as trad\n570B as trad|56FD as simp\n",
+    ),
+    (
+        "%tag simp\n%tag trad\n%tag own\n0061 as own|0062 as simp , trad:!0063:0064 as trad",
+        "%tag simp\n%tag trad\n%tag own\n0061 as own|0062 as simp,trad:!0063:0064 as trad\n",
+    ),
+    (
+        "%tag t\n0061..0062 as t\n%rule r 0061 _\n!0063..0064 when r",
+        "%tag t\n%rule r 0061 _\n0061 as t\n0062 as t\n!0063 when r\n!0064 when r\n",
+    ),
+    (
+        "%rule r _ 0062\n%rule s 0062 _\n0061|0063 when r:0063 when s:!0063 unless r\n0063|0061",
+        "%rule r _ 0062\n%rule s 0062 _\n0061|0063 when r:0063 when s:!0063 unless r\n0063|0061\n",
+    ),
+    (
+        "%tag t\n%rule s _\n0061 as t unless s|0062 as t when s",
+        "%tag t\n%rule s _\n0061 as t unless s|0062 as t when s\n",
+    ),
+    (
+        "0061\n%always 0061*\n%never ^ 0061/0061  $\n%tag t",
+        "%tag t\n%always 0061*\n%never ^ 0061 / 0061 $\n0061\n",
+    ),
+];
+
+/// The table of a text, written.
+fn written(alloc: Global, notation: Notation, text: &[u8]) -> Result<Vec<u8>, Fail> {
+    let table = Table::read(alloc, notation, text)?;
+    Ok(table.write_table(alloc)?)
+}
+
+/// What the table of a text is written as, also where that is read again. Both have this first line.
+fn assert_written(
+    rt: &impl Abort,
+    alloc: Global,
+    (notation, head): (Notation, &str),
+    (body, want): (&str, &str),
+) -> Result<(), Fail> {
+    let text = format!(in alloc; "{head}{body}")?;
+    let want = format!(in alloc; "{head}{want}")?;
+    let got = written(alloc, notation, text.as_bytes())?;
+    assert_eq!(rt; got.as_slice(), want.as_bytes(), "{text:?}");
+    let again = written(alloc, notation, &got)?;
+    assert_eq!(rt; again.as_slice(), want.as_bytes(), "{text:?} again");
+    Ok(())
+}
+
 #[test]
 fn tables(rt: HostRuntime) -> Result<(), Fail> {
-    for (text, want) in TEXTS {
-        let table = Table::read(rt.alloc(), Notation::Table, text.as_bytes())?;
-        let written = table.write_table(rt.alloc())?;
-        assert_eq!(&rt; written.as_slice(), want.as_bytes(), "{text:?}");
+    for case in TABLES {
+        assert_written(&rt, rt.alloc(), (Notation::Table, ""), case)?;
     }
+    for case in TABLES_OF_VERSION_2 {
+        assert_written(&rt, rt.alloc(), (Notation::Table, "%version 2\n"), case)?;
+    }
+    for case in RULESETS {
+        assert_written(&rt, rt.alloc(), (Notation::Ruleset, "%version 3\n"), case)?;
+    }
+    Ok(())
+}
+
+/// Tables with their version, and the text of the same table without its blocked variants. A ruleset defines what it did.
+const UNBLOCKED: [(Notation, &str, u8, &str); 3] = [
+    (
+        Notation::Table,
+        "%version 2\n0061\n0078|!0079:007A:!0031",
+        2,
+        "%version 2\n0061\n0078|007A\n",
+    ),
+    (Notation::Table, "0061|0062", 1, "0061|0062\n"),
+    (
+        Notation::Ruleset,
+        "%version 3\n%tag t\n%set A 0061\n%rule r _ @A\n0061|!0062:0063\n",
+        3,
+        "%version 3\n%tag t\n%set A 0061\n%rule r _ @A\n0061|0063\n",
+    ),
+];
+
+/// A table and the same without its blocked variants are of this version, and the second is written as this.
+fn assert_unblocked(
+    rt: &impl Abort,
+    alloc: Global,
+    table: &Table,
+    (version, want): (u8, &str),
+) -> Result<(), Fail> {
+    let unblocked = table.unblocked(alloc)?;
+    let versions = (table.version(), unblocked.version());
+    assert_eq!(rt; versions, (version, version), "{want:?}");
+    let written = unblocked.write_table(alloc)?;
+    assert_eq!(rt; written.as_slice(), want.as_bytes(), "{want:?}");
+    Ok(())
+}
+
+#[test]
+fn tables_without_their_blocked_variants(rt: HostRuntime) -> Result<(), Fail> {
+    for (notation, text, version, want) in UNBLOCKED {
+        let table = Table::read(rt.alloc(), notation, text.as_bytes())?;
+        assert_unblocked(&rt, rt.alloc(), &table, (version, want))?;
+    }
+    Ok(())
+}
+
+/// Which replacements of the entry at the start of the label are blocked.
+fn blocked(alloc: Global, table: &Table, label: &[u32]) -> Result<Vec<bool>, Fail> {
+    let mut blocked = Vec::new(alloc);
+    for entry in table.entries_at(label, 0) {
+        for number in 0..entry.replacements() {
+            blocked.push(entry.blocked(number))?;
+        }
+    }
+    Ok(blocked)
+}
+
+/// Which variants are blocked.
+#[test]
+fn blocked_variants(rt: HostRuntime) -> Result<(), Fail> {
+    let table = Table::read(
+        rt.alloc(),
+        Notation::Table,
+        b"%version 2\n0061\n0078|!0079:007A:!0031",
+    )?;
+    let got = blocked(rt.alloc(), &table, &[0x78])?;
+    assert_eq!(&rt; got.as_slice(), [false, true, false, true].as_slice());
     Ok(())
 }
 

@@ -135,6 +135,7 @@ impl Reader {
         ensures counted { OnOk result (IsCounted self.old.version self.new.definitions self.new.left self.new.entries) }
         ensures version { self.new.version ≡ self.old.version }
     {
+        // The canonical text has a limit: what is left of it, and what the definitions already take.
         let room = self.left + self.definitions.canonical_len();
         match self.definitions.define(self.alloc, room, keyword, after) {
             Ok(()) => {
