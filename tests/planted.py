@@ -4,7 +4,9 @@
 Each edit below crates/*/FOLDER must be refused at a goal of a function that it edits. To read a crate costs more than to
 prove a function again, so edits of different functions are planted in one copy of the crate and checked at once. All that
 one function knows of another is its contract, so no body is refused for what is planted in another one. An edit that has no
-refusal of its own there is tried again by itself. So is one that edits anything but bodies, as a constant.
+refusal of its own there is tried again with the others of which that is true: a function isn't checked that calls one that
+isn't proved. If none of them has one, fewer are tried, and at last one. What edits anything but bodies, as a constant, is
+tried by itself.
 
 What refuses an edit is told after it: a goal in the code; or a proof that was written for the right code and no longer
 serves, which says less of the contract. An edit that is refused only since a proof names what it takes away says little: of
@@ -31,8 +33,7 @@ from edits import replacements, text_of
 from program import ROOT
 
 CRATES = os.path.join(ROOT, "crates")
-# How many edits are planted at once, at most, 32 if MOST doesn't say: where one of them doesn't compile, all are tried again
-# one by one.
+# How many edits are planted at once, at most, 32 if MOST doesn't say.
 MOST = int(os.environ.get("MOST", "32"))
 # The kit, whose first page rt names.
 KIT = os.path.dirname(subprocess.run([os.environ.get("RT", "rt"), "doc"], stdout=subprocess.PIPE, encoding="utf-8", check=True).stdout.strip())
@@ -87,7 +88,7 @@ def read_edit(crate, path):
 
 
 def batch_of(edits, most):
-    """The edits to be tried next: the first, and others of other bodies, up to so many. What edits anything but bodies is tried last, alone."""
+    """The edits to be tried next: the first, and others of other bodies, up to so many. One of no body comes last, alone."""
     batch = []
     for edit in sorted(edits, key=lambda edit: not edit.bodies):
         if not batch or edit.bodies and len(batch) < most and not any(edit.bodies & other.bodies for other in batch):
@@ -183,11 +184,11 @@ class Copy:
 
 
 def is_of(body, folder):
-    """Whether the proof of a body stands in this folder: its module, its type if it is a method, and its own name. The proof
-    of a method stands in the module of its type, where that is another one."""
+    """Whether the proof of a body stands in this folder: its module, its type if it is a method, and its own name, with a plus
+    sign if it calls itself. The proof of a method stands in the module of its type, where that is another one."""
     module = body.file.removeprefix("src/").removesuffix(".rt")
     *path, function = folder.split("/")
-    return function == body.function and (folder.startswith(f"proofs/{module}/") or (body.owner != "" and path[-1].startswith(body.owner)))
+    return function.removeprefix("+") == body.function and (folder.startswith(f"proofs/{module}/") or (body.owner != "" and path[-1].startswith(body.owner)))
 
 
 def refusal_of(edit, lines):
@@ -251,7 +252,6 @@ def try_crate(crate, folder):
             for name, (is_refused, said) in found.items():
                 passed += is_refused
                 print(f"planted {crate}/{name} ... {'ok' if is_refused else 'FAILED'}: {said}", flush=True)
-            # a function isn't checked that calls one that isn't proved: so the callers are refused once the wrong bodies that they call are
             left = [edit for edit in left if edit.name not in found]
             most = MOST if found else max(1, len(batch) // 2)
             checks += 1
