@@ -25,7 +25,7 @@ def char(cp, *variants, **attributes):
 
 
 def var(cp, kind=None, more=""):
-    return f'<var cp="{cp}"' + (f' type="{kind}"' if kind else "") + more + "/>"
+    return f'<var cp="{cp}"' + (f' type="{kind}"' if kind is not None else "") + more + "/>"
 
 
 def han(simplified="simp", traditional="trad"):
@@ -328,7 +328,32 @@ FAULTS = [
     ('<char cp="0061">0062</char>', "", "line 2: char has a text within it\n"),
     ('<char cp="0061"><var cp="0062"><var cp="0063"/></var></char>', "", "line 2: 'var' is not an element of RFC 7940 here\n"),
     (char("0061", ("0061", "x")), '<action disp="invalid" any-variant="x"/>',
-     "each label is refused by the types of its code points\n"),
+     "line 2: each label is refused by the types of its code points, which begin here\n"),
+    # A class that would be smaller than its list.
+    (ABC, rule("<class>0061 0063-0062</class>"), "line 4: the range ends at 0062, before it begins\n"),
+    (ABC, refusing("<difference><class>0061-0063</class><class>0063-0062</class></difference>"),
+     "line 4: the range ends at 0062, before it begins\n"),
+    (ABC, rule("<class>0061- 0063</class>"), "line 4: '0061-' is not a range\n"),
+    (ABC, rule("<class>0061 -0063</class>"), "line 4: '-0063' is not a range\n"),
+    (ABC, rule("<class>0061-0062-0063</class>"), "line 4: '0062-0063' is not a code point\n"),
+    (ABC, rule("<class>0061\u00A00062</class>"), "line 4: '0061\u00A00062' is not a code point\n"),
+    (ABC, rule("<class> </class>"), "line 4: class names no code point\n"),
+    # A rule that would ask for less, or for something else.
+    (ABC, refusing('<char cp=""/><end/>'), "line 4: char has an empty 'cp'\n"),
+    (ABC, rule('<look-behind><char cp=" "/></look-behind><anchor/>'), "line 4: char has an empty 'cp'\n"),
+    (ABC, rule(""), "line 4: rule has no part\n"),
+    (ABC, rule("<look-behind/><anchor/>"), "line 4: look-behind has no part\n"),
+    (ABC, rule("<anchor/><look-behind><any/></look-behind>"), "line 4: a look-behind after the anchor\n"),
+    (ABC, rule("<look-ahead><any/></look-ahead><anchor/>"), "line 4: a look-ahead before the anchor\n"),
+    (ABC, rule("<look-behind><any/></look-behind>" * 2 + "<anchor/>"), "line 4: a second look-behind\n"),
+    (ABC, rule("<anchor/>" + "<look-ahead><any/></look-ahead>" * 2), "line 4: a second look-ahead\n"),
+    # A type that would be no type of an action.
+    (char("0061", ("0062", "blocked ")) + char("0062"), "", "line 2: 'blocked ' is not a type\n"),
+    (char("0061", ("0062", "blocked allocatable")) + char("0062"), "", "line 2: 'blocked allocatable' is not a type\n"),
+    (char("0061", ("0062", "")) + char("0062"), "", "line 2: '' is not a type\n"),
+    (char("0061", ("0062", "_x")) + char("0062"), "", "line 2: '_x' is not a type\n"),
+    (ABC, '<action disp="invalid" any-variant=""/>', "line 4: 'any-variant' names no type\n"),
+    (ABC, '<action disp="invalid" only-variants="x _y"/>', "line 4: '_y' is not a type\n"),
     (char("0041"), "", "no entry of it can stand in a table\n"
      "line 2: char 0041: left out, since it has a code point that no label can have\n"),
 ]
@@ -338,10 +363,12 @@ LABELS = [
      ["%never 0062 $", "0061-0062", "0062..0063"],
      "line 2: char 0061-0062: its tag makes no difference, since a class is of single code points\n"),
     (ABC.replace('"0062"', '"0062" not-when="r"'), rule('<look-behind><class from-tag="a"/></look-behind><anchor/>'),
-     ["0061..0063"], "line 4: class from-tag 'a': no code point has the tag, so that nothing is in the class\n"),
+     ["0061..0063"], "line 2: char 0062: not-when 'r' makes no difference, since it always holds there\n"
+     "line 4: class from-tag 'a': no code point has the tag, so that nothing is in the class\n"),
     (char("0061", when="r") + char("0062", not_when="r"), rule("<class>0078</class>"),
      ["%rule always _", "0061 unless always", "0062"],
-     "line 2: char 0061: no label has it, since when 'r' never holds there\n"),
+     "line 2: char 0061: no label has it, since when 'r' never holds there\n"
+     "line 2: char 0062: not-when 'r' makes no difference, since it always holds there\n"),
     # The variant would have to end within a source.
     (char("0061", ("0062", "blocked")) + char("0062 0063"), "", ["0061", "0062-0063"],
      "line 2: char 0061, variant 0062: left out, since it is not made of entries\n"),

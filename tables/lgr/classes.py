@@ -2,7 +2,7 @@
 
 from .properties import Properties
 from .references import References
-from .ruleset import point_of
+from .ruleset import Fault, span_of, words
 
 OPERATORS = {"union": "union", "intersection": "intersection", "difference": "difference",
              "symmetric-difference": "symmetric_difference"}
@@ -41,12 +41,10 @@ class Classes:
             return self.points & self.tagged.get(element.attributes["from-tag"], set())
         if "property" in element.attributes:
             return self.properties.of(element.attributes["property"])
-        points = set()
-        for text in element.text.split():
-            first, _, last = text.partition("-")
-            first, last = point_of(first, element.line), point_of(last or first, element.line)
-            points |= self.points.intersection(range(first, last + 1))
-        return frozenset(points)
+        spans = [span_of(text, element.line) for text in words(element.text)]
+        if not spans:
+            raise Fault(element.line, "class names no code point")
+        return frozenset(point for first, last in spans for point in self.points.intersection(range(first, last + 1)))
 
     def reason_of(self, element):
         """Why the code points of a class or of a set operator aren't known, in words."""

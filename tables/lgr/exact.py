@@ -94,7 +94,7 @@ class Exact:
         elif not self.repertoire.possible.issuperset(variant.points):
             self.losses.tell(variant.line, name, "left out, since it has a code point that no label can have")
         elif self.repertoire.is_made_of_entries(entry, variant):
-            holds = self.holds(variant.condition, entry.source, variant.line)
+            holds = self.holds(variant.condition, entry.source, variant.line, name)
             if holds is not Holds.NEVER:
                 return variant, holds
             self.losses.tell(variant.line, name, f"left out, since {variant.condition} never holds there")
@@ -102,11 +102,15 @@ class Exact:
 
     # Conditions.
 
-    def holds(self, condition, source, line):
-        """Where a condition holds for the source; always, where it can't be said, which is told."""
-        if condition is not None:
-            with self.losses.refusing(f"rule '{condition.rule}'"):
-                return self.contexts.of(condition, source, line)
+    def holds(self, condition, source, line, name):
+        """Where a condition of what has this name holds for the source; always, where it can't be said, which is told."""
+        if condition is None:
+            return Holds.ALWAYS
+        with self.losses.refusing(f"rule '{condition.rule}'"):
+            holds = self.contexts.of(condition, source, line)
+            if holds is Holds.ALWAYS:
+                self.losses.tell(line, name, f"{condition} makes no difference, since it always holds there")
+            return holds
         return Holds.ALWAYS
 
     def said(self, holds, condition):
@@ -128,7 +132,7 @@ class Exact:
 
     def entry_of(self, entry, variants):
         is_outside = self.repertoire.is_outside(entry)
-        holds = self.holds(entry.condition, entry.source, entry.line)
+        holds = self.holds(entry.condition, entry.source, entry.line, entry.name)
         if holds is Holds.NEVER:
             self.losses.tell(entry.line, entry.name, f"no label has it, since {entry.condition} never holds there")
         tags = () if is_outside else self.tags.of_source(self.kinds.of_original(entry))

@@ -43,7 +43,7 @@ class Repertoire:
         invalid = {kind for kind in every - {Kind.UNMAPPED} if outcomes.is_always(Outcome.INVALID, kind, every)}
         self.outside = {source for source, kind in kinds.items() if kind in invalid}
         if len(self.outside) == len(self.entries):
-            raise Fault(None, "each label is refused by the types of its code points")
+            raise Fault(self.entries[0].line, "each label is refused by the types of its code points, which begin here")
         self.check_outside()
 
     def check_outside(self):

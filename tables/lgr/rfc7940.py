@@ -3,10 +3,12 @@
 An element or an attribute that the standard has not is a fault: it may be a condition that is misspelt.
 """
 
+import re
+
 from notation.points import spelled
 
 from .dispositions import Action
-from .ruleset import Condition, Entry, Fault, Ruleset, Variant, check_sources, point_of, points_of
+from .ruleset import Condition, Entry, Fault, Ruleset, Variant, check_sources, point_of, points_of, some_points_of, words
 from .xml_tree import NAMESPACE, root_of
 
 NOTES = {"comment", "ref"}
@@ -116,12 +118,10 @@ def has_nothing_within(element):
 def entries_of(element):
     """The entry of a 'char', or those of a 'range'."""
     check_element(element, ATTRIBUTES_OF_DATA)
-    tags = tuple(element.attributes.get("tag", "").split())
+    tags = tuple(words(element.attributes.get("tag", "")))
     if element.name == "range":
         return entries_of_range(element, tags)
-    source = points_of(element)
-    if not source:
-        raise Fault(element.line, "char has an empty 'cp'")
+    source = some_points_of(element)
     entry = Entry(element.line, f"char {spelled(source)}", source, condition_of(element), tags)
     entry.variants = [variant_of(child) for child in element.children]
     check_variants(entry)
@@ -142,7 +142,16 @@ def entries_of_range(element, tags):
 def variant_of(element):
     check_element(element, ATTRIBUTES_OF_VARIANTS)
     has_nothing_within(element)
-    return Variant(element.line, points_of(element), element.attributes.get("type"), condition_of(element))
+    kind = element.attributes.get("type")
+    if kind is not None:
+        check_type(kind, element.line)
+    return Variant(element.line, points_of(element), kind, condition_of(element))
+
+
+def check_type(text, line):
+    """A type isn't empty, has no blanks, and doesn't begin with '_' (RFC 7940, section 5.3.2)."""
+    if not re.fullmatch(r"[^\s_]\S*", text):
+        raise Fault(line, f"'{text}' is not a type")
 
 
 def check_variants(entry):
@@ -160,8 +169,19 @@ def condition_of(element):
                  if word in element.attributes), None)
 
 
+def types_of(element, name):
+    """The types that an attribute of an action names, one or more; None where it isn't there."""
+    if name not in element.attributes:
+        return None
+    types = words(element.attributes[name])
+    if not types:
+        raise Fault(element.line, f"'{name}' names no type")
+    for text in types:
+        check_type(text, element.line)
+    return frozenset(types)
+
+
 def action_of(element):
-    types = (element.attributes.get(name) for name in ("any-variant", "all-variants", "only-variants"))
-    types = (None if names is None else frozenset(names.split()) for names in types)
+    types = (types_of(element, name) for name in ("any-variant", "all-variants", "only-variants"))
     match, not_match = element.attributes.get("match"), element.attributes.get("not-match")
     return Action(element.line, element.needed("disp"), match, not_match, *types)

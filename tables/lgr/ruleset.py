@@ -91,6 +91,31 @@ def point_of(digits, line):
     return point
 
 
+def words(text):
+    """The parts of a text between the blanks of XML, which are fewer than Python's."""
+    return re.findall(r"[^ \t\r\n]+", text)
+
+
 def points_of(element):
     """The code points of an element's 'cp'."""
-    return tuple(point_of(digits, element.line) for digits in element.needed("cp").split())
+    return tuple(point_of(digits, element.line) for digits in words(element.needed("cp")))
+
+
+def some_points_of(element):
+    """The same of an element that has to have some. Only a variant may have none."""
+    points = points_of(element)
+    if not points:
+        raise Fault(element.line, f"{element.name} has an empty 'cp'")
+    return points
+
+
+def span_of(text, line):
+    """The first and the last code point that one code point or a range with a hyphen names."""
+    first, hyphen, last = text.partition("-")
+    if hyphen and not (first and last):
+        raise Fault(line, f"'{text}' is not a range")
+    first = point_of(first, line)
+    last = point_of(last, line) if hyphen else first
+    if first > last:
+        raise Fault(line, f"the range ends at {last:04X}, before it begins")
+    return first, last
