@@ -42,13 +42,13 @@ test-crate:
 	python3 tests/words.py
 	cd crates/$(CRATE) && $(RT) check
 	[ ! -d crates/$(CRATE)/must-fail ] || $(RT) must-fail $(CRATE)
-	[ ! -d crates/$(CRATE)/planted ] || RT=$(RT) python3 tests/planted.py planted $(CRATE)
+	[ ! -d crates/$(CRATE)/planted ] || RT=$(RT) IS_PROVED=1 python3 tests/planted.py planted $(CRATE)
 	cd crates/idn2_rows && $(RT) try --test
 
 # The wrong bodies that the gate leaves out, of all crates or of those that CRATES names.
 wrong-bodies:
 	cd crates/idn2_cli && $(RT) all check --jobs $(LANES)
-	RT=$(RT) LANES=$(LANES) python3 tests/planted.py wrong-bodies $(CRATES)
+	RT=$(RT) LANES=$(LANES) IS_PROVED=1 python3 tests/planted.py wrong-bodies $(CRATES)
 
 # The program, its manual page and its completions for bash, below $(DESTDIR)$(PREFIX), each under PROGRAM_NAME.
 BIN = $(DESTDIR)$(PREFIX)/bin/$(PROGRAM_NAME)

@@ -262,7 +262,7 @@ REFUSALS = [
      "line 4: action 'blocked': labels of 'x' are blocked, and allowed with further types\n"),
     (char("0061", *((f"{0x62 + each:04X}", f"x{each}") for each in range(12))) + '<range first-cp="0062" last-cp="006D"/>',
      "".join(f'<action disp="blocked" any-variant="x{each}"/>' for each in range(12)),
-     "the ruleset: 13 kinds of variants, and 12 are looked at\n"),
+     "line 2: the ruleset: more than 12 kinds of variants\n"),
     # Rules.
     (char("0061", when="r"), rule("<look-behind><any/><end/></look-behind><anchor/>"),
      WITH_RULE + "the end of a label before the anchor, or its start behind it, which no label has\n"),

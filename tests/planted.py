@@ -13,10 +13,10 @@ serves, which says less of the contract. An edit that is refused only since a pr
 wrong-bodies it counts as a failure; the gate tells it and goes on, as rt does for must-fail, and so where something else
 refuses the crate. One that is proved and one that doesn't compile are failures everywhere.
 
-The crates stand proved before: each check is made over the libraries that rt ci or rt check built of them in out/, and begins
-with what rt check kept there, if it did, and then with what the check before it left. LANES is how many crates are tried side
-by side. What the edits of a crate took of the processor is told after them. The last line is 'N passed, M failed', and the exit
-status is 0 where nothing failed."""
+A crate has to be proved as it stands: by rt check, unless IS_PROVED says that it was. Each check is made over the libraries
+that this left in out/, and begins with what rt check kept there, if it did, and then with what the check before it left. LANES
+is how many crates are tried side by side. What the edits of a crate took of the processor is told after them. The last line is
+'N passed, M failed', and the exit status is 0 where nothing failed."""
 
 import collections
 import concurrent.futures
@@ -30,11 +30,14 @@ import sys
 import tempfile
 
 from edits import replacements, text_of
+from layers import crates, reach
 from program import ROOT
 
 CRATES = os.path.join(ROOT, "crates")
 # How many edits are planted at once, at most, 32 if MOST doesn't say.
 MOST = int(os.environ.get("MOST", "32"))
+# Whether all crates were proved right before, as in the gate by rt ci.
+IS_PROVED = bool(os.environ.get("IS_PROVED"))
 # The kit, whose first page rt names.
 KIT = os.path.dirname(subprocess.run([os.environ.get("RT", "rt"), "doc"], stdout=subprocess.PIPE, encoding="utf-8", check=True).stdout.strip())
 # Whether a refusal by a name alone is a failure: before a release, but not in the gate.
@@ -96,37 +99,31 @@ def batch_of(edits, most):
     return batch
 
 
-def uses():
-    """The libraries that each crate of crates.txt uses, by its name."""
-    lines = [line.split(":") for line in text_of(os.path.join(ROOT, "crates.txt")).splitlines() if line[:1] not in ("", "#")]
-    return {name: used.split() for name, used in lines}
-
-
 def libraries():
     """The folder of the library that was built of each crate that it was built of."""
-    folders = {crate: os.path.join(CRATES, crate, "out", "rlib") for crate in os.listdir(CRATES)}
+    folders = {crate: os.path.join(CRATES, crate, "out", "rlib") for crate in crates()}
     return {crate: folder for crate, folder in folders.items() if os.path.isfile(os.path.join(folder, f"{crate}.rlib", "format"))}
 
 
-def below(crate, used):
-    """The crates of the repository that a crate stands on."""
-    found, left = set(), [crate]
-    while left:
-        more = [name for name in used[left.pop()] if name in used and name not in found]
-        found |= {*more}
-        left += more
-    return found
-
-
-def check_of(crate, used, built):
-    """The command that checks a library over those that were built of the crates below it."""
+def check_of(crate, built):
+    """The command that checks a library over those that were built of the crates below it; None where one of them lacks."""
+    used = crates()[crate]
+    below = sorted(reach(used) & {*crates()})
+    if not {*below} <= {*built}:
+        return None
     command = [os.path.join(KIT, "bin", "rattle"), "check", "--crate-name", crate, "src/lib.rt", "--jobs", "1",
                "--antt-project", f"{KIT}/rattle/logic/antt-project.json", "--logic-built", f"{KIT}/logic_built"]
-    for name in ["std", *used[crate]]:
+    for name in ["std", *used]:
         command += ["--extern", f"{name}={built.get(name, f'{KIT}/rlibs')}/{name}.rlib"]
-    for folder in [f"{KIT}/rlibs", *(built[name] for name in sorted(below(crate, used)))]:
+    for folder in [f"{KIT}/rlibs", *(built[name] for name in below)]:
         command += ["-L", f"dependency={folder}"]
     return command
+
+
+def is_proved(crate):
+    """Whether a crate is proved as it stands. That also builds the libraries below it, and keeps what was proved."""
+    words = [os.environ.get("RT", "rt"), "check"]
+    return IS_PROVED or subprocess.run(words, cwd=os.path.join(CRATES, crate), stdout=subprocess.DEVNULL).returncode == 0
 
 
 def link_or_copy(source, target):
@@ -239,13 +236,13 @@ def verdicts(copy, batch):
 def try_crate(crate, folder):
     """How many edits of a crate are refused, and how many are not."""
     edits = left = [read_edit(crate, path) for path in sorted(glob.glob(os.path.join(CRATES, crate, folder, "*.edit")))]
-    used, built = uses(), libraries()
-    if lacking := sorted(below(crate, used) - {*built}):
-        print(f"planted {crate}: NOT TRIED, since no library is built of {', '.join(lacking)}", flush=True)
+    command = check_of(crate, libraries()) if is_proved(crate) else None
+    if not command:
+        print(f"planted {crate}: NOT TRIED, since it isn't proved as it stands, or a library below it isn't built", flush=True)
         return 0, len(edits)
     passed = checks = 0
     most = MOST
-    with Copy(crate, check_of(crate, used, built)) as copy:
+    with Copy(crate, command) as copy:
         while left:
             batch = batch_of(left, most)
             found = verdicts(copy, batch)
@@ -261,11 +258,10 @@ def try_crate(crate, folder):
 
 def main():
     folder, names = sys.argv[1], sys.argv[2:]
-    crates = [name for name in os.listdir(CRATES) if not names or name in names]
-    counts = {crate: len(glob.glob(os.path.join(CRATES, crate, folder, "*.edit"))) for crate in crates}
-    crates = sorted((crate for crate in crates if counts[crate]), key=lambda crate: -counts[crate])
+    counts = {crate: len(glob.glob(os.path.join(CRATES, crate, folder, "*.edit"))) for crate in names or crates()}
+    chosen = sorted((crate for crate in counts if counts[crate]), key=lambda crate: -counts[crate])
     with concurrent.futures.ThreadPoolExecutor(int(os.environ.get("LANES", "1"))) as lanes:
-        results = list(lanes.map(lambda crate: try_crate(crate, folder), crates))
+        results = list(lanes.map(lambda crate: try_crate(crate, folder), chosen))
     passed, failed = (sum(column) for column in zip(*results)) if results else (0, 0)
     print(f"{passed} passed, {failed} failed")
     return 0 if passed and not failed else 1

@@ -1,13 +1,23 @@
 """The classes of a ruleset as sets (RFC 7940, section 6.2): of the code points that its labels can have."""
 
+import itertools
+
 from .properties import Properties
 from .references import References
-from .ruleset import Fault, span_of, words
+from .ruleset import Fault, range_of, words
 
 OPERATORS = {"union": "union", "intersection": "intersection", "difference": "difference",
              "symmetric-difference": "symmetric_difference"}
 # How many sets an operator has; any other has one or more.
 SETS_OF = {"complement": 1, "difference": 2, "symmetric-difference": 2}
+
+
+def range_in(text, line):
+    """The code points of a part of a class: one, or a range with a hyphen (RFC 7940, section 6.2.4)."""
+    first, hyphen, last = text.partition("-")
+    if hyphen and not (first and last):
+        raise Fault(line, f"'{text}' is not a range")
+    return range_of(first, last if hyphen else first, line)
 
 
 class Classes:
@@ -41,10 +51,10 @@ class Classes:
             return self.points & self.tagged.get(element.attributes["from-tag"], set())
         if "property" in element.attributes:
             return self.properties.of(element.attributes["property"])
-        spans = [span_of(text, element.line) for text in words(element.text)]
-        if not spans:
+        ranges = [range_in(text, element.line) for text in words(element.text)]
+        if not ranges:
             raise Fault(element.line, "class names no code point")
-        return frozenset(point for first, last in spans for point in self.points.intersection(range(first, last + 1)))
+        return self.points.intersection(itertools.chain(*ranges))
 
     def reason_of(self, element):
         """Why the code points of a class or of a set operator aren't known, in words."""

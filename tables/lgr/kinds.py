@@ -30,9 +30,11 @@ class Kinds:
     def check(self, entries):
         """Tells the types that no action names, and the reflexive variants with a condition that do make a difference."""
         variants = [variant for entry in entries for variant in entry.variants]
-        kinds = frozenset(map(self.of, variants)) | {Kind.UNMAPPED}
-        if len(kinds) > MOST_KINDS:
-            raise Unsayable(None, f"{len(kinds)} kinds of variants, and {MOST_KINDS} are looked at")
+        kinds = {Kind.UNMAPPED}
+        for variant in variants:
+            kinds.add(self.of(variant))
+            if len(kinds) > MOST_KINDS:
+                raise Unsayable(variant.line, f"more than {MOST_KINDS} kinds of variants")
         for variant in variants:
             if variant.type is not None and not any(variant.type in types for types in self.outcomes.named_types):
                 self.tell_of_type(variant.type, variant.line)

@@ -8,7 +8,7 @@ import re
 from notation.points import spelled
 
 from .dispositions import Action
-from .ruleset import Condition, Entry, Fault, Ruleset, Variant, check_sources, point_of, points_of, some_points_of, words
+from .ruleset import Condition, Entry, Fault, Ruleset, Variant, check_sources, points_of, range_of, some_points_of, words
 from .xml_tree import NAMESPACE, root_of
 
 NOTES = {"comment", "ref"}
@@ -129,13 +129,11 @@ def entries_of(element):
 
 
 def entries_of_range(element, tags):
-    first, last = (point_of(element.needed(name), element.line) for name in ("first-cp", "last-cp"))
-    if first > last:
-        raise Fault(element.line, f"the range ends at {last:04X}, before it begins")
+    every = range_of(element.needed("first-cp"), element.needed("last-cp"), element.line)
     if element.children:
         raise Fault(element.line, "a range has no variants")
-    name, condition = f"range {first:04X}..{last:04X}", condition_of(element)
-    points = (point for point in range(first, last + 1) if not 0xD800 <= point <= 0xDFFF)
+    name, condition = f"range {every[0]:04X}..{every[-1]:04X}", condition_of(element)
+    points = (point for point in every if not 0xD800 <= point <= 0xDFFF)
     return [Entry(element.line, name, (point,), condition, tags, is_of_range=True) for point in points]
 
 

@@ -109,13 +109,9 @@ def some_points_of(element):
     return points
 
 
-def span_of(text, line):
-    """The first and the last code point that one code point or a range with a hyphen names."""
-    first, hyphen, last = text.partition("-")
-    if hyphen and not (first and last):
-        raise Fault(line, f"'{text}' is not a range")
-    first = point_of(first, line)
-    last = point_of(last, line) if hyphen else first
+def range_of(first, last, line):
+    """The code points from one to another, both named by digits."""
+    first, last = point_of(first, line), point_of(last, line)
     if first > last:
         raise Fault(line, f"the range ends at {last:04X}, before it begins")
-    return first, last
+    return range(first, last + 1)
