@@ -32,6 +32,7 @@ run:
 	@if test -x $(PROGRAM) && changed=$$(find $(SOURCES) -cnewer $(PROVED) 2> /dev/null) && test -z "$$changed"; then \
 	    $(PROGRAM) --variants tables/german.txt strasse && echo proved; \
 	else \
+	    echo 'builds without a proof, for about a minute' >&2; \
 	    (cd crates/idn2 && $(RT) try -- --variants '$(CURDIR)/tables/german.txt' strasse) && \
 	        echo 'not proved yet: make proves it, in about half an hour'; \
 	fi
@@ -42,7 +43,8 @@ test:
 
 # The Debian packages that tests use; without one of them the gate names what it skipped.
 packages:
-	apt-get update && DEBIAN_FRONTEND=noninteractive apt-get install -y --no-upgrade --no-install-recommends $$(sed 's/#.*//' tests/packages.txt)
+	apt-get update && DEBIAN_FRONTEND=noninteractive apt-get install -y --no-upgrade --no-install-recommends \
+	    $$(sed 's/#.*//' tests/packages.txt)
 
 # One crate while you work on it: proves what changed in it, tries its wrong bodies, and runs the tests of what is called
 # from outside, without proving these: make test-crate CRATE=idn_label
@@ -85,7 +87,8 @@ install: program-name all
 # examples. Messages begin with 'idn2: ' under each name.
 ROFF_NAME = $(subst -,\\-,$(PROGRAM_NAME))
 IN_PAGE = -e 's/^\.TH IDN2 /.TH \U$(ROFF_NAME)\E /' -e 's/^idn2 \\- /$(ROFF_NAME) \\- /' \
-    -e 's/^\.B idn2\( \|$$\)/.B $(ROFF_NAME)\1/' -e 's|^\.I share/idn2/|.I share/$(ROFF_NAME)/|' -e 's/^\(\$$\|.* |\) idn2 /\1 $(ROFF_NAME) /'
+    -e 's/^\.B idn2\( \|$$\)/.B $(ROFF_NAME)\1/' -e 's|^\.I share/idn2/|.I share/$(ROFF_NAME)/|' \
+    -e 's/^\(\$$\|.* |\) idn2 /\1 $(ROFF_NAME) /'
 
 program-name:
 	@echo '$(PROGRAM_NAME)' | grep -Eqx '[A-Za-z0-9][A-Za-z0-9._+-]*' || { echo 'PROGRAM_NAME is no file name' >&2; exit 2; }

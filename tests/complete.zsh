@@ -1,4 +1,4 @@
-# What zsh completes each of some lines to, each match on a line of its own, and then `end`: zsh -f tests/complete.zsh COMPLETIONS LINE..
+# What zsh completes some lines to, for each its matches and then `end`: zsh -f tests/complete.zsh COMPLETIONS LINE..
 # Completions work only in the editor of a terminal, so a second zsh runs in one.
 zmodload zsh/zpty
 inner='
@@ -7,10 +7,13 @@ autoload -Uz compinit
 compinit -u -D
 functions[_idn2]=$(<$completions)
 compdef _idn2 idn2
-# Only the last call of compadd for a match adds it; the others collect.
+# A call that adds matches; the others collect them.
 compadd() {
     local -a matches
-    [[ ${@[1,(i)(-|--)]} = *-(O|A|D)\ * ]] || { builtin compadd -A matches "$@"; (( $#matches )) && print -rl -- match:${^matches} }
+    if [[ ${@[1,(i)(-|--)]} != *-(O|A|D)\ * ]]; then
+        builtin compadd -A matches "$@"
+        (( $#matches )) && print -rl -- match:${^matches}
+    fi
     builtin compadd "$@"
 }
 show() { print; _main_complete; compstate[insert]= compstate[list]=; print end: }

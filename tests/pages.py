@@ -338,7 +338,8 @@ def installs_under_another_name(folder):
     prefix = os.path.join(folder, "prefix")
     done = make(folder, "install", f"PREFIX={prefix}", f"PROGRAM_NAME={OTHER_NAME}")
     assert (done.returncode, done.stderr) == (0, ""), done
-    files = {os.path.relpath(path, prefix) for path in glob.glob(os.path.join(prefix, "**"), recursive=True) if os.path.isfile(path)}
+    paths = filter(os.path.isfile, glob.glob(f"{prefix}/**", recursive=True))
+    files = {os.path.relpath(path, prefix) for path in paths}
     page, share = f"share/man/man1/{OTHER_NAME}.1", f"share/{OTHER_NAME}"
     heads = {f"share/bash-completion/completions/{OTHER_NAME}": f"complete -o filenames -F _idn2 {OTHER_NAME}\n",
              f"share/zsh/site-functions/_{OTHER_NAME}": f"#compdef {OTHER_NAME}\n",
@@ -560,9 +561,9 @@ NOT_PROVED = "not proved yet: make proves it, in about half an hour"
 
 
 def runs_the_main_job_without_a_proof_until_make_has_made_it(folder):
-    """Where the program isn't made of the sources as they stand, too; and only `make` proves. In a small copy of the repository, with
-    an rt that tells what it is asked for and makes a program. It fails where there is a file `fails`, and where there is one `edits`,
-    a source changes while it proves."""
+    """Where the program isn't made of the sources as they stand, too; and only `make` proves. In a small copy of the repository,
+    with an rt that tells what it is asked for and makes a program. It fails where there is a file `fails`, and where there is
+    one `edits`, a source changes while it proves."""
     crate = os.path.join(folder, "crates", "idn2")
     asked, built, source = (os.path.join(crate, name) for name in ("asked", "out/idn2", "src/main.rt"))
     for name in ("src", "specs", "proofs"):
@@ -573,7 +574,8 @@ def runs_the_main_job_without_a_proof_until_make_has_made_it(folder):
     rt = os.path.join(folder, "rt")
     with open(rt, "w", encoding="utf-8") as file:
         file.write("#!/bin/sh\n[ -e fails ] && exit 1\necho \"$*\" >> asked\n[ $1 = try ] && echo tried && exit\n"
-                   "[ -e edits ] && sleep 0.1 && echo edited >> src/main.rt\necho '#!/bin/sh\necho listed' > out/idn2 && chmod +x out/idn2\n")
+                   "[ -e edits ] && sleep 0.1 && echo edited >> src/main.rt\n"
+                   "echo '#!/bin/sh\necho listed' > out/idn2 && chmod +x out/idn2\n")
     os.chmod(rt, 0o755)
 
     def ask(target):
@@ -644,9 +646,10 @@ def names_what_it_skipped_in_its_last_lines(folder):
         write(text_of(*path), *path)
     tests = set(re.findall(r"tests/(\w+)\.py", text_of("tests", "gate")))
     for name in tests:
-        write(SKIPPING.format(os.path.join(ROOT, "tests")) if name == "guide" else "print('1 passed, 0 failed')", "tests", f"{name}.py")
-    for path in (("crates", "idn2", "src", "main.rt"), ("crates", "idn2", "specs", "A.antt"), ("crates", "idn2", "proofs", "A.antt"),
-                 ("crates.txt",)):
+        text = SKIPPING.format(os.path.join(ROOT, "tests")) if name == "guide" else "print('1 passed, 0 failed')"
+        write(text, "tests", f"{name}.py")
+    parts = (("src", "main.rt"), ("specs", "A.antt"), ("proofs", "A.antt"))
+    for path in (("crates.txt",), *(("crates", "idn2", *part) for part in parts)):
         write("", *path)
     write("#!/bin/sh\nmkdir -p crates/idn2/out && printf '#!/bin/sh\\n' > crates/idn2/out/idn2 && chmod +x crates/idn2/out/idn2\n"
           "echo 1 passed, 0 failed\n", "bin", "rt")

@@ -52,7 +52,8 @@ class Exact:
             self.losses.tell(element.line, f"{element.name} '{element.attributes['name']}'", "it makes no difference")
         for element, lost in self.rules.classes.losing(self.definitions_given):
             name = element.attributes.get("name") or element.attributes.get("from-tag")
-            loses = f"{repr(name) if name else 'it'} loses {counted(len(lost), 'code point')}"
+            quoted = f"'{name}'" if name else "it"
+            loses = f"{quoted} loses {counted(len(lost), 'code point')}"
             self.losses.tell(element.line, "class", f"{loses} that no label of these entries has, first {lost[0]:04X}")
 
     # Actions.

@@ -118,8 +118,9 @@ def check_looks(element):
     (section 6.4.2)."""
     names = [child.name for child in element.children]
     for at, child in enumerate(element.children):
-        beside, is_at_edge = (names[1:2], at == 0) if child.name == "look-behind" else (names[:at][-1:], at == len(names) - 1)
-        if child.name in LOOKS and (element.name != "rule" or not is_at_edge or beside != ["anchor"]):
+        is_behind = at == 0 and names[:2] == ["look-behind", "anchor"]
+        is_ahead = at == len(names) - 1 and names[-2:] == ["anchor", "look-ahead"]
+        if child.name in LOOKS and not (element.name == "rule" and (is_behind or is_ahead)):
             raise Fault(child.line, f"a {child.name} that isn't at the edge of its rule, beside the anchor")
 
 
