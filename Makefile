@@ -1,6 +1,9 @@
 # rt is the command of the Rattle kit that the README names.
 RT ?= rt
 PROGRAM := crates/idn2/out/idn2
+# Says that the program is proved as its sources stood: it has the time at which the proof began.
+PROVED := crates/idn2/out/proved
+SOURCES := crates.txt crates/*/src crates/*/specs crates/*/proofs
 PREFIX ?= /usr/local
 # The name under which the program is installed. libidn2 has a program of the name idn2, too.
 PROGRAM_NAME := idn2
@@ -12,26 +15,36 @@ DIST ?= dist
 LANES ?= $(shell awk -v processors="$$(nproc)" '/MemAvailable/ { lanes = int($$2 / 3000000) } \
     END { print (lanes < 1 ? 1 : lanes < processors ? lanes : processors) }' /proc/meminfo)
 
-.PHONY: all try run test test-crate wrong-bodies install program-name dist check-tables bench conformance evaluator fuzz \
+.PHONY: all run test packages test-crate wrong-bodies install program-name dist check-tables bench conformance evaluator fuzz \
     class-table changed-answers clean
 
 # Proves every function that the program uses, the first time with several crates at once, and builds and tries the program.
 all:
+	@mkdir -p $(dir $(PROVED)) && touch $(PROVED).begun
 	test -x $(PROGRAM) || (cd crates/idn2 && $(RT) all test --jobs $(LANES))
 	cd crates/idn2 && $(RT) run < stdin > /dev/null
+	@mv $(PROVED).begun $(PROVED)
 
-# The main job: the variants of a label under a table.
-run: all
-	$(PROGRAM) --variants tables/german.txt strasse
-
-# A first look: the same job by a build without any proof.
-try:
-	cd crates/idn2 && $(RT) try -- --variants $(CURDIR)/tables/german.txt strasse
-	@echo 'Nothing was proved: this build was made without the checker. make run proves the program first.'
+# The main job, the variants of a label under a table, in about a minute: by the program, if nothing has changed since its
+# proof began, else by a build without any proof, which isn't kept.
+run:
+	@echo 'idn2 --variants tables/german.txt strasse'
+	@if test -x $(PROGRAM) && changed=$$(find $(SOURCES) -cnewer $(PROVED) 2> /dev/null) && test -z "$$changed"; then \
+	    $(PROGRAM) --variants tables/german.txt strasse && echo proved; \
+	else \
+	    echo 'builds without a proof, for about a minute' >&2; \
+	    (cd crates/idn2 && $(RT) try -- --variants '$(CURDIR)/tables/german.txt' strasse) && \
+	        echo 'not proved yet: make proves it, in about half an hour'; \
+	fi
 
 # The gate: proves everything from nothing, tries the wrong bodies, runs the programs and the tests.
 test:
 	RT=$(RT) LANES=$(LANES) tests/gate
+
+# The Debian packages that tests use; without one of them the gate names what it skipped.
+packages:
+	apt-get update && DEBIAN_FRONTEND=noninteractive apt-get install -y --no-upgrade --no-install-recommends \
+	    $$(sed 's/#.*//' tests/packages.txt)
 
 # One crate while you work on it: proves what changed in it, tries its wrong bodies, and runs the tests of what is called
 # from outside, without proving these: make test-crate CRATE=idn_label
@@ -50,22 +63,32 @@ wrong-bodies:
 	cd crates/idn2_cli && $(RT) all check --jobs $(LANES)
 	RT=$(RT) LANES=$(LANES) IS_PROVED=1 python3 tests/planted.py wrong-bodies $(CRATES)
 
-# The program, its manual page and its completions for bash, below $(DESTDIR)$(PREFIX), each under PROGRAM_NAME.
+# The program, its manual page, its completions for bash, zsh and fish, and its tables, below $(DESTDIR)$(PREFIX), each under
+# PROGRAM_NAME.
 BIN = $(DESTDIR)$(PREFIX)/bin/$(PROGRAM_NAME)
-PAGE = $(DESTDIR)$(PREFIX)/share/man/man1/$(PROGRAM_NAME).1
-COMPLETIONS = $(DESTDIR)$(PREFIX)/share/bash-completion/completions/$(PROGRAM_NAME)
+SHARE = $(DESTDIR)$(PREFIX)/share
+PAGE = $(SHARE)/man/man1/$(PROGRAM_NAME).1
+FOR_BASH = $(SHARE)/bash-completion/completions/$(PROGRAM_NAME)
+FOR_ZSH = $(SHARE)/zsh/site-functions/_$(PROGRAM_NAME)
+FOR_FISH = $(SHARE)/fish/vendor_completions.d/$(PROGRAM_NAME).fish
 install: program-name all
 	install -D -m 755 $(PROGRAM) $(BIN)
 	install -D -m 644 docs/idn2.1 $(PAGE)
-	install -D -m 644 completions/idn2.bash $(COMPLETIONS)
+	install -D -m 644 completions/idn2.bash $(FOR_BASH)
+	install -D -m 644 completions/idn2.zsh $(FOR_ZSH)
+	install -D -m 644 completions/idn2.fish $(FOR_FISH)
+	find tables -name '*.txt' | xargs -I % install -D -m 644 % $(SHARE)/$(PROGRAM_NAME)/%
 	sed -i $(IN_PAGE) $(PAGE)
-	sed -i -e 's/^\(complete .*\) idn2$$/\1 $(PROGRAM_NAME)/' $(COMPLETIONS)
+	sed -i -e 's/^\(complete .*\) idn2$$/\1 $(PROGRAM_NAME)/' $(FOR_BASH)
+	sed -i -e 's/^#compdef idn2$$/#compdef $(PROGRAM_NAME)/' $(FOR_ZSH)
+	sed -i -e 's/^\( *complete -c\) idn2 /\1 $(PROGRAM_NAME) /' $(FOR_FISH)
 
-# Where the manual page names the command: its title, its name, what begins with the command in bold, and examples.
-# Messages begin with 'idn2: ' under each name.
+# Where the manual page names the command: its title, its name, what begins with the command in bold, its tables, and
+# examples. Messages begin with 'idn2: ' under each name.
 ROFF_NAME = $(subst -,\\-,$(PROGRAM_NAME))
 IN_PAGE = -e 's/^\.TH IDN2 /.TH \U$(ROFF_NAME)\E /' -e 's/^idn2 \\- /$(ROFF_NAME) \\- /' \
-    -e 's/^\.B idn2\( \|$$\)/.B $(ROFF_NAME)\1/' -e 's/^\(\$$\|.* |\) idn2 /\1 $(ROFF_NAME) /'
+    -e 's/^\.B idn2\( \|$$\)/.B $(ROFF_NAME)\1/' -e 's|^\.I share/idn2/|.I share/$(ROFF_NAME)/|' \
+    -e 's/^\(\$$\|.* |\) idn2 /\1 $(ROFF_NAME) /'
 
 program-name:
 	@echo '$(PROGRAM_NAME)' | grep -Eqx '[A-Za-z0-9][A-Za-z0-9._+-]*' || { echo 'PROGRAM_NAME is no file name' >&2; exit 2; }
@@ -73,9 +96,13 @@ program-name:
 # One archive for servers without the kit: what is installed, the tables and their scripts, what an engineer reads, and
 # check sums. Each path that these documents name is in it.
 PACKED := idn2-$(VERSION)
+# The version of the C library that the README names.
+C_LIBRARY = $(shell sed -n 's/.*GNU C library, version \([0-9.]*\) or later.*/\1/p' README.md)
 dist:
 	rm -rf $(DIST)/$(PACKED)
 	$(MAKE) --no-print-directory install DESTDIR= PREFIX=$(abspath $(DIST))/$(PACKED)
+	@grep -ao 'GLIBC_[0-9][0-9.]*' $(PROGRAM) | sort -uV | tail -n 1 | grep -Fqx 'GLIBC_$(C_LIBRARY)' || \
+	    { echo 'the program needs another C library than the README says: objdump -T $(PROGRAM)' >&2; exit 1; }
 	find tables -name '*.txt' -o -name '*.py' | xargs -I % install -D -m 644 % $(DIST)/$(PACKED)/%
 	install -D -m 644 -t $(DIST)/$(PACKED)/docs docs/GUIDE.md docs/JSON.md docs/answers.schema.json docs/NOTATION.md \
 	    docs/PROFILE.md docs/GLOSSARY.md docs/idn2.1

@@ -4,8 +4,10 @@
 Written from docs/NOTATION.md alone, with the classes of Unicode's own data (unicode_data.py), so that the program
 can be compared with it. For each table it prints what `idn2 --check-table` prints, after the file's name, all on the
 output: the gaps and the last line, or the message of the first faulty line. A file whose first line is that of version 3
-is checked as a ruleset, by notation/. Status 0 if no table has a fault or a gap, else 1, also where a file or Unicode's
-data is missing.
+is checked as a ruleset, by notation/.
+
+Status: 0 no table has a fault or a gap; 1 one has; 2 a file can't be read, which a message on standard error says, or Unicode's
+data is missing, or no file is named.
 """
 
 import dataclasses
@@ -24,6 +26,8 @@ MOST_TEXT_BYTES = 1_048_576
 MOST_ENTRIES = 4096
 MOST_VARIANTS = 16
 MOST_POINTS = 8
+
+CLEAN, FAULTY, UNUSABLE = 0, 1, 2
 
 VERSION_LINE = b"%version 2"
 
@@ -140,17 +144,30 @@ def report(variants_of):
 
 
 def main(paths):
-    classes, clean = Classes(), True
+    if not paths:
+        return unusable("usage: check.py FILE..")
+    try:
+        classes = Classes()
+    except SystemExit as reason:
+        return unusable(reason)
+    status = CLEAN
     for path in paths:
-        with open(path, "rb") as file:
-            text = file.read()
+        try:
+            with open(path, "rb") as file:
+                text = file.read()
+        except OSError as error:
+            status = unusable(f"{path}: {error.strerror}")
+            continue
         lines, is_clean = (check_ruleset if reading.is_ruleset(text) else check)(text, classes)
-        clean = clean and is_clean
+        status = max(status, CLEAN if is_clean else FAULTY)
         print(f"{path}: " + "\n".join(lines))
-    return 0 if clean else 1
+    return status
+
+
+def unusable(message):
+    print(message, file=sys.stderr)
+    return UNUSABLE
 
 
 if __name__ == "__main__":
-    if not sys.argv[1:]:
-        raise SystemExit("usage: check.py FILE..")
     raise SystemExit(main(sys.argv[1:]))

@@ -12,7 +12,7 @@ import pathlib
 import random
 import sys
 
-from converted_rows import (FAULTS, LABELS, LIMITS, NO_PROPERTIES, PROPERTIES, REFUSALS, ROWS, UNICODE_FILES, long_set,
+from converted_rows import (FAULTS, LABELS, LIMITS, NO_PROPERTIES, PROFILE, PROPERTIES, REFUSALS, ROWS, UNICODE_FILES, long_set,
                             many_entries, refusing)
 from plain_ruleset import PlainRuleset
 from program import PROGRAM, ROOT, run_tests, table_file
@@ -31,7 +31,7 @@ from notation import reading
 from ruleset_labels import NOT_VALID, RulesetLabels, Unknown
 
 UNSAYABLE = "refused: there is no such table\n"
-SEEDS = range(1, 51)
+SEEDS = range(1, 71)
 # So many random rulesets at least are converted, and so many of their labels accepted. Labels with more variants are left out.
 LEAST_CONVERTED, LEAST_ACCEPTED = 20, 300
 MOST_SPELLED = 60
@@ -48,11 +48,11 @@ class KnownProgram(Program):
         return {point: self.known[point] for point in points}
 
 
-def converted(path):
+def converted(path, *options):
     """What is made of a file, without a process: the text, the messages and the status."""
     told, command.Program = [], KnownProgram
     try:
-        text = command.made(command.options_of(["--idn2", PROGRAM, path]), told.append)
+        text = command.made(command.options_of(["--idn2", PROGRAM, *options, path]), told.append)
     except Fault as fault:
         text, told = None, [str(fault)]
     messages = "".join(line + "\n" for line in told)
@@ -144,6 +144,25 @@ def tells_what_it_leaves_out(folder):
         assert all(f"# {line}\n" in comments_of(text) for line in without_gaps), text
 
 
+def leaves_out_what_the_program_does_not_register_only_if_asked(folder):
+    """Each version; one that leaves out nothing but what no label can have needs no option."""
+    for data, lines, told in PROFILE:
+        path = ruleset(folder, data)
+        for version in ("3", "2"):
+            options = ["--version", version]
+            text, messages, status = converted(path, *options)
+            if lines is None:
+                assert (text, messages, status) == ("", "no entry of it can stand in a table\n" + told, 1), (data, messages)
+            elif told:
+                *lines_told, last = messages.splitlines(keepends=True)
+                assert (text, "".join(lines_told), status) == ("", told, 1) and "--leave-out does so" in last, (data, messages)
+                text, messages, status = converted(path, *options, "--leave-out")
+            if lines is not None:
+                assert status == 0 and messages.startswith(told) and ("profile" in messages) == bool(told), (data, messages)
+                assert entries_of(text) == f"%version {version}\n" + "".join(line + "\n" for line in lines), (data, text)
+                assert told[:20] in text, (data, text)
+
+
 def keeps_limits(folder):
     for data, rules, messages in LIMITS:
         found = converted(ruleset(folder, data, rules))
@@ -195,6 +214,7 @@ def says_what_stored_rulesets_say(folder):
     assert refused == [
         ("rfc4290.txt", "no entry of it can stand in a table"),
         ("standard-rules.xml", "line 50: action 'invalid': the action on line 49 goes first, and is 'blocked'"),
+        ("types-of-its-own.xml", "line 31: type 'unheard-of': no action names it, so that it would refuse and block no label"),
     ], refused
 
 
@@ -276,6 +296,7 @@ TESTS = [
     knows_properties,
     refuses_faults,
     tells_what_it_leaves_out,
+    leaves_out_what_the_program_does_not_register_only_if_asked,
     keeps_limits,
     says_large_rulesets,
     joins_in_two_ways,

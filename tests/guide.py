@@ -6,6 +6,7 @@ Every test is run in each of the SETTINGS. The last line is 'N passed, M failed'
 failed. The sessions that the guide shows are run by program.py."""
 
 import concurrent.futures
+import contextlib
 import glob
 import os
 import random
@@ -18,8 +19,8 @@ import subprocess
 import sys
 
 from postgresql import server
-from program import (LIMIT, PROGRAM, ROOT, TABLES, expect_session, is_registrable, markdown_blocks, markdown_files,
-                     run_tests, sessions_of, spelled)
+from program import (LIMIT, PROGRAM, ROOT, TABLES, expect_session, is_installed, is_registrable, is_there, markdown_blocks,
+                     markdown_files, run_tests, sessions_of, spelled)
 
 with open(os.path.join(ROOT, "docs", "GUIDE.md"), encoding="utf-8") as file:
     GUIDE = file.read()
@@ -35,10 +36,6 @@ CONTROL_CHARACTERS = [bytes([byte]) for byte in (*range(0x20), 0x7F)]
 # How a script begins that stands for the program: its version it tells as the program does.
 VERSION_ALONE = f"#!/bin/sh\n[ \"$1\" = --version ] && exec {PROGRAM} --version\n"
 INTERPRETERS = {"ask.sh": "bash", **{name: sys.executable for name in SCRIPTS if name.endswith(".py")}}
-# The scripts that keep the program running and answer requests, and what they say of the label haus. One of them needs jq.
-SERVERS = [(["ask.py", GERMAN], b"haus\n")]
-if shutil.which("jq"):
-    SERVERS.append((["ask.sh"], b"registrable: haus\n"))
 # A question for each script that asks the program of one label, or of some. 'mass' and '中國' are taken.
 QUESTIONS = (
     ["accept.sh", GERMAN, GERMAN, "registered.txt", "mass"],
@@ -52,6 +49,12 @@ QUESTIONS = (
     ["change.sh", GERMAN, GERMAN, "registered.txt"],
     ["page.sh", GERMAN, "mass", "1", "pages"],
 )
+
+
+def servers():
+    """The scripts that keep the program running and answer requests, and what they say of the label haus. One of them needs
+    jq."""
+    return [(["ask.py", GERMAN], b"haus\n"), *([(["ask.sh"], b"registrable: haus\n")] if is_installed("jq") else ())]
 
 
 class Kit:
@@ -261,7 +264,7 @@ def refuses_each_control_character(kit):
     kit.expect(["table_of.sh", "maß\r", GERMAN], b"", 1, message)
     kit.expect(["page.sh", GERMAN, "maß\r", "9", "pages"], b"", 1, message)
     requests = b"".join(b"ma" + character + b"\n" for character in CONTROL_CHARACTERS if character != b"\n")
-    for words, _ in SERVERS:
+    for words, _ in servers():
         kit.expect(words, b"refused: control character\n" * 32, 0, given=requests)
 
 
@@ -308,15 +311,15 @@ def takes_what_it_cannot_read_for_unknown(kit):
     kit.write("faulty.txt", "0061\n0061\n")
     os.mkdir(os.path.join(kit.folder, "directory"))
     for bad in ("absent", "directory", "gap.txt", "faulty.txt", ""):
-        kit.expect_unknown(["taken.sh", bad, "registered.txt", "maus"], b"no table, or one with gaps: ")
-        kit.expect_unknown(["accept.sh", GERMAN, bad, "registered.txt", "maus"], b"no table, or one with gaps: ")
-        kit.expect_unknown(["keys.sh", bad, "maus"], b"no table, or one with gaps: ")
-        kit.expect_unknown(["key_taken.sh", bad, "registered.txt", "maus"], b"no table, or one with gaps: ")
+        kit.expect_unknown(["taken.sh", bad, "registered.txt", "maus"], b"no table, or ")
+        kit.expect_unknown(["accept.sh", GERMAN, bad, "registered.txt", "maus"], b"no table, or ")
+        kit.expect_unknown(["keys.sh", bad, "maus"], b"no table, or ")
+        kit.expect_unknown(["key_taken.sh", bad, "registered.txt", "maus"], b"no table, or ")
         if bad != "gap.txt":
             for words in (["accept.sh", bad, GERMAN, "registered.txt", "maus"], ["list_all.sh", bad, "maus"],
                           ["table_of.sh", "maus", bad], ["change.sh", GERMAN, bad, "registered.txt"],
                           ["change.sh", bad, GERMAN, "registered.txt"], ["combine.py", GERMAN, bad]):
-                kit.expect_unknown(words, b"idn2: ")
+                kit.expect_unknown(words, b"idn2: " if bad == "faulty.txt" else b"no table, or no entry in it: " + bad.encode())
     kit.expect_unknown(["keys.sh", GERMAN, "maus"], b"a sequence has several code points: tables/german.txt\n")
     for text, message in (
         (b"Haus\n", b"1: 10 disallowed code point\n"),
@@ -341,6 +344,26 @@ def takes_what_it_cannot_read_for_unknown(kit):
 
 
 SIGMA = "%version 3\n%rule end _ $\n03B1..03C1\n03C3|03C2 when end\n03C2|03C3\n03C4..03C9\n"
+
+
+@in_each_setting
+def takes_an_emptied_table_for_unknown(kit):
+    """A ruleset or a table of which no entry is left: nothing is said of a label, and no zone is made."""
+    kit.write("registered.txt", "maß\n")
+    kit.write("names.txt", "maß\n")
+    kit.write("keys.txt", "xn--fiqs8s\n")
+    with sqlite3.connect(os.path.join(kit.folder, "registered.db")) as database:
+        database.execute("create table registered (label text primary key)")
+    questions = [words for words in QUESTIONS if GERMAN in words or HAN in words] + [
+        ["ask.py", GERMAN], ["collisions.py", GERMAN, "registered.db"], ["combine.py", GERMAN, HAN]]
+    assert len(questions) == len(QUESTIONS) + 2, questions
+    for text in (b"", b"\n", b"%version 3\n", b"# made of it\r\n \t\r\n", b"%version 2\n", b"\0" * 512):
+        kit.write("emptied.txt", text)
+        for words in questions:
+            for at in (at for at, word in enumerate(words) if word in (GERMAN, HAN)):
+                kit.expect_unknown([*words[:at], "emptied.txt", *words[at + 1:]], b"emptied.txt", given=b"haus\n")
+    assert not os.path.exists(os.path.join(kit.folder, "pages"))
+    assert kit.read("names.txt") == "maß\n".encode()
 
 
 @in_each_setting
@@ -415,7 +438,7 @@ def takes_a_full_disk_for_unknown(kit):
             (["table_of.sh", "haus", GERMAN], b""),
             (["change.sh", GERMAN, "new.txt", "strasse.txt"], b""),
             (["page.sh", GERMAN, "sss", "2", "pages"], b""),
-            *((words, b"haus\n") for words, _ in SERVERS),
+            *((words, b"haus\n") for words, _ in servers()),
         ):
             _, message, status = kit.run(*words, given=given, stdout=full)
             assert status == NOT_KNOWN and message, (words, message, status)
@@ -492,16 +515,16 @@ def installs_nothing_of_an_archive_with_a_wrong_sum(kit):
     pasted = pasted.replace(" installed/", f" '{os.path.join(kit.folder, 'installed')}'")
     make = (f"mkdir -p installed {packed}/bin {packed}/share && echo program > {packed}/bin/idn2 && cd {packed} &&"
             " sha256sum bin/idn2 > SHA256SUMS && {0} cd .. && tar czf {1} {2} && rm -r {2} && sha256sum {1} > {1}.sha256 && {3}")
-    for inner, outer, is_installed in (("true &&", "true", True), ("echo other > bin/idn2 &&", "true", False),
-                                       ("rm bin/idn2 &&", "true", False), ("rm SHA256SUMS &&", "true", False),
-                                       ("true &&", f"echo >> {archive}", False), ("true &&", f"rm {archive}", False),
-                                       ("true &&", f"rm {archive}.sha256", False)):
+    for inner, outer, is_whole in (("true &&", "true", True), ("echo other > bin/idn2 &&", "true", False),
+                                   ("rm bin/idn2 &&", "true", False), ("rm SHA256SUMS &&", "true", False),
+                                   ("true &&", f"echo >> {archive}", False), ("true &&", f"rm {archive}", False),
+                                   ("true &&", f"rm {archive}.sha256", False)):
         made = make.format(inner, archive, packed, outer)
         subprocess.run(["bash", "-ec", made], cwd=kit.folder, env=kit.environment, check=True, timeout=LIMIT)
         done = subprocess.run(["bash"], input=pasted.encode(), cwd=kit.folder, env=kit.environment, capture_output=True,
                               timeout=LIMIT)
         found = os.path.exists(os.path.join(kit.folder, "installed", "bin", "idn2"))
-        assert (found, done.returncode == 0) == (is_installed, is_installed), (inner, outer, done)
+        assert (found, done.returncode == 0) == (is_whole, is_whole), (inner, outer, done)
         subprocess.run(f"rm -rf installed {packed} {archive}*", shell=True, cwd=kit.folder, check=True, timeout=LIMIT)
 
 
@@ -775,7 +798,7 @@ def chooses_among_tables(kit):
         ("", b"", 1, b"idn2: line 1: 3 empty\n"),
     ):
         kit.expect(["table_of.sh", label, "latin.txt", "greek.txt"], names, status, message)
-    kit.expect(["table_of.sh", "abc", "absent", "latin.txt"], b"", NOT_KNOWN, b"idn2: 60 read fault: absent\n")
+    kit.expect(["table_of.sh", "abc", "absent", "latin.txt"], b"", NOT_KNOWN, b"no table, or no entry in it: absent\n")
 
 
 @in_each_setting
@@ -886,7 +909,7 @@ def serves_requests(kit):
     middle = [b"refused: 1 not UTF-8", b"refused: 2 line too long", b"refused: control character"]
     tested = [b"registrable: xn--ma-hia", *refused, b"registrable: xn--maana-pta", *middle, b"registrable: xn--fa-hia"]
     listings = [b"mass xn--ma-hia", *refused, b"refused: 40 not made of table entries", *middle, b"fass xn--fa-hia"]
-    for words, _ in SERVERS:
+    for words, _ in servers():
         kit.expect(words, b"\n".join(tested if words == ["ask.sh"] else listings) + b"\n", 0, given=given)
         kit.expect(words, b"", 0, given=b"")
     output, _, status = kit.run("ask.py", HAN, given=LONG.encode())
@@ -895,7 +918,7 @@ def serves_requests(kit):
 
 @in_each_setting
 def serves_each_request_before_the_next(kit):
-    for words, _ in SERVERS:
+    for words, _ in servers():
         command = kit.command(*words)
         with subprocess.Popen(command, cwd=kit.folder, env=kit.environment, stdin=subprocess.PIPE,
                               stdout=subprocess.PIPE) as partner:
@@ -921,16 +944,39 @@ def tells_that_the_program_has_ended(kit):
     part = VERSION_ALONE + f"head -n 1 | {PROGRAM} \"$@\" | head -c 30\n"
     for program, answers in ((first, 1), (closed, 1), (last, 0), (fault, 0), (part, 0)):
         kit.instead_of("idn2", program)
-        for words, answer in SERVERS:
+        for words, answer in servers():
             output, message, status = kit.run(*words, given=b"haus\nmaus\nlaus\n")
             assert (output, status) == (answer * answers, NOT_KNOWN), (words, output, message, status)
 
 
 @in_each_setting
+def takes_no_answer_for_that_of_another_request(kit):
+    """The program is stopped, so that a request has no answer in time, and then goes on; or an answer has the line of another."""
+    kit.write("ask.py", SCRIPTS["ask.py"].replace("SECONDS = 60", "SECONDS = 1"))
+    kit.instead_of("idn2", f"#!/bin/sh\necho $$ > pid\nexec {PROGRAM} \"$@\"\n")
+    with subprocess.Popen(kit.command("ask.py", GERMAN), cwd=kit.folder, env=kit.environment, stdin=subprocess.PIPE,
+                          stdout=subprocess.PIPE, stderr=subprocess.PIPE) as server:
+        signal.alarm(LIMIT)
+        server.stdin.write(b"haus\n")
+        server.stdin.flush()
+        assert server.stdout.readline() == b"haus\n"
+        program = int(kit.read("pid"))
+        os.kill(program, signal.SIGSTOP)
+        server.stdin.write(b"maus\nlaus\n")
+        server.stdin.flush()
+        assert (server.stdout.read(), server.wait(LIMIT)) == (b"", NOT_KNOWN)
+        signal.alarm(0)
+    with contextlib.suppress(FileNotFoundError), open(f"/proc/{program}/stat", encoding="utf-8") as file:
+        assert file.read().rpartition(")")[2].split()[0] == "Z"
+    kit.instead_of("idn2", f"#!/bin/sh\n{PROGRAM} \"$@\" | sed -u 's/\"line\":2,/\"line\":1,/'\n")
+    output, message, status = kit.run("ask.py", GERMAN, given=b"haus\nmaus\nlaus\n")
+    assert (output, status) == (b"haus\n", NOT_KNOWN) and b"no answer to this request" in message, (output, message, status)
+
+
+@in_each_setting
 def tells_that_jq_has_ended(kit):
     """It is missing, fails at once, or after some answers."""
-    if not shutil.which("jq"):
-        print("guide ask.sh: not run, since jq is not installed")
+    if not is_installed("jq"):
         return
     for text, answers in (("#!/nowhere\n", 0), ("#!/bin/sh\nexit 5\n", 0),
                           (f"#!/bin/sh\nhead -n 1 | {shutil.which('jq')} \"$@\"\n", 1)):
@@ -942,7 +988,7 @@ def tells_that_jq_has_ended(kit):
 @in_each_setting
 def tells_that_not_all_requests_were_read(kit):
     """The input can't be read, or sed is missing, fails, or is killed before the last request."""
-    if not shutil.which("jq"):
+    if not is_installed("jq"):
         return
     unread = b"not all requests were read\n"
     for redirection in ("<&-", "< tables"):
@@ -999,17 +1045,15 @@ def under(program, folder, command):
     return done.stdout + done.stderr, done.returncode
 
 
-def is_compared(name, is_there):
-    """Tells what is left out where the program of libidn2 isn't there."""
-    if not is_there:
-        print(f"guide {name}: not compared, since idn2 of libidn2 {TOLD_VERSION} is not installed")
-    return is_there
+def is_told_of():
+    """Whether libidn2's program is there, in the version of which the guide tells."""
+    return is_there(f"idn2 of libidn2 {TOLD_VERSION}", LIBIDN2_VERSION == TOLD_VERSION)
 
 
 def answers_as_the_guide_says_beside_libidn2(folder):
     rows = rows_of("Answers")
     assert len(rows) >= 20, len(rows)
-    is_beside = is_compared("answers", LIBIDN2_VERSION == TOLD_VERSION)
+    is_beside = is_told_of()
     for command, here, there in rows:
         command = command.strip("`")
         found = under(PROGRAM, os.path.join(folder, "here"), command)
@@ -1030,7 +1074,7 @@ def has_the_options_that_the_guide_says_beside_libidn2(folder):
     assert len(others) == 6, others
     for option in others:
         assert under(PROGRAM, os.path.join(folder, "here"), f"idn2 {option} x") == (b"idn2: 50 usage\n", 2), option
-    if not is_compared("options", LIBIDN2_VERSION == TOLD_VERSION):
+    if not is_told_of():
         return
     helped, status = under(LIBIDN2, os.path.join(folder, "there"), "idn2 --help")
     helped = helped.decode().split("short options too.")[1].split("Report")[0]
@@ -1049,7 +1093,7 @@ def fails_with_the_program_of_libidn2(kit):
     kit.write("names.txt", "maß\n")
     kit.write("keys.txt", "xn--fiqs8s\n")
     programs = ["#!/bin/sh\n[ \"$1\" = --version ] && exec echo 'idn2 (Libidn2) 2.3.3'\nexit 1\n", "#!/nowhere\n"]
-    if is_compared("scripts", LIBIDN2 is not None):
+    if is_there("idn2 of libidn2", LIBIDN2):
         programs.append(f"#!/bin/sh\nexec {LIBIDN2} \"$@\"\n")
     for program in programs:
         kit.instead_of("idn2", program)
@@ -1076,6 +1120,7 @@ TESTS = [
     keeps_runs_at_once_apart,
     takes_a_stop_for_unknown,
     takes_what_it_cannot_read_for_unknown,
+    takes_an_emptied_table_for_unknown,
     takes_rulesets_as_tables,
     finds_what_a_ruleset_hides,
     takes_a_full_disk_for_unknown,
@@ -1098,6 +1143,7 @@ TESTS = [
     serves_requests,
     serves_each_request_before_the_next,
     tells_that_the_program_has_ended,
+    takes_no_answer_for_that_of_another_request,
     tells_that_jq_has_ended,
     tells_that_not_all_requests_were_read,
     answers_as_the_guide_says_beside_libidn2,

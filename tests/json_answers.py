@@ -10,14 +10,14 @@ import json
 import os
 import random
 import re
-import shutil
 import subprocess
 import sys
 import textwrap
 
 from explained import (DECODE, GERMAN, LOOKUP, MORE_ROWS, REGISTER, REGISTERED_ROWS, ROWS as CAUSES, SOURCES, TABLE_ROWS,
                        VERSION_3, given_of, words_of)
-from program import LIMIT, PROGRAM, ROOT, TABLES, expect, run, run_tests, table_file, text_of as text_of_file
+from program import (LIMIT, PROGRAM, ROOT, TABLES, expect, is_installed, is_there, python_with, run, run_tests, table_file,
+                     text_of as text_of_file)
 
 try:
     import jsonschema
@@ -196,7 +196,7 @@ def is_described(each):
 
 def agree(objects):
     """What is described by the plain check is so by the package, which is much slower."""
-    for each in objects if VALIDATOR else ():
+    for each in objects if is_there("python3-jsonschema", VALIDATOR) else ():
         assert VALIDATOR.is_valid(each) == is_described(each), each
 
 
@@ -536,14 +536,48 @@ def describes_no_other_objects(folder):
     agree(random.Random(8259).sample(tried, 200))
 
 
+# The co-process of docs/JSON.md is stopped or late, and goes on; then it is asked for another label.
+LATE = """
+import os, signal, time
+def interrupt(*_):
+    raise InterruptedError
+signal.signal(signal.SIGALRM, interrupt)
+labels = Labels("--register", seconds={})
+print(labels.ask("haus")[-1]["input"])
+os.kill(labels.child.pid, signal.SIGSTOP)
+signal.alarm({})
+for label in ("maus", "laus"):
+    try:
+        print(labels.ask(label)[-1]["input"])
+    except (EOFError, OSError, ValueError) as reason:
+        print(label, type(reason).__name__)
+    labels.child.poll() is None and labels.child.send_signal(signal.SIGCONT)
+    time.sleep(0.2)
+"""
+
+
+def takes_no_answer_for_that_of_another_request(folder):
+    """The co-process of docs/JSON.md: without an answer in time; where it is interrupted; and where a line is that of another."""
+    partner = shown_block("import json").partition("labels =")[0]
+    for seconds, alarm, reason in ((1, 0, "EOFError"), (LIMIT, 1, "InterruptedError")):
+        output, status = run_example(folder, [sys.executable, "-c", partner + LATE.format(seconds, alarm)])
+        assert re.fullmatch(rf"haus\nmaus {reason}\nlaus \w+Error\n", output) and status == 0, (output, status)
+    os.remove(os.path.join(folder, "idn2"))
+    with open(os.path.join(folder, "idn2"), "w", encoding="utf-8") as file:
+        file.write(f"#!/bin/sh\n{PROGRAM} \"$@\" | sed -u 's/\"line\":2,/\"line\":1,/'\n")
+    os.chmod(os.path.join(folder, "idn2"), 0o755)
+    asked = partner + 'labels = Labels("--register")\nfor label in ("haus", "maus"):\n    print(labels.ask(label))\n'
+    output, status = run_example(folder, [sys.executable, "-c", asked])
+    assert output.count("\n") == 1 and "haus" in output and status == 1, (output, status)
+
+
 def takes_no_part_of_a_listing_for_the_whole(folder):
     """The co-process of docs/JSON.md, and its pipes where jq is there: a stop, a refusal or a fault is never passed over."""
     partner = shown_block("import json") + "print(len(variants))\n"
     for old, new, output, status in (("x", "x", "2\n", 0), ('german.txt"', 'german.txt", "--limit", "1"', "", 1),
                                      ('"straße"', '"Straße"', "", 1), ("german.txt", "nowhere.txt", "", 1)):
         assert run_example(folder, [sys.executable, "-c", partner.replace(old, new)]) == (output, status), new
-    if not shutil.which("jq"):
-        print("json_answers: the pipes with jq are not run, since jq is not installed")
+    if not is_installed("jq"):
         return
     pipes = shown_block("set -o pipefail")
     first, second = re.split(r"\n(?=idn2 --json --variants)", pipes)
@@ -577,10 +611,11 @@ TESTS = [
     tells_which_numbers_have_a_member,
     describes_refusals_by_their_members,
     describes_no_other_objects,
+    takes_no_answer_for_that_of_another_request,
     takes_no_part_of_a_listing_for_the_whole,
 ]
 
 if __name__ == "__main__":
-    if jsonschema is None:
-        print("json_answers: the package jsonschema is not here, so objects are held against the schema by the plain check alone")
+    if jsonschema is None and (python := python_with("jsonschema")):
+        os.execv(python, [python, *sys.argv])
     sys.exit(run_tests("json_answers", TESTS))

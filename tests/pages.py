@@ -10,11 +10,10 @@ import functools
 import glob
 import os
 import re
-import shutil
 import subprocess
 import sys
 
-from program import LIMIT, PROGRAM, ROOT, TABLES, expect, manual_blocks, run, run_tests, sessions_of, text_of
+from program import LIMIT, PROGRAM, ROOT, TABLES, expect, is_installed, make, manual_blocks, run, run_tests, sessions_of, text_of
 
 sys.path += [os.path.join(ROOT, "conformance"), os.path.join(ROOT, "tables")]
 
@@ -80,12 +79,6 @@ def figures():
     return Figures(Kit())
 
 
-def make(folder, target, *words):
-    """Runs make with a command that does nothing for rt, so that the program here is taken as it is."""
-    words = ["make", "--no-print-directory", "-s", "-C", ROOT, target, "RT=true", *words]
-    return subprocess.run(words, cwd=folder, capture_output=True, encoding="utf-8", timeout=LIMIT)
-
-
 def counts_the_figures_of_the_profile(folder):
     """Each statement that is counted stands in the document, and no figure stands there that isn't counted."""
     lines = text_of("docs", "PROFILE.md").splitlines()
@@ -141,10 +134,8 @@ def answers_as_the_profile_shows(folder):
 def formatters():
     """The commands that must format a manual page without a word, as far as they are installed."""
     for command in (["groff", "-man", "-Tutf8", "-ww"], ["mandoc", "-T", "lint", "-W", "warning"]):
-        if shutil.which(command[0]):
+        if is_installed(command[0]):
             yield command
-        else:
-            print(f"pages: skipped {command[0]}, which is not installed")
 
 
 def expect_well_formed(page):
@@ -161,7 +152,7 @@ def formats_the_manual_page(folder):
 @runs_the_program
 def breaks_no_option_of_the_manual_page(folder):
     """At each width of a line an option stands as often as the page has it."""
-    if not any(command[0] == "groff" for command in formatters()):
+    if not is_installed("groff"):
         return
     written = text_of("docs", "idn2.1").replace("\\-", "-")
     for width in range(60, 121, 6):
@@ -275,32 +266,103 @@ def answers_alike_in_each_locale(folder):
         assert len({(done.stdout, done.stderr, done.returncode) for done in answers}) == 1, answers
 
 
+# Lines to complete, and what they are completed to.
+COMPLETED = (
+    ("--re", ["--register"]),
+    ("--register --l", []),
+    ("--a", []),
+    ("--variants t --a", ["--after", "--among"]),
+    ("--variants t --j", ["--json", "--jump"]),
+    ("--ruleset=t --j", ["--json", "--jump"]),
+    ("--variants t --among tables/ger", ["german.txt"]),
+    ("--variants t --among f --t", ["--tr46nt"]),
+    ("--variants t --tries 9 --a", ["--after"]),
+    ("--variants t --among f --ju", []),
+    ("--variants t --limit 9 --ju", []),
+    ("--variants t --jump --a", []),
+    ("--variants t --jump --l", []),
+    ("--j", ["--json"]),
+    ("--json --j", []),
+    ("--variants t --limit 7 --l", []),
+    ("--variants tables/ger", ["german.txt"]),
+    ("--check-table=tables/ger", ["german.txt"]),
+    ("--variants t --limit ", []),
+    ("-r -- --q", []),
+    ("", []),
+)
+COMPLETES = {
+    "bash": ["bash", "--norc", "-c", """source "$0"
+        for line; do
+            read -ra COMP_WORDS <<< "${line//=/ = }"
+            [[ $line != *" " ]] || COMP_WORDS+=("")
+            COMP_CWORD=$((${#COMP_WORDS[@]} - 1))
+            _idn2
+            printf '%s\\n' "${COMPREPLY[@]}" end
+        done"""],
+    "zsh": ["zsh", "-f", os.path.join(ROOT, "tests", "complete.zsh")],
+    "fish": ["fish", "--no-config", "-c", "source $argv[1]; for line in $argv[2..]; complete -C $line; echo end; end"],
+}
+
+
+def completed(shell, lines):
+    """What a shell completes each line to: options, and the names of files without their folders."""
+    words = [*COMPLETES[shell], os.path.join(ROOT, "completions", f"idn2.{shell}"), *(f"idn2 {line}" for line in lines)]
+    done = subprocess.run(words, cwd=ROOT, capture_output=True, encoding="utf-8", timeout=LIMIT)
+    *blocks, rest = re.split("^end\n", done.stdout, flags=re.MULTILINE)
+    assert (len(blocks), rest, done.stderr) == (len(lines), "", ""), (shell, done)
+    for block in blocks:
+        matches = (line.split("\t")[0] for line in block.splitlines())
+        yield sorted(re.sub("^(--.*=)?.*/", "", match) for match in matches if match)
+
+
+@runs_the_program
+def completes_words_in_each_shell(folder):
+    """As the rows say; each option that is completed is one that the program has, and each of the help's is completed. Where a
+    shell shows what an option is for, the help says the same."""
+    help = run(["--help"]).stdout.decode()
+    helped = set(re.findall(r"(?<![\w-])--?[A-Za-z][\w-]*", help.split("Examples:")[0]))
+    meanings = re.findall(r"^ +(?:-\w, )?--[\w-]+(?: <\w+>)?  +(.*)", help, re.MULTILINE)
+    for shell in filter(is_installed, COMPLETES):
+        *found, alone, beside = completed(shell, [*(line for line, _ in COMPLETED), "-", "--variants t -"])
+        for (line, wanted), each in zip(COMPLETED, found):
+            assert each == wanted, (shell, line, each)
+        assert {*alone, *beside} == helped - {"--after=TEXT"}, (shell, helped ^ {*alone, *beside})
+        text = text_of("completions", f"idn2.{shell}")
+        assert shell == "bash" or meanings and all(each in text for each in meanings), (shell, meanings)
+
+
 @runs_the_program
 def installs_under_another_name(folder):
-    """The program, its page and its completions have that name; the page's examples run, and its messages stay."""
-    done = make(folder, "install", f"PREFIX={folder}", f"PROGRAM_NAME={OTHER_NAME}")
+    """The program, its page, its completions and its tables have that name; the page's examples run beside the tables, and the
+    program's messages stay."""
+    prefix = os.path.join(folder, "prefix")
+    done = make(folder, "install", f"PREFIX={prefix}", f"PROGRAM_NAME={OTHER_NAME}")
     assert (done.returncode, done.stderr) == (0, ""), done
-    files = sorted(os.path.relpath(path, folder) for path in glob.glob(os.path.join(folder, "**"), recursive=True)
-                   if os.path.isfile(path))
-    page, completions = f"share/man/man1/{OTHER_NAME}.1", f"share/bash-completion/completions/{OTHER_NAME}"
-    assert files == [f"bin/{OTHER_NAME}", completions, page], files
-    expect_well_formed(os.path.join(folder, page))
-    source = f"source '{folder}/{completions}'; complete -p"
-    done = subprocess.run(["bash", "--norc", "-c", source], capture_output=True, encoding="utf-8", timeout=LIMIT)
-    assert (done.stdout, done.stderr) == (f"complete -o filenames -F _idn2 {OTHER_NAME}\n", ""), done
-    with open(os.path.join(folder, page), encoding="utf-8") as file:
+    paths = filter(os.path.isfile, glob.glob(f"{prefix}/**", recursive=True))
+    files = {os.path.relpath(path, prefix) for path in paths}
+    page, share = f"share/man/man1/{OTHER_NAME}.1", f"share/{OTHER_NAME}"
+    heads = {f"share/bash-completion/completions/{OTHER_NAME}": f"complete -o filenames -F _idn2 {OTHER_NAME}\n",
+             f"share/zsh/site-functions/_{OTHER_NAME}": f"#compdef {OTHER_NAME}\n",
+             f"share/fish/vendor_completions.d/{OTHER_NAME}.fish": f"complete -c {OTHER_NAME} -f\n"}
+    tables = {os.path.join(share, os.path.relpath(path, ROOT)) for path in glob.glob(f"{TABLES}/**/*.txt", recursive=True)}
+    assert files == {f"bin/{OTHER_NAME}", page, *heads, *tables}, files
+    expect_well_formed(os.path.join(prefix, page))
+    for path, head in heads.items():
+        with open(os.path.join(prefix, path), encoding="utf-8") as file:
+            text = file.read()
+        assert head in text and not re.search(r"(complete.*|#compdef) idn2(?![\w-])", text), (path, text)
+    with open(os.path.join(prefix, page), encoding="utf-8") as file:
         text = file.read()
-    os.symlink(TABLES, os.path.join(folder, "tables"))
-    run_examples(folder, text)
+    run_examples(prefix, os.path.join(prefix, share), text)
     # Nothing else is different, and the command has no other name.
     other = OTHER_NAME.replace("-", "\\-")
     assert text.replace(other, "idn2").replace(other.upper(), "IDN2") == text_of("docs", "idn2.1"), text
-    assert not re.search(r"^(\.TH |\.B )?idn2( |$)|[$|] idn2 ", text, re.MULTILINE | re.IGNORECASE), text
+    assert not re.search(r"^(\.TH |\.B )?idn2( |$)|[$|] idn2 |share/idn2/", text, re.MULTILINE | re.IGNORECASE), text
 
 
-def run_examples(folder, page):
-    """The examples of a page, with nothing but its own program and what each system has."""
-    path = os.path.join(folder, "bin") + os.pathsep + "/usr/bin" + os.pathsep + "/bin"
+def run_examples(prefix, folder, page):
+    """The examples of a page in a folder, with nothing but its own program and what each system has."""
+    path = os.path.join(prefix, "bin") + os.pathsep + "/usr/bin" + os.pathsep + "/bin"
     sessions = [session for block in manual_blocks(page) for session in sessions_of(block)]
     assert len(sessions) >= 6, sessions
     for command, lines in sessions:
@@ -488,11 +550,125 @@ def names_only_paths_that_are_there(folder):
 
 @runs_the_program
 def ends_as_the_readme_shows(folder):
-    """What `make run` prints at its end."""
-    shown = re.search(r"`make run` ends with .*:\n\n((?:    .*\n)+)", text_of("README.md")).group(1)
-    words = ["make", "--no-print-directory", "-C", ROOT, "run", "RT=true"]
-    done = subprocess.run(words, capture_output=True, encoding="utf-8", timeout=LIMIT)
-    assert done.stdout.endswith("\n" + re.sub("(?m)^    ", "", shown)), (shown, done)
+    """What `make run` prints where the program is proved."""
+    shown = re.search(r"`make run` prints .*:\n\n((?:    .*\n)+)", text_of("README.md")).group(1)
+    open(os.path.join(folder, "proved"), "w").close()
+    done = make(folder, "run")
+    assert done.stdout == re.sub("(?m)^    ", "", shown), (shown, done)
+
+
+NOT_PROVED = "not proved yet: make proves it, in about half an hour"
+
+
+def runs_the_main_job_without_a_proof_until_make_has_made_it(folder):
+    """Where the program isn't made of the sources as they stand, too; and only `make` proves. In a small copy of the repository,
+    with an rt that tells what it is asked for and makes a program. It fails where there is a file `fails`, and where there is
+    one `edits`, a source changes while it proves."""
+    crate = os.path.join(folder, "crates", "idn2")
+    asked, built, source = (os.path.join(crate, name) for name in ("asked", "out/idn2", "src/main.rt"))
+    for name in ("src", "specs", "proofs"):
+        os.makedirs(os.path.join(crate, name))
+    for path in (source, os.path.join(folder, "crates.txt"), os.path.join(crate, "stdin")):
+        open(path, "w").close()
+    os.symlink(TABLES, os.path.join(folder, "tables"))
+    rt = os.path.join(folder, "rt")
+    with open(rt, "w", encoding="utf-8") as file:
+        file.write("#!/bin/sh\n[ -e fails ] && exit 1\necho \"$*\" >> asked\n[ $1 = try ] && echo tried && exit\n"
+                   "[ -e edits ] && sleep 0.1 && echo edited >> src/main.rt\n"
+                   "echo '#!/bin/sh\necho listed' > out/idn2 && chmod +x out/idn2\n")
+    os.chmod(rt, 0o755)
+
+    def ask(target):
+        words = ["make", "--no-print-directory", "-s", "-C", folder, "-f", os.path.join(ROOT, "Makefile"), f"RT={rt}", target]
+        done = subprocess.run(words, capture_output=True, encoding="utf-8", timeout=LIMIT)
+        return done.stdout.splitlines()[-2:], done.returncode
+
+    def expect_unproved(case):
+        if os.path.exists(asked):
+            os.remove(asked)
+        assert ask("run") == (["tried", NOT_PROVED], 0), case
+        with open(asked, encoding="utf-8") as file:
+            assert file.read() == f"try -- --variants {folder}/tables/german.txt strasse\n", case
+
+    def write_to(path):
+        with open(path, "a", encoding="utf-8") as file:
+            file.write("changed\n")
+
+    expect_unproved("nothing is made")
+    old = os.stat(source)
+    changes = {
+        "changed": lambda: write_to(source),
+        "changed, with the time that it had": lambda: (write_to(source), os.utime(source, ns=(old.st_atime_ns, old.st_mtime_ns))),
+        "new": lambda: write_to(os.path.join(crate, "specs", "New.antt")),
+        "moved": lambda: os.rename(os.path.join(crate, "specs", "New.antt"), os.path.join(crate, "proofs", "New.antt")),
+        "removed": lambda: os.remove(os.path.join(crate, "proofs", "New.antt")),
+        "a folder that is gone": lambda: os.rmdir(os.path.join(crate, "specs")),
+    }
+    for case, change in changes.items():
+        assert ask("all")[1] == 0
+        os.remove(asked)
+        assert ask("run") == (["listed", "proved"], 0) and not os.path.exists(asked), case
+        change()
+        expect_unproved(case)
+    os.mkdir(os.path.join(crate, "specs"))
+    for name, is_made in (("fails", False), ("edits", True)):
+        write_to(os.path.join(crate, name))
+        assert (ask("all")[1] == 0) == is_made, name
+        if not is_made:
+            found, status = ask("run")
+            assert status != 0 and found == ["idn2 --variants tables/german.txt strasse"], found
+        os.remove(os.path.join(crate, name))
+        expect_unproved(name)
+    assert ask("all")[1] == 0 and ask("run") == (["listed", "proved"], 0)
+    os.remove(built)
+    expect_unproved("no program")
+
+
+SKIPPING = """import sys
+sys.path.insert(0, {!r})
+from program import is_there, run_tests
+def asks(folder): is_there("a package", None)
+def passes(folder): pass
+sys.exit(run_tests("guide", [asks, passes]))
+"""
+
+
+def names_what_it_skipped_in_its_last_lines(folder):
+    """The gate; and .ci/run installs the packages first, and fails. In a small copy of the repository, with programs that do
+    nothing. After the gate the program is one that is proved."""
+    def write(text, *path):
+        os.makedirs(os.path.join(folder, *path[:-1]), exist_ok=True)
+        with open(os.path.join(folder, *path), "w", encoding="utf-8") as file:
+            file.write(text)
+        os.chmod(os.path.join(folder, *path), 0o755)
+
+    for path in (("Makefile",), ("tests", "gate"), ("tests", "packages.txt"), (".ci", "run")):
+        write(text_of(*path), *path)
+    tests = set(re.findall(r"tests/(\w+)\.py", text_of("tests", "gate")))
+    for name in tests:
+        text = SKIPPING.format(os.path.join(ROOT, "tests")) if name == "guide" else "print('1 passed, 0 failed')"
+        write(text, "tests", f"{name}.py")
+    parts = (("src", "main.rt"), ("specs", "A.antt"), ("proofs", "A.antt"))
+    for path in (("crates.txt",), *(("crates", "idn2", *part) for part in parts)):
+        write("", *path)
+    write("#!/bin/sh\nmkdir -p crates/idn2/out && printf '#!/bin/sh\\n' > crates/idn2/out/idn2 && chmod +x crates/idn2/out/idn2\n"
+          "echo 1 passed, 0 failed\n", "bin", "rt")
+    write(f"#!/bin/sh\necho $* >> {folder}/installed\n", "bin", "apt-get")
+    write("#!/bin/sh\necho 0\n", "bin", "id")
+    settings = ("NO_SKIPS", "RT", "MAKEFLAGS", "MFLAGS", "MAKEOVERRIDES")
+    environment = {name: text for name, text in os.environ.items() if name not in settings}
+    environment["PATH"] = os.path.join(folder, "bin") + os.pathsep + os.environ["PATH"]
+    for words, failed in ((["make", "--no-print-directory", "test"], 0), ([".ci/run"], 1)):
+        done = subprocess.run(words, cwd=folder, env=environment, capture_output=True, encoding="utf-8", timeout=LIMIT)
+        lines = done.stdout.splitlines()
+        assert (lines[-1], done.returncode != 0) == (f"{len(tests) + 2 - failed} passed, {failed} failed", failed > 0), (words, done)
+        assert "guide asks ... SKIPPED what needs a package: make packages installs what tests use" in lines[-5:-1], (words, done)
+    packages = set(re.sub("#.*", "", text_of("tests", "packages.txt")).split())
+    with open(os.path.join(folder, "installed"), encoding="utf-8") as file:
+        update, install = file.read().splitlines()
+    assert update == "update" and packages < set(install.split()) and len(packages) > 8, (update, install)
+    done = subprocess.run(["make", "-s", "run"], cwd=folder, env=environment, capture_output=True, encoding="utf-8", timeout=LIMIT)
+    assert done.stdout.endswith("\nproved\n"), done
 
 
 @runs_the_program
@@ -591,6 +767,7 @@ TESTS = [
     lists_each_form_of_a_cause,
     names_what_comes_with_the_program,
     answers_alike_in_each_locale,
+    completes_words_in_each_shell,
     installs_under_another_name,
     installs_under_no_name_of_a_path,
     packs_each_path_that_its_documents_name,
@@ -599,6 +776,8 @@ TESTS = [
     reads_as_much_of_a_file_as_can_matter,
     names_only_paths_that_are_there,
     ends_as_the_readme_shows,
+    runs_the_main_job_without_a_proof_until_make_has_made_it,
+    names_what_it_skipped_in_its_last_lines,
     tells_which_answers_changed,
     quotes_definitions_as_they_stand,
     has_an_example_by_each_definition,

@@ -5,30 +5,20 @@ import glob
 import os
 import shutil
 import subprocess
-import sys
 import tempfile
 
-LIMIT = 60
+from program import LIMIT, is_there, python_with
+
 # Where Debian has the programs of the server.
 INITDB = "/usr/lib/postgresql/*/bin/initdb"
 
 
-def interpreter():
-    """A Python that has psycopg2, if there is one."""
-    for path in (sys.executable, shutil.which("python3"), "/usr/bin/python3"):
-        words = [path, "-c", "import psycopg2"]
-        if path and os.access(path, os.X_OK) and subprocess.run(words, capture_output=True, timeout=LIMIT).returncode == 0:
-            return path
-    return None
-
-
 @contextlib.contextmanager
 def server():
-    """The environment in which clients find an empty database 'registry', and a Python for them; or None twice, with a line
-    that says so."""
-    programs, python = sorted(glob.glob(INITDB)), interpreter()
-    if not (programs and python and shutil.which("psql")):
-        print("skipped what needs PostgreSQL: postgresql or python3-psycopg2 is not installed")
+    """The environment in which clients find an empty database 'registry', and a Python for them; or None twice."""
+    programs, python = sorted(glob.glob(INITDB)), python_with("psycopg2")
+    is_whole = is_there("postgresql", programs and shutil.which("psql"))
+    if not (is_there("python3-psycopg2", python) and is_whole):
         yield None, None
         return
     # The server refuses to run as root.

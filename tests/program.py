@@ -19,6 +19,10 @@ ROOT = os.path.dirname(os.path.dirname(os.path.abspath(__file__)))
 PROGRAM = os.path.join(ROOT, "crates", "idn2", "out", "idn2")
 TABLES = os.path.join(ROOT, "tables")
 LIMIT = 60
+# What the test that runs left something out for, since it isn't installed.
+LACKING = []
+# Whether a test that leaves something out has failed.
+NO_SKIPS = bool(os.environ.get("NO_SKIPS"))
 
 
 def text_of(*parts):
@@ -168,9 +172,15 @@ def has_the_version_that_the_changes_name(folder):
 
 
 def needs_only_the_c_library(folder):
+    """In the version that the documents name, and in no later one."""
     needed = subprocess.run(["ldd", PROGRAM], capture_output=True, text=True, timeout=LIMIT).stdout
     names = {os.path.basename(line.split()[0]).split(".")[0] for line in needed.splitlines()}
     assert "libc" in names and names <= {"libc", "linux-vdso", "ld-linux-x86-64", "ld-linux-aarch64"}, needed
+    if is_installed("objdump"):
+        symbols = subprocess.run(["objdump", "-T", PROGRAM], capture_output=True, text=True, check=True, timeout=LIMIT).stdout
+        lowest = max(re.findall(r"\bGLIBC_([0-9.]+)", symbols), key=lambda text: [int(part) for part in text.split(".")])
+        for document in ("README.md", "docs/GUIDE.md"):
+            assert re.findall(r"GNU C library, version (\S+) or\s+later", text_of(document)) == [lowest], (document, lowest)
 
 
 def lists_variants(folder):
@@ -468,53 +478,17 @@ def finds_collisions_by_least_variants(folder):
                 assert (labels[one] in block) == (key == keys[other]), (lines, labels[one], labels[other])
 
 
-def completes(words):
-    """What bash completes the last of the words to."""
-    script = (
-        f"source '{ROOT}/completions/idn2.bash'; COMP_WORDS=(\"$@\"); COMP_CWORD=$(($# - 1)); _idn2; "
-        "printf '%s\\n' \"${COMPREPLY[@]}\""
-    )
-    words = ["bash", "--norc", "-c", script, "bash", "idn2", *words]
-    return subprocess.run(words, cwd=ROOT, capture_output=True, text=True, timeout=LIMIT).stdout.split()
-
-
-def completes_words_in_bash(folder):
-    source = f"source '{ROOT}/completions/idn2.bash'; complete -p idn2"
-    done = subprocess.run(["bash", "--norc", "-c", source], capture_output=True, text=True, timeout=LIMIT)
-    assert (done.stdout, done.stderr) == ("complete -o filenames -F _idn2 idn2\n", ""), done
-    for words, completions in (
-        (["--re"], ["--register"]),
-        (["--register", "--l"], []),
-        (["--a"], []),
-        (["--variants", "t", "--a"], ["--after", "--among"]),
-        (["--variants", "t", "--j"], ["--jump", "--json"]),
-        (["--variants", "t", "--among", "tables/ger"], ["tables/german.txt"]),
-        (["--variants", "t", "--among", "f", "--t"], ["--tr46nt"]),
-        (["--variants", "t", "--tries", "9", "--a"], ["--after"]),
-        (["--variants", "t", "--among", "f", "--ju"], []),
-        (["--variants", "t", "--limit", "9", "--ju"], []),
-        (["--variants", "t", "--jump", "--a"], []),
-        (["--variants", "t", "--jump", "--l"], []),
-        (["--j"], ["--json"]),
-        (["--json", "--j"], []),
-        (["--variants", "t", "--limit", "7", "--l"], []),
-        (["--variants", "tables/ger"], ["tables/german.txt"]),
-        (["--check-table", "=", "tables/ger"], ["tables/german.txt"]),
-        (["--variants", "t", "--limit", ""], []),
-        (["-r", "--", "--q"], []),
-        ([""], []),
-    ):
-        assert completes(words) == completions, (words, completes(words))
-    # Each option that is completed is one that the program has, and each of the help's is completed.
-    helped = set(re.findall(r"(?<![\w-])--?[A-Za-z][\w-]*", run(["--help"]).stdout.decode().split("Examples:")[0]))
-    offered = {*completes(["-"]), *completes(["--variants", "t", "-"])}
-    assert offered == helped - {"--after=TEXT"}, offered ^ helped
+def make(folder, target, *words):
+    """Runs make with a command that does nothing for rt, so that the program here is taken as it is. That it was proved is noted
+    in the folder alone."""
+    words = ["make", "--no-print-directory", "-s", "-C", ROOT, target, "RT=true", f"PROVED={folder}/proved", *words]
+    return subprocess.run(words, cwd=folder, capture_output=True, encoding="utf-8", timeout=LIMIT)
 
 
 def packs_what_a_server_needs(folder):
-    """`make dist` with a command that does nothing for rt, so that the program here is packed as it is."""
-    words = ["make", "--no-print-directory", "-s", "-C", ROOT, "dist", "RT=true", f"DIST={folder}"]
-    done = subprocess.run(words, capture_output=True, text=True, timeout=LIMIT)
+    done = make(folder, "dist", f"DIST={folder}", "C_LIBRARY=2.2")
+    assert done.returncode != 0 and "another C library" in done.stderr, done
+    done = make(folder, "dist", f"DIST={folder}")
     assert done.returncode == 0, done
     [archive] = [name for name in os.listdir(folder) if name.endswith(".tar.gz")]
     version = run(["--version"]).stdout.split()[1].decode()
@@ -526,10 +500,31 @@ def packs_what_a_server_needs(folder):
     packed = os.path.join(folder, f"idn2-{version}")
     files = sorted(os.path.relpath(os.path.join(at, name), packed) for at, _, names in os.walk(packed) for name in names)
     for name in ("bin/idn2", "share/man/man1/idn2.1", "share/bash-completion/completions/idn2", "tables/german.txt",
-                 "tables/from_lgr.py", "docs/GUIDE.md", "CHANGELOG.md"):
+                 "share/zsh/site-functions/_idn2", "share/fish/vendor_completions.d/idn2.fish",
+                 "share/idn2/tables/rulesets/latin.txt", "tables/from_lgr.py", "docs/GUIDE.md", "CHANGELOG.md"):
         assert name in files, (name, files)
     words = [os.path.join(packed, "bin", "idn2"), "--variants", os.path.join(packed, "tables", "german.txt"), "aß"]
     assert subprocess.run(words, capture_output=True, timeout=LIMIT).stdout.startswith(b"ass\tass\tallocatable\n")
+
+
+def is_there(name, found):
+    """Whether it was found. Else the test that asks is named as one that left something out for the lack of it."""
+    if not found and name not in LACKING:
+        LACKING.append(name)
+    return bool(found)
+
+
+def is_installed(program):
+    return is_there(program, shutil.which(program))
+
+
+def python_with(module):
+    """A Python that has the module, if there is one: this one, or Debian's, for which Debian packs modules."""
+    for path in (sys.executable, "/usr/bin/python3"):
+        words = [path, "-c", f"import {module}"]
+        if os.access(path, os.X_OK) and subprocess.run(words, capture_output=True, timeout=LIMIT).returncode == 0:
+            return path
+    return None
 
 
 def sessions_of(lines):
@@ -546,11 +541,8 @@ def sessions_of(lines):
 def is_run(sessions):
     """Whether all programs are there that some sessions need. Those with a database are run by guide.py."""
     commands = " ".join(command for command, _ in sessions)
-    for program, needed in (("parallel", "parallel "), ("jq", "jq "), ("jq", "ask.sh")):
-        if needed in commands and not shutil.which(program):
-            print(f"program: skipped a session with {program}, which is not installed")
-            return False
-    return "psql " not in commands
+    needed = {program for program, word in (("parallel", "parallel "), ("jq", "jq "), ("jq", "ask.sh")) if word in commands}
+    return "psql " not in commands and all(map(is_installed, needed))
 
 
 def expect_session(command, lines, folder, environment):
@@ -636,23 +628,28 @@ TESTS = [
     serves_what_it_read_before_a_read_fails,
     tells_messages_in_order,
     finds_collisions_by_least_variants,
-    completes_words_in_bash,
     packs_what_a_server_needs,
     prints_what_the_documents_show,
 ]
 
 
 def run_tests(name, tests):
-    """Runs each test in a folder of its own, and prints how many passed; 1 if any failed, else 0."""
+    """Runs each test in a folder of its own, and prints how many passed; 1 if any failed, else 0. A test that left something
+    out is named, too, and has failed where NO_SKIPS is set."""
     failed = 0
     for test in tests:
+        LACKING.clear()
         with tempfile.TemporaryDirectory() as folder:
             try:
                 test(folder)
-                print(f"{name} {test.__name__} ... ok")
+                assert not (NO_SKIPS and LACKING), "left something out"
+                told = "ok"
             except Exception as reason:
                 failed += 1
-                print(f"{name} {test.__name__} ... FAILED: {type(reason).__name__} {reason}")
+                told = f"FAILED: {type(reason).__name__} {reason}"
+        print(f"{name} {test.__name__} ... {told}")
+        if LACKING:
+            print(f"{name} {test.__name__} ... SKIPPED what needs {', '.join(LACKING)}: make packages installs what tests use")
     print(f"{len(tests) - failed} passed, {failed} failed")
     return 1 if failed else 0
 

@@ -27,7 +27,7 @@ class RichRuleset(RandomRuleset):
     def range(self):
         first = self.random.choice((0x66, 0x67))
         condition = self.condition(0.3)
-        return f'<range first-cp="{first:04X}" last-cp="{first + self.random.choice((0, 2)):04X}" tag="u"{condition}/>'
+        return f'<range first-cp="{first:04X}" last-cp="{first + self.random.choice((0, 2)):04X}" tag="t u"{condition}/>'
 
     def condition(self, chance):
         name = self.random.choice(self.CONDITIONS)
@@ -41,10 +41,10 @@ class RichRuleset(RandomRuleset):
         return f'<char cp="{spelled(source)}"{tag}{self.condition(0.3)}>{variants}</char>'
 
     def var(self, target, source=()):
-        kinds = ("out-of-repertoire-var", "r") if target == source else self.kinds
+        kinds = ("out-of-repertoire-var", "r" if "simp" in self.kinds else "valid") if target == source else self.kinds
         kind = self.random.choice(kinds)
         one = f'<var cp="{spelled(target)}"' + (f' type="{kind}"' if kind else "")
-        words = self.random.choice(((' when="p"', ' not-when="p"'), (' when="p"', ' when="q"'), ("",), ("",), ("",)))
+        words = self.random.choice(((' when="p"', ' not-when="p"'), (' when="q"',), ("",), ("",), ("",)))
         words = words if self.has_conditions and target != source else ("",)
         return "".join(f"{one}{word}/>" for word in words)
 
@@ -109,6 +109,8 @@ class RichRuleset(RandomRuleset):
             word = self.random.choice(("only-variants", "all-variants"))
             yield f'<action disp="allocatable" {word}="simp both r"/><action disp="allocatable" {word}="trad both r"/>'
             yield '<action disp="blocked" any-variant="simp trad both"/>'
+        if "own" in self.kinds:
+            yield '<action disp="valid" all-variants="own"/><action disp="blocked" any-variant="own other"/>'
         yield self.maybe(0.5, '<action disp="valid"/>')
 
 

@@ -14,7 +14,7 @@ RULES = (
     (True, '<class>0660-0669</class><any count="0+"/><class>06F0-06F9</class>'),
     (True, f"<choice><rule>{STARTS}{MARKS}</rule><rule>{HYPHEN}{ENDS}</rule></choice>"),
     (True, '<char cp="0041"/>'),
-    (True, '<class from-tag="unused"/>'),
+    (True, "<class>0078</class>"),
     (False, MARKS),
     (False, STARTS + '<class property="gc:Mn" count="0+"/>'),
     (False, STARTS + '<any count="0+"/>' + MARKS),

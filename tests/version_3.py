@@ -8,10 +8,11 @@ import functools
 import os
 import random
 import re
+import subprocess
 import sys
 import textwrap
 
-from program import ROOT, run, run_tests, table_file
+from program import LIMIT, ROOT, is_there, run, run_tests, table_file
 
 sys.path += [os.path.join(ROOT, "conformance"), os.path.join(ROOT, "tables")]
 
@@ -192,8 +193,7 @@ CATEGORIES = {"vowel": "Vowel_Independent", "consonant": "Consonant", "nukta_bas
 
 def devanagari_sets_are_as_unicode_has_them(folder):
     """Each is of one category alone, where Unicode's data is there."""
-    if not unicode_data.FOLDER.is_dir():
-        print("no Unicode data is there, so the sets of tables/rulesets/devanagari.txt were not compared with it")
+    if not is_there("unicode-data", unicode_data.FOLDER.is_dir()):
         return
     spans = list(unicode_data.properties("IndicSyllabicCategory.txt"))
     with open(os.path.join(ROOT, "tables", "rulesets", "devanagari.txt"), "rb") as file:
@@ -201,6 +201,23 @@ def devanagari_sets_are_as_unicode_has_them(folder):
     points = {name: [point for first, last in sets[name] for point in range(first, last + 1)] for name in sets}
     found = {name: {category for point in points[name] for first, last, category in spans if first <= point <= last} for name in sets}
     assert found == {name: {category} for name, category in CATEGORIES.items()}, found
+
+
+def check_script_tells_what_it_cannot_read(folder):
+    """And goes on with the next file; its statuses are those of other commands."""
+    path, absent = os.path.join(ROOT, "tables", "german.txt"), os.path.join(folder, "absent.txt")
+    gap = table_file(folder, b"0061|0062\n", "gap.txt")
+    usage, told = "usage: check.py FILE..\n", f"{absent}: No such file or directory\n"
+    rows = [([], "", usage, 2), ([absent], "", told, 2), ([folder], "", f"{folder}: Is a directory\n", 2),
+            ([absent, path], f"{path}: #table 42 0\n", told, 2), ([path], f"{path}: #table 42 0\n", "", 0),
+            ([gap, absent], f"{gap}: missing 0062|0061\n#table 1 1\n", told, 2)]
+    for words, output, message, status in rows if is_there("unicode-data", unicode_data.FOLDER.is_dir()) else rows[:1]:
+        command = [sys.executable, os.path.join(ROOT, "tables", "check.py"), *words]
+        done = subprocess.run(command, capture_output=True, encoding="utf-8", timeout=LIMIT)
+        assert (done.stdout, done.stderr, done.returncode) == (output, message, status), (words, done)
+    environment = {**os.environ, "UNICODE_DATA": folder}
+    done = subprocess.run([*command[:2], path], env=environment, capture_output=True, encoding="utf-8", timeout=LIMIT)
+    assert (done.stdout, done.returncode) == ("", 2) and done.stderr.startswith(f"no Unicode data in {folder}: "), done
 
 
 CONTEXTS = ("@A _", "_ @A", "^ _ / @A _", "_ @A? $", "@A .* _", "0061 _ / _ 0062", "_")
@@ -254,6 +271,7 @@ TESTS = [
     notation_shows_a_ruleset,
     chinese_ruleset_is_as_others_have_it,
     devanagari_sets_are_as_unicode_has_them,
+    check_script_tells_what_it_cannot_read,
     finds_collisions_by_least_variants,
 ]
 

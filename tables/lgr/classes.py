@@ -47,14 +47,18 @@ class Classes:
     def class_of(self, element):
         if "by-ref" in element.attributes:
             return self.names.of(element.attributes["by-ref"], element.name, element.line)
-        if "from-tag" in element.attributes:
-            return self.points & self.tagged.get(element.attributes["from-tag"], set())
         if "property" in element.attributes:
             return self.properties.of(element.attributes["property"])
+        return self.points & self.named_by(element)
+
+    def named_by(self, element):
+        """The code points that a class names by a tag or one by one, those of no label too."""
+        if "from-tag" in element.attributes:
+            return self.tagged[element.attributes["from-tag"]]
         ranges = [range_in(text, element.line) for text in words(element.text)]
         if not ranges:
             raise Fault(element.line, "class names no code point")
-        return self.points.intersection(itertools.chain(*ranges))
+        return set(itertools.chain(*ranges))
 
     def reason_of(self, element):
         """Why the code points of a class or of a set operator aren't known, in words."""
@@ -63,12 +67,13 @@ class Classes:
         told = [f"the property '{text}', {reason}" for text, reason in reasons if reason]
         return told[0] if told else "a set operator that has too few sets, or too many"
 
-    def of_no_tag(self, elements):
-        """The classes of these elements and within them that are of a tag which no code point of the ruleset has."""
+    def losing(self, elements):
+        """The classes of these elements and within them that name code points which no label has, each with those."""
         for element in elements:
-            if "from-tag" in element.attributes and element.attributes["from-tag"] not in self.tagged:
-                yield element
-            yield from self.of_no_tag(element.children)
+            is_named = element.name == "class" and not element.attributes.keys() & {"by-ref", "property"}
+            if is_named and (lost := self.named_by(element) - self.points):
+                yield element, sorted(lost)
+            yield from self.losing(element.children)
 
     def all_within(self, element, seen):
         """The element and those of which it is made; those with names are seen once."""

@@ -7,7 +7,7 @@ import os
 from . import gaps, rfc4290, rfc7940
 from .convert import ALLOCATABLE, Converter
 from .exact import Exact
-from .losses import Loss, Losses, Unsayable, counted
+from .losses import TOLD, Loss, Losses, Unsayable, counted
 from .program import Program, Unusable
 from .ruleset import Fault
 from .ruleset_text import RulesetText
@@ -38,6 +38,9 @@ def options_of(words):
     parser.add_argument("--accept-more", action="store_true",
                         help="with --version 1 or 2: drop conditions and rules that a table can't say: LABELS THAT FILE "
                              "REFUSES ARE ACCEPTED")
+    parser.add_argument("--leave-out", action="store_true",
+                        help="leave out the code points that RFC 5892 allows and the profile of idn2 doesn't have "
+                             "(docs/PROFILE.md): labels that FILE accepts are refused")
     parser.add_argument("--idn2", metavar="PROGRAM", help="the program [default: beside the scripts, or on the path]")
     options = parser.parse_args(words)
     if options.close_gaps and options.version == 1:
@@ -65,14 +68,14 @@ def table_of(ruleset, program, options, losses):
     refusals = program.refusals(ruleset.points())
     entries = Converter(ruleset, refusals, options.untyped or BLOCKED, losses).table_entries()
     if not entries:
-        raise Fault(None, "\n".join(["no entry of it can stand in a table", *losses.lines(Loss.NARROWER)]))
+        raise Fault(None, "\n".join(["no entry of it can stand in a table", *losses.lines(*TOLD)]))
     added = gaps.close(entries, losses) if options.close_gaps else 0
     check_limits(entries, losses)
     check_versions(entries, options.version, losses)
     head = head_of(ruleset, options)
     if options.close_gaps:
         head.append(f"To close gaps {counted(added, 'pair')} {'was' if added == 1 else 'were'} added, each blocked.")
-    head += losses.lines(Loss.CONDITION, Loss.RULE, Loss.NARROWER)
+    head += losses.lines(Loss.CONDITION, Loss.RULE, *TOLD)
     text = text_of(entries, options.version, head, losses.warning())
     check_size(text, entries, losses)
     return text, added
@@ -94,7 +97,7 @@ def ruleset_of(ruleset, program, options, losses):
         losses.refuse(error.line, "the ruleset", error.reason)
     if losses.count(Loss.UNSAYABLE):
         return b""
-    text = RulesetText(head_of(ruleset, options) + losses.lines(Loss.NARROWER), exact.definitions, entries)
+    text = RulesetText(head_of(ruleset, options) + losses.lines(*TOLD), exact.definitions, entries)
     text.check(exact.repertoire.possible.__contains__, losses)
     return text.encoded()
 
@@ -102,11 +105,14 @@ def ruleset_of(ruleset, program, options, losses):
 def refusal_of(losses, options):
     """The lines that say why there is no table; none if there is one."""
     widening = () if options.accept_more else (Loss.CONDITION, Loss.RULE)
-    lines = losses.lines(Loss.UNSAYABLE, *widening)
+    narrowing = () if options.leave_out else (Loss.PROFILE,)
+    lines = losses.lines(Loss.UNSAYABLE, *widening, *narrowing)
     if losses.count(Loss.UNSAYABLE):
         lines.append("refused: there is no such table")
-    elif lines:
+    elif any(map(losses.count, widening)):
         lines.append("refused: without what a table can't say, labels would be accepted that the ruleset refuses")
+    elif lines:
+        lines.append("refused: labels with these code points would be refused that the ruleset accepts; --leave-out does so")
     return lines
 
 
@@ -126,7 +132,7 @@ def made(options, tell):
     open_gaps = program.gaps(text, check)
     if options.close_gaps and open_gaps:
         raise Unusable(f"{program.path} finds {counted(open_gaps, 'gap')} in the table")
-    for line in losses.lines(Loss.NARROWER, Loss.CONDITION, Loss.RULE):
+    for line in losses.lines(*TOLD, Loss.CONDITION, Loss.RULE):
         tell(line)
     if open_gaps:
         tell(f"the table has {counted(open_gaps, 'gap')}: idn2 {check} prints them")

@@ -9,7 +9,7 @@ from notation.points import spelled
 from .dispositions import Dispositions
 from .losses import Loss
 from .patterns import Patterns
-from .program import DISALLOWED, UNASSIGNED
+from .program import IMPOSSIBLE
 from .standard import Standard
 from .table import TableEntry, is_cut
 
@@ -20,8 +20,8 @@ class Converter:
     """`refusals` has for each code point of the ruleset the number by which the program refuses it, or None."""
 
     def __init__(self, ruleset, refusals, untyped, losses):
-        self.ruleset, self.untyped, self.losses = ruleset, untyped, losses
-        self.possible = {point for point in refusals if refusals[point] not in (DISALLOWED, UNASSIGNED)}
+        self.ruleset, self.refusals, self.untyped, self.losses = ruleset, refusals, untyped, losses
+        self.possible = {point for point in refusals if refusals[point] not in IMPOSSIBLE}
         self.patterns = Patterns(ruleset, self.possible)
         self.standard = Standard(refusals)
 
@@ -51,8 +51,7 @@ class Converter:
                 possible.append(entry)
             else:
                 name = f"{spelled(entry.source)} of {entry.name}" if entry.is_of_range else entry.name
-                reason = "left out, since it has a code point that no label can have"
-                self.losses.add(Loss.NARROWER, entry.line, name, reason)
+                self.losses.leave_out(entry.line, name, map(self.refusals.get, entry.source))
         return possible
 
     def kept_of(self, possible):
@@ -106,7 +105,8 @@ class Converter:
             if not variant.points:
                 self.losses.add(Loss.UNSAYABLE, variant.line, entry.name, "a null variant, which no table can have")
             elif not self.possible.issuperset(variant.points):
-                self.tell(entry, "left out, since it has a code point that no label can have", variant)
+                name = f"{entry.name}, variant {spelled(variant.points)}"
+                self.losses.leave_out(variant.line, name, map(self.refusals.get, variant.points))
             elif self.ruleset.is_closed and not self.repertoire.issuperset(variant.points):
                 self.tell(entry, "left out, since it has a code point that is in no entry", variant)
             else:

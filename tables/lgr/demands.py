@@ -5,12 +5,18 @@ from .expressions import ANCHOR, NOTHING, has, is_everywhere
 from .losses import Unsayable
 
 
+# The rule of an action that nearly each published ruleset has, whether or not its labels can match it.
+DEFAULT_RULES = ("leading-combining-mark",)
+
+
 def say_demands(actions, rules, definitions, losses):
     for action in actions:
         name = f"action '{action.disposition}'"
         with losses.refusing(name):
             if not is_said(action, name, rules, definitions):
-                losses.tell(action.line, name, "no label of these entries triggers it")
+                rule = action.match if action.not_match is None else action.not_match
+                how = ", the default action of published rulesets" if rule in DEFAULT_RULES else f" by the rule '{rule}'"
+                losses.tell(action.line, name, f"no label of these entries triggers it{how}")
 
 
 def is_said(action, name, rules, definitions):

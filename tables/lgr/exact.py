@@ -13,6 +13,7 @@ from .demands import say_demands
 from .expressions import EMPTY
 from .kinds import Kinds
 from .limits import check_counts
+from .losses import counted
 from .outcomes import DISPOSITIONS, Outcomes, is_demand
 from .repertoire import Repertoire
 from .rules import Rules
@@ -49,9 +50,11 @@ class Exact:
     def tell_of_names(self):
         for element in self.rules.unused():
             self.losses.tell(element.line, f"{element.name} '{element.attributes['name']}'", "it makes no difference")
-        for element in self.rules.classes.of_no_tag(self.definitions_given):
-            reason = "no code point has the tag, so that nothing is in the class"
-            self.losses.tell(element.line, f"class from-tag '{element.attributes['from-tag']}'", reason)
+        for element, lost in self.rules.classes.losing(self.definitions_given):
+            name = element.attributes.get("name") or element.attributes.get("from-tag")
+            quoted = f"'{name}'" if name else "it"
+            loses = f"{quoted} loses {counted(len(lost), 'code point')}"
+            self.losses.tell(element.line, "class", f"{loses} that no label of these entries has, first {lost[0]:04X}")
 
     # Actions.
 
@@ -92,7 +95,7 @@ class Exact:
         if not variant.points:
             self.losses.refuse(variant.line, entry.name, "a null variant, which no table can have")
         elif not self.repertoire.possible.issuperset(variant.points):
-            self.losses.tell(variant.line, name, "left out, since it has a code point that no label can have")
+            self.losses.leave_out(variant.line, name, map(self.repertoire.refusals.get, variant.points))
         elif self.repertoire.is_made_of_entries(entry, variant):
             holds = self.holds(variant.condition, entry.source, variant.line, name)
             if holds is not Holds.NEVER:

@@ -1,9 +1,7 @@
 """The kinds of the parts of labels, by the types of a ruleset's variants (RFC 7940, sections 5.3 and 7.2)."""
 
 from .losses import Unsayable
-from .outcomes import MOST_KINDS, Kind
-
-OUT_OF_REPERTOIRE = "out-of-repertoire-var"
+from .outcomes import DISPOSITIONS, MOST_KINDS, Kind
 
 
 class Kinds:
@@ -45,8 +43,8 @@ class Kinds:
                     self.losses.refuse(variant.line, entry.name, reason)
 
     def tell_of_type(self, kind, line):
-        """By the standard such a type refuses nothing. The one for letters outside of the repertoire is never meant so."""
-        if kind == OUT_OF_REPERTOIRE:
-            self.losses.refuse(line, f"type '{kind}'", "no action names it, so that it would refuse no label")
-        else:
+        """By the standard such a type refuses nothing. Only one of section 7.3 is meant so; any other may be a slip."""
+        if kind in DISPOSITIONS:
             self.losses.tell(line, f"type '{kind}'", "no action names it, so that it refuses and blocks no label")
+        else:
+            self.losses.refuse(line, f"type '{kind}'", "no action names it, so that it would refuse and block no label")

@@ -3,6 +3,8 @@
 import contextlib
 import enum
 
+from .program import IMPOSSIBLE, OUTSIDE_PROFILE
+
 # So many lines of the file are named of each reason.
 MOST_LINES = 5
 
@@ -11,9 +13,14 @@ class Loss(enum.Enum):
     """What comes of it."""
 
     NARROWER = "the table accepts less, or blocks more, than the ruleset"
+    PROFILE = "what the profile leaves out is dropped: labels are refused that the ruleset accepts"
     CONDITION = "a condition on an entry is dropped: labels are accepted that the ruleset refuses"
     RULE = "an action that refuses labels is dropped: they are accepted"
     UNSAYABLE = "there is no such table"
+
+
+# What narrows a table, and is told with it.
+TOLD = (Loss.PROFILE, Loss.NARROWER)
 
 
 class Unsayable(Exception):
@@ -35,6 +42,14 @@ class Losses:
     def tell(self, line, name, reason):
         """What is left out, or makes no difference."""
         self.add(Loss.NARROWER, line, name, reason)
+
+    def leave_out(self, line, name, refusals):
+        """Tells of what is left out for its code points, of which the program refuses some."""
+        if set(refusals) & set(IMPOSSIBLE) == {OUTSIDE_PROFILE}:
+            reason = "left out, since the profile of idn2 has no such code point (docs/PROFILE.md), though RFC 5892 allows it"
+            self.add(Loss.PROFILE, line, name, reason)
+        else:
+            self.tell(line, name, "left out, since it has a code point that no label can have")
 
     def refuse(self, line, name, reason):
         self.add(Loss.UNSAYABLE, line, name, reason)

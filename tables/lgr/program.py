@@ -5,6 +5,7 @@ import re
 import shutil
 import subprocess
 import tempfile
+import unicodedata
 
 HERE = os.path.dirname(os.path.abspath(__file__))
 # Where the program stands beside these scripts: in the archive, and in the repository.
@@ -12,6 +13,11 @@ BESIDE = (os.path.join(HERE, "..", "..", "bin", "idn2"),
           os.path.join(HERE, "..", "..", "crates", "idn2", "out", "idn2"))
 
 DISALLOWED, UNASSIGNED, NOT_NFC, HYPHEN, LEADING_MARK = 10, 11, 12, 13, 14
+# In place of 10, for what the profile leaves out (docs/PROFILE.md) and RFC 5892 allows.
+OUTSIDE_PROFILE = "outside the profile"
+# No label has a code point that is refused so.
+IMPOSSIBLE = (DISALLOWED, UNASSIGNED, OUTSIDE_PROFILE)
+LETTER_DIGITS = ("Ll", "Lu", "Lo", "Nd", "Lm", "Mn", "Mc")
 
 
 class Unusable(Exception):
@@ -34,16 +40,18 @@ class Program:
             raise Unusable(f"{self.path}: {error.strerror}") from error
 
     def refusals(self, points):
-        """For each code point the number by which the program refuses it as a whole label; None if it doesn't."""
+        """For each code point the number by which the program refuses it as a whole label, or OUTSIDE_PROFILE; None if it
+        doesn't."""
         # A code point is a line. A control character can't be one; it is disallowed.
         points = sorted(points)
         lines = [point for point in points if point > 0x20]
-        done = self.run("--register", given="".join(chr(point) + "\n" for point in lines))
-        told = dict(re.findall(r"^idn2: line (\d+): (\d+) ", done.stderr, re.MULTILINE))
+        done = self.run("--register", "--explain", given="".join(chr(point) + "\n" for point in lines))
+        told = {int(line): (int(number), cause)
+                for line, number, cause in re.findall(r"^idn2: line (\d+): (\d+) (.*)$", done.stderr, re.MULTILINE)}
         if done.returncode not in (0, 1) or len(done.stdout.splitlines()) + len(told) != len(lines):
             raise Unusable(f"{self.path} --register ended with status {done.returncode}")
-        numbers = {point: None if str(at) not in told else int(told[str(at)]) for at, point in enumerate(lines, 1)}
-        return dict.fromkeys(points, DISALLOWED) | numbers
+        return dict.fromkeys(points, DISALLOWED) | {
+            point: refusal_of(point, *told.get(at, (None, ""))) for at, point in enumerate(lines, 1)}
 
     def gaps(self, table, check):
         """How many gaps the text of a table or a ruleset has, by the option that checks it."""
@@ -55,6 +63,18 @@ class Program:
         if not summary:
             raise Unusable(f"{self.path} refuses the table: {done.stderr.strip()}")
         return int(summary.group(1))
+
+
+def refusal_of(point, number, cause):
+    is_left_out = cause.endswith(": " + OUTSIDE_PROFILE) and is_allowed_by_the_standard(chr(point))
+    return OUTSIDE_PROFILE if is_left_out else number
+
+
+def is_allowed_by_the_standard(letter):
+    """By RFC 5892, section 3, among what the profile leaves out. What this Python's data lacks may be allowed."""
+    category = unicodedata.category(letter)
+    folded = unicodedata.normalize("NFKC", unicodedata.normalize("NFKC", letter).casefold())
+    return category == "Cn" or (category in LETTER_DIGITS and folded == letter)
 
 
 def is_executable(path):

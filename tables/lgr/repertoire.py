@@ -6,9 +6,9 @@ import functools
 from notation.points import spelled
 
 from .joinings import Joinings
-from .losses import Loss
+from .losses import TOLD
 from .outcomes import Kind, Outcome
-from .program import DISALLOWED, UNASSIGNED
+from .program import IMPOSSIBLE
 from .ruleset import Fault
 from .table import is_cut
 
@@ -17,11 +17,11 @@ class Repertoire:
     """`refusals` has for each code point of the ruleset the number by which the program refuses it, or None."""
 
     def __init__(self, ruleset, refusals, losses):
-        self.is_closed, self.losses = ruleset.is_closed, losses
-        self.possible = {point for point in refusals if refusals[point] not in (DISALLOWED, UNASSIGNED)}
+        self.is_closed, self.refusals, self.losses = ruleset.is_closed, refusals, losses
+        self.possible = {point for point in refusals if refusals[point] not in IMPOSSIBLE}
         self.entries = [entry for entry in ruleset.entries if self.is_possible(entry)]
         if not self.entries:
-            raise Fault(None, "\n".join(["no entry of it can stand in a table", *losses.lines(Loss.NARROWER)]))
+            raise Fault(None, "\n".join(["no entry of it can stand in a table", *losses.lines(*TOLD)]))
         self.sources = {entry.source for entry in self.entries}
         self.points = {point for source in self.sources for point in source}
         self.outside = set()
@@ -30,7 +30,7 @@ class Repertoire:
         if self.possible.issuperset(entry.source):
             return True
         name = f"{spelled(entry.source)} of {entry.name}" if entry.is_of_range else entry.name
-        self.losses.tell(entry.line, name, "left out, since it has a code point that no label can have")
+        self.losses.leave_out(entry.line, name, map(self.refusals.get, entry.source))
         return False
 
     def is_outside(self, entry):

@@ -39,7 +39,8 @@ ATTRIBUTES_WITHIN_RULES = {
     **{name: {"count"} | NOTES for name in ("any", "choice", *SETS)},
     **{name: NOTES for name in ("start", "end", "anchor", "look-behind", "look-ahead")},
 }
-WITH_PARTS = ("rule", "choice", "look-behind", "look-ahead")
+LOOKS = ("look-behind", "look-ahead")
+WITH_PARTS = ("rule", "choice", *LOOKS)
 WITH_TEXT = ("class", "reference", *(name for name in ATTRIBUTES_OF_META if name != "references"))
 FACTS = ("version", "date", "language", "scope", "unicode-version")
 
@@ -61,6 +62,7 @@ def read(data):
     check_rules(rules, ATTRIBUTES_OF_RULES)
     actions = [action_of(element) for element in rules if element.name == "action"]
     definitions = [element for element in rules if element.name != "action"]
+    check_tags(definitions, {tag for entry in entries for tag in entry.tags if len(entry.source) == 1})
     return Ruleset("RFC 7940", entries, actions, definitions, facts_of(children(parts["meta"])))
 
 
@@ -100,6 +102,7 @@ def check_rules(elements, attributes):
     check_each(elements, attributes)
     for element in elements:
         if element.name in WITH_PARTS:
+            check_looks(element)
             check_rules(element.children, ATTRIBUTES_WITHIN_RULES)
         elif element.name in SETS:
             check_rules(element.children, ATTRIBUTES_WITHIN_SETS)
@@ -108,6 +111,26 @@ def check_rules(elements, attributes):
         ways = [name for name in element.attributes if name in CONTENTS_OF_CLASS]
         if len(ways) + bool(element.children or element.text.strip()) > 1:
             raise Fault(element.line, f"{element.name} says in two ways what it is")
+
+
+def check_looks(element):
+    """A look-behind is the first part of a rule, directly before its anchor, and a look-ahead the last, directly after it
+    (section 6.4.2)."""
+    names = [child.name for child in element.children]
+    for at, child in enumerate(element.children):
+        is_behind = at == 0 and names[:2] == ["look-behind", "anchor"]
+        is_ahead = at == len(names) - 1 and names[-2:] == ["anchor", "look-ahead"]
+        if child.name in LOOKS and not (element.name == "rule" and (is_behind or is_ahead)):
+            raise Fault(child.line, f"a {child.name} that isn't at the edge of its rule, beside the anchor")
+
+
+def check_tags(elements, tags):
+    """A class is of a tag that some code point has."""
+    for element in elements:
+        tag = element.attributes.get("from-tag")
+        if tag is not None and tag not in tags:
+            raise Fault(element.line, f"no code point has the tag '{tag}'")
+        check_tags(element.children, tags)
 
 
 def has_nothing_within(element):
@@ -153,13 +176,18 @@ def check_type(text, line):
 
 
 def check_variants(entry):
-    """A variant is given again only under another condition (RFC 7940, section 5.3.5)."""
+    """A variant is given again only under the opposite condition, so that never both hold (RFC 7940, section 5.3.5)."""
     conditions = {}
     for variant in entry.variants:
         others = conditions.setdefault(variant.points, [])
-        if variant.condition in others or (others and None in (variant.condition, *others)):
-            raise Fault(variant.line, f"{entry.name}: {spelled(variant.points) or 'null'} is given twice as a variant")
+        if not all(are_opposite(variant.condition, other) for other in others):
+            name = f"{entry.name}: {spelled(variant.points) or 'null'}"
+            raise Fault(variant.line, f"{name} is given twice as a variant, and not under opposite conditions")
         others.append(variant.condition)
+
+
+def are_opposite(one, other):
+    return None not in (one, other) and one.rule == other.rule and one.word != other.word
 
 
 def condition_of(element):

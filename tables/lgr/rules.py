@@ -11,7 +11,6 @@ from .references import References
 from .ruleset import Fault, some_points_of
 
 SIGNS = {"start": START, "end": END, "anchor": ANCHOR}
-LOOKS = ("look-behind", "look-ahead")
 # A rule that takes more to write is in no table.
 MOST_ATOMS = 4096
 
@@ -52,7 +51,6 @@ class Rules:
         """The parts of a rule or of a look-around, one after the other."""
         if not element.children:
             raise Fault(element.line, f"{element.name} has no part")
-        check_looks(element)
         made = expressions.sequence(self.part(child) for child in element.children)
         if expressions.size(made) > MOST_ATOMS:
             raise Unsayable(element.line, f"a rule that takes more than {MOST_ATOMS:,} parts to write")
@@ -76,9 +74,8 @@ class Rules:
         if element.name == "choice":
             if not element.children:
                 raise Unsayable(element.line, "a choice without a part")
-            check_looks(element)
             return expressions.choice([self.part(child) for child in element.children])
-        if element.name in ("rule", *LOOKS):
+        if element.name in ("rule", "look-behind", "look-ahead"):
             name = element.attributes.get("by-ref")
             return self.whole(element) if name is None else self.rule(name, element.line)
         return self.one_of_class(element)
@@ -88,19 +85,6 @@ class Rules:
         if points is None:
             raise Unsayable(element.line, self.classes.reason_of(element))
         return expressions.one_of(points, name_of_class(element))
-
-
-def check_looks(element):
-    """A look-behind stands before an anchor beside it, and a look-ahead after it, each once (section 6.4.2)."""
-    names = [child.name for child in element.children]
-    looks = [(at, child) for at, child in enumerate(element.children) if child.name in LOOKS]
-    if looks and (element.name == "choice" or "anchor" not in names):
-        raise Unsayable(element.line, "a look-behind or look-ahead without an anchor beside it")
-    for at, look in looks:
-        if look.name in names[:at]:
-            raise Fault(look.line, f"a second {look.name}")
-        if ("anchor" in names[:at]) != (look.name == "look-ahead"):
-            raise Fault(look.line, "a look-behind after the anchor" if look.name == "look-behind" else "a look-ahead before the anchor")
 
 
 def name_of_class(element):

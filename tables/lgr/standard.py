@@ -5,7 +5,7 @@ isn't plainly so is no such rule.
 """
 
 from .patterns import ANCHOR, END, START, Step
-from .program import DISALLOWED, HYPHEN, LEADING_MARK, NOT_NFC, UNASSIGNED
+from .program import HYPHEN, IMPOSSIBLE, LEADING_MARK, NOT_NFC
 
 NOTHING = frozenset()
 HYPHENS = frozenset({0x2D})
@@ -24,7 +24,7 @@ class Standard:
     """`refusals` has for each code point the number by which the program refuses it as a whole label, or None."""
 
     def __init__(self, refusals):
-        self.points = frozenset(point for point in refusals if refusals[point] not in (DISALLOWED, UNASSIGNED))
+        self.points = frozenset(point for point in refusals if refusals[point] not in IMPOSSIBLE)
         self.never_first = frozenset(point for point in refusals if refusals[point] in NEVER_FIRST)
 
     def refuses_all(self, sequences):
