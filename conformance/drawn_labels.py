@@ -1,8 +1,11 @@
-"""Labels drawn from a ruleset of RFC 7940, to find where something else says otherwise of it; and variants that such labels have.
+"""Labels drawn from a ruleset of RFC 7940, to find where something else says otherwise of it; and variants that such
+labels have.
 
-Random labels alone seldom come near a condition or a rule. So labels are walks through each rule, too, and the same with one code
-point changed or lost; each entry with a condition and each variant, among others; and entries that overlap."""
+Random labels alone seldom come near a condition or a rule. So labels are walks through each rule, too, and the same
+with one code point changed or lost; each entry with a condition and each variant, among others; and entries that
+overlap."""
 
+import itertools
 import math
 import random
 from collections.abc import Callable, Iterable, Iterator
@@ -11,8 +14,8 @@ from rfc7940 import Asked, Entry, Ruleset
 from rfc7940_rules import AllOf, Anchor, AnyOf, Condition, Literal, OneOf, Part, Times
 
 LONGEST = 63
-# So many walks through a rule, and labels of other kinds.
-WALKS, OVERLAPS, RANDOM = 60, 200, 2_000
+# So many walks through a rule, and labels of other kinds; and so many tries to draw one that is eligible.
+WALKS, OVERLAPS, RANDOM, TRIES = 60, 200, 2_000, 8
 
 
 class DrawnLabels:
@@ -27,14 +30,13 @@ class DrawnLabels:
 
     def labels(self) -> list[str]:
         """All labels that are drawn, each once, in the order in which they are drawn."""
-        kinds: tuple[Callable[[], Iterable[str]], ...] = (self.conditions, self.walks, self.variants, self.overlaps, self.others)
-        drawn = (label for labels in kinds for label in labels())
-        return list(dict.fromkeys(label for label in drawn if 0 < len(label) <= LONGEST))
+        kinds = self.conditions(), self.walks(), self.variants(), self.overlaps(), self.others()
+        return list(dict.fromkeys(label for labels in kinds for label in labels if 0 < len(label) <= LONGEST))
 
     def some(self, least: int, most: int) -> str:
         """So many entries, one after the other."""
-        among = (self.chance.choice((self.entries, self.special or self.entries)) for _ in range(self.chance.randint(least, most)))
-        return "".join(self.chance.choice(entries).points for entries in among)
+        lists = self.chance.choices((self.entries, self.special or self.entries), k=self.chance.randint(least, most))
+        return "".join(self.chance.choice(entries).points for entries in lists)
 
     def among_others(self, points: str) -> Iterator[str]:
         yield points
@@ -50,21 +52,32 @@ class DrawnLabels:
 
     def walks(self) -> Iterator[str]:
         """Labels of which a part matches a rule; and the same with one code point changed or lost."""
-        named: dict[str, tuple[Part, list[str]]] = {}
+        rules: dict[str, tuple[Part, list[str]]] = {}
         for entry in self.entries:
             for condition in conditions_of(entry):
-                named.setdefault(condition.rule, (condition.part, []))[1].append(entry.points)
-        for action in self.ruleset.actions:
-            if action.condition:
-                named.setdefault(action.condition.rule, (action.condition.part, []))
-        for part, users in named.values():
-            for place in range(max(WALKS, 2 * len(users))):
-                anchor = users[place % len(users)] if users else ""
-                walk = self.walk(part, anchor)
-                if walk is not None:
-                    before = "" if part.is_first and self.chance.random() < 0.8 else self.some(0, 2)
-                    label = before + walk + ("" if part.is_last and self.chance.random() < 0.8 else self.some(0, 2))
-                    yield from (walk, label, self.changed(label), self.changed(label), self.lost(label))
+                rules.setdefault(condition.rule, (condition.part, []))[1].append(entry.points)
+        for condition in filter(None, (action.condition for action in self.ruleset.actions)):
+            rules.setdefault(condition.rule, (condition.part, [""]))
+        for part, users in rules.values():
+            for anchor in itertools.islice(itertools.cycle(users), max(WALKS, 2 * len(users))):
+                label = self.mostly_eligible(lambda: self.with_walk(part, anchor))
+                yield from (label, self.changed(label), self.mostly_eligible(lambda: self.changed(label)), self.lost(label))
+
+    def mostly_eligible(self, draw: Callable[[], str]) -> str:
+        """The first of some draws that is eligible, as far as entries tell; else the last. What is not eligible for something
+        else than the rule that it is drawn for shows little of that."""
+        for _ in range(TRIES):
+            label = draw()
+            if label and self.ruleset.is_eligible(label):
+                break
+        return label
+
+    def with_walk(self, part: Part, anchor: str) -> str:
+        """A label with a part that a rule matches, the whole of it now and then; the empty one if there is none."""
+        walk = self.walk(part, anchor)
+        before = self.some(0, 2) if not part.is_first or self.chance.random() < 0.2 else ""
+        after = self.some(0, 2) if not part.is_last or self.chance.random() < 0.2 else ""
+        return "" if walk is None else before + walk + after
 
     def walk(self, part: Part, anchor: str) -> str | None:
         """Code points that a rule matches, if the alphabet of the entries has such ones."""
@@ -111,13 +124,15 @@ class DrawnLabels:
         for points in self.chance.sample(sequences, min(OVERLAPS, len(sequences))):
             yield from self.among_others(points)
             for place in range(1, len(points)):
-                for after in self.chance.sample(begun.get(points[place:], []), min(2, len(begun.get(points[place:], [])))):
-                    yield from self.among_others(points[:place] + after)
+                others = begun.get(points[place:], [])
+                for other in self.chance.sample(others, min(2, len(others))):
+                    yield from self.among_others(points[:place] + other)
 
     def others(self) -> Iterator[str]:
-        for _ in range(RANDOM):
+        for _ in range(RANDOM // 2):
+            yield self.mostly_eligible(lambda: self.some(1, 5))
             label = self.some(1, 5)
-            yield self.changed(label) if self.chance.random() < 0.2 else label
+            yield self.changed(label) if self.chance.random() < 0.4 else label
 
     def variants_of(self, asked: Asked, most: int) -> list[str]:
         """All variants of a label, if they aren't more; else so many that are drawn. Which are absent isn't asked."""

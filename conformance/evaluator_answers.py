@@ -107,7 +107,7 @@ def differences(wanted, found):
 
 
 def differing(name, ruleset, text, wanted):
-    """The labels of a file that the evaluator, the second writing or the program answers in another way; each is told."""
+    """The labels of a file that the evaluator, the second writing or the program answers otherwise; each is told."""
     labels, found = sorted(wanted), set()
     known = sorted(registrable(labels))
     for who, answers in (("the evaluator", answers_of_evaluator(ruleset, labels)),
@@ -121,7 +121,7 @@ def differing(name, ruleset, text, wanted):
 
 
 def verified_by_drawn_labels(name, ruleset, text):
-    """Whether what the program lists of drawn labels is what the evaluator says; the number of labels is told, or the first difference."""
+    """Whether what the program lists of drawn labels is what the evaluator says; the first difference is told."""
     labels = verified.labels_for(ruleset, [])
     difference = verified.first_difference(str(PROGRAM), text, ruleset, labels, ignored=OF_VERSION_3)
     print(f"{name}: {difference or f'no difference in {len(labels)} drawn labels'}", flush=True)

@@ -1,14 +1,17 @@
 """An evaluator of RFC 7940: what a Label Generation Ruleset says of a label, and of one variant of it.
 
-It is written from the standard alone, and shares nothing with tables/lgr/, which it is there to check: rfc7940_reader.py reads a
-file, rfc7940_schema.py has the schema, rfc7940_rules.py the rules. The numbers in comments are sections of the standard. Where
-that leaves room:
+It is written from the standard alone, and shares nothing with tables/lgr/, which it is there to check:
+rfc7940_reader.py reads a file, rfc7940_schema.py has the schema, rfc7940_rules.py the rules. The numbers in comments
+are sections of the standard. Where that leaves room:
 
-- A condition of a variant is asked in the label asked about, where its source stands (8.2); that of an entry in each label.
-- 8.4 calls each duplicate variant label an error. Here it is one, `Verdict.UNCLEAR`, if its readings record different types.
+- A condition of a variant is asked in the label asked about, where its source stands (8.2); that of an entry in each
+  label.
+- 8.4 calls each duplicate variant label an error. Here it is one, `Verdict.UNCLEAR`, if its readings record different
+  types.
 
-A reading of a label is one way to cut it into entries, with what is put in the place of each. Its kinds are what that records: the
-type of a variant, UNTYPED for one without, and UNMAPPED for an entry that stays. A set of kinds is a number with a bit for each."""
+A reading of a label is one way to cut it into entries, with what is put in the place of each. Its kinds are what that
+records: the type of a variant, UNTYPED for one without, and UNMAPPED for an entry that stays. A set of kinds is a
+number with a bit for each."""
 
 import dataclasses
 import enum
@@ -18,7 +21,8 @@ from rfc7940_rules import Condition, Span
 
 UNMAPPED, UNTYPED = 1, 2
 # 7.3. Other types have the bits after these.
-INVALID, BLOCKED, ALLOCATABLE, ACTIVATED, VALID = DISPOSITIONS = "invalid", "blocked", "allocatable", "activated", "valid"
+DISPOSITIONS = INVALID, BLOCKED, ALLOCATABLE, ACTIVATED, VALID = (
+    "invalid", "blocked", "allocatable", "activated", "valid")
 PREDEFINED = {name: 4 << place for place, name in enumerate(DISPOSITIONS)}
 NOT_OF_THE_FILE = UNMAPPED | UNTYPED | sum(PREDEFINED.values())
 
@@ -119,8 +123,8 @@ class Ruleset:
         raise AssertionError("the last default action is always triggered")
 
     def is_barred(self, label: str) -> bool:
-        """Whether a label is invalid whatever its readings record: by an action that asks no types, and before which none has
-        another disposition."""
+        """Whether a label is invalid whatever its readings record: by an action that asks no types, and before which
+        none has another disposition."""
         for action in self.actions:
             if action.disposition != INVALID:
                 return False
@@ -144,8 +148,8 @@ class Use:
 
 
 class Asked:
-    """A label asked about under a ruleset. `refusal` is 40 if it can't be cut into entries, 41 if it can and isn't valid, and None
-    if it is valid."""
+    """A label asked about under a ruleset. `refusal` is 40 if it can't be cut into entries, 41 if it can and isn't
+    valid, and None if it is valid."""
 
     def __init__(self, ruleset: Ruleset, label: str) -> None:
         self.ruleset, self.label = ruleset, label
@@ -158,15 +162,16 @@ class Asked:
         for entry in self.ruleset.entries_at(self.label, place):
             if entry.stands(self.label, place):
                 covers = len(entry.points)
-                existing = [variant for variant in entry.variants if variant.exists(self.label, (place, place + covers))]
+                at = place, place + covers
+                existing = [variant for variant in entry.variants if variant.exists(self.label, at)]
                 for variant in existing:
                     yield Use(covers, variant.points, variant.kind, variant.points == entry.points)
                 if all(variant.points != entry.points for variant in existing):
                     yield Use(covers, entry.points, UNMAPPED, True)
 
     def recorded(self, variant: str) -> tuple[int, int] | None:
-        """The kinds that some reading of a variant records, and those that some reading doesn't record; None if it has no reading.
-        Of the label itself only readings count that leave each entry as it is (8.1.1).
+        """The kinds that some reading of a variant records, and those that some reading doesn't record; None if it has
+        no reading. Of the label itself only readings count that leave each entry as it is (8.1.1).
 
         They are found on a grid, by the places of the variant and for each of these by those of the label."""
         grid: list[dict[int, tuple[int, int]]] = [{} for _ in range(len(variant) + 1)]

@@ -1,7 +1,7 @@
-"""Reads a Label Generation Ruleset in XML as RFC 7940 has it, strictly: what its words or its schema don't allow is refused, with
-the line. The numbers in comments are sections of the standard. Names may be used before they are defined, as files do; a circle is
-refused. So are a null source (5.3.3), of which there may be any number at a place, and a disposition that isn't one of the five of
-7.3, of which nobody can say here whether it allocates."""
+"""Reads a Label Generation Ruleset in XML as RFC 7940 has it, strictly: what its words or its schema don't allow is
+refused, with the line. The numbers in comments are sections of the standard. Names may be used before they are
+defined, as files do; a circle is refused. So are a null source (5.3.3), of which there may be any number at a place,
+and a disposition that isn't one of the five of 7.3, of which nobody can say here whether it allocates."""
 
 import functools
 import re
@@ -12,7 +12,7 @@ from rfc7940 import DISPOSITIONS, PREDEFINED, UNTYPED, Action, Entry, Ruleset, V
 from rfc7940_rules import AllOf, Anchor, AnyOf, Class, Condition, End, Literal, OneOf, Part, Start, Times
 from rfc7940_schema import BLANKS, SPANS, Element, Refused, elements_of
 
-__all__ = ["Refused", "read", "rules_of"]
+__all__ = ["Refused", "read"]
 
 MOST_ENTRIES, MOST_ATOMS = 65_536, 4_096
 COMBINED: dict[str, Callable[[Sequence[bool]], bool]] = {
@@ -26,11 +26,13 @@ COMBINED: dict[str, Callable[[Sequence[bool]], bool]] = {
 
 def read(text: bytes) -> Ruleset:
     """What a file says, or why it is refused."""
-    return rules_of(text)[0]
+    try:
+        return ruleset_of(text)
+    except RecursionError as error:
+        raise Refused(1, "rules or classes too deep in others") from error
 
 
-def rules_of(text: bytes) -> tuple[Ruleset, dict[str, Part]]:
-    """What a file says, and its rules by their names."""
+def ruleset_of(text: bytes) -> Ruleset:
     sections = {section.name: section.children for section in elements_of(text).children}
     data, rules = sections["data"], Rules(sections["data"], sections.get("rules", []))
     bits = dict(PREDEFINED)
@@ -45,7 +47,8 @@ def rules_of(text: bytes) -> tuple[Ruleset, dict[str, Part]]:
         if len(entries) > MOST_ENTRIES:
             raise element.refused(f"more than {MOST_ENTRIES} entries")
     actions = [action_of(element, rules, bits) for element in sections.get("rules", []) if element.name == "action"]
-    return Ruleset(entries, actions), rules.all_parts()
+    rules.read_all()
+    return Ruleset(entries, actions)
 
 
 def spelled(points: str) -> str:
@@ -133,12 +136,13 @@ class Rules:
         for tag in tags:
             self.tagged.setdefault(tag, set()).update(sources)
 
-    def all_parts(self) -> dict[str, Part]:
-        """All rules by their names; the classes are read, too."""
+    def read_all(self) -> None:
+        """Reads those, too, that nothing names."""
         for name, element in self.named.items():
-            if element.name != "rule":
+            if element.name == "rule":
+                self.named_rule(name, element)
+            else:
                 self.named_class(name, element)
-        return {name: self.named_rule(name, element) for name, element in self.named.items() if element.name == "rule"}
 
     def condition_of(self, element: Element, wanted: str, unwanted: str) -> Condition | None:
         """By the rule that one of the two attributes names."""
@@ -174,8 +178,8 @@ class Rules:
     # Rules.
 
     def all_of(self, element: Element) -> Part:
-        """What stands in an element, one after the other. A start or look-behind has to be the first that is matched, an end or
-        look-ahead the last (6.3.8, 6.4.2)."""
+        """What stands in an element, one after the other. A start or look-behind has to be the first that is matched,
+        an end or look-ahead the last (6.3.8, 6.4.2)."""
         parts = [self.part(child) for child in element.children]
         for child, part in zip(element.children[1:], parts[1:]):
             if part.is_first:
@@ -192,8 +196,9 @@ class Rules:
         parts = [self.part(child) for child in element.children]
         if len({part.has_anchor for part in parts}) > 1:
             raise element.refused("an anchor in some of its parts, and none in others")
-        return limited(element, OneOf(parts, atoms=sum(part.atoms for part in parts), has_anchor=parts[0].has_anchor,
-                                      is_first=any(part.is_first for part in parts), is_last=any(part.is_last for part in parts)))
+        is_first, is_last = any(part.is_first for part in parts), any(part.is_last for part in parts)
+        return limited(element, OneOf(parts, atoms=sum(part.atoms for part in parts), is_first=is_first,
+                                      is_last=is_last, has_anchor=parts[0].has_anchor))
 
     def look(self, element: Element) -> Part:
         """What stands directly before the anchor, or directly after it; the schema lets it stand nowhere else."""
@@ -201,7 +206,7 @@ class Rules:
         if inner.has_anchor:
             raise element.refused("an anchor in it")
         if inner.is_first if is_ahead else inner.is_last:
-            raise element.refused(f"a start in it" if is_ahead else "an end in it")
+            raise element.refused("a start in it" if is_ahead else "an end in it")
         return AllOf([inner], is_first=not is_ahead, is_last=is_ahead, atoms=inner.atoms)
 
     def part(self, element: Element) -> Part:
@@ -249,7 +254,8 @@ class Rules:
     def simple_class(self, element: Element) -> Class:
         if reference := element.attributes.get("by-ref"):
             return self.named_class(reference, element)
-        text, tag, name = element.text.strip(BLANKS), element.attributes.get("from-tag"), element.attributes.get("property")
+        text = element.text.strip(BLANKS)
+        tag, name = element.attributes.get("from-tag"), element.attributes.get("property")
         if sum(map(bool, (text, tag, name))) != 1:
             raise element.refused("not one of code points, a tag and a property")
         if tag:
@@ -265,15 +271,18 @@ class Rules:
         return lambda point: any(ord(point) in span for span in spans)
 
     def class_by_property(self, element: Element, name: str) -> Class:
-        """A property of which the data here know all code points of entries."""
+        """Those with a property. The data here have to know each code point that an entry has."""
         try:
             has = unicode_properties.test_of(name)
-            unknown = [point for point in self.points if not unicode_properties.is_assigned(ord(point))]
+            if self.unknown:
+                raise element.refused(f"the Unicode data here don't know {spelled(min(self.unknown))}")
         except unicode_properties.NoProperty as error:
             raise element.refused(str(error)) from error
-        if unknown:
-            raise element.refused(f"the Unicode data here don't know {spelled(min(unknown))}")
         return lambda point: has(ord(point))
+
+    @functools.cached_property
+    def unknown(self) -> list[str]:
+        return [point for point in self.points if not unicode_properties.is_assigned(ord(point))]
 
 
 def limited(element: Element, part: Part) -> Part:

@@ -13,8 +13,8 @@ Span = tuple[int, int]
 
 @dataclasses.dataclass(frozen=True, eq=False, kw_only=True)
 class Part:
-    """A match operator: whether it has to be the first or the last that is matched, and whether the anchor is in it. Its atoms
-    are counted as if each rule stood where it is named."""
+    """A match operator: whether it has to be the first or the last that is matched, and whether the anchor is in it.
+    Its atoms are counted as if each rule stood where it is named."""
     is_first: bool = False
     is_last: bool = False
     has_anchor: bool = False

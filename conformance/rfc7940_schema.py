@@ -1,7 +1,8 @@
-"""The elements of a Label Generation Ruleset in XML, as the schema of RFC 7940 has them (its appendix D), read strictly.
+"""The elements of a Label Generation Ruleset in XML, as the schema of RFC 7940 has them (its appendix D), read
+strictly.
 
-What the schema doesn't allow is refused, with its line. The numbers in comments are sections of RFC 7940. Of `comment`, `ref`
-and what stands in `meta` only the names are looked at, since nothing follows from their values."""
+What the schema doesn't allow is refused, with its line. The numbers in comments are sections of RFC 7940. Of
+`comment`, `ref` and what stands in `meta` only the names are looked at, since nothing follows from their values."""
 
 import dataclasses
 import re
@@ -31,8 +32,9 @@ class Element:
         return Refused(self.line, f"{self.name}: {reason}")
 
 
-# For each element the attributes that it must have, those that it may have, and what stands in it: a pattern of names, each with
-# a blank after it, or TEXT. Below `rules` a rule or class has a name; elsewhere it has none, and may refer to one (6.3.4).
+# For each element the attributes that it must have, those that it may have, and what stands in it: a pattern of names,
+# each with a blank after it, or TEXT. Below `rules` a rule or class has a name; elsewhere it has none, and may refer
+# to one (6.3.4).
 CLASSES = "class|complement|union|intersection|difference|symmetric-difference"
 MATCHERS = f"any|choice|char|rule|{CLASSES}"
 OPERATORS = f"(?=.)(start )?(({MATCHERS}) )*(end )?"
@@ -42,11 +44,10 @@ SCHEMA = {
     "": ("", "", "lgr "),
     "lgr": ("", "", "(meta )?data (rules )?"),
     "meta": ("", "", f"(({OF_META}) )*"),
-    **dict.fromkeys(OF_META.split("|"), ("", "", "TEXT")),
-    "version": ("", "comment", "TEXT"),
-    "scope": ("type", "", "TEXT"),
-    "description": ("", "type", "TEXT"),
-    "references": ("", "", "(reference )*"),
+    **dict.fromkeys(OF_META.split("|"), ("", "comment", "TEXT")),
+    "scope": ("type", "comment", "TEXT"),
+    "description": ("", "type comment", "TEXT"),
+    "references": ("", "comment", "(reference )*"),
     "reference": ("id", "comment", "TEXT"),
     "data": ("", "", "((char|range) )+"),
     "char": ("cp", f"when not-when tag {NOTES}", "(var )*"),
@@ -90,7 +91,8 @@ VALUES = {
 
 
 def elements_of(text: bytes) -> Element:
-    """The `lgr` of a document in UTF-8, of one namespace and without a document type, whose elements are as the schema has them."""
+    """The `lgr` of a document in UTF-8, of one namespace and without a document type, whose elements are as the schema
+    has them."""
     top = tree_of(text)
     check(top, "")
     return top.children[0]

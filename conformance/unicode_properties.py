@@ -1,5 +1,6 @@
-"""The properties of Unicode that a class of RFC 7940 may name (its section 6.2.3), from Unicode's own files: those of Debian's
-package unicode-data, or of the folder that UNICODE_DATA names. Nothing of the program or of its tables comes from here."""
+"""The properties of Unicode that a class of RFC 7940 may name (its section 6.2.3), from Unicode's own files: those of
+Debian's package unicode-data, or of the folder that UNICODE_DATA names. Nothing of the program or of its tables comes
+from here."""
 
 import bisect
 import functools
@@ -11,10 +12,11 @@ from collections.abc import Callable
 FOLDER = pathlib.Path(os.environ.get("UNICODE_DATA", "/usr/share/unicode"))
 FILES = {
     "gc": "extracted/DerivedGeneralCategory.txt", "sc": "Scripts.txt", "ccc": "extracted/DerivedCombiningClass.txt",
-    "bc": "extracted/DerivedBidiClass.txt", "jt": "extracted/DerivedJoiningType.txt", "InSC": "IndicSyllabicCategory.txt",
-    "Dep": "PropList.txt",
+    "bc": "extracted/DerivedBidiClass.txt", "jt": "extracted/DerivedJoiningType.txt",
+    "InSC": "IndicSyllabicCategory.txt", "Dep": "PropList.txt",
 }
-# A line about code points: one or a range, and a value. Those without a line of their own have that of the last '@missing'.
+# A line about code points: one or a range, and a value. Those without a line of their own have that of the last
+# '@missing'.
 LINE = re.compile(r"(# @missing: )?([0-9A-F]{4,6})(?:\.\.([0-9A-F]{4,6}))? *; *(\w+)")
 
 Row = tuple[int, int, str]

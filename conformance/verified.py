@@ -1,11 +1,11 @@
 #!/usr/bin/env python3
-"""Compares what the program lists under a ruleset of its own with what RFC 7940 says of the file from which that was made:
+"""Compares what the program lists under a ruleset with what RFC 7940 says of the file from which that was made:
 python3 conformance/verified.py [--idn2 PROGRAM] [--all] RULESET FILE [LABELS]
 
-RULESET is in the notation of docs/NOTATION.md, FILE is in XML, and LABELS has a label on each line. Those are asked about, and
-labels that are drawn from FILE (drawn_labels.py). Of each line that the program lists, and of each variant that it should list,
-the evaluator tells what is right (rfc7940.py). What RFC 5891 refuses is left out on both sides. The first difference is told, or
-with --all each.
+RULESET is in the notation of docs/NOTATION.md, FILE is in XML, and LABELS has a label on each line. Those are asked
+about, and labels that are drawn from FILE (drawn_labels.py). Of each line that the program lists, and of each variant
+that it should list, the evaluator tells what is right (rfc7940.py). What RFC 5891 refuses is left out on both sides.
+The first difference is told, or with --all each.
 
 Status: 0 no difference; 1 a difference; 2 FILE is refused, or the program can't be asked."""
 
@@ -26,8 +26,8 @@ from rfc7940_reader import read
 from rfc7940_schema import Refused
 
 PROGRAM = pathlib.Path(__file__).resolve().parent.parent / "crates/idn2/out/idn2"
-# So many labels are asked about in one run, so many lines of each are listed, so many labels looked at for that, and so many
-# variants of each drawn.
+# So many labels are asked about in one run, so many lines of each are listed, so many labels looked at for that, and
+# so many variants of each drawn.
 IN_A_RUN, MOST_LINES, MOST_TRIES, DRAWN_VARIANTS = 4_096, 1_000, 100_000, 40
 
 
@@ -71,7 +71,8 @@ class Block:
         return self.last is None or variant <= self.last
 
 
-def differences(program: str, text: bytes, ruleset: Ruleset, labels: Iterable[str], seed: int = 0) -> Iterator[Difference]:
+def differences(program: str, text: bytes, ruleset: Ruleset, labels: Iterable[str],
+                seed: int = 0) -> Iterator[Difference]:
     """Where the listings of labels under `text` differ from what the ruleset of a file says, label by label."""
     drawn = DrawnLabels(ruleset, seed)
     with tempfile.NamedTemporaryFile(suffix=".txt") as file:
@@ -114,8 +115,9 @@ def run(program: str, words: list[str], labels: list[str]) -> tuple[str, dict[in
 
 
 def registrable(program: str, labels: Iterable[str]) -> list[str]:
-    """Those that RFC 5891 lets be registered."""
-    lines = [label for label in labels if label and not {"\n", "\r"} & set(label)]
+    """Those that RFC 5891 lets be registered. None is a line of its own with an end of a line in it, or read as an
+    A-label."""
+    lines = [label for label in labels if label and not {"\n", "\r"} & set(label) and label[2:4] != "--"]
     refused = run(program, ["--register"], lines)[1]
     return [label for number, label in enumerate(lines, 1) if number not in refused]
 
@@ -148,7 +150,8 @@ def of_label(asked: Asked, number: int) -> Iterator[Difference]:
     """Of a label that the program refuses with this number."""
     if asked.refusal != number:
         standard = f"refused with {asked.refusal}" if asked.refusal else "accepted"
-        yield Difference(Kind.NUMBER if asked.refusal else Kind.LABEL, asked.label, asked.label, f"refused with {number}", standard)
+        kind = Kind.NUMBER if asked.refusal else Kind.LABEL
+        yield Difference(kind, asked.label, asked.label, f"refused with {number}", standard)
 
 
 def of_block(asked: Asked, block: Block) -> Iterator[Difference]:
@@ -175,7 +178,8 @@ def is_cut_otherwise(ruleset: Ruleset, label: str) -> bool:
     return not ruleset.is_eligible(label) and ruleset.is_cut(label, True)
 
 
-def missing(program: str, drawn: DrawnLabels, asked: Mapping[str, Asked], blocks: Mapping[str, Block]) -> Iterator[Difference]:
+def missing(program: str, drawn: DrawnLabels, asked: Mapping[str, Asked],
+            blocks: Mapping[str, Block]) -> Iterator[Difference]:
     """Drawn variants of the labels that should be listed, and aren't."""
     lost: dict[tuple[str, str], Verdict] = {}
     for label, block in blocks.items():
@@ -191,7 +195,7 @@ def missing(program: str, drawn: DrawnLabels, asked: Mapping[str, Asked], blocks
 
 
 def main(words: list[str]) -> int:
-    parser = argparse.ArgumentParser(description="Compares the listings under a ruleset with what RFC 7940 says of its file.")
+    parser = argparse.ArgumentParser(description="Compares a ruleset with the file from which it was made.")
     parser.add_argument("--idn2", default=str(PROGRAM))
     parser.add_argument("--all", action="store_true")
     parser.add_argument("ruleset", type=pathlib.Path)
@@ -204,7 +208,7 @@ def main(words: list[str]) -> int:
         labels = labels_for(ruleset, registered)
         found = differences(options.idn2, options.ruleset.read_bytes(), ruleset, labels)
         told = list(found if options.all else itertools.islice(found, 1))
-    except (Refused, Unanswered, OSError, UnicodeDecodeError) as error:
+    except (Refused, Unanswered, OSError, UnicodeDecodeError, RecursionError) as error:
         print(f"{options.file}: {error}", file=sys.stderr)
         return 2
     for difference in told:

@@ -1,17 +1,19 @@
 #!/usr/bin/env python3
-"""Tests the evaluator of RFC 7940 (conformance/rfc7940.py): that it says of small rulesets what was worked out by hand, and refuses
-what isn't as the standard has it; that its grid finds what the definitions find that are written out here; that labels drawn
-from a ruleset find a change of it; and that a listing of the program is compared in all that it says. The last line is
-'N passed, M failed', and the exit status is 0 where nothing failed."""
+"""Tests the evaluator of RFC 7940 (conformance/rfc7940.py): that it says of small rulesets what was worked out by
+hand, and refuses what isn't as the standard has it; that its grid finds what the definitions find that are written out
+here; that labels drawn from a ruleset find a change of it; and that a listing of the program is compared in all that
+it says. The last line is 'N passed, M failed', and the exit status is 0 where nothing failed."""
 
+import contextlib
 import functools
+import io
 import itertools
 import os
 import random
 import sys
 
-from evaluator_rows import (ANSWERS, COUNTED_LABELS, COUNTS, DATA, DOCUMENTS, LETTERS, PROPERTIES, RULES, SETS, SPELLINGS, TAGGED, char,
-                            characters, literal, rule, ruleset)
+from evaluator_rows import (ANSWERS, COUNTED_LABELS, COUNTS, DATA, DOCUMENTS, LETTERS, PROPERTIES, RULES, SETS,
+                            SPELLINGS, TAGGED, char, characters, literal, rule, ruleset)
 from program import PROGRAM, ROOT, run_tests
 from random_ruleset import RandomRuleset
 from rich_ruleset import RichRuleset
@@ -53,6 +55,9 @@ def answers_as_worked_out(folder):
             if not isinstance(found, int):
                 found = ", ".join(f"{variant} {LETTER_OF[verdict]}" for variant, verdict in sorted(found.items()))
             assert found == wanted, (section, label, wanted, found)
+    # 8.3, step 3: the default actions don't see a type of the file's own, so all of what they see is activated.
+    of_file = parsed(char("a", "b:activated") + char("c", "d:own"))
+    assert of_file.disposition("bd", of_file.kinds & ~UNMAPPED) == "activated", of_file.kinds
 
 
 def accepted(operator, labels):
@@ -122,7 +127,8 @@ def matches(part, label, at, start, end):
             return any(matches(each, label, at, start, end) for each in parts)
         case Times(part=inner, least=least, most=most):
             bound = least + len(label) if most is None else most
-            return any(each_after_the_other([inner] * count, label, at, start, end) for count in range(least, bound + 1))
+            counts = range(least, bound + 1)
+            return any(each_after_the_other([inner] * count, label, at, start, end) for count in counts)
 
 
 def each_after_the_other(parts, label, at, start, end):
@@ -156,13 +162,15 @@ def is_eligible(of_file, label, start=0):
 
 
 def readings(of_file, label, start=0):
-    """Each reading of a label from a place on: what it gives, its kinds in order, and whether each entry is left as it is."""
+    """Each reading of a label from a place on: what it gives, its kinds in order, and whether each entry is left as it
+    is."""
     if start == len(label):
         yield "", (), True
         return
     for entry in standing(of_file, label, start):
         end = start + len(entry.points)
-        choices = [(variant.points, variant.kind) for variant in entry.variants if holds(variant.condition, label, (start, end))]
+        existing = (variant for variant in entry.variants if holds(variant.condition, label, (start, end)))
+        choices = [(variant.points, variant.kind) for variant in existing]
         if entry.points not in [points for points, _ in choices]:
             choices.append((entry.points, UNMAPPED))
         for (points, kind), (rest, kinds, is_own) in itertools.product(choices, readings(of_file, label, end)):
@@ -197,7 +205,8 @@ def listed(of_file, label):
         if variant != label or is_own:
             found.setdefault(variant, set()).add(frozenset(kinds))
     answers = {}
-    has_types = any(variant.kind not in (UNMAPPED, UNTYPED) for entry in of_file.entries.values() for variant in entry.variants)
+    variants = (variant for entry in of_file.entries.values() for variant in entry.variants)
+    has_types = any(variant.kind != UNTYPED for variant in variants)
     for variant, recorded in found.items():
         if not is_eligible(of_file, variant):
             continue
@@ -208,7 +217,8 @@ def listed(of_file, label):
             answers[variant] = {"invalid": None, "blocked": "blocked"}.get(told.pop(), "allocatable")
     if not is_eligible(of_file, label) or answers[label] in (None, "unclear"):
         return None
-    return {variant: told for variant, told in answers.items() if told and not (told == "unclear" and barred(of_file, variant))}
+    is_listed = lambda variant, told: told and not (told == "unclear" and barred(of_file, variant))
+    return {variant: told for variant, told in answers.items() if is_listed(variant, told)}
 
 
 def barred(of_file, label):
@@ -217,7 +227,8 @@ def barred(of_file, label):
 
 
 def grid_finds_what_the_definitions_find(folder):
-    """Random rulesets of both kinds: each label of up to four code points of a few, each variant that it spells, and some others."""
+    """Random rulesets of both kinds: each label of up to four code points of a few, each variant that it spells, and
+    some others."""
     counted = dict.fromkeys(("allocatable", "blocked", "unclear", "refused"), 0)
     for drawn_as, seed in itertools.product((RandomRuleset, RichRuleset), range(150)):
         one, chance = drawn_as(seed), random.Random(seed)
@@ -264,12 +275,14 @@ CHANGED = [
 
 def drawn_labels_find_each_change(folder):
     data = "\n".join((char("a", "b:blocked"), characters("b", "c"), char("ab", "c:"), char("d", "", ' when="p"'),
-                      char("e", "", ' not-when="q"'), '<char cp="0066"><var cp="0063" when="q" type="s"/></char>', characters("g", "k")))
+                      char("e", "", ' not-when="q"'), '<char cp="0066"><var cp="0063" when="q" type="s"/></char>',
+                      characters("g", "k")))
     rules = "\n".join((
         rule("p", f"<look-behind><class>0061 0067</class>{literal('d', count_of('0+'))}</look-behind><anchor/>"),
         rule("q", f"<anchor/><look-ahead>{literal('g', count_of('2'))}</look-ahead>"),
         rule("x", f"<start/>{literal('e')}<any/>{literal('h')}"), rule("z", "<class>0061-006A</class>"),
-        '<action disp="invalid" match="x"/>', '<action disp="invalid" not-match="z"/>', '<action disp="blocked" all-variants="s"/>'))
+        '<action disp="invalid" match="x"/>', '<action disp="invalid" not-match="z"/>',
+        '<action disp="blocked" all-variants="s"/>'))
     right = parsed(data, rules)
     drawn = DrawnLabels(right, 1).labels()
     assert drawn == DrawnLabels(right, 1).labels() and len(drawn) == len(set(drawn)) and max(map(len, drawn)) <= 63
@@ -287,7 +300,8 @@ def drawn_variants_are_spelled(folder):
     """All variants of a label that hasn't many, and of others variants that it has, most of them distinct."""
     drawn = DrawnLabels(parsed(char("a", "b: cd:") + char("aa", "e:") + characters("b", "e")), 1)
     asked = Asked(drawn.ruleset, "aab")
-    assert drawn.variants_of(asked, 100) == sorted({"aab", "abb", "acdb", "bab", "bbb", "bcdb", "cdab", "cdbb", "cdcdb", "eb"})
+    wanted = "aab abb acdb bab bbb bcdb cdab cdbb cdcdb eb"
+    assert drawn.variants_of(asked, 100) == wanted.split()
     asked = Asked(drawn.ruleset, "a" * 20)
     found = drawn.variants_of(asked, 50)
     assert len(found) > 30 and all(asked.recorded(variant) for variant in found)
@@ -300,29 +314,30 @@ def kinds_of(differences):
 
 
 def compares_all_that_is_told(folder):
-    of_file = parsed(char("a", "b:blocked c:") + characters("b", "c") + char("d", "", ' when="r"') + char("bc") + char("cd", "bc:blocked"),
-                     rule("r", f"<look-behind>{literal('a')}</look-behind><anchor/>"))
-    asked = Asked(of_file, "a")
-    right = {"a": "allocatable", "b": "blocked", "c": "allocatable"}
-    of_block = lambda label, lines: kinds_of(verified.of_block(Asked(of_file, label), Block(lines, None)))
-    assert of_block("a", right) == []
-    assert of_block("a", right | {"b": "allocatable"}) == [(Kind.DISPOSITION, "b")]
-    assert of_block("a", right | {"a": "blocked"}) == [(Kind.OWN, "a")]
-    assert of_block("a", right | {"d": "blocked"}) == [(Kind.LISTED, "d")]
-    assert of_block("d", {"d": "allocatable"}) == [(Kind.LABEL, "d")]
-    of_label = lambda label, number: kinds_of(verified.of_label(Asked(of_file, label), number))
-    assert of_label("a", 41) == [(Kind.LABEL, "a")] and of_label("d", 40) == [(Kind.NUMBER, "d")] and of_label("d", 41) == []
+    """What the program might say of a label, and where that differs."""
+    after_a = rule("r", f"<look-behind>{literal('a')}</look-behind><anchor/>")
+    of_file = parsed(char("a", "b:blocked c:") + characters("b", "c") + char("d", "", ' when="r"'), after_a)
     unclear = parsed(char("a", "c:blocked") + char("b") + char("c") + char("ab", "cb:"))
-    compared = lambda told: kinds_of(verified.of_block(Asked(unclear, "ab"), Block({"ab": "allocatable", "cb": told}, None)))
-    assert compared("blocked") == [] and compared("allocatable") == [(Kind.UNCLEAR, "cb")]
-    longest = Asked(parsed(char("a", "x:") + char("x", "a:") + char("ab") + char("bc")), "xbc")
-    lines = {"abc": "allocatable", "xbc": "allocatable"}
-    assert kinds_of(verified.of_block(longest, Block(lines, None))) == [(Kind.LONGEST, "abc")]
-    assert asked.refusal is None
+    longest = parsed(char("a", "x:") + char("x", "a:") + char("ab") + char("bc"))
+    right = {"a": "allocatable", "b": "blocked", "c": "allocatable"}
+    for rules, label, told, wanted in (
+            (of_file, "a", right, []),
+            (of_file, "a", right | {"b": "allocatable"}, [(Kind.DISPOSITION, "b")]),
+            (of_file, "a", right | {"a": "blocked"}, [(Kind.OWN, "a")]),
+            (of_file, "a", right | {"d": "blocked"}, [(Kind.LISTED, "d")]),
+            (of_file, "d", {"d": "allocatable"}, [(Kind.LABEL, "d")]),
+            (unclear, "ab", {"ab": "allocatable", "cb": "blocked"}, []),
+            (unclear, "ab", {"ab": "allocatable", "cb": "allocatable"}, [(Kind.UNCLEAR, "cb")]),
+            (longest, "xbc", {"abc": "allocatable", "xbc": "allocatable"}, [(Kind.LONGEST, "abc")]),
+            (longest, "abc", {"abc": "allocatable"}, [(Kind.LONGEST, "abc")])):
+        assert kinds_of(verified.of_block(Asked(rules, label), Block(told, None))) == wanted, (label, told)
+    for label, number, wanted in (("a", 41, [(Kind.LABEL, "a")]), ("d", 40, [(Kind.NUMBER, "d")]), ("d", 41, [])):
+        assert kinds_of(verified.of_label(Asked(of_file, label), number)) == wanted, (label, number)
 
 
 SAME = (char("a", "b:blocked c:") + char("b", "a:blocked") + characters("c", "e") + char("f", "", ' when="r"'),
-        rule("r", f"<look-behind>{literal('a')}</look-behind><anchor/>") + rule("x", literal("de")) + '<action disp="invalid" match="x"/>',
+        rule("r", f"<look-behind>{literal('a')}</look-behind><anchor/>") + rule("x", literal("de"))
+        + '<action disp="invalid" match="x"/>',
         "%version 3\n%rule r 0061 _\n%never 0064 0065\n0061|!0062:0063\n0062|!0061\n0063..0065\n0066 when r\n")
 OTHERWISE = [
     ("0061|!0062:0063", "0061|0062:0063", {Kind.DISPOSITION}),
@@ -342,11 +357,12 @@ def program_is_compared(folder):
     labels = verified.labels_for(of_file, ["adf", "A", "", "a\nb", "b\r"])[:1_500]
     assert verified.first_difference(PROGRAM, text.encode(), of_file, labels) is None
     for old, new, kinds in OTHERWISE:
-        found = list(verified.differences(PROGRAM, text.replace(old, new).encode(), of_file, labels))
-        assert {difference.kind for difference in found} == kinds, (old, new, [str(difference) for difference in found[:9]])
-        assert verified.first_difference(PROGRAM, text.replace(old, new).encode(), of_file, labels) == found[0]
+        changed = text.replace(old, new).encode()
+        found = list(verified.differences(PROGRAM, changed, of_file, labels))
+        assert {difference.kind for difference in found} == kinds, (old, new, list(map(str, found[:9])))
+        assert verified.first_difference(PROGRAM, changed, of_file, labels) == found[0]
         ignored = kinds - {found[-1].kind}
-        assert verified.first_difference(PROGRAM, text.replace(old, new).encode(), of_file, labels, ignored=ignored).kind not in ignored
+        assert verified.first_difference(PROGRAM, changed, of_file, labels, ignored=ignored).kind not in ignored
     for faulty in (b"%version 3\n0061|0061\n", b""):
         try:
             verified.first_difference(PROGRAM, faulty, of_file, labels)
@@ -358,12 +374,17 @@ def program_is_compared(folder):
 def compares_files(folder):
     data, rules, text = SAME
     paths = {name: os.path.join(folder, name) for name in ("t.txt", "t.xml", "labels.txt")}
-    command = lambda content: verified.main(["--idn2", PROGRAM, *(write(paths[name], content[name]) for name in paths)])
     right = {"t.txt": text, "t.xml": ruleset(data, rules), "labels.txt": "ab\nfa\n"}
-    assert command(right) == 0
-    assert command(right | {"t.txt": text.replace("!", "")}) == 1
-    assert command(right | {"t.xml": ruleset(data, "<action/>")}) == 2
-    assert command(right | {"t.txt": "0061 when r\n"}) == 2
+    for content, status, told in (
+            (right, 0, ""),
+            (right | {"t.txt": text.replace("!", "")}, 1, "0061 0062, variant 0061 0061: allocatable, and by RFC 7940 "
+             "blocked: it has another disposition\n"),
+            (right | {"t.xml": ruleset(data, "<action/>")}, 2, f"{paths['t.xml']}: line 4: action: it has no 'disp'\n"),
+            (right | {"t.txt": "0061 when r\n"}, 2, "30 table syntax\n")):
+        words = ["--idn2", PROGRAM, *(write(paths[name], content[name]) for name in paths)]
+        with contextlib.redirect_stdout(io.StringIO()) as output, contextlib.redirect_stderr(output):
+            assert verified.main(words) == status, content
+        assert output.getvalue().endswith(told) and bool(output.getvalue()) == bool(told), output.getvalue()
 
 
 def write(path, text):

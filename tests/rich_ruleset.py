@@ -1,4 +1,5 @@
-"""Small random rulesets of RFC 7940 with all that its section 6 has: sets, counts, choices, rules within rules, contexts."""
+"""Small random rulesets of RFC 7940 with all that its section 6 has: sets, counts, choices, rules within rules,
+contexts."""
 
 import random
 
@@ -75,7 +76,8 @@ class RichRuleset(RandomRuleset):
         return behind + "<anchor/>" + (f"<look-ahead>{ahead}</look-ahead>" if ahead else "")
 
     def patterns(self):
-        """A class, two rules with an anchor, one about a code point anywhere, one within others, and three about the whole label."""
+        """A class, two rules with an anchor, one about a code point anywhere, one within others, and three about the
+        whole label."""
         yield f'<union name="named">{self.set()}<class>0061</class></union>'
         self.named = '<class by-ref="named"/>'
         yield f'<rule name="p">{self.behind_and_ahead()}</rule>'
@@ -87,10 +89,11 @@ class RichRuleset(RandomRuleset):
         yield f'<rule name="anywhere">{anywhere}</rule>'
         yield f'<rule name="inner">{self.operator()}{self.operator()}</rule>'
         for name in self.DEMANDS:
-            parts = "".join(self.operator() for _ in range(self.random.choice((1, 2, 3)))) + self.maybe(0.2, '<rule by-ref="inner"/>')
-            start = self.random.choice(("", "<start/>", "<start/>", f"<choice><start/><rule>{self.operator()}</rule></choice>"))
-            end = self.random.choice(("", "", "<end/>", f"<choice>{self.operator()}<rule>{self.operator()}<end/></rule></choice>"))
-            yield f'<rule name="{name}">{start}{parts}{end}</rule>'
+            parts = "".join(self.operator() for _ in range(self.random.choice((1, 2, 3))))
+            parts += self.maybe(0.2, '<rule by-ref="inner"/>')
+            start = self.random.choice(("", "<start/>", "<start/>", f"<choice><start/>{self.operator()}</choice>"))
+            ending = f"<choice>{self.operator()}<rule>{self.operator()}<end/></rule></choice>"
+            yield f'<rule name="{name}">{start}{parts}{self.random.choice(("", "", "<end/>", ending))}</rule>'
 
     def actions(self):
         """Mostly rules that refuse labels, then actions on types as rulesets have them, now and then others."""
