@@ -5,6 +5,7 @@ Random labels alone seldom come near a condition or a rule. So labels are walks 
 with one code point changed or lost; each entry with a condition and each variant, among others; and entries that
 overlap."""
 
+import dataclasses
 import itertools
 import math
 import random
@@ -58,19 +59,21 @@ class DrawnLabels:
                 rules.setdefault(condition.rule, (condition.part, []))[1].append(entry.points)
         for condition in filter(None, (action.condition for action in self.ruleset.actions)):
             rules.setdefault(condition.rule, (condition.part, [""]))
-        for part, users in rules.values():
+        for name, (part, users) in rules.items():
+            others = self.without_condition(name)
             for anchor in itertools.islice(itertools.cycle(users), max(WALKS, 2 * len(users))):
-                label = self.mostly_eligible(lambda: self.with_walk(part, anchor))
-                yield from (label, self.changed(label), self.mostly_eligible(lambda: self.changed(label)), self.lost(label))
+                label = mostly_eligible(others, lambda: self.with_walk(part, anchor))
+                changed = mostly_eligible(others, lambda: self.changed(label))
+                yield from (label, changed, self.changed(label), self.lost(label))
 
-    def mostly_eligible(self, draw: Callable[[], str]) -> str:
-        """The first of some draws that is eligible, as far as entries tell; else the last. What is not eligible for something
-        else than the rule that it is drawn for shows little of that."""
-        for _ in range(TRIES):
-            label = draw()
-            if label and self.ruleset.is_eligible(label):
-                break
-        return label
+    def without_condition(self, rule: str) -> Ruleset:
+        """The ruleset without the conditions of entries by a rule: what isn't eligible by something else shows little
+        of it."""
+        entries = dict(self.ruleset.entries)
+        for points, entry in entries.items():
+            if entry.condition and entry.condition.rule == rule:
+                entries[points] = dataclasses.replace(entry, condition=None)
+        return Ruleset(entries, self.ruleset.actions)
 
     def with_walk(self, part: Part, anchor: str) -> str:
         """A label with a part that a rule matches, the whole of it now and then; the empty one if there is none."""
@@ -130,7 +133,7 @@ class DrawnLabels:
 
     def others(self) -> Iterator[str]:
         for _ in range(RANDOM // 2):
-            yield self.mostly_eligible(lambda: self.some(1, 5))
+            yield mostly_eligible(self.ruleset, lambda: self.some(1, 5))
             label = self.some(1, 5)
             yield self.changed(label) if self.chance.random() < 0.4 else label
 
@@ -155,6 +158,15 @@ def conditions_of(entry: Entry) -> Iterator[Condition]:
     for condition in (entry.condition, *(variant.condition for variant in entry.variants)):
         if condition:
             yield condition
+
+
+def mostly_eligible(ruleset: Ruleset, draw: Callable[[], str]) -> str:
+    """The first of some draws that is eligible, or else the last."""
+    for _ in range(TRIES):
+        label = draw()
+        if ruleset.is_eligible(label):
+            break
+    return label
 
 
 def joined(walks: Iterable[str | None]) -> str | None:

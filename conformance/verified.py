@@ -97,8 +97,15 @@ def first_difference(program: str, text: bytes, ruleset: Ruleset, labels: Iterab
 
 
 def labels_for(ruleset: Ruleset, labels: Iterable[str], seed: int = 0) -> list[str]:
-    """The labels of a registry, and drawn ones, each once."""
-    return list(dict.fromkeys([*labels, *DrawnLabels(ruleset, seed).labels()]))
+    """The labels of a registry, A-labels as U-labels, and drawn ones; each once."""
+    return list(dict.fromkeys([*map(u_label, labels), *DrawnLabels(ruleset, seed).labels()]))
+
+
+def u_label(label: str) -> str:
+    try:
+        return label[4:].encode("ascii").decode("punycode") if label.startswith("xn--") else label
+    except UnicodeError:
+        return label
 
 
 # ---- The program

@@ -354,7 +354,8 @@ def program_is_compared(folder):
     """A ruleset in both notations, and the same with a change in one of them."""
     data, rules, text = SAME
     of_file = parsed(data, rules)
-    labels = verified.labels_for(of_file, ["adf", "A", "", "a\nb", "b\r"])[:1_500]
+    labels = verified.labels_for(of_file, ["adf", "A", "", "a\nb", "b\r", "xn--4ca", "xn--4", "xn--é"])[:1_500]
+    assert labels[:8] == ["adf", "A", "", "a\nb", "b\r", "ä", "xn--4", "xn--é"], labels[:8]
     assert verified.first_difference(PROGRAM, text.encode(), of_file, labels) is None
     for old, new, kinds in OTHERWISE:
         changed = text.replace(old, new).encode()
