@@ -6,17 +6,19 @@ with one code point changed or lost; each entry with a condition and each varian
 overlap."""
 
 import dataclasses
+import functools
 import itertools
 import math
 import random
 from collections.abc import Callable, Iterable, Iterator
 
 from rfc7940 import Asked, Entry, Ruleset
-from rfc7940_rules import AllOf, Anchor, AnyOf, Condition, Literal, OneOf, Part, Times
+from rfc7940_rules import AllOf, Anchor, AnyOf, Class, Condition, Literal, OneOf, Part, Times
 
 LONGEST = 63
-# So many walks through a rule, and labels of other kinds; and so many tries to draw one that is eligible.
-WALKS, OVERLAPS, RANDOM, TRIES = 60, 200, 2_000, 8
+# So many walks through a rule, at least and for each of its parts; so many labels of other kinds; and so many tries to
+# draw one that is eligible.
+WALKS, WALKS_OF_A_PART, OVERLAPS, RANDOM, TRIES = 60, 12, 200, 2_000, 50
 
 
 class DrawnLabels:
@@ -28,6 +30,7 @@ class DrawnLabels:
         # Those that a rule, another entry or an action may ask about are drawn as often as all others.
         self.special = [entry for entry in self.entries if entry.condition or entry.variants or len(entry.points) > 1]
         self.alphabet = sorted({point for entry in self.entries for point in entry.points})
+        self.members: Callable[[Class], list[str]] = functools.cache(lambda has: list(filter(has, self.alphabet)))
 
     def labels(self) -> list[str]:
         """All labels that are drawn, each once, in the order in which they are drawn."""
@@ -61,7 +64,8 @@ class DrawnLabels:
             rules.setdefault(condition.rule, (condition.part, [""]))
         for name, (part, users) in rules.items():
             others = self.without_condition(name)
-            for anchor in itertools.islice(itertools.cycle(users), max(WALKS, 2 * len(users))):
+            count = max(WALKS, WALKS_OF_A_PART * min(part.atoms, 50), 4 * len(users))
+            for anchor in itertools.islice(itertools.cycle(users), count):
                 label = mostly_eligible(others, lambda: self.with_walk(part, anchor))
                 changed = mostly_eligible(others, lambda: self.changed(label))
                 yield from (label, changed, self.changed(label), self.lost(label))
@@ -88,7 +92,7 @@ class DrawnLabels:
             case Literal(points=points):
                 return points
             case AnyOf(has=has):
-                members = [point for point in self.alphabet if has(point)]
+                members = self.members(has)
                 return self.chance.choice(members) if members else None
             case Anchor():
                 return anchor
@@ -98,7 +102,7 @@ class DrawnLabels:
                 walks = [walk for each in parts if (walk := self.walk(each, anchor)) is not None]
                 return self.chance.choice(walks) if walks else None
             case Times(part=inner, least=least, most=most):
-                often = least + min(self.chance.choice((0, 0, 1, 1, 2, 4)), math.inf if most is None else most - least)
+                often = least + min(self.chance.choice((0, 0, 1, 1, 2, 3, 5)), math.inf if most is None else most - least)
                 return joined(self.walk(inner, anchor) for _ in range(min(int(often), LONGEST)))
         return ""
 

@@ -335,10 +335,11 @@ def compares_all_that_is_told(folder):
         assert kinds_of(verified.of_label(Asked(of_file, label), number)) == wanted, (label, number)
 
 
-SAME = (char("a", "b:blocked c:") + char("b", "a:blocked") + characters("c", "e") + char("f", "", ' when="r"'),
+SAME = (char("a", "b:blocked c:") + char("b", "a:blocked") + characters("c", "d") + char("e", "-:") + char("-")
+        + char("f", "", ' when="r"'),
         rule("r", f"<look-behind>{literal('a')}</look-behind><anchor/>") + rule("x", literal("de"))
         + '<action disp="invalid" match="x"/>',
-        "%version 3\n%rule r 0061 _\n%never 0064 0065\n0061|!0062:0063\n0062|!0061\n0063..0065\n0066 when r\n")
+        "%version 3\n%rule r 0061 _\n%never 0064 0065\n0061|!0062:0063\n0062|!0061\n0063..0064\n0065|002D\n002D\n0066 when r\n")
 OTHERWISE = [
     ("0061|!0062:0063", "0061|0062:0063", {Kind.DISPOSITION}),
     ("0061|!0062:0063", "0061|!0062", {Kind.MISSING}),
@@ -378,6 +379,7 @@ def compares_files(folder):
     right = {"t.txt": text, "t.xml": ruleset(data, rules), "labels.txt": "ab\nfa\n"}
     for content, status, told in (
             (right, 0, ""),
+            (right | {"t.txt": text.replace("!", ""), "labels.txt": "e\n"}, 1, "it has another disposition\n"),
             (right | {"t.txt": text.replace("!", "")}, 1, "0061 0062, variant 0061 0061: allocatable, and by RFC 7940 "
              "blocked: it has another disposition\n"),
             (right | {"t.xml": ruleset(data, "<action/>")}, 2, f"{paths['t.xml']}: line 4: action: it has no 'disp'\n"),
