@@ -292,6 +292,25 @@ def drawn_labels_find_each_change(folder):
         assert any(all_verdicts(right, label) != all_verdicts(wrong, label) for label in drawn), (old, new)
 
 
+def walks_come_near_to_a_rule(folder):
+    """Among 256 other entries: a rule of five code points with one of them changed or optional, and a condition that is
+    dropped of an entry that may stand only after another with a condition."""
+    after = lambda letter: f"<look-behind>{literal(letter)}</look-behind><anchor/>"
+    last = '<action disp="invalid" match="w"/>'
+    data = characters("一", "仿") + characters("k", "o") + characters("x", "x")
+    y, z = char("y", "", ' when="x"'), char("z", "", ' not-when="y"')
+    conditions = rule("x", after("x")) + rule("y", after("y"))
+    right = parsed(data + y + z, conditions + rule("w", literal("klmno")) + last)
+    drawn = DrawnLabels(right, 1).labels()
+    for changed, content in (
+            (y + char("z"), literal("klmno")),
+            (y + z, literal("klmn") + "<any/>"),
+            (y + z, literal("kl") + "<any/>" + literal("no")),
+            (y + z, literal("klmn") + literal("o", count_of("0:1")))):
+        wrong = parsed(data + changed, conditions + rule("w", content) + last)
+        assert any(Asked(right, label).refusal != Asked(wrong, label).refusal for label in drawn), (changed, content)
+
+
 def count_of(count):
     return f' count="{count}"'
 
@@ -339,7 +358,8 @@ SAME = (char("a", "b:blocked c:") + char("b", "a:blocked") + characters("c", "d"
         + char("f", "", ' when="r"'),
         rule("r", f"<look-behind>{literal('a')}</look-behind><anchor/>") + rule("x", literal("de"))
         + '<action disp="invalid" match="x"/>',
-        "%version 3\n%rule r 0061 _\n%never 0064 0065\n0061|!0062:0063\n0062|!0061\n0063..0064\n0065|002D\n002D\n0066 when r\n")
+        "%version 3\n%rule r 0061 _\n%never 0064 0065\n0061|!0062:0063\n0062|!0061\n0063..0064\n0065|002D\n002D\n"
+        "0066 when r\n")
 OTHERWISE = [
     ("0061|!0062:0063", "0061|0062:0063", {Kind.DISPOSITION}),
     ("0061|!0062:0063", "0061|!0062", {Kind.MISSING}),
@@ -355,6 +375,7 @@ def program_is_compared(folder):
     """A ruleset in both notations, and the same with a change in one of them."""
     data, rules, text = SAME
     of_file = parsed(data, rules)
+    assert verified.registrable(PROGRAM, ["a", "xn--4ca", "A", "", "a\nb", "b\r", "-", "ä"]) == ["a", "ä"]
     labels = verified.labels_for(of_file, ["adf", "A", "", "a\nb", "b\r", "xn--4ca", "xn--4", "xn--é"])[:1_500]
     assert labels[:8] == ["adf", "A", "", "a\nb", "b\r", "ä", "xn--4", "xn--é"], labels[:8]
     assert verified.first_difference(PROGRAM, text.encode(), of_file, labels) is None
@@ -404,6 +425,7 @@ TESTS = [
     reads_each_spelling_of_xml,
     grid_finds_what_the_definitions_find,
     drawn_labels_find_each_change,
+    walks_come_near_to_a_rule,
     drawn_variants_are_spelled,
     compares_all_that_is_told,
     program_is_compared,
