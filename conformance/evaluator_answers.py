@@ -3,9 +3,10 @@
 
 FOLDER has rulesets in XML, and answers.txt with a line for each label: the ruleset's file, a tab, the label, a tab, and
 'invalid' or the variants that the ruleset finds valid, the label itself among them, each with '=allocatable' or '=blocked',
-parted by blanks. Labels are written as code points in hexadecimal, joined by hyphens. tables/from_lgr.py converts each
-ruleset, and the program lists its labels; the second writing, ruleset_labels.py, tells the same without it. What RFC 5891
-refuses is left out on all sides. The status is 0 where all answers agree."""
+parted by blanks. Labels are written as code points in hexadecimal, joined by hyphens. The evaluator of this folder, rfc7940.py,
+answers from the XML. tables/from_lgr.py converts each ruleset, and the program lists its labels; the second writing,
+ruleset_labels.py, tells the same without it. Then the evaluator judges what the program lists of labels that are drawn from the
+ruleset. What RFC 5891 refuses is left out on all sides. The status is 0 where all answers agree."""
 
 import collections
 import pathlib
@@ -14,13 +15,20 @@ import subprocess
 import sys
 import tempfile
 
+import verified
 from compare import HERE, PROGRAM
+from drawn_labels import every_variant
 from notation import reading
+from rfc7940 import Asked, Verdict
+from rfc7940_reader import read
 from ruleset_labels import RulesetLabels
+from verified import Kind
 
 SCRIPT = HERE.parent / "tables" / "from_lgr.py"
 # No answer has so many variants.
 MOST_SPELLED = 1_000_000
+# Where version 3 of the notation means something else than RFC 7940 (docs/DECISIONS.md, 62, 67 and 69).
+OF_VERSION_3 = {Kind.LONGEST, Kind.UNCLEAR, Kind.OWN, Kind.NUMBER}
 
 
 def label_of(text):
@@ -59,6 +67,17 @@ def registrable(labels):
     return {label for number, label in enumerate(labels, 1) if str(number) not in refused}
 
 
+def answers_of_evaluator(ruleset, labels):
+    return {label: answer_of_evaluator(Asked(ruleset, label)) for label in labels}
+
+
+def answer_of_evaluator(asked):
+    if asked.refusal:
+        return None
+    verdicts = {variant: asked.verdict(variant) for variant in every_variant(asked, MOST_SPELLED)}
+    return {variant: verdict.value for variant, verdict in verdicts.items() if verdict is not Verdict.ABSENT}
+
+
 def answers_of_second_writing(text, labels):
     ruleset = RulesetLabels(reading.read(text, lambda point: True), MOST_SPELLED)
     return {label: ruleset.answer(label) for label in labels}
@@ -87,11 +106,12 @@ def differences(wanted, found):
     return [label for label in known.intersection(wanted) if label not in found or asked(wanted[label]) != asked(found[label])]
 
 
-def differing(name, text, wanted):
-    """The labels of a file that the second writing or the program answers in another way; each is told."""
+def differing(name, ruleset, text, wanted):
+    """The labels of a file that the evaluator, the second writing or the program answers otherwise; each is told."""
     labels, found = sorted(wanted), set()
     known = sorted(registrable(labels))
-    for who, answers in (("the second writing", answers_of_second_writing(text, labels)),
+    for who, answers in (("the evaluator", answers_of_evaluator(ruleset, labels)),
+                         ("the second writing", answers_of_second_writing(text, labels)),
                          ("the program", answers_of_program(text, known))):
         different = differences(wanted, answers)
         found.update(different)
@@ -100,17 +120,27 @@ def differing(name, text, wanted):
     return found
 
 
+def verified_by_drawn_labels(name, ruleset, text):
+    """Whether what the program lists of drawn labels is what the evaluator says; the first difference is told."""
+    labels = verified.labels_for(ruleset, [])
+    difference = verified.first_difference(str(PROGRAM), text, ruleset, labels, ignored=OF_VERSION_3)
+    print(f"{name}: {difference or f'no difference in {len(labels)} drawn labels'}", flush=True)
+    return difference is None
+
+
 def main(folder):
     total = agreeing = 0
+    is_verified = True
     for name, wanted in answers_of(folder).items():
         total += len(wanted)
-        text = converted(folder / name)
+        text, ruleset = converted(folder / name), read((folder / name).read_bytes())
         if text:
-            count = len(wanted) - len(differing(name, text, wanted))
+            count = len(wanted) - len(differing(name, ruleset, text, wanted))
             agreeing += count
             print(f"{name}: {count} of {len(wanted)} answers agree", flush=True)
+            is_verified &= verified_by_drawn_labels(name, ruleset, text)
     print(f"{agreeing} of {total} answers agree")
-    return agreeing != total
+    return agreeing != total or not is_verified
 
 
 if __name__ == "__main__":

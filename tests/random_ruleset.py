@@ -29,6 +29,7 @@ class RandomRuleset:
     def char(self, source):
         condition = self.maybe(0.3, f' {self.random.choice(("when", "not-when"))}="{self.random.choice("pq")}"')
         tag = self.maybe(0.5, ' tag="t"') if len(source) == 1 else ""
+        tag = ' tag="t"' if source == self.sequences[0] else tag
         targets = [each for each in [*self.sequences, (0x78,), (0x41,)] if self.random.random() < 0.3]
         variants = "".join(f"\n  {self.var(each)}" for each in targets)
         return f'<char cp="{spelled(source)}"{tag}{condition if self.has_conditions else ""}>{variants}</char>'

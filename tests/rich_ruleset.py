@@ -1,4 +1,5 @@
-"""Small random rulesets of RFC 7940 with all that its section 6 has: sets, counts, choices, rules within rules, contexts."""
+"""Small random rulesets of RFC 7940 with all that its section 6 has: sets, counts, choices, rules within rules,
+contexts."""
 
 import random
 
@@ -15,8 +16,6 @@ class RichRuleset(RandomRuleset):
 
     def __init__(self, seed):
         self.random, self.depth = random.Random(seed), 0
-        # Within the choices of a demand there are starts and ends of labels.
-        self.is_demand = self.is_within_choice = False
         self.sequences = self.some_sequences()
         self.has_conditions, self.has_rules = self.random.random() < 0.8, True
         self.kinds = self.random.choice((("blocked", "allocatable", None), ("blocked", "simp", "trad", "both"),
@@ -36,6 +35,7 @@ class RichRuleset(RandomRuleset):
 
     def char(self, source):
         tag = self.maybe(0.6, f' tag="{self.random.choice(("t", "t u", "u"))}"') if len(source) == 1 else ""
+        tag = ' tag="t"' if source == self.sequences[0] else tag
         targets = [each for each in [*self.sequences, (0x66,), (0x41,), (0x78,)] if self.random.random() < 0.35]
         variants = "".join(f"\n  {self.var(each, source)}" for each in targets)
         return f'<char cp="{spelled(source)}"{tag}{self.condition(0.3)}>{variants}</char>'
@@ -61,16 +61,12 @@ class RichRuleset(RandomRuleset):
         """One operator with or without a count; groups within each other at most three deep."""
         point = spelled((self.random.choice(self.POINTS),))
         flat = (f'<char cp="{point}"/>', f'<char cp="{point}"/>', "<any/>", self.set(), f'<char cp="{point} {point}"/>')
-        if self.is_within_choice and self.random.random() < 0.2:
-            return self.random.choice(("<start/>", "<end/>"))
         made = self.random.choice(flat)
         if self.depth < 2 and self.random.random() < 0.3:
             self.depth += 1
-            self.is_within_choice = self.is_demand
-            inner = [self.operator() + self.maybe(0.3, self.operator()) for _ in range(self.random.choice((1, 2)))]
+            inner = [self.operator() + self.maybe(0.3, self.operator()) for _ in range(self.random.choice((2, 3)))]
             made = "<choice>" + "".join(f"<rule>{each}</rule>" for each in inner) + "</choice>"
             self.depth -= 1
-            self.is_within_choice = self.depth > 0 and self.is_demand
         return counted(made, self.maybe(0.4, self.random.choice(("0+", "1+", "2", "0:1", "1:2", "2+"))))
 
     def behind_and_ahead(self):
@@ -80,7 +76,8 @@ class RichRuleset(RandomRuleset):
         return behind + "<anchor/>" + (f"<look-ahead>{ahead}</look-ahead>" if ahead else "")
 
     def patterns(self):
-        """A class, two rules with an anchor, one about a code point anywhere, and three about the whole label."""
+        """A class, two rules with an anchor, one about a code point anywhere, one within others, and three about the
+        whole label."""
         yield f'<union name="named">{self.set()}<class>0061</class></union>'
         self.named = '<class by-ref="named"/>'
         yield f'<rule name="p">{self.behind_and_ahead()}</rule>'
@@ -90,11 +87,13 @@ class RichRuleset(RandomRuleset):
         if self.random.random() < 0.3:
             anywhere = f'<start/><any count="0+"/>{anywhere}<any count="0+"/>'
         yield f'<rule name="anywhere">{anywhere}</rule>'
-        self.is_demand = True
+        yield f'<rule name="inner">{self.operator()}{self.operator()}</rule>'
         for name in self.DEMANDS:
             parts = "".join(self.operator() for _ in range(self.random.choice((1, 2, 3))))
-            parts += self.maybe(0.2, '<rule by-ref="x"/>') if name != "x" else ""
-            yield f'<rule name="{name}">{self.maybe(0.6, "<start/>")}{parts}{self.maybe(0.3, "<end/>")}</rule>'
+            parts += self.maybe(0.2, '<rule by-ref="inner"/>')
+            start = self.random.choice(("", "<start/>", "<start/>", f"<choice><start/>{self.operator()}</choice>"))
+            ending = f"<choice>{self.operator()}<rule>{self.operator()}<end/></rule></choice>"
+            yield f'<rule name="{name}">{start}{parts}{self.random.choice(("", "", "<end/>", ending))}</rule>'
 
     def actions(self):
         """Mostly rules that refuse labels, then actions on types as rulesets have them, now and then others."""
